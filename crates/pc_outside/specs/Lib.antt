@@ -1,0 +1,7 @@
+-- What the contracts of this crate, and of those above it, say of counts, reads and writes.
+pub mod Counted
+pub mod Counts
+pub mod MemorySink
+pub mod MemorySource
+pub mod Reads
+pub mod Writes

@@ -1,4 +1,7 @@
 // The answers that are not results: memory that is not there, a fault of the input, a failed read or write.
+ghost use Rattle.std.specs.Prelude.{◌≡◌};
+ghost use Rattle.pc_outside.specs.declared.answers.Refused.{Refused};
+
 use std::alloc::{AllocError, AllocFailed};
 
 /// Memory was asked for and is not there.
@@ -8,7 +11,9 @@ pub struct NoMemory;
 /// A call that takes memory refuses by a fault of its input, or for want of memory.
 #[derive(Clone, Copy, Debug, PartialEq, Eq)]
 pub enum Refused<F> {
+    /// The first fault of the input.
     Fault(F),
+    /// Memory was asked for and is not there.
     NoMemory,
 }
 
@@ -25,5 +30,29 @@ impl From<AllocError> for NoMemory {
 impl<T: Drop> From<AllocFailed<T>> for NoMemory {
     fn from(_error: AllocFailed<T>) -> NoMemory {
         NoMemory
+    }
+}
+
+impl<F> From<NoMemory> for Refused<F> {
+    ghost from_gives = { λ _ refused. refused ≡ Refused.NoMemory };
+
+    fn from(_error: NoMemory) -> Refused<F> {
+        Refused::NoMemory
+    }
+}
+
+impl<F> From<AllocError> for Refused<F> {
+    ghost from_gives = { λ _ refused. refused ≡ Refused.NoMemory };
+
+    fn from(_error: AllocError) -> Refused<F> {
+        Refused::NoMemory
+    }
+}
+
+impl<F, T: Drop> From<AllocFailed<T>> for Refused<F> {
+    ghost from_gives = { λ _ refused. refused ≡ Refused.NoMemory };
+
+    fn from(_error: AllocFailed<T>) -> Refused<F> {
+        Refused::NoMemory
     }
 }

@@ -2,5 +2,22 @@
 #![tactic(auto)]
 
 mod answers;
+mod counts;
+mod file_sink;
+mod file_source;
+mod memory_sink;
+mod memory_source;
+mod pieces;
+mod reading;
+mod sink;
+mod source;
 
 pub use answers::{Failed, NoMemory, Refused};
+pub use file_sink::FileSink;
+pub use file_source::FileSource;
+pub use memory_sink::MemorySink;
+pub use memory_source::MemorySource;
+pub use pieces::write_pieces;
+pub use reading::{ReadError, read_all};
+pub use sink::Sink;
+pub use source::Source;

@@ -1,0 +1,135 @@
+// A sink over a writer of the standard library.
+ghost use Rattle.std.specs.Prelude.{◌≡◌, ℕ, ◌<◌, ◌≤◌, [], length, take, None, IsOk, IfOk, OnErr, is_ok, if◌then◌else◌};
+ghost use Rattle.pc_outside.specs.Counts.{next_count, HasCause};
+ghost use Rattle.pc_outside.specs.Writes.{Grows, WritesAll};
+
+use crate::counts::next_count;
+use crate::{Failed, Sink};
+use std::io::Write;
+use std::marker::Model;
+
+/// A sink over a writer, as a file or standard output. It doesn't tell what it holds, and counts
+/// each error of the writer as a fault, an interrupted write too, and a write that takes nothing.
+#[derive(Drop)]
+pub struct FileSink<W: Write> {
+    writer: W,
+    faults: u64,
+}
+
+impl<W: Write> Model for FileSink<W> {
+    ghost use Rattle.pc_outside.specs.Counted.{Counted};
+
+    ghost Value = { Counted W };
+
+    ghost view = { λ s. record { inner = s.writer; faults = s.faults } };
+}
+
+impl<W: Write> FileSink<W> {
+    /// A sink that writes to this writer.
+    pub fn new(inner: W) -> FileSink<W>
+        ensures { result ≡ record { inner = inner; faults = 0 } }
+    {
+        FileSink {
+            writer: inner,
+            faults: 0,
+        }
+    }
+}
+
+// Writes some of these bytes, at least one, and says how many.
+fn write_some<W: Write>(writer: &mut W, bytes: &[u8]) -> Result<usize, Failed>
+    requires { 0 < length bytes.now }
+    ensures some { IfOk result (λ n. (0 < n) × (n ≤ length bytes.now)) }
+    ensures taken { IfOk result (λ n. Grows (W.contents writer.old) (W.contents writer.new) (take n bytes.now)) }
+    ensures none { OnErr result (Grows (W.contents writer.old) (W.contents writer.new) []) }
+{
+    match writer.write(bytes) {
+        Ok(0) => Err(Failed),
+        Ok(n) => Ok(n),
+        Err(_) => Err(Failed),
+    }
+}
+
+// Writes all of these bytes, up to the first fault.
+fn write_whole<W: Write>(writer: &mut W, bytes: &[u8]) -> Result<(), Failed>
+    ensures passed { WritesAll (W.contents writer.old) (W.contents writer.new) result bytes.now }
+    ensures idle { bytes.now ≡ [] → IsOk result × (writer.new ≡ writer.old) }
+{
+    let mut rest = bytes;
+    while !rest.is_empty() {
+        let n = write_some(writer, rest)?;
+        rest = &rest[n..];
+    }
+    Ok(())
+}
+
+impl<W: Write> Sink for FileSink<W> {
+    ghost written = { λ _. None };
+
+    ghost faults = { λ s. s.faults };
+
+    fn write(&mut self, bytes: &[u8]) -> Result<(), Failed>
+        ensures written { WritesAll None None result bytes.now }
+        ensures cause { HasCause self.old.faults self.new.faults result }
+
+        // The count rises at a fault alone, and all bytes are passed on.
+        ensures counted { self.new.faults ≡ (if is_ok result then self.old.faults else next_count self.old.faults) }
+        ensures passed { WritesAll (W.contents self.old.inner) (W.contents self.new.inner) result bytes.now }
+        ensures empty { bytes.now ≡ [] → IsOk result × (self.new ≡ self.old) }
+    {
+        match write_whole(&mut self.writer, bytes) {
+            Ok(()) => Ok(()),
+            Err(failed) => {
+                self.faults = next_count(self.faults);
+                Err(failed)
+            }
+        }
+    }
+}
+
+#[cfg(test)]
+mod tests {
+    use super::*;
+    use std::io::{self, ErrorKind};
+
+    // Takes two bytes a call, but nothing in its fourth call, and is interrupted in its sixth.
+    #[derive(Drop)]
+    struct Writer {
+        calls: u8,
+        content: Vec<u8>,
+    }
+
+    impl Write for Writer {
+        fn write(&mut self, buf: &[u8]) -> io::Result<usize> {
+            self.calls = self.calls.saturating_add(1);
+            match self.calls {
+                4 => Ok(0),
+                6 => Err(io::Error::from(ErrorKind::Interrupted)),
+                _ => {
+                    let n = buf.len().min(2);
+                    self.content.extend_from_slice(&buf[..n])?;
+                    Ok(n)
+                }
+            }
+        }
+
+        fn flush(&mut self) -> io::Result<()> {
+            Ok(())
+        }
+    }
+
+    #[test]
+    fn a_write_goes_on_until_all_is_taken(rt: HostRuntime) {
+        let mut writer = Writer {
+            calls: 0,
+            content: Vec::new(rt.alloc()),
+        };
+        let mut sink = FileSink::new(&mut writer);
+        assert_eq!(rt; sink.write(b""), Ok(()));
+        assert_eq!(rt; sink.write(b"abcde"), Ok(()));
+        assert_eq!(rt; sink.write(b"f"), Err(Failed));
+        assert_eq!(rt; sink.write(b"ghi"), Err(Failed));
+        assert_eq!(rt; writer.content.as_slice(), b"abcdegh".as_slice());
+        assert_eq!(rt; writer.calls, 6);
+    }
+}

@@ -1,0 +1,110 @@
+// A source over a reader of the standard library.
+ghost use Rattle.std.specs.Prelude.{◌≡◌, ℕ, [], None, IfOk, OnErr, is_ok, if◌then◌else◌};
+ghost use Rattle.std.specs.Io.KnownBytes.{ReadConsumes};
+ghost use Rattle.pc_outside.specs.Counts.{next_count, HasCause};
+ghost use Rattle.pc_outside.specs.Reads.{Moves};
+
+use crate::counts::next_count;
+use crate::{Failed, Source};
+use std::io::Read;
+use std::marker::Model;
+
+/// A source over a reader, as a file or standard input. It doesn't tell what it has left, and
+/// counts each error of the reader as a fault, an interrupted read too.
+#[derive(Drop)]
+pub struct FileSource<R: Read> {
+    reader: R,
+    faults: u64,
+}
+
+impl<R: Read> Model for FileSource<R> {
+    ghost use Rattle.pc_outside.specs.Counted.{Counted};
+
+    ghost Value = { Counted R };
+
+    ghost view = { λ s. record { inner = s.reader; faults = s.faults } };
+}
+
+impl<R: Read> FileSource<R> {
+    /// A source that reads from this reader.
+    pub fn new(inner: R) -> FileSource<R>
+        ensures { result ≡ record { inner = inner; faults = 0 } }
+    {
+        FileSource {
+            reader: inner,
+            faults: 0,
+        }
+    }
+}
+
+impl<R: Read> Source for FileSource<R> {
+    ghost left = { λ _. None };
+
+    ghost faults = { λ s. s.faults };
+
+    fn read(&mut self, buf: &mut [u8]) -> Result<usize, Failed>
+        ensures moved { IfOk result (Moves None None buf.old buf.new) }
+        ensures cause { HasCause self.old.faults self.new.faults result }
+
+        // The count rises at an error alone, and what the reader gives is passed on.
+        ensures counted { self.new.faults ≡ (if is_ok result then self.old.faults else next_count self.old.faults) }
+        ensures passed { ReadConsumes (R.remaining self.old.inner) (R.remaining self.new.inner) result buf.new }
+        ensures empty { buf.old ≡ [] → (result ≡ Ok 0) × (self.new ≡ self.old) }
+    {
+        if buf.is_empty() {
+            return Ok(0);
+        }
+        match self.reader.read(buf) {
+            Ok(n) => Ok(n),
+            Err(_) => {
+                self.faults = next_count(self.faults);
+                Err(Failed)
+            }
+        }
+    }
+}
+
+#[cfg(test)]
+mod tests {
+    use super::*;
+    use std::io::{self, ErrorKind};
+
+    // Gives "ab", is interrupted, gives "c", and is at its end.
+    #[derive(Drop)]
+    struct Reader {
+        calls: u8,
+    }
+
+    impl Read for Reader {
+        fn read(&mut self, buf: &mut [u8]) -> io::Result<usize> {
+            self.calls = self.calls.saturating_add(1);
+            match (self.calls, buf) {
+                (1, [first, second, ..]) => {
+                    *first = b'a';
+                    *second = b'b';
+                    Ok(2)
+                }
+                (2, _) => Err(io::Error::from(ErrorKind::Interrupted)),
+                (3, [first, ..]) => {
+                    *first = b'c';
+                    Ok(1)
+                }
+                _ => Ok(0),
+            }
+        }
+    }
+
+    #[test]
+    fn each_read_is_one_call_of_the_reader(rt: HostRuntime) {
+        let mut reader = Reader { calls: 0 };
+        let mut source = FileSource::new(&mut reader);
+        let mut buf = [b'.'; 4];
+        assert_eq!(rt; source.read(&mut []), Ok(0));
+        assert_eq!(rt; source.read(&mut buf), Ok(2));
+        assert_eq!(rt; source.read(&mut buf), Err(Failed));
+        assert_eq!(rt; source.read(&mut buf), Ok(1));
+        assert_eq!(rt; buf.as_slice(), b"cb..".as_slice());
+        assert_eq!(rt; source.read(&mut buf), Ok(0));
+        assert_eq!(rt; reader.calls, 4);
+    }
+}

@@ -1,0 +1,153 @@
+// A sink in memory with a fixed room, whose writes fail where they are told to or where room is wanting.
+ghost use Rattle.std.specs.Prelude.{◌≡◌, ℕ, ◌+◌, ◌-◌, ◌/◌, ◌<◌, ◌≤◌, ◌↔◌, ◌⊎◌, ◌++◌, [], min, length, take, Some, IsOk, IsErr, IfOk, OnOk, OnErr, Contains};
+ghost use Rattle.pc_outside.specs.Counts.{next_count, HasCause};
+ghost use Rattle.pc_outside.specs.MemorySink.{fitting};
+ghost use Rattle.pc_outside.specs.Writes.{GrowsByFront, WritesAll};
+
+use crate::counts::{is_listed, next_count};
+use crate::{Failed, NoMemory, Sink};
+use std::alloc::Global;
+use std::marker::Model;
+
+/// A sink in memory that holds at most its room of bytes. Its writes of at least one byte are
+/// counted from 1, and those whose numbers are listed fail.
+#[derive(Drop)]
+pub struct MemorySink {
+    content: Vec<u8>,
+    room: usize,
+    failing: Vec<u32>,
+    calls: u64,
+    faults: u64,
+}
+
+impl Model for MemorySink {
+    ghost use Rattle.std.specs.Prelude.{◌≤◌, vec_len, vec_capacity};
+    ghost use Rattle.pc_outside.specs.MemorySink.{MemorySinkState};
+
+    ghost Value = { MemorySinkState };
+
+    ghost view = { λ s. record {
+      bytes = s.content.items;
+      room = s.room;
+      failing = s.failing.items;
+      calls = s.calls;
+      faults = s.faults;
+    } };
+
+    ghost invariant = { λ s. (vec_len s.content ≤ s.room) × (s.room ≤ vec_capacity s.content) };
+}
+
+impl MemorySink {
+    /// An empty sink with room for so many bytes, which it takes now, and whose writes with these
+    /// numbers fail.
+    pub fn new(alloc: Global, room: usize, failing: Vec<u32>) -> Result<MemorySink, NoMemory>
+        ensures { IfOk result (λ s. s ≡ record {
+          bytes = [];
+          room = room;
+          failing = failing.items;
+          calls = 0;
+          faults = 0;
+        }) }
+    {
+        let content = Vec::with_capacity(alloc, room)?;
+        Ok(MemorySink {
+            content,
+            room,
+            failing,
+            calls: 0,
+            faults: 0,
+        })
+    }
+
+    /// The bytes written so far.
+    pub fn bytes(&self) -> &[u8]
+        ensures value { result.now ≡ self.now.bytes }
+        ensures within { length result.now ≤ self.now.room }
+    {
+        &self.content
+    }
+
+    // Appends the first so many of these bytes, as far as they fit, and fails.
+    #[tactic(auto, using(crate::specs::Writes::front_taken))]
+    fn fail_after(&mut self, bytes: &[u8], most: usize) -> Result<(), Failed>
+        requires { most ≤ length bytes.now }
+        ensures fails { IsErr result }
+        ensures appended { self.new ≡ record self.old {
+          bytes = self.old.bytes ++ fitting self.old most bytes.now;
+          faults = next_count self.old.faults;
+        } }
+        ensures front { GrowsByFront (Some self.old.bytes) (Some self.new.bytes) bytes.now }
+    {
+        let fitting = most.min(self.room - self.content.len());
+        self.content.extend_from_slice(&bytes[..fitting]).unwrap();
+        self.faults = next_count(self.faults);
+        Err(Failed)
+    }
+}
+
+impl Sink for MemorySink {
+    ghost written = { λ s. Some s.bytes };
+
+    ghost faults = { λ s. s.faults };
+
+    #[tactic(auto, using(crate::specs::Writes::at_err))]
+    fn write(&mut self, bytes: &[u8]) -> Result<(), Failed>
+        ensures written { WritesAll (Some self.old.bytes) (Some self.new.bytes) result bytes.now }
+        ensures cause { HasCause self.old.faults self.new.faults result }
+
+        ensures fails { IsErr result ↔ ((0 < length bytes.now)
+            × (Contains self.old.failing (next_count self.old.calls)
+            ⊎ (self.old.room < length self.old.bytes + length bytes.now))) }
+        ensures empty { bytes.now ≡ [] → IsOk result × (self.new ≡ self.old) }
+        ensures done { 0 < length bytes.now → OnOk result (self.new ≡ record self.old {
+          bytes = self.old.bytes ++ bytes.now;
+          calls = next_count self.old.calls;
+        }) }
+        // A listed write appends the half that comes first, as far as it fits.
+        ensures listed { Contains self.old.failing (next_count self.old.calls)
+            → OnErr result (self.new ≡ record self.old {
+              bytes = self.old.bytes ++ fitting self.old (length bytes.now / 2) bytes.now;
+              calls = next_count self.old.calls;
+              faults = next_count self.old.faults;
+            }) }
+        // One for which room is wanting appends what fits.
+        ensures full { (Contains self.old.failing (next_count self.old.calls) → ⊥)
+            → OnErr result (self.new ≡ record self.old {
+              bytes = self.old.bytes ++ fitting self.old (length bytes.now) bytes.now;
+              calls = next_count self.old.calls;
+              faults = next_count self.old.faults;
+            }) }
+    {
+        if bytes.is_empty() {
+            return Ok(());
+        }
+        self.calls = next_count(self.calls);
+        if is_listed(&self.failing, self.calls) {
+            return self.fail_after(bytes, bytes.len() / 2);
+        }
+        if self.room - self.content.len() < bytes.len() {
+            return self.fail_after(bytes, bytes.len());
+        }
+        self.content.extend_from_slice(bytes).unwrap();
+        Ok(())
+    }
+}
+
+#[cfg(test)]
+mod tests {
+    use super::*;
+    use std::test::Fail;
+
+    #[test]
+    fn a_failed_write_leaves_a_front(rt: HostRuntime) -> Result<(), Fail> {
+        let failing = [2].to_vec(rt.alloc())?;
+        let made = MemorySink::new(rt.alloc(), 4, failing);
+        let mut sink = made.ok().ok_or("no memory")?;
+        assert_eq!(rt; sink.write(b"ab"), Ok(()));
+        assert_eq!(rt; sink.write(b""), Ok(()));
+        assert_eq!(rt; sink.write(b"cde"), Err(Failed));
+        assert_eq!(rt; sink.write(b"fg"), Err(Failed));
+        assert_eq!(rt; sink.bytes(), b"abcf".as_slice());
+        Ok(())
+    }
+}

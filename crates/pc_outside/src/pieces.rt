@@ -1,0 +1,33 @@
+// Writing several pieces one after the other.
+ghost use Rattle.std.specs.List.{flat_map};
+ghost use Rattle.pc_outside.specs.Counts.{HasCause};
+ghost use Rattle.pc_outside.specs.Writes.{WritesAll};
+
+use crate::{Failed, Sink};
+
+/// Writes the pieces one after the other, up to the first write that fails.
+pub fn write_pieces<O: Sink>(out: &mut O, pieces: &[&[u8]]) -> Result<(), Failed>
+    ensures written { WritesAll (O.written out.old) (O.written out.new) result (flat_map (λ piece. piece.now) pieces.now) }
+    ensures cause { HasCause (O.faults out.old) (O.faults out.new) result }
+{
+    for piece in pieces {
+        out.write(piece)?;
+    }
+    Ok(())
+}
+
+#[cfg(test)]
+mod tests {
+    use super::*;
+    use crate::MemorySink;
+    use std::test::Fail;
+
+    #[test]
+    fn pieces_follow_each_other(rt: HostRuntime) -> Result<(), Fail> {
+        let made = MemorySink::new(rt.alloc(), 3, Vec::new(rt.alloc()));
+        let mut sink = made.ok().ok_or("no memory")?;
+        assert_eq!(rt; write_pieces(&mut sink, &[b"ab", b"", b"c"]), Ok(()));
+        assert_eq!(rt; sink.bytes(), b"abc".as_slice());
+        Ok(())
+    }
+}

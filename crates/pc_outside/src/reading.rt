@@ -1,0 +1,82 @@
+// Reading a source to its end, up to a limit.
+ghost use Rattle.std.specs.Prelude.{◌≡◌, ◌+◌, ◌<◌, ◌≤◌, vec_len, Err, IfOk};
+ghost use Rattle.pc_outside.specs.declared.reading.ReadError.{ReadError};
+ghost use Rattle.pc_outside.specs.Counts.{Rose};
+ghost use Rattle.pc_outside.specs.Reads.{TakesAll, TakesFirst, TakesAtMost};
+
+use crate::{Failed, Source};
+use std::alloc::{AllocError, Global};
+
+/// Why a source could not be read to its end.
+#[derive(Clone, Copy, Debug, PartialEq, Eq)]
+pub enum ReadError {
+    /// It gives more bytes than the limit.
+    TooLong,
+    /// A read failed.
+    Failed,
+    /// There is no memory for its bytes.
+    NoMemory,
+}
+
+impl From<Failed> for ReadError {
+    ghost from_gives = { λ _ e. e ≡ ReadError.Failed };
+
+    fn from(_error: Failed) -> ReadError {
+        ReadError::Failed
+    }
+}
+
+impl From<AllocError> for ReadError {
+    ghost from_gives = { λ _ e. e ≡ ReadError.NoMemory };
+
+    fn from(_error: AllocError) -> ReadError {
+        ReadError::NoMemory
+    }
+}
+
+const CHUNK: usize = 4096;
+
+/// All the bytes that the source has left, where they are at most so many. It reads until a read
+/// gives none, or until one byte more than the limit was read.
+#[tactic(auto, using(crate::specs::Reads::takes_at_most))]
+pub fn read_all<S: Source>(
+    alloc: Global,
+    source: &mut S,
+    limit: usize,
+) -> Result<Vec<u8>, ReadError>
+    requires { limit < usize.MAX }
+    ensures all { IfOk result (λ bytes. TakesAll (S.left source.old) (S.left source.new) bytes.items) }
+    ensures within { IfOk result (λ bytes. vec_len bytes ≤ limit) }
+    ensures too_long { result ≡ Err ReadError.TooLong → TakesFirst (S.left source.old) (S.left source.new) (limit + 1) }
+    ensures failed { result ≡ Err ReadError.Failed → Rose (S.faults source.old) (S.faults source.new) }
+    ensures later { S.faults source.old ≤ S.faults source.new }
+    ensures front { TakesAtMost (S.left source.old) (S.left source.new) (limit + 1) }
+{
+    let mut bytes = Vec::new(alloc);
+    let mut chunk = [0u8; CHUNK];
+    while bytes.len() <= limit {
+        let room = (limit - bytes.len() + 1).min(CHUNK);
+        let n = source.read(&mut chunk[..room])?;
+        if n == 0 {
+            return Ok(bytes);
+        }
+        bytes.extend_from_slice(&chunk[..n])?;
+    }
+    Err(ReadError::TooLong)
+}
+
+#[cfg(test)]
+mod tests {
+    use super::*;
+    use crate::MemorySource;
+    use std::test::Fail;
+
+    #[test]
+    fn as_many_bytes_as_the_limit(rt: HostRuntime) -> Result<(), Fail> {
+        let bytes = b"abcde".to_vec(rt.alloc())?;
+        let mut source = MemorySource::new(bytes, Vec::new(rt.alloc())).with_piece(2);
+        let read = read_all(rt.alloc(), &mut source, 5).ok().ok_or("not read")?;
+        assert_eq!(rt; read.as_slice(), b"abcde".as_slice());
+        Ok(())
+    }
+}

@@ -1,0 +1,22 @@
+// A sink of bytes.
+ghost use Rattle.std.specs.Prelude.{◌≡◌, ℕ, [], List, Option, IsOk};
+ghost use Rattle.pc_outside.specs.Counts.{HasCause};
+ghost use Rattle.pc_outside.specs.Writes.{WritesAll};
+
+use crate::Failed;
+
+/// What bytes are written to. A write may fail.
+pub trait Sink {
+    // The bytes that the sink holds, where it tells them.
+    ghost written: { Self → Option (List ℕ) };
+
+    // How many faults there were.
+    ghost faults: { Self → ℕ };
+
+    /// Appends the bytes. A write that fails has appended some front of them; one of no bytes
+    /// doesn't fail.
+    fn write(&mut self, bytes: &[u8]) -> Result<(), Failed>
+        ensures written { WritesAll (written self.old) (written self.new) result bytes.now }
+        ensures empty { bytes.now ≡ [] → IsOk result }
+        ensures cause { HasCause (faults self.old) (faults self.new) result };
+}

@@ -1,0 +1,23 @@
+// A source of bytes.
+ghost use Rattle.std.specs.Prelude.{◌≡◌, ℕ, [], List, Option, IfOk, OnErr};
+ghost use Rattle.pc_outside.specs.Counts.{HasCause};
+ghost use Rattle.pc_outside.specs.Reads.{Moves};
+
+use crate::Failed;
+
+/// What bytes are read from. A read may fail.
+pub trait Source {
+    // The bytes still to come, where the source tells them.
+    ghost left: { Self → Option (List ℕ) };
+
+    // How many faults there were.
+    ghost faults: { Self → ℕ };
+
+    /// Moves bytes into the front of the buffer and answers how many. Into a buffer that has room
+    /// it moves none only at the end. A read that fails takes no byte.
+    fn read(&mut self, buf: &mut [u8]) -> Result<usize, Failed>
+        ensures moved { IfOk result (Moves (left self.old) (left self.new) buf.old buf.new) }
+        ensures kept { OnErr result (left self.new ≡ left self.old) }
+        ensures empty { buf.old ≡ [] → result ≡ Ok 0 }
+        ensures cause { HasCause (faults self.old) (faults self.new) result };
+}
