@@ -1,0 +1,45 @@
+-- Sums and differences of small signed numbers do not leave a byte.
+use Rattle.std.proofs.Common.{◌≡◌, ℤ, pos, ◌+ℤ◌, ◌-ℤ◌, ◌≤ℤ◌, true, ◌&&◌, T, to_z, of_z, w8, arith, subst, sym}
+use Rattle.std.specs.Prelude.{int_le}
+use Rattle.std.specs.Int.Signed.{le_z_yes}
+use Rattle.std.proofs.lemmas.Int.{ints}
+use Rattle.srs.specs.declared.offset.Offset.{Offset}
+use Rattle.srs.specs.Cells.{Cell, minus, is_near}
+use Rattle.srs.specs.Kick.{is_small}
+use Rattle.srs.proofs.ListLemmas.{and_first, and_second}
+
+-- both numbers lie between the bounds
+pub record IsWithin (low high : ℤ) (a b : ℤ) : Type 0 where
+  pub left : low ≤ℤ a
+  pub right : a ≤ℤ high
+  pub down : low ≤ℤ b
+  pub up : b ≤ℤ high
+
+yes : (a b : ℤ) → int_le a b ≡ true → a ≤ℤ b
+yes a b e = le_z_yes (subst T (sym e) tt)
+
+within : (low high a b : ℤ) → (int_le low a && int_le a high && int_le low b && int_le b high) ≡ true → IsWithin low high a b
+within low high a b h =
+    let p = int_le low a in
+    let q = int_le a high in
+    let r = int_le low b in
+    let s = int_le b high in
+    let front = and_first ((p && q) && r) s h in
+    record {
+      left = yes low a (and_first p q (and_first (p && q) r front));
+      right = yes a high (and_second p q (and_first (p && q) r front));
+      down = yes low b (and_second (p && q) r front);
+      up = yes b high (and_second ((p && q) && r) s h);
+    }
+
+pub near_within : (move : Cell) → is_near move ≡ true → IsWithin (minus 2) (pos 2) move.0 move.1
+near_within move = within (minus 2) (pos 2) move.0 move.1
+
+pub small_within : (offset : Offset) → is_small offset ≡ true → IsWithin (minus 3) (pos 3) offset.dx offset.dy
+small_within offset = within (minus 3) (pos 3) offset.dx offset.dy
+
+pub sum_in_byte : (a b : ℤ) → pos 0 ≤ℤ a → a ≤ℤ pos 31 → minus 2 ≤ℤ b → b ≤ℤ pos 2 → to_z w8 (of_z w8 (to_z w8 (of_z w8 a) +ℤ to_z w8 (of_z w8 b))) ≡ a +ℤ b
+sum_in_byte a b g h k l = omega (arith, ints)
+
+pub difference_in_byte : (a b : ℤ) → minus 3 ≤ℤ a → a ≤ℤ pos 3 → minus 3 ≤ℤ b → b ≤ℤ pos 3 → to_z w8 (of_z w8 (to_z w8 (of_z w8 a) -ℤ to_z w8 (of_z w8 b))) ≡ a -ℤ b
+difference_in_byte a b g h k l = omega (arith, ints)

@@ -1,0 +1,87 @@
+-- The orders of placements and of sequences: both are total, and equal only of equal things.
+use Rattle.std.proofs.Common.{◌≡◌, ◌↔◌, ℕ, ◌<◌, List, [], ◌∷◌, ◌++◌, refl, sym, ap, subst, ◌∙◌, lt-ltb}
+use Rattle.std.specs.Ordering.{ordering_then, nat_cmp}
+use Rattle.std.specs.Cmp.{IsTotalOrder, nat_cmp_total, on_total, then_total, tied_itself}
+use Rattle.std.specs.Cmp.Lexicographic.{lists_total}
+use Rattle.std.specs.FinMap.{IsAntisymmetric, nat_cmp-IsAntisymmetric, slice_cmp-IsAntisymmetric}
+use Rattle.std.specs.declared.cmp.Ordering.{Ordering}
+use Rattle.std.specs.declared.cmp.Ordering.TheVariants.{Less, Equal, Greater}
+use Rattle.srs.specs.declared.placement.Placement.{Placement}
+use Rattle.srs.specs.Piece.{piece_code}
+use Rattle.srs.specs.Rotation.{rotation_place}
+use Rattle.srs.specs.Order.{placement_cmp, sequence_cmp}
+use Rattle.srs.proofs.CodeLemmas.{piece_code-injective, rotation_place-injective}
+
+pub then_assoc : (a b c : Ordering) → ordering_then (ordering_then a b) c ≡ ordering_then a (ordering_then b c)
+then_assoc Less b c = refl
+then_assoc Equal b c = refl
+then_assoc Greater b c = refl
+
+then_first : (a b : Ordering) → ordering_then a b ≡ Equal → a ≡ Equal
+then_first Less b e = cc
+then_first Equal b e = refl
+then_first Greater b e = cc
+
+then_second : (a b : Ordering) → ordering_then a b ≡ Equal → b ≡ Equal
+then_second Less b e = cc
+then_second Equal b e = e
+then_second Greater b e = cc
+
+pub placement_cmp-total : IsTotalOrder placement_cmp
+placement_cmp-total =
+    then_total (on_total (λ (s : Placement). piece_code s.piece) nat_cmp_total)
+    (then_total (on_total (λ (s : Placement). rotation_place s.rotation) nat_cmp_total)
+    (then_total (on_total (λ (s : Placement). s.y) nat_cmp_total) (on_total (λ (s : Placement). s.x) nat_cmp_total)))
+
+equal_parts : (s t : Placement) → s.piece ≡ t.piece → s.rotation ≡ t.rotation → s.x ≡ t.x → s.y ≡ t.y → s ≡ t
+equal_parts s t p r x y = λ i. record { piece = p i; rotation = r i; x = x i; y = y i }
+
+pub placement_cmp-antisymmetric : IsAntisymmetric placement_cmp
+placement_cmp-antisymmetric s t e =
+    let piece = nat_cmp (piece_code s.piece) (piece_code t.piece) in
+    let rotation = nat_cmp (rotation_place s.rotation) (rotation_place t.rotation) in
+    let row = nat_cmp s.y t.y in
+    let column = nat_cmp s.x t.x in
+    let after_piece = then_second piece (ordering_then rotation (ordering_then row column)) e in
+    let after_rotation = then_second rotation (ordering_then row column) after_piece in
+    equal_parts s t
+    (piece_code-injective s.piece t.piece (nat_cmp-IsAntisymmetric _ _ (then_first piece _ e)))
+    (rotation_place-injective s.rotation t.rotation (nat_cmp-IsAntisymmetric _ _ (then_first rotation _ after_piece)))
+    (nat_cmp-IsAntisymmetric s.x t.x (then_second row column after_rotation))
+    (nat_cmp-IsAntisymmetric s.y t.y (then_first row column after_rotation))
+
+pub placement_cmp-equal : (s t : Placement) → (placement_cmp s t ≡ Equal) ↔ (s ≡ t)
+placement_cmp-equal s t = (placement_cmp-antisymmetric s t, λ e. ap (placement_cmp s) (sym e) ∙ tied_itself placement_cmp-total s)
+
+pub sequence_cmp-total : IsTotalOrder sequence_cmp
+sequence_cmp-total = lists_total placement_cmp-total
+
+pub sequence_cmp-antisymmetric : IsAntisymmetric sequence_cmp
+sequence_cmp-antisymmetric = slice_cmp-IsAntisymmetric placement_cmp-antisymmetric
+
+pub sequence_cmp-equal : (s t : List Placement) → (sequence_cmp s t ≡ Equal) ↔ (s ≡ t)
+sequence_cmp-equal s t = (sequence_cmp-antisymmetric s t, λ e. ap (sequence_cmp s) (sym e) ∙ tied_itself sequence_cmp-total s)
+
+pub below_is_less : (m n : ℕ) → m < n → nat_cmp m n ≡ Less
+below_is_less m n below = rw (lt-ltb m n below) refl
+
+-- the piece is what is compared first
+pub placement_cmp-piece : (s t : Placement) → piece_code s.piece < piece_code t.piece → placement_cmp s t ≡ Less
+placement_cmp-piece s t below = first_less _ _ (below_is_less (piece_code s.piece) (piece_code t.piece) below)
+  where
+    first_less : (a b : Ordering) → a ≡ Less → ordering_then a b ≡ Less
+    first_less a b e = subst (λ r. ordering_then r b ≡ Less) (sym e) refl
+
+-- the first placements of two sequences decide where they differ
+pub sequence_cmp-first : (x y : Placement) (xs ys : List Placement) → placement_cmp x y ≡ Less → sequence_cmp (x ∷ xs) (y ∷ ys) ≡ Less
+sequence_cmp-first x y xs ys e = ap (λ r. ordering_then r (sequence_cmp xs ys)) e
+
+-- what two sequences begin with alike decides nothing
+pub sequence_cmp-append : (front xs ys : List Placement) → sequence_cmp (front ++ xs) (front ++ ys) ≡ sequence_cmp xs ys
+sequence_cmp-append [] xs ys = refl
+sequence_cmp-append (x ∷ front) xs ys = ap (λ r. ordering_then r (sequence_cmp (front ++ xs) (front ++ ys))) (tied_itself placement_cmp-total x) ∙ sequence_cmp-append front xs ys
+
+-- a sequence that begins another one comes before it
+pub sequence_cmp-front : (front : List Placement) (y : Placement) (ys : List Placement) → sequence_cmp front (front ++ y ∷ ys) ≡ Less
+sequence_cmp-front [] y ys = refl
+sequence_cmp-front (x ∷ front) y ys = ap (λ r. ordering_then r (sequence_cmp front (front ++ y ∷ ys))) (tied_itself placement_cmp-total x) ∙ sequence_cmp-front front y ys

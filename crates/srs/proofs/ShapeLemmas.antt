@@ -1,0 +1,101 @@
+-- Facts of the table of shapes, tried at each piece and rotation.
+use Rattle.std.proofs.Common.{◌≡◌, nat_lt, Bool, true, false, not, ◌&&◌, ◌||◌, ◌==◌, List, map, refl, subst, arith}
+use Rattle.std.specs.List.{list_all}
+use Rattle.srs.specs.declared.piece.Piece.{Piece}
+use Rattle.srs.specs.declared.piece.Piece.TheVariants.{I, L, O, Z, T, J, S}
+use Rattle.srs.specs.declared.rotation.Rotation.{Rotation}
+use Rattle.srs.specs.declared.rotation.Rotation.TheVariants.{Spawn, Right, Reverse, Left}
+use Rattle.srs.specs.Piece.{all_pieces, piece_code}
+use Rattle.srs.specs.Rotation.{all_rotations, rotation_place, clockwise_of}
+use Rattle.srs.specs.Cells.{Cell, moved, turned, shape, is_near}
+use Rattle.srs.specs.SameCells.{cells_eq, has_cell, SameCells}
+use Rattle.srs.specs.Canonical.{canonical_rotation, canonical_move, rotation_count}
+use Rattle.srs.proofs.CellLemmas.{origin, cells_eq-decides, fits, is_apart, is_still, same_cells-from}
+use Rattle.srs.proofs.ListLemmas.{and_both, list_all_each}
+
+or_false : (a b : Bool) → a ≡ false → (a || b) ≡ true → b ≡ true
+or_false a b e h = subst (λ x. (x || b) ≡ true) e h
+
+-- what is tried of all pieces holds of each
+pub each_piece : (test : Piece → Bool) → list_all test all_pieces ≡ true → (piece : Piece) → test piece ≡ true
+each_piece test all I = list_all_each test all_pieces 0 I all (omega arith)
+each_piece test all L = list_all_each test all_pieces 1 I all (omega arith)
+each_piece test all O = list_all_each test all_pieces 2 I all (omega arith)
+each_piece test all Z = list_all_each test all_pieces 3 I all (omega arith)
+each_piece test all T = list_all_each test all_pieces 4 I all (omega arith)
+each_piece test all J = list_all_each test all_pieces 5 I all (omega arith)
+each_piece test all S = list_all_each test all_pieces 6 I all (omega arith)
+
+-- what is tried of all rotations holds of each
+pub each_rotation : (test : Rotation → Bool) → list_all test all_rotations ≡ true → (rotation : Rotation) → test rotation ≡ true
+each_rotation test all Spawn = list_all_each test all_rotations 0 Spawn all (omega arith)
+each_rotation test all Right = list_all_each test all_rotations 1 Spawn all (omega arith)
+each_rotation test all Reverse = list_all_each test all_rotations 2 Spawn all (omega arith)
+each_rotation test all Left = list_all_each test all_rotations 3 Spawn all (omega arith)
+
+-- what is tried of all pieces and rotations holds of each
+pub each_state : (test : Piece → Rotation → Bool) → list_all (λ piece. list_all (test piece) all_rotations) all_pieces ≡ true → (piece : Piece) (rotation : Rotation) → test piece rotation ≡ true
+each_state test all piece = each_rotation (test piece) (each_piece (λ p. list_all (test p) all_rotations) all piece)
+
+-- the pivot is a cell
+pub pivot_in_shape : (piece : Piece) (rotation : Rotation) → has_cell (shape piece rotation) origin ≡ true
+unfolding has_cell origin
+pivot_in_shape = each_state (λ p r. has_cell (shape p r) origin) refl
+
+-- the pivot of the canonical placement is a cell
+pub canonical_move_in_shape : (piece : Piece) (rotation : Rotation) → has_cell (shape piece rotation) (canonical_move piece rotation) ≡ true
+unfolding has_cell
+canonical_move_in_shape = each_state (λ p r. has_cell (shape p r) (canonical_move p r)) refl
+
+pub canonical_move_near : (piece : Piece) (rotation : Rotation) → is_near (canonical_move piece rotation) ≡ true
+canonical_move_near = each_state (λ p r. is_near (canonical_move p r)) refl
+
+-- the shape of the canonical rotation, moved, has the same cells
+pub canonical_shape : (piece : Piece) (rotation : Rotation) → SameCells (map (moved (canonical_move piece rotation)) (shape piece (canonical_rotation piece rotation))) (shape piece rotation)
+unfolding has_cell moved
+canonical_shape p r = same_cells-from _ _ (each_state there refl p r) (each_state back refl p r)
+  where
+    found : Piece → Rotation → List Cell
+    found p r = map (moved (canonical_move p r)) (shape p (canonical_rotation p r))
+
+    there : Piece → Rotation → Bool
+    there p r = list_all (has_cell (shape p r)) (found p r)
+
+    back : Piece → Rotation → Bool
+    back p r = list_all (has_cell (found p r)) (shape p r)
+
+-- no two kinds of piece have a shape in common, wherever they are
+pub kinds_apart : (p : Piece) (r : Rotation) (q : Piece) (s : Rotation) → (piece_code p == piece_code q) ≡ false → is_apart (shape p r) (shape q s) ≡ true
+unfolding has_cell moved fits is_apart
+kinds_apart p r q s other = or_false _ _ other (each_state (λ q s. piece_code p == piece_code q || is_apart (shape p r) (shape q s)) (each_state (λ p r. list_all (λ q. list_all (λ s. piece_code p == piece_code q || is_apart (shape p r) (shape q s)) all_rotations) all_pieces) refl p r) q s)
+
+-- the rotations that a piece has cells of its own in are apart from each earlier one
+pub rotations_apart : (p : Piece) (r s : Rotation) → nat_lt (rotation_place s) (rotation_count p) ≡ true → nat_lt (rotation_place r) (rotation_place s) ≡ true → is_apart (shape p r) (shape p s) ≡ true
+unfolding has_cell moved fits is_apart
+rotations_apart p r s own earlier = both_so _ _ _ own earlier (each_rotation (λ s. test p r s) (each_state (λ p r. list_all (test p r) all_rotations) refl p r) s)
+  where
+    test : Piece → Rotation → Rotation → Bool
+    test p r s = not (nat_lt (rotation_place s) (rotation_count p) && nat_lt (rotation_place r) (rotation_place s)) || is_apart (shape p r) (shape p s)
+
+    both_so : (a b c : Bool) → a ≡ true → b ≡ true → (not (a && b) || c) ≡ true → c ≡ true
+    both_so a b c e f h = subst (λ x. (not x || c) ≡ true) (and_both a b e f) h
+
+pub shape_still : (p : Piece) (r : Rotation) → is_still (shape p r) ≡ true
+unfolding has_cell moved fits is_still origin
+shape_still = each_state (λ p r. is_still (shape p r)) refl
+
+-- a rotation has cells of its own, or the canonical one is earlier
+pub canonical_earlier : (p : Piece) (r : Rotation) → nat_lt (rotation_place r) (rotation_count p) ≡ false → nat_lt (rotation_place (canonical_rotation p r)) (rotation_place r) ≡ true
+canonical_earlier p r other = or_false _ _ other (each_state (λ p r. nat_lt (rotation_place r) (rotation_count p) || nat_lt (rotation_place (canonical_rotation p r)) (rotation_place r)) refl p r)
+
+-- the canonical rotation has cells of its own
+pub canonical_rotation_own : (p : Piece) (r : Rotation) → nat_lt (rotation_place (canonical_rotation p r)) (rotation_count p) ≡ true
+canonical_rotation_own = each_state (λ p r. nat_lt (rotation_place (canonical_rotation p r)) (rotation_count p)) refl
+
+-- a quarter turn clockwise turns the shape
+pub shape-clockwise : (p : Piece) (r : Rotation) → shape p (clockwise_of r) ≡ map turned (shape p r)
+shape-clockwise p r = (cells_eq-decides _ _).0 (each_state (λ p r. cells_eq (shape p (clockwise_of r)) (map turned (shape p r))) refl p r)
+
+-- no cell is more than two columns or rows from the pivot
+pub shape_near : (p : Piece) (r : Rotation) → list_all is_near (shape p r) ≡ true
+shape_near = each_state (λ p r. list_all is_near (shape p r)) refl

@@ -1,0 +1,123 @@
+-- Tables of offsets: when two are equal, and what a change of one offset leaves.
+use Rattle.std.proofs.Common.{◌≡◌, ℕ, ◌<◌, Bool, true, ◌&&◌, Decides, List, [], ◌∷◌, refl, ap, subst, ◌∙◌, length, map, set, get_or, arith}
+use Rattle.std.specs.Cmp.Lexicographic.{pointwise}
+use Rattle.std.proofs.Math.Path.{fun_ext}
+use Rattle.std.specs.List.{list_all}
+use Rattle.std.proofs.lemmas.List.{length-map, map-set}
+use Rattle.std.proofs.lemmas.List.Folds.{list_all-map}
+use Rattle.srs.specs.declared.piece.Piece.{Piece}
+use Rattle.srs.specs.declared.piece.Piece.TheVariants.{I, L, O, Z, T, J, S}
+use Rattle.srs.specs.declared.rotation.Rotation.{Rotation}
+use Rattle.srs.specs.declared.rotation.Rotation.TheVariants.{Spawn, Right, Reverse, Left}
+use Rattle.srs.specs.declared.offset.Offset.{Offset}
+use Rattle.srs.specs.declared.rules.Rules.{Rules}
+use Rattle.srs.specs.declared.rules.Turns.{Turns}
+use Rattle.srs.specs.declared.rules.Tests.{Tests}
+use Rattle.srs.specs.Cells.{Cell}
+use Rattle.srs.specs.Piece.{all_pieces}
+use Rattle.srs.specs.Rotation.{all_rotations}
+use Rattle.srs.specs.Kick.{Table, IsSmallTable, is_small_move, pair_of, turns_eq, table_eq}
+use Rattle.srs.specs.Rules.{table_of, turns_table}
+use Rattle.srs.specs.SameCells.{cell_eq, cells_eq}
+use Rattle.srs.proofs.CellLemmas.{cells_eq-decides}
+use Rattle.srs.proofs.ListLemmas.{list_all_each, list_all-true}
+
+-- the offsets of a piece are equal where they are in each rotation
+pub same_turns : (t u : Rotation → List Cell) → t Spawn ≡ u Spawn → t Right ≡ u Right → t Reverse ≡ u Reverse → t Left ≡ u Left → t ≡ u
+same_turns t u spawn right reverse left = fun_ext each
+  where
+    each : (r : Rotation) → t r ≡ u r
+    each Spawn = spawn
+    each Right = right
+    each Reverse = reverse
+    each Left = left
+
+-- tables are equal where they are for each piece
+pub same_tables : (t u : Table) → t I ≡ u I → t L ≡ u L → t O ≡ u O → t Z ≡ u Z → t T ≡ u T → t J ≡ u J → t S ≡ u S → t ≡ u
+same_tables t u i l o z t-same j s = fun_ext each
+  where
+    each : (p : Piece) → t p ≡ u p
+    each I = i
+    each L = l
+    each O = o
+    each Z = z
+    each T = t-same
+    each J = j
+    each S = s
+
+-- one offset of a list is changed, seen as pairs
+pub changed_pairs : (new old : List Offset) (i : ℕ) (offset : Offset) → new ≡ set old i offset → map pair_of new ≡ set (map pair_of old) i (pair_of offset)
+changed_pairs new old i offset is = ap (map pair_of) is ∙ map-set pair_of old i offset
+
+-- a test of two lists of offsets is that of their pairs
+pub pointwise-pairs : (E : Offset → Offset → Bool) → ((x y : Offset) → E x y ≡ cell_eq (pair_of x) (pair_of y)) → (xs ys : List Offset) → pointwise E xs ys ≡ cells_eq (map pair_of xs) (map pair_of ys)
+pointwise-pairs E is [] [] = refl
+pointwise-pairs E is [] (y ∷ ys) = refl
+pointwise-pairs E is (x ∷ xs) [] = refl
+pointwise-pairs E is (x ∷ xs) (y ∷ ys) = ap2 (is x y) (pointwise-pairs E is xs ys)
+  where
+    ap2 : {a b c d : Bool} → a ≡ b → c ≡ d → (a && c) ≡ (b && d)
+    ap2 e f = cc
+
+cells_eq-itself : (xs : List Cell) → cells_eq xs xs ≡ true
+cells_eq-itself xs = (cells_eq-decides xs xs).1 refl
+
+-- so does the test of the offsets of a piece
+pub turns_eq-decides : (t u : Rotation → List Cell) → Decides (turns_eq t u) (t ≡ u)
+turns_eq-decides t u = (equal, λ e. subst (λ v. turns_eq t v ≡ true) e itself)
+  where
+    equal : turns_eq t u ≡ true → t ≡ u
+    equal e =
+        let each = list_all_each (λ r. cells_eq (t r) (u r)) all_rotations in
+        let one : (i : ℕ) → i < 4 → cells_eq (t (get_or all_rotations i Spawn)) (u (get_or all_rotations i Spawn)) ≡ true = λ i h. each i Spawn e h in
+        same_turns t u
+        ((cells_eq-decides _ _).0 (one 0 (omega arith)))
+        ((cells_eq-decides _ _).0 (one 1 (omega arith)))
+        ((cells_eq-decides _ _).0 (one 2 (omega arith)))
+        ((cells_eq-decides _ _).0 (one 3 (omega arith)))
+
+    itself : turns_eq t t ≡ true
+    itself = list_all-true (λ r. cells_eq (t r) (t r)) all_rotations (λ r. cells_eq-itself (t r))
+
+-- so does the test of tables
+pub table_eq-decides : (t u : Table) → Decides (table_eq t u) (t ≡ u)
+table_eq-decides t u = (equal, λ e. subst (λ v. table_eq t v ≡ true) e itself)
+  where
+    equal : table_eq t u ≡ true → t ≡ u
+    equal e =
+        let one : (i : ℕ) → i < 7 → turns_eq (t (get_or all_pieces i I)) (u (get_or all_pieces i I)) ≡ true = λ i h. list_all_each (λ p. turns_eq (t p) (u p)) all_pieces i I e h in
+        same_tables t u
+        ((turns_eq-decides _ _).0 (one 0 (omega arith)))
+        ((turns_eq-decides _ _).0 (one 1 (omega arith)))
+        ((turns_eq-decides _ _).0 (one 2 (omega arith)))
+        ((turns_eq-decides _ _).0 (one 3 (omega arith)))
+        ((turns_eq-decides _ _).0 (one 4 (omega arith)))
+        ((turns_eq-decides _ _).0 (one 5 (omega arith)))
+        ((turns_eq-decides _ _).0 (one 6 (omega arith)))
+
+    itself : table_eq t t ≡ true
+    itself = list_all-true (λ p. turns_eq (t p) (t p)) all_pieces (λ p. (turns_eq-decides (t p) (t p)).1 refl)
+
+-- what `Tests` keeps, seen as pairs
+small_pairs : (tests : Tests) → (length (map pair_of tests.offsets) ≡ 5) × (list_all is_small_move (map pair_of tests.offsets) ≡ true)
+small_pairs tests = (length-map tests.offsets pair_of ∙ tests.five, list_all-map is_small_move pair_of tests.offsets ∙ tests.small)
+
+small_turns : (turns : Turns) (r : Rotation) → (length (turns_table turns r) ≡ 5) × (list_all is_small_move (turns_table turns r) ≡ true)
+small_turns turns Spawn = small_pairs turns.spawn
+small_turns turns Right = small_pairs turns.right
+small_turns turns Reverse = small_pairs turns.reverse
+small_turns turns Left = small_pairs turns.left
+
+-- the table of any rules has five small offsets for each piece and rotation
+pub table_of-small : (rules : Rules) → IsSmallTable (table_of rules)
+unfolding table_of
+table_of-small rules = record { five = λ p r. (at_piece p r).0; small = λ p r. (at_piece p r).1 }
+  where
+    at_piece : (p : Piece) (r : Rotation) → (length (table_of rules p r) ≡ 5) × (list_all is_small_move (table_of rules p r) ≡ true)
+    at_piece I = small_turns rules.i
+    at_piece L = small_turns rules.l
+    at_piece O = small_turns rules.o
+    at_piece Z = small_turns rules.z
+    at_piece T = small_turns rules.t
+    at_piece J = small_turns rules.j
+    at_piece S = small_turns rules.s

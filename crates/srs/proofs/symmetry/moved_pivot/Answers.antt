@@ -1,0 +1,58 @@
+-- The pivot lies in the well, and so does that of the canonical placement.
+use Rattle.std.proofs.Common.{◌≡◌, pos, arith, to_z, of_z, w8, ap, ◌∙◌}
+use Rattle.std.proofs.lemmas.Int.{ints}
+use Rattle.std.specs.Prelude.{nat_abs}
+use Rattle.srs.specs.Cells.{Cell, moved, pivot_of}
+use Rattle.srs.specs.Canonical.{canonical_move}
+use Rattle.srs.proofs.CanonicalLemmas.{canonical_pivot, pivot_inside, LiesAt}
+use Rattle.srs.proofs.symmetry.moved_pivot.Goals as goal
+
+pub overflow_cast-placement : goal.overflow_cast-placement
+overflow_cast-placement c = let p = pivot_inside c.args.placement.now c.requires in omega (arith, ints)
+
+pub overflow_cast-placement-2 : goal.overflow_cast-placement-2
+overflow_cast-placement-2 c = let p = pivot_inside c.args.placement.now c.requires in omega (arith, ints)
+
+pub cell_at-x-requires-clause-left : goal.cell_at-x-requires-clause-left
+cell_at-x-requires-clause-left c = let p = pivot_inside c.args.placement.now c.requires in omega (arith, ints)
+
+pub cell_at-x-requires-clause-right : goal.cell_at-x-requires-clause-right
+cell_at-x-requires-clause-right c = let p = pivot_inside c.args.placement.now c.requires in omega (arith, ints)
+
+pub cell_at-x-requires-clause-low : goal.cell_at-x-requires-clause-low
+cell_at-x-requires-clause-low c = let p = pivot_inside c.args.placement.now c.requires in omega (arith, ints)
+
+pub cell_at-x-requires-clause-high : goal.cell_at-x-requires-clause-high
+cell_at-x-requires-clause-high c = let p = pivot_inside c.args.placement.now c.requires in omega (arith, ints)
+
+-- where the moved pivot is
+at_moved : (c : goal.After-result-1) → c.cell_at-x.result ≡ moved (pivot_of c.args.placement.now) (canonical_move c.args.placement.now.piece c.args.placement.now.rotation)
+at_moved c =
+    let p = pivot_inside c.args.placement.now c.requires in
+    let x : to_z w8 c.args.placement.now.x ≡ pos c.args.placement.now.x = omega (arith, ints) in
+    let y : to_z w8 c.args.placement.now.y ≡ pos c.args.placement.now.y = omega (arith, ints) in
+    c.cell_at-x.ensures ∙ (λ i. moved (x i, y i) (c.earliest-rotation.ensures.pivot i))
+
+lies : (c : goal.After-result-1) → LiesAt c.cell_at-x.result
+lies c = let there = canonical_pivot c.args.placement.now c.requires in record {
+  x = there.x;
+  y = there.y;
+  is = at_moved c ∙ there.is;
+  in_columns = there.in_columns;
+  in_rows = there.in_rows;
+}
+
+pub overflow_cast-result : goal.overflow_cast-result
+overflow_cast-result c = let there = lies c in let x : c.cell_at-x.result.0 ≡ pos there.x = ap (λ (c : Cell). c.0) there.is in omega (arith, ints)
+
+pub overflow_cast-result-2 : goal.overflow_cast-result-2
+overflow_cast-result-2 c = let there = lies c in let y : c.cell_at-x.result.1 ≡ pos there.y = ap (λ (c : Cell). c.1) there.is in omega (arith, ints)
+
+pub returns-clause-pivot : goal.returns-clause-pivot
+returns-clause-pivot c =
+    let there = lies c in
+    let x : c.cell_at-x.result.0 ≡ pos there.x = ap (λ (c : Cell). c.0) there.is in
+    let y : c.cell_at-x.result.1 ≡ pos there.y = ap (λ (c : Cell). c.1) there.is in
+    let column : pos (nat_abs (to_z w8 (of_z w8 c.cell_at-x.result.0))) ≡ c.cell_at-x.result.0 = omega (arith, ints) in
+    let row : pos (nat_abs (to_z w8 (of_z w8 c.cell_at-x.result.1))) ≡ c.cell_at-x.result.1 = omega (arith, ints) in
+    (λ i. (column i, row i)) ∙ at_moved c

@@ -1,0 +1,26 @@
+// Pieces of the Super Rotation System (SRS) in a well of ten columns and 23 rows: their cells, their kicks, the placements that stand for others with the same cells, and the order of placements.
+#![tactic(auto)]
+
+mod kicks;
+pub mod laws;
+mod offset;
+mod order;
+mod piece;
+mod placement;
+mod rotation;
+mod rules;
+mod shapes;
+mod symmetry;
+
+pub use kicks::kick;
+pub use offset::Offset;
+pub use order::compare;
+pub use piece::Piece;
+pub use placement::Placement;
+pub use rotation::Rotation;
+pub use rules::Rules;
+pub use shapes::{cells, is_inside};
+pub use symmetry::canonical;
+
+#[cfg(test)]
+mod tests;

@@ -1,0 +1,8 @@
+// How far a pivot moves.
+
+/// A move of a pivot: `dx` columns to the right and `dy` rows up.
+#[derive(Clone, Copy, Debug, PartialEq, Eq)]
+pub struct Offset {
+    pub dx: i8,
+    pub dy: i8,
+}

@@ -1,0 +1,57 @@
+// Placements that have the same cells, and the one that stands for them.
+ghost use Rattle.std.specs.Prelude.{◌≡◌, pos, IsTrue};
+ghost use Rattle.srs.specs.Cells.{is_inside_of, pivot_of, moved};
+ghost use Rattle.srs.specs.SameCells.{HasSameCells};
+ghost use Rattle.srs.specs.Canonical.{IsCanonical, canonical_rotation, canonical_move};
+
+use crate::piece::Piece;
+use crate::placement::Placement;
+use crate::rotation::Rotation;
+use crate::shapes::cell_at;
+
+/// The placement of this piece that has the same cells and the earliest rotation with them, in the order 0, R, 2, L.
+#[tactic(auto, using(crate::proofs::CanonicalLemmas::found_cells, crate::proofs::CanonicalLemmas::found_canonical))]
+pub fn canonical(placement: &Placement) -> Placement
+    requires { IsTrue (is_inside_of placement.now) }
+    ensures piece { result.piece ≡ placement.now.piece }
+    ensures rotation { result.rotation ≡ canonical_rotation placement.now.piece placement.now.rotation }
+    ensures pivot { pivot_of result ≡ moved (pivot_of placement.now) (canonical_move placement.now.piece placement.now.rotation) }
+    ensures cells { HasSameCells result placement.now }
+    ensures canonical { IsCanonical result }
+{
+    moved_pivot(placement)
+}
+
+/// The placement in the earliest rotation, with its pivot moved.
+fn moved_pivot(placement: &Placement) -> Placement
+    requires { IsTrue (is_inside_of placement.now) }
+    ensures piece { result.piece ≡ placement.now.piece }
+    ensures rotation { result.rotation ≡ canonical_rotation placement.now.piece placement.now.rotation }
+    ensures pivot { pivot_of result ≡ moved (pivot_of placement.now) (canonical_move placement.now.piece placement.now.rotation) }
+{
+    let (rotation, change) = earliest(placement.piece, placement.rotation);
+    let (x, y) = cell_at((placement.x as i8, placement.y as i8), change);
+    Placement {
+        piece: placement.piece,
+        rotation,
+        x: x as u8,
+        y: y as u8,
+    }
+}
+
+/// The earliest rotation in which the piece can have the cells of this one, and what its pivot moves by.
+fn earliest(piece: Piece, rotation: Rotation) -> (Rotation, (i8, i8))
+    ensures rotation { result.0 ≡ canonical_rotation piece rotation }
+    ensures pivot { result.1 ≡ canonical_move piece rotation }
+{
+    match (piece, rotation) {
+        (Piece::I, Rotation::Reverse) => (Rotation::Spawn, (-1, 0)),
+        (Piece::I, Rotation::Left) => (Rotation::Right, (0, 1)),
+        (Piece::O, Rotation::Right) => (Rotation::Spawn, (0, -1)),
+        (Piece::O, Rotation::Reverse) => (Rotation::Spawn, (-1, -1)),
+        (Piece::O, Rotation::Left) => (Rotation::Spawn, (-1, 0)),
+        (Piece::S | Piece::Z, Rotation::Reverse) => (Rotation::Spawn, (0, -1)),
+        (Piece::S | Piece::Z, Rotation::Left) => (Rotation::Right, (-1, 0)),
+        _ => (rotation, (0, 0)),
+    }
+}
