@@ -1,0 +1,75 @@
+-- Boards that are filled or copied below a height.
+use Rattle.std.proofs.Common.{◌≡◌, ℕ, ◌+◌, ◌<◌, ◌≤◌, min, true, false, ◌&&◌, nat_lt, List, length, get_or, refl, ap, ◌∙◌, sym, inl, inr, arith}
+use Rattle.std.proofs.Math.Path.{fun_ext}
+use Rattle.std.specs.Simd.Lanes.{chunk, put_chunk}
+use Rattle.std.proofs.lemmas.List.{get_or_past}
+use Rattle.std.proofs.lemmas.Simd.{get_or-put_chunk_above, length-put_chunk}
+use Rattle.std.proofs.lemmas.Bool.{cases_lt, agree_below_at, and_left, and_right, lt-ltb, le-ltb}
+use Rattle.lane_board.specs.Field.{intersection, rows_below}
+use Rattle.lane_board.specs.Lanes.{has_bit, cells_in}
+use Rattle.lane_board.proofs.CellTests.{and_true}
+use Rattle.lane_board.proofs.EightRows.{written_more, loaded}
+use Rattle.lane_board.proofs.RowBits.{has_bit-zero, has_bit-above}
+
+-- a full row has the ten columns
+full_row_bits : (x : ℕ) → has_bit 1023 x ≡ nat_lt x 10
+unfolding has_bit
+full_row_bits x = elim (cases_lt x 10) [
+  | inl column ↦ agree_below_at (λ k. has_bit 1023 k) (λ k. true) 10 x refl column ∙ sym (lt-ltb x 10 column)
+  | inr right ↦ has_bit-above 1023 x (omega arith) right ∙ sym (le-ltb x 10 right)
+]
+
+pub filled_below : (height end : ℕ) (rows : List ℕ) → end ≡ height → ((y : ℕ) → y < end → get_or rows y 0 ≡ 1023) → ((y : ℕ) → end ≤ y → get_or rows y 0 ≡ 0) →
+    cells_in rows ≡ rows_below height
+unfolding cells_in rows_below
+filled_below height end rows end_is filled empty = fun_ext (λ x. fun_ext (λ y. elim (cases_lt y end) [
+  | inl below ↦
+      ap (λ row. has_bit row x) (filled y below)
+      ∙ full_row_bits x
+      ∙ sym (ap (λ b. nat_lt x 10 && b) (lt-ltb y height (omega arith)) ∙ and_true (nat_lt x 10) true refl)
+  | inr above ↦
+      ap (λ row. has_bit row x) (empty y above) ∙ has_bit-zero x ∙ sym (and_right _ _ (le-ltb y height (omega arith)))
+]))
+
+-- the rows below `end` are those of another board, and the others are empty
+pub record IsCopiedBelow (xs rows : List ℕ) (size end : ℕ) : Type 0 where
+  pub copied : (y : ℕ) → y < end → get_or rows y 0 ≡ get_or xs y 0
+  pub empty : (y : ℕ) → end ≤ y → get_or rows y 0 ≡ 0
+  pub size_is : length rows ≡ size
+
+pub copied_more : (size at next : ℕ) (xs rows lanes written : List ℕ) → next ≡ at + 8 → at + 8 ≤ length rows → lanes ≡ chunk at 8 xs → length lanes ≡ 8 → written ≡ put_chunk at rows lanes →
+    IsCopiedBelow xs rows size at → IsCopiedBelow xs written size next
+copied_more size at next xs rows lanes written next_is within lanes_are eight written_is so_far = record {
+  copied = written_more (λ y. get_or xs y 0) at next rows lanes written next_is within eight written_is (λ k below. loaded at k xs lanes lanes_are below) so_far.copied;
+  empty = λ y above. ap (λ l. get_or l y 0) written_is ∙ get_or-put_chunk_above at rows lanes y 0 (omega (arith, eight)) ∙ so_far.empty y (omega arith);
+  size_is = ap length written_is ∙ length-put_chunk at rows lanes ∙ so_far.size_is;
+}
+
+pub copied_all : (n m end : ℕ) (xs rows : List ℕ) → end ≡ min n m → length xs ≡ n → ((z : ℕ) → get_or xs z 0 < 1024) → IsCopiedBelow xs rows m end →
+    cells_in rows ≡ intersection (cells_in xs) (rows_below m)
+unfolding intersection rows_below cells_in
+copied_all n m end xs rows end_is size small all = fun_ext (λ x. fun_ext (λ y. elim (cases_lt y end) [
+  | inl below ↦
+      ap (λ row. has_bit row x) (all.copied y below)
+      ∙ in_columns x y
+      ∙ sym (ap (λ b. has_bit (get_or xs y 0) x && (nat_lt x 10 && b)) (lt-ltb y m (omega arith)))
+  | inr above ↦ ap (λ row. has_bit row x) (all.empty y above) ∙ has_bit-zero x ∙ sym (outside x y above)
+]))
+  where
+    in_columns : (x y : ℕ) → has_bit (get_or xs y 0) x ≡ (has_bit (get_or xs y 0) x && (nat_lt x 10 && true))
+    in_columns x y = elim (cases_lt x 10) [
+      | inl column ↦ sym (ap (λ b. has_bit (get_or xs y 0) x && (b && true)) (lt-ltb x 10 column) ∙ and_true (has_bit (get_or xs y 0) x) true refl)
+      | inr right ↦ has_bit-above (get_or xs y 0) x (small y) right ∙ sym (and_left _ _ (has_bit-above (get_or xs y 0) x (small y) right))
+    ]
+
+    outside : (x y : ℕ) → end ≤ y → (has_bit (get_or xs y 0) x && (nat_lt x 10 && nat_lt y m)) ≡ false
+    outside x y above = elim (cases_lt y n) [
+      | inl within ↦ and_right _ _ (and_right _ _ (le-ltb y m (omega arith)))
+      | inr past ↦ and_left _ _ (ap (λ row. has_bit row x) (get_or_past xs y 0 (omega (arith, size))) ∙ has_bit-zero x)
+    ]
+
+pub copied_in_columns : (xs rows : List ℕ) (size end : ℕ) → ((z : ℕ) → get_or xs z 0 < 1024) → IsCopiedBelow xs rows size end → (y : ℕ) → get_or rows y 0 < 1024
+copied_in_columns xs rows size end small all y = elim (cases_lt y end) [
+  | inl below ↦ omega (arith, all.copied y below, small y)
+  | inr above ↦ omega (arith, all.empty y above)
+]

@@ -1,0 +1,27 @@
+-- A row is full where it has the cell in each of its ten columns.
+use Rattle.std.proofs.Common.{◌≡◌, ℕ, suc, ◌<◌, Bool, true, false, List, [], ◌∷◌, length, get_or, refl, ap, ◌∙◌, inl, inr, arith}
+use Rattle.std.specs.List.{list_all}
+use Rattle.std.proofs.lemmas.Bool.{and_from, both_ways, cases_Bool}
+use Rattle.std.proofs.lemmas.List.Folds.{list_all_at}
+use Rattle.lane_board.specs.Field.{Field}
+use Rattle.lane_board.specs.FullRows.{columns, is_full}
+use Rattle.lane_board.proofs.RowTables.{column_is}
+
+pub not_full_from_cell : (F : Field) (x y : ℕ) → x < 10 → F x y ≡ false → is_full F y ≡ false
+unfolding is_full
+not_full_from_cell F x y column empty =
+    list_all_at (λ x. F x y) columns x 0 column (ap (λ x. F x y) (column_is x column) ∙ empty)
+
+pub cell_from_full : (F : Field) (x y : ℕ) → x < 10 → is_full F y ≡ true → F x y ≡ true
+cell_from_full F x y column full = elim (cases_Bool (F x y)) [
+  | inl filled ↦ filled
+  | inr empty ↦ absurd (both_ways _ (not_full_from_cell F x y column empty) full)
+]
+
+all_pass : (p : ℕ → Bool) (xs : List ℕ) → ((k : ℕ) → k < length xs → p (get_or xs k 0) ≡ true) → list_all p xs ≡ true
+all_pass p [] each = refl
+all_pass p (x ∷ xs) each = and_from _ _ (each 0 (omega arith)) (all_pass p xs (λ k below. each (suc k) (omega arith)))
+
+pub full_from_cells : (F : Field) (y : ℕ) → ((x : ℕ) → x < 10 → F x y ≡ true) → is_full F y ≡ true
+unfolding is_full
+full_from_cells F y filled = all_pass (λ x. F x y) columns (λ k below. ap (λ x. F x y) (column_is k below) ∙ filled k below)

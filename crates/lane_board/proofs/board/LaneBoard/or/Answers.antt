@@ -1,0 +1,16 @@
+-- Row by row.
+use Rattle.std.proofs.Common.{get_or, bit_or, ◌||◌, refl, arith, rules}
+use Rattle.std.proofs.lemmas.Nat.{or_lt}
+use Rattle.lane_board.specs.Board.{field_of}
+use Rattle.lane_board.specs.Field.{union}
+use Rattle.lane_board.proofs.RowBits.{has_bit-or}
+use Rattle.lane_board.proofs.BoardRows.{each_in_columns, combined_cells}
+use Rattle.lane_board.proofs.board.LaneBoard.or.Goals as goal
+
+pub invariant_of-result-clause-in_columns : goal.invariant_of-result-clause-in_columns
+invariant_of-result-clause-in_columns g c = each_in_columns g.row.N c.combined-rows.result (search rules) (λ y below. omega (arith, c.combined-rows.ensures y below, or_lt 10 (get_or c.args.self.now.rows y 0) (get_or c.args.other.now.rows y 0) (c.args.self.now.in_columns y) (c.args.other.now.in_columns y)))
+
+pub returns : goal.returns
+unfolding field_of union
+returns g c =
+    combined_cells bit_or ◌||◌ refl has_bit-or g.row.N c.args.self.now.rows c.args.other.now.rows c.combined-rows.result c.args.self.now.size c.args.other.now.size (search rules) c.combined-rows.ensures

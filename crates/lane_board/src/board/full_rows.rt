@@ -1,0 +1,43 @@
+// Full rows: which they are, and the board without them.
+ghost use Rattle.std.specs.Prelude.{◌≡◌, count_ones};
+ghost use Rattle.lane_board.specs.Board.{field_of};
+ghost use Rattle.lane_board.specs.FullRows.{is_full, full_below, without_full_rows};
+ghost use Rattle.lane_board.specs.Lanes.{has_bit};
+
+use super::LaneBoard;
+use crate::eights::{FULL, full_in};
+
+impl<const N: usize> LaneBoard<N> {
+    /// Which rows are full: bit `y` is set exactly where row `y` has its ten cells.
+    #[inline(always)]
+    pub fn full_rows(&self) -> u32
+        ensures rows { has_bit result ≡ is_full (field_of self.now) }
+        ensures number { count_ones result ≡ full_below (field_of self.now) N }
+    {
+        let mut full = 0;
+        for eight in 0..N / 8 {
+            let at = 8 * eight;
+            full |= full_in(&self.rows, at) << at;
+        }
+        full
+    }
+
+    /// The board without its full rows: every other cell is lowered by the number of full rows below its row.
+    pub fn without_full_rows(&self) -> LaneBoard<N>
+        ensures { field_of result ≡ without_full_rows (field_of self.now) N }
+    {
+        if self.full_rows() == 0 {
+            return *self;
+        }
+        let mut rows = [0; N];
+        let mut kept = 0;
+        for y in 0..N {
+            let row = self.rows[y];
+            if row != FULL {
+                rows[kept] = row;
+                kept += 1;
+            }
+        }
+        LaneBoard { rows }
+    }
+}
