@@ -1,6 +1,8 @@
 -- Tables of offsets: when two are equal, and what a change of one offset leaves.
-use Rattle.std.proofs.Common.{◌≡◌, ℕ, ◌<◌, Bool, true, ◌&&◌, Decides, List, [], ◌∷◌, refl, ap, subst, ◌∙◌, length, map, set, get_or, arith}
+use Rattle.std.proofs.Common.{◌≡◌, ℕ, ◌<◌, Bool, true, ◌&&◌, Decides, List, [], ◌∷◌, refl, sym, ap, subst, ◌∙◌, length, map, set, get_or, arith}
 use Rattle.std.specs.Cmp.Lexicographic.{pointwise}
+use Rattle.std.proofs.Math.Bool.{Bool-set}
+use Rattle.std.proofs.Math.Nat.{ℕ_set}
 use Rattle.std.proofs.Math.Path.{fun_ext}
 use Rattle.std.specs.List.{list_all}
 use Rattle.std.proofs.lemmas.List.{length-map, map-set}
@@ -16,7 +18,7 @@ use Rattle.srs.specs.declared.rules.Tests.{Tests}
 use Rattle.srs.specs.Cells.{Cell}
 use Rattle.srs.specs.Piece.{all_pieces}
 use Rattle.srs.specs.Rotation.{all_rotations}
-use Rattle.srs.specs.Kick.{Table, IsSmallTable, is_small_move, pair_of, turns_eq, table_eq}
+use Rattle.srs.specs.Kick.{Table, IsSmallTable, is_small, is_small_move, pair_of, turns_eq, table_eq}
 use Rattle.srs.specs.Rules.{table_of, turns_table}
 use Rattle.srs.specs.SameCells.{cell_eq, cells_eq}
 use Rattle.srs.proofs.CellLemmas.{cells_eq-decides}
@@ -121,3 +123,43 @@ table_of-small rules = record { five = λ p r. (at_piece p r).0; small = λ p r.
     at_piece T = small_turns rules.t
     at_piece J = small_turns rules.j
     at_piece S = small_turns rules.s
+
+-- rules are no more than their table
+
+made : (offsets : List Offset) → length offsets ≡ 5 → list_all is_small offsets ≡ true → Tests
+made offsets five small = record { offsets = offsets; five = five; small = small }
+
+offset_of : Cell → Offset
+offset_of pair = record { dx = pair.0; dy = pair.1 }
+
+offsets_of : (offsets : List Offset) → map offset_of (map pair_of offsets) ≡ offsets
+unfolding offset_of
+offsets_of [] = refl
+offsets_of (x ∷ xs) = ap (λ l. x ∷ l) (offsets_of xs)
+
+same_tests : (s t : Tests) → map pair_of s.offsets ≡ map pair_of t.offsets → s ≡ t
+unfolding made
+same_tests s t e =
+    let same : s.offsets ≡ t.offsets = sym (offsets_of s.offsets) ∙ ap (map offset_of) e ∙ offsets_of t.offsets in
+    subst (λ offsets. (five : length offsets ≡ 5) (small : list_all is_small offsets ≡ true) → s ≡ made offsets five small) same
+    (λ five small. λ i. made s.offsets (ℕ_set _ _ s.five five i) (Bool-set _ _ s.small small i)) t.five t.small
+
+same_all_turns : (t u : Turns) → turns_table t ≡ turns_table u → t ≡ u
+same_all_turns t u e =
+    let spawn = same_tests t.spawn u.spawn (ap (λ (f : Rotation → List Cell). f Spawn) e) in
+    let right = same_tests t.right u.right (ap (λ (f : Rotation → List Cell). f Right) e) in
+    let reverse = same_tests t.reverse u.reverse (ap (λ (f : Rotation → List Cell). f Reverse) e) in
+    let left = same_tests t.left u.left (ap (λ (f : Rotation → List Cell). f Left) e) in
+    λ n. record { spawn = spawn n; right = right n; reverse = reverse n; left = left n }
+
+pub table_of-injective : (r q : Rules) → table_of r ≡ table_of q → r ≡ q
+unfolding table_of
+table_of-injective r q e =
+    let i = same_all_turns r.i q.i (ap (λ (f : Table). f I) e) in
+    let l = same_all_turns r.l q.l (ap (λ (f : Table). f L) e) in
+    let o = same_all_turns r.o q.o (ap (λ (f : Table). f O) e) in
+    let z = same_all_turns r.z q.z (ap (λ (f : Table). f Z) e) in
+    let t = same_all_turns r.t q.t (ap (λ (f : Table). f T) e) in
+    let j = same_all_turns r.j q.j (ap (λ (f : Table). f J) e) in
+    let s = same_all_turns r.s q.s (ap (λ (f : Table). f S) e) in
+    λ n. record { i = i n; l = l n; o = o n; z = z n; t = t n; j = j n; s = s n }

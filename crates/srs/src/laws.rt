@@ -66,6 +66,11 @@ pub fn placements_are_listed()
     ensures { (piece : Piece) → IsRisingListOf placement_cmp (IsCanonicalInside piece) (placements_of piece) }
 {}
 
+/// Rules with the same table are the same.
+pub fn rules_are_their_table()
+    ensures { (rules others : Rules) → table_of rules ≡ table_of others → rules ≡ others }
+{}
+
 /// The table of any rules has five offsets for each piece and rotation, of at most three columns and three rows.
 pub fn offsets_are_small(rules: &Rules)
     ensures { IsSmallTable (table_of rules.now) }
