@@ -3,7 +3,8 @@ use Rattle.std.proofs.Common.{◌≡◌, ◌-◌, ◌^◌, [], ◌∷◌, Some, 
 use Rattle.pc_outside.specs.Counts.{next_count, Rose}
 use Rattle.pc_outside.specs.MemorySink.{MemorySinkState, fitting}
 use Rattle.pc_outside.specs.Reads.{Takes}
-use Rattle.pc_outside.specs.Writes.{Grows, GrowsByFront, front_taken}
+use Rattle.pc_outside.specs.WriteLaws.{front_taken}
+use Rattle.pc_outside.specs.Writes.{Grows, GrowsByFront}
 
 one_more : next_count 7 ≡ 8
 one_more = refl

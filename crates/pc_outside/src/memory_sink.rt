@@ -68,7 +68,7 @@ impl MemorySink {
     }
 
     // Appends the first so many of these bytes, as far as they fit, and fails.
-    #[tactic(auto, using(crate::specs::Writes::front_taken))]
+    #[tactic(auto, using(crate::specs::WriteLaws::front_taken))]
     fn fail_after(&mut self, bytes: &[u8], most: usize) -> Result<(), Failed>
         requires { most ≤ length bytes.now }
         ensures fails { IsErr result }
@@ -90,7 +90,7 @@ impl Sink for MemorySink {
 
     ghost faults = { λ s. s.faults };
 
-    #[tactic(auto, using(crate::specs::Writes::at_err))]
+    #[tactic(auto, using(crate::specs::WriteLaws::at_err))]
     fn write(&mut self, bytes: &[u8]) -> Result<(), Failed>
         ensures written { WritesAll (Some self.old.bytes) (Some self.new.bytes) result bytes.now }
         ensures cause { HasCause self.old.faults self.new.faults result }

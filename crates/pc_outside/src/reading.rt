@@ -38,7 +38,7 @@ const CHUNK: usize = 4096;
 
 /// All the bytes that the source has left, where they are at most so many. It reads until a read
 /// gives none, or until one byte more than the limit was read.
-#[tactic(auto, using(crate::specs::Reads::takes_at_most))]
+#[tactic(auto, using(crate::specs::ReadLaws::takes_at_most))]
 pub fn read_all<S: Source>(
     alloc: Global,
     source: &mut S,

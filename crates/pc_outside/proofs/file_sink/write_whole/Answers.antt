@@ -1,7 +1,7 @@
 -- What is left after a turn is what the writer didn't take.
 use Rattle.std.proofs.Common.{length, ap, arith}
 use Rattle.std.proofs.lemmas.List.{take_rest}
-use Rattle.pc_outside.specs.Writes.{after_first}
+use Rattle.pc_outside.specs.WriteLaws.{after_first}
 use Rattle.pc_outside.proofs.file_sink.write_whole.Goals as goal
 
 pub loop-rest-preserved : goal.loop-rest-preserved

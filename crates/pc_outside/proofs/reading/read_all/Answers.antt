@@ -1,7 +1,7 @@
 -- The bytes of a read for which there is no memory were taken too.
 use Rattle.std.proofs.Common.{◌+◌, arith}
 use Rattle.std.proofs.lemmas.List.{length-append, length-take}
-use Rattle.pc_outside.specs.Reads.{takes_more, takes_at_most}
+use Rattle.pc_outside.specs.ReadLaws.{takes_more, takes_at_most}
 use Rattle.pc_outside.proofs.reading.read_all.Goals as goal
 
 pub returns-in_err-extend_from_slice-clause-front : goal.returns-in_err-extend_from_slice-clause-front

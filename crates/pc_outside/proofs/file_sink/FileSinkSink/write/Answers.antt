@@ -1,5 +1,5 @@
 -- The sink tells nothing of what it holds.
-use Rattle.pc_outside.specs.Writes.{writes_untold}
+use Rattle.pc_outside.specs.WriteLaws.{writes_untold}
 use Rattle.pc_outside.proofs.file_sink.FileSinkSink.write.Goals as goal
 
 pub returns-in-Err-clause-written : goal.returns-in-Err-clause-written
