@@ -1,0 +1,112 @@
+-- Escaped text is printable, and unescaping gives the units back.
+use Rattle.std.proofs.Common.{◌≡◌, ℕ, zero, suc, ◌+◌, ◌*◌, ◌/◌, ◌%◌, ◌^◌, ◌<◌, ◌≤◌, Bool, true, false, cond, eqb, ltb, leb, ◌&&◌, ◌||◌, not, List, [], ◌∷◌, ◌++◌, drop, All, Option, Some, None, refl, sym, ap, subst, ◌∙◌, append_assoc, inl, inr, arith}
+use Rattle.std.specs.Prelude.{option_and_then}
+use Rattle.std.specs.List.{flat_map, AllByRecursion}
+use Rattle.std.specs.Option.{option_map_or}
+use Rattle.std.proofs.lemmas.Bool.{agree_below_at, cases_lt, lt-ltb, le-ltb, leb-true, and_parts, not-true}
+use Rattle.std.proofs.lemmas.List.Elements.{All-nil, All-cons, All-append, recursion_from_All, All-head, All-tail}
+use Rattle.fumen_comment.specs.Escape.{IsPrintable, stays, hex_digit, hex_byte, escaped_unit, escaped}
+use Rattle.fumen_comment.specs.Unescape.{hex_byte_at, hex_unit_at, unit_of, unescaped, unescaped_behind}
+use Rattle.fumen_comment.proofs.Tables.{hex_value_of_digit}
+use Rattle.fumen_comment.proofs.UnescapeLoop.{unescaped-cons}
+
+in_range : (c : ℕ) → (leb 32 c && leb c 126) ≡ true → IsPrintable c
+in_range c e = let both = and_parts (leb 32 c) (leb c 126) e in (leb-true 32 c both.0, leb-true c 126 both.1)
+
+hex_digit_printable : (v : ℕ) → v < 16 → IsPrintable (hex_digit v)
+unfolding hex_digit
+hex_digit_printable v lt = in_range (hex_digit v) (agree_below_at (λ k. leb 32 (hex_digit k) && leb (hex_digit k) 126) (λ _. true) 16 v refl lt)
+
+-- a character that stays is printable, and no `%`
+abbrev is_plain : ℕ → Bool
+is_plain b = (leb 32 b && leb b 126) && not (eqb b 37)
+
+stays_or_not : (b : ℕ) → b < 256 → (not (stays b) || is_plain b) ≡ true
+unfolding stays
+stays_or_not b lt = agree_below_at (λ k. not (stays k) || is_plain k) (λ _. true) 256 b refl lt
+
+stays_plain : (b : ℕ) → b < 256 → stays b ≡ true → is_plain b ≡ true
+stays_plain b lt e = ap (λ (t : Bool). not t || is_plain b) (sym e) ∙ stays_or_not b lt
+
+hex_byte_printable : (byte : ℕ) → byte < 256 → All IsPrintable (hex_byte byte)
+hex_byte_printable byte lt =
+    All-cons IsPrintable (hex_digit (byte / 16)) (hex_digit (byte % 16) ∷ []) (hex_digit_printable (byte / 16) (omega arith))
+    (All-cons IsPrintable (hex_digit (byte % 16)) [] (hex_digit_printable (byte % 16) (omega arith)) (All-nil IsPrintable))
+
+percent : IsPrintable 37
+percent = (omega arith, omega arith)
+
+letter_u : IsPrintable 117
+letter_u = (omega arith, omega arith)
+
+low_unit_printable : (u : ℕ) (b : Bool) → u < 256 → stays u ≡ b → All IsPrintable (cond b (u ∷ []) (37 ∷ hex_byte u))
+low_unit_printable u true lt e =
+    All-cons IsPrintable u [] (in_range u (and_parts (leb 32 u && leb u 126) (not (eqb u 37)) (stays_plain u lt e)).0) (All-nil IsPrintable)
+low_unit_printable u false lt e = All-cons IsPrintable 37 (hex_byte u) percent (hex_byte_printable u lt)
+
+unit_printable : (u : ℕ) → u < 2 ^ 16 → All IsPrintable (escaped_unit u)
+unit_printable u fits =
+    elim (cases_lt u 256) [
+      | inl low ↦ rw (lt-ltb u 256 low) (low_unit_printable u (stays u) low refl)
+      | inr high ↦
+          rw (le-ltb u 256 high) (All-cons IsPrintable 37 (117 ∷ hex_byte (u / 256) ++ hex_byte (u % 256)) percent (All-cons IsPrintable 117 (hex_byte (u / 256) ++ hex_byte (u % 256)) letter_u (All-append IsPrintable (hex_byte (u / 256)) (hex_byte (u % 256)) (hex_byte_printable (u / 256) (omega arith)) (hex_byte_printable (u % 256) (omega arith)))))
+    ]
+
+pub escaped_printable : (units : List ℕ) → All (λ u. u < 2 ^ 16) units → All IsPrintable (escaped units)
+unfolding escaped
+escaped_printable [] fits = All-nil IsPrintable
+escaped_printable (u ∷ units) fits =
+    All-append IsPrintable (escaped_unit u) (flat_map escaped_unit units) (unit_printable u (All-head (λ k. k < 2 ^ 16) u units fits)) (escaped_printable units (All-tail (λ k. k < 2 ^ 16) u units fits))
+
+-- ---- unescaping undoes escaping
+
+-- the unit at the front of a text, and what is left behind it
+unit_front : (c : ℕ) (rest : List ℕ) (unit passed : ℕ) → unit_of c rest ≡ (unit, passed) → unescaped (c ∷ rest) ≡ unit ∷ unescaped (drop passed rest)
+unit_front c rest unit passed e = unescaped-cons c rest ∙ ap (λ (p : ℕ × ℕ). p.0 ∷ unescaped (drop p.1 rest)) e
+
+hex_byte_again : (byte : ℕ) (rest : List ℕ) → byte < 256 → hex_byte_at (hex_digit (byte / 16) ∷ hex_digit (byte % 16) ∷ rest) ≡ Some byte
+unfolding hex_byte_at
+hex_byte_again byte rest lt =
+    let high = hex_value_of_digit (byte / 16) (omega arith) in
+    let low = hex_value_of_digit (byte % 16) (omega arith) in
+    let is : 16 * (byte / 16) + byte % 16 ≡ byte = omega arith in
+    rw (high, low) (ap (λ (n : ℕ). Some n) is)
+
+hex_digit_no_u : (v : ℕ) → v < 16 → eqb (hex_digit v) 117 ≡ false
+unfolding hex_digit
+hex_digit_no_u v lt = agree_below_at (λ k. eqb (hex_digit k) 117) (λ _. false) 16 v refl lt
+
+stays_again : (u : ℕ) (rest : List ℕ) → u < 256 → stays u ≡ true → unit_of u rest ≡ (u, 0)
+unfolding unit_of
+stays_again u rest lt e =
+    let no_percent = not-true (eqb u 37) (and_parts (leb 32 u && leb u 126) (not (eqb u 37)) (stays_plain u lt e)).1 in
+    rw no_percent refl
+
+short_again : (u : ℕ) (rest : List ℕ) → u < 256 → unit_of 37 (hex_byte u ++ rest) ≡ (u, 2)
+unfolding unit_of hex_unit_at
+short_again u rest lt = rw (hex_digit_no_u (u / 16) (omega arith), hex_byte_again u rest lt) refl
+
+long_again : (u : ℕ) (rest : List ℕ) → u < 2 ^ 16 → unit_of 37 (117 ∷ (hex_byte (u / 256) ++ (hex_byte (u % 256) ++ rest))) ≡ (u, 5)
+unfolding unit_of hex_unit_at
+long_again u rest fits =
+    let high = hex_byte_again (u / 256) (hex_byte (u % 256) ++ rest) (omega arith) in
+    let low = hex_byte_again (u % 256) rest (omega arith) in
+    let is : 256 * (u / 256) + u % 256 ≡ u = omega arith in
+    rw (high, low) (ap (λ (n : ℕ). (n, 5)) is)
+
+low_unit_again : (u : ℕ) (b : Bool) (rest : List ℕ) → u < 256 → stays u ≡ b → unescaped (cond b (u ∷ []) (37 ∷ hex_byte u) ++ rest) ≡ u ∷ unescaped rest
+low_unit_again u true rest lt e = unit_front u rest u 0 (stays_again u rest lt e)
+low_unit_again u false rest lt e = unit_front 37 (hex_byte u ++ rest) u 2 (short_again u rest lt)
+
+unit_again : (u : ℕ) (rest : List ℕ) → u < 2 ^ 16 → unescaped (escaped_unit u ++ rest) ≡ u ∷ unescaped rest
+unit_again u rest fits =
+    elim (cases_lt u 256) [
+      | inl low ↦ rw (lt-ltb u 256 low) (low_unit_again u (stays u) rest low refl)
+      | inr high ↦ rw (le-ltb u 256 high) (unit_front 37 (117 ∷ (hex_byte (u / 256) ++ (hex_byte (u % 256) ++ rest))) u 5 (long_again u rest fits))
+    ]
+
+pub unescaped-escaped : (units : List ℕ) → All (λ u. u < 2 ^ 16) units → unescaped (escaped units) ≡ units
+unfolding escaped unescaped_behind
+unescaped-escaped [] fits = refl
+unescaped-escaped (u ∷ units) fits =
+    unit_again u (flat_map escaped_unit units) (All-head (λ k. k < 2 ^ 16) u units fits) ∙ ap (λ (x : List ℕ). u ∷ x) (unescaped-escaped units (All-tail (λ k. k < 2 ^ 16) u units fits))

@@ -1,0 +1,10 @@
+pub mod Tables
+pub mod Packing
+pub mod UnescapeLoop
+pub mod WriteLoop
+pub mod EscapeLaws
+pub mod ReadLoop
+pub mod Groups
+pub mod PartLaws
+pub mod Written
+mod Worked

@@ -1,0 +1,70 @@
+-- Reading the groups of a text one after the other, as a loop does.
+use Rattle.std.proofs.Common.{◌≡◌, ℕ, zero, suc, ◌+◌, ◌-◌, ◌/◌, ◌<◌, ◌≤◌, Bool, List, [], ◌∷◌, ◌++◌, length, take, Result, Ok, Err, refl, sym, ap, ◌∙◌, append_assoc, arith}
+use Rattle.std.proofs.lemmas.List.{append-nil}
+use Rattle.pc_outside.specs.declared.answers.Refused.{Refused}
+use Rattle.pc_outside.specs.declared.answers.Refused.TheVariants as refused
+use Rattle.fumen_digits.specs.Fault.{Fault}
+use Rattle.fumen_digits.specs.Reading.{◌>>=◌, Refuses}
+use Rattle.fumen_digits.proofs.Binds.{ok_bind, err_bind}
+use Rattle.fumen_comment.specs.declared.part.CommentFault.{CommentFault}
+use Rattle.fumen_comment.specs.Part.{unpacked, group_count}
+use Rattle.fumen_comment.specs.Reading.{group_at, text_at, comment_fault}
+
+-- the characters read so far, and those still to come
+pub with_front : List ℕ → Result (List ℕ × ℕ) Fault → Result (List ℕ × ℕ) Fault
+with_front front read = read >>= λ x. Ok (front ++ x.0, x.1)
+
+abbrev pub rest_at : List ℕ → ℕ → ℕ → Result (List ℕ × ℕ) Fault
+rest_at ds place left = text_at ds place left (group_count left)
+
+-- what is read so far, and what is left completes the text
+pub record IsReadSoFar (ds : List ℕ) (start count : ℕ) (text : List ℕ) (place left : ℕ) : Type 0 where
+  pub within : place ≤ length ds
+  pub completes : with_front text (rest_at ds place left) ≡ rest_at ds start count
+
+from_nothing : (read : Result (List ℕ × ℕ) Fault) → with_front [] read ≡ read
+unfolding with_front
+from_nothing (Ok x) = refl
+from_nothing (Err f) = refl
+
+pub text_starts : (ds : List ℕ) (start count : ℕ) → start ≤ length ds → IsReadSoFar ds start count [] start count
+text_starts ds start count le = record { within = le; completes = from_nothing (rest_at ds start count) }
+
+regroup : (front more : List ℕ) (read : Result (List ℕ × ℕ) Fault) → with_front front (read >>= λ x. Ok (more ++ x.0, x.1)) ≡ with_front (front ++ more) read
+unfolding with_front
+regroup front more (Ok x) = ap (λ (text : List ℕ). Ok (text, x.1)) (sym (append_assoc front more x.0))
+regroup front more (Err f) = refl
+
+one_group : (left : ℕ) → 0 < left → group_count left ≡ suc (group_count (left - 4))
+one_group left some = omega arith
+
+abbrev behind_group : List ℕ → ℕ → ℕ → ℕ → ℕ → Result (List ℕ × ℕ) Fault
+behind_group ds place left count group = text_at ds (place + 5) (left - 4) count >>= λ rest. Ok (take left (unpacked 4 group) ++ rest.0, rest.1)
+
+read_group : (ds : List ℕ) (place left group : ℕ) → 0 < left → group_at ds place left ≡ Ok group → rest_at ds place left ≡ behind_group ds place left (group_count (left - 4)) group
+unfolding text_at
+read_group ds place left group some read =
+    rw (one_group left some) (ok_bind (group_at ds place left) (λ g. behind_group ds place left (group_count (left - 4)) g) group read)
+
+pub text_more : (ds : List ℕ) (start count : ℕ) (text : List ℕ) (place left group : ℕ) (more : List ℕ) → 0 < left → place + 5 ≤ length ds → group_at ds place left ≡ Ok group → more ≡ take left (unpacked 4 group)
+    → IsReadSoFar ds start count text place left → IsReadSoFar ds start count (text ++ more) (place + 5) (left - 4)
+text_more ds start count text place left group more some room read more_is s =
+    let rest = rest_at ds (place + 5) (left - 4) in
+    record {
+      within = room;
+      completes = ap (λ (x : List ℕ). with_front (text ++ x) rest) more_is ∙ (sym (regroup text (take left (unpacked 4 group)) rest) ∙ (ap (λ (r : Result (List ℕ × ℕ) Fault). with_front text r) (sym (read_group ds place left group some read)) ∙ s.completes));
+    }
+
+pub text_stops : (e : Refused CommentFault) (ds : List ℕ) (start count : ℕ) (text : List ℕ) (place left : ℕ) → 0 < left → Refuses comment_fault e (group_at ds place left)
+    → IsReadSoFar ds start count text place left → Refuses comment_fault e (rest_at ds start count)
+unfolding text_at with_front
+text_stops (refused.Fault d) ds start count text place left some read s =
+    let failed : rest_at ds place left ≡ Err (comment_fault d) = rw (one_group left some) (err_bind (group_at ds place left) (λ g. behind_group ds place left (group_count (left - 4)) g) (comment_fault d) read) in
+    sym s.completes ∙ ap (λ (r : Result (List ℕ × ℕ) Fault). with_front text r) failed
+text_stops refused.NoMemory ds start count text place left some read s = tt
+
+pub text_ends : (ds : List ℕ) (start count : ℕ) (text : List ℕ) (place left : ℕ) → left ≡ 0 → IsReadSoFar ds start count text place left → rest_at ds start count ≡ Ok (text, place)
+unfolding text_at with_front
+text_ends ds start count text place left none s =
+    let ended : rest_at ds place left ≡ Ok ([], place) = rw none refl in
+    sym s.completes ∙ (ap (λ (r : Result (List ℕ × ℕ) Fault). with_front text r) ended ∙ ap (λ (x : List ℕ). Ok (x, place)) (append-nil text))

@@ -1,0 +1,15 @@
+use Rattle.std.proofs.Common.{refl, get_or, arith}
+use Rattle.fumen_comment.proofs.Packing.{packed_more, packed_all, packed_below}
+use Rattle.fumen_comment.proofs.part.packed.Goals as goal
+
+pub loop-c-preserved : goal.loop-c-preserved
+loop-c-preserved c =
+    let i = c.loop-c.c-index in
+    let range = c.requires.printable i 0 c.loop-c-test.true in
+    packed_more c.args.group.now i c.loop-c.number c.loop-c.weight (get_or c.args.group.now i 0) c.loop-c-test.true (omega arith) (omega arith) refl c.loop-c.invariant
+
+pub returns-clause-value : goal.returns-clause-value
+returns-clause-value c = packed_all c.args.group.now c.loop-c.c-index c.loop-c.number c.loop-c.weight c.loop-c-test.false c.loop-c.invariant
+
+pub returns-clause-below : goal.returns-clause-below
+returns-clause-below c = packed_below c.args.group.now c.loop-c.c-index c.loop-c.number c.loop-c.weight (omega arith) c.loop-c.invariant

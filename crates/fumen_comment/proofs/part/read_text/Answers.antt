@@ -1,0 +1,24 @@
+use Rattle.std.proofs.Common.{sym, subst, List, ℕ, arith}
+use Rattle.std.proofs.lemmas.Result.{err_from_is_err_and}
+use Rattle.fumen_comment.proofs.Packing.{taken}
+use Rattle.fumen_comment.proofs.ReadLoop.{IsReadSoFar, text_starts, text_more, text_stops, text_ends}
+use Rattle.fumen_comment.proofs.part.read_text.Goals as goal
+
+pub loop-left-init : goal.loop-left-init
+loop-left-init c =
+    rw c.new-text.ensures.items (text_starts c.args.digits.now c.args.place c.args.count c.requires)
+
+pub loop-left-preserved : goal.loop-left-preserved
+loop-left-preserved c =
+    let left = c.loop-left.left in
+    let group = c.in_ok-group.group in
+    let more = taken left group c.min.result c.unpacked-characters.result c.min.ensures c.unpacked-characters.ensures in
+    rw (c.in_ok-push_characters.ensures.ok, c.saturating_sub-left.ensures) (text_more c.args.digits.now c.args.place c.args.count c.loop-left.text.items c.loop-left.place left group _ c.loop-left-test.true c.in_ok-group.ensures.within c.in_ok-group.ensures.exact more c.loop-left.invariant)
+
+pub returns-in_err-group : goal.returns-in_err-group
+returns-in_err-group c =
+    let p = err_from_is_err_and c.from_residual.result c.from_residual.ensures.1 in
+    rw (p.1, p.2) (text_stops c.in_err-group.field-0.0 c.args.digits.now c.args.place c.args.count c.loop-left.text.items c.loop-left.place c.loop-left.left c.loop-left-test.true c.in_err-group.ensures.exact c.loop-left.invariant)
+
+pub returns : goal.returns
+returns c = text_ends c.args.digits.now c.args.place c.args.count c.loop-left.text.items c.loop-left.place c.loop-left.left (omega arith) c.loop-left.invariant

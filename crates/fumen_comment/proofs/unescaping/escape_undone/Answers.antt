@@ -1,0 +1,5 @@
+use Rattle.fumen_comment.proofs.EscapeLaws.{unescaped-escaped}
+use Rattle.fumen_comment.proofs.unescaping.escape_undone.Goals as goal
+
+pub returns : goal.returns
+returns c = unescaped-escaped

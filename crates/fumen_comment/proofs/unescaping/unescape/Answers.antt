@@ -1,0 +1,18 @@
+use Rattle.std.proofs.Common.{◌≡◌, ◌++◌, ◌-◌, refl, ap, ◌∙◌, List, ℕ, length, get_or, drop, take, arith}
+use Rattle.std.proofs.lemmas.List.{take_rest}
+use Rattle.fumen_comment.specs.Unescape.{unescaped}
+use Rattle.fumen_comment.proofs.UnescapeLoop.{units_more, units_all}
+use Rattle.fumen_comment.proofs.unescaping.unescape.Goals as goal
+
+pub loop-rest-preserved : goal.loop-rest-preserved
+loop-rest-preserved c =
+    let rest = c.loop-rest.rest.now in
+    let behind = take (length rest - 1) (drop 1 rest) in
+    let passed = c.unit_of-unit.result.1 in
+    let next = take (length behind - passed) (drop passed behind) in
+    ap (λ (x : List ℕ). x ++ unescaped next) c.in_ok-push.ensures.items
+    ∙ units_more c.loop-rest.units.items rest behind next (get_or rest 0 0) c.unit_of-unit.result.0 passed (unescaped c.args.text.now) c.in-len1-up.len_at_least refl (take_rest rest 1) c.unit_of-unit.ensures.unit c.unit_of-unit.ensures.passed (take_rest behind passed) c.loop-rest.invariant
+
+pub returns : goal.returns
+returns c =
+    c.from_units.ensures ∙ units_all c.loop-rest.units.items c.loop-rest.rest.now (unescaped c.args.text.now) c.in_default.len_below c.loop-rest.invariant

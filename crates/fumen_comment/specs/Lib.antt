@@ -1,0 +1,4 @@
+pub mod Escape
+pub mod Unescape
+pub mod Part
+pub mod Reading

@@ -1,0 +1,32 @@
+// A comment, which contracts see as the list of its units.
+ghost use Rattle.std.specs.Prelude.{◌≡◌, ℕ, List};
+
+use std::marker::Model;
+
+/// The comment of a page: code units of 16 bits, as ECMAScript's text has them.
+#[derive(Debug, Drop)]
+pub struct Comment {
+    units: Vec<u16>,
+}
+
+impl Model for Comment {
+    ghost Value = { List ℕ };
+
+    ghost view = { λ comment. comment.units.items };
+}
+
+impl Comment {
+    /// The comment of these units.
+    pub fn from_units(units: Vec<u16>) -> Comment
+        ensures { result ≡ units.items }
+    {
+        Comment { units }
+    }
+
+    /// The units of the comment.
+    pub fn units(&self) -> &[u16]
+        ensures { result.now ≡ self.now }
+    {
+        &self.units
+    }
+}

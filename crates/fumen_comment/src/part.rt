@@ -1,0 +1,230 @@
+// The comment part of a page: the length of the escaped text, and its characters in groups of four.
+ghost use Rattle.std.specs.Prelude.{◌≡◌, ℕ, ◌+◌, ◌^◌, ◌<◌, ◌≤◌, ◌++◌, List, length, take, nat_lt, All, IfOk, IfErr, OnOk, OnErr, Ok, Err};
+ghost use Rattle.fumen_comment.specs.Part.{comment_digits, group_count, is_group, packed, SpellsComment, unpacked};
+ghost use Rattle.std.specs.List.{list_all};
+ghost use Rattle.fumen_digits.specs.Digit.{AreDigits};
+ghost use Rattle.fumen_digits.specs.Number.{digits, Stands};
+ghost use Rattle.fumen_comment.specs.Escape.{IsPrintable};
+ghost use Rattle.fumen_comment.specs.Unescape.{unescaped};
+ghost use Rattle.fumen_digits.specs.Reading.{Gives, number_at};
+ghost use Rattle.fumen_comment.specs.declared.part.CommentFault.{CommentFault};
+ghost use Rattle.fumen_comment.specs.Reading.{CommentStands, IsCommentFault, comment_at, comment_fault, group_at, text_at};
+
+use crate::comment::Comment;
+use crate::unescaping::unescape;
+use fumen_digits::{DigitFault, push_number, read_number};
+use pc_outside::{NoMemory, Refused};
+use std::alloc::Global;
+
+/// Why a comment part can't be read. A place is an index among the digits.
+#[derive(Clone, Copy, Debug, PartialEq, Eq)]
+pub enum CommentFault {
+    /// A byte that is no digit stands at this place.
+    BadDigit { place: usize },
+    /// The digits end within the number that begins at this place.
+    Truncated { place: usize },
+    /// The group at this place is 96^4 or more, or has a character of value 95 within the length.
+    BadComment { place: usize },
+}
+
+/// Appends the comment part of an escaped text. After NoMemory `out` is as before.
+pub fn write_comment(out: &mut Vec<u8>, escaped: &[u8]) -> Result<(), NoMemory>
+    requires short { length escaped.now ≤ 4095 }
+    requires printable { All IsPrintable escaped.now }
+    ensures ok { OnOk result (out.new.items ≡ out.old.items ++ comment_digits escaped.now) }
+    ensures err { OnErr result (out.new.items ≡ out.old.items) }
+{
+    let before = out.len();
+    let written = push_part(out, escaped);
+    if written.is_err() {
+        out.truncate(before);
+    }
+    written
+}
+
+// Appends the length and the groups, or a front of them.
+fn push_part(out: &mut Vec<u8>, escaped: &[u8]) -> Result<(), NoMemory>
+    requires short { length escaped.now ≤ 4095 }
+    requires printable { All IsPrintable escaped.now }
+    ensures ok { OnOk result (out.new.items ≡ out.old.items ++ comment_digits escaped.now) }
+    ensures kept { take (length out.old.items) out.new.items ≡ out.old.items }
+{
+    push_number(out, escaped.len() as u32, 2)?;
+    for group in escaped.chunks(4) {
+        push_group(out, group)?;
+    }
+    Ok(())
+}
+
+// Appends the group of up to four characters.
+fn push_group(out: &mut Vec<u8>, group: &[u8]) -> Result<(), NoMemory>
+    requires short { length group.now ≤ 4 }
+    requires printable { All IsPrintable group.now }
+    ensures ok { OnOk result (out.new.items ≡ out.old.items ++ digits 5 (packed group.now)) }
+    ensures err { OnErr result (out.new.items ≡ out.old.items) }
+{
+    push_number(out, packed(group), 5)
+}
+
+// The number of up to four characters.
+fn packed(group: &[u8]) -> u32
+    requires short { length group.now ≤ 4 }
+    requires printable { All IsPrintable group.now }
+    ensures value { result ≡ packed group.now }
+    ensures below { result < 96 ^ 4 }
+{
+    let mut number = 0;
+    let mut weight = 1;
+    for c in group {
+        number += weight * (*c - 32) as u32;
+        weight *= 96;
+    }
+    number
+}
+
+/// What is written is read again: the comment part of an escaped text has only digits, spells the
+/// unescaped units, and is read as these wherever it stands.
+pub fn write_comment_undone()
+    ensures digits { (text : List ℕ) → AreDigits (comment_digits text) }
+    ensures spells { (text : List ℕ) → length text ≤ 4095 → All IsPrintable text →
+        SpellsComment (unescaped text) (comment_digits text) }
+    ensures read { (ds text : List ℕ) (place end : ℕ) → length text ≤ 4095 → All IsPrintable text →
+        Stands ds place (comment_digits text) end → comment_at ds place ≡ Ok (unescaped text, end) }
+{}
+
+/// Reads the comment part at a place: the comment, and the place behind it.
+///
+/// The first fault from the left is answered. Characters past the length are not looked at.
+pub fn read_comment(
+    alloc: Global,
+    digits: &[u8],
+    place: usize,
+) -> Result<(Comment, usize), Refused<CommentFault>>
+    requires { place ≤ length digits.now }
+
+    // What reading from the left gives.
+    ensures exact { Gives (λ x. x) comment_fault result (comment_at digits.now place) }
+
+    // What is read stands there, and what stands there is read, unless memory runs out.
+    ensures found { IfOk result (λ x. CommentStands digits.now place x.0 x.1) }
+    ensures only { (units : List ℕ) (end : ℕ) → CommentStands digits.now place units end →
+        Gives (λ x. x) comment_fault result (Ok (units, end)) }
+
+    // A fault is the first one there, and the first one there is answered, unless memory runs out.
+    ensures fault { (f : CommentFault) → result ≡ Err (Refused.Fault f) → IsCommentFault digits.now place (comment_fault f) }
+    ensures fault_only { (f : CommentFault) → IsCommentFault digits.now place (comment_fault f) →
+        Gives (λ x. x) comment_fault result (Err (comment_fault f)) }
+{
+    read_part(alloc, digits, place)
+}
+
+#[tactic(auto, unfolding(crate::specs::Reading::comment_at))]
+fn read_part(
+    alloc: Global,
+    digits: &[u8],
+    place: usize,
+) -> Result<(Comment, usize), Refused<CommentFault>>
+    requires { place ≤ length digits.now }
+    ensures { Gives (λ x. x) comment_fault result (comment_at digits.now place) }
+{
+    let length = number_at(digits, place, 2)?;
+    let (text, end) = read_text(alloc, digits, place + 2, length as usize)?;
+    match unescape(alloc, &text) {
+        Ok(comment) => Ok((comment, end)),
+        Err(NoMemory) => Err(Refused::NoMemory),
+    }
+}
+
+// The characters of this many, and the place behind their groups.
+fn read_text(
+    alloc: Global,
+    digits: &[u8],
+    place: usize,
+    count: usize,
+) -> Result<(Vec<u8>, usize), Refused<CommentFault>>
+    requires { place ≤ length digits.now }
+    ensures { Gives (λ x. (x.0.items, x.1)) comment_fault result (text_at digits.now place count (group_count count)) }
+{
+    let mut text = Vec::new(alloc);
+    let mut place = place;
+    let mut left = count;
+    while left > 0 {
+        let group = group_at(digits, place, left)?;
+        let characters = unpacked(group);
+        push_characters(&mut text, &characters[..left.min(4)])?;
+        left = left.saturating_sub(4);
+        place += 5;
+    }
+    Ok((text, place))
+}
+
+fn push_characters(text: &mut Vec<u8>, characters: &[u8]) -> Result<(), Refused<CommentFault>>
+    ensures ok { OnOk result (text.new.items ≡ text.old.items ++ characters.now) }
+    ensures err { IfErr result (λ e. e ≡ Refused.NoMemory) }
+{
+    match text.extend_from_slice(characters) {
+        Ok(()) => Ok(()),
+        Err(_) => Err(Refused::NoMemory),
+    }
+}
+
+// The group at a place, from which so many characters are still to come.
+#[tactic(auto, unfolding(crate::specs::Reading::group_at))]
+fn group_at(digits: &[u8], place: usize, left: usize) -> Result<u32, Refused<CommentFault>>
+    requires { place ≤ length digits.now }
+    ensures exact { Gives (λ group. group) comment_fault result (group_at digits.now place left) }
+    ensures within { IfOk result (λ _. place + 5 ≤ length digits.now) }
+{
+    let group = number_at(digits, place, 5)?;
+    if !is_group(left, group) {
+        return Err(Refused::Fault(CommentFault::BadComment { place }));
+    }
+    Ok(group)
+}
+
+fn is_group(left: usize, group: u32) -> bool
+    ensures { result ≡ is_group left group }
+{
+    if group >= 84_934_656 {
+        return false;
+    }
+    let characters = unpacked(group);
+    all_below_95(&characters[..left.min(4)])
+}
+
+// Whether no character has the value 95, which no character stands for.
+fn all_below_95(characters: &[u8]) -> bool
+    ensures { result ≡ list_all (λ c. nat_lt c 127) characters.now }
+{
+    characters.iter().all(|c| *c < 127)
+}
+
+// The four characters of a group.
+#[tactic(auto, unfolding(crate::specs::Part::unpacked))]
+fn unpacked(group: u32) -> [u8; 4]
+    ensures { result ≡ unpacked 4 group }
+{
+    [
+        (group % 96) as u8 + 32,
+        (group / 96 % 96) as u8 + 32,
+        (group / 96 / 96 % 96) as u8 + 32,
+        (group / 96 / 96 / 96 % 96) as u8 + 32,
+    ]
+}
+
+// The number at a place, its fault as one of a comment.
+fn number_at(digits: &[u8], place: usize, count: u8) -> Result<u32, Refused<CommentFault>>
+    requires place { place ≤ length digits.now }
+    requires least { 1 ≤ count }
+    requires most { count ≤ 5 }
+    ensures exact { Gives (λ n. n) comment_fault result (number_at digits.now place count) }
+    ensures within { IfOk result (λ _. place + count ≤ length digits.now) }
+{
+    match read_number(digits, place, count) {
+        Ok(number) => Ok(number),
+        Err(DigitFault::Bad { place }) => { Err(Refused::Fault(CommentFault::BadDigit { place })) }
+        Err(DigitFault::Truncated { place }) => {
+            Err(Refused::Fault(CommentFault::Truncated { place }))
+        }
+    }
+}

@@ -1,0 +1,35 @@
+-- The digits by ranges of values and of bytes, and that a digit and its value are each other's inverse.
+use Rattle.std.proofs.Common.{◌≡◌, ℕ, suc, ◌+◌, ◌-◌, ◌<◌, ◌≤◌, Bool, true, false, cond, eqb, ltb, leb, ◌&&◌, List, length, get_or, Option, Some, None, refl, sym, ap, ◌∙◌, arith}
+use Rattle.std.proofs.lemmas.Bool.{agree_below_at, eqb-true, ltb-true}
+use Rattle.std.proofs.lemmas.List.Quantifiers.{position-Some}
+use Rattle.fumen_digits.specs.Digit.{alphabet, digit, value_of}
+use Rattle.fumen_digits.proofs.OptionTest.{same_option, same_option-true}
+
+abbrev pub ranged_digit : ℕ → ℕ
+ranged_digit v = cond (ltb v 26) (65 + v) (cond (ltb v 52) (97 + (v - 26)) (cond (ltb v 62) (48 + (v - 52)) (cond (eqb v 62) 43 47)))
+
+pub digit_by_range : (v : ℕ) → v < 64 → digit v ≡ ranged_digit v
+unfolding digit
+digit_by_range v lt = eqb-true (digit v) (ranged_digit v) (agree_below_at (λ k. eqb (digit k) (ranged_digit k)) (λ _. true) 64 v refl lt)
+
+abbrev pub ranged_value : ℕ → Option ℕ
+ranged_value b =
+    cond (leb 65 b && leb b 90) (Some (b - 65))
+    (cond (leb 97 b && leb b 122) (Some (b - 97 + 26))
+    (cond (leb 48 b && leb b 57) (Some (b - 48 + 52)) (cond (eqb b 43) (Some 62) (cond (eqb b 47) (Some 63) None))))
+
+pub value_by_range : (b : ℕ) → b < 256 → value_of b ≡ ranged_value b
+unfolding value_of
+value_by_range b lt = same_option-true (value_of b) (ranged_value b) (agree_below_at (λ k. same_option (value_of k) (ranged_value k)) (λ _. true) 256 b refl lt)
+
+-- the value of the digit of a value
+pub value_of_digit : (v : ℕ) → v < 64 → value_of (digit v) ≡ Some v
+unfolding digit value_of
+value_of_digit v lt = same_option-true (value_of (digit v)) (Some v) (agree_below_at (λ k. same_option (value_of (digit k)) (Some k)) (λ _. true) 64 v refl lt)
+
+-- the digit of the value of a digit
+pub digit_of_value : (b v : ℕ) → value_of b ≡ Some v → (v < 64) × (digit v ≡ b)
+unfolding digit value_of
+digit_of_value b v e =
+    let p = position-Some (λ d. eqb d b) alphabet v 0 e in
+    (p.0, eqb-true (digit v) b p.1)

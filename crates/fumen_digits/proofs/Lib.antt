@@ -1,0 +1,10 @@
+pub mod OptionTest
+pub mod DigitTable
+pub mod Numbers
+pub mod Framings
+pub mod Binds
+pub mod Standing
+pub mod Readings
+pub mod ReadLoop
+pub mod Answered
+mod Worked

@@ -1,0 +1,83 @@
+-- Reading a number digit by digit, as a loop does.
+use Rattle.std.proofs.Common.{◌≡◌, ℕ, zero, suc, ◌+◌, ◌-◌, ◌*◌, ◌^◌, ◌<◌, ◌≤◌, List, Result, Ok, Err, refl, sym, ap, subst, ◌∙◌, arith}
+use Rattle.std.proofs.Math.Nat.{pow-succ', pow-le-pow_right, mul-le-mul_left, mul-suc}
+use Rattle.fumen_digits.specs.Fault.{Fault}
+use Rattle.fumen_digits.specs.Reading.{◌>>=◌, value_at, number_from, number_at}
+use Rattle.fumen_digits.proofs.Binds.{ok_bind, err_bind}
+
+-- the number of the digits read so far, and of those above them
+abbrev pub with_low : ℕ → ℕ → Result ℕ Fault → Result ℕ Fault
+with_low number weight read = read >>= λ high. Ok (number + weight * high)
+
+-- so many digits are read, and what is left completes the number
+pub record IsSoFar (ds : List ℕ) (place count i number weight : ℕ) : Type 0 where
+  pub weight_is : weight ≡ 64 ^ i
+  pub below : number < weight
+  pub completes : with_low number weight (number_from ds place (place + i) (count - i)) ≡ number_at ds place count
+
+from_zero : (read : Result ℕ Fault) → with_low 0 1 read ≡ read
+from_zero (Ok x) = let is : 0 + 1 * x ≡ x = omega arith in ap (λ (n : ℕ). Ok n) is
+from_zero (Err f) = refl
+
+pub starts : (ds : List ℕ) (place count : ℕ) → IsSoFar ds place count 0 0 1
+starts ds place count =
+    record {
+      weight_is = refl;
+      below = omega arith;
+      completes = from_zero (number_from ds place (place + 0) (count - 0)) ∙ (let k : place + 0 ≡ place = omega arith in let n : count - 0 ≡ count = omega arith in rw (k, n) refl);
+    }
+
+regroup : (number weight value : ℕ) (read : Result ℕ Fault) → with_low number weight (read >>= λ high. Ok (value + 64 * high)) ≡ with_low (number + weight * value) (weight * 64) read
+regroup number weight value (Ok x) = let is : number + weight * (value + 64 * x) ≡ number + weight * value + weight * 64 * x = grind arith in ap (λ (n : ℕ). Ok n) is
+regroup number weight value (Err f) = refl
+
+-- what the next digit adds fits
+pub fits : (ds : List ℕ) (place count i number weight value : ℕ) → i < count → count ≤ 5 → value < 64 → IsSoFar ds place count i number weight
+    → (weight * 64 < 2 ^ 32) × (number + weight * value < weight * 64)
+fits ds place count i number weight value lt most small s =
+    let positive : 0 < 64 = omega arith in
+    let early : suc i ≤ 5 = omega arith in
+    let power : 64 ^ suc i ≤ 64 ^ 5 = pow-le-pow_right positive early in
+    let more : 64 ^ suc i ≡ 64 * 64 ^ i = pow-succ' 64 i in
+    let next : suc value ≤ 64 = omega arith in
+    let product : weight * suc value ≤ weight * 64 = mul-le-mul_left weight next in
+    let apart : weight * suc value ≡ weight * value + weight = mul-suc weight value in
+    (omega (arith, s.weight_is), omega (arith, s.below))
+
+read_digit : (ds : List ℕ) (place count i value : ℕ) → i < count → value_at ds place (place + i) ≡ Ok value
+    → number_from ds place (place + i) (count - i) ≡ (number_from ds place (place + (i + 1)) (count - (i + 1)) >>= λ high. Ok (value + 64 * high))
+unfolding number_from
+read_digit ds place count i value lt read =
+    let k : count - i ≡ suc (count - (i + 1)) = omega arith in
+    let next : place + i + 1 ≡ place + (i + 1) = omega arith in
+    rw k (ok_bind (value_at ds place (place + i)) (λ v. number_from ds place (place + i + 1) (count - (i + 1)) >>= λ high. Ok (v + 64 * high)) value read
+    ∙ ap (λ (p : ℕ). number_from ds place p (count - (i + 1)) >>= λ high. Ok (value + 64 * high)) next)
+
+pub goes_on : (ds : List ℕ) (place count i number weight value : ℕ) → i < count → count ≤ 5 → value < 64 → value_at ds place (place + i) ≡ Ok value → IsSoFar ds place count i number weight
+    → IsSoFar ds place count (i + 1) (number + weight * value) (weight * 64)
+goes_on ds place count i number weight value lt most small read s =
+    let one = i + 1 in
+    let suc-is : one ≡ suc i = omega arith in
+    let more : 64 ^ suc i ≡ 64 * 64 ^ i = pow-succ' 64 i in
+    let power : 64 ^ one ≡ 64 * 64 ^ i = ap (λ (k : ℕ). 64 ^ k) suc-is ∙ more in
+    let rest = number_from ds place (place + one) (count - one) in
+    record {
+      weight_is = omega (arith, power, s.weight_is);
+      below = (fits ds place count i number weight value lt most small s).1;
+      completes = sym (regroup number weight value rest) ∙ (ap (λ (r : Result ℕ Fault). with_low number weight r) (sym (read_digit ds place count i value lt read)) ∙ s.completes);
+    }
+
+pub stops : (ds : List ℕ) (place count i number weight : ℕ) (f : Fault) → i < count → value_at ds place (place + i) ≡ Err f → IsSoFar ds place count i number weight → number_at ds place count ≡ Err f
+unfolding number_from
+stops ds place count i number weight f lt read s =
+    let k : count - i ≡ suc (count - (i + 1)) = omega arith in
+    let failed : number_from ds place (place + i) (count - i) ≡ Err f = rw k (err_bind (value_at ds place (place + i)) (λ v. number_from ds place (place + i + 1) (count - (i + 1)) >>= λ high. Ok (v + 64 * high)) f read) in
+    sym s.completes ∙ ap (λ (r : Result ℕ Fault). with_low number weight r) failed
+
+pub is_read : (ds : List ℕ) (place count i number weight : ℕ) → count ≤ i → IsSoFar ds place count i number weight → number_at ds place count ≡ Ok number
+unfolding number_from
+is_read ds place count i number weight le s =
+    let k : count - i ≡ 0 = omega arith in
+    let none : number_from ds place (place + i) (count - i) ≡ Ok 0 = rw k refl in
+    let is : number + weight * 0 ≡ number = omega arith in
+    sym s.completes ∙ (ap (λ (r : Result ℕ Fault). with_low number weight r) none ∙ ap (λ (n : ℕ). Ok n) is)

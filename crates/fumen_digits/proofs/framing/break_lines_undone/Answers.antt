@@ -1,0 +1,5 @@
+use Rattle.fumen_digits.proofs.Framings.{digits_in-broken}
+use Rattle.fumen_digits.proofs.framing.break_lines_undone.Goals as goal
+
+pub returns : goal.returns
+returns c = digits_in-broken

@@ -1,0 +1,21 @@
+-- The 64 digits of fumen.
+use Rattle.std.specs.Prelude.{◌≡◌, ℕ, ◌<◌, List, Option, ◌==◌, position, slice_index, codes}
+use Rattle.std.specs.List.{AllByRecursion}
+
+-- the digits of the values 0 to 63, in this order
+abbrev pub alphabet : List ℕ
+alphabet = codes "ABCDEFGHIJKLMNOPQRSTUVWXYZabcdefghijklmnopqrstuvwxyz0123456789+/"
+
+-- the digit of a value
+unfoldable pub digit : ℕ → ℕ
+digit value = slice_index alphabet value
+
+-- the value of a digit, and nothing for another byte
+unfoldable pub value_of : ℕ → Option ℕ
+value_of byte = position (λ d. d == byte) alphabet
+
+abbrev pub IsDigit : ℕ → Type 0
+IsDigit byte = (value : ℕ) × (value < 64) × (byte ≡ digit value)
+
+abbrev pub AreDigits : List ℕ → Type 0
+AreDigits bytes = AllByRecursion IsDigit bytes
