@@ -1,0 +1,7 @@
+-- Lemmas on keys, steps, rests and places.
+pub mod WalkLemmas
+pub mod StepLemmas
+pub mod TurnLemmas
+pub mod RestLemmas
+pub mod PlaceTest
+mod Examples

@@ -1,0 +1,79 @@
+-- A step, and any keys, lead to a free state of the same piece.
+use Rattle.std.proofs.Common.{◌≡◌, ℕ, ◌+◌, ◌*◌, ◌<◌, nat_lt, true, pos, negsuc, Some, None, List, [], ◌∷◌, refl, sym, subst, ◌∙◌, inl, inr, arith}
+use Rattle.std.proofs.lemmas.Bool.{cases_Bool, cond-true, cond-false, ltb-true}
+use Rattle.lane_board.specs.Field.{Field}
+use Rattle.srs.specs.declared.piece.Piece.{Piece}
+use Rattle.srs.specs.declared.rotation.Rotation.{Rotation}
+use Rattle.srs.specs.declared.placement.Placement.{Placement}
+use Rattle.srs.specs.Cells.{Cell}
+use Rattle.srs.specs.Rotation.{rotation_place}
+use Rattle.srs.specs.Kick.{Table}
+use Rattle.srs.proofs.CodeLemmas.{rotation_place-injective}
+use Rattle.srs.proofs.ShapeLemmas.{each_rotation}
+use Rattle.well.specs.Free.{is_free_at, is_free}
+use Rattle.well.proofs.FreeLemmas.{free_pivot_inside}
+use Rattle.moves.specs.declared.key.Key.{Key}
+use Rattle.moves.specs.declared.key.Key.TheVariants.{Left, Right, Down, Clockwise, Anti}
+use Rattle.moves.specs.Step.{state_at, first_free, shifted, turned, step_of}
+use Rattle.moves.specs.Leads.{spawn_of, spawned}
+use Rattle.moves.proofs.WalkLemmas.{some_same, not_some, IsFinite}
+
+-- a free state of a piece
+pub record IsFreeState (F : Field) (piece : Piece) (s : Placement) : Type 0 where
+  pub kind : s.piece ≡ piece
+  pub free : is_free F s ≡ true
+
+pub state_at-free : (F : Field) (piece : Piece) (rotation : Rotation) (pivot : Cell) (t : Placement) → is_free_at F piece rotation pivot ≡ true → state_at piece rotation pivot ≡ Some t → IsFreeState F piece t
+state_at-free F piece rotation (pos x, pos y) t free e = subst (IsFreeState F piece) (some_same e) (record { kind = refl; free = free })
+state_at-free F piece rotation (pos x, negsuc y) t free e = absurd (not_some e)
+state_at-free F piece rotation (negsuc x, pos y) t free e = absurd (not_some e)
+state_at-free F piece rotation (negsuc x, negsuc y) t free e = absurd (not_some e)
+
+pub first_free-free : (F : Field) (piece : Piece) (rotation : Rotation) (pivots : List Cell) (t : Placement) → first_free F piece rotation pivots ≡ Some t → IsFreeState F piece t
+unfolding first_free
+first_free-free F piece rotation [] t e = absurd (not_some e)
+first_free-free F piece rotation (pivot ∷ pivots) t e = elim (cases_Bool (is_free_at F piece rotation pivot)) [
+  | inl free ↦ state_at-free F piece rotation pivot t free (sym (cond-true _ (state_at piece rotation pivot) (first_free F piece rotation pivots) free) ∙ e)
+  | inr blocked ↦ first_free-free F piece rotation pivots t (sym (cond-false _ (state_at piece rotation pivot) (first_free F piece rotation pivots) blocked) ∙ e)
+]
+
+pub step_of-free : (table : Table) (F : Field) (s : Placement) (key : Key) (t : Placement) → step_of table F s key ≡ Some t → IsFreeState F s.piece t
+unfolding shifted turned
+step_of-free table F s Left t e = first_free-free F s.piece _ _ t e
+step_of-free table F s Right t e = first_free-free F s.piece _ _ t e
+step_of-free table F s Down t e = first_free-free F s.piece _ _ t e
+step_of-free table F s Clockwise t e = first_free-free F s.piece _ _ t e
+step_of-free table F s Anti t e = first_free-free F s.piece _ _ t e
+
+-- a number for each free state of a piece
+pub state_code : Placement → ℕ
+state_code s = rotation_place s.rotation * 230 + (s.y * 10 + s.x)
+
+rotation_place-small : (r : Rotation) → rotation_place r < 4
+rotation_place-small r = ltb-true _ _ (each_rotation (λ r. nat_lt (rotation_place r) 4) refl r)
+
+pub step_is_finite : (table : Table) (F : Field) (piece : Piece) → IsFinite (step_of table F) (IsFreeState F piece) state_code 920
+unfolding state_code
+step_is_finite table F piece = record {
+  kept = λ s key t here e.
+      let there = step_of-free table F s key t e in
+      record { kind = there.kind ∙ here.kind; free = there.free };
+  below = λ s here. let inside = free_pivot_inside F s here.free in omega (arith, inside.in_columns, inside.in_rows, rotation_place-small s.rotation);
+  one = λ s t here there e.
+      let inside = free_pivot_inside F s here.free in
+      let inside' = free_pivot_inside F t there.free in
+      same_state s t (here.kind ∙ sym there.kind) (rotation_place-injective s.rotation t.rotation (omega (arith, e, inside.in_columns, inside.in_rows, inside'.in_columns, inside'.in_rows)))
+      (omega (arith, e, inside.in_columns, inside.in_rows, inside'.in_columns, inside'.in_rows))
+      (omega (arith, e, inside.in_columns, inside.in_rows, inside'.in_columns, inside'.in_rows));
+}
+  where
+    same_state : (s t : Placement) → s.piece ≡ t.piece → s.rotation ≡ t.rotation → s.x ≡ t.x → s.y ≡ t.y → s ≡ t
+    same_state s t p r x y = λ i. record { piece = p i; rotation = r i; x = x i; y = y i }
+
+-- the spawn, where it is free
+pub spawned-free : (F : Field) (piece : Piece) (s : Placement) → spawned F piece ≡ Some s → IsFreeState F piece s
+unfolding spawned
+spawned-free F piece s e = elim (cases_Bool (is_free F (spawn_of piece))) [
+  | inl free ↦ subst (IsFreeState F piece) (some_same (sym (cond-true _ (Some (spawn_of piece)) None free) ∙ e)) (record { kind = refl; free = free })
+  | inr blocked ↦ absurd (not_some (sym (cond-false _ (Some (spawn_of piece)) None blocked) ∙ e))
+]

@@ -1,0 +1,97 @@
+-- One test of a turn after another, and how far a test moves the pivot.
+use Rattle.std.proofs.Common.{◌≡◌, ℕ, suc, ◌+◌, ◌-◌, ◌<◌, ◌≤◌, Bool, true, false, cond, pos, neg_ℤ, ◌-ℤ◌, Option, Some, None, List, [], ◌∷◌, map, refl, sym, ap, ◌∙◌, inl, inr, arith}
+use Rattle.std.specs.Bool.{then_some}
+use Rattle.std.specs.List.{range_with_len}
+use Rattle.std.proofs.lemmas.Bool.{cases_Bool, cond-true, cond-false, false_from_ne_true}
+use Rattle.std.proofs.lemmas.Int.{ints}
+use Rattle.lane_board.specs.Field.{Field}
+use Rattle.srs.specs.declared.offset.Offset.{Offset}
+use Rattle.srs.specs.declared.piece.Piece.{Piece}
+use Rattle.srs.specs.declared.rotation.Rotation.{Rotation}
+use Rattle.srs.specs.declared.placement.Placement.{Placement}
+use Rattle.srs.specs.Cells.{Cell}
+use Rattle.srs.specs.Kick.{Table, IsSmallTable, is_small_move, pair_of, offset_in, kick_in}
+use Rattle.srs.proofs.CanonicalLemmas.{LiesAt}
+use Rattle.srs.proofs.ListLemmas.{list_all_each}
+use Rattle.srs.proofs.NumberLemmas.{IsWithin, small_within}
+use Rattle.well.specs.Free.{is_free_at}
+use Rattle.well.proofs.FreeLemmas.{free_pivot}
+use Rattle.moves.specs.Step.{IsShort, state_at, first_free}
+use Rattle.moves.proofs.WalkLemmas.{not_some}
+
+-- a piece with its pivot outside the well is not free
+pub none_outside : (F : Field) (piece : Piece) (rotation : Rotation) (pivot : Cell) → (LiesAt pivot → ⊥) → None ≡ first_free F piece rotation (pivot ∷ [])
+unfolding first_free
+none_outside F piece rotation pivot outside =
+    sym (cond-false _ (state_at piece rotation pivot) None (false_from_ne_true _ (λ free. outside (free_pivot F piece rotation pivot free))))
+
+as_test : (free : Bool) (s : Placement) → then_some free s ≡ cond free (Some s) None
+as_test true s = refl
+as_test false s = refl
+
+pub some_inside : (F : Field) (piece : Piece) (rotation : Rotation) (pivot : Cell) (x y : ℕ) (free : Bool) (result : Option Placement) →
+    result ≡ then_some free (record { piece = piece; rotation = rotation; x = x; y = y }) → free ≡ is_free_at F piece rotation (pos x, pos y) → pivot ≡ (pos x, pos y) → result ≡ first_free F piece rotation (pivot ∷ [])
+unfolding first_free
+some_inside F piece rotation pivot x y free result told tested e =
+    told ∙ ap (λ b. then_some b (record { piece = piece; rotation = rotation; x = x; y = y })) tested ∙ as_test (is_free_at F piece rotation (pos x, pos y)) _ ∙ ap (λ c. first_free F piece rotation (c ∷ [])) (sym e)
+
+-- where one pivot is not free the next are tried, and where it is they are not
+pub next_pivot : (F : Field) (piece : Piece) (rotation : Rotation) (pivot : Cell) (pivots : List Cell) → None ≡ first_free F piece rotation (pivot ∷ []) →
+    first_free F piece rotation (pivot ∷ pivots) ≡ first_free F piece rotation pivots
+unfolding first_free
+next_pivot F piece rotation pivot pivots none = elim (cases_Bool (is_free_at F piece rotation pivot)) [
+  | inl free ↦
+      let lies = free_pivot F piece rotation pivot free in
+      absurd (not_some (none ∙ cond-true _ (state_at piece rotation pivot) None free ∙ ap (state_at piece rotation) lies.is))
+  | inr blocked ↦ cond-false _ (state_at piece rotation pivot) (first_free F piece rotation pivots) blocked
+]
+
+pub this_pivot : (F : Field) (piece : Piece) (rotation : Rotation) (pivot : Cell) (pivots : List Cell) (s : Placement) → Some s ≡ first_free F piece rotation (pivot ∷ []) →
+    Some s ≡ first_free F piece rotation (pivot ∷ pivots)
+unfolding first_free
+this_pivot F piece rotation pivot pivots s some = elim (cases_Bool (is_free_at F piece rotation pivot)) [
+  | inl free ↦ some ∙ cond-true _ (state_at piece rotation pivot) None free ∙ sym (cond-true _ (state_at piece rotation pivot) (first_free F piece rotation pivots) free)
+  | inr blocked ↦ absurd (not_some (sym (some ∙ cond-false _ (state_at piece rotation pivot) None blocked)))
+]
+
+-- the pivots of this test and those after it
+pub pivots_from : (ℕ → Cell) → ℕ → List Cell
+pivots_from f test = map f (range_with_len test (6 - test))
+
+pivots_more : (f : ℕ → Cell) (test : ℕ) → test < 6 → pivots_from f test ≡ f test ∷ pivots_from f (test + 1)
+unfolding pivots_from
+pivots_more f test below = let more : 6 - test ≡ suc (6 - (test + 1)) = omega arith in ap (λ n. map f (range_with_len test n)) more
+
+pub all_pivots : (f : ℕ → Cell) → pivots_from f 1 ≡ f 1 ∷ f 2 ∷ f 3 ∷ f 4 ∷ f 5 ∷ []
+unfolding pivots_from
+all_pivots f = refl
+
+pub no_pivots : (f : ℕ → Cell) (test : ℕ) → 6 ≤ test → pivots_from f test ≡ []
+unfolding pivots_from
+no_pivots f test past = let none : 6 - test ≡ 0 = omega arith in ap (λ n. map f (range_with_len test n)) none
+
+pub test_fails : (F : Field) (piece : Piece) (rotation : Rotation) (f : ℕ → Cell) (test : ℕ) (pivot : Cell) → test < 6 → pivot ≡ f test → None ≡ first_free F piece rotation (pivot ∷ []) →
+    first_free F piece rotation (pivots_from f (test + 1)) ≡ first_free F piece rotation (pivots_from f test)
+test_fails F piece rotation f test pivot below at none =
+    sym (ap (first_free F piece rotation) (pivots_more f test below) ∙ next_pivot F piece rotation (f test) _ (none ∙ ap (λ c. first_free F piece rotation (c ∷ [])) at))
+
+pub test_holds : (F : Field) (piece : Piece) (rotation : Rotation) (f : ℕ → Cell) (test : ℕ) (pivot : Cell) (s : Placement) → test < 6 → pivot ≡ f test → Some s ≡ first_free F piece rotation (pivot ∷ []) →
+    Some s ≡ first_free F piece rotation (pivots_from f test)
+test_holds F piece rotation f test pivot s below at some =
+    this_pivot F piece rotation (f test) (pivots_from f (test + 1)) s (some ∙ ap (λ c. first_free F piece rotation (c ∷ [])) at) ∙ sym (ap (first_free F piece rotation) (pivots_more f test below))
+
+-- an offset of a small table is small
+small_offset : (table : Table) (piece : Piece) (rotation : Rotation) (test : ℕ) → IsSmallTable table → 1 ≤ test → test ≤ 5 →
+    IsWithin (neg_ℤ (pos 3)) (pos 3) (offset_in table piece rotation test).0 (offset_in table piece rotation test).1
+small_offset table piece rotation test small first last =
+    small_within (record { dx = (offset_in table piece rotation test).0; dy = (offset_in table piece rotation test).1 })
+    (list_all_each is_small_move (table piece rotation) (test - 1) (pos 0, pos 0) (small.small piece rotation) (omega (arith, small.five piece rotation)))
+
+-- a kick is the difference of two of them
+pub kick_is_short : (table : Table) (piece : Piece) (from to : Rotation) (test : ℕ) (change : Offset) → IsSmallTable table → 1 ≤ test → test ≤ 5 → pair_of change ≡ kick_in table piece from to test → IsShort change
+kick_is_short table piece from to test change small first last e =
+    let left = small_offset table piece from test small first last in
+    let reached = small_offset table piece to test small first last in
+    let x : change.dx ≡ (offset_in table piece from test).0 -ℤ (offset_in table piece to test).0 = ap (λ (c : Cell). c.0) e in
+    let y : change.dy ≡ (offset_in table piece from test).1 -ℤ (offset_in table piece to test).1 = ap (λ (c : Cell). c.1) e in
+    record { left = omega (arith, ints, left.left, reached.right); right = omega (arith, ints, left.right, reached.left); down = omega (arith, ints, left.down, reached.up); up = omega (arith, ints, left.up, reached.down) }

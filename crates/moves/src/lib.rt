@@ -1,0 +1,14 @@
+// Single keys: the spawn, what a key does to a state, and the rest of a state.
+#![tactic(auto)]
+
+mod key;
+pub mod laws;
+mod rest;
+mod turn;
+
+pub use key::{DropMode, Key};
+pub use rest::fall;
+pub use turn::{spawn, step};
+
+#[cfg(test)]
+mod tests;

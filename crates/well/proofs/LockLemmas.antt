@@ -1,0 +1,210 @@
+-- The cells of a placement one by one, how many cells locking leaves, and below which row they lie.
+use Rattle.std.proofs.Common.{◌≡◌, ℕ, zero, suc, ◌+◌, ◌-◌, ◌<◌, ◌≤◌, Bool, true, false, not, ◌&&◌, ◌||◌, ◌==◌, pos, negsuc, nat_le, ◌+ℤ◌, nat_abs, List, [], ◌∷◌, length, get_or, map, refl, sym, ap, ◌∙◌, arith}
+use Rattle.std.specs.Prelude.{int_lt}
+use Rattle.std.proofs.Math.Path.{fun_ext}
+use Rattle.std.specs.List.{list_all}
+use Rattle.std.specs.Cmp.{both_ways}
+use Rattle.std.proofs.lemmas.Bool.{and_parts, and_from, or_from, false_from_ne_true, false≢true, not-true, not_from_false, eqb-true, eq-eqb, leb-true, ltb-true}
+use Rattle.std.proofs.lemmas.Int.{ints}
+use Rattle.std.proofs.lemmas.List.{length-map}
+use Rattle.lane_board.specs.Field.{Field, with_cell}
+use Rattle.lane_board.specs.FullRows.{full_below, without_full_rows}
+use Rattle.lane_board.specs.CellCount.{cell_count}
+use Rattle.lane_board.proofs.CellCounts.{takes_ten_each}
+use Rattle.lane_board.proofs.CellTests.{or_none}
+use Rattle.lane_board.proofs.CountWith.{cell_count-with}
+use Rattle.lane_board.proofs.Removal.{left_below, without_full_rows-empty, full_below-empty, full_below-le}
+use Rattle.srs.specs.declared.piece.Piece.{Piece}
+use Rattle.srs.specs.declared.rotation.Rotation.{Rotation}
+use Rattle.srs.specs.declared.placement.Placement.{Placement}
+use Rattle.srs.specs.Cells.{Cell, moved, shape, cells_of, in_well, pivot_of}
+use Rattle.srs.specs.SameCells.{cell_eq, has_cell}
+use Rattle.srs.proofs.CellLemmas.{cell_eq-decides, has_cell-all}
+use Rattle.srs.proofs.ShapeLemmas.{each_state}
+use Rattle.well.specs.Free.{is_open, is_free_at, is_free}
+use Rattle.well.specs.Lock.{with_place, together, locked, rows_removed}
+use Rattle.well.specs.LockLaws.{AddsFourCells, LiesBelow, is_below, StaysBelow, RemovesBelow}
+
+-- a cell of the well is added as a column and a row are
+pub placed : (F : Field) (column row : ℕ) → with_place F (pos column, pos row) ≡ with_cell F column row
+unfolding with_place with_cell
+placed F column row = fun_ext (λ x. fun_ext (λ y. ap (λ b. F x y || b) (same x y)))
+  where
+    there : (x y : ℕ) → cell_eq (pos column, pos row) (pos x, pos y) ≡ true → (x == column && y == row) ≡ true
+    there x y e =
+        let at : ◌≡◌ {A = Cell} (pos column, pos row) (pos x, pos y) = (cell_eq-decides _ _).0 e in
+        let c : column ≡ x = ap (λ (c : Cell). nat_abs c.0) at in
+        let r : row ≡ y = ap (λ (c : Cell). nat_abs c.1) at in
+        and_from _ _ (eq-eqb x column (sym c)) (eq-eqb y row (sym r))
+
+    back : (x y : ℕ) → (x == column && y == row) ≡ true → cell_eq (pos column, pos row) (pos x, pos y) ≡ true
+    back x y e =
+        let parts = and_parts (x == column) (y == row) e in
+        let c = eqb-true x column parts.0 in
+        let r = eqb-true y row parts.1 in
+        (cell_eq-decides (pos column, pos row) (pos x, pos y)).1 (λ i. (pos (sym c i), pos (sym r i)))
+
+    same : (x y : ℕ) → cell_eq (pos column, pos row) (pos x, pos y) ≡ (x == column && y == row)
+    same x y = both_ways _ _ (there x y) (back x y)
+
+-- the field and the cells of a list
+unfoldable added : Field → List Cell → Field
+added F cells x y = F x y || has_cell cells (pos x, pos y)
+
+or_assoc : (a b c : Bool) → (a || (b || c)) ≡ ((a || b) || c)
+or_assoc true b c = refl
+or_assoc false b c = refl
+
+added-nil : (F : Field) → added F [] ≡ F
+unfolding added has_cell
+added-nil F = fun_ext (λ x. fun_ext (λ y. or_none (F x y) false refl))
+
+added-cons : (F : Field) (cell : Cell) (cells : List Cell) → added F (cell ∷ cells) ≡ added (with_place F cell) cells
+unfolding added has_cell with_place
+added-cons F cell cells = fun_ext (λ x. fun_ext (λ y. or_assoc (F x y) (cell_eq cell (pos x, pos y)) (has_cell cells (pos x, pos y))))
+
+-- four cells are added one after another
+added_four : (F : Field) (cells : List Cell) (d : Cell) → length cells ≡ 4 →
+    added F cells ≡ with_place (with_place (with_place (with_place F (get_or cells 0 d)) (get_or cells 1 d)) (get_or cells 2 d)) (get_or cells 3 d)
+added_four F (a ∷ b ∷ c ∷ e ∷ []) d four = added-cons F a _ ∙ added-cons _ b _ ∙ added-cons _ c _ ∙ added-cons _ e [] ∙ added-nil _
+added_four F [] d four = absurd (omega arith)
+added_four F (a ∷ []) d four = absurd (omega arith)
+added_four F (a ∷ b ∷ []) d four = absurd (omega arith)
+added_four F (a ∷ b ∷ c ∷ []) d four = absurd (omega arith)
+added_four F (a ∷ b ∷ c ∷ e ∷ f ∷ cells) d four = absurd (omega arith)
+
+shape_length : (piece : Piece) (rotation : Rotation) → length (shape piece rotation) ≡ 4
+shape_length piece rotation = eqb-true _ _ (each_state (λ p r. length (shape p r) == 4) refl piece rotation)
+
+pub cells_length : (placement : Placement) → length (cells_of placement) ≡ 4
+cells_length q = length-map (shape q.piece q.rotation) (moved (pivot_of q)) ∙ shape_length q.piece q.rotation
+
+pub together_of : (F : Field) (q : Placement) (cells : List Cell) (d : Cell) → cells ≡ cells_of q →
+    with_place (with_place (with_place (with_place F (get_or cells 0 d)) (get_or cells 1 d)) (get_or cells 2 d)) (get_or cells 3 d) ≡ together F q
+unfolding together added
+together_of F q cells d e = sym (added_four F cells d (ap length e ∙ cells_length q)) ∙ ap (added F) e
+
+-- no cell stands twice in the list
+are_distinct : List Cell → Bool
+are_distinct [] = true
+are_distinct (cell ∷ cells) = list_all (λ other. not (cell_eq cell other)) cells && are_distinct cells
+
+shapes_distinct : (piece : Piece) (rotation : Rotation) → are_distinct (shape piece rotation) ≡ true
+unfolding are_distinct
+shapes_distinct = each_state (λ p r. are_distinct (shape p r)) refl
+
+moved_apart : (move c d : Cell) → not (cell_eq c d) ≡ true → not (cell_eq (moved move c) (moved move d)) ≡ true
+unfolding moved
+moved_apart move c d apart = not_from_false _ (false_from_ne_true _ (λ e. both (cell_eq c d) apart ((cell_eq-decides c d).1 (same ((cell_eq-decides _ _).0 e)))))
+  where
+    same : ◌≡◌ {A = Cell} (move.0 +ℤ c.0, move.1 +ℤ c.1) (move.0 +ℤ d.0, move.1 +ℤ d.1) → c ≡ d
+    same e =
+        let f : move.0 +ℤ c.0 ≡ move.0 +ℤ d.0 = ap (λ (c : Cell). c.0) e in
+        let g : move.1 +ℤ c.1 ≡ move.1 +ℤ d.1 = ap (λ (c : Cell). c.1) e in
+        let x : c.0 ≡ d.0 = omega (arith, ints) in
+        let y : c.1 ≡ d.1 = omega (arith, ints) in
+        λ i. (x i, y i)
+
+    both : (b : Bool) → not b ≡ true → b ≡ true → ⊥
+    both true n y = cc
+    both false n y = cc
+
+moved_from_each : (move cell : Cell) (cells : List Cell) → list_all (λ other. not (cell_eq cell other)) cells ≡ true → list_all (λ other. not (cell_eq (moved move cell) other)) (map (moved move) cells) ≡ true
+moved_from_each move cell [] apart = refl
+moved_from_each move cell (c ∷ cs) apart =
+    let parts = and_parts _ _ apart in
+    and_from _ _ (moved_apart move cell c parts.0) (moved_from_each move cell cs parts.1)
+
+moved_distinct : (move : Cell) (cells : List Cell) → are_distinct cells ≡ true → are_distinct (map (moved move) cells) ≡ true
+unfolding are_distinct
+moved_distinct move [] distinct = refl
+moved_distinct move (c ∷ cs) distinct =
+    let parts = and_parts _ _ distinct in
+    and_from _ _ (moved_from_each move c cs parts.0) (moved_distinct move cs parts.1)
+
+-- an open cell that is added leaves the others open
+still_open : (F : Field) (cell other : Cell) → not (cell_eq cell other) ≡ true → is_open F other ≡ true → is_open (with_place F cell) other ≡ true
+unfolding is_open with_place
+still_open F cell (pos x, pos y) apart opened =
+    let parts = and_parts (in_well (pos x, pos y)) (not (F x y)) opened in
+    and_from _ _ parts.0 (not_from_false _ (or_from _ _ (not-true _ parts.1) (not-true _ apart)))
+still_open F cell (pos x, negsuc y) apart opened = absurd (false≢true opened)
+still_open F cell (negsuc x, pos y) apart opened = absurd (false≢true opened)
+still_open F cell (negsuc x, negsuc y) apart opened = absurd (false≢true opened)
+
+all_still_open : (F : Field) (cell : Cell) (cells : List Cell) → list_all (λ other. not (cell_eq cell other)) cells ≡ true → list_all (is_open F) cells ≡ true → list_all (is_open (with_place F cell)) cells ≡ true
+all_still_open F cell [] apart opened = refl
+all_still_open F cell (c ∷ cs) apart opened =
+    let aparts = and_parts _ _ apart in
+    let parts = and_parts (is_open F c) _ opened in
+    and_from _ _ (still_open F cell c aparts.0 parts.0) (all_still_open F cell cs aparts.1 parts.1)
+
+-- an open cell is one more
+place_count : (F : Field) (cell : Cell) → is_open F cell ≡ true → cell_count (with_place F cell) 23 ≡ cell_count F 23 + 1
+unfolding is_open
+place_count F (pos x, pos y) opened =
+    let parts = and_parts (in_well (pos x, pos y)) (not (F x y)) opened in
+    let within = and_parts (nat_le x 9) (nat_le y 22) parts.0 in
+    ap (λ G. cell_count G 23) (placed F x y) ∙ cell_count-with F x y 23 (omega (arith, leb-true x 9 within.0)) (omega (arith, leb-true y 22 within.1)) (not-true _ parts.1)
+place_count F (pos x, negsuc y) opened = absurd (false≢true opened)
+place_count F (negsuc x, pos y) opened = absurd (false≢true opened)
+place_count F (negsuc x, negsuc y) opened = absurd (false≢true opened)
+
+added_count : (F : Field) (cells : List Cell) → list_all (is_open F) cells ≡ true → are_distinct cells ≡ true → cell_count (added F cells) 23 ≡ cell_count F 23 + length cells
+unfolding are_distinct
+added_count F [] opened distinct = omega (arith, ap (λ G. cell_count G 23) (added-nil F))
+added_count F (c ∷ cs) opened distinct =
+    let aparts = and_parts (list_all (λ other. not (cell_eq c other)) cs) (are_distinct cs) distinct in
+    let parts = and_parts (is_open F c) (list_all (is_open F) cs) opened in
+    omega (arith, ap (λ G. cell_count G 23) (added-cons F c cs), place_count F c parts.0, added_count (with_place F c) cs (all_still_open F c cs aparts.0 parts.1) aparts.1)
+
+together_count : (F : Field) (q : Placement) → is_free F q ≡ true → cell_count (together F q) 23 ≡ cell_count F 23 + 4
+unfolding together added is_free_at
+together_count F q free =
+    omega (arith, added_count F (cells_of q) free (moved_distinct (pivot_of q) (shape q.piece q.rotation) (shapes_distinct q.piece q.rotation)), cells_length q)
+
+pub adds_four_cells : AddsFourCells
+unfolding locked rows_removed
+adds_four_cells F q free = omega (arith, takes_ten_each (together F q) 23, together_count F q free)
+
+-- no full row lies above the cells of a field, and nothing is left of the rows there
+removal_above : (G : Field) (height k : ℕ) → ((x y : ℕ) → height ≤ y → G x y ≡ false) → without_full_rows G (height + k) ≡ without_full_rows G height
+removal_above G height zero none = ap (without_full_rows G) (omega arith)
+removal_above G height (suc k) none =
+    let size : height + suc k ≡ suc (height + k) = omega arith in
+    ap (without_full_rows G) size ∙ without_full_rows-empty G (height + k) (λ x. none x (height + k) (omega arith)) ∙ removal_above G height k none
+
+full_above : (G : Field) (height k : ℕ) → ((x y : ℕ) → height ≤ y → G x y ≡ false) → full_below G (height + k) ≡ full_below G height
+full_above G height zero none = ap (full_below G) (omega arith)
+full_above G height (suc k) none =
+    let size : height + suc k ≡ suc (height + k) = omega arith in
+    ap (full_below G) size ∙ full_below-empty G (height + k) (λ x. none x (height + k) (omega arith)) ∙ full_above G height k none
+
+-- a cell of the placement is not in row `height` or above
+below_cell : (q : Placement) (height x y : ℕ) → is_below height q ≡ true → height ≤ y → has_cell (cells_of q) (pos x, pos y) ≡ false
+below_cell q height x y below above =
+    false_from_ne_true _ (λ has. omega (arith, ints, ltb-true y height (has_cell-all (λ cell. int_lt cell.1 (pos height)) (cells_of q) (pos x, pos y) below has)))
+
+together_below : (F : Field) (q : Placement) (height : ℕ) → LiesBelow F height → is_below height q ≡ true → (x y : ℕ) → height ≤ y → together F q x y ≡ false
+unfolding together
+together_below F q height below placed x y above = or_from _ _ (below.none x y above) (below_cell q height x y placed above)
+
+full_below_height : (G : Field) (height : ℕ) → height ≤ 23 → ((x y : ℕ) → height ≤ y → G x y ≡ false) → full_below G 23 ≡ full_below G height
+full_below_height G height within none = let size : 23 ≡ height + (23 - height) = omega arith in ap (full_below G) size ∙ full_above G height (23 - height) none
+
+pub stays_below : StaysBelow
+unfolding locked rows_removed
+stays_below F q height within below placed x y above =
+    let none = together_below F q height below placed in
+    let size : 23 ≡ height + (23 - height) = omega arith in
+    let same : without_full_rows (together F q) 23 ≡ without_full_rows (together F q) height = ap (without_full_rows (together F q)) size ∙ removal_above (together F q) height (23 - height) none in
+    ap (λ G. G x y) same ∙ false_from_ne_true _ (λ left. omega (arith, left_below (together F q) height x y left, full_below_height (together F q) height within none, above))
+
+pub removes_below : RemovesBelow
+unfolding rows_removed
+removes_below F q height within below placed = omega (arith, full_below_height (together F q) height within (together_below F q height below placed), full_below-le (together F q) height)
+
+-- no cell is left in the rows from 23 less the removed ones on
+pub locked_below : (F : Field) (q : Placement) (x y : ℕ) → locked F q x y ≡ true → y + rows_removed F q < 23
+unfolding locked rows_removed
+locked_below F q x y left = left_below (together F q) 23 x y left

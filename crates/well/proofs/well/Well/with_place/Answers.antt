@@ -1,0 +1,20 @@
+-- The cell is in the well, so its two numbers are a column and a row.
+use Rattle.std.proofs.Common.{◌≡◌, pos, nat_abs, ap, sym, ◌∙◌, arith}
+use Rattle.std.proofs.lemmas.Int.{ints}
+use mir.Syntax.{w8}
+use mir.Val.{to_z, of_z}
+use Rattle.srs.specs.Cells.{Cell}
+use Rattle.srs.proofs.CanonicalLemmas.{in_well-place}
+use Rattle.well.specs.Lock.{with_place}
+use Rattle.well.specs.Well.{filled}
+use Rattle.well.proofs.LockLemmas.{placed}
+use Rattle.well.proofs.well.Well.with_place.Goals as goal
+
+pub returns : goal.returns
+returns c =
+    let lies = in_well-place c.args.cell c.requires in
+    let a : c.args.cell.0 ≡ pos lies.x = ap (λ (c : Cell). c.0) lies.is in
+    let b : c.args.cell.1 ≡ pos lies.y = ap (λ (c : Cell). c.1) lies.is in
+    let x : pos (nat_abs (to_z w8 (of_z w8 c.args.cell.0))) ≡ c.args.cell.0 = omega (arith, ints, lies.in_columns) in
+    let y : pos (nat_abs (to_z w8 (of_z w8 c.args.cell.1))) ≡ c.args.cell.1 = omega (arith, ints, lies.in_rows) in
+    c.with.ensures ∙ sym (placed (filled c.args.self.now) _ _) ∙ (λ i. with_place (filled c.args.self.now) (x i, y i))

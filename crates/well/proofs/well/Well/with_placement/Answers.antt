@@ -1,0 +1,43 @@
+-- The four cells of a free placement lie in the well.
+use Rattle.std.proofs.Common.{◌≡◌, ℕ, ◌<◌, true, get_or, pos, ap, ◌∙◌, arith}
+use Rattle.srs.specs.declared.placement.Placement.{Placement}
+use Rattle.srs.specs.Cells.{Cell, in_well, cells_of}
+use Rattle.srs.proofs.ListLemmas.{list_all_each}
+use Rattle.lane_board.specs.Field.{Field}
+use Rattle.std.specs.Prelude.{List}
+use Rattle.well.specs.Free.{is_free}
+use Rattle.well.specs.Lock.{with_place}
+use Rattle.well.specs.Well.{filled}
+use Rattle.well.proofs.FreeLemmas.{free_inside, free_pivot_inside}
+use Rattle.well.proofs.LockLemmas.{cells_length, together_of}
+use Rattle.well.proofs.well.Well.with_placement.Goals as goal
+
+each_in_well : (F : Field) (q : Placement) (cells : List Cell) (k : ℕ) → cells ≡ cells_of q → is_free F q ≡ true → k < 4 → in_well (get_or cells k (pos 0, pos 0)) ≡ true
+each_in_well F q cells k e free below =
+    ap (λ cs. in_well (get_or cs k (pos 0, pos 0))) e ∙ list_all_each in_well (cells_of q) k (pos 0, pos 0) (free_inside F q free) (omega (arith, cells_length q))
+
+pub cells-requires-clause-column : goal.cells-requires-clause-column
+cells-requires-clause-column c = omega (arith, (free_pivot_inside _ c.args.placement.now c.requires).in_columns)
+
+pub cells-requires-clause-row : goal.cells-requires-clause-row
+cells-requires-clause-row c = omega (arith, (free_pivot_inside _ c.args.placement.now c.requires).in_rows)
+
+pub with_place-requires : goal.with_place-requires
+with_place-requires c = each_in_well _ c.args.placement.now c.cells.result 0 c.cells.ensures c.requires (omega arith)
+
+pub with_place-requires-2 : goal.with_place-requires-2
+with_place-requires-2 c = each_in_well _ c.args.placement.now c.cells.result 1 c.cells.ensures c.requires (omega arith)
+
+pub with_place-requires-3 : goal.with_place-requires-3
+with_place-requires-3 c = each_in_well _ c.args.placement.now c.cells.result 2 c.cells.ensures c.requires (omega arith)
+
+pub with_place-requires-4 : goal.with_place-requires-4
+with_place-requires-4 c = each_in_well _ c.args.placement.now c.cells.result 3 c.cells.ensures c.requires (omega arith)
+
+pub returns : goal.returns
+returns c =
+    c.with_place-4.ensures
+    ∙ ap (λ F. with_place F (get_or c.cells.result 3 (pos 0, pos 0))) (c.with_place-3.ensures
+    ∙ ap (λ F. with_place F (get_or c.cells.result 2 (pos 0, pos 0))) (c.with_place-2.ensures
+    ∙ ap (λ F. with_place F (get_or c.cells.result 1 (pos 0, pos 0))) c.with_place.ensures))
+    ∙ together_of (filled c.args.self.now) c.args.placement.now c.cells.result (pos 0, pos 0) c.cells.ensures

@@ -1,0 +1,15 @@
+// The well: a field of ten columns and 23 rows in which pieces are placed.
+#![tactic(auto)]
+
+mod counts;
+pub mod laws;
+mod lock;
+mod reader;
+mod rows;
+mod well;
+
+pub use rows::RowsFault;
+pub use well::Well;
+
+#[cfg(test)]
+mod tests;
