@@ -1,0 +1,5 @@
+-- The ledger of steps is the one that is made here.
+use Rattle.bench_floods.proofs.main.Given as goal
+
+abbrev pub ghosts-flooded : goal.ghosts-flooded
+ghosts-flooded a = record { name = a.blank.name; parts = a.blank.parts }

@@ -1,0 +1,185 @@
+-- The floods of a whole walk are the pairs of a live prefix and a kind that may come next.
+use Rattle.std.proofs.Common.{◌≡◌, ◌⊎◌, ℕ, zero, suc, ◌+◌, ◌≤◌, Bool, true, false, ◌&&◌, List, [], ◌∷◌, ◌++◌, map, refl, sym, ap, subst, ◌∙◌, inl, inr, arith, append_assoc}
+use Rattle.std.specs.Prelude.{Contains, Option, Some, filter, ◌==◌, if◌then◌else◌, sum_by}
+use Rattle.std.specs.List.{flat_map}
+use Rattle.std.specs.Bool.{one_answer}
+use Rattle.std.proofs.lemmas.Bool.{cases_Bool}
+use Rattle.std.proofs.lemmas.List.{append-nil, map-append}
+use Rattle.std.proofs.lemmas.List.Sums.{sum_by-cons}
+use Rattle.srs.specs.declared.piece.Piece.{Piece}
+use Rattle.srs.specs.declared.placement.Placement.{Placement}
+use Rattle.srs.specs.Piece.{all_pieces}
+use Rattle.srs.specs.Placements.{placements_of}
+use Rattle.srs.proofs.ListLemmas.{and_both, and_first, and_second}
+use Rattle.srs.proofs.MemberLemmas.{Contains-here, Contains-there, filter-false, filter-true}
+use Rattle.srs.proofs.PlacementLemmas.{placements_of-list}
+use Rattle.moves.specs.PlaceTest.{is_place}
+use Rattle.hold_queue.specs.QueueSet.{Line, LinePermits, line_permits}
+use Rattle.enumerate.specs.declared.problem.Problem.{Problem}
+use Rattle.enumerate.specs.Problem.{needed_of}
+use Rattle.well.specs.LockLaws.{is_below}
+use Rattle.enumerate.specs.Solution.{pieces_of}
+use Rattle.enumerate.specs.Position.{Position, after_of, may_play, places_at, is_live, root_of}
+use Rattle.enumerate.specs.Events.{Event, Tick, Flood, Found, floods, Walk, entered, tried, level, enter, begun}
+use Rattle.enumerate.specs.Work.{can_stand, is_live_prefix, work_from, pairs}
+use Rattle.enumerate.proofs.FloodCounts.{floods-flat_map, floods-level}
+use Rattle.enumerate.proofs.Game.{permits-decides}
+use Rattle.enumerate.proofs.PermitLaws.{line_permits-front}
+use Rattle.enumerate.proofs.Tests.{by_test, if_false, if_true}
+
+-- the played pieces of a line have no part in what it permits
+line_permits-played : (line : Line) (played pieces : List Piece) → line_permits (record line { played = played }) pieces ≡ line_permits line pieces
+line_permits-played line played pieces =
+    one_answer (line_permits (record line { played = played }) pieces) (line_permits line pieces) (permits-decides (record line { played = played }) pieces) (permits-decides line pieces)
+
+-- the position after a prefix
+pub record IsAt (root : Position) (prefix : List Placement) (n : Position) : Type 0 where
+  pub stands : (s : List Placement) → can_stand root.table root.mode root.field root.rows (prefix ++ s) ≡ can_stand n.table n.mode n.field n.rows s
+  pub permits : (pieces : List Piece) → line_permits root.line (pieces_of prefix ++ pieces) ≡ line_permits n.line (n.line.played ++ pieces)
+
+module _ (root : Position) (prefix : List Placement) (n : Position) (at : IsAt root prefix n) where
+  IsAt-next : (q : Placement) → is_place n.table n.field n.mode q ≡ true → is_below n.rows q ≡ true → IsAt root (prefix ++ q ∷ []) (after_of n q)
+  unfolding after_of can_stand
+  IsAt-next q placed below = record {
+    stands = λ s.
+        ap (can_stand root.table root.mode root.field root.rows) (append_assoc prefix (q ∷ []) s)
+        ∙ at.stands (q ∷ s)
+        ∙ ap (λ b. b && can_stand n.table n.mode (after_of n q).field (after_of n q).rows s) (and_both (is_place n.table n.field n.mode q) (is_below n.rows q) placed below);
+    permits = λ pieces.
+        ap (λ l. line_permits root.line (l ++ pieces)) (map-append (λ p. p.piece) prefix (q ∷ []))
+        ∙ ap (line_permits root.line) (append_assoc (pieces_of prefix) (q.piece ∷ []) pieces)
+        ∙ at.permits (q.piece ∷ pieces)
+        ∙ ap (line_permits n.line) (sym (append_assoc n.line.played (q.piece ∷ []) pieces))
+        ∙ sym (line_permits-played n.line (n.line.played ++ q.piece ∷ []) ((n.line.played ++ q.piece ∷ []) ++ pieces));
+  }
+
+  -- one more placement is live where it may be played, is a place and lies below
+  live-next : (q : Placement) → is_live_prefix root (prefix ++ q ∷ []) ≡ (may_play n.line q.piece && (is_place n.table n.field n.mode q && is_below n.rows q))
+  unfolding is_live_prefix can_stand may_play
+  live-next q = (λ i. permitted i && stands i)
+    where
+      permitted : line_permits root.line (pieces_of (prefix ++ q ∷ [])) ≡ line_permits n.line (n.line.played ++ q.piece ∷ [])
+      permitted = ap (line_permits root.line) (map-append (λ p. p.piece) prefix (q ∷ [])) ∙ at.permits (q.piece ∷ [])
+
+      and_true : (b : Bool) → (b && true) ≡ b
+      and_true true = refl
+      and_true false = refl
+
+      stands : can_stand root.table root.mode root.field root.rows (prefix ++ q ∷ []) ≡ (is_place n.table n.field n.mode q && is_below n.rows q)
+      stands = at.stands (q ∷ []) ∙ and_true (is_place n.table n.field n.mode q && is_below n.rows q)
+
+work-dead : (left : ℕ) (root : Position) (prefix : List Placement) → is_live_prefix root prefix ≡ false → work_from left root prefix ≡ 0
+unfolding work_from
+work-dead zero root prefix dead = refl
+work-dead (suc left) root prefix dead = if_false (is_live_prefix root prefix) _ 0 dead
+
+sum_by-same : {A : Type 0} (f g : A → ℕ) (xs : List A) → ((x : A) → Contains xs x → f x ≡ g x) → sum_by f xs ≡ sum_by g xs
+sum_by-same f g [] each = refl
+sum_by-same f g (x ∷ xs) each =
+    sum_by-cons f x xs
+    ∙ (λ i. each x (Contains-here x xs) i + sum_by-same f g xs (λ y among. each y (Contains-there x xs y among)) i)
+    ∙ sym (sum_by-cons g x xs)
+
+sum_by-filtered : {A : Type 0} (test : A → Bool) (f g : A → ℕ) (xs : List A) → ((x : A) → Contains xs x → test x ≡ true → f x ≡ g x) → ((x : A) → Contains xs x → test x ≡ false → g x ≡ 0) → sum_by f (filter test xs) ≡ sum_by g xs
+sum_by-filtered test f g [] kept dropped = refl
+sum_by-filtered test f g (x ∷ xs) kept dropped =
+    let rest = sum_by-filtered test f g xs (λ y among. kept y (Contains-there x xs y among)) (λ y among. dropped y (Contains-there x xs y among)) in
+    elim (cases_Bool (test x)) [
+      | inl e ↦ ap (sum_by f) (filter-true test x xs e) ∙ sum_by-cons f x (filter test xs) ∙ (λ i. kept x (Contains-here x xs) e i + rest i) ∙ sym (sum_by-cons g x xs)
+      | inr e ↦ let none = dropped x (Contains-here x xs) e in let cut = ap (sum_by f) (filter-false test x xs e) in omega (arith, none, cut, rest, sum_by-cons g x xs)
+    ]
+
+and_none : (a b : Bool) → b ≡ false → (a && b) ≡ false
+and_none true b e = e
+and_none false b e = refl
+
+and_none_first : (a b : Bool) → a ≡ false → (a && b) ≡ false
+and_none_first true b e = cc
+and_none_first false b e = refl
+
+leaf-floods : (b : Bool) (prefix : List Placement) → floods ((if b then Found prefix else Tick) ∷ []) ≡ 0
+unfolding floods
+leaf-floods true prefix = refl
+leaf-floods false prefix = refl
+
+-- what a place adds, and what a kind adds
+place-floods : (left : ℕ) (root : Position) (prefix : List Placement) (n : Position) (at : IsAt root prefix n)
+    (below : (prefix : List Placement) (n : Position) → IsAt root prefix n → is_live_prefix root prefix ≡ true → floods (enter left prefix n) ≡ work_from left root prefix)
+    (q : Placement) → may_play n.line q.piece ≡ true → is_place n.table n.field n.mode q ≡ true → floods (entered (enter left) prefix n q) ≡ work_from left root (prefix ++ q ∷ [])
+unfolding entered floods
+place-floods left root prefix n at below q played placed = elim (cases_Bool (is_below n.rows q)) [
+  | inl e ↦
+      ap floods (if_true (is_below n.rows q) (enter left (prefix ++ q ∷ []) (after_of n q)) (Tick ∷ []) e)
+      ∙ below (prefix ++ q ∷ []) (after_of n q) (IsAt-next root prefix n at q placed e)
+      (live-next root prefix n at q ∙ and_both (may_play n.line q.piece) (is_place n.table n.field n.mode q && is_below n.rows q) played (and_both (is_place n.table n.field n.mode q) (is_below n.rows q) placed e))
+  | inr e ↦
+      ap floods (if_false (is_below n.rows q) (enter left (prefix ++ q ∷ []) (after_of n q)) (Tick ∷ []) e)
+      ∙ sym (work-dead left root (prefix ++ q ∷ []) (live-next root prefix n at q ∙ and_none (may_play n.line q.piece) _ (and_none (is_place n.table n.field n.mode q) (is_below n.rows q) e)))
+]
+
+kind-floods : (left : ℕ) (root : Position) (prefix : List Placement) (n : Position) (at : IsAt root prefix n)
+    (below : (prefix : List Placement) (n : Position) → IsAt root prefix n → is_live_prefix root prefix ≡ true → floods (enter left prefix n) ≡ work_from left root prefix)
+    (c : Piece) → floods (tried (enter left) prefix n c) ≡ (if line_permits root.line (pieces_of prefix ++ c ∷ []) then 1 + sum_by (λ q. work_from left root (prefix ++ q ∷ [])) (placements_of c) else 0)
+unfolding tried floods may_play places_at
+kind-floods left root prefix n at below c = elim (cases_Bool (may_play n.line c)) [
+  | inl e ↦
+      ap floods (if_true (may_play n.line c) (Flood ∷ flat_map (entered (enter left) prefix n) (places_at n c)) (Tick ∷ []) e)
+      ∙ ap (λ k. k + 1) (floods-flat_map (entered (enter left) prefix n) (places_at n c)
+      ∙ sum_by-filtered (is_place n.table n.field n.mode) (λ q. floods (entered (enter left) prefix n q)) (λ q. work_from left root (prefix ++ q ∷ [])) (placements_of c)
+      (λ q among placed. place-floods left root prefix n at below q (subst (λ p. may_play n.line p ≡ true) (sym (((placements_of-list c).members q).0 among).kind) e) placed)
+      (λ q among not_placed. work-dead left root (prefix ++ q ∷ []) (live-next root prefix n at q ∙ and_none (may_play n.line q.piece) _ (and_none_first (is_place n.table n.field n.mode q) (is_below n.rows q) not_placed))))
+      ∙ one_more (sum_by (λ q. work_from left root (prefix ++ q ∷ [])) (placements_of c))
+      ∙ sym (if_true (line_permits root.line (pieces_of prefix ++ c ∷ [])) _ 0 (at.permits (c ∷ []) ∙ e))
+  | inr e ↦
+      ap floods (if_false (may_play n.line c) (Flood ∷ flat_map (entered (enter left) prefix n) (places_at n c)) (Tick ∷ []) e)
+      ∙ sym (if_false (line_permits root.line (pieces_of prefix ++ c ∷ [])) _ 0 (at.permits (c ∷ []) ∙ e))
+]
+  where
+    one_more : (k : ℕ) → k + 1 ≡ 1 + k
+    one_more k = omega arith
+
+pub floods-enter : (left : ℕ) (root : Position) (prefix : List Placement) (n : Position) → IsAt root prefix n → is_live_prefix root prefix ≡ true → floods (enter left prefix n) ≡ work_from left root prefix
+unfolding enter work_from floods is_live
+floods-enter zero root prefix n at live = leaf-floods (n.rows == 0) prefix
+floods-enter (suc left) root prefix n at live =
+    floods-level (enter left) prefix n all_pieces
+    ∙ sum_by-same (λ c. floods (tried (enter left) prefix n c)) (λ c. if line_permits root.line (pieces_of prefix ++ c ∷ []) then 1 + sum_by (λ q. work_from left root (prefix ++ q ∷ [])) (placements_of c) else 0) all_pieces
+    (λ c _. kind-floods left root prefix n at (floods-enter left root) c)
+    ∙ sym (if_true (is_live_prefix root prefix) _ 0 live)
+
+-- at the start
+root-at : (root : Position) → root.line.played ≡ [] → IsAt root [] root
+root-at root none = record {
+  stands = λ s. refl;
+  permits = λ pieces. ap (λ l. line_permits root.line (l ++ pieces)) (sym none);
+}
+
+root-dead : (root : Position) → root.line.played ≡ [] → is_live_prefix root [] ≡ false → (c : Piece) → may_play root.line c ≡ false
+unfolding is_live_prefix can_stand may_play
+root-dead root none dead c = elim (cases_Bool (line_permits root.line (root.line.played ++ c ∷ []))) [
+  | inl e ↦
+      let permitted : LinePermits root.line ([] ++ c ∷ []) = subst (λ l. LinePermits root.line (l ++ c ∷ [])) none ((permits-decides root.line (root.line.played ++ c ∷ [])).0 e) in
+      let start : line_permits root.line [] ≡ true = (permits-decides root.line []).1 (line_permits-front root.line [] (c ∷ []) permitted) in
+      let live : (line_permits root.line [] && true) ≡ true = and_both (line_permits root.line []) true start refl in
+      cc
+  | inr e ↦ e
+]
+
+none_tried : (left : ℕ) (root : Position) (c : Piece) → may_play root.line c ≡ false → floods (tried (enter left) [] root c) ≡ 0
+unfolding tried floods
+none_tried left root c e = ap floods (if_false (may_play root.line c) _ (Tick ∷ []) e)
+
+pub floods-begun : (left : ℕ) (root : Position) → root.line.played ≡ [] → floods (begun left root) ≡ work_from left root []
+unfolding begun enter floods is_live work_from
+floods-begun zero root none = refl
+floods-begun (suc left) root none = elim (cases_Bool (is_live_prefix root [])) [
+  | inl live ↦ floods-enter (suc left) root [] root (root-at root none) live
+  | inr dead ↦
+      floods-level (enter left) [] root all_pieces
+      ∙ sum_by-same (λ c. floods (tried (enter left) [] root c)) (λ c. 0) all_pieces (λ c _. none_tried left root c (root-dead root none dead c))
+      ∙ no_sum
+      ∙ sym (if_false (is_live_prefix root []) _ 0 dead)
+]
+  where
+    no_sum : sum_by (λ c. 0) all_pieces ≡ 0
+    no_sum = refl

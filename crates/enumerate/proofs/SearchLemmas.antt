@@ -1,0 +1,178 @@
+-- What a search holds: its first frame, and the list of what is still to come.
+use Rattle.std.proofs.Common.{◌≡◌, ◌↔◌, ◌⊎◌, inl, inr, lt-ltb, ℕ, zero, suc, ◌+◌, ◌-◌, ◌<◌, ◌≤◌, Bool, true, false, ◌&&◌, List, [], ◌∷◌, ◌++◌, length, get_or, set, take, refl, sym, ap, subst, ◌∙◌, arith}
+use Rattle.std.specs.Prelude.{Contains, Option, Some, None, filter, find, nat_le, nat_lt, if◌then◌else◌}
+use Rattle.std.specs.List.Sorted.{IsStrictlySortedBy}
+use Rattle.std.proofs.lemmas.Bool.{cases_Bool, le-leb}
+use Rattle.std.proofs.lemmas.List.{get_or-set_same, take_more_set}
+use Rattle.srs.specs.declared.piece.Piece.{Piece}
+use Rattle.srs.specs.declared.placement.Placement.{Placement}
+use Rattle.srs.specs.Kick.{Table}
+use Rattle.srs.specs.Rules.{table_of}
+use Rattle.srs.specs.Order.{sequence_cmp}
+use Rattle.srs.specs.Rising.{is_above, IsRisingListOf}
+use Rattle.srs.proofs.ListLemmas.{and_both, and_second}
+use Rattle.srs.proofs.MemberLemmas.{filter-each, filter-false, filter-true, find-false, find-true}
+use Rattle.srs.proofs.OrderLemmas.{sequence_cmp-total}
+use Rattle.srs.proofs.RisingLemmas.{filter_above-next}
+use Rattle.well.specs.Well.{filled}
+use Rattle.moves.specs.declared.key.DropMode.{DropMode}
+use Rattle.hold_queue.specs.declared.set.QueueSet.{QueueSet}
+use Rattle.hold_queue.specs.QueueSet.{Line, line_of}
+use Rattle.enumerate.specs.declared.problem.Problem.{Problem}
+use Rattle.enumerate.specs.declared.frame.Frame.{Frame}
+use Rattle.enumerate.specs.Problem.{IsFit, empties_of, needed_of}
+use Rattle.enumerate.specs.Position.{Position, is_live, line_at, root_of}
+use Rattle.enumerate.specs.Events.{Event, begun, enter, found, floods, sought}
+use Rattle.enumerate.specs.Frames.{events_of, has_room, path_of, position_of, stacked}
+use Rattle.enumerate.specs.Rest.{rest_from, whole_from}
+use Rattle.enumerate.specs.Seeks.{IsFresh, SkipsTo}
+use Rattle.enumerate.specs.Walks.{Finds}
+use Rattle.enumerate.specs.Work.{pairs}
+use Rattle.enumerate.proofs.FloodCounts.{floods-sought}
+use Rattle.enumerate.proofs.Pairs.{floods-begun}
+use Rattle.enumerate.proofs.SeekLemmas.{fresh-events}
+use Rattle.enumerate.proofs.SkipLemmas.{skips-same}
+use Rattle.enumerate.proofs.Sought.{found-sought}
+use Rattle.enumerate.proofs.Tests.{if_false, if_true}
+use Rattle.enumerate.proofs.Walks.{finds-enter, prefixed-nil}
+
+pub first-position : (problem : Problem) (queue : Option (List Piece)) (queues : QueueSet) → line_of queues ≡ line_at problem queue →
+    ◌≡◌ {A = Position} (record { table = table_of problem.rules; mode = problem.drop_mode; field = filled problem.well; rows = problem.height; line = line_of queues }) (root_of problem queue)
+unfolding root_of
+first-position problem queue queues e = λ i. record { table = table_of problem.rules; mode = problem.drop_mode; field = filled problem.well; rows = problem.height; line = e i }
+
+-- ---- the whole search from its first frame
+
+live-part : (k : ℕ) (b : Bool) → (nat_lt 0 k && b) ≡ true → (k ≡ suc (k - 1)) × (b ≡ true)
+live-part zero b e = cc
+live-part (suc k) b e = (omega arith, and_second (nat_lt 0 (suc k)) b e)
+
+dead-part : (k : ℕ) (b : Bool) → (nat_lt 0 k && b) ≡ false → (k ≡ 0) ⊎ ((k ≡ suc (k - 1)) × (b ≡ false))
+dead-part zero b e = inl refl
+dead-part (suc k) b e = inr (omega arith, second (nat_lt 0 (suc k)) b (lt-ltb 0 (suc k) (omega arith)) e)
+  where
+    second : (a b : Bool) → a ≡ true → (a && b) ≡ false → b ≡ false
+    second true b t e = e
+    second false b t e = cc
+
+begun-zero : (n : Position) → begun zero n ≡ []
+unfolding begun
+begun-zero n = refl
+
+begun-dead : (left : ℕ) (n : Position) → is_live left n ≡ false → begun (suc left) n ≡ []
+unfolding begun
+begun-dead left n dead = if_false (is_live left n) _ [] dead
+
+begun-sought : (left : ℕ) (n : Position) → begun (suc left) n ≡ sought (suc left) [] n []
+unfolding begun sought
+begun-sought left n = refl
+
+sought-zero : (n : Position) (given : List Placement) → sought zero [] n given ≡ []
+unfolding sought
+sought-zero n given = refl
+
+sought-dead : (left : ℕ) (n : Position) (given : List Placement) → is_live left n ≡ false → sought (suc left) [] n given ≡ []
+unfolding sought
+sought-dead left n [] dead = if_false (is_live left n) _ [] dead
+sought-dead left n (q ∷ given) dead = if_false (is_live left n) _ [] dead
+
+module _ (problem : Problem) (queue : Option (List Piece)) (f : Frame) (position : position_of (table_of problem.rules) problem.drop_mode f ≡ root_of problem queue) (left : f.left ≡ needed_of problem - 1) where
+  abbrev here : Position
+  here = position_of (table_of problem.rules) problem.drop_mode f
+
+  pub whole-nothing : (nat_lt 0 (needed_of problem) && is_live f.left here) ≡ false → (after : Option (List Placement)) → whole_from problem queue after ≡ []
+  unfolding whole_from
+  whole-nothing dead None = elim (dead-part (needed_of problem) (is_live f.left here) dead) [
+    | inl none ↦ ap (λ k. begun k (root_of problem queue)) none ∙ begun-zero (root_of problem queue)
+    | inr both ↦ ap (λ k. begun k (root_of problem queue)) both.0 ∙ begun-dead (needed_of problem - 1) (root_of problem queue) ((λ i. is_live (sym left i) (sym position i)) ∙ both.1)
+  ]
+  whole-nothing dead (Some given) = elim (dead-part (needed_of problem) (is_live f.left here) dead) [
+    | inl none ↦ ap (λ k. sought k [] (root_of problem queue) given) none ∙ sought-zero (root_of problem queue) given
+    | inr both ↦ ap (λ k. sought k [] (root_of problem queue) given) both.0 ∙ sought-dead (needed_of problem - 1) (root_of problem queue) given ((λ i. is_live (sym left i) (sym position i)) ∙ both.1)
+  ]
+
+  module _ (live : (nat_lt 0 (needed_of problem) && is_live f.left here) ≡ true) where
+    depth : needed_of problem ≡ suc f.left
+    depth = (live-part (needed_of problem) (is_live f.left here) live).0 ∙ ap suc (sym left)
+
+    pub whole-sought : (given : List Placement) → whole_from problem queue (Some given) ≡ sought (suc f.left) [] here given
+    unfolding whole_from
+    whole-sought given = λ i. sought (depth i) [] (sym position i) given
+
+    pub first-fresh : f.tried ≡ 0 → f.places ≡ None → IsFresh (table_of problem.rules) problem.drop_mode f
+    first-fresh tried places = record { tried = tried; places = places; live = (live-part (needed_of problem) (is_live f.left here) live).1 }
+
+    pub whole-first : f.tried ≡ 0 → f.places ≡ None → whole_from problem queue None ≡ stacked (table_of problem.rules) problem.drop_mode [] (f ∷ [])
+    unfolding whole_from stacked
+    whole-first tried places =
+        (λ i. begun (depth i) (sym position i))
+        ∙ begun-sought f.left here
+        ∙ fresh-events (table_of problem.rules) problem.drop_mode [] f (first-fresh tried places)
+
+-- ---- the first frame in the array
+
+take-first : (frames : List Frame) (f : Frame) → 0 < length frames → take 1 (set frames 0 f) ≡ f ∷ []
+take-first frames f some = take_more_set frames 0 f some
+
+pub first-room : (frames : List Frame) (f : Frame) → 0 < length frames → f.left ≤ 19 → has_room 0 (take 1 (set frames 0 f)) ≡ true
+unfolding has_room
+first-room frames f some few = subst (λ l. has_room 0 l ≡ true) (sym (take-first frames f some)) (and_both (nat_le (f.left + 0) 19) true (le-leb (f.left + 0) 19 (omega arith)) refl)
+
+pub nothing-room : has_room 0 [] ≡ true
+unfolding has_room
+nothing-room = refl
+
+stacked-nil : (table : Table) (mode : DropMode) → stacked table mode [] [] ≡ []
+unfolding stacked
+stacked-nil table mode = refl
+
+pub nothing-skips : (table : Table) (mode : DropMode) (whole : List Event) (before : ℕ) → whole ≡ [] → SkipsTo whole (stacked table mode [] []) before before
+nothing-skips table mode whole before e = skips-same whole (stacked table mode [] []) before (e ∙ sym (stacked-nil table mode))
+
+pub first-skips : (table : Table) (mode : DropMode) (frames : List Frame) (f : Frame) (whole : List Event) (before : ℕ) → 0 < length frames → whole ≡ stacked table mode [] (f ∷ []) → SkipsTo whole (stacked table mode [] (take 1 (set frames 0 f))) before before
+first-skips table mode frames f whole before some e = skips-same whole (stacked table mode [] (take 1 (set frames 0 f))) before (e ∙ ap (stacked table mode []) (sym (take-first frames f some)))
+
+pub first-read : (frames : List Frame) (f d : Frame) → 0 < length frames → get_or (set frames 0 f) 0 d ≡ f
+first-read frames f d some = get_or-set_same frames 0 f d some
+
+pub sought-skips : (table : Table) (mode : DropMode) (frames : List Frame) (f : Frame) (given given' : List Placement) (whole rest : List Event) (before now : ℕ) → 0 < length frames → given' ≡ given →
+    whole ≡ sought (suc f.left) [] (position_of table mode f) given →
+    ((d : Frame) → SkipsTo (sought (suc (get_or (set frames 0 f) 0 d).left) [] (position_of table mode (get_or (set frames 0 f) 0 d)) given') rest before now) → SkipsTo whole rest before now
+sought-skips table mode frames f given given' whole rest before now some same e skips =
+    subst (λ w. SkipsTo w rest before now) (sym e)
+    (subst (λ s. SkipsTo (sought (suc f.left) [] (position_of table mode f) s) rest before now) same
+    (subst (λ g. SkipsTo (sought (suc g.left) [] (position_of table mode g) given') rest before now) (first-read frames f f some) (skips f)))
+
+-- ---- going on
+
+pub pending-skips : (problem : Problem) (queue : Option (List Piece)) (after : Option (List Placement)) (pending : Bool) (used : List Frame) (rest : List Event) (before now : ℕ) → pending ≡ true →
+    SkipsTo (whole_from problem queue after) rest before now → SkipsTo (rest_from problem queue after pending used) rest before now
+unfolding rest_from
+pending-skips problem queue after true used rest before now e skips = skips
+pending-skips problem queue after false used rest before now e skips = cc
+
+pub standing-skips : (problem : Problem) (queue : Option (List Piece)) (after : Option (List Placement)) (pending : Bool) (used : List Frame) (before : ℕ) → pending ≡ false →
+    SkipsTo (rest_from problem queue after pending used) (stacked (table_of problem.rules) problem.drop_mode [] used) before before
+unfolding rest_from
+standing-skips problem queue after true used before e = cc
+standing-skips problem queue after false used before e = skips-same _ _ before refl
+
+pub moved-skips : (table : Table) (mode : DropMode) (whole : List Event) (frames frames' : List Frame) (depth depth' before steps steps' : ℕ) → frames' ≡ frames → depth' ≡ depth → steps' ≡ steps →
+    SkipsTo whole (stacked table mode [] (take depth frames)) before steps → SkipsTo whole (stacked table mode [] (take depth' frames')) before steps'
+moved-skips table mode whole frames frames' depth depth' before steps steps' f d s skips =
+    subst (λ f. SkipsTo whole (stacked table mode [] (take depth' f)) before steps') (sym f)
+    (subst (λ d. SkipsTo whole (stacked table mode [] (take d frames)) before steps') (sym d)
+    (subst (λ s. SkipsTo whole (stacked table mode [] (take depth frames)) before s) (sym s) skips))
+
+pub finds-same : (first old new : List (List Placement)) (path : List Placement) (solved : Bool) → first ≡ old → Finds old new path solved → Finds first new path solved
+finds-same first old new path true same finds = same ∙ finds
+finds-same first old new path false same finds = same ∙ finds
+
+pub none-found : (old new : List (List Placement)) (path : List Placement) (depth : ℕ) → depth ≡ 0 → Finds old new path (nat_lt 0 depth) → old ≡ new
+none-found old new path depth none finds = subst (λ d. Finds old new path (nat_lt 0 d)) none finds
+
+pub one-found : (old new : List (List Placement)) (path : List Placement) (depth : ℕ) → (depth ≡ 0 → ⊥) → Finds old new path (nat_lt 0 depth) → old ≡ path ∷ new
+one-found old new path depth some finds = subst (Finds old new path) (lt-ltb 0 depth (omega arith)) finds
+
+pub none-used : (table : Table) (mode : DropMode) (frames : List Frame) (depth : ℕ) → depth ≡ 0 → stacked table mode [] (take depth frames) ≡ []
+none-used table mode frames depth none = ap (λ d. stacked table mode [] (take d frames)) none ∙ stacked-nil table mode

@@ -1,0 +1,193 @@
+-- The list of what a search has still to give.
+use Rattle.std.proofs.Common.{◌≡◌, ◌↔◌, ℕ, zero, suc, ◌+◌, ◌-◌, ◌≤◌, Bool, true, false, IsTrue, List, [], ◌∷◌, ◌++◌, length, refl, sym, ap, subst, ◌∙◌, ◌⊎◌, inl, inr, arith, take}
+use Rattle.std.specs.Prelude.{Contains, Option, Some, None, filter, find, nat_lt, ◌==◌}
+use Rattle.std.specs.List.Sorted.{IsStrictlySortedBy}
+use Rattle.std.proofs.lemmas.Bool.{cases_Bool}
+use Rattle.srs.specs.declared.piece.Piece.{Piece}
+use Rattle.srs.specs.declared.placement.Placement.{Placement}
+use Rattle.srs.specs.Rules.{table_of}
+use Rattle.srs.specs.Order.{sequence_cmp}
+use Rattle.srs.specs.Rising.{is_above, IsRisingListOf, IsNextAbove}
+use Rattle.srs.proofs.MemberLemmas.{filter-each, filter-false, filter-true, find-false, find-true, Contains-none}
+use Rattle.srs.proofs.OrderLemmas.{sequence_cmp-total}
+use Rattle.srs.proofs.RisingLemmas.{filter_above-next, IsRisingListOf-filter, rising-none}
+use Rattle.well.specs.Well.{filled}
+use Rattle.queue_pattern.specs.Queues.{queues}
+use Rattle.hold_queue.specs.Permits.{SomePermits}
+use Rattle.hold_queue.specs.QueueSet.{LinePermits}
+use Rattle.enumerate.specs.declared.problem.Problem.{Problem}
+use Rattle.enumerate.specs.Plays.{Plays}
+use Rattle.enumerate.specs.Problem.{IsFit, needed_of}
+use Rattle.enumerate.specs.Solution.{IsSolution, pieces_of, queues_that_count}
+use Rattle.enumerate.specs.Search.{View, IsList, IsSolutionAbove}
+use Rattle.enumerate.specs.Position.{Position, line_at, root_of}
+use Rattle.enumerate.specs.Events.{Event, begun, enter, found, floods, sought}
+use Rattle.enumerate.specs.Rest.{rest_from, whole_from}
+use Rattle.enumerate.specs.Work.{pairs}
+use Rattle.enumerate.proofs.FloodCounts.{floods-sought}
+use Rattle.enumerate.proofs.Game.{IsLow, filled-low}
+use Rattle.enumerate.proofs.Members.{IsSolved, complete, sound}
+use Rattle.enumerate.proofs.NeededCount.{long-needed}
+use Rattle.enumerate.proofs.Pairs.{floods-begun}
+use Rattle.enumerate.proofs.PermitLaws.{queues-singles}
+use Rattle.enumerate.proofs.Solutions.{sols, sols-rising}
+use Rattle.enumerate.proofs.Sought.{found-sought}
+use Rattle.enumerate.proofs.Tests.{if_false}
+use Rattle.enumerate.proofs.TurnLemmas.{not-zero}
+use Rattle.enumerate.proofs.Walks.{finds-enter, prefixed-nil}
+
+found-begun : (left : ℕ) (n : Position) → found (begun (suc left) n) ≡ sols (suc left) n
+unfolding begun found enter
+found-begun left n = (finds-enter (suc left)).same [] n ∙ prefixed-nil (sols (suc left) n)
+
+begun-none : (n : Position) → found (begun zero n) ≡ []
+unfolding begun found
+begun-none n = refl
+
+sought-none : (n : Position) (given : List Placement) → found (sought zero [] n given) ≡ []
+unfolding sought found
+sought-none n given = refl
+
+-- from after a sequence on
+after-sequence : (left : ℕ) (n : Position) (given : List Placement) → found (sought left [] n given) ≡ filter (is_above sequence_cmp (Some given)) (found (begun left n))
+after-sequence zero n given = sought-none n given ∙ sym (ap (filter (is_above sequence_cmp (Some given))) (begun-none n))
+after-sequence (suc left) n given =
+    found-sought (suc left) [] n given
+    ∙ prefixed-nil (filter (is_above sequence_cmp (Some given)) (sols (suc left) n))
+    ∙ ap (filter (is_above sequence_cmp (Some given))) (sym (found-begun left n))
+
+-- at its start a search has what the whole list has above the given sequence
+pub listed-start : (problem : Problem) (queue : Option (List Piece)) (after : Option (List Placement)) → found (whole_from problem queue after) ≡ filter (is_above sequence_cmp after) (found (whole_from problem queue None))
+unfolding whole_from
+listed-start problem queue None = sym (filter-each (is_above sequence_cmp None) (found (begun (needed_of problem) (root_of problem queue))) (λ s among. refl))
+listed-start problem queue (Some given) = after-sequence (needed_of problem) (root_of problem queue) given
+
+pub heads : {A : Type 0} {x y : A} {xs ys : List A} → x ∷ xs ≡ y ∷ ys → x ≡ y
+heads e = cc
+
+pub tails : {A : Type 0} {x y : A} {xs ys : List A} → x ∷ xs ≡ y ∷ ys → xs ≡ ys
+tails e = cc
+
+-- what a filter begins with is what a search finds
+pub head-found : {A : Type 0} (test : A → Bool) (xs : List A) (y : A) (ys : List A) → filter test xs ≡ y ∷ ys → find test xs ≡ Some y
+head-found test [] y ys e = cc
+head-found test (x ∷ xs) y ys e = elim (cases_Bool (test x)) [
+  | inl kept ↦ find-true test x xs kept ∙ ap Some (heads (sym (filter-true test x xs kept) ∙ e))
+  | inr dropped ↦ find-false test x xs dropped ∙ head-found test xs y ys (sym (filter-false test x xs dropped) ∙ e)
+]
+
+rows-left : (n : Position) → (n.rows ≡ 0 → ⊥) → sols zero n ≡ []
+unfolding sols
+rows-left n some = if_false (n.rows == 0) ([] ∷ []) [] (not-zero n.rows some)
+
+-- ---- the whole list
+
+permits-same : (problem : Problem) (queue : Option (List Piece)) → queues (line_at problem queue).elements ≡ queues_that_count problem queue
+permits-same problem None = refl
+permits-same problem (Some queue) = queues-singles queue
+
+module _ (problem : Problem) (fit : IsFit problem) (queue : Option (List Piece)) where
+  root-low : IsLow (root_of problem queue).field (root_of problem queue).rows
+  unfolding root_of
+  root-low = filled-low problem.well problem.height (omega (arith, fit.low)) fit.below
+
+  to-solution : (s : List Placement) → IsSolved (needed_of problem) (root_of problem queue) s → IsSolution problem queue s
+  unfolding root_of
+  to-solution s solved = record {
+    plays = solved.plays;
+    permitted = permitted queue solved.permitted;
+  }
+    where
+      permitted : (queue : Option (List Piece)) → LinePermits (line_at problem queue) ((line_at problem queue).played ++ pieces_of s) → SomePermits problem.hold (queues_that_count problem queue) problem.held (pieces_of s)
+      permitted None line = line
+      permitted (Some q) line = subst (λ l. SomePermits problem.hold l problem.held (pieces_of s)) (queues-singles q) line
+
+  from-solution : (s : List Placement) → IsSolution problem queue s → IsSolved (needed_of problem) (root_of problem queue) s
+  unfolding root_of
+  from-solution s solution = record {
+    long = long-needed problem fit s solution.plays;
+    plays = solution.plays;
+    permitted = permitted queue solution.permitted;
+  }
+    where
+      permitted : (queue : Option (List Piece)) → SomePermits problem.hold (queues_that_count problem queue) problem.held (pieces_of s) → LinePermits (line_at problem queue) ((line_at problem queue).played ++ pieces_of s)
+      permitted None line = line
+      permitted (Some q) line = subst (λ l. SomePermits problem.hold l problem.held (pieces_of s)) (sym (queues-singles q)) line
+
+  no-rows : (root_of problem queue).rows ≡ 0 → ⊥
+  unfolding root_of
+  no-rows none = omega (arith, none, fit.some)
+
+  -- where placements are needed
+  pub sols-list : IsRisingListOf sequence_cmp (IsSolution problem queue) (sols (needed_of problem) (root_of problem queue))
+  sols-list = record {
+    rising = sols-rising (needed_of problem) (root_of problem queue);
+    members = λ s. (
+      λ among. to-solution s (sound (needed_of problem) (root_of problem queue) root-low (λ none. absurd (no-rows none)) s among),
+      λ solution. complete (needed_of problem) (root_of problem queue) s (from-solution s solution),
+    );
+  }
+
+  sols-begun : (k : ℕ) → sols k (root_of problem queue) ≡ found (begun k (root_of problem queue))
+  sols-begun zero = sols-none ∙ sym (begun-none (root_of problem queue))
+    where
+      sols-none : sols zero (root_of problem queue) ≡ []
+      sols-none = rows-left (root_of problem queue) no-rows
+  sols-begun (suc k) = sym (found-begun k (root_of problem queue))
+
+  -- the whole search gives the rising list of all solutions
+  pub whole-list : IsRisingListOf sequence_cmp (IsSolution problem queue) (found (whole_from problem queue None))
+  unfolding whole_from
+  whole-list = subst (IsRisingListOf sequence_cmp (IsSolution problem queue)) (sols-begun (needed_of problem)) sols-list
+
+  -- what is above the bound
+  pub above-list : (bound : Option (List Placement)) (l : List (List Placement)) → l ≡ filter (is_above sequence_cmp bound) (found (whole_from problem queue None)) → IsList (record { problem = problem; queue = queue; bound = bound }) l
+  above-list bound l e =
+      let list = IsRisingListOf-filter sequence_cmp sequence_cmp-total (IsSolution problem queue) (is_above sequence_cmp bound) (found (whole_from problem queue None)) whole-list in
+      let kept : IsList (record { problem = problem; queue = queue; bound = bound }) (filter (is_above sequence_cmp bound) (found (whole_from problem queue None))) = record {
+        rising = list.rising;
+        members = λ s. (
+          λ among. let both = (list.members s).0 among in record { solution = both.0; above = both.1 },
+          λ one. (list.members s).1 (one.solution, one.above),
+        );
+      } in
+      subst (IsList (record { problem = problem; queue = queue; bound = bound })) (sym e) kept
+
+  -- after one more
+  pub listed-next : (bound : Option (List Placement)) (s : List Placement) (rest : List (List Placement)) → s ∷ rest ≡ filter (is_above sequence_cmp bound) (found (whole_from problem queue None)) →
+      rest ≡ filter (is_above sequence_cmp (Some s)) (found (whole_from problem queue None))
+  listed-next bound s rest e =
+      let first = head-found (is_above sequence_cmp bound) (found (whole_from problem queue None)) s rest (sym e) in
+      let split : s ∷ rest ≡ s ∷ filter (is_above sequence_cmp (Some s)) (found (whole_from problem queue None)) =
+      e ∙ filter_above-next sequence_cmp sequence_cmp-total bound (found (whole_from problem queue None)) s whole-list.rising first in
+      tails split
+
+-- ---- floods
+
+root-played : (problem : Problem) (queue : Option (List Piece)) → (root_of problem queue).line.played ≡ []
+unfolding root_of
+root-played problem None = refl
+root-played problem (Some queue) = refl
+
+none-floods : (n : Position) (given : List Placement) → floods (sought zero [] n given) ≡ 0
+unfolding sought floods
+none-floods n given = refl
+
+entered-floods : (left : ℕ) (n : Position) → floods (enter (suc left) [] n) ≡ floods (begun (suc left) n)
+unfolding enter begun floods
+entered-floods left n = refl
+
+begun-floods : (left : ℕ) (n : Position) (given : List Placement) → floods (sought left [] n given) ≤ floods (begun left n)
+begun-floods zero n given = omega (arith, none-floods n given)
+begun-floods (suc left) n given = omega (arith, floods-sought (suc left) [] n given, entered-floods left n)
+
+pub whole-floods : (problem : Problem) (queue : Option (List Piece)) → floods (whole_from problem queue None) ≡ pairs problem queue
+unfolding whole_from pairs
+whole-floods problem queue = floods-begun (needed_of problem) (root_of problem queue) (root-played problem queue)
+
+pub floods-within : (problem : Problem) (queue : Option (List Piece)) (after : Option (List Placement)) → floods (whole_from problem queue after) ≤ pairs problem queue
+unfolding whole_from pairs
+floods-within problem queue None = let e = floods-begun (needed_of problem) (root_of problem queue) (root-played problem queue) in omega (arith, e)
+floods-within problem queue (Some given) =
+    let e = floods-begun (needed_of problem) (root_of problem queue) (root-played problem queue) in
+    omega (arith, e, begun-floods (needed_of problem) (root_of problem queue) given)

@@ -1,0 +1,251 @@
+-- What a frame is left with after it has passed all that comes before a placement.
+use Rattle.std.proofs.Common.{◌≡◌, ◌↔◌, ◌⊎◌, ℕ, zero, suc, ◌+◌, ◌≤◌, Bool, true, false, ◌&&◌, List, [], ◌∷◌, ◌++◌, refl, sym, ap, subst, ◌∙◌, inl, inr, arith, append_assoc}
+use Rattle.std.specs.Prelude.{Contains, Option, Some, None, filter, drop, if◌then◌else◌}
+use Rattle.std.specs.List.{flat_map}
+use Rattle.std.specs.Option.{option_to_list}
+use Rattle.std.specs.List.Sorted.{IsStrictlySortedBy}
+use Rattle.std.specs.declared.cmp.Ordering.{Ordering}
+use Rattle.std.specs.declared.cmp.Ordering.TheVariants.{Less, Equal, Greater}
+use Rattle.std.specs.Cmp.{tied_itself}
+use Rattle.std.proofs.lemmas.Bool.{cases_Bool}
+use Rattle.std.proofs.lemmas.List.{append-nil}
+use Rattle.std.proofs.lemmas.List.Kept.{IsStrictlySortedBy-filter}
+use Rattle.srs.specs.declared.piece.Piece.{Piece}
+use Rattle.srs.specs.declared.placement.Placement.{Placement}
+use Rattle.srs.specs.Kick.{Table}
+use Rattle.srs.specs.Piece.{all_pieces, piece_code}
+use Rattle.srs.specs.Order.{placement_cmp}
+use Rattle.srs.specs.Placements.{placements_of}
+use Rattle.srs.specs.Rising.{is_above}
+use Rattle.srs.proofs.ListLemmas.{and_first, and_second}
+use Rattle.srs.proofs.MemberLemmas.{Contains-cases, Contains-here, Contains-none, Contains-there}
+use Rattle.srs.proofs.OrderLemmas.{placement_cmp-total}
+use Rattle.srs.proofs.PlacementLemmas.{placements_of-list}
+use Rattle.srs.proofs.RisingLemmas.{rising-first, rising-none}
+use Rattle.moves.specs.declared.key.DropMode.{DropMode}
+use Rattle.moves.specs.PlaceTest.{is_place}
+use Rattle.reach.specs.declared.held.Places.{Places}
+use Rattle.reach.specs.Places.{holds, piece_of}
+use Rattle.hold_queue.specs.QueueSet.{line_of}
+use Rattle.enumerate.specs.declared.frame.Frame.{Frame}
+use Rattle.enumerate.specs.declared.turn.Turn.{Turn}
+use Rattle.enumerate.specs.declared.turn.Turn.TheVariants.{Passed, Flooded, Entered, Full, Over}
+use Rattle.well.specs.LockLaws.{is_below}
+use Rattle.enumerate.specs.Position.{Position, after_of, may_play, places_at, is_live}
+use Rattle.enumerate.specs.Events.{Event, Tick, Flood, Found, found, floods, entered, tried, level, enter, sought}
+use Rattle.enumerate.specs.Frames.{position_of, places_left, step_of, events_of}
+use Rattle.enumerate.specs.Turns.{Enters, EntersAs, IsChild, SamePosition}
+use Rattle.enumerate.specs.Seeks.{IsFresh, SkipsTo, Skips}
+use Rattle.enumerate.proofs.FloodCounts.{floods-sought}
+use Rattle.enumerate.proofs.Resumed.{past, placed-there, there-placed}
+use Rattle.enumerate.proofs.Solutions.{sols}
+use Rattle.enumerate.proofs.Sought.{found-sought}
+use Rattle.enumerate.proofs.Tests.{if_false, if_true}
+use Rattle.enumerate.proofs.TurnLemmas.{filter-both, filter-same, same-position}
+use Rattle.enumerate.proofs.Walks.{finds-enter, found-append, floods-append, prefixed}
+
+pub places_left-rising : (places : Option Places) (last : Option Placement) → IsStrictlySortedBy placement_cmp (places_left places last)
+unfolding places_left
+places_left-rising None last = rising-none placement_cmp
+places_left-rising (Some places) last = IsStrictlySortedBy-filter placement_cmp (λ q. holds places q && is_above placement_cmp last q) (placements_of (piece_of places)) (placements_of-list (piece_of places)).rising
+
+-- those above a placement
+pub places_left-above : (places : Option Places) (q : Placement) → places_left places (Some q) ≡ filter (is_above placement_cmp (Some q)) (places_left places None)
+unfolding places_left
+places_left-above None q = refl
+places_left-above (Some places) q =
+    filter-both (holds places) (is_above placement_cmp (Some q)) (placements_of (piece_of places))
+    ∙ ap (filter (is_above placement_cmp (Some q))) (filter-same (holds places) (λ p. holds places p && true) (placements_of (piece_of places)) (λ p _. sym (and_true (holds places p))))
+  where
+    and_true : (b : Bool) → (b && true) ≡ b
+    and_true true = refl
+    and_true false = refl
+
+-- ---- looking for a placement in a rising list
+
+pub not_first : (q target : Placement) (rest : List Placement) → placement_cmp q target ≡ Less → Contains (q ∷ rest) target ↔ Contains rest target
+not_first q target rest e = (
+  λ among. elim (Contains-cases q rest target among) [
+    | inl same ↦ let tied : placement_cmp q target ≡ Equal = subst (λ t. placement_cmp q t ≡ Equal) same (tied_itself placement_cmp-total q) in cc
+    | inr there ↦ there
+  ],
+  λ there. Contains-there q rest target there,
+)
+
+pub past_it : (q target : Placement) (rest : List Placement) → IsStrictlySortedBy placement_cmp (q ∷ rest) → placement_cmp q target ≡ Greater → Contains (q ∷ rest) target → ⊥
+past_it q target rest rising e among = elim (Contains-cases q rest target among) [
+  | inl same ↦ let tied : placement_cmp q target ≡ Equal = subst (λ t. placement_cmp q t ≡ Equal) same (tied_itself placement_cmp-total q) in cc
+  | inr there ↦ let less : placement_cmp q target ≡ Less = rising-first placement_cmp q rest rising target there in cc
+]
+
+-- ---- passing by
+
+pub skips-same : (old new : List Event) (before : ℕ) → old ≡ new → SkipsTo old new before before
+skips-same old new before e = record { same = ap found e; counted = ap (λ l. floods l + before) e; fewer = omega (arith, ap floods e) }
+
+pub skips-flood : (old new : List Event) (before now : ℕ) → old ≡ Flood ∷ new → now ≡ before + 1 → SkipsTo old new before now
+unfolding found floods
+skips-flood old new before now e steps = record { same = ap found e; counted = omega (arith, ap floods e, steps); fewer = omega (arith, ap floods e) }
+
+pub skips-more : (a b c : List Event) (k l m : ℕ) → SkipsTo a b k l → SkipsTo b c l m → SkipsTo a c k m
+skips-more a b c k l m first second = record { same = first.same ∙ second.same; counted = first.counted ∙ second.counted; fewer = omega (arith, first.fewer, second.fewer) }
+
+pub skips-before : (a b c : List Event) (k l : ℕ) → SkipsTo a b k l → SkipsTo (a ++ c) (b ++ c) k l
+skips-before a b c k l skips = record {
+  same = found-append a c ∙ ap (λ x. x ++ found c) skips.same ∙ sym (found-append b c);
+  counted = omega (arith, floods-append a c, floods-append b c, skips.counted);
+  fewer = omega (arith, floods-append a c, floods-append b c, skips.fewer);
+}
+
+module _ (table : Table) (mode : DropMode) (old new : Frame) (same : SamePosition old new) (q : Placement)
+    (live : is_live old.left (position_of table mode old) ≡ true) (tried : new.tried ≡ piece_code q.piece) where
+  abbrev here : Position
+  here = position_of table mode old
+
+  abbrev rest : List Placement → List Event
+  rest prefix = level (enter old.left) prefix here (drop (piece_code q.piece) all_pieces)
+
+  rest-same : (prefix : List Placement) → level (enter new.left) prefix (position_of table mode new) (drop new.tried all_pieces) ≡ rest prefix
+  rest-same prefix = λ i. level (enter (same.left i)) prefix (same-position table mode old new same i) (drop (tried i) all_pieces)
+
+  -- a kind that may not be played
+  pub passes-kind : may_play (line_of old.queues) q.piece ≡ false → places_left new.places new.entered ≡ [] → (prefix given : List Placement) →
+      sought (suc old.left) prefix here (q ∷ given) ≡ events_of table mode prefix new
+  unfolding sought events_of position_of
+  passes-kind not_played none prefix given =
+      if_true (is_live old.left here) _ [] live
+      ∙ ap (λ l. l ++ rest prefix) (if_false (may_play (line_of old.queues) q.piece) _ [] not_played)
+      ∙ sym (rest-same prefix)
+      ∙ ap (λ l. flat_map (entered (enter new.left) prefix (position_of table mode new)) l ++ level (enter new.left) prefix (position_of table mode new) (drop new.tried all_pieces)) (sym none)
+
+  -- what comes first at the placement itself
+  abbrev first : List Placement → List Placement → List Event
+  first prefix given = if is_place table here.field mode q && is_below old.rows q then sought old.left (prefix ++ q ∷ []) (after_of here q) given else []
+
+  module _ (played : may_play (line_of old.queues) q.piece ≡ true) (left : places_left new.places new.entered ≡ filter (is_above placement_cmp (Some q)) (places_at here q.piece)) where
+    pub floods-kind : (prefix given : List Placement) → sought (suc old.left) prefix here (q ∷ given) ≡ Flood ∷ (first prefix given ++ events_of table mode prefix new)
+    unfolding sought events_of position_of
+    floods-kind prefix given =
+        if_true (is_live old.left here) _ [] live
+        ∙ ap (λ l. l ++ rest prefix) (if_true (may_play (line_of old.queues) q.piece) _ [] played)
+        ∙ ap (λ l. Flood ∷ l)
+        (append_assoc (first prefix given) (flat_map (entered (enter old.left) prefix here) (filter (is_above placement_cmp (Some q)) (places_at here q.piece))) (rest prefix)
+        ∙ ap (λ l. first prefix given ++ l) (sym (λ i. flat_map (entered (enter (same.left i)) prefix (same-position table mode old new same i)) (left i) ++ rest-same prefix i)))
+
+    -- no place
+    pub skips-unplaced : (before now : ℕ) → now ≡ before + 1 → is_place table here.field mode q ≡ false → (prefix given : List Placement) →
+        SkipsTo (sought (suc old.left) prefix here (q ∷ given)) (events_of table mode prefix new) before now
+    skips-unplaced before now steps unplaced prefix given =
+        skips-flood _ (events_of table mode prefix new) before now
+        (floods-kind prefix given
+        ∙ ap (λ b. Flood ∷ ((if b && is_below old.rows q then sought old.left (prefix ++ q ∷ []) (after_of here q) given else []) ++ events_of table mode prefix new)) unplaced) steps
+
+    -- a place with a frame of its own
+    pub skips-entered : (before now : ℕ) → now ≡ before + 1 → is_place table here.field mode q ≡ true → new.entered ≡ Some q → (child : Frame) → IsChild new q child → (prefix given : List Placement) →
+        SkipsTo (sought (suc old.left) prefix here (q ∷ given)) (sought (suc child.left) (prefix ++ step_of new) (position_of table mode child) given ++ events_of table mode prefix new) before now
+    skips-entered before now steps placed step child is_child prefix given =
+        let below : is_below old.rows q ≡ true = subst (λ r. is_below r q ≡ true) same.rows is_child.below in
+        let depth : old.left ≡ suc child.left = omega (arith, is_child.left, same.left) in
+        let at_child : after_of here q ≡ position_of table mode child = ap (λ n. after_of n q) (sym (same-position table mode old new same)) ∙ sym (is_child.position table mode) in
+        let step_is : q ∷ [] ≡ step_of new = sym (ap option_to_list step) in
+        skips-flood _ _ before now
+        (floods-kind prefix given
+        ∙ ap (λ l. Flood ∷ (l ++ events_of table mode prefix new))
+        (ap (λ b. if b && is_below old.rows q then sought old.left (prefix ++ q ∷ []) (after_of here q) given else []) placed
+        ∙ if_true (is_below old.rows q) _ [] below
+        ∙ (λ i. sought (depth i) (prefix ++ step_is i) (at_child i) given))) steps
+
+    -- a place at which nothing more is to be done
+    pub skips-dead : (before now : ℕ) → now ≡ before + 1 →
+        ((prefix given : List Placement) → (found (first prefix given) ≡ []) × (floods (first prefix given) ≡ 0)) → (prefix given : List Placement) →
+        SkipsTo (sought (suc old.left) prefix here (q ∷ given)) (events_of table mode prefix new) before now
+    unfolding found floods
+    skips-dead before now steps dead prefix given =
+        let e = floods-kind prefix given in
+        let joined = floods-append (first prefix given) (events_of table mode prefix new) in
+        let none = dead prefix given in
+        record {
+          same = ap found e ∙ found-append (first prefix given) (events_of table mode prefix new) ∙ ap (λ l. l ++ found (events_of table mode prefix new)) none.0;
+          counted = omega (arith, ap floods e, joined, none.1, steps);
+          fewer = omega (arith, ap floods e, joined);
+        }
+
+prefixed-empty : (prefix : List Placement) (l : List (List Placement)) → prefixed prefix l ≡ [] → l ≡ []
+unfolding prefixed
+prefixed-empty prefix [] e = refl
+prefixed-empty prefix (s ∷ l) e = cc
+
+-- where entering comes to one tick, or to a solution with no placement to come, nothing is above the given sequence
+tick-dead : (left : ℕ) (prefix : List Placement) (n : Position) (given : List Placement) → enter left prefix n ≡ Tick ∷ [] → (found (sought left prefix n given) ≡ []) × (floods (sought left prefix n given) ≡ 0)
+unfolding found floods prefixed
+tick-dead left prefix n given e =
+    let none : sols left n ≡ [] = prefixed-empty prefix (sols left n) (sym ((finds-enter left).same prefix n) ∙ ap found e) in (
+      found-sought left prefix n given ∙ ap (λ l. prefixed prefix (filter (past given) l)) none,
+      omega (arith, floods-sought left prefix n given, ap floods e),
+    )
+
+full-dead : (left : ℕ) (prefix s : List Placement) (n : Position) (given : List Placement) → enter left prefix n ≡ Found s ∷ [] → (found (sought left prefix n given) ≡ []) × (floods (sought left prefix n given) ≡ 0)
+unfolding sought found floods enter
+full-dead zero prefix s n given e = (refl, refl)
+full-dead (suc left) prefix s n given e = cc
+
+module _ (table : Table) (mode : DropMode) (old new : Frame) (same : SamePosition old new) (q : Placement) where
+  abbrev there : Position
+  there = position_of table mode old
+
+  -- what entering the placement comes to
+  at-old : (events : Table → DropMode → List Placement → List Event) → EntersAs new q events → (prefix : List Placement) → entered (enter old.left) prefix there q ≡ events table mode (prefix ++ q ∷ [])
+  at-old events enters prefix = sym (λ i. entered (enter (same.left i)) prefix (same-position table mode old new same i) q) ∙ enters.same table mode prefix
+
+  first-dead : (b : Bool) (events : Table → DropMode → List Placement → List Event) → EntersAs new q events →
+      ((prefix given : List Placement) → enter old.left (prefix ++ q ∷ []) (after_of there q) ≡ events table mode (prefix ++ q ∷ []) →
+      (found (sought old.left (prefix ++ q ∷ []) (after_of there q) given) ≡ []) × (floods (sought old.left (prefix ++ q ∷ []) (after_of there q) given) ≡ 0)) →
+      (prefix given : List Placement) →
+      (found (if b && is_below old.rows q then sought old.left (prefix ++ q ∷ []) (after_of there q) given else []) ≡ []) × (floods (if b && is_below old.rows q then sought old.left (prefix ++ q ∷ []) (after_of there q) given else []) ≡ 0)
+  unfolding found floods entered position_of
+  first-dead false events enters dead prefix given = (refl, refl)
+  first-dead true events enters dead prefix given = elim (cases_Bool (is_below old.rows q)) [
+    | inl below ↦
+        let e = dead prefix given (sym (if_true (is_below old.rows q) (enter old.left (prefix ++ q ∷ []) (after_of there q)) (Tick ∷ []) below) ∙ at-old events enters prefix) in
+        let is = if_true (is_below old.rows q) (sought old.left (prefix ++ q ∷ []) (after_of there q) given) [] below in
+        (ap found is ∙ e.0, ap floods is ∙ e.1)
+    | inr blocked ↦
+        let is = if_false (is_below old.rows q) (sought old.left (prefix ++ q ∷ []) (after_of there q) given) [] blocked in
+        (ap found is, ap floods is)
+  ]
+
+  pub dead-passed : (b : Bool) → EntersAs new q (λ table mode prefix. Tick ∷ []) → (prefix given : List Placement) →
+      (found (if b && is_below old.rows q then sought old.left (prefix ++ q ∷ []) (after_of there q) given else []) ≡ []) × (floods (if b && is_below old.rows q then sought old.left (prefix ++ q ∷ []) (after_of there q) given else []) ≡ 0)
+  dead-passed b enters = first-dead b (λ table mode prefix. Tick ∷ []) enters (λ prefix given e. tick-dead old.left (prefix ++ q ∷ []) (after_of there q) given e)
+
+  pub dead-full : (b : Bool) → EntersAs new q (λ table mode prefix. Found prefix ∷ []) → (prefix given : List Placement) →
+      (found (if b && is_below old.rows q then sought old.left (prefix ++ q ∷ []) (after_of there q) given else []) ≡ []) × (floods (if b && is_below old.rows q then sought old.left (prefix ++ q ∷ []) (after_of there q) given else []) ≡ 0)
+  dead-full b enters = first-dead b (λ table mode prefix. Found prefix ∷ []) enters (λ prefix given e. full-dead old.left (prefix ++ q ∷ []) (prefix ++ q ∷ []) (after_of there q) given e)
+
+-- ---- after the flood
+
+pub left-above : (n : Position) (places : Option Places) (last : Option Placement) → last ≡ None → (q : Placement) → places_left places last ≡ places_at n q.piece →
+    places_left places (Some q) ≡ filter (is_above placement_cmp (Some q)) (places_at n q.piece)
+left-above n places last none q e =
+    places_left-above places q
+    ∙ ap (λ l. filter (is_above placement_cmp (Some q)) (places_left places l)) (sym none)
+    ∙ ap (filter (is_above placement_cmp (Some q))) e
+
+module _ (n : Position) (q : Placement) (l : List Placement) (e : l ≡ places_at n q.piece) (held : Bool) (answer : (held ≡ true) ↔ Contains l q) where
+  pub held-place : held ≡ true → is_place n.table n.field n.mode q ≡ true
+  held-place is = there-placed n q (subst (λ l. Contains l q) e (answer.0 is))
+
+  pub unheld-place : held ≡ false → is_place n.table n.field n.mode q ≡ false
+  unheld-place is = elim (cases_Bool (is_place n.table n.field n.mode q)) [
+    | inl placed ↦ let yes : held ≡ true = answer.1 (subst (λ l. Contains l q) (sym e) (placed-there n q placed)) in cc
+    | inr unplaced ↦ unplaced
+  ]
+
+-- what entering comes to where there is no frame after the placement
+pub dead-result : (table : Table) (mode : DropMode) (old new : Frame) (same : SamePosition old new) (q : Placement) (result : Turn) → Enters new q result → ((child : Frame) → result ≡ Entered child → ⊥) → (b : Bool) → (prefix given : List Placement) →
+    (found (if b && is_below old.rows q then sought old.left (prefix ++ q ∷ []) (after_of (position_of table mode old) q) given else []) ≡ []) × (floods (if b && is_below old.rows q then sought old.left (prefix ++ q ∷ []) (after_of (position_of table mode old) q) given else []) ≡ 0)
+dead-result table mode old new same q Passed enters none b = dead-passed table mode old new same q b enters
+dead-result table mode old new same q Flooded enters none b = absurd enters
+dead-result table mode old new same q (Entered child) enters none b = absurd (none child refl)
+dead-result table mode old new same q Full enters none b = dead-full table mode old new same q b enters
+dead-result table mode old new same q Over enters none b = absurd enters

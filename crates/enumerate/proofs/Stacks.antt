@@ -1,0 +1,166 @@
+-- Turns of frames, from the first position to the deepest.
+use Rattle.std.proofs.Common.{◌≡◌, ℕ, zero, suc, ◌+◌, ◌<◌, ◌≤◌, Bool, true, false, ◌&&◌, IsTrue, List, [], ◌∷◌, ◌++◌, length, refl, sym, ap, subst, ◌∙◌, arith, append_assoc, length-append}
+use Rattle.std.specs.Prelude.{nat_le, ◌-◌}
+use Rattle.std.proofs.Common.{get_or, set, take, length-take, length-set}
+use Rattle.std.proofs.Math.Seq.{take-suc, take-suc-set}
+use Rattle.std.specs.List.{flat_map}
+use Rattle.std.proofs.lemmas.Bool.{leb-true, le-leb}
+use Rattle.std.proofs.lemmas.List.{append-nil, take-set, take_more_set}
+use Rattle.std.proofs.lemmas.Grind.{flat_map-append}
+use Rattle.srs.specs.declared.placement.Placement.{Placement}
+use Rattle.srs.specs.Kick.{Table}
+use Rattle.srs.proofs.ListLemmas.{and_both, and_first, and_second}
+use Rattle.moves.specs.declared.key.DropMode.{DropMode}
+use Rattle.enumerate.specs.declared.frame.Frame.{Frame}
+use Rattle.enumerate.specs.Events.{Event, Tick, Flood, Found, found, floods}
+use Rattle.enumerate.specs.Frames.{events_of, has_room, path_of, stacked, step_of}
+use Rattle.enumerate.specs.Turns.{GoesAs}
+use Rattle.enumerate.specs.Walks.{Finds, IsTurn}
+
+-- the deepest frame comes first
+pub stacked-last : (table : Table) (mode : DropMode) (prefix : List Placement) (frames : List Frame) (frame : Frame) →
+    stacked table mode prefix (frames ++ frame ∷ []) ≡ events_of table mode (prefix ++ path_of frames) frame ++ stacked table mode prefix frames
+unfolding stacked path_of
+stacked-last table mode prefix [] frame = sym (append-nil (events_of table mode prefix frame)) ∙ ap (λ p. events_of table mode p frame ++ []) (sym (append-nil prefix))
+stacked-last table mode prefix (f ∷ frames) frame =
+    ap (λ l. l ++ events_of table mode prefix f) (stacked-last table mode (prefix ++ step_of f) frames frame)
+    ∙ append_assoc (events_of table mode ((prefix ++ step_of f) ++ path_of frames) frame) (stacked table mode (prefix ++ step_of f) frames) (events_of table mode prefix f)
+    ∙ ap (λ p. events_of table mode p frame ++ (stacked table mode (prefix ++ step_of f) frames ++ events_of table mode prefix f)) (append_assoc prefix (step_of f) (path_of frames))
+
+pub path-last : (frames : List Frame) (frame : Frame) → path_of (frames ++ frame ∷ []) ≡ path_of frames ++ step_of frame
+unfolding path_of
+path-last frames frame = flat_map-append step_of frames (frame ∷ []) ∙ ap (λ l. flat_map step_of frames ++ l) (append-nil (step_of frame))
+
+-- room for frames at the end
+pub room-last : (depth : ℕ) (frames : List Frame) (frame : Frame) → has_room depth (frames ++ frame ∷ []) ≡ true → (has_room depth frames ≡ true) × (frame.left + (depth + length frames) ≤ 19)
+unfolding has_room
+room-last depth [] frame room = let fits = leb-true (frame.left + depth) 19 (and_first (nat_le (frame.left + depth) 19) true room) in (refl, omega (arith, fits))
+room-last depth (f ∷ frames) frame room =
+    let rest = room-last (suc depth) frames frame (and_second (nat_le (f.left + depth) 19) _ room) in
+    (and_both (nat_le (f.left + depth) 19) (has_room (suc depth) frames) (and_first (nat_le (f.left + depth) 19) _ room) rest.0, omega (arith, rest.1))
+
+pub room-more : (depth : ℕ) (frames : List Frame) (frame : Frame) → has_room depth frames ≡ true → frame.left + (depth + length frames) ≤ 19 → has_room depth (frames ++ frame ∷ []) ≡ true
+unfolding has_room
+room-more depth [] frame room fits = and_both (nat_le (frame.left + depth) 19) true (le-leb (frame.left + depth) 19 (omega (arith, fits))) refl
+room-more depth (f ∷ frames) frame room fits =
+    and_both (nat_le (f.left + depth) 19) (has_room (suc depth) (frames ++ frame ∷ [])) (and_first (nat_le (f.left + depth) 19) _ room)
+    (room-more (suc depth) frames frame (and_second (nat_le (f.left + depth) 19) _ room) (omega (arith, fits)))
+
+module _ (table : Table) (mode : DropMode) (fs : List Frame) (old new : Frame) (room : has_room 0 (fs ++ old ∷ []) ≡ true) (left : new.left ≡ old.left) where
+  abbrev below : List Event
+  below = stacked table mode [] fs
+
+  -- by its first events the deepest frame goes on
+  old-events : (events : List Placement → List Event) → GoesAs table mode old events → stacked table mode [] (fs ++ old ∷ []) ≡ events (path_of fs) ++ below
+  old-events events goes = stacked-last table mode [] fs old ∙ ap (λ l. l ++ below) (goes.same (path_of fs))
+
+  new-events : stacked table mode [] (fs ++ new ∷ []) ≡ events_of table mode (path_of fs) new ++ below
+  new-events = stacked-last table mode [] fs new
+
+  room-new : has_room 0 (fs ++ new ∷ []) ≡ true
+  room-new = let rest = room-last 0 fs old room in room-more 0 fs new rest.0 (omega (arith, rest.1, left))
+
+  pub turn-passed : (before now : ℕ) → GoesAs table mode old (λ prefix. Tick ∷ events_of table mode prefix new) → now ≡ before → IsTurn table mode (fs ++ old ∷ []) (fs ++ new ∷ []) before now false
+  unfolding found floods
+  turn-passed before now goes steps =
+      let e : stacked table mode [] (fs ++ old ∷ []) ≡ Tick ∷ stacked table mode [] (fs ++ new ∷ []) = old-events (λ prefix. Tick ∷ events_of table mode prefix new) goes ∙ ap (λ l. Tick ∷ l) (sym new-events) in
+      record { room = room-new; finds = ap found e; counted = omega (arith, ap floods e, steps); fewer = omega (arith, ap floods e); shorter = omega (arith, ap length e) }
+
+  pub turn-flooded : (before now : ℕ) → GoesAs table mode old (λ prefix. Flood ∷ events_of table mode prefix new) → now ≡ before + 1 → IsTurn table mode (fs ++ old ∷ []) (fs ++ new ∷ []) before now false
+  unfolding found floods
+  turn-flooded before now goes steps =
+      let e : stacked table mode [] (fs ++ old ∷ []) ≡ Flood ∷ stacked table mode [] (fs ++ new ∷ []) = old-events (λ prefix. Flood ∷ events_of table mode prefix new) goes ∙ ap (λ l. Flood ∷ l) (sym new-events) in
+      record { room = room-new; finds = ap found e; counted = omega (arith, ap floods e, steps); fewer = omega (arith, ap floods e); shorter = omega (arith, ap length e) }
+
+  pub turn-full : (before now : ℕ) → GoesAs table mode old (λ prefix. Found (prefix ++ step_of new) ∷ events_of table mode prefix new) → now ≡ before → IsTurn table mode (fs ++ old ∷ []) (fs ++ new ∷ []) before now true
+  unfolding found floods
+  turn-full before now goes steps =
+      let e : stacked table mode [] (fs ++ old ∷ []) ≡ Found (path_of fs ++ step_of new) ∷ stacked table mode [] (fs ++ new ∷ []) = old-events (λ prefix. Found (prefix ++ step_of new) ∷ events_of table mode prefix new) goes ∙ ap (λ l. Found (path_of fs ++ step_of new) ∷ l) (sym new-events) in
+      record {
+        room = room-new;
+        finds = ap found e ∙ ap (λ p. p ∷ found (stacked table mode [] (fs ++ new ∷ []))) (sym (path-last fs new));
+        counted = omega (arith, ap floods e, steps);
+        fewer = omega (arith, ap floods e);
+        shorter = omega (arith, ap length e);
+      }
+
+  pub turn-over : (before now : ℕ) → GoesAs table mode old (λ prefix. Tick ∷ []) → now ≡ before → IsTurn table mode (fs ++ old ∷ []) fs before now false
+  unfolding found floods
+  turn-over before now goes steps =
+      let e : stacked table mode [] (fs ++ old ∷ []) ≡ Tick ∷ stacked table mode [] fs = old-events (λ prefix. Tick ∷ []) goes in
+      record { room = (room-last 0 fs old room).0; finds = ap found e; counted = omega (arith, ap floods e, steps); fewer = omega (arith, ap floods e); shorter = omega (arith, ap length e) }
+
+  pub turn-entered : (before now : ℕ) (child : Frame) → GoesAs table mode old (λ prefix. Tick ∷ (events_of table mode (prefix ++ step_of new) child ++ events_of table mode prefix new)) → now ≡ before → child.left + 1 ≡ old.left →
+      IsTurn table mode (fs ++ old ∷ []) ((fs ++ new ∷ []) ++ child ∷ []) before now false
+  unfolding found floods
+  turn-entered before now child goes steps fewer =
+      let deeper : stacked table mode [] ((fs ++ new ∷ []) ++ child ∷ []) ≡ (events_of table mode (path_of fs ++ step_of new) child ++ events_of table mode (path_of fs) new) ++ below =
+      stacked-last table mode [] (fs ++ new ∷ []) child
+      ∙ (λ i. events_of table mode (path-last fs new i) child ++ new-events i)
+      ∙ sym (append_assoc (events_of table mode (path_of fs ++ step_of new) child) (events_of table mode (path_of fs) new) below) in
+      let e : stacked table mode [] (fs ++ old ∷ []) ≡ Tick ∷ stacked table mode [] ((fs ++ new ∷ []) ++ child ∷ []) =
+      old-events (λ prefix. Tick ∷ (events_of table mode (prefix ++ step_of new) child ++ events_of table mode prefix new)) goes ∙ ap (λ l. Tick ∷ l) (sym deeper) in
+      let fits = room-last 0 fs old room in
+      record {
+        room = room-more 0 (fs ++ new ∷ []) child room-new (omega (arith, fits.1, fewer, length-append fs (new ∷ [])));
+        finds = ap found e;
+        counted = omega (arith, ap floods e, steps);
+        fewer = omega (arith, ap floods e);
+        shorter = omega (arith, ap length e);
+      }
+
+-- ---- frames in an array, of which the first so many are in use
+
+take-last : (frames : List Frame) (depth : ℕ) (d : Frame) → 0 < depth → depth ≤ length frames → take depth frames ≡ take (depth - 1) frames ++ get_or frames (depth - 1) d ∷ []
+take-last frames depth d some within =
+    let next : depth ≡ suc (depth - 1) = omega arith in
+    ap (λ k. take k frames) next ∙ take-suc frames (depth - 1) d (omega arith)
+
+take-written : (frames : List Frame) (depth : ℕ) (f : Frame) → 0 < depth → depth ≤ length frames → take depth (set frames (depth - 1) f) ≡ take (depth - 1) frames ++ f ∷ []
+take-written frames depth f some within =
+    let next : depth ≡ suc (depth - 1) = omega arith in
+    ap (λ k. take k (set frames (depth - 1) f)) next ∙ take-suc-set frames (depth - 1) f (omega arith)
+
+module _ (table : Table) (mode : DropMode) (frames : List Frame) (depth : ℕ) (d new : Frame) (some : 0 < depth) (within : depth ≤ length frames) (before now : ℕ) where
+  pub array-room : has_room 0 (take depth frames) ≡ true → has_room 0 (take (depth - 1) frames ++ get_or frames (depth - 1) d ∷ []) ≡ true
+  array-room room = subst (λ l. has_room 0 l ≡ true) (take-last frames depth d some within) room
+
+  pub array-turn : (solved : Bool) → IsTurn table mode (take (depth - 1) frames ++ get_or frames (depth - 1) d ∷ []) (take (depth - 1) frames ++ new ∷ []) before now solved →
+      IsTurn table mode (take depth frames) (take depth (set frames (depth - 1) new)) before now solved
+  array-turn solved turn =
+      subst (λ l. IsTurn table mode l (take depth (set frames (depth - 1) new)) before now solved) (sym (take-last frames depth d some within))
+      (subst (λ l. IsTurn table mode (take (depth - 1) frames ++ get_or frames (depth - 1) d ∷ []) l before now solved) (sym (take-written frames depth new some within)) turn)
+
+  pub array-over : IsTurn table mode (take (depth - 1) frames ++ get_or frames (depth - 1) d ∷ []) (take (depth - 1) frames) before now false →
+      IsTurn table mode (take depth frames) (take (depth - 1) (set frames (depth - 1) new)) before now false
+  array-over turn =
+      subst (λ l. IsTurn table mode l (take (depth - 1) (set frames (depth - 1) new)) before now false) (sym (take-last frames depth d some within))
+      (subst (λ l. IsTurn table mode (take (depth - 1) frames ++ get_or frames (depth - 1) d ∷ []) l before now false) (sym (take-set frames (depth - 1) new)) turn)
+
+  pub array-entered : (child : Frame) → depth < length frames → IsTurn table mode (take (depth - 1) frames ++ get_or frames (depth - 1) d ∷ []) ((take (depth - 1) frames ++ new ∷ []) ++ child ∷ []) before now false →
+      IsTurn table mode (take depth frames) (take (depth + 1) (set (set frames (depth - 1) new) depth child)) before now false
+  array-entered child room turn =
+      let longer : depth < length (set frames (depth - 1) new) = omega (arith, length-set frames (depth - 1) new) in
+      subst (λ l. IsTurn table mode l (take (depth + 1) (set (set frames (depth - 1) new) depth child)) before now false) (sym (take-last frames depth d some within))
+      (subst (λ l. IsTurn table mode (take (depth - 1) frames ++ get_or frames (depth - 1) d ∷ []) l before now false)
+      (sym (take_more_set (set frames (depth - 1) new) depth child longer ∙ ap (λ l. l ++ child ∷ []) (take-written frames depth new some within))) turn)
+
+  -- a frame below which there is another leaves room for one more
+  pub array-deeper : has_room 0 (take depth frames) ≡ true → 1 ≤ (get_or frames (depth - 1) d).left → depth < 20
+  array-deeper room left =
+      let last = room-last 0 (take (depth - 1) frames) (get_or frames (depth - 1) d) (array-room room) in
+      omega (arith, last.1, left, length-take (depth - 1) frames)
+
+-- what was found before stays found
+pub finds-more : (first old new : List (List Placement)) (path : List Placement) (solved some : Bool) → first ≡ old → Finds old new path solved → solved ≡ true → some ≡ true → Finds first new path some
+finds-more first old new path true true same finds e f = same ∙ finds
+finds-more first old new path true false same finds e f = cc
+finds-more first old new path false some same finds e f = cc
+
+-- one more frame on the path
+pub path-more : (frames : List Frame) (i : ℕ) (frame : Frame) → i < length frames → frame ≡ get_or frames i frame → path_of (take (i + 1) frames) ≡ path_of (take i frames) ++ step_of frame
+path-more frames i frame within is =
+    let next : i + 1 ≡ suc i = omega arith in
+    ap (λ k. path_of (take k frames)) next
+    ∙ ap path_of (take-suc frames i frame within ∙ ap (λ f. take i frames ++ f ∷ []) (sym is))
+    ∙ path-last (take i frames) frame

@@ -1,0 +1,326 @@
+-- What one turn does to the events that are still to come.
+use Rattle.std.proofs.Common.{◌≡◌, ◌↔◌, ◌⊎◌, ℕ, zero, suc, ◌+◌, ◌-◌, ◌≤◌, Bool, true, false, ◌&&◌, List, [], ◌∷◌, ◌++◌, map, refl, sym, ap, subst, ◌∙◌, inl, inr, arith, eq-eqb, length, append_assoc}
+use Rattle.std.specs.Prelude.{Contains, Option, Some, None, IsTrue, MatchOption, filter, find, drop, slice_get, ◌==◌, if◌then◌else◌}
+use Rattle.std.specs.List.{flat_map}
+use Rattle.std.specs.Bool.{one_answer}
+use Rattle.std.specs.Option.{ForSome, option_to_list}
+use Rattle.std.proofs.lemmas.Bool.{cases_Bool, eqb-true}
+use Rattle.std.proofs.lemmas.List.{append-nil}
+use Rattle.lane_board.specs.Field.{Field}
+use Rattle.srs.specs.declared.piece.Piece.{Piece}
+use Rattle.srs.specs.declared.placement.Placement.{Placement}
+use Rattle.srs.specs.Kick.{Table}
+use Rattle.srs.specs.Piece.{all_pieces}
+use Rattle.srs.specs.Order.{placement_cmp}
+use Rattle.srs.specs.Placements.{placements_of}
+use Rattle.srs.specs.Rising.{is_above, IsNextAbove, IsRisingListOf}
+use Rattle.srs.proofs.ListLemmas.{and_first, and_second}
+use Rattle.srs.proofs.MemberLemmas.{Contains-filter, Contains-from_filter, Contains-here, Contains-there, find-Contains, filter-false, filter-true}
+use Rattle.srs.proofs.OrderLemmas.{placement_cmp-antisymmetric, placement_cmp-total}
+use Rattle.srs.proofs.PlacementLemmas.{placements_of-list}
+use Rattle.srs.proofs.RisingLemmas.{find-next_of, filter_above-next, filter_above-none, IsNextAbove-unique}
+use Rattle.std.proofs.lemmas.List.Kept.{IsStrictlySortedBy-filter}
+use Rattle.well.specs.Well.{filled}
+use Rattle.well.specs.Lock.{locked, rows_removed}
+use Rattle.moves.specs.declared.key.DropMode.{DropMode}
+use Rattle.moves.specs.Place.{IsPlace}
+use Rattle.moves.specs.PlaceTest.{is_place}
+use Rattle.reach.specs.declared.held.Places.{Places}
+use Rattle.reach.specs.Places.{holds, piece_of}
+use Rattle.hold_queue.specs.QueueSet.{Line, LinePermits, line_of, line_permits}
+use Rattle.enumerate.specs.declared.frame.Frame.{Frame}
+use Rattle.well.specs.LockLaws.{is_below}
+use Rattle.enumerate.specs.Position.{Position, after_of, may_play, places_at, is_live}
+use Rattle.enumerate.specs.Standing.{may_lock}
+use Rattle.enumerate.specs.Events.{Event, Tick, Flood, Found, Walk, entered, tried, level, enter}
+use Rattle.enumerate.specs.Frames.{position_of, places_left, step_of, events_of}
+use Rattle.enumerate.specs.declared.turn.Turn.{Turn}
+use Rattle.enumerate.specs.declared.turn.Turn.TheVariants.{Passed, Flooded, Entered, Full, Over}
+use Rattle.enumerate.specs.Turns.{Enters, EntersAs, GoesAs, IsChild, SamePosition, Turns}
+use Rattle.enumerate.proofs.Game.{permits-decides, place-decides}
+use Rattle.enumerate.proofs.PlaceLaws.{lockable-listed, lockable-piece, place-lockable}
+use Rattle.enumerate.proofs.Tests.{by_test, if_false, if_true}
+
+pub filter-both : {A : Type 0} (a b : A → Bool) (xs : List A) → filter (λ x. a x && b x) xs ≡ filter b (filter a xs)
+filter-both a b [] = refl
+filter-both a b (x ∷ xs) = elim (cases_Bool (a x)) [
+  | inl e ↦ elim (cases_Bool (b x)) [
+    | inl f ↦
+        filter-true (λ x. a x && b x) x xs (ap (λ t. t && b x) e ∙ f) ∙ ap (λ l. x ∷ l) (filter-both a b xs)
+        ∙ sym (ap (filter b) (filter-true a x xs e) ∙ filter-true b x (filter a xs) f)
+    | inr f ↦
+        filter-false (λ x. a x && b x) x xs (ap (λ t. t && b x) e ∙ f) ∙ filter-both a b xs
+        ∙ sym (ap (filter b) (filter-true a x xs e) ∙ filter-false b x (filter a xs) f)
+  ]
+  | inr e ↦
+      filter-false (λ x. a x && b x) x xs (ap (λ t. t && b x) e) ∙ filter-both a b xs
+      ∙ sym (ap (filter b) (filter-false a x xs e))
+]
+
+pub filter-same : {A : Type 0} (a b : A → Bool) (xs : List A) → ((x : A) → Contains xs x → a x ≡ b x) → filter a xs ≡ filter b xs
+filter-same a b [] each = refl
+filter-same a b (x ∷ xs) each =
+    let rest = filter-same a b xs (λ y among. each y (Contains-there x xs y among)) in
+    elim (cases_Bool (b x)) [
+      | inl e ↦ filter-true a x xs (each x (Contains-here x xs) ∙ e) ∙ ap (λ l. x ∷ l) rest ∙ sym (filter-true b x xs e)
+      | inr e ↦ filter-false a x xs (each x (Contains-here x xs) ∙ e) ∙ rest ∙ sym (filter-false b x xs e)
+    ]
+
+-- what a frame's places hold may lock
+abbrev pub Lockable : Field → Places → Type 0
+Lockable F places = (q : Placement) → holds places q ≡ true → may_lock F (piece_of places) q ≡ true
+
+module _ (F : Field) (line : Line) (places : Places) (lockable : Lockable F places) (permitted : may_play line (piece_of places) ≡ true) where
+  abbrev held : List Placement
+  held = filter (holds places) (placements_of (piece_of places))
+
+  held-list : IsRisingListOf placement_cmp (λ q. holds places q ≡ true) held
+  held-list = record {
+    rising = IsStrictlySortedBy-filter placement_cmp (holds places) (placements_of (piece_of places)) (placements_of-list (piece_of places)).rising;
+    members = λ q. (
+      λ among. (Contains-from_filter (holds places) (placements_of (piece_of places)) q among).1,
+      λ is_held. Contains-filter (holds places) (placements_of (piece_of places)) q (((placements_of-list (piece_of places)).members q).1 (lockable-listed F (piece_of places) q (lockable q is_held))) is_held,
+    );
+  }
+
+  -- the next of the held placements is the first of those that are left
+  pub upcoming-next : (last r : Option Placement) → IsNextAbove placement_cmp (λ q. IsTrue (holds places q)) last r →
+      MatchOption r (places_left (Some places) last ≡ [])
+      (λ q. (places_left (Some places) last ≡ q ∷ places_left (Some places) (Some q)) × IsTrue (may_lock F q.piece q) × IsTrue (may_play line q.piece))
+  unfolding places_left
+  upcoming-next last r next = at r same next
+    where
+      same : find (is_above placement_cmp last) held ≡ r
+      same = IsNextAbove-unique placement_cmp placement_cmp-total placement_cmp-antisymmetric (λ q. holds places q ≡ true) last (find (is_above placement_cmp last) held) r
+          (find-next_of placement_cmp placement_cmp-total (λ q. holds places q ≡ true) last held held-list) next
+
+      at : (r : Option Placement) → find (is_above placement_cmp last) held ≡ r → IsNextAbove placement_cmp (λ q. IsTrue (holds places q)) last r →
+          MatchOption r (filter (λ q. holds places q && is_above placement_cmp last q) (placements_of (piece_of places)) ≡ [])
+          (λ q. (filter (λ q. holds places q && is_above placement_cmp last q) (placements_of (piece_of places)) ≡ q ∷ filter (λ p. holds places p && is_above placement_cmp (Some q) p) (placements_of (piece_of places)))
+          × IsTrue (may_lock F q.piece q) × IsTrue (may_play line q.piece))
+      at None e next = filter-both (holds places) (is_above placement_cmp last) (placements_of (piece_of places)) ∙ filter_above-none placement_cmp placement_cmp-total last held e
+      at (Some q) e next =
+          let lock : may_lock F (piece_of places) q ≡ true = lockable q next.member in
+          let kind : q.piece ≡ piece_of places = lockable-piece F (piece_of places) q lock in (
+            filter-both (holds places) (is_above placement_cmp last) (placements_of (piece_of places))
+                ∙ filter_above-next placement_cmp placement_cmp-total last held q held-list.rising e
+                ∙ ap (λ l. q ∷ l) (sym (filter-both (holds places) (is_above placement_cmp (Some q)) (placements_of (piece_of places)))),
+            subst (λ p. may_lock F p q ≡ true) (sym kind) lock,
+            subst (λ p. may_play line p ≡ true) (sym kind) permitted,
+          )
+
+-- what a flood holds is the places, in order
+pub flooded-places : (table : Table) (F : Field) (mode : DropMode) (piece : Piece) (places : Places) → piece_of places ≡ piece →
+    ((q : Placement) → (holds places q ≡ true) ↔ ((q.piece ≡ piece) × IsPlace table F mode q)) → (n : Position) → n.table ≡ table → n.mode ≡ mode → n.field ≡ F →
+    places_left (Some places) None ≡ places_at n piece
+unfolding places_left places_at
+flooded-places table F mode piece places kind held n t m f =
+    ap (λ p. filter (λ q. holds places q && true) (placements_of p)) kind
+    ∙ filter-same (λ q. holds places q && true) (is_place table F mode) (placements_of piece) each
+    ∙ sym (λ i. filter (is_place (t i) (f i) (m i)) (placements_of piece))
+  where
+    and_true : (b : Bool) → (b && true) ≡ b
+    and_true true = refl
+    and_true false = refl
+
+    each : (q : Placement) → Contains (placements_of piece) q → (holds places q && true) ≡ is_place table F mode q
+    each q among =
+        let of_kind : q.piece ≡ piece = (((placements_of-list piece).members q).0 among).kind in
+        and_true (holds places q)
+        ∙ one_answer {P = IsPlace table F mode q} (holds places q) (is_place table F mode q)
+        (λ h. ((held q).0 h).1, λ place. (held q).1 (of_kind, place)) (place-decides table F mode q)
+
+pub flooded-lockable : (table : Table) (F : Field) (mode : DropMode) (piece : Piece) (places : Places) → piece_of places ≡ piece →
+    ((q : Placement) → (holds places q ≡ true) ↔ ((q.piece ≡ piece) × IsPlace table F mode q)) → Lockable F places
+flooded-lockable table F mode piece places kind held q is_held =
+    let both = (held q).0 is_held in
+    place-lockable table F mode (piece_of places) q (both.0 ∙ sym kind) both.1
+
+-- ---- entering
+
+pub enters-blocked : (frame : Frame) (q : Placement) → is_below frame.rows q ≡ false → EntersAs frame q (λ table mode prefix. Tick ∷ [])
+unfolding entered position_of
+enters-blocked frame q blocked = record { same = λ table mode prefix. if_false (is_below frame.rows q) _ (Tick ∷ []) blocked }
+
+module _ (frame : Frame) (q : Placement) (below : is_below frame.rows q ≡ true) where
+  pub enters-full : frame.left ≡ 0 → frame.rows - rows_removed (filled frame.well) q ≡ 0 → EntersAs frame q (λ table mode prefix. Found prefix ∷ [])
+  unfolding entered position_of enter after_of
+  enters-full none done = record {
+    same = λ table mode prefix.
+        if_true (is_below frame.rows q) (enter frame.left (prefix ++ q ∷ []) (after_of (position_of table mode frame) q)) (Tick ∷ []) below
+        ∙ ap (λ left. enter left (prefix ++ q ∷ []) (after_of (position_of table mode frame) q)) none
+        ∙ ap (λ e. e ∷ []) (if_true (frame.rows - rows_removed (filled frame.well) q == 0) (Found (prefix ++ q ∷ [])) Tick (eq-eqb _ 0 done));
+  }
+
+  pub enters-rows_left : frame.left ≡ 0 → (frame.rows - rows_removed (filled frame.well) q == 0) ≡ false → EntersAs frame q (λ table mode prefix. Tick ∷ [])
+  unfolding entered position_of enter after_of
+  enters-rows_left none more = record {
+    same = λ table mode prefix.
+        if_true (is_below frame.rows q) (enter frame.left (prefix ++ q ∷ []) (after_of (position_of table mode frame) q)) (Tick ∷ []) below
+        ∙ ap (λ left. enter left (prefix ++ q ∷ []) (after_of (position_of table mode frame) q)) none
+        ∙ ap (λ e. e ∷ []) (if_false (frame.rows - rows_removed (filled frame.well) q == 0) (Found (prefix ++ q ∷ [])) Tick more);
+  }
+
+  -- the frame after a placement stands for the position there
+  module _ (child : Frame) (field : filled child.well ≡ locked (filled frame.well) q) (rows : child.rows ≡ frame.rows - rows_removed (filled frame.well) q)
+      (line : line_of child.queues ≡ record (line_of frame.queues) { played = (line_of frame.queues).played ++ q.piece ∷ [] }) where
+    child-position : (table : Table) (mode : DropMode) → position_of table mode child ≡ after_of (position_of table mode frame) q
+    unfolding position_of after_of
+    child-position table mode = λ i. record { table = table; mode = mode; field = field i; rows = rows i; line = line i }
+
+    pub is_child : child.left + 1 ≡ frame.left → child.tried ≡ 0 → child.places ≡ None → ((table : Table) (mode : DropMode) → is_live child.left (position_of table mode child) ≡ true) → IsChild frame q child
+    is_child left tried places live = record { left = left; below = below; position = child-position; live = live; tried = tried; places = places }
+
+    pub enters-child : child.left + 1 ≡ frame.left → child.tried ≡ 0 → child.places ≡ None → ((table : Table) (mode : DropMode) → is_live child.left (position_of table mode child) ≡ true) →
+        EntersAs frame q (λ table mode prefix. Tick ∷ events_of table mode prefix child)
+    unfolding entered enter events_of places_left position_of
+    enters-child left tried places live = record {
+      same = λ table mode prefix.
+          let next : Position = after_of (position_of table mode frame) q in
+          let depth : frame.left ≡ suc child.left = omega (arith, left) in
+          if_true (is_below frame.rows q) (enter frame.left (prefix ++ q ∷ []) next) (Tick ∷ []) below
+          ∙ ap (λ left. enter left (prefix ++ q ∷ []) next) depth
+          ∙ ap (λ l. Tick ∷ l)
+          (if_true (is_live child.left next) (level (enter child.left) (prefix ++ q ∷ []) next all_pieces) [] (subst (λ n. is_live child.left n ≡ true) (child-position table mode) (live table mode))
+          ∙ sym (λ i. level (enter child.left) (prefix ++ q ∷ []) (child-position table mode i) all_pieces)
+          ∙ ap (λ k. level (enter child.left) (prefix ++ q ∷ []) (position_of table mode child) (drop k all_pieces)) (sym tried)
+          ∙ ap (λ p. flat_map (entered (enter child.left) (prefix ++ q ∷ []) (position_of table mode child)) (places_left p child.entered)
+          ++ level (enter child.left) (prefix ++ q ∷ []) (position_of table mode child) (drop child.tried all_pieces)) (sym places));
+    }
+
+    pub enters-dead : child.left + 1 ≡ frame.left → ((table : Table) (mode : DropMode) → is_live child.left (position_of table mode child) ≡ false) →
+        EntersAs frame q (λ table mode prefix. Tick ∷ [])
+    unfolding entered enter position_of
+    enters-dead left dead = record {
+      same = λ table mode prefix.
+          let next : Position = after_of (position_of table mode frame) q in
+          let depth : frame.left ≡ suc child.left = omega (arith, left) in
+          if_true (is_below frame.rows q) (enter frame.left (prefix ++ q ∷ []) next) (Tick ∷ []) below
+          ∙ ap (λ left. enter left (prefix ++ q ∷ []) next) depth
+          ∙ ap (λ l. Tick ∷ l)
+          (if_false (is_live child.left next) (level (enter child.left) (prefix ++ q ∷ []) next all_pieces) [] (subst (λ n. is_live child.left n ≡ false) (child-position table mode) (dead table mode)));
+    }
+
+-- ---- trying kinds, and a whole turn
+
+events-shape : (table : Table) (mode : DropMode) (frame : Frame) (prefix : List Placement) → places_left frame.places frame.entered ≡ [] →
+    events_of table mode prefix frame ≡ level (enter frame.left) prefix (position_of table mode frame) (drop frame.tried all_pieces)
+unfolding events_of
+events-shape table mode frame prefix none =
+    ap (λ l. flat_map (entered (enter frame.left) prefix (position_of table mode frame)) l ++ level (enter frame.left) prefix (position_of table mode frame) (drop frame.tried all_pieces)) none
+
+level-cons : (walk : Walk) (prefix : List Placement) (n : Position) (c : Piece) (cs : List Piece) → level walk prefix n (c ∷ cs) ≡ tried walk prefix n c ++ level walk prefix n cs
+unfolding level
+level-cons walk prefix n c cs = append_assoc (tried walk prefix n c) (flat_map (tried walk prefix n) cs) (Tick ∷ [])
+
+level-nil : (walk : Walk) (prefix : List Placement) (n : Position) → level walk prefix n [] ≡ Tick ∷ []
+unfolding level
+level-nil walk prefix n = refl
+
+-- the queues answer whether a kind may be played
+pub may_play-answer : (line : Line) (c : Piece) (r : Bool) → ((r ≡ true) ↔ LinePermits line (line.played ++ c ∷ [])) → may_play line c ≡ r
+unfolding may_play
+may_play-answer line c r answer = one_answer {P = LinePermits line (line.played ++ c ∷ [])} (line_permits line (line.played ++ c ∷ [])) r (permits-decides line (line.played ++ c ∷ [])) answer
+
+pub goes-over : (table : Table) (mode : DropMode) (frame : Frame) → places_left frame.places frame.entered ≡ [] → drop frame.tried all_pieces ≡ [] → GoesAs table mode frame (λ prefix. Tick ∷ [])
+goes-over table mode frame none last = record {
+  same = λ prefix.
+      events-shape table mode frame prefix none
+      ∙ ap (level (enter frame.left) prefix (position_of table mode frame)) last
+      ∙ level-nil (enter frame.left) prefix (position_of table mode frame);
+}
+
+-- two frames at one position
+pub same-position : (table : Table) (mode : DropMode) (old new : Frame) → SamePosition old new → position_of table mode new ≡ position_of table mode old
+unfolding position_of
+same-position table mode old new same = λ i. record { table = table; mode = mode; field = filled (same.well i); rows = same.rows i; line = line_of (same.queues i) }
+
+module _ (table : Table) (mode : DropMode) (old new : Frame) (same : SamePosition old new) (c : Piece)
+    (none : places_left old.places old.entered ≡ []) (next : drop old.tried all_pieces ≡ c ∷ drop new.tried all_pieces) where
+  begins : (prefix : List Placement) → events_of table mode prefix old
+      ≡ tried (enter old.left) prefix (position_of table mode old) c ++ level (enter old.left) prefix (position_of table mode old) (drop new.tried all_pieces)
+  begins prefix =
+      events-shape table mode old prefix none
+      ∙ ap (level (enter old.left) prefix (position_of table mode old)) next
+      ∙ level-cons (enter old.left) prefix (position_of table mode old) c (drop new.tried all_pieces)
+
+  rest-same : (prefix : List Placement) → level (enter new.left) prefix (position_of table mode new) (drop new.tried all_pieces) ≡ level (enter old.left) prefix (position_of table mode old) (drop new.tried all_pieces)
+  rest-same prefix = λ i. level (enter (same.left i)) prefix (same-position table mode old new same i) (drop new.tried all_pieces)
+
+  pub goes-past_kind : may_play (line_of old.queues) c ≡ false → places_left new.places new.entered ≡ [] → GoesAs table mode old (λ prefix. Tick ∷ events_of table mode prefix new)
+  unfolding tried position_of
+  goes-past_kind not_played none_new = record {
+    same = λ prefix.
+        begins prefix
+        ∙ ap (λ l. l ++ level (enter old.left) prefix (position_of table mode old) (drop new.tried all_pieces)) (if_false (may_play (line_of old.queues) c) _ (Tick ∷ []) not_played)
+        ∙ ap (λ l. Tick ∷ l) (sym (events-shape table mode new prefix none_new ∙ rest-same prefix));
+  }
+
+  pub goes-flooded : may_play (line_of old.queues) c ≡ true → places_left new.places new.entered ≡ places_at (position_of table mode old) c → GoesAs table mode old (λ prefix. Flood ∷ events_of table mode prefix new)
+  unfolding tried position_of events_of
+  goes-flooded played places = record {
+    same = λ prefix.
+        begins prefix
+        ∙ ap (λ l. l ++ level (enter old.left) prefix (position_of table mode old) (drop new.tried all_pieces))
+        (if_true (may_play (line_of old.queues) c) (Flood ∷ flat_map (entered (enter old.left) prefix (position_of table mode old)) (places_at (position_of table mode old) c)) (Tick ∷ []) played)
+        ∙ ap (λ l. Flood ∷ l)
+        (sym ((λ i. flat_map (entered (enter (same.left i)) prefix (same-position table mode old new same i)) (places i)
+        ++ level (enter (same.left i)) prefix (same-position table mode old new same i) (drop new.tried all_pieces))));
+  }
+
+-- the next placement is entered
+module _ (table : Table) (mode : DropMode) (old new : Frame) (same : SamePosition old new) (q : Placement)
+    (first : places_left old.places old.entered ≡ q ∷ places_left new.places new.entered) (kinds : new.tried ≡ old.tried) (step : new.entered ≡ Some q) where
+  pub goes-entered : (events : Table → DropMode → List Placement → List Event) → EntersAs new q events →
+      GoesAs table mode old (λ prefix. events table mode (prefix ++ step_of new) ++ events_of table mode prefix new)
+  unfolding events_of
+  goes-entered events enters = record {
+    same = λ prefix.
+        (λ i. flat_map (entered (enter (left i)) prefix (position i)) (first i) ++ level (enter (left i)) prefix (position i) (drop (kinds' i) all_pieces))
+        ∙ append_assoc (entered (enter new.left) prefix (position_of table mode new) q) (flat_map (entered (enter new.left) prefix (position_of table mode new)) (places_left new.places new.entered)) (level (enter new.left) prefix (position_of table mode new) (drop new.tried all_pieces))
+        ∙ ap (λ l. l ++ (flat_map (entered (enter new.left) prefix (position_of table mode new)) (places_left new.places new.entered) ++ level (enter new.left) prefix (position_of table mode new) (drop new.tried all_pieces)))
+        (enters.same table mode prefix ∙ ap (λ s. events table mode (prefix ++ s)) (sym step-is));
+  }
+    where
+      left : old.left ≡ new.left
+      left = sym same.left
+
+      kinds' : old.tried ≡ new.tried
+      kinds' = sym kinds
+
+      position : position_of table mode old ≡ position_of table mode new
+      position = sym (same-position table mode old new same)
+
+      step-is : step_of new ≡ q ∷ []
+      step-is = ap option_to_list step
+
+pub line-permits : (line : Line) (c : Piece) → may_play line c ≡ true → LinePermits line (line.played ++ c ∷ [])
+unfolding may_play
+line-permits line c played = (permits-decides line (line.played ++ c ∷ [])).0 played
+
+pub not-zero : (k : ℕ) → (k ≡ 0 → ⊥) → (k == 0) ≡ false
+not-zero k differs = elim (cases_Bool (k == 0)) [
+  | inl same ↦ absurd (differs (eqb-true k 0 same))
+  | inr e ↦ e
+]
+
+-- what is left of a flood's places is of its piece
+pub places_left-piece : (places : Places) (last : Option Placement) (q : Placement) (rest : List Placement) → places_left (Some places) last ≡ q ∷ rest → q.piece ≡ piece_of places
+unfolding places_left
+places_left-piece places last q rest e =
+    let among : Contains (places_left (Some places) last) q = subst (λ l. Contains l q) (sym e) (Contains-here q rest) in
+    (((placements_of-list (piece_of places)).members q).0 (Contains-from_filter (λ q. holds places q && is_above placement_cmp last q) (placements_of (piece_of places)) q among).0).kind
+
+-- a turn that enters a placement
+pub enters-turn : (table : Table) (mode : DropMode) (old new : Frame) (same : SamePosition old new) (q : Placement)
+    (first : places_left old.places old.entered ≡ q ∷ places_left new.places new.entered) (kinds : new.tried ≡ old.tried) (step : new.entered ≡ Some q)
+    (result : Turn) (steps : ℕ) → Enters new q result → Turns table mode old new result steps steps
+enters-turn table mode old new same q first kinds step Passed steps enters = (goes-entered table mode old new same q first kinds step (λ table mode prefix. Tick ∷ []) enters, refl)
+enters-turn table mode old new same q first kinds step Flooded steps enters = absurd enters
+enters-turn table mode old new same q first kinds step (Entered child) steps enters =
+    (goes-entered table mode old new same q first kinds step (λ table mode prefix. Tick ∷ events_of table mode prefix child) enters.0, refl, enters.1.left ∙ same.left)
+enters-turn table mode old new same q first kinds step Full steps enters = (goes-entered table mode old new same q first kinds step (λ table mode prefix. Found prefix ∷ []) enters, refl)
+enters-turn table mode old new same q first kinds step Over steps enters = absurd enters
+
+pub record-same : (a b c : Frame) → b.well ≡ a.well → b.rows ≡ a.rows → b.queues ≡ a.queues → b.left ≡ a.left → SamePosition b c → SamePosition a c
+record-same a b c well rows queues left same = record { well = same.well ∙ well; rows = same.rows ∙ rows; queues = same.queues ∙ queues; left = same.left ∙ left }

@@ -1,0 +1,108 @@
+-- What a walk finds is the list of solutions from its position on, each after the prefix.
+use Rattle.std.proofs.Common.{◌≡◌, ◌⊎◌, ℕ, zero, suc, ◌+◌, ◌≤◌, Bool, true, false, ◌&&◌, List, [], ◌∷◌, ◌++◌, map, refl, sym, ap, subst, ◌∙◌, arith, append_assoc}
+use Rattle.std.specs.Prelude.{◌==◌, if◌then◌else◌}
+use Rattle.std.specs.List.{flat_map}
+use Rattle.std.proofs.lemmas.List.{append-nil, map-append}
+use Rattle.srs.specs.declared.piece.Piece.{Piece}
+use Rattle.srs.specs.declared.placement.Placement.{Placement}
+use Rattle.srs.specs.Piece.{all_pieces}
+use Rattle.well.specs.LockLaws.{is_below}
+use Rattle.enumerate.specs.Position.{Position, after_of, may_play, places_at, is_live}
+use Rattle.enumerate.specs.Events.{Event, Tick, Flood, Found, found, floods, Walk, entered, tried, level, enter, begun}
+use Rattle.enumerate.proofs.Solutions.{Sequences, of_place, of_kind, sols}
+use Rattle.enumerate.proofs.Tests.{by_test}
+
+pub found-append : (xs ys : List Event) → found (xs ++ ys) ≡ found xs ++ found ys
+unfolding found
+found-append [] ys = refl
+found-append (Tick ∷ xs) ys = found-append xs ys
+found-append (Flood ∷ xs) ys = found-append xs ys
+found-append (Found s ∷ xs) ys = ap (λ l. s ∷ l) (found-append xs ys)
+
+pub floods-append : (xs ys : List Event) → floods (xs ++ ys) ≡ floods xs + floods ys
+unfolding floods
+floods-append [] ys = omega arith
+floods-append (Tick ∷ xs) ys = floods-append xs ys
+floods-append (Flood ∷ xs) ys = omega (arith, floods-append xs ys)
+floods-append (Found s ∷ xs) ys = floods-append xs ys
+
+-- each of these sequences after a prefix
+unfoldable pub prefixed : List Placement → List (List Placement) → List (List Placement)
+prefixed prefix l = map (λ s. prefix ++ s) l
+
+pub prefixed-append : (prefix : List Placement) (k l : List (List Placement)) → prefixed prefix (k ++ l) ≡ prefixed prefix k ++ prefixed prefix l
+unfolding prefixed
+prefixed-append prefix k l = map-append (λ s. prefix ++ s) k l
+
+pub prefixed-cons : (prefix : List Placement) (q : Placement) (l : List (List Placement)) → prefixed (prefix ++ q ∷ []) l ≡ prefixed prefix (map (λ s. q ∷ s) l)
+unfolding prefixed
+prefixed-cons prefix q [] = refl
+prefixed-cons prefix q (s ∷ l) = (λ i. append_assoc prefix (q ∷ []) s i ∷ prefixed-cons prefix q l i)
+
+pub prefixed-nil : (l : List (List Placement)) → prefixed [] l ≡ l
+unfolding prefixed
+prefixed-nil [] = refl
+prefixed-nil (s ∷ l) = ap (λ l. s ∷ l) (prefixed-nil l)
+
+-- a walk finds these sequences
+pub record Finds (walk : Walk) (S : Sequences) : Type 0 where
+  pub same : (prefix : List Placement) (n : Position) → found (walk prefix n) ≡ prefixed prefix (S n)
+
+module _ (walk : Walk) (S : Sequences) (finds : Finds walk S) (prefix : List Placement) (n : Position) where
+  found-entered : (q : Placement) → found (entered walk prefix n q) ≡ prefixed prefix (of_place S n q)
+  unfolding entered of_place found prefixed
+  found-entered q = at (is_below n.rows q)
+    where
+      at : (b : Bool) → found (if b then walk (prefix ++ q ∷ []) (after_of n q) else Tick ∷ []) ≡ prefixed prefix (if b then map (λ s. q ∷ s) (S (after_of n q)) else [])
+      at true = finds.same (prefix ++ q ∷ []) (after_of n q) ∙ prefixed-cons prefix q (S (after_of n q))
+      at false = refl
+
+  pub found-places : (qs : List Placement) → found (flat_map (entered walk prefix n) qs) ≡ prefixed prefix (flat_map (of_place S n) qs)
+  unfolding found prefixed
+  found-places [] = refl
+  found-places (q ∷ qs) =
+      found-append (entered walk prefix n q) (flat_map (entered walk prefix n) qs)
+      ∙ (λ i. found-entered q i ++ found-places qs i)
+      ∙ sym (prefixed-append prefix (of_place S n q) (flat_map (of_place S n) qs))
+
+  found-tried : (piece : Piece) → found (tried walk prefix n piece) ≡ prefixed prefix (of_kind S n piece)
+  unfolding tried of_kind found prefixed
+  found-tried piece = at (may_play n.line piece)
+    where
+      at : (b : Bool) → found (if b then Flood ∷ flat_map (entered walk prefix n) (places_at n piece) else Tick ∷ []) ≡ prefixed prefix (if b then flat_map (of_place S n) (places_at n piece) else [])
+      at true = found-places (places_at n piece)
+      at false = refl
+
+  found-kinds : (pieces : List Piece) → found (flat_map (tried walk prefix n) pieces) ≡ prefixed prefix (flat_map (of_kind S n) pieces)
+  unfolding found prefixed
+  found-kinds [] = refl
+  found-kinds (piece ∷ pieces) =
+      found-append (tried walk prefix n piece) (flat_map (tried walk prefix n) pieces)
+      ∙ (λ i. found-tried piece i ++ found-kinds pieces i)
+      ∙ sym (prefixed-append prefix (of_kind S n piece) (flat_map (of_kind S n) pieces))
+
+  pub found-level : (pieces : List Piece) → found (level walk prefix n pieces) ≡ prefixed prefix (flat_map (of_kind S n) pieces)
+  unfolding level found
+  found-level pieces =
+      found-append (flat_map (tried walk prefix n) pieces) (Tick ∷ [])
+      ∙ append-nil (found (flat_map (tried walk prefix n) pieces))
+      ∙ found-kinds pieces
+
+found-leaf : (b : Bool) (prefix : List Placement) → found ((if b then Found prefix else Tick) ∷ []) ≡ prefixed prefix (if b then [] ∷ [] else [])
+unfolding found prefixed
+found-leaf true prefix = ap (λ s. s ∷ []) (sym (append-nil prefix))
+found-leaf false prefix = refl
+
+pub found-if_live : (b : Bool) (prefix : List Placement) (events : List Event) (l : List (List Placement)) → found events ≡ prefixed prefix l → found (if b then events else []) ≡ prefixed prefix (if b then l else [])
+unfolding found prefixed
+found-if_live true prefix events l e = e
+found-if_live false prefix events l e = refl
+
+pub finds-enter : (left : ℕ) → Finds (enter left) (sols left)
+unfolding enter sols found
+finds-enter zero = record { same = λ prefix n. found-leaf (n.rows == 0) prefix }
+finds-enter (suc left) = record {
+  same = λ prefix n.
+      found-if_live (is_live left n) prefix (level (enter left) prefix n all_pieces) (flat_map (of_kind (sols left) n) all_pieces)
+      (found-level (enter left) (sols left) (finds-enter left) prefix n all_pieces);
+}

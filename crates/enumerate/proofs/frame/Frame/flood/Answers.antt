@@ -1,0 +1,31 @@
+-- What the flood holds is the places of the kind, in order.
+use Rattle.std.proofs.Common.{◌≡◌, refl, sym, subst}
+use Rattle.std.specs.Prelude.{Some, true}
+use Rattle.srs.specs.declared.piece.Piece.{Piece}
+use Rattle.srs.specs.Rules.{table_of}
+use Rattle.srs.proofs.MemberLemmas.{some_same}
+use Rattle.well.specs.Well.{filled}
+use Rattle.reach.specs.Places.{piece_of}
+use Rattle.hold_queue.specs.QueueSet.{line_of}
+use Rattle.enumerate.specs.Frames.{places_left, position_of}
+use Rattle.enumerate.specs.Position.{may_play}
+use Rattle.enumerate.proofs.TurnLemmas.{Lockable, flooded-lockable, flooded-places}
+use Rattle.enumerate.proofs.frame.Frame.flood.Goals as goal
+
+pub invariant_of-self : goal.invariant_of-self
+invariant_of-self g c = record {
+  lockable = λ x is. subst (λ p. Lockable (filled c.args.self.now.well) p) (some_same is)
+      (flooded-lockable (table_of c.args.rules.now) (filled c.args.self.now.well) c.args.drop_mode c.args.piece c.places.result c.places.ensures.piece c.places.ensures.held);
+  permitted = λ x is. subst (λ p. may_play (line_of c.args.self.now.queues) (piece_of p) ≡ true) (some_same is)
+      (subst (λ p. may_play (line_of c.args.self.now.queues) p ≡ true) (sym c.places.ensures.piece) c.requires);
+  same_piece = λ x is q none. cc;
+}
+
+pub returns-clause-places : goal.returns-clause-places
+unfolding position_of
+returns-clause-places g c =
+    flooded-places (table_of c.args.rules.now) (filled c.args.self.now.well) c.args.drop_mode c.args.piece c.places.result c.places.ensures.piece c.places.ensures.held
+    (position_of (table_of c.args.rules.now) c.args.drop_mode c.args.self.now) refl refl refl
+
+pub returns-clause-piece : goal.returns-clause-piece
+returns-clause-piece g c = λ x is. subst (λ p. piece_of p ≡ c.args.piece) (some_same is) c.places.ensures.piece

@@ -1,0 +1,22 @@
+-- The next placement is entered, or the next kind is tried.
+use Rattle.std.proofs.Common.{◌≡◌, ◌∷◌, refl, sym, ◌∙◌, ap, subst}
+use Rattle.std.specs.Prelude.{Option, Some}
+use Rattle.srs.proofs.MemberLemmas.{some_same}
+use Rattle.reach.specs.declared.held.Places.{Places}
+use Rattle.reach.specs.Places.{piece_of}
+use Rattle.enumerate.specs.Frames.{places_left}
+use Rattle.enumerate.proofs.TurnLemmas.{enters-turn, places_left-piece}
+use Rattle.enumerate.proofs.frame.Frame.turn.Goals as goal
+
+pub invariant_of-self : goal.invariant_of-self
+invariant_of-self g c = record {
+  lockable = c.args.self.now.lockable;
+  permitted = c.args.self.now.permitted;
+  same_piece = λ places is q is_q.
+      let first = subst (λ (p : Option Places). places_left p c.args.self.now.entered ≡ c.in-Some.placement ∷ places_left p (Some c.in-Some.placement)) is c.in-Some.ensures.0 in
+      subst (λ q. q.piece ≡ piece_of places) (some_same is_q) (places_left-piece places c.args.self.now.entered c.in-Some.placement _ first);
+}
+
+pub returns-in-Some-clause-turn : goal.returns-in-Some-clause-turn
+returns-in-Some-clause-turn g c =
+    enters-turn _ _ c.args.self.now _ record { well = refl; rows = refl; queues = refl; left = refl } c.in-Some.placement c.in-Some.ensures.0 refl refl c.enter.result _ c.enter.ensures

@@ -1,0 +1,32 @@
+-- What comes before the start is passed by where that is still to be done, and then the frames go on.
+use Rattle.std.proofs.Common.{[], ◌≡◌, ◌≤◌, ◌+◌, refl, sym, ◌∙◌, arith, take}
+use Rattle.srs.specs.Rules.{table_of}
+use Rattle.enumerate.specs.Items.{items_of}
+use Rattle.enumerate.specs.Frames.{stacked}
+use Rattle.enumerate.specs.Rest.{rest_from}
+use Rattle.enumerate.specs.Seeks.{SkipsTo}
+use Rattle.enumerate.proofs.SearchLemmas.{finds-same, moved-skips, pending-skips, standing-skips}
+use Rattle.enumerate.proofs.start.go_on.Given.{Over}
+use Rattle.enumerate.proofs.start.go_on.Goals as goal
+use Rattle.enumerate.proofs.start.go_on.Goals.{After-advance, then-pending, else-pending}
+
+passed : (g : Over) (c : After-advance g) → SkipsTo
+    (rest_from c.args.problem.now (items_of c.args.queue.now) (items_of c.args.after.now) c.args.pending (take c.args.depth c.args.frames.now))
+    (stacked (table_of c.args.problem.now.rules) c.args.problem.now.drop_mode [] (take c.if-pending.depth c.if-pending.frames)) c.args.steps.now c.if-pending.steps
+passed g c = elim c.if-pending.branch [
+  | then-pending w ↦
+      moved-skips (table_of c.args.problem.now.rules) c.args.problem.now.drop_mode _ _ _ _ _ c.args.steps.now _ _ w.frames-is w.depth-is w.steps-is
+      (pending-skips c.args.problem.now (items_of c.args.queue.now) (items_of c.args.after.now) c.args.pending (take c.args.depth c.args.frames.now) _ c.args.steps.now _ w.if-pending.true w.begin-depth.ensures.skips)
+  | else-pending w ↦
+      moved-skips (table_of c.args.problem.now.rules) c.args.problem.now.drop_mode _ _ _ _ _ c.args.steps.now _ _ w.frames-is w.depth-is w.steps-is
+      (standing-skips c.args.problem.now (items_of c.args.queue.now) (items_of c.args.after.now) c.args.pending (take c.args.depth c.args.frames.now) c.args.steps.now w.if-pending.false)
+]
+
+pub returns-clause-found : goal.returns-clause-found
+returns-clause-found g c = let skips = passed g c in finds-same _ _ _ _ _ skips.same c.advance.ensures.found
+
+pub returns-clause-counted : goal.returns-clause-counted
+returns-clause-counted g c = let skips = passed g c in skips.counted ∙ c.advance.ensures.counted
+
+pub returns-clause-fewer : goal.returns-clause-fewer
+returns-clause-fewer g c = let skips = passed g c in omega (arith, skips.fewer, c.advance.ensures.fewer)

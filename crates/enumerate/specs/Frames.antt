@@ -1,0 +1,57 @@
+-- What frames stand for: the events that are still to come.
+use Rattle.std.specs.Prelude.{◌≡◌, ℕ, suc, ◌+◌, Bool, true, ◌&&◌, IsTrue, Option, Some, None, List, [], ◌∷◌, ◌++◌, filter, drop, nat_le}
+use Rattle.std.specs.List.{flat_map}
+use Rattle.std.specs.Option.{option_to_list}
+use Rattle.srs.specs.declared.placement.Placement.{Placement}
+use Rattle.srs.specs.Kick.{Table}
+use Rattle.srs.specs.Piece.{all_pieces}
+use Rattle.srs.specs.Order.{placement_cmp}
+use Rattle.srs.specs.Placements.{placements_of}
+use Rattle.srs.specs.Rising.{is_above}
+use Rattle.well.specs.Well.{filled}
+use Rattle.moves.specs.declared.key.DropMode.{DropMode}
+use Rattle.reach.specs.declared.held.Places.{Places}
+use Rattle.reach.specs.Places.{holds, piece_of}
+use Rattle.hold_queue.specs.QueueSet.{line_of}
+use Rattle.enumerate.specs.declared.frame.Frame.{Frame}
+use Rattle.enumerate.specs.Position.{Position}
+use Rattle.enumerate.specs.Events.{Event, entered, level, enter}
+
+unfoldable pub position_of : Table → DropMode → Frame → Position
+position_of table mode frame = record {
+  table = table;
+  mode = mode;
+  field = filled frame.well;
+  rows = frame.rows;
+  line = line_of frame.queues;
+}
+
+-- the held placements above the one that was entered last
+unfoldable pub places_left : Option Places → Option Placement → List Placement
+places_left None last = []
+places_left (Some places) last = filter (λ q. holds places q && is_above placement_cmp last q) (placements_of (piece_of places))
+
+-- the placement that was entered last, as a sequence
+abbrev pub step_of : Frame → List Placement
+step_of frame = option_to_list frame.entered
+
+-- what is still to be done at a frame
+unfoldable pub events_of : Table → DropMode → List Placement → Frame → List Event
+events_of table mode prefix frame =
+    flat_map (entered (enter frame.left) prefix (position_of table mode frame)) (places_left frame.places frame.entered)
+    ++ level (enter frame.left) prefix (position_of table mode frame) (drop frame.tried all_pieces)
+
+-- what is still to be done at frames, from the first position on: the deepest one comes first
+unfoldable pub stacked : Table → DropMode → List Placement → List Frame → List Event
+stacked table mode prefix [] = []
+stacked table mode prefix (frame ∷ frames) =
+    stacked table mode (prefix ++ step_of frame) frames ++ events_of table mode prefix frame
+
+-- the placements that lead to the deepest frame, and the one entered there
+unfoldable pub path_of : List Frame → List Placement
+path_of frames = flat_map step_of frames
+
+-- there is room for the frames below
+unfoldable pub has_room : ℕ → List Frame → Bool
+has_room depth [] = true
+has_room depth (frame ∷ frames) = nat_le (frame.left + depth) 19 && has_room (suc depth) frames

@@ -1,0 +1,59 @@
+-- Positions of a search: the rules, a field, the rows that are left, and the queues with the pieces that were played.
+use Rattle.std.specs.Prelude.{ℕ, ◌-◌, Bool, true, Option, Some, None, List, [], ◌∷◌, ◌++◌, filter}
+use Rattle.lane_board.specs.Field.{Field}
+use Rattle.srs.specs.declared.piece.Piece.{Piece}
+use Rattle.srs.specs.declared.placement.Placement.{Placement}
+use Rattle.srs.specs.Kick.{Table}
+use Rattle.srs.specs.Rules.{table_of}
+use Rattle.srs.specs.Placements.{placements_of}
+use Rattle.well.specs.Well.{filled}
+use Rattle.well.specs.Lock.{locked, rows_removed}
+use Rattle.moves.specs.declared.key.DropMode.{DropMode}
+use Rattle.moves.specs.PlaceTest.{is_place}
+use Rattle.queue_pattern.specs.Pattern.{elements_of}
+use Rattle.hold_queue.specs.QueueSet.{Line, line_permits, singles}
+use Rattle.enumerate.specs.declared.problem.Problem.{Problem}
+
+pub record Position : Type 0 where
+  pub table : Table
+  pub mode : DropMode
+  pub field : Field
+  pub rows : ℕ
+  pub line : Line
+
+-- the position after one more placement
+unfoldable pub after_of : Position → Placement → Position
+after_of n q = record {
+  table = n.table;
+  mode = n.mode;
+  field = locked n.field q;
+  rows = n.rows - rows_removed n.field q;
+  line = record n.line { played = n.line.played ++ q.piece ∷ [] };
+}
+
+-- some queue permits the played pieces and then this one
+unfoldable pub may_play : Line → Piece → Bool
+may_play line piece = line_permits line (line.played ++ piece ∷ [])
+
+-- the placements of a piece that legal keys reach, in order
+unfoldable pub places_at : Position → Piece → List Placement
+places_at n piece = filter (is_place n.table n.field n.mode) (placements_of piece)
+
+-- whether a position with so many placements to come is worth a look: for now each is
+unfoldable pub is_live : ℕ → Position → Bool
+is_live left n = true
+
+-- the queues that count, with nothing played: one of them alone, or all of the pattern
+abbrev pub line_at : Problem → Option (List Piece) → Line
+line_at problem None = record { elements = elements_of problem.pattern; hold = problem.hold; held = problem.held; played = [] }
+line_at problem (Some queue) = record { elements = singles queue; hold = problem.hold; held = problem.held; played = [] }
+
+-- the position at which a search begins
+unfoldable pub root_of : Problem → Option (List Piece) → Position
+root_of problem queue = record {
+  table = table_of problem.rules;
+  mode = problem.drop_mode;
+  field = filled problem.well;
+  rows = problem.height;
+  line = line_at problem queue;
+}

@@ -1,0 +1,56 @@
+-- What a turn at a frame does to the events that are still to come.
+use Rattle.std.specs.Prelude.{◌≡◌, ℕ, ◌+◌, true, None, List, [], ◌∷◌, ◌++◌}
+use Rattle.srs.specs.declared.placement.Placement.{Placement}
+use Rattle.srs.specs.Kick.{Table}
+use Rattle.moves.specs.declared.key.DropMode.{DropMode}
+use Rattle.enumerate.specs.declared.frame.Frame.{Frame}
+use Rattle.enumerate.specs.declared.turn.Turn.{Turn}
+use Rattle.enumerate.specs.declared.turn.Turn.TheVariants.{Passed, Flooded, Entered, Full, Over}
+use Rattle.well.specs.LockLaws.{is_below}
+use Rattle.enumerate.specs.Position.{after_of, is_live}
+use Rattle.enumerate.specs.Events.{Event, Tick, Flood, Found, entered, enter}
+use Rattle.enumerate.specs.Frames.{position_of, step_of, events_of}
+
+-- the two frames differ only in what was tried
+pub record SamePosition (old new : Frame) : Type 0 where
+  pub well : new.well ≡ old.well
+  pub rows : new.rows ≡ old.rows
+  pub queues : new.queues ≡ old.queues
+  pub left : new.left ≡ old.left
+
+-- what there is to do at a placement, whatever the rules, and after any prefix
+pub record EntersAs (frame : Frame) (q : Placement) (events : Table → DropMode → List Placement → List Event) : Type 0 where
+  pub same : (table : Table) (mode : DropMode) (prefix : List Placement) →
+      entered (enter frame.left) prefix (position_of table mode frame) q ≡ events table mode (prefix ++ q ∷ [])
+
+-- the frame after a placement, at which nothing was tried
+pub record IsChild (frame : Frame) (q : Placement) (child : Frame) : Type 0 where
+  pub left : child.left + 1 ≡ frame.left
+  pub below : is_below frame.rows q ≡ true
+  pub position : (table : Table) (mode : DropMode) → position_of table mode child ≡ after_of (position_of table mode frame) q
+  pub live : (table : Table) (mode : DropMode) → is_live child.left (position_of table mode child) ≡ true
+  pub tried : child.tried ≡ 0
+  pub places : child.places ≡ None
+
+abbrev pub Enters : Frame → Placement → Turn → Type 0
+Enters frame q Passed = EntersAs frame q (λ table mode prefix. Tick ∷ [])
+Enters frame q Flooded = ⊥
+Enters frame q (Entered child) = EntersAs frame q (λ table mode prefix. Tick ∷ events_of table mode prefix child) × IsChild frame q child
+Enters frame q Full = EntersAs frame q (λ table mode prefix. Found prefix ∷ [])
+Enters frame q Over = ⊥
+
+-- what there is to do at a frame, after any prefix
+pub record GoesAs (table : Table) (mode : DropMode) (frame : Frame) (events : List Placement → List Event) : Type 0 where
+  pub same : (prefix : List Placement) → events_of table mode prefix frame ≡ events prefix
+
+abbrev pub Turns : Table → DropMode → Frame → Frame → Turn → ℕ → ℕ → Type 0
+Turns table mode old new Passed before now =
+    GoesAs table mode old (λ prefix. Tick ∷ events_of table mode prefix new) × (now ≡ before)
+Turns table mode old new Flooded before now =
+    GoesAs table mode old (λ prefix. Flood ∷ events_of table mode prefix new) × (now ≡ before + 1)
+Turns table mode old new (Entered child) before now =
+    GoesAs table mode old (λ prefix. Tick ∷ (events_of table mode (prefix ++ step_of new) child ++ events_of table mode prefix new))
+    × (now ≡ before) × (child.left + 1 ≡ old.left)
+Turns table mode old new Full before now =
+    GoesAs table mode old (λ prefix. Found (prefix ++ step_of new) ∷ events_of table mode prefix new) × (now ≡ before)
+Turns table mode old new Over before now = GoesAs table mode old (λ prefix. Tick ∷ []) × (now ≡ before)

@@ -1,0 +1,89 @@
+// Frames go on to the next solution.
+ghost use Rattle.std.specs.Prelude.{◌≡◌, ℕ, ◌+◌, ◌<◌, ◌≤◌, Bool, true, IsTrue, MatchOption, [], ◌∷◌, length, nat_lt, take};
+ghost use Rattle.srs.specs.Rules.{table_of};
+ghost use Rattle.enumerate.specs.Events.{found, floods};
+ghost use Rattle.enumerate.specs.Frames.{has_room, path_of, stacked};
+ghost use Rattle.enumerate.specs.Walks.{Finds, IsTurn};
+
+use crate::frame::Frame;
+use crate::search::Sequence;
+use crate::turn::Turn;
+use moves::DropMode;
+use reach::Steps;
+use srs::Rules;
+use std::sync::ledger::Ledger;
+
+/// The placements that were entered last at these frames.
+pub fn path(frames: &[Frame]) -> Sequence
+    requires { length frames.now ≤ 20 }
+    ensures { result.items ≡ path_of frames.now }
+{
+    let mut sequence = Sequence::new();
+    for frame in frames {
+        if let Some(placement) = frame.entered {
+            sequence.push(placement);
+        }
+    }
+    sequence
+}
+
+/// One turn at the deepest of the frames in use: how many are in use afterwards, and whether a solution was completed.
+fn turn<L: Ledger>(
+    frames: &mut [Frame; 20],
+    depth: usize,
+    rules: &Rules,
+    drop_mode: DropMode,
+    steps: &mut Steps<L>,
+) -> (usize, bool)
+    requires some { 0 < depth }
+    requires within { depth ≤ 20 }
+    requires room { IsTrue (has_room 0 (take depth frames.old)) }
+    ensures within { result.0 ≤ 20 }
+    ensures solved { result.1 ≡ true → 0 < result.0 }
+    ensures turn { IsTurn (table_of rules.now) drop_mode (take depth frames.old) (take result.0 frames.new) steps.old steps.new result.1 }
+{
+    let top = depth - 1;
+    let frame = &mut frames[top];
+    match frame.turn(rules, drop_mode, steps) {
+        Turn::Passed => (depth, false),
+        Turn::Flooded => (depth, false),
+        Turn::Entered(child) => {
+            frames[depth] = child;
+            (depth + 1, false)
+        }
+        Turn::Full => (depth, true),
+        Turn::Over => (top, false),
+    }
+}
+
+/// Goes on to the next solution: how many frames are in use afterwards, which is 0 where no solution is left.
+pub fn advance<L: Ledger>(
+    frames: &mut [Frame; 20],
+    depth: usize,
+    rules: &Rules,
+    drop_mode: DropMode,
+    steps: &mut Steps<L>,
+) -> usize
+    requires within { depth ≤ 20 }
+    requires room { IsTrue (has_room 0 (take depth frames.old)) }
+    ensures within { result ≤ 20 }
+    ensures room { IsTrue (has_room 0 (take result frames.new)) }
+    ensures found { Finds
+        (found (stacked (table_of rules.now) drop_mode [] (take depth frames.old)))
+        (found (stacked (table_of rules.now) drop_mode [] (take result frames.new)))
+        (path_of (take result frames.new)) (nat_lt 0 result) }
+    ensures counted { floods (stacked (table_of rules.now) drop_mode [] (take depth frames.old)) + steps.old
+        ≡ floods (stacked (table_of rules.now) drop_mode [] (take result frames.new)) + steps.new }
+    ensures fewer { floods (stacked (table_of rules.now) drop_mode [] (take result frames.new))
+        ≤ floods (stacked (table_of rules.now) drop_mode [] (take depth frames.old)) }
+{
+    let mut depth = depth;
+    while depth > 0 {
+        let (next, found) = turn(frames, depth, rules, drop_mode, steps);
+        depth = next;
+        if found {
+            return depth;
+        }
+    }
+    0
+}

@@ -1,0 +1,32 @@
+// One level of the search: a position, and which of its next placements are still to be walked.
+ghost use Rattle.std.specs.Prelude.{◌≡◌, ℕ, IsTrue};
+ghost use Rattle.std.specs.Option.{ForSome};
+ghost use Rattle.srs.specs.declared.placement.Placement.{Placement};
+ghost use Rattle.well.specs.Well.{filled};
+ghost use Rattle.reach.specs.Places.{holds, piece_of};
+ghost use Rattle.hold_queue.specs.QueueSet.{line_of};
+ghost use Rattle.enumerate.specs.Position.{may_play};
+ghost use Rattle.enumerate.specs.Standing.{may_lock};
+
+use hold_queue::QueueSet;
+use reach::Places;
+use srs::Placement;
+use well::Well;
+
+/// A position, the kinds that were tried there, and the places of the last of them with the one that was entered last.
+#[derive(Clone, Copy)]
+pub struct Frame {
+    pub well: Well,
+    /// How many rows are left.
+    pub rows: u8,
+    pub queues: QueueSet,
+    /// How many placements come after the next one.
+    pub left: u8,
+    /// How many kinds were tried.
+    pub tried: u8,
+    pub places: Option<Places>,
+    pub entered: Option<Placement>,
+    ghost lockable: { ForSome places (λ p. (q : Placement) → IsTrue (holds p q) → IsTrue (may_lock (filled well) (piece_of p) q)) },
+    ghost permitted: { ForSome places (λ p. IsTrue (may_play (line_of queues) (piece_of p))) },
+    ghost same_piece: { ForSome places (λ p. ForSome entered (λ q. q.piece ≡ piece_of p)) },
+}

@@ -1,0 +1,16 @@
+// The search: all solutions of a problem, one after the other in rising order.
+#![tactic(auto)]
+
+mod advance;
+mod count;
+mod frame;
+pub mod laws;
+mod problem;
+mod search;
+mod seek;
+mod start;
+mod turn;
+
+pub use count::needed;
+pub use problem::Problem;
+pub use search::{Search, Sequence};

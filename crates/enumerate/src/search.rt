@@ -1,0 +1,39 @@
+// The search for solutions.
+ghost use Rattle.std.specs.Prelude.{◌≡◌, ℕ, ◌≤◌, IsTrue, filter, take, None};
+ghost use Rattle.srs.specs.Order.{sequence_cmp};
+ghost use Rattle.srs.specs.Rising.{is_above};
+ghost use Rattle.enumerate.specs.Problem.{IsFit};
+ghost use Rattle.enumerate.specs.Events.{found, floods};
+ghost use Rattle.enumerate.specs.Frames.{has_room};
+ghost use Rattle.enumerate.specs.Items.{items_of};
+ghost use Rattle.enumerate.specs.Rest.{rest_from, whole_from};
+
+use crate::frame::Frame;
+use crate::problem::Problem;
+use arrayvec::ArrayVec;
+use queue_pattern::Queue;
+use srs::Placement;
+
+/// The placements of a solution, the first one first.
+pub type Sequence = ArrayVec<Placement, 22>;
+
+/// A search for the solutions of a problem, in rising order.
+#[derive(Drop)]
+pub struct Search {
+    pub(crate) problem: Problem,
+    pub(crate) queue: Option<Queue>,
+    pub(crate) after: Option<Sequence>,
+    pub(crate) bound: Option<Sequence>,
+    /// Whether the search has yet to go to its start.
+    pub(crate) pending: bool,
+    pub(crate) frames: [Frame; 20],
+    /// How many frames are in use.
+    pub(crate) depth: usize,
+    ghost fit: { IsFit problem },
+    ghost within: { depth ≤ 20 },
+    ghost room: { IsTrue (has_room 0 (take depth frames)) },
+    ghost listed: { found (rest_from problem (items_of queue) (items_of after) pending (take depth frames))
+        ≡ filter (is_above sequence_cmp (items_of bound)) (found (whole_from problem (items_of queue) None)) },
+    ghost counted: { floods (rest_from problem (items_of queue) (items_of after) pending (take depth frames))
+        ≤ floods (whole_from problem (items_of queue) (items_of after)) },
+}

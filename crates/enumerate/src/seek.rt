@@ -1,0 +1,127 @@
+// Frames go to the place of a given sequence, so that what is still to come is what comes after it.
+ghost use Rattle.std.specs.Prelude.{◌≡◌, ◌↔◌, ℕ, suc, ◌+◌, ◌-◌, ◌<◌, ◌≤◌, true, IsTrue, MatchOption, Some, Contains, [], ◌∷◌, length, take, drop, slice_index_or};
+ghost use Rattle.srs.specs.Rules.{table_of};
+ghost use Rattle.std.specs.Option.{ForSome};
+ghost use Rattle.reach.specs.Places.{piece_of};
+ghost use Rattle.enumerate.specs.Events.{sought};
+ghost use Rattle.enumerate.specs.Frames.{has_room, path_of, places_left, position_of, stacked};
+ghost use Rattle.enumerate.specs.declared.frame.Frame.{Frame};
+ghost use Rattle.enumerate.specs.Turns.{SamePosition};
+ghost use Rattle.enumerate.specs.Seeks.{IsFresh, IsSought, Skips, SkipsTo};
+
+use crate::frame::Frame;
+use crate::turn::Turn;
+use moves::DropMode;
+use reach::Steps;
+use srs::{Placement, Rules, compare};
+use std::cmp::Ordering;
+use std::sync::ledger::Ledger;
+
+impl Frame {
+    /// The frame with this placement as the one that was entered last.
+    fn with_entered(&self, placement: Placement) -> Frame
+        requires { ForSome self.now.places (λ p. placement.piece ≡ piece_of p) }
+        ensures places { result.places ≡ self.now.places }
+        ensures entered { result.entered ≡ Some placement }
+    {
+        let mut frame = *self;
+        frame.entered = Some(placement);
+        frame
+    }
+
+    /// Whether a placement is among those that are left to enter.
+    fn reaches(&self, target: &Placement) -> bool
+        ensures { IsTrue result ↔ Contains (places_left self.now.places self.now.entered) target.now }
+    {
+        let mut probe = *self;
+        while let Some(placement) = probe.upcoming() {
+            match compare(&placement, target) {
+                Ordering::Less => probe = probe.with_entered(placement),
+                Ordering::Equal => return true,
+                Ordering::Greater => return false,
+            }
+        }
+        false
+    }
+
+    /// Passes all that comes before a placement, and gives the frame after it where it can be entered.
+    fn skip<L: Ledger>(
+        &mut self,
+        target: &Placement,
+        rules: &Rules,
+        drop_mode: DropMode,
+        steps: &mut Steps<L>,
+    ) -> Option<Frame>
+        requires { IsFresh (table_of rules.now) drop_mode self.old }
+        ensures skips { Skips (table_of rules.now) drop_mode self.old self.new target.now result steps.old steps.new }
+        ensures same { SamePosition self.old self.new }
+    {
+        self.tried = target.piece.code();
+        self.places = None;
+        self.entered = None;
+        if !self.queues.may_play(target.piece) {
+            return None;
+        }
+        self.flood(target.piece, rules, drop_mode, steps);
+        let reached = self.reaches(target);
+        self.entered = Some(*target);
+        if !reached {
+            return None;
+        }
+        match self.enter(target) {
+            Turn::Entered(child) => Some(child),
+            _ => None,
+        }
+    }
+}
+
+/// Passes, at the last of the frames in use, all that comes before a placement. True where one more frame is in use then,
+/// which is the frame after it.
+fn skip_at<L: Ledger>(
+    frames: &mut [Frame; 20],
+    top: usize,
+    target: &Placement,
+    rules: &Rules,
+    drop_mode: DropMode,
+    steps: &mut Steps<L>,
+) -> bool
+    requires within { top < 20 }
+    requires room { IsTrue (has_room 0 (take (top + 1) frames.old)) }
+    requires fresh { (d : Frame) → IsFresh (table_of rules.now) drop_mode (slice_index_or frames.old top d) }
+    ensures { IsSought (table_of rules.now) drop_mode frames.old frames.new top target.now result steps.old steps.new }
+{
+    let frame = &mut frames[top];
+    match frame.skip(target, rules, drop_mode, steps) {
+        None => false,
+        Some(child) => {
+            frames[top + 1] = child;
+            true
+        }
+    }
+}
+
+/// Goes from a fresh first frame to the place of a given sequence: how many frames are in use then.
+pub fn seek<L: Ledger>(
+    frames: &mut [Frame; 20],
+    given: &[Placement],
+    rules: &Rules,
+    drop_mode: DropMode,
+    steps: &mut Steps<L>,
+) -> usize
+    requires room { IsTrue (has_room 0 (take (0 + 1) frames.old)) }
+    requires fresh { (d : Frame) → IsFresh (table_of rules.now) drop_mode (slice_index_or frames.old 0 d) }
+    ensures within { result ≤ 20 }
+    ensures room { IsTrue (has_room 0 (take result frames.new)) }
+    ensures skips { (d : Frame) → SkipsTo
+        (sought (suc (slice_index_or frames.old 0 d).left) [] (position_of (table_of rules.now) drop_mode (slice_index_or frames.old 0 d)) given.now)
+        (stacked (table_of rules.now) drop_mode [] (take result frames.new)) steps.old steps.new }
+{
+    let mut top = 0;
+    for target in given {
+        if !skip_at(frames, top, target, rules, drop_mode, steps) {
+            return top + 1;
+        }
+        top += 1;
+    }
+    top + 1
+}

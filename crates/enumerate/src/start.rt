@@ -1,0 +1,237 @@
+// A search is started, and goes from solution to solution.
+ghost use Rattle.std.specs.Prelude.{◌≡◌, ℕ, ◌+◌, ◌-◌, ◌≤◌, ◌&&◌, nat_lt, length, List, IfOk, IsTrue, MatchOption, Some, None, [], ◌∷◌, Contains, take, ⊤};
+ghost use Rattle.std.specs.Option.{ForSome};
+ghost use Rattle.srs.specs.Rules.{table_of};
+ghost use Rattle.srs.specs.Order.{sequence_cmp};
+ghost use Rattle.srs.specs.Rising.{IsNextAbove};
+ghost use Rattle.enumerate.specs.Solution.{IsSolution};
+ghost use Rattle.srs.specs.Kick.{Table};
+ghost use Rattle.moves.specs.declared.key.DropMode.{DropMode};
+ghost use Rattle.queue_pattern.specs.Queues.{queues};
+ghost use Rattle.queue_pattern.specs.Pattern.{elements_of};
+ghost use Rattle.enumerate.specs.Problem.{IsFit, needed_of};
+ghost use Rattle.enumerate.specs.Position.{is_live, root_of};
+ghost use Rattle.enumerate.specs.Events.{found, floods};
+ghost use Rattle.enumerate.specs.Frames.{has_room, path_of, position_of, stacked};
+ghost use Rattle.enumerate.specs.Items.{items_of};
+ghost use Rattle.enumerate.specs.Rest.{rest_from, whole_from};
+ghost use Rattle.enumerate.specs.Walks.{Finds};
+ghost use Rattle.enumerate.specs.Seeks.{SkipsTo};
+ghost use Rattle.enumerate.specs.Search.{View, IsList};
+ghost use Rattle.enumerate.specs.Work.{pairs};
+ghost use Rattle.enumerate.specs.ViewOf.{view_of, solutions, work, after_given};
+
+use crate::advance::{advance, path};
+use crate::count::needed;
+use crate::frame::Frame;
+use crate::problem::Problem;
+use crate::search::{Search, Sequence};
+use crate::seek::seek;
+use hold_queue::QueueSet;
+use pc_outside::NoMemory;
+use queue_pattern::Queue;
+use reach::Steps;
+use std::alloc::Global;
+use std::sync::ledger::Ledger;
+
+/// A sequence with the same placements.
+fn copied(sequence: &Sequence) -> Sequence
+    ensures { result.items ≡ sequence.now.items }
+{
+    match Sequence::try_from(sequence.as_slice()) {
+        Ok(copy) => copy,
+        Err(_) => unreachable!(),
+    }
+}
+
+/// A sequence with the same placements, where there is one.
+fn copied_if_any(sequence: &Option<Sequence>) -> Option<Sequence>
+    ensures { items_of result ≡ items_of sequence.now }
+{
+    match sequence {
+        None => None,
+        Some(sequence) => Some(copied(sequence)),
+    }
+}
+
+/// The frame of the position at which a search begins.
+fn first_frame(problem: &Problem, queue: &Option<Queue>) -> Frame
+    requires { IsFit problem.now }
+    ensures position { position_of (table_of problem.now.rules) problem.now.drop_mode result ≡ root_of problem.now (items_of queue.now) }
+    ensures left { result.left ≡ needed_of problem.now - 1 }
+    ensures tried { result.tried ≡ 0 }
+    ensures places { result.places ≡ None }
+{
+    let queues = match queue {
+        None => QueueSet::start(&problem.pattern, problem.hold, problem.held),
+        Some(queue) => QueueSet::start_one(queue, problem.hold, problem.held),
+    };
+    Frame {
+        well: problem.well,
+        rows: problem.height,
+        queues,
+        left: needed(problem).saturating_sub(1),
+        tried: 0,
+        places: None,
+        entered: None,
+    }
+}
+
+/// Whether a search has a first frame: where some placement is needed, and the position is worth a look.
+fn has_frame(problem: &Problem, first: &Frame) -> bool
+    requires { IsFit problem.now }
+    ensures { (table : Table) (mode : DropMode) → result ≡ (nat_lt 0 (needed_of problem.now) && is_live first.now.left (position_of table mode first.now)) }
+{
+    needed(problem) > 0 && first.is_live()
+}
+
+/// Goes from where a search stands to its next solution: how many frames are in use then, which is 0 where no solution is
+/// left.
+fn go_on<L: Ledger>(
+    problem: &Problem,
+    queue: &Option<Queue>,
+    after: &Option<Sequence>,
+    pending: bool,
+    frames: &mut [Frame; 20],
+    depth: usize,
+    steps: &mut Steps<L>,
+) -> usize
+    requires fit { IsFit problem.now }
+    requires within { depth ≤ 20 }
+    requires room { IsTrue (has_room 0 (take depth frames.old)) }
+    ensures within { result ≤ 20 }
+    ensures room { IsTrue (has_room 0 (take result frames.new)) }
+    ensures found { Finds
+        (found (rest_from problem.now (items_of queue.now) (items_of after.now) pending (take depth frames.old)))
+        (found (stacked (table_of problem.now.rules) problem.now.drop_mode [] (take result frames.new)))
+        (path_of (take result frames.new)) (nat_lt 0 result) }
+    ensures counted { floods (rest_from problem.now (items_of queue.now) (items_of after.now) pending (take depth frames.old)) + steps.old
+        ≡ floods (stacked (table_of problem.now.rules) problem.now.drop_mode [] (take result frames.new)) + steps.new }
+    ensures fewer { floods (stacked (table_of problem.now.rules) problem.now.drop_mode [] (take result frames.new))
+        ≤ floods (rest_from problem.now (items_of queue.now) (items_of after.now) pending (take depth frames.old)) }
+{
+    let mut depth = depth;
+    if pending {
+        depth = begin(problem, queue, after, frames, steps);
+    }
+    advance(frames, depth, &problem.rules, problem.drop_mode, steps)
+}
+
+/// Puts the first frame where there is one, and goes to the place of a given sequence: how many frames are in use then.
+fn begin<L: Ledger>(
+    problem: &Problem,
+    queue: &Option<Queue>,
+    after: &Option<Sequence>,
+    frames: &mut [Frame; 20],
+    steps: &mut Steps<L>,
+) -> usize
+    requires { IsFit problem.now }
+    ensures within { result ≤ 20 }
+    ensures room { IsTrue (has_room 0 (take result frames.new)) }
+    ensures skips { SkipsTo
+        (whole_from problem.now (items_of queue.now) (items_of after.now))
+        (stacked (table_of problem.now.rules) problem.now.drop_mode [] (take result frames.new)) steps.old steps.new }
+{
+    let first = first_frame(problem, queue);
+    if !has_frame(problem, &first) {
+        return 0;
+    }
+    frames[0] = first;
+    match after {
+        None => 1,
+        Some(given) => seek(
+            frames,
+            given.as_slice(),
+            &problem.rules,
+            problem.drop_mode,
+            steps,
+        ),
+    }
+}
+
+impl Search {
+    /// A search that has yet to go to its start.
+    fn new(problem: Problem, queue: Option<Queue>, after: Option<Sequence>) -> Search
+        requires { IsFit problem }
+        ensures view { view_of result ≡ record { problem = problem; queue = items_of queue; bound = items_of after } }
+        ensures after { after_given result ≡ items_of after }
+        ensures work { work result ≡ 0 }
+    {
+        let first = first_frame(&problem, &queue);
+        let bound = copied_if_any(&after);
+        Search {
+            problem,
+            queue,
+            after,
+            bound,
+            pending: true,
+            frames: [first; 20],
+            depth: 0,
+        }
+    }
+
+    /// A search of all queues, for the solutions after a sequence where one is given. It takes no memory yet.
+    pub fn start(
+        alloc: Global,
+        problem: Problem,
+        after: Option<Sequence>,
+    ) -> Result<Search, NoMemory>
+        requires fit { IsFit problem }
+        requires after { ForSome after (λ s. length s.items ≡ needed_of problem) }
+        ensures view { IfOk result (λ search. view_of search ≡ record { problem = problem; queue = None; bound = items_of after }) }
+        ensures list { IfOk result (λ search. IsList (view_of search) (solutions search)) }
+        ensures after { IfOk result (λ search. after_given search ≡ items_of after) }
+        ensures work { IfOk result (λ search. work search ≡ 0) }
+    {
+        let _ = alloc;
+        Ok(Search::new(problem, None, after))
+    }
+
+    /// A search of one of the pattern's queues alone. It takes no memory yet.
+    pub fn start_one(alloc: Global, problem: Problem, queue: &Queue) -> Result<Search, NoMemory>
+        requires fit { IsFit problem }
+        requires listed { Contains (queues (elements_of problem.pattern)) queue.now.items }
+        ensures view { IfOk result (λ search. view_of search ≡ record { problem = problem; queue = Some queue.now.items; bound = None }) }
+        ensures list { IfOk result (λ search. IsList (view_of search) (solutions search)) }
+        ensures after { IfOk result (λ search. after_given search ≡ None) }
+        ensures work { IfOk result (λ search. work search ≡ 0) }
+    {
+        let _ = alloc;
+        match Queue::try_from(queue.as_slice()) {
+            Ok(copy) => Ok(Search::new(problem, Some(copy), None)),
+            Err(_) => unreachable!(),
+        }
+    }
+
+    /// The least solution after the bound, which becomes the bound; or `None` where there is none, and the bound stays.
+    /// It takes no memory.
+    pub fn next<L: Ledger>(&mut self, steps: &mut Steps<L>) -> Option<Sequence>
+        ensures list { IsList (view_of self.old) (solutions self.old) }
+        ensures found { MatchOption result
+            ((solutions self.old ≡ []) × (solutions self.new ≡ []) × (view_of self.new ≡ view_of self.old))
+            (λ s. (solutions self.old ≡ s.items ∷ solutions self.new)
+            × (view_of self.new ≡ record (view_of self.old) { bound = Some s.items })) }
+        ensures next { IsNextAbove sequence_cmp (IsSolution (view_of self.old).problem (view_of self.old).queue) (view_of self.old).bound (items_of result) }
+        ensures after { after_given self.new ≡ after_given self.old }
+        ensures counted { work self.new + steps.old ≡ work self.old + steps.new }
+        ensures bounded { work self.new ≤ pairs (view_of self.old).problem (view_of self.old).queue }
+        ensures whole { after_given self.old ≡ None → MatchOption result (work self.new ≡ pairs (view_of self.old).problem (view_of self.old).queue) (λ _. ⊤) }
+    {
+        self.depth = go_on(
+            &self.problem,
+            &self.queue,
+            &self.after,
+            self.pending,
+            &mut self.frames,
+            self.depth,
+            steps,
+        );
+        self.pending = false;
+        if self.depth == 0 {
+            return None;
+        }
+        let sequence = path(&self.frames[..self.depth]);
+        self.bound = Some(copied(&sequence));
+        Some(sequence)
+    }
+}

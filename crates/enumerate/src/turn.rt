@@ -1,0 +1,174 @@
+// One turn of the search at a frame.
+ghost use Rattle.std.specs.Prelude.{◌≡◌, ℕ, ◌+◌, IsTrue, MatchOption, Some, None, [], ◌∷◌, drop};
+ghost use Rattle.std.specs.Option.{ForSome};
+ghost use Rattle.srs.specs.Cells.{is_inside_of};
+ghost use Rattle.srs.specs.Piece.{all_pieces};
+ghost use Rattle.srs.specs.Rules.{table_of};
+ghost use Rattle.srs.specs.Kick.{Table};
+ghost use Rattle.well.specs.Well.{filled};
+ghost use Rattle.moves.specs.declared.key.DropMode.{DropMode};
+ghost use Rattle.reach.specs.Places.{piece_of};
+ghost use Rattle.hold_queue.specs.QueueSet.{line_of};
+ghost use Rattle.well.specs.LockLaws.{is_below};
+ghost use Rattle.enumerate.specs.Position.{may_play, is_live, places_at};
+ghost use Rattle.enumerate.specs.Standing.{may_lock};
+ghost use Rattle.enumerate.specs.Frames.{position_of, places_left};
+ghost use Rattle.enumerate.specs.Turns.{Enters, Turns, SamePosition};
+
+use crate::frame::Frame;
+use moves::DropMode;
+use reach::{Steps, places};
+use srs::{Piece, Placement, Rules, cells};
+use std::sync::ledger::Ledger;
+
+/// What a turn came to.
+#[derive(Clone, Copy)]
+pub enum Turn {
+    /// A dead end was passed.
+    Passed,
+    /// A kind was flooded.
+    Flooded,
+    /// A placement was entered, and this is the frame after it.
+    Entered(Frame),
+    /// A placement was entered that completes a solution.
+    Full,
+    /// Nothing is left at the frame.
+    Over,
+}
+
+/// Whether each cell of a placement inside the well lies in a row below this one.
+pub fn lies_below(placement: &Placement, rows: u8) -> bool
+    requires { IsTrue (is_inside_of placement.now) }
+    ensures { result ≡ is_below rows placement.now }
+{
+    cells(placement)
+        .iter()
+        .all(|cell| i16::from(cell.1) < i16::from(rows))
+}
+
+/// The kind at an index from 0, in the order of codes. `None` exactly where there is none.
+fn kind_at(index: u8) -> Option<Piece>
+    ensures { MatchOption result (drop index all_pieces ≡ []) (λ piece. drop index all_pieces ≡ piece ∷ drop (index + 1) all_pieces) }
+{
+    let index = usize::from(index);
+    if index < Piece::ALL.len() {
+        Some(Piece::ALL[index])
+    } else {
+        None
+    }
+}
+
+impl Frame {
+    /// Whether the position is worth a look. For now each is.
+    pub fn is_live(&self) -> bool
+        ensures { (table : Table) (mode : DropMode) → result ≡ is_live self.now.left (position_of table mode self.now) }
+    {
+        true
+    }
+
+    /// The next placement to be entered.
+    pub fn upcoming(&self) -> Option<Placement>
+        ensures { MatchOption result
+            (places_left self.now.places self.now.entered ≡ [])
+            (λ q. (places_left self.now.places self.now.entered ≡ q ∷ places_left self.now.places (Some q))
+            × IsTrue (may_lock (filled self.now.well) q.piece q)
+            × IsTrue (may_play (line_of self.now.queues) q.piece)) }
+    {
+        match &self.places {
+            None => None,
+            Some(places) => places.next_after(self.entered.as_ref()),
+        }
+    }
+
+    /// Enters a placement.
+    pub fn enter(&self, placement: &Placement) -> Turn
+        requires lockable { IsTrue (may_lock (filled self.now.well) placement.now.piece placement.now) }
+        requires permitted { IsTrue (may_play (line_of self.now.queues) placement.now.piece) }
+        ensures { Enters self.now placement.now result }
+    {
+        if !lies_below(placement, self.rows) {
+            return Turn::Passed;
+        }
+        let (well, removed) = self.well.lock(placement);
+        let rows = self.rows.saturating_sub(removed);
+        if self.left == 0 {
+            return if rows == 0 { Turn::Full } else { Turn::Passed };
+        }
+        let child = Frame {
+            well,
+            rows,
+            queues: self.queues.after(placement.piece),
+            left: self.left - 1,
+            tried: 0,
+            places: None,
+            entered: None,
+        };
+        if child.is_live() {
+            Turn::Entered(child)
+        } else {
+            Turn::Passed
+        }
+    }
+
+    /// Floods a kind that may be played.
+    pub fn flood<L: Ledger>(
+        &mut self,
+        piece: Piece,
+        rules: &Rules,
+        drop_mode: DropMode,
+        steps: &mut Steps<L>,
+    )
+        requires { IsTrue (may_play (line_of self.old.queues) piece) }
+        ensures places { places_left self.new.places self.new.entered ≡ places_at (position_of (table_of rules.now) drop_mode self.old) piece }
+        ensures piece { ForSome self.new.places (λ p. piece_of p ≡ piece) }
+        ensures same { SamePosition self.old self.new }
+        ensures tried { self.new.tried ≡ self.old.tried }
+        ensures entered { self.new.entered ≡ None }
+        ensures counted { steps.new ≡ steps.old + 1 }
+    {
+        self.places = Some(places(&self.well, rules, piece, drop_mode, steps));
+        self.entered = None;
+    }
+
+    /// Tries the next kind.
+    fn try_kind<L: Ledger>(
+        &mut self,
+        rules: &Rules,
+        drop_mode: DropMode,
+        steps: &mut Steps<L>,
+    ) -> Turn
+        requires { places_left self.old.places self.old.entered ≡ [] }
+        ensures turn { Turns (table_of rules.now) drop_mode self.old self.new result steps.old steps.new }
+        ensures same { SamePosition self.old self.new }
+    {
+        let piece = match kind_at(self.tried) {
+            None => return Turn::Over,
+            Some(piece) => piece,
+        };
+        self.tried += 1;
+        if !self.queues.may_play(piece) {
+            return Turn::Passed;
+        }
+        self.flood(piece, rules, drop_mode, steps);
+        Turn::Flooded
+    }
+
+    /// Enters the next placement, or tries the next kind where none is left.
+    pub fn turn<L: Ledger>(
+        &mut self,
+        rules: &Rules,
+        drop_mode: DropMode,
+        steps: &mut Steps<L>,
+    ) -> Turn
+        ensures turn { Turns (table_of rules.now) drop_mode self.old self.new result steps.old steps.new }
+        ensures same { SamePosition self.old self.new }
+    {
+        match self.upcoming() {
+            None => self.try_kind(rules, drop_mode, steps),
+            Some(placement) => {
+                self.entered = Some(placement);
+                self.enter(&placement)
+            }
+        }
+    }
+}

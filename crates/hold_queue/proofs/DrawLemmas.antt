@@ -1,0 +1,112 @@
+-- The families after a draw, case by case.
+use Rattle.std.proofs.Common.{◌≡◌, ℕ, zero, suc, ◌<◌, Bool, true, false, not, ◌&&◌, ◌||◌, ◌==◌, Option, Some, None, refl, ap, ◌∙◌, sym, subst, inl, inr, ◌⊎◌, arith}
+use Rattle.std.proofs.lemmas.Bool.{cases_Bool, cases_lt}
+use Rattle.srs.specs.declared.piece.Piece.{Piece}
+use Rattle.hold_queue.specs.declared.family.Family.{Family}
+use Rattle.hold_queue.specs.declared.family.Draw.{Draw}
+use Rattle.hold_queue.specs.Family.{has_set, is_in, with_piece, any_below, after_draw, IsDrawn}
+use Rattle.hold_queue.proofs.FamilyBits.{has_set-empty, has_set-one}
+
+pub or_cases : (a b : Bool) → (a || b) ≡ true → (a ≡ true) ⊎ (b ≡ true)
+or_cases true b h = inl refl
+or_cases false b h = inr h
+
+pub or_left : (a b : Bool) → a ≡ true → (a || b) ≡ true
+or_left true b h = refl
+or_left false b h = cc
+
+pub or_right : (a b : Bool) → b ≡ true → (a || b) ≡ true
+or_right true b h = refl
+or_right false b h = h
+
+pub not_true : (b : Bool) → not b ≡ true → b ≡ false
+not_true true h = sym h
+not_true false h = refl
+
+pub not_false : (b : Bool) → not b ≡ false → b ≡ true
+not_false true h = refl
+not_false false h = sym h
+
+-- a number below n that passes, where there is one
+pub any_below-from : (test : ℕ → Bool) (n : ℕ) → any_below test n ≡ true → (k : ℕ) × (k < n) × (test k ≡ true)
+unfolding any_below
+any_below-from test zero h = cc
+any_below-from test (suc n) h = elim (or_cases (test n) (any_below test n) h) [
+  | inl here ↦ (n, omega arith, here)
+  | inr later ↦ let found = any_below-from test n later in (found.0, omega (arith, found.1), found.2)
+]
+
+pub any_below-to : (test : ℕ → Bool) (n k : ℕ) → k < n → test k ≡ true → any_below test n ≡ true
+unfolding any_below
+any_below-to test zero k within passes = absurd (omega arith)
+any_below-to test (suc n) k within passes = elim (cases_lt k n) [
+  | inl before ↦ or_right (test n) (any_below test n) (any_below-to test n k before passes)
+  | inr after ↦ let at : k ≡ n = omega arith in or_left (test n) (any_below test n) (subst (λ j. test j ≡ true) at passes)
+]
+
+any_below-none : (test : ℕ → Bool) (n : ℕ) → ((k : ℕ) → k < n → test k ≡ false) → any_below test n ≡ false
+any_below-none test n none = elim (cases_Bool (any_below test n)) [
+  | inl some ↦ let found = any_below-from test n some in cc (none found.0 found.1, found.2)
+  | inr fails ↦ fails
+]
+
+abbrev empty : Family
+empty = record { low = 0; high = 0 }
+
+pub drawn_from_none : (draw : Option Draw) (piece : Piece) (before : Family) → draw ≡ None → IsDrawn draw piece before empty
+unfolding after_draw
+drawn_from_none draw piece before is = record { each = λ set within. has_set-empty set ∙ sym (ap (λ d. after_draw d piece (has_set before) set) is) }
+
+pub drawn_outside : (draw : Option Draw) (d : Draw) (piece : Piece) (before : Family) → draw ≡ Some d → is_in piece d.element.set ≡ false → IsDrawn draw piece before empty
+unfolding after_draw
+drawn_outside draw d piece before is out = record { each = λ set within. has_set-empty set ∙ sym (ap (λ d. after_draw d piece (has_set before) set) is ∙ rw out refl) }
+
+pub drawn_within : (draw : Option Draw) (d : Draw) (piece : Piece) (before after : Family) → draw ≡ Some d → is_in piece d.element.set ≡ true → d.is_last ≡ false
+    → ((set : ℕ) → set < 128 → has_set after set ≡ with_piece piece (has_set before) set) → IsDrawn draw piece before after
+unfolding after_draw
+drawn_within draw d piece before after is inside more each = record { each = λ set within. each set within ∙ sym (ap (λ d. after_draw d piece (has_set before) set) is ∙ rw (inside, more) refl) }
+
+same_below : (f g : ℕ → Bool) (n : ℕ) → ((k : ℕ) → k < n → f k ≡ g k) → any_below f n ≡ any_below g n
+unfolding any_below
+same_below f g zero same = refl
+same_below f g (suc n) same = joined (same n (omega arith)) (same_below f g n (λ k within. same k (omega arith)))
+  where
+    joined : {a b c d : Bool} → a ≡ b → c ≡ d → (a || c) ≡ (b || d)
+    joined e h = cc
+
+pub drawn_last : (draw : Option Draw) (d : Draw) (piece : Piece) (before moved after : Family) → draw ≡ Some d → is_in piece d.element.set ≡ true → d.is_last ≡ true
+    → ((set : ℕ) → set < 128 → has_set moved set ≡ with_piece piece (has_set before) set)
+    → ((set : ℕ) → set < 128 → has_set after set ≡ (set == 0 && any_below (has_set moved) 128)) → IsDrawn draw piece before after
+unfolding after_draw
+drawn_last draw d piece before moved after is inside last each begins = record {
+  each = λ set within.
+      begins set within ∙ ap (λ b. set == 0 && b) (same_below (has_set moved) (with_piece piece (has_set before)) 128 each)
+      ∙ sym (ap (λ d. after_draw d piece (has_set before) set) is ∙ rw (inside, last) refl);
+}
+
+no_second : (b c : Bool) → c ≡ false → false ≡ (b && c)
+no_second true c e = sym e
+no_second false c e = refl
+
+-- at the end of an element no set is left where none was
+pub begins_none : (moved : Family) → ((set : ℕ) → set < 128 → has_set moved set ≡ false) → (set : ℕ) → set < 128
+    → has_set empty set ≡ (set == 0 && any_below (has_set moved) 128)
+begins_none moved none set within = has_set-empty set ∙ no_second (set == 0) _ (any_below-none (has_set moved) 128 none)
+
+and_true : (b c : Bool) → c ≡ true → b ≡ (b && c)
+and_true true c e = sym e
+and_true false c e = refl
+
+-- and else the empty set is
+pub begins_some : (moved : Family) → (((set : ℕ) → set < 128 → has_set moved set ≡ false) → ⊥) → (set : ℕ) → set < 128
+    → has_set (record { low = 1; high = 0 }) set ≡ (set == 0 && any_below (has_set moved) 128)
+begins_some moved some set within = has_set-one set within ∙ and_true (set == 0) _ there
+  where
+    there : any_below (has_set moved) 128 ≡ true
+    there = elim (cases_Bool (any_below (has_set moved) 128)) [
+      | inl is ↦ is
+      | inr not ↦ absurd (some (λ k within. elim (cases_Bool (has_set moved k)) [
+        | inl has ↦ cc (any_below-to (has_set moved) 128 k within has, not)
+        | inr lacks ↦ lacks
+      ]))
+    ]

@@ -1,0 +1,239 @@
+-- The states stand for the played pieces: at the start, and after one more.
+use Rattle.std.proofs.Common.{◌≡◌, ℕ, ◌+◌, ◌*◌, ◌<◌, ◌≤◌, Bool, true, false, not, ◌&&◌, ◌||◌, ◌==◌, Option, Some, None, List, [], ◌∷◌, ◌++◌, length, length-append, append_assoc, Contains, set, refl, ap, ◌∙◌, sym, subst, inl, inr, ◌↔◌, arith, IsTrue, nat_le, leb-true}
+use Rattle.std.specs.List.{list_any, list_all}
+use Rattle.std.proofs.lemmas.Bool.{agree_below_at, cases_Bool, and_parts, and_from, eqb-true}
+use Rattle.std.proofs.lemmas.List.Folds.{list_any_at}
+use Rattle.srs.specs.declared.piece.Piece.{Piece}
+use Rattle.srs.specs.Piece.{all_pieces, piece_code}
+use Rattle.srs.proofs.CodeLemmas.{piece_code-injective}
+use Rattle.srs.proofs.ShapeLemmas.{each_piece}
+use Rattle.queue_pattern.specs.declared.element.Element.{Element}
+use Rattle.queue_pattern.specs.Queues.{queues}
+use Rattle.hold_queue.specs.declared.hold.Hold.{Hold}
+use Rattle.hold_queue.specs.Family.{has_set, any_below}
+use Rattle.hold_queue.specs.Permits.{Permits, some_permits}
+use Rattle.hold_queue.specs.States.{rests, count_held, held_code, drawn_by, family_at, any_held, states_permit, IsRest, IsNextFamily, Follows}
+use Rattle.hold_queue.proofs.DrawLemmas.{or_cases, or_left, or_right, any_below-from, any_below-to}
+use Rattle.hold_queue.proofs.DrawnRests.{Contains-piece}
+use Rattle.hold_queue.proofs.PermitsTest.{some_permits-decides}
+use Rattle.hold_queue.proofs.RestLemmas.{rests-start}
+
+-- tests that hold at the same time are equal
+pub same_tests : {a b : Bool} → (a ≡ true → b ≡ true) → (b ≡ true → a ≡ true) → a ≡ b
+same_tests {a = true} {b = b} on back = sym (on refl)
+same_tests {a = false} {b = true} on back = back refl
+same_tests {a = false} {b = false} on back = refl
+
+list_any-from : {X : Type 0} (test : X → Bool) (xs : List X) → list_any test xs ≡ true → (x : X) × (test x ≡ true)
+list_any-from test [] h = cc
+list_any-from test (x ∷ xs) h = elim (or_cases (test x) (list_any test xs) h) [ inl here ↦ (x, here) | inr later ↦ list_any-from test xs later ]
+
+any_held-from : (test : Option Piece → Bool) → any_held test ≡ true → (held : Option Piece) × (test held ≡ true)
+any_held-from test h = elim (or_cases (test None) (list_any (λ piece. test (Some piece)) all_pieces) h) [
+  | inl none ↦ (None, none)
+  | inr some ↦ let found = list_any-from (λ piece. test (Some piece)) all_pieces some in (Some found.0, found.1)
+]
+
+any_held-to : (test : Option Piece → Bool) (held : Option Piece) → test held ≡ true → any_held test ≡ true
+any_held-to test None passes = or_left (test None) (list_any (λ piece. test (Some piece)) all_pieces) passes
+any_held-to test (Some piece) passes =
+    let there = Contains-piece piece in
+    or_right (test None) (list_any (λ piece. test (Some piece)) all_pieces)
+    (list_any_at (λ piece. test (Some piece)) all_pieces there.0 piece there.1 (ap (λ p. test (Some p)) there.2 ∙ passes))
+
+-- some state leaves a queue that permits the pieces
+pub record StatePermits (elements : List Element) (hold : Hold) (start : Option Piece) (states : List ℕ) (played : ℕ) (pieces : List Piece) : Type 0 where
+  pub held : Option Piece
+  pub queue : List Piece
+  pub rest : IsRest elements (drawn_by start played held) (family_at states held) queue
+  pub permitted : Permits hold queue held pieces
+
+pub states_permit-from : (elements : List Element) (hold : Hold) (start : Option Piece) (states : List ℕ) (played : ℕ) (pieces : List Piece)
+    → states_permit elements hold start states played pieces ≡ true → StatePermits elements hold start states played pieces
+unfolding states_permit
+states_permit-from elements hold start states played pieces h =
+    let state : Option Piece → ℕ → Bool = λ held set. has_set (family_at states held) set && some_permits hold (rests elements (drawn_by start played held) set) held pieces in
+    let one = any_held-from (λ held. any_below (state held) 128) h in
+    let two = any_below-from (state one.0) 128 one.1 in
+    let parts = and_parts _ _ two.2 in
+    let some = (some_permits-decides hold (rests elements (drawn_by start played one.0) two.0) one.0 pieces).0 parts.1 in
+    record { held = one.0; queue = some.0; rest = record { drawn_set = two.0; within = two.1; has = parts.0; there = some.1 }; permitted = some.2 }
+
+pub states_permit-to : (elements : List Element) (hold : Hold) (start : Option Piece) (states : List ℕ) (played : ℕ) (pieces : List Piece)
+    → StatePermits elements hold start states played pieces → states_permit elements hold start states played pieces ≡ true
+unfolding states_permit
+states_permit-to elements hold start states played pieces is =
+    let state : Option Piece → ℕ → Bool = λ held set. has_set (family_at states held) set && some_permits hold (rests elements (drawn_by start played held) set) held pieces in
+    any_held-to (λ held. any_below (state held) 128) is.held
+    (any_below-to (state is.held) 128 is.rest.drawn_set is.rest.within
+    (and_from _ _ is.rest.has ((some_permits-decides hold (rests elements (drawn_by start played is.held) is.rest.drawn_set) is.held pieces).1
+    (is.queue, is.rest.there, is.permitted))))
+
+-- the states after a piece permit what those before it permit with the piece first
+pub states_permit-next : (elements : List Element) (hold : Hold) (start : Option Piece) (states next : List ℕ) (played : ℕ) (piece : Piece)
+    → ((held : Option Piece) → IsNextFamily elements hold start states played piece held (family_at next held))
+    → (pieces : List Piece) → states_permit elements hold start states played (piece ∷ pieces) ≡ states_permit elements hold start next (played + 1) pieces
+states_permit-next elements hold start states next played piece steps pieces =
+    same_tests
+    (λ before. let is = states_permit-from elements hold start states played (piece ∷ pieces) before in
+    states_permit-to elements hold start next (played + 1) pieces (record {
+      held = is.permitted.1;
+      queue = is.permitted.0;
+      rest = (steps is.permitted.1).goes is.permitted.0 (record { held_before = is.held; queue_before = is.queue; way = is.permitted.2; rest = is.rest });
+      permitted = is.permitted.3;
+    }))
+    (λ after. let is = states_permit-from elements hold start next (played + 1) pieces after in
+    let came = (steps is.held).came is.queue is.rest in
+    states_permit-to elements hold start states played (piece ∷ pieces) (record {
+      held = came.held_before;
+      queue = came.queue_before;
+      rest = came.rest;
+      permitted = (is.queue, is.held, came.way, is.permitted);
+    }))
+
+pub follows-next : (elements : List Element) (hold : Hold) (start : Option Piece) (states next : List ℕ) (played : List Piece) (piece : Piece)
+    → Follows elements hold start states played → ((held : Option Piece) → IsNextFamily elements hold start states (length played) piece held (family_at next held))
+    → Follows elements hold start next (played ++ piece ∷ [])
+follows-next elements hold start states next played piece so_far steps = record {
+  permits_same = λ pieces.
+      ap (λ ps. some_permits hold (queues elements) start ps) (append_assoc played (piece ∷ []) pieces)
+      ∙ so_far.permits_same (piece ∷ pieces)
+      ∙ states_permit-next elements hold start states next (length played) piece steps pieces
+      ∙ ap (λ n. states_permit elements hold start next n pieces) more;
+  some = λ held set within has. subst (λ n. 0 < length (rests elements (drawn_by start n held) set)) more ((steps held).roomy.each set within has);
+  drawn_fits = λ held set within has. subst (λ n. count_held start ≤ n + count_held held) more ((steps held).drawn_fits set within has);
+}
+  where
+    more : length played + 1 ≡ length (played ++ piece ∷ [])
+    more = sym (length-append played (piece ∷ []))
+
+-- the one state at the start: what is held then, and no piece drawn
+abbrev pub first_states : Option Piece → List ℕ
+first_states start = set (0 ∷ 0 ∷ 0 ∷ 0 ∷ 0 ∷ 0 ∷ 0 ∷ 0 ∷ 0 ∷ 0 ∷ 0 ∷ 0 ∷ 0 ∷ 0 ∷ 0 ∷ 0 ∷ []) (2 * held_code start) 1
+
+abbrev is_first : Option Piece → Option Piece → ℕ → Bool
+is_first start held set = not (has_set (family_at (first_states start) held) set) || (held_code start == held_code held && set == 0)
+
+abbrev each_first : ℕ → Bool
+each_first set =
+    is_first None None set && (list_all (λ p. is_first None (Some p) set) all_pieces
+    && (list_all (λ p. is_first (Some p) None set) all_pieces && list_all (λ p. list_all (λ q. is_first (Some p) (Some q) set) all_pieces) all_pieces))
+
+first_set : (start held : Option Piece) (set : ℕ) → set < 128 → is_first start held set ≡ true
+unfolding has_set family_at
+first_set start held set within = go start held
+  where
+    one : (is_first None None set ≡ true) × ((list_all (λ p. is_first None (Some p) set) all_pieces
+        && (list_all (λ p. is_first (Some p) None set) all_pieces && list_all (λ p. list_all (λ q. is_first (Some p) (Some q) set) all_pieces) all_pieces)) ≡ true)
+    one = and_parts _ _ (agree_below_at each_first (λ _. true) 128 set refl within)
+
+    two : (list_all (λ p. is_first None (Some p) set) all_pieces ≡ true) × ((list_all (λ p. is_first (Some p) None set) all_pieces
+        && list_all (λ p. list_all (λ q. is_first (Some p) (Some q) set) all_pieces) all_pieces) ≡ true)
+    two = and_parts _ _ one.1
+
+    three : (list_all (λ p. is_first (Some p) None set) all_pieces ≡ true) × (list_all (λ p. list_all (λ q. is_first (Some p) (Some q) set) all_pieces) all_pieces ≡ true)
+    three = and_parts _ _ two.1
+
+    go : (start held : Option Piece) → is_first start held set ≡ true
+    go None None = one.0
+    go None (Some p) = each_piece (λ p. is_first None (Some p) set) two.0 p
+    go (Some p) None = each_piece (λ p. is_first (Some p) None set) three.0 p
+    go (Some p) (Some q) = each_piece (λ q. is_first (Some p) (Some q) set) (each_piece (λ p. list_all (λ q. is_first (Some p) (Some q) set) all_pieces) three.1 p) q
+
+held_code-none : (piece : Piece) → 0 ≡ piece_code piece → ⊥
+held_code-none piece e = absurd (omega (arith, some piece))
+  where
+    some : (piece : Piece) → 1 ≤ piece_code piece
+    some piece = leb-true _ _ (each_piece (λ p. nat_le 1 (piece_code p)) refl piece)
+
+held_code-injective : (start held : Option Piece) → held_code start ≡ held_code held → start ≡ held
+held_code-injective None None e = refl
+held_code-injective None (Some q) e = absurd (held_code-none q e)
+held_code-injective (Some p) None e = absurd (held_code-none p (sym e))
+held_code-injective (Some p) (Some q) e = ap Some (piece_code-injective p q e)
+
+-- a state at the start
+record First (start held : Option Piece) (set : ℕ) : Type 0 where
+  held_is : start ≡ held
+  set_is : set ≡ 0
+
+first : (start held : Option Piece) (set : ℕ) → set < 128 → has_set (family_at (first_states start) held) set ≡ true → First start held set
+first start held set within has =
+    let parts = and_parts _ _ (second _ _ has (first_set start held set within)) in
+    record { held_is = held_code-injective start held (eqb-true _ _ parts.0); set_is = eqb-true set 0 parts.1 }
+  where
+    second : (a b : Bool) → a ≡ true → (not a || b) ≡ true → b ≡ true
+    second a b e h = cc
+
+first-there : (start : Option Piece) → has_set (family_at (first_states start) start) 0 ≡ true
+unfolding has_set family_at
+first-there None = refl
+first-there (Some piece) = each_piece (λ p. has_set (family_at (first_states (Some p)) (Some p)) 0) refl piece
+
+pub follows-start : (elements : List Element) (hold : Hold) (start : Option Piece) → 0 < length (queues elements) → Follows elements hold start (first_states start) []
+follows-start elements hold start some = record {
+  permits_same = λ pieces. same_tests
+      (λ h. let is = (some_permits-decides hold (queues elements) start pieces).0 h in
+      states_permit-to elements hold start (first_states start) 0 pieces (record {
+        held = start;
+        queue = is.0;
+        permitted = is.2;
+        rest = record { drawn_set = 0; within = omega arith; has = first-there start; there = subst (λ qs. Contains qs is.0) (sym start_rests) is.1 };
+      }))
+      (λ h. let is = states_permit-from elements hold start (first_states start) 0 pieces h in
+      let at = first start is.held is.rest.drawn_set is.rest.within is.rest.has in
+      let there = subst (λ held. Contains (rests elements (drawn_by start 0 held) is.rest.drawn_set) is.queue) (sym at.held_is) is.rest.there in
+      let none = subst (λ set. Contains (rests elements (drawn_by start 0 start) set) is.queue) at.set_is there in
+      (some_permits-decides hold (queues elements) start pieces).1
+      (is.queue, subst (λ qs. Contains qs is.queue) start_rests none, subst (λ held. Permits hold is.queue held pieces) (sym at.held_is) is.permitted));
+  some = λ held set within has.
+      let at = first start held set within has in
+      subst (λ h. 0 < length (rests elements (drawn_by start 0 h) set)) at.held_is
+      (subst (λ s. 0 < length (rests elements (drawn_by start 0 start) s)) (sym at.set_is) (subst (λ qs. 0 < length qs) (sym start_rests) some));
+  drawn_fits = λ held set within has.
+      let at = first start held set within has in
+      subst (λ h. count_held start ≤ 0 + count_held h) at.held_is (omega arith);
+}
+  where
+    start_rests : rests elements (drawn_by start 0 start) 0 ≡ queues elements
+    start_rests = ap (λ n. rests elements n 0) (omega arith) ∙ rests-start elements
+
+-- whether the states after a piece are any says whether the piece may be played
+pub may_play-is : (elements : List Element) (hold : Hold) (start : Option Piece) (states next : List ℕ) (played : List Piece) (piece : Piece)
+    → Follows elements hold start states played → ((held : Option Piece) → IsNextFamily elements hold start states (length played) piece held (family_at next held))
+    → (empty : Bool) → IsTrue empty ↔ ((held : Option Piece) (set : ℕ) → set < 128 → has_set (family_at next held) set ≡ false)
+    → not empty ≡ some_permits hold (queues elements) start (played ++ piece ∷ [])
+may_play-is elements hold start states next played piece so_far steps empty decides = go empty refl
+  where
+    whole : some_permits hold (queues elements) start (played ++ piece ∷ []) ≡ states_permit elements hold start next (length played + 1) []
+    whole = so_far.permits_same (piece ∷ []) ∙ states_permit-next elements hold start states next (length played) piece steps []
+
+    go : (b : Bool) → empty ≡ b → not b ≡ some_permits hold (queues elements) start (played ++ piece ∷ [])
+    go true is = elim (cases_Bool (some_permits hold (queues elements) start (played ++ piece ∷ []))) [
+      | inl permitted ↦
+          let state = states_permit-from elements hold start next (length played + 1) [] (sym whole ∙ permitted) in
+          cc (decides.0 is state.held state.rest.drawn_set state.rest.within, state.rest.has)
+      | inr refused ↦ sym refused
+    ]
+    go false is = elim (cases_Bool (some_permits hold (queues elements) start (played ++ piece ∷ []))) [
+      | inl permitted ↦ sym permitted
+      | inr refused ↦ cc (
+        decides.1 (λ held set within. elim (cases_Bool (has_set (family_at next held) set)) [
+          | inr lacks ↦ lacks
+          | inl has ↦
+              let there = some_queue _ ((steps held).roomy.each set within has) in
+              let permitted = states_permit-to elements hold start next (length played + 1) [] (record {
+                held = held;
+                queue = there.0;
+                permitted = tt;
+                rest = record { drawn_set = set; within = within; has = has; there = there.1 };
+              }) in
+              cc (whole, permitted, refused)
+        ]),
+        is,
+      )
+    ]
+      where
+        some_queue : (qs : List (List Piece)) → 0 < length qs → (queue : List Piece) × Contains qs queue
+        some_queue [] some = absurd (omega arith)
+        some_queue (queue ∷ qs) some = (queue, (0, omega arith, refl))

@@ -1,0 +1,51 @@
+-- How many pieces a queue permits: its own, and one that is held.
+use Rattle.std.proofs.Common.{◌≡◌, ℕ, zero, suc, ◌+◌, ◌≤◌, Option, List, [], ◌∷◌, ◌++◌, length, length-append, map, Contains, ap, ◌∙◌, sym, arith, inl, inr}
+use Rattle.std.proofs.lemmas.List.Sums.{sum_by-cons}
+use Rattle.srs.specs.declared.piece.Piece.{Piece}
+use Rattle.srs.proofs.MemberLemmas.{Contains-none, Contains-cases, Contains-from_flat_map, Contains-from_map}
+use Rattle.queue_pattern.specs.declared.element.Element.{Element}
+use Rattle.queue_pattern.specs.Queues.{pieces_in, others, choices, queues, queue_len}
+use Rattle.hold_queue.specs.declared.hold.Hold.{Hold}
+use Rattle.hold_queue.specs.Permits.{Way, plain, exchange, first_hold, last, Permits}
+use Rattle.hold_queue.specs.States.{count_held}
+
+choice-length : (n : ℕ) (pieces choice : List Piece) → Contains (choices pieces n) choice → length choice ≡ n
+unfolding choices
+choice-length zero pieces choice among = elim (Contains-cases [] [] choice among) [
+  | inl is ↦ ap length (sym is)
+  | inr there ↦ absurd (Contains-none choice there)
+]
+choice-length (suc n) pieces choice among =
+    let found = Contains-from_flat_map (λ piece. map (λ rest. piece ∷ rest) (choices (others piece pieces) n)) pieces choice among in
+    let tail = Contains-from_map (λ rest. found.0 ∷ rest) (choices (others found.0 pieces) n) choice found.2 in
+    ap length (sym tail.2) ∙ ap suc (choice-length n (others found.0 pieces) tail.0 tail.1)
+
+-- each queue has the pieces that the elements choose
+pub queue-length : (elements : List Element) (queue : List Piece) → Contains (queues elements) queue → length queue ≡ queue_len elements
+unfolding queues
+queue-length [] queue among = elim (Contains-cases [] [] queue among) [
+  | inl is ↦ ap length (sym is)
+  | inr there ↦ absurd (Contains-none queue there)
+]
+queue-length (e ∷ elements) queue among =
+    let found = Contains-from_flat_map (λ choice. map (λ rest. choice ++ rest) (queues elements)) (choices (pieces_in e.set) e.chosen) queue among in
+    let tail = Contains-from_map (λ rest. found.0 ++ rest) (queues elements) queue found.2 in
+    ap length (sym tail.2) ∙ omega (
+      arith,
+      length-append found.0 tail.0,
+      choice-length e.chosen (pieces_in e.set) found.0 found.1,
+      queue-length elements tail.0 tail.1,
+      sum_by-cons (λ (x : Element). x.chosen) e elements,
+    )
+
+way-length : {hold : Hold} {queue : List Piece} {held : Option Piece} {piece : Piece} {rest : List Piece} {after : Option Piece}
+    → Way hold queue held piece rest after → length rest + count_held after + 1 ≤ length queue + count_held held
+way-length plain = omega arith
+way-length exchange = omega arith
+way-length first_hold = omega arith
+way-length last = omega arith
+
+pub permits-length : (hold : Hold) (pieces queue : List Piece) (held : Option Piece) → Permits hold queue held pieces → length pieces ≤ length queue + count_held held
+permits-length hold [] queue held permitted = omega arith
+permits-length hold (piece ∷ pieces) queue held permitted =
+    omega (arith, way-length permitted.2, permits-length hold pieces permitted.0 permitted.1 permitted.3)

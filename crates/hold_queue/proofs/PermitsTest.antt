@@ -1,0 +1,98 @@
+-- The tests decide what queues permit.
+use Rattle.std.proofs.Common.{◌≡◌, Bool, true, false, ◌&&◌, ◌||◌, ◌↔◌, ◌⊎◌, inl, inr, List, [], ◌∷◌, Option, Some, None, refl, subst, arith}
+use Rattle.std.proofs.lemmas.Bool.{and_parts, and_from}
+use Rattle.std.proofs.lemmas.List.Folds.{Any-from_list_any, list_any-from_Any}
+use Rattle.std.proofs.lemmas.Bool.Decides.{nat_tests}
+use Rattle.srs.specs.declared.piece.Piece.{Piece}
+use Rattle.srs.proofs.CodeLemmas.{piece_code-injective}
+use Rattle.hold_queue.specs.declared.hold.Hold.{Hold}
+use Rattle.hold_queue.specs.declared.hold.Hold.TheVariants.{Allowed, Avoided}
+use Rattle.hold_queue.specs.Permits.{Way, plain, exchange, first_hold, last, Permits, SomePermits, permits, some_permits, same_piece, takes_first, takes_held}
+use Rattle.hold_queue.specs.QueueSet.{Line, LinePermits, line_permits}
+
+pub same_piece-is : (p q : Piece) → same_piece p q ≡ true → p ≡ q
+same_piece-is p q same = piece_code-injective p q (grind (arith, nat_tests))
+
+pub same_piece-itself : (p : Piece) → same_piece p p ≡ true
+same_piece-itself p = grind (arith, nat_tests)
+
+or_cases : (a b : Bool) → (a || b) ≡ true → (a ≡ true) ⊎ (b ≡ true)
+or_cases true b h = inl refl
+or_cases false b h = inr h
+
+or_left : (a b : Bool) → a ≡ true → (a || b) ≡ true
+or_left true b h = refl
+or_left false b h = cc
+
+or_right : (a b : Bool) → b ≡ true → (a || b) ≡ true
+or_right true b h = refl
+or_right false b h = h
+
+-- a way and what it leaves, for which a test holds
+abbrev SomeWay : Hold → List Piece → Option Piece → Piece → (List Piece → Option Piece → Bool) → Type 0
+SomeWay hold queue held piece goes_on = (rest : List Piece) × (after : Option Piece) × Way hold queue held piece rest after × (goes_on rest after ≡ true)
+
+first_way : (hold : Hold) (queue : List Piece) (held : Option Piece) (piece : Piece) (goes_on : List Piece → Option Piece → Bool)
+    → takes_first queue piece (λ rest. goes_on rest held) ≡ true → SomeWay hold queue held piece goes_on
+first_way hold [] held piece goes_on taken = cc
+first_way hold (first ∷ queue) held piece goes_on taken =
+    let parts = and_parts (same_piece first piece) (goes_on queue held) taken in
+    let way : Way hold (first ∷ queue) held piece queue held = subst (λ p. Way hold (first ∷ queue) held p queue held) (same_piece-is first piece parts.0) plain in
+    (queue, held, way, parts.1)
+
+held_way : (hold : Hold) (queue : List Piece) (held : Option Piece) (piece : Piece) (goes_on : List Piece → Option Piece → Bool)
+    → takes_held hold queue held piece goes_on ≡ true → SomeWay hold queue held piece goes_on
+held_way Avoided queue held piece goes_on taken = cc
+held_way Allowed [] None piece goes_on taken = cc
+held_way Allowed [] (Some kept) piece goes_on taken =
+    let parts = and_parts (same_piece kept piece) (goes_on [] None) taken in
+    let way : Way Allowed [] (Some kept) piece [] None = subst (λ p. Way Allowed [] (Some kept) p [] None) (same_piece-is kept piece parts.0) last in
+    ([], None, way, parts.1)
+held_way Allowed (first ∷ queue) (Some kept) piece goes_on taken =
+    let parts = and_parts (same_piece kept piece) (goes_on queue (Some first)) taken in
+    let way : Way Allowed (first ∷ queue) (Some kept) piece queue (Some first) = subst (λ p. Way Allowed (first ∷ queue) (Some kept) p queue (Some first)) (same_piece-is kept piece parts.0) exchange in
+    (queue, Some first, way, parts.1)
+held_way Allowed (first ∷ []) None piece goes_on taken = cc
+held_way Allowed (first ∷ second ∷ queue) None piece goes_on taken =
+    let parts = and_parts (same_piece second piece) (goes_on queue (Some first)) taken in
+    let way : Way Allowed (first ∷ second ∷ queue) None piece queue (Some first) = subst (λ p. Way Allowed (first ∷ second ∷ queue) None p queue (Some first)) (same_piece-is second piece parts.0) first_hold in
+    (queue, Some first, way, parts.1)
+
+way_taken : {hold : Hold} {queue : List Piece} {held : Option Piece} {piece : Piece} {rest : List Piece} {after : Option Piece} (goes_on : List Piece → Option Piece → Bool)
+    → Way hold queue held piece rest after → goes_on rest after ≡ true
+    → (takes_first queue piece (λ r. goes_on r held) || takes_held hold queue held piece goes_on) ≡ true
+way_taken goes_on (plain {piece = piece} {queue = queue} {held = held}) on = or_left (same_piece piece piece && goes_on queue held) _ (and_from _ _ (same_piece-itself piece) on)
+way_taken goes_on (exchange {first = first} {queue = queue} {piece = piece}) on = or_right (takes_first (first ∷ queue) piece (λ r. goes_on r (Some piece))) _ (and_from _ _ (same_piece-itself piece) on)
+way_taken goes_on (first_hold {first = first} {piece = piece} {queue = queue}) on = or_right (takes_first (first ∷ piece ∷ queue) piece (λ r. goes_on r None)) _ (and_from _ _ (same_piece-itself piece) on)
+way_taken goes_on (last {piece = piece}) on = or_right (takes_first [] piece (λ r. goes_on r (Some piece))) _ (and_from _ _ (same_piece-itself piece) on)
+
+permits-from : (hold : Hold) (pieces : List Piece) (queue : List Piece) (held : Option Piece) → permits hold queue held pieces ≡ true → Permits hold queue held pieces
+unfolding permits
+permits-from hold [] queue held h = tt
+permits-from hold (piece ∷ pieces) queue held h =
+    elim (or_cases (takes_first queue piece (λ rest. permits hold rest held pieces)) (takes_held hold queue held piece (λ rest after. permits hold rest after pieces)) h) [
+      | inl first ↦ let way = first_way hold queue held piece (λ rest after. permits hold rest after pieces) first in
+          (way.0, way.1, way.2, permits-from hold pieces way.0 way.1 way.3)
+      | inr kept ↦ let way = held_way hold queue held piece (λ rest after. permits hold rest after pieces) kept in
+          (way.0, way.1, way.2, permits-from hold pieces way.0 way.1 way.3)
+    ]
+
+permits-to : (hold : Hold) (pieces : List Piece) (queue : List Piece) (held : Option Piece) → Permits hold queue held pieces → permits hold queue held pieces ≡ true
+unfolding permits
+permits-to hold [] queue held h = refl
+permits-to hold (piece ∷ pieces) queue held h =
+    way_taken (λ rest after. permits hold rest after pieces) h.2 (permits-to hold pieces h.0 h.1 h.3)
+
+pub permits-decides : (hold : Hold) (queue : List Piece) (held : Option Piece) (pieces : List Piece) → (permits hold queue held pieces ≡ true) ↔ Permits hold queue held pieces
+permits-decides hold queue held pieces = (permits-from hold pieces queue held, permits-to hold pieces queue held)
+
+pub some_permits-decides : (hold : Hold) (queues : List (List Piece)) (held : Option Piece) (pieces : List Piece) → (some_permits hold queues held pieces ≡ true) ↔ SomePermits hold queues held pieces
+some_permits-decides hold queues held pieces =
+    let test : List Piece → Bool = λ queue. permits hold queue held pieces in (
+      (λ h. let some = Any-from_list_any test queues h in
+          (some.1, (some.0, some.2, some.3), permits-from hold pieces some.1 held some.4)),
+      (λ some. list_any-from_Any test queues (some.1.0, some.0, some.1.1, some.1.2, permits-to hold pieces some.0 held some.2)),
+    )
+
+pub line_permits-decides : (line : Line) (pieces : List Piece) → (line_permits line pieces ≡ true) ↔ LinePermits line pieces
+line_permits-decides line pieces = some_permits-decides line.hold _ line.held pieces

@@ -1,0 +1,140 @@
+-- What is left of the queues after one more piece is drawn.
+use Rattle.std.proofs.Common.{◌≡◌, ℕ, suc, ◌+◌, ◌-◌, ◌<◌, ◌≤◌, Bool, true, false, not, cond, ◌&&◌, ◌||◌, ◌==◌, Some, None, List, [], ◌∷◌, filter, refl, ap, ◌∙◌, sym, subst, inl, inr, arith}
+use Rattle.std.specs.List.{list_all}
+use Rattle.std.proofs.lemmas.Bool.{agree_below_at, cases_lt, lt-ltb, le-ltb, eq-eqb, ne_eqb}
+use Rattle.std.proofs.lemmas.Nat.Bits.{bit_at-zero}
+use Rattle.srs.specs.declared.piece.Piece.{Piece}
+use Rattle.srs.specs.Piece.{all_pieces, piece_code}
+use Rattle.srs.proofs.ShapeLemmas.{each_piece}
+use Rattle.queue_pattern.specs.declared.element.Element.{Element}
+use Rattle.queue_pattern.specs.Grammar.{set_of}
+use Rattle.queue_pattern.specs.Queues.{pieces_in, others, queues, tails}
+use Rattle.queue_pattern.proofs.QueueLemmas.{tails-none, queues-tails, queues-none}
+use Rattle.queue_pattern.proofs.SetLemmas.{filter_twice}
+use Rattle.hold_queue.specs.declared.family.Draw.{Draw}
+use Rattle.hold_queue.specs.Family.{is_in}
+use Rattle.hold_queue.specs.States.{in_progress, undrawn, rests}
+
+abbrev same : Bool → Bool → Bool
+same a b = cond a b (not b)
+
+same_true : (a b : Bool) → same a b ≡ true → a ≡ b
+same_true true true e = refl
+same_true true false e = sym e
+same_true false true e = e
+same_true false false e = refl
+
+abbrev adds : ℕ → Piece → Piece → Bool
+adds set piece other = is_in piece set || same (not (is_in other (set + set_of piece))) (not (is_in other set) && not (piece_code other == piece_code piece))
+
+abbrev adds_all : ℕ → Bool
+adds_all set = list_all (λ piece. list_all (adds set piece) all_pieces) all_pieces
+
+or_second : (a b : Bool) → a ≡ false → (a || b) ≡ true → b ≡ true
+or_second a b e h = cc
+
+added : (set : ℕ) → set < 128 → (piece other : Piece) → is_in piece set ≡ false
+    → not (is_in other (set + set_of piece)) ≡ (not (is_in other set) && not (piece_code other == piece_code piece))
+added set within piece other lacks =
+    same_true _ _ (or_second (is_in piece set) _ lacks
+    (each_piece (adds set piece) (each_piece (λ p. list_all (adds set p) all_pieces) (agree_below_at adds_all (λ _. true) 128 set refl within) piece) other))
+
+-- one more piece is drawn
+pub undrawn-with : (set drawn_set : ℕ) (piece : Piece) → drawn_set < 128 → is_in piece drawn_set ≡ false
+    → undrawn set (drawn_set + set_of piece) ≡ others piece (undrawn set drawn_set)
+unfolding undrawn others
+undrawn-with set drawn_set piece within lacks =
+    filter_twice (λ p. not (is_in p drawn_set)) (λ p. not (piece_code p == piece_code piece)) (λ p. not (is_in p (drawn_set + set_of piece)))
+    (λ other. added drawn_set within piece other lacks) (pieces_in set)
+
+filter-all : {A : Type 0} (test : A → Bool) → ((x : A) → test x ≡ true) → (xs : List A) → filter test xs ≡ xs
+filter-all test all [] = refl
+filter-all test all (x ∷ xs) = rw (all x) (ap (λ rest. x ∷ rest) (filter-all test all xs))
+
+pub undrawn-none : (set : ℕ) → undrawn set 0 ≡ pieces_in set
+unfolding undrawn
+undrawn-none set = filter-all (λ p. not (is_in p 0)) (λ p. ap (λ n. not (n == 1)) (bit_at-zero (piece_code p - 1))) (pieces_in set)
+
+-- before any piece is drawn, all queues are left
+pub rests-start : (elements : List Element) → rests elements 0 0 ≡ queues elements
+unfolding rests
+rests-start [] = sym queues-none
+rests-start (e ∷ elements) = elim (cases_lt 0 e.chosen) [
+  | inl some ↦ rw (lt-ltb 0 e.chosen some) (ap (λ pieces. tails pieces (e.chosen - 0) elements) (undrawn-none e.set)
+      ∙ ap (λ n. tails (pieces_in e.set) n elements) (omega arith) ∙ sym (queues-tails e elements))
+  | inr none ↦ rw (le-ltb 0 e.chosen none) (ap (λ n. rests elements n 0) (omega arith) ∙ rests-start elements
+      ∙ sym (tails-none (pieces_in e.set) elements) ∙ ap (λ n. tails (pieces_in e.set) n elements) (omega arith) ∙ sym (queues-tails e elements))
+]
+
+-- the drawn set after one more piece
+abbrev pub set_after : Draw → ℕ → Piece → ℕ
+set_after draw drawn_set piece = cond draw.is_last 0 (drawn_set + set_of piece)
+
+-- some pieces of the element in progress are still to be chosen
+pub record Stands (elements : List Element) (drawn : ℕ) (draw : Draw) : Type 0 where
+  pub more : ℕ
+  pub later : List Element
+  pub now : (drawn_set : ℕ) → rests elements drawn drawn_set ≡ tails (undrawn draw.element.set drawn_set) (suc more) later
+  pub next : (drawn_set : ℕ) (piece : Piece) → drawn_set < 128 → is_in piece drawn_set ≡ false
+      → rests elements (drawn + 1) (set_after draw drawn_set piece) ≡ tails (others piece (undrawn draw.element.set drawn_set)) more later
+
+abbrev drawing : Element → ℕ → Draw
+drawing element drawn = record { element = element; is_last = drawn + 1 == element.chosen }
+
+stands_here : (e : Element) (elements : List Element) (drawn : ℕ) → drawn < e.chosen → Stands (e ∷ elements) drawn (drawing e drawn)
+unfolding rests
+stands_here e elements drawn within = record {
+  more = e.chosen - drawn - 1;
+  later = elements;
+  now = λ drawn_set. rw (lt-ltb drawn e.chosen within) (ap (λ n. tails (undrawn e.set drawn_set) n elements) (omega arith));
+  next = λ drawn_set piece small lacks. elim (cases_lt (drawn + 1) e.chosen) [
+    | inl more ↦
+        let other : (drawn + 1 == e.chosen) ≡ false = ne_eqb (drawn + 1) e.chosen (λ same. absurd (omega arith)) in
+        rw (other, lt-ltb (drawn + 1) e.chosen more)
+        (ap (λ pieces. tails pieces (e.chosen - (drawn + 1)) elements) (undrawn-with e.set drawn_set piece small lacks)
+        ∙ ap (λ n. tails (others piece (undrawn e.set drawn_set)) n elements) (omega arith))
+    | inr last ↦
+        let same : (drawn + 1 == e.chosen) ≡ true = eq-eqb (drawn + 1) e.chosen (omega arith) in
+        rw (same, le-ltb (drawn + 1) e.chosen last)
+        (ap (λ n. rests elements n 0) (omega arith) ∙ rests-start elements ∙ sym (tails-none (others piece (undrawn e.set drawn_set)) elements)
+        ∙ ap (λ n. tails (others piece (undrawn e.set drawn_set)) n elements) (omega arith))
+  ];
+}
+
+stands_later : (e : Element) (elements : List Element) (drawn : ℕ) (draw : Draw) → e.chosen ≤ drawn → Stands elements (drawn - e.chosen) draw → Stands (e ∷ elements) drawn draw
+unfolding rests
+stands_later e elements drawn draw past stands = record {
+  more = stands.more;
+  later = stands.later;
+  now = λ drawn_set. rw (le-ltb drawn e.chosen past) (stands.now drawn_set);
+  next = λ drawn_set piece small lacks.
+      let beyond : e.chosen ≤ drawn + 1 = omega arith in
+      rw (le-ltb (drawn + 1) e.chosen beyond)
+      (ap (λ n. rests elements n (set_after draw drawn_set piece)) (omega arith) ∙ stands.next drawn_set piece small lacks);
+}
+
+pub stands : (elements : List Element) (drawn : ℕ) (draw : Draw) → in_progress elements drawn ≡ Some draw → Stands elements drawn draw
+unfolding in_progress
+stands [] drawn draw is = cc
+stands (e ∷ elements) drawn draw is = elim (cases_lt drawn e.chosen) [
+  | inl within ↦
+      let here : Some (drawing e drawn) ≡ Some draw = sym (ap (λ b. cond b (Some (drawing e drawn)) (in_progress elements (drawn - e.chosen))) (lt-ltb drawn e.chosen within)) ∙ is in
+      let same : drawing e drawn ≡ draw = cc in
+      subst (λ d. Stands (e ∷ elements) drawn d) same (stands_here e elements drawn within)
+  | inr past ↦
+      let there : in_progress elements (drawn - e.chosen) ≡ Some draw = sym (ap (λ b. cond b (Some (drawing e drawn)) (in_progress elements (drawn - e.chosen))) (le-ltb drawn e.chosen past)) ∙ is in
+      stands_later e elements drawn draw past (stands elements (drawn - e.chosen) draw there)
+]
+
+-- where all elements are drawn, nothing is left
+pub rests-done : (elements : List Element) (drawn drawn_set : ℕ) → in_progress elements drawn ≡ None → rests elements drawn drawn_set ≡ [] ∷ []
+unfolding in_progress rests
+rests-done [] drawn drawn_set is = refl
+rests-done (e ∷ elements) drawn drawn_set is = elim (cases_lt drawn e.chosen) [
+  | inl within ↦
+      let here : Some (drawing e drawn) ≡ None = sym (ap (λ b. cond b (Some (drawing e drawn)) (in_progress elements (drawn - e.chosen))) (lt-ltb drawn e.chosen within)) ∙ is in
+      cc
+  | inr past ↦
+      let there : in_progress elements (drawn - e.chosen) ≡ None = sym (ap (λ b. cond b (Some (drawing e drawn)) (in_progress elements (drawn - e.chosen))) (le-ltb drawn e.chosen past)) ∙ is in
+      rw (le-ltb drawn e.chosen past) (rests-done elements (drawn - e.chosen) drawn_set there)
+]

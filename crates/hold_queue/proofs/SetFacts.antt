@@ -1,0 +1,65 @@
+-- What holds of each queue set.
+use Rattle.std.proofs.Common.{◌≡◌, ℕ, ◌<◌, ◌≤◌, ◌+◌, length, length-append, take, List, [], ◌∷◌, ◌++◌, Bool, false, not, IsTrue, ◌↔◌, subst, sym, ap, arith, ◌∙◌, Option, Some, None, add-one}
+use Rattle.std.proofs.Common.{set as list_set}
+use Rattle.std.proofs.Math.Seq.{take-suc-set}
+use Rattle.std.proofs.lemmas.List.{length-take}
+use Rattle.srs.specs.declared.piece.Piece.{Piece}
+use Rattle.queue_pattern.specs.Pattern.{elements_of}
+use Rattle.queue_pattern.proofs.PatternFacts.{pattern-short}
+use Rattle.hold_queue.specs.declared.set.QueueSet.{QueueSet}
+use Rattle.hold_queue.specs.Family.{has_set}
+use Rattle.hold_queue.specs.QueueSet.{line_of, LinePermits, line_permits}
+use Rattle.hold_queue.specs.States.{Follows, IsNextFamily, family_at, count_held}
+use Rattle.hold_queue.proofs.FollowLemmas.{may_play-is, follows-next}
+use Rattle.hold_queue.proofs.LengthLemmas.{permits-length, queue-length}
+use Rattle.hold_queue.proofs.StepLemmas.{Stands}
+
+pub played-length : (set : QueueSet) → length (take set.number set.played) ≡ set.number
+played-length set = omega (arith, length-take set.number set.played, set.room, set.within)
+
+pub set-stands : (set : QueueSet) → Stands (elements_of set.pattern) set.held set.states set.number
+set-stands set = subst (λ n. Stands (elements_of set.pattern) set.held set.states n) (played-length set) (record {
+  roomy = λ held. record { each = set.follows.some held };
+  drawn_fits = set.follows.drawn_fits;
+})
+
+-- the answer of `may_play`, from the states after the piece
+pub set-may_play : (set : QueueSet) (piece : Piece) (next : List ℕ)
+    → ((held : Option Piece) → IsNextFamily (elements_of set.pattern) set.hold set.held set.states set.number piece held (family_at next held))
+    → (empty : Bool) → IsTrue empty ↔ ((held : Option Piece) (drawn_set : ℕ) → drawn_set < 128 → has_set (family_at next held) drawn_set ≡ false)
+    → not empty ≡ line_permits (line_of set) ((line_of set).played ++ piece ∷ [])
+unfolding line_of
+set-may_play set piece next steps empty decides =
+    may_play-is (elements_of set.pattern) set.hold set.held set.states next (take set.number set.played) piece set.follows
+    (λ held. subst (λ n. IsNextFamily (elements_of set.pattern) set.hold set.held set.states n piece held (family_at next held)) (sym (played-length set)) (steps held))
+    empty decides
+
+-- there is room for one more piece where it is permitted
+pub set-room : (set : QueueSet) (piece : Piece) → LinePermits (line_of set) ((line_of set).played ++ piece ∷ []) → set.number < 23
+unfolding line_of
+set-room set piece permitted =
+    omega (
+      arith,
+      permits-length set.hold (take set.number set.played ++ piece ∷ []) permitted.0 set.held permitted.2,
+      length-append (take set.number set.played) (piece ∷ []),
+      played-length set,
+      queue-length (elements_of set.pattern) permitted.0 permitted.1,
+      pattern-short set.pattern,
+      count_held-le set.held,
+    )
+  where
+    count_held-le : (held : Option Piece) → count_held held ≤ 1
+    count_held-le None = omega arith
+    count_held-le (Some piece) = omega arith
+
+pub played-more : (set : QueueSet) (piece : Piece) → set.number < 23 → take (set.number + 1) (list_set set.played set.number piece) ≡ take set.number set.played ++ piece ∷ []
+played-more set piece room = ap (λ n. take n (list_set set.played set.number piece)) (add-one set.number) ∙ take-suc-set set.played set.number piece (omega (arith, set.room))
+
+-- the states after one more piece stand for the longer list
+pub set-follows : (set : QueueSet) (piece : Piece) (next : List ℕ) → set.number < 23
+    → ((held : Option Piece) → IsNextFamily (elements_of set.pattern) set.hold set.held set.states set.number piece held (family_at next held))
+    → Follows (elements_of set.pattern) set.hold set.held next (take (set.number + 1) (list_set set.played set.number piece))
+set-follows set piece next room steps =
+    subst (Follows (elements_of set.pattern) set.hold set.held next) (sym (played-more set piece room))
+    (follows-next (elements_of set.pattern) set.hold set.held set.states next (take set.number set.played) piece set.follows
+    (λ held. subst (λ n. IsNextFamily (elements_of set.pattern) set.hold set.held set.states n piece held (family_at next held)) (sym (played-length set)) (steps held)))

@@ -1,0 +1,320 @@
+-- The families after one more piece is played, by the four ways to play it.
+use Rattle.std.proofs.Common.{◌≡◌, ℕ, ◌+◌, ◌<◌, ◌≤◌, true, ◌||◌, Option, Some, None, List, [], ◌∷◌, Contains, refl, ap, ◌∙◌, sym, subst, inl, inr, ◌⊎◌, arith}
+use Rattle.srs.specs.declared.piece.Piece.{Piece}
+use Rattle.srs.specs.declared.piece.Piece.TheVariants.{I, L, O, Z, T, J, S}
+use Rattle.srs.proofs.MemberLemmas.{some_same, Contains-cases, Contains-none}
+use Rattle.queue_pattern.specs.declared.element.Element.{Element}
+use Rattle.hold_queue.specs.declared.family.Draw.{Draw}
+use Rattle.hold_queue.specs.declared.family.Family.{Family}
+use Rattle.hold_queue.specs.declared.hold.Hold.{Hold}
+use Rattle.hold_queue.specs.declared.hold.Hold.TheVariants.{Allowed, Avoided}
+use Rattle.hold_queue.specs.Family.{has_set, IsDrawn}
+use Rattle.hold_queue.specs.Permits.{Way, plain, exchange, first_hold, last}
+use Rattle.hold_queue.specs.States.{in_progress, rests, count_held, drawn_by, family_at, IsRest, IsRoomy, CameBy, IsNextFamily}
+use Rattle.hold_queue.proofs.DrawLemmas.{or_cases, or_left, or_right}
+use Rattle.hold_queue.proofs.RestLemmas.{stands, rests-done}
+use Rattle.hold_queue.proofs.DrawnRests.{moves-back, rest-on, rest-back, roomy-on, begins-none}
+
+-- the sets of two families
+pub record IsUnion (f g both : Family) : Type 0 where
+  pub each : (set : ℕ) → set < 128 → has_set both set ≡ (has_set f set || has_set g set)
+
+union-from : {elements : List Element} {drawn : ℕ} {queue : List Piece} (f g both : Family) → IsUnion f g both
+    → IsRest elements drawn both queue → IsRest elements drawn f queue ⊎ IsRest elements drawn g queue
+union-from f g both union rest = elim (or_cases (has_set f rest.drawn_set) (has_set g rest.drawn_set) (sym (union.each rest.drawn_set rest.within) ∙ rest.has)) [
+  | inl one ↦ inl (record { drawn_set = rest.drawn_set; within = rest.within; has = one; there = rest.there })
+  | inr two ↦ inr (record { drawn_set = rest.drawn_set; within = rest.within; has = two; there = rest.there })
+]
+
+union-left : {elements : List Element} {drawn : ℕ} {queue : List Piece} (f g both : Family) → IsUnion f g both → IsRest elements drawn f queue → IsRest elements drawn both queue
+union-left f g both union rest = record { drawn_set = rest.drawn_set; within = rest.within; has = union.each rest.drawn_set rest.within ∙ or_left _ _ rest.has; there = rest.there }
+
+union-right : {elements : List Element} {drawn : ℕ} {queue : List Piece} (f g both : Family) → IsUnion f g both → IsRest elements drawn g queue → IsRest elements drawn both queue
+union-right f g both union rest = record { drawn_set = rest.drawn_set; within = rest.within; has = union.each rest.drawn_set rest.within ∙ or_right _ _ rest.has; there = rest.there }
+
+union-cases : (f g both : Family) → IsUnion f g both → (set : ℕ) → set < 128 → has_set both set ≡ true → (has_set f set ≡ true) ⊎ (has_set g set ≡ true)
+union-cases f g both union set within has = or_cases (has_set f set) (has_set g set) (sym (union.each set within) ∙ has)
+
+union-roomy : (elements : List Element) (drawn : ℕ) (f g both : Family) → IsUnion f g both → IsRoomy elements drawn f → IsRoomy elements drawn g → IsRoomy elements drawn both
+union-roomy elements drawn f g both union one two = record {
+  each = λ set within has. elim (union-cases f g both union set within has) [
+    | inl left ↦ one.each set within left
+    | inr right ↦ two.each set within right
+  ];
+}
+
+-- what holds of the states so far
+pub record Stands (elements : List Element) (start : Option Piece) (states : List ℕ) (played : ℕ) : Type 0 where
+  pub roomy : (held : Option Piece) → IsRoomy elements (drawn_by start played held) (family_at states held)
+  pub drawn_fits : (held : Option Piece) (set : ℕ) → set < 128 → has_set (family_at states held) set ≡ true → count_held start ≤ played + count_held held
+
+module _ (elements : List Element) (start : Option Piece) (states : List ℕ) (played : ℕ) (so_far : Stands elements start states played) where
+  -- a family after one draw by which what is held changes from one to another, whose number is the same or one more
+  abbrev Counts : Option Piece → ℕ → Type 0
+  Counts held next = (set : ℕ) → set < 128 → has_set (family_at states held) set ≡ true → next ≡ drawn_by start played held + 1
+
+  counts_same : (held : Option Piece) → Counts held (drawn_by start (played + 1) held)
+  counts_same held set within has = omega (arith, so_far.drawn_fits held set within has)
+
+  counts_exchange : (piece first : Piece) → Counts (Some piece) (drawn_by start (played + 1) (Some first))
+  counts_exchange piece first set within has = omega (arith, so_far.drawn_fits (Some piece) set within has)
+
+  counts_first : (first : Piece) → Counts None (drawn_by start played (Some first))
+  counts_first first set within has = omega (arith, so_far.drawn_fits None set within has)
+
+  -- what has a set after a draw had one before it
+  fits_after : (held next : Option Piece) (draw : Option Draw) (piece : Piece) (after : Family) → IsDrawn draw piece (family_at states held) after
+      → count_held held ≤ count_held next → (set : ℕ) → set < 128 → has_set after set ≡ true → count_held start ≤ played + 1 + count_held next
+  fits_after held next draw piece after drawn more set within has =
+      let m = moves-back draw piece (family_at states held) after drawn set within has in
+      omega (arith, so_far.drawn_fits held m.drawn_set m.within m.has)
+
+  -- where hold is avoided
+  pub next_avoided : (piece : Piece) (held : Option Piece) (after : Family) → IsDrawn (in_progress elements (drawn_by start played held)) piece (family_at states held) after
+      → IsNextFamily elements Avoided start states played piece held after
+  next_avoided piece held after drawn = record {
+    came = λ queue rest. record {
+      held_before = held;
+      queue_before = piece ∷ queue;
+      way = plain;
+      rest = rest-back elements (drawn_by start played held) (drawn_by start (played + 1) held) piece (family_at states held) after drawn (counts_same held) queue rest;
+    };
+    goes = λ queue came. goes queue came.held_before came.queue_before came.way came.rest;
+    roomy = roomy-on elements (drawn_by start played held) (drawn_by start (played + 1) held) piece (family_at states held) after drawn (counts_same held) (so_far.roomy held);
+    drawn_fits = fits_after held held (in_progress elements (drawn_by start played held)) piece after drawn (omega arith);
+  }
+    where
+      same_way : {hold : Hold} {before : List Piece} {held_before : Option Piece} {piece : Piece} {queue : List Piece} {held : Option Piece}
+          → hold ≡ Avoided → Way hold before held_before piece queue held → (before ≡ piece ∷ queue) × (held_before ≡ held)
+      same_way avoided plain = (refl, refl)
+      same_way avoided exchange = cc
+      same_way avoided first_hold = cc
+      same_way avoided last = cc
+
+      goes : (queue : List Piece) (held_before : Option Piece) (before : List Piece) → Way Avoided before held_before piece queue held
+          → IsRest elements (drawn_by start played held_before) (family_at states held_before) before → IsRest elements (drawn_by start (played + 1) held) after queue
+      goes queue held_before before way rest =
+          let same = same_way refl way in
+          rest-on elements (drawn_by start played held) (drawn_by start (played + 1) held) piece (family_at states held) after drawn (counts_same held) queue
+          (subst (λ q. IsRest elements (drawn_by start played held) (family_at states held) q) same.0
+          (subst (λ h. IsRest elements (drawn_by start played h) (family_at states h) before) same.1 rest))
+
+  -- the ways that leave nothing held
+  NoneWay : List Piece → Option Piece → Piece → List Piece → Type 0
+  NoneWay before held_before piece queue = ((before ≡ piece ∷ queue) × (held_before ≡ None)) ⊎ ((before ≡ []) × (held_before ≡ Some piece) × (queue ≡ []))
+
+  none_way : {hold : Hold} {before : List Piece} {held_before : Option Piece} {piece : Piece} {queue : List Piece} {held : Option Piece}
+      → held ≡ None → Way hold before held_before piece queue held → NoneWay before held_before piece queue
+  unfolding NoneWay
+  none_way empty plain = inl (refl, empty)
+  none_way empty exchange = cc
+  none_way empty first_hold = cc
+  none_way empty last = inr (refl, refl, refl)
+
+  -- nothing is held, and the queue is not used up where a piece was held
+  pub next_none_more : (piece : Piece) (after : Family) (draw : Draw) → in_progress elements (drawn_by start played (Some piece)) ≡ Some draw
+      → IsDrawn (in_progress elements (drawn_by start played None)) piece (family_at states None) after
+      → IsNextFamily elements Allowed start states played piece None after
+  unfolding NoneWay
+  next_none_more piece after draw is drawn = record {
+    came = λ queue rest. record {
+      held_before = None;
+      queue_before = piece ∷ queue;
+      way = plain;
+      rest = rest-back elements (drawn_by start played None) (drawn_by start (played + 1) None) piece (family_at states None) after drawn (counts_same None) queue rest;
+    };
+    goes = λ queue came. goes queue came.held_before came.queue_before (none_way refl came.way) came.rest;
+    roomy = roomy-on elements (drawn_by start played None) (drawn_by start (played + 1) None) piece (family_at states None) after drawn (counts_same None) (so_far.roomy None);
+    drawn_fits = fits_after None None (in_progress elements (drawn_by start played None)) piece after drawn (omega arith);
+  }
+    where
+      goes : (queue : List Piece) (held_before : Option Piece) (before : List Piece) → NoneWay before held_before piece queue
+          → IsRest elements (drawn_by start played held_before) (family_at states held_before) before → IsRest elements (drawn_by start (played + 1) None) after queue
+      goes queue held_before before (inl same) rest =
+          rest-on elements (drawn_by start played None) (drawn_by start (played + 1) None) piece (family_at states None) after drawn (counts_same None) queue
+          (subst (λ q. IsRest elements (drawn_by start played None) (family_at states None) q) same.0
+          (subst (λ h. IsRest elements (drawn_by start played h) (family_at states h) before) same.1 rest))
+      goes queue held_before before (inr same) rest =
+          let held_rest = subst (λ h. IsRest elements (drawn_by start played h) (family_at states h) before) same.1 rest in
+          let ended = subst (λ q. IsRest elements (drawn_by start played (Some piece)) (family_at states (Some piece)) q) same.0 held_rest in
+          let at = stands elements (drawn_by start played (Some piece)) draw is in
+          absurd (begins-none _ at.more at.later (subst (λ qs. Contains qs []) (at.now ended.drawn_set) ended.there))
+
+  -- nothing is held, and the queue is used up where a piece was held
+  pub next_none_last : (piece : Piece) (drawn_on both : Family) → in_progress elements (drawn_by start played (Some piece)) ≡ None
+      → IsDrawn (in_progress elements (drawn_by start played None)) piece (family_at states None) drawn_on
+      → IsUnion drawn_on (family_at states (Some piece)) both
+      → IsNextFamily elements Allowed start states played piece None both
+  unfolding NoneWay
+  next_none_last piece drawn_on both is drawn union = record {
+    came = λ queue rest. elim (union-from drawn_on (family_at states (Some piece)) both union rest) [
+      | inl one ↦ record {
+        held_before = None;
+        queue_before = piece ∷ queue;
+        way = plain;
+        rest = rest-back elements (drawn_by start played None) (drawn_by start (played + 1) None) piece (family_at states None) drawn_on drawn (counts_same None) queue one;
+      }
+      | inr two ↦ came_last queue two
+    ];
+    goes = λ queue came. goes queue came.held_before came.queue_before (none_way refl came.way) came.rest;
+    roomy = union-roomy elements (drawn_by start (played + 1) None) drawn_on (family_at states (Some piece)) both union
+        (roomy-on elements (drawn_by start played None) (drawn_by start (played + 1) None) piece (family_at states None) drawn_on drawn (counts_same None) (so_far.roomy None))
+        (subst (λ n. IsRoomy elements n (family_at states (Some piece))) (sym same_number) (so_far.roomy (Some piece)));
+    drawn_fits = λ set within has. elim (union-cases drawn_on (family_at states (Some piece)) both union set within has) [
+      | inl one ↦ fits_after None None (in_progress elements (drawn_by start played None)) piece drawn_on drawn (omega arith) set within one
+      | inr two ↦ omega (arith, so_far.drawn_fits (Some piece) set within two)
+    ];
+  }
+    where
+      same_number : drawn_by start (played + 1) None ≡ drawn_by start played (Some piece)
+      same_number = omega arith
+
+      only : (set : ℕ) (queue : List Piece) → Contains (rests elements (drawn_by start played (Some piece)) set) queue → [] ≡ queue
+      only set queue among = elim (Contains-cases [] [] queue (subst (λ qs. Contains qs queue) (rests-done elements (drawn_by start played (Some piece)) set is) among)) [
+        | inl same ↦ same
+        | inr there ↦ absurd (Contains-none queue there)
+      ]
+
+      came_last : (queue : List Piece) → IsRest elements (drawn_by start (played + 1) None) (family_at states (Some piece)) queue → CameBy elements Allowed start states played piece None queue
+      came_last queue rest =
+          let here = subst (λ n. IsRest elements n (family_at states (Some piece)) queue) same_number rest in
+          let empty = only here.drawn_set queue here.there in
+          subst (λ q. CameBy elements Allowed start states played piece None q) empty (record {
+            held_before = Some piece;
+            queue_before = [];
+            way = last;
+            rest = subst (λ q. IsRest elements (drawn_by start played (Some piece)) (family_at states (Some piece)) q) (sym empty) here;
+          })
+
+      goes : (queue : List Piece) (held_before : Option Piece) (before : List Piece) → NoneWay before held_before piece queue
+          → IsRest elements (drawn_by start played held_before) (family_at states held_before) before → IsRest elements (drawn_by start (played + 1) None) both queue
+      goes queue held_before before (inl same) rest =
+          union-left drawn_on (family_at states (Some piece)) both union
+          (rest-on elements (drawn_by start played None) (drawn_by start (played + 1) None) piece (family_at states None) drawn_on drawn (counts_same None) queue
+          (subst (λ q. IsRest elements (drawn_by start played None) (family_at states None) q) same.0
+          (subst (λ h. IsRest elements (drawn_by start played h) (family_at states h) before) same.1 rest)))
+      goes queue held_before before (inr same) rest =
+          let held_rest = subst (λ h. IsRest elements (drawn_by start played h) (family_at states h) before) same.1 rest in
+          let ended = subst (λ q. IsRest elements (drawn_by start played (Some piece)) (family_at states (Some piece)) q) same.0 held_rest in
+          subst (λ q. IsRest elements (drawn_by start (played + 1) None) both q) (sym same.2)
+          (union-right drawn_on (family_at states (Some piece)) both union
+          (subst (λ n. IsRest elements n (family_at states (Some piece)) []) (sym same_number) ended))
+
+  -- the ways that leave a piece held
+  SomeWay : Hold → List Piece → Option Piece → Piece → List Piece → Piece → Type 0
+  SomeWay hold before held_before piece queue first =
+      ((before ≡ piece ∷ queue) × (held_before ≡ Some first))
+      ⊎ (((before ≡ first ∷ queue) × (held_before ≡ Some piece)) ⊎ ((before ≡ first ∷ piece ∷ queue) × (held_before ≡ None)))
+
+  some_way : {hold : Hold} {before : List Piece} {held_before : Option Piece} {piece : Piece} {queue : List Piece} {held : Option Piece} (first : Piece)
+      → held ≡ Some first → Way hold before held_before piece queue held → SomeWay hold before held_before piece queue first
+  unfolding SomeWay
+  some_way first is plain = inl (refl, is)
+  some_way first is (exchange {first = other} {queue = queue}) = inr (inl (ap (λ p. p ∷ queue) (some_same is), refl))
+  some_way first is (first_hold {first = other} {piece = piece} {queue = queue}) = inr (inr (ap (λ p. p ∷ piece ∷ queue) (some_same is), refl))
+  some_way first is last = cc
+
+  -- a piece is held
+  pub next_some : (piece first : Piece) (kept exchanged after_first held_first two all : Family)
+      → IsDrawn (in_progress elements (drawn_by start played (Some first))) piece (family_at states (Some first)) kept
+      → IsDrawn (in_progress elements (drawn_by start played (Some piece))) first (family_at states (Some piece)) exchanged
+      → IsDrawn (in_progress elements (drawn_by start played None)) first (family_at states None) after_first
+      → IsDrawn (in_progress elements (drawn_by start played (Some first))) piece after_first held_first
+      → IsUnion kept exchanged two → IsUnion two held_first all
+      → IsNextFamily elements Allowed start states played piece (Some first) all
+  unfolding SomeWay
+  next_some piece first kept exchanged after_first held_first two all drawn_kept drawn_exchanged drawn_first drawn_second union_two union_all = record {
+    came = λ queue rest. elim (union-from two held_first all union_all rest) [
+      | inl part ↦ elim (union-from kept exchanged two union_two part) [
+        | inl one ↦ record {
+          held_before = Some first;
+          queue_before = piece ∷ queue;
+          way = plain;
+          rest = rest-back elements (drawn_by start played (Some first)) now piece (family_at states (Some first)) kept drawn_kept (counts_same (Some first)) queue one;
+        }
+        | inr other ↦ record {
+          held_before = Some piece;
+          queue_before = first ∷ queue;
+          way = exchange;
+          rest = rest-back elements (drawn_by start played (Some piece)) now first (family_at states (Some piece)) exchanged drawn_exchanged (counts_exchange piece first) queue other;
+        }
+      ]
+      | inr held ↦ record {
+        held_before = None;
+        queue_before = first ∷ piece ∷ queue;
+        way = first_hold;
+        rest = rest-back elements (drawn_by start played None) middle first (family_at states None) after_first drawn_first (counts_first first) (piece ∷ queue)
+            (rest-back elements middle now piece after_first held_first drawn_second counts_second queue held);
+      }
+    ];
+    goes = λ queue came. goes queue came.held_before came.queue_before (some_way first refl came.way) came.rest;
+    roomy = union-roomy elements now two held_first all union_all
+        (union-roomy elements now kept exchanged two union_two
+        (roomy-on elements (drawn_by start played (Some first)) now piece (family_at states (Some first)) kept drawn_kept (counts_same (Some first)) (so_far.roomy (Some first)))
+        (roomy-on elements (drawn_by start played (Some piece)) now first (family_at states (Some piece)) exchanged drawn_exchanged (counts_exchange piece first) (so_far.roomy (Some piece))))
+        (roomy-on elements middle now piece after_first held_first drawn_second counts_second
+        (roomy-on elements (drawn_by start played None) middle first (family_at states None) after_first drawn_first (counts_first first) (so_far.roomy None)));
+    drawn_fits = λ set within has. elim (union-cases two held_first all union_all set within has) [
+      | inl part ↦ elim (union-cases kept exchanged two union_two set within part) [
+        | inl one ↦ fits_after (Some first) (Some first) (in_progress elements (drawn_by start played (Some first))) piece kept drawn_kept (omega arith) set within one
+        | inr other ↦ fits_after (Some piece) (Some first) (in_progress elements (drawn_by start played (Some piece))) first exchanged drawn_exchanged (omega arith) set within other
+      ]
+      | inr held ↦
+          let m = moves-back (in_progress elements (drawn_by start played (Some first))) piece after_first held_first drawn_second set within held in
+          fits_after None (Some first) (in_progress elements (drawn_by start played None)) first after_first drawn_first (omega arith) m.drawn_set m.within m.has
+    ];
+  }
+    where
+      now : ℕ
+      now = drawn_by start (played + 1) (Some first)
+
+      middle : ℕ
+      middle = drawn_by start played (Some first)
+
+      counts_second : (set : ℕ) → set < 128 → has_set after_first set ≡ true → drawn_by start (played + 1) (Some first) ≡ drawn_by start played (Some first) + 1
+      counts_second set within has =
+          let m = moves-back (in_progress elements (drawn_by start played None)) first (family_at states None) after_first drawn_first set within has in
+          omega (arith, so_far.drawn_fits None m.drawn_set m.within m.has)
+
+      at : (held_before held : Option Piece) (before queue : List Piece) → before ≡ queue → held_before ≡ held
+          → IsRest elements (drawn_by start played held_before) (family_at states held_before) before → IsRest elements (drawn_by start played held) (family_at states held) queue
+      at held_before held before queue same_queue same_held rest =
+          subst (λ q. IsRest elements (drawn_by start played held) (family_at states held) q) same_queue
+          (subst (λ h. IsRest elements (drawn_by start played h) (family_at states h) before) same_held rest)
+
+      goes : (queue : List Piece) (held_before : Option Piece) (before : List Piece) → SomeWay Allowed before held_before piece queue first
+          → IsRest elements (drawn_by start played held_before) (family_at states held_before) before → IsRest elements (drawn_by start (played + 1) (Some first)) all queue
+      goes queue held_before before (inl same) rest =
+          union-left two held_first all union_all (union-left kept exchanged two union_two
+          (rest-on elements (drawn_by start played (Some first)) now piece (family_at states (Some first)) kept drawn_kept (counts_same (Some first)) queue
+          (at held_before (Some first) before (piece ∷ queue) same.0 same.1 rest)))
+      goes queue held_before before (inr (inl same)) rest =
+          union-left two held_first all union_all (union-right kept exchanged two union_two
+          (rest-on elements (drawn_by start played (Some piece)) now first (family_at states (Some piece)) exchanged drawn_exchanged (counts_exchange piece first) queue
+          (at held_before (Some piece) before (first ∷ queue) same.0 same.1 rest)))
+      goes queue held_before before (inr (inr same)) rest =
+          union-right two held_first all union_all
+          (rest-on elements middle now piece after_first held_first drawn_second counts_second queue
+          (rest-on elements (drawn_by start played None) middle first (family_at states None) after_first drawn_first (counts_first first) (piece ∷ queue)
+          (at held_before None before (first ∷ piece ∷ queue) same.0 same.1 rest)))
+
+-- a draw that a call made, in the words of the states
+pub drawn_by_draw : {draw place : Option Draw} {piece : Piece} {before after : Family} → IsDrawn draw piece before after → draw ≡ place → IsDrawn place piece before after
+drawn_by_draw {piece = piece} {before = before} {after = after} drawn is = subst (λ d. IsDrawn d piece before after) is drawn
+
+pub drawn_at : {draw place : Option Draw} {piece : Piece} {family before after : Family} → IsDrawn draw piece family after → draw ≡ place → family ≡ before → IsDrawn place piece before after
+drawn_at {place = place} {piece = piece} {after = after} drawn is same = subst (λ f. IsDrawn place piece f after) same (drawn_by_draw drawn is)
+
+-- the families of eight pairs of words
+pub each_held : (P : Option Piece → Family → Type 0) (none i l o z t j s : Family)
+    → P None none → P (Some I) i → P (Some L) l → P (Some O) o → P (Some Z) z → P (Some T) t → P (Some J) j → P (Some S) s → (held : Option Piece)
+    → P held (family_at (none.low ∷ none.high ∷ i.low ∷ i.high ∷ l.low ∷ l.high ∷ o.low ∷ o.high ∷ z.low ∷ z.high ∷ t.low ∷ t.high ∷ j.low ∷ j.high ∷ s.low ∷ s.high ∷ []) held)
+unfolding family_at
+each_held P none i l o z t j s at_none at_i at_l at_o at_z at_t at_j at_s None = at_none
+each_held P none i l o z t j s at_none at_i at_l at_o at_z at_t at_j at_s (Some I) = at_i
+each_held P none i l o z t j s at_none at_i at_l at_o at_z at_t at_j at_s (Some L) = at_l
+each_held P none i l o z t j s at_none at_i at_l at_o at_z at_t at_j at_s (Some O) = at_o
+each_held P none i l o z t j s at_none at_i at_l at_o at_z at_t at_j at_s (Some Z) = at_z
+each_held P none i l o z t j s at_none at_i at_l at_o at_z at_t at_j at_s (Some T) = at_t
+each_held P none i l o z t j s at_none at_i at_l at_o at_z at_t at_j at_s (Some J) = at_j
+each_held P none i l o z t j s at_none at_i at_l at_o at_z at_t at_j at_s (Some S) = at_s

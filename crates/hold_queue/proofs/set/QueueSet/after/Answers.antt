@@ -1,0 +1,24 @@
+-- The goals of `QueueSet::after` that need lemmas.
+use Rattle.std.proofs.Common.{◌∙◌, ap, length-set, arith, List}
+use Rattle.srs.specs.declared.piece.Piece.{Piece}
+use Rattle.queue_pattern.specs.Pattern.{elements_of}
+use Rattle.hold_queue.specs.QueueSet.{line_of}
+use Rattle.hold_queue.proofs.SetFacts.{set-room, set-follows, played-more}
+use Rattle.hold_queue.proofs.set.QueueSet.after.Goals as goal
+
+pub bounds-played-self : goal.bounds-played-self
+bounds-played-self c = set-room c.args.self.now c.args.piece c.requires
+
+pub invariant_of-result : goal.invariant_of-result
+invariant_of-result c = record {
+  room = length-set c.args.self.now.played c.args.self.now.number c.args.piece ∙ c.args.self.now.room;
+  within = omega (arith, set-room c.args.self.now c.args.piece c.requires);
+  follows = set-follows c.args.self.now c.args.piece c.next.result (set-room c.args.self.now c.args.piece c.requires) c.next.ensures;
+}
+
+pub returns : goal.returns
+unfolding line_of
+returns c =
+    let set = c.args.self.now in
+    ap (λ (played : List Piece). record { elements = elements_of set.pattern; hold = set.hold; held = set.held; played = played })
+    (played-more set c.args.piece (set-room set c.args.piece c.requires))

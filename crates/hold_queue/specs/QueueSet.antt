@@ -1,0 +1,31 @@
+-- What contracts see of a queue set: its elements, hold rule, the piece held at the start, and the played pieces.
+use Rattle.std.specs.Prelude.{Bool, Option, List, map, take}
+use Rattle.srs.specs.declared.piece.Piece.{Piece}
+use Rattle.queue_pattern.specs.declared.element.Element.{Element}
+use Rattle.queue_pattern.specs.Pattern.{elements_of}
+use Rattle.queue_pattern.specs.Grammar.{set_of}
+use Rattle.queue_pattern.specs.Queues.{queues}
+use Rattle.hold_queue.specs.declared.hold.Hold.{Hold}
+use Rattle.hold_queue.specs.declared.set.QueueSet.{QueueSet}
+use Rattle.hold_queue.specs.Permits.{SomePermits, some_permits}
+
+pub record Line : Type 0 where
+  pub elements : List Element
+  pub hold : Hold
+  pub held : Option Piece
+  pub played : List Piece
+
+-- the elements of one queue: each piece alone
+abbrev pub singles : List Piece → List Element
+singles queue = map (λ piece. record { set = set_of piece; chosen = 1 }) queue
+
+unfoldable pub line_of : QueueSet → Line
+line_of set = record { elements = elements_of set.pattern; hold = set.hold; held = set.held; played = take set.number set.played }
+
+-- one of the queues permits these pieces from the start
+abbrev pub LinePermits : Line → List Piece → Type 0
+LinePermits line pieces = SomePermits line.hold (queues line.elements) line.held pieces
+
+-- the test of `LinePermits`
+abbrev pub line_permits : Line → List Piece → Bool
+line_permits line pieces = some_permits line.hold (queues line.elements) line.held pieces

@@ -1,0 +1,92 @@
+-- What the states of a queue set stand for: the queues that may follow, by what is held and which pieces of the element
+-- in progress are drawn.
+use Rattle.std.specs.Prelude.{Contains, ◌≡◌, ℕ, ◌+◌, ◌-◌, ◌*◌, ◌<◌, ◌≤◌, Bool, true, not, ◌&&◌, ◌||◌, ◌==◌, nat_lt, if◌then◌else◌, Option, Some, None, List, [], ◌∷◌, ◌++◌, filter, length, slice_index}
+use Rattle.std.specs.List.{list_any}
+use Rattle.srs.specs.declared.piece.Piece.{Piece}
+use Rattle.srs.specs.Piece.{all_pieces, piece_code}
+use Rattle.queue_pattern.specs.declared.element.Element.{Element}
+use Rattle.queue_pattern.specs.Queues.{pieces_in, queues, tails}
+use Rattle.hold_queue.specs.declared.hold.Hold.{Hold}
+use Rattle.hold_queue.specs.declared.family.Family.{Family}
+use Rattle.hold_queue.specs.declared.family.Draw.{Draw}
+use Rattle.hold_queue.specs.Family.{has_set, is_in, any_below}
+use Rattle.hold_queue.specs.Permits.{Way, some_permits}
+
+-- what the next piece is drawn from, after so many drawn pieces
+unfoldable pub in_progress : List Element → ℕ → Option Draw
+in_progress [] drawn = None
+in_progress (element ∷ elements) drawn =
+    if nat_lt drawn element.chosen then Some (record { element = element; is_last = drawn + 1 == element.chosen })
+    else in_progress elements (drawn - element.chosen)
+
+-- the pieces of a set that are not drawn
+unfoldable pub undrawn : ℕ → ℕ → List Piece
+undrawn set drawn_set = filter (λ piece. not (is_in piece drawn_set)) (pieces_in set)
+
+-- what is left of the queues after so many drawn pieces, where those of the element in progress are this set
+unfoldable pub rests : List Element → ℕ → ℕ → List (List Piece)
+rests [] drawn drawn_set = [] ∷ []
+rests (element ∷ elements) drawn drawn_set =
+    if nat_lt drawn element.chosen then tails (undrawn element.set drawn_set) (element.chosen - drawn) elements
+    else rests elements (drawn - element.chosen) drawn_set
+
+abbrev pub count_held : Option Piece → ℕ
+count_held None = 0
+count_held (Some piece) = 1
+
+-- how many pieces are drawn from the queue after so many are played: each was played, or is held and was not at the start
+abbrev pub drawn_by : Option Piece → ℕ → Option Piece → ℕ
+drawn_by start played held = played + count_held held - count_held start
+
+-- 0 for nothing, else the code of what is held
+abbrev pub held_code : Option Piece → ℕ
+held_code None = 0
+held_code (Some piece) = piece_code piece
+
+-- the family of drawn sets that go with what is held
+unfoldable pub family_at : List ℕ → Option Piece → Family
+family_at states held = record { low = slice_index states (2 * held_code held); high = slice_index states (2 * held_code held + 1) }
+
+-- whether nothing or some piece passes a test
+abbrev pub any_held : (Option Piece → Bool) → Bool
+any_held test = test None || list_any (λ piece. test (Some piece)) all_pieces
+
+-- one of the queues that may follow from a set of a family
+pub record IsRest (elements : List Element) (drawn : ℕ) (family : Family) (queue : List Piece) : Type 0 where
+  pub drawn_set : ℕ
+  pub within : drawn_set < 128
+  pub has : has_set family drawn_set ≡ true
+  pub there : Contains (rests elements drawn drawn_set) queue
+
+-- some queue may follow from each set of a family
+pub record IsRoomy (elements : List Element) (drawn : ℕ) (family : Family) : Type 0 where
+  pub each : (set : ℕ) → set < 128 → has_set family set ≡ true → 0 < length (rests elements drawn set)
+
+-- a way to play a piece that leaves this queue and held piece, from one of the queues that may follow in some state
+pub record CameBy (elements : List Element) (hold : Hold) (start : Option Piece) (states : List ℕ) (played : ℕ) (piece : Piece) (held : Option Piece) (queue : List Piece) : Type 0 where
+  pub held_before : Option Piece
+  pub queue_before : List Piece
+  pub way : Way hold queue_before held_before piece queue held
+  pub rest : IsRest elements (drawn_by start played held_before) (family_at states held_before) queue_before
+
+-- the family that goes with what is held after one more piece is played
+pub record IsNextFamily (elements : List Element) (hold : Hold) (start : Option Piece) (states : List ℕ) (played : ℕ) (piece : Piece) (held : Option Piece) (family : Family) : Type 0 where
+  pub came : (queue : List Piece) → IsRest elements (drawn_by start (played + 1) held) family queue → CameBy elements hold start states played piece held queue
+  pub goes : (queue : List Piece) → CameBy elements hold start states played piece held queue → IsRest elements (drawn_by start (played + 1) held) family queue
+  pub roomy : IsRoomy elements (drawn_by start (played + 1) held) family
+  pub drawn_fits : (set : ℕ) → set < 128 → has_set family set ≡ true → count_held start ≤ played + 1 + count_held held
+
+-- some state leaves queues that permit the pieces
+unfoldable pub states_permit : List Element → Hold → Option Piece → List ℕ → ℕ → List Piece → Bool
+states_permit elements hold start states played pieces =
+    any_held (λ held. any_below (λ set. has_set (family_at states held) set
+    && some_permits hold (rests elements (drawn_by start played held) set) held pieces) 128)
+
+-- the states are those after these played pieces
+pub record Follows (elements : List Element) (hold : Hold) (start : Option Piece) (states : List ℕ) (played : List Piece) : Type 0 where
+  pub permits_same : (pieces : List Piece)
+      → some_permits hold (queues elements) start (played ++ pieces) ≡ states_permit elements hold start states (length played) pieces
+  pub some : (held : Option Piece) (set : ℕ) → set < 128 → has_set (family_at states held) set ≡ true
+      → 0 < length (rests elements (drawn_by start (length played) held) set)
+  pub drawn_fits : (held : Option Piece) (set : ℕ) → set < 128 → has_set (family_at states held) set ≡ true
+      → count_held start ≤ length played + count_held held

@@ -1,0 +1,13 @@
+// Queues under hold: which pieces may be played next, over all queues of a pattern at once.
+#![tactic(auto)]
+
+mod family;
+mod hold;
+pub mod laws;
+mod set;
+mod supply;
+#[cfg(test)]
+mod tests;
+
+pub use hold::Hold;
+pub use set::QueueSet;

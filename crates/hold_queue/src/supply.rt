@@ -1,0 +1,45 @@
+// How many pieces of one kind there are: in a pattern, held, and played.
+ghost use Rattle.std.specs.Prelude.{◌≡◌, ◌≤◌, ◌-◌, ◌==◌, length, count_by};
+ghost use Rattle.std.specs.Int.{bit_at};
+ghost use Rattle.srs.specs.Piece.{piece_code};
+ghost use Rattle.queue_pattern.specs.Pattern.{elements_of};
+ghost use Rattle.hold_queue.specs.Supply;
+
+use crate::hold::Hold;
+use queue_pattern::Pattern;
+use srs::Piece;
+
+/// How many elements have this piece in their set.
+pub fn elements_with(pattern: &Pattern, piece: Piece) -> u8
+    ensures value { result ≡ count_by (λ element. bit_at element.set (piece_code piece - 1) == 1) (elements_of pattern.now) }
+    ensures few { result ≤ 22 }
+{
+    let mut count = 0;
+    for index in 0..pattern.elements() {
+        count += u8::from(pattern.element(index).has(piece));
+    }
+    count
+}
+
+/// One where hold is allowed and this piece is held at the start, else 0.
+pub fn from_hold(hold: Hold, held: Option<Piece>, piece: Piece) -> u8
+    ensures value { result ≡ Supply.from_hold hold held piece }
+    ensures small { result ≤ 1 }
+{
+    let Hold::Allowed = hold else {
+        return 0;
+    };
+    match held {
+        Some(held) => u8::from(held.code() == piece.code()),
+        None => 0,
+    }
+}
+
+/// How many of some played pieces are this one.
+pub fn count_played(played: &[Piece], piece: Piece) -> u8
+    requires { length played.now ≤ 23 }
+    ensures { result ≡ count_by (λ other. piece_code other == piece_code piece) played.now }
+{
+    let code = piece.code();
+    played.iter().filter(|other| other.code() == code).count() as u8
+}

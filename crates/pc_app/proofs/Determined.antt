@@ -1,0 +1,130 @@
+-- What a command writes is determined by its words.
+use Rattle.std.proofs.Common.{◌≡◌, ℕ, List, [], ◌∷◌, append-nil, refl, sym, ap, subst, ◌∙◌, inl, inr, Option, Some, None, Result, Ok, Err, IsTrue}
+use Rattle.std.specs.Prelude.{Contains}
+use Rattle.std.specs.List.Sorted.{IsStrictlySortedBy}
+use Rattle.std.specs.Cmp.{IsTotalOrder, tied_itself}
+use Rattle.std.specs.declared.cmp.Ordering.{Ordering}
+use Rattle.std.specs.declared.cmp.Ordering.TheVariants.{Less, Equal}
+use Rattle.srs.specs.declared.placement.Placement.{Placement}
+use Rattle.srs.specs.Rising.{is_above, IsRisingListOf}
+use Rattle.srs.specs.Order.{sequence_cmp}
+use Rattle.srs.proofs.MemberLemmas.{Contains-here, Contains-there, Contains-cases, Contains-none}
+use Rattle.srs.proofs.RisingLemmas.{rising-first, rising-rest}
+use Rattle.srs.proofs.OrderLemmas.{sequence_cmp-total}
+use Rattle.srs.specs.Rules.{table_of}
+use Rattle.well.specs.Well.{filled}
+use Rattle.queue_pattern.specs.declared.element.Element.{Element}
+use Rattle.queue_pattern.specs.declared.fault.PatternFault.{PatternFault}
+use Rattle.queue_pattern.specs.Queues.{queues}
+use Rattle.queue_pattern.specs.Pattern.{elements_of}
+use Rattle.hold_queue.specs.Permits.{SomePermits}
+use Rattle.enumerate.specs.declared.problem.Problem.{Problem}
+use Rattle.enumerate.specs.Plays.{Plays}
+use Rattle.enumerate.specs.Solution.{IsSolution, pieces_of}
+use Rattle.report.specs.Forms.{report_form}
+use Rattle.pc_outside.specs.Writes.{Grows, GrowsByFront}
+use Rattle.pc_outside.specs.WriteLaws.{begins, is_front}
+use Rattle.pc_app.specs.declared.words.WordsFault.{WordsFault}
+use Rattle.pc_app.specs.Answers.{Wrote, WroteFront}
+use Rattle.pc_app.specs.Words.{PathQuestion, Question, path, settings}
+use Rattle.pc_app.specs.Question.{IsProblemOf, IsGiven}
+use Rattle.pc_app.specs.Output.{IsPathOutput, IsOutputOf, IsOutput}
+
+-- of the same things there is one rising list
+module _ {A : Type 0} (cmp : A → A → Ordering) (total : IsTotalOrder cmp) where
+  not_both : (x y : A) → cmp x y ≡ Less → cmp y x ≡ Less → ⊥
+  not_both x y e f = let tied : cmp x x ≡ Equal = tied_itself total x in let less = total.trans x y x e f in cc
+
+  same_first : (x y : A) (xs ys : List A) → IsStrictlySortedBy cmp (x ∷ xs) → IsStrictlySortedBy cmp (y ∷ ys) → Contains (y ∷ ys) x → Contains (x ∷ xs) y → x ≡ y
+  same_first x y xs ys first second here there = elim (Contains-cases y ys x here) [
+    | inl e ↦ sym e
+    | inr below ↦ elim (Contains-cases x xs y there) [
+      | inl e ↦ e
+      | inr above ↦ absurd (not_both x y (rising-first cmp x xs first y above) (rising-first cmp y ys second x below))
+    ]
+  ]
+
+  in_rest : (x : A) (xs ys : List A) → IsStrictlySortedBy cmp (x ∷ xs) → ((z : A) → Contains (x ∷ xs) z → Contains (x ∷ ys) z) → (z : A) → Contains xs z → Contains ys z
+  in_rest x xs ys rising within z among = elim (Contains-cases x ys z (within z (Contains-there x xs z among))) [
+    | inl here ↦ let less = rising-first cmp x xs rising z among in absurd (not_both x x (subst (λ w. cmp x w ≡ Less) (sym here) less) (subst (λ w. cmp x w ≡ Less) (sym here) less))
+    | inr there ↦ there
+  ]
+
+  same_lists : (xs ys : List A) → IsStrictlySortedBy cmp xs → IsStrictlySortedBy cmp ys → ((z : A) → Contains xs z → Contains ys z) → ((z : A) → Contains ys z → Contains xs z) → xs ≡ ys
+  same_lists [] [] first second to from = refl
+  same_lists [] (y ∷ ys) first second to from = absurd (Contains-none y (from y (Contains-here y ys)))
+  same_lists (x ∷ xs) [] first second to from = absurd (Contains-none x (to x (Contains-here x xs)))
+  same_lists (x ∷ xs) (y ∷ ys) first second to from =
+      let e : x ≡ y = same_first x y xs ys first second (to x (Contains-here x xs)) (from y (Contains-here y ys)) in
+      let second' : IsStrictlySortedBy cmp (x ∷ ys) = subst (λ w. IsStrictlySortedBy cmp (w ∷ ys)) (sym e) second in
+      let to' : ((z : A) → Contains (x ∷ xs) z → Contains (x ∷ ys) z) = subst (λ w. (z : A) → Contains (x ∷ xs) z → Contains (w ∷ ys) z) (sym e) to in
+      let from' : ((z : A) → Contains (x ∷ ys) z → Contains (x ∷ xs) z) = subst (λ w. (z : A) → Contains (w ∷ ys) z → Contains (x ∷ xs) z) (sym e) from in
+      ap (λ l. x ∷ l) (same_lists xs ys (rising-rest cmp x xs first) (rising-rest cmp x ys second') (in_rest x xs ys first to') (in_rest x ys xs second' from')) ∙ ap (λ w. w ∷ ys) e
+
+  pub rising_list_unique : {IsMember Others : A → Type 0} (xs ys : List A) → IsRisingListOf cmp IsMember xs → IsRisingListOf cmp Others ys → ((z : A) → IsMember z → Others z) → ((z : A) → Others z → IsMember z)
+      → xs ≡ ys
+  rising_list_unique xs ys first second to from =
+      same_lists xs ys first.rising second.rising (λ z among. (second.members z).1 (to z ((first.members z).0 among))) (λ z among. (first.members z).1 (from z ((second.members z).0 among)))
+
+same_ok : (xs ys : List Element) → ◌≡◌ {A = Result (List Element) PatternFault} (Ok xs) (Ok ys) → xs ≡ ys
+same_ok xs ys e = cc
+
+-- two problems that one question names have the same solutions
+solution_of_same : (question : PathQuestion) (one other : Problem) → IsProblemOf question one → IsProblemOf question other → (sequence : List Placement) → IsSolution one None sequence → IsSolution other None sequence
+solution_of_same question one other first second sequence solution =
+    let table : table_of one.rules ≡ table_of other.rules = first.rules ∙ sym second.rules in
+    let drop : one.drop_mode ≡ other.drop_mode = first.drop ∙ sym second.drop in
+    let field : filled one.well ≡ filled other.well = first.field ∙ sym second.field in
+    let height : one.height ≡ other.height = first.height ∙ sym second.height in
+    let hold : one.hold ≡ other.hold = first.hold ∙ sym second.hold in
+    let held : one.held ≡ other.held = first.held ∙ sym second.held in
+    let elements : elements_of one.pattern ≡ elements_of other.pattern = same_ok _ _ (first.queues ∙ sym second.queues) in
+    record {
+      plays =
+          subst (λ t. Plays t other.drop_mode (filled other.well) other.height sequence) table
+          (subst (λ d. Plays (table_of one.rules) d (filled other.well) other.height sequence) drop
+          (subst (λ F. Plays (table_of one.rules) one.drop_mode F other.height sequence) field
+          (subst (λ h. Plays (table_of one.rules) one.drop_mode (filled one.well) h sequence) height solution.plays)));
+      permitted =
+          subst (λ h. SomePermits h (queues (elements_of other.pattern)) other.held (pieces_of sequence)) hold
+          (subst (λ e. SomePermits one.hold (queues e) other.held (pieces_of sequence)) elements
+          (subst (λ p. SomePermits one.hold (queues (elements_of one.pattern)) p (pieces_of sequence)) held solution.permitted));
+    }
+
+same_given : (needed : ℕ) (text : Option (List ℕ)) (one other : Option (List Placement)) → IsGiven needed text one → IsGiven needed text other → one ≡ other
+same_given needed None one other first second = first ∙ sym second
+same_given needed (Some text) None other first second = absurd first
+same_given needed (Some text) (Some one) None first second = absurd second
+same_given needed (Some text) (Some one) (Some other) first second = cc
+
+path_output_unique : (question : PathQuestion) (a b : List ℕ) → IsPathOutput question a → IsPathOutput question b → a ≡ b
+path_output_unique question a b first second =
+    let after : first.after ≡ second.after = same_given _ question.after first.after second.after first.given second.given in
+    let same : first.sequences ≡ second.sequences = rising_list_unique sequence_cmp sequence_cmp-total first.sequences second.sequences first.list second.list
+    (λ s m. record { solution = solution_of_same question first.problem second.problem first.named second.named s m.solution; above = subst (λ bound. IsTrue (is_above sequence_cmp bound s)) after m.above })
+    (λ s m. record { solution = solution_of_same question second.problem first.problem second.named first.named s m.solution; above = subst (λ bound. IsTrue (is_above sequence_cmp bound s)) (sym after) m.above }) in
+    first.report ∙ ap (report_form question.limit) same ∙ sym second.report
+
+output_of_unique : (asked : Result Question WordsFault) (a b : List ℕ) → IsOutputOf asked a → IsOutputOf asked b → a ≡ b
+output_of_unique (Ok (path question)) a b first second = path_output_unique question a b first second
+output_of_unique (Err fault) a b first second = absurd first
+
+-- the words determine what is written
+pub output_unique : (words : List (List ℕ)) (a b : List ℕ) → IsOutput words a → IsOutput words b → a ≡ b
+output_unique words = output_of_unique (settings words)
+
+whole_is_front : {old new : Option (List ℕ)} {bytes : List ℕ} → Grows old new bytes → GrowsByFront old new bytes
+whole_is_front {bytes = bytes} grown = record { rest = []; up_to = record { front = bytes; divided = sym (append-nil bytes); grown = grown } }
+
+-- nothing was appended, which is a front of anything
+pub nothing_is_front : (old new : Option (List ℕ)) (bytes : List ℕ) → new ≡ old → GrowsByFront old new bytes
+nothing_is_front old new bytes same = subst (λ o. GrowsByFront old o bytes) (sym same) (is_front (begins old bytes))
+
+-- an output was appended, or a front of one: then a front of each
+pub front_of_whole : (question : PathQuestion) (old new : Option (List ℕ)) → Wrote (IsPathOutput question) old new → (output : List ℕ) → IsPathOutput question output → GrowsByFront old new output
+front_of_whole question old new wrote output is =
+    subst (GrowsByFront old new) (path_output_unique question wrote.output output wrote.is_output is) (whole_is_front wrote.grown)
+
+pub front_of_front : (question : PathQuestion) (old new : Option (List ℕ)) → WroteFront (IsPathOutput question) old new → (output : List ℕ) → IsPathOutput question output → GrowsByFront old new output
+front_of_front question old new wrote output is =
+    subst (GrowsByFront old new) (path_output_unique question wrote.output output wrote.is_output is) wrote.grown

@@ -1,0 +1,102 @@
+-- The value of `--after`: a sequence of so many placements, with keys or without, read byte by byte.
+use Rattle.std.specs.Prelude.{◌≡◌, ℕ, ◌<◌, ◌≤◌, take, length, zero, suc, ◌+◌, ◌-◌, ◌*◌, Bool, true, false, ◌&&◌, ◌||◌, ◌==◌, nat_le, nat_lt, if◌then◌else◌, List, [], ◌∷◌, ◌++◌, find, Option, Some, None, option_map, Result, Ok, Err}
+use Rattle.std.specs.Char.{is_ascii_digit}
+use Rattle.srs.specs.declared.piece.Piece.{Piece}
+use Rattle.srs.specs.declared.piece.Piece.TheVariants.{I}
+use Rattle.srs.specs.declared.rotation.Rotation.TheVariants.{Spawn}
+use Rattle.srs.specs.declared.placement.Placement.{Placement}
+use Rattle.srs.specs.Piece.{all_pieces, piece_letter}
+use Rattle.srs.specs.Rotation.{rotation_with_letter}
+use Rattle.pc_app.specs.declared.placement_text.Due.{Due}
+use Rattle.pc_app.specs.declared.placement_text.Due.TheVariants as due
+use Rattle.pc_app.specs.declared.placement_text.Reading.{Reading}
+
+-- the piece with this capital letter
+abbrev pub capital_piece : ℕ → Option Piece
+capital_piece byte = find (λ piece. piece_letter piece == byte) all_pieces
+
+-- no byte of a placement was read yet
+abbrev pub unread : Reading
+unread = record { due = due.PieceLetter; placement = record { piece = I; rotation = Spawn; x = 0; y = 0 } }
+
+abbrev pub reading : Due → Placement → Reading
+reading due placement = record { due = due; placement = placement }
+
+abbrev pub when : Bool → Reading → Option Reading
+when holds next = if holds then Some next else None
+
+-- a row is 0 to 22, without a leading zero
+abbrev pub after_row_digit : ℕ → Due
+after_row_digit digit = if digit == 1 || digit == 2 then due.SecondDigit else due.End
+
+-- a colon after a placement: keys follow
+abbrev pub keys_step : Placement → ℕ → Option Reading
+keys_step placement byte = when (byte == 58) (reading due.Key placement)
+
+abbrev pub second_digit_step : Placement → ℕ → Option Reading
+second_digit_step placement byte =
+    if is_ascii_digit byte then when (nat_le (10 * placement.y + (byte - 48)) 22) (reading due.End (record placement { y = 10 * placement.y + (byte - 48) }))
+    else keys_step placement byte
+
+abbrev pub is_key_letter : ℕ → Bool
+is_key_letter byte = byte == 76 || (byte == 82 || (byte == 68 || (byte == 67 || byte == 65)))
+
+-- letters of keys, and the hard drop that ends them
+abbrev pub key_step : Placement → ℕ → Option Reading
+key_step placement byte =
+    if is_key_letter byte then Some (reading due.Key placement) else when (byte == 72) (reading due.AfterKeys placement)
+
+abbrev pub step_at : Due → Placement → ℕ → Option Reading
+step_at due.PieceLetter placement byte = option_map (λ piece. reading due.RotationLetter (record placement { piece = piece })) (capital_piece byte)
+step_at due.RotationLetter placement byte = option_map (λ rotation. reading due.Colon (record placement { rotation = rotation })) (rotation_with_letter byte)
+step_at due.Colon placement byte = when (byte == 58) (reading due.Column placement)
+step_at due.Column placement byte = when (is_ascii_digit byte) (reading due.Comma (record placement { x = byte - 48 }))
+step_at due.Comma placement byte = when (byte == 44) (reading due.Row placement)
+step_at due.Row placement byte = when (is_ascii_digit byte) (reading (after_row_digit (byte - 48)) (record placement { y = byte - 48 }))
+step_at due.SecondDigit placement byte = second_digit_step placement byte
+step_at due.End placement byte = keys_step placement byte
+step_at due.Key placement byte = key_step placement byte
+step_at due.AfterKeys placement byte = None
+
+-- a placement with one more byte, where the byte may stand there
+unfoldable pub step : Reading → ℕ → Option Reading
+step now byte = step_at now.due now.placement byte
+
+-- the placement may end here
+abbrev pub may_end : Due → Bool
+may_end due.SecondDigit = true
+may_end due.End = true
+may_end due.AfterKeys = true
+may_end _ = false
+
+-- how the reading of a sequence goes on with the placement that is read now, where so many placements follow it
+abbrev pub read_on : Option Reading → ℕ → (Reading → Result (List Placement) ℕ) → Result (List Placement) ℕ
+read_on None place rest = Err place
+read_on (Some next) place rest = rest next
+
+-- The placements that a text spells after those that were read: one is being read and so many follow it, each after a
+-- blank. Or the place of the first byte that may not stand there.
+unfoldable pub read_from : List Placement → ℕ → Reading → ℕ → List ℕ → Result (List Placement) ℕ
+read_from read left now place [] = if may_end now.due && left == 0 then Ok (read ++ now.placement ∷ []) else Err place
+read_from read left now place (byte ∷ bytes) =
+    if byte == 32 then
+    (if may_end now.due && nat_lt 0 left then read_from (read ++ now.placement ∷ []) (left - 1) unread (place + 1) bytes else Err place)
+    else read_on (step now byte) place (λ next. read_from read left next (place + 1) bytes)
+
+-- the sequence of so many placements that a text spells, or how many bytes its longest front has that begins some such text
+abbrev pub sequence_in : ℕ → List ℕ → Result (List Placement) ℕ
+sequence_in zero [] = Ok []
+sequence_in zero (byte ∷ bytes) = Err 0
+sequence_in (suc left) text = read_from [] left unread 0 text
+
+-- a text begins the text of some sequence of so many placements
+pub record Begins (needed : ℕ) (front : List ℕ) : Type 0 where
+  pub rest : List ℕ
+  pub sequence : List Placement
+  pub whole : sequence_in needed (front ++ rest) ≡ Ok sequence
+
+-- so many bytes are the longest front of a text that begins the text of some sequence of so many placements
+pub record IsLongestFront (needed : ℕ) (text : List ℕ) (place : ℕ) : Type 0 where
+  pub within : place ≤ length text
+  pub begins : Begins needed (take place text)
+  pub longest : (longer : ℕ) → place < longer → longer ≤ length text → Begins needed (take longer text) → ⊥

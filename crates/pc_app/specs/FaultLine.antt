@@ -1,0 +1,69 @@
+-- The line of a fault: `input: `, its name, its numbers, and a newline.
+use Rattle.std.specs.Prelude.{ℕ, List, [], ◌∷◌, ◌++◌, codes, decimal}
+use Rattle.std.specs.List.{flat_map}
+use Rattle.well.specs.declared.rows.RowsFault.{RowsFault}
+use Rattle.well.specs.declared.rows.RowsFault.TheVariants.{BadRowChar, BadRowLength, TooManyRows}
+use Rattle.queue_pattern.specs.declared.fault.PatternFault.{PatternFault}
+use Rattle.queue_pattern.specs.declared.fault.PatternFault.TheVariants.{Unexpected, RepeatedPiece, TooManyChosen, PatternTooLong, TooManyQueues}
+use Rattle.pc_app.specs.declared.words.WordsKind.{WordsKind}
+use Rattle.pc_app.specs.declared.words.WordsKind.TheVariants.{NoCommand, UnknownCommand, UnknownOption, RepeatedOption, MissingValue, BadValue, MissingOption}
+use Rattle.pc_app.specs.declared.faults.Fault.{Fault}
+use Rattle.pc_app.specs.declared.faults.Fault.TheVariants.{Words, Rows, FieldTooHigh, FullRow, Pattern, TooFewPieces, BadAfter}
+
+abbrev pub words_name : WordsKind → List ℕ
+words_name NoCommand = codes "Words.NoCommand"
+words_name UnknownCommand = codes "Words.UnknownCommand"
+words_name UnknownOption = codes "Words.UnknownOption"
+words_name RepeatedOption = codes "Words.RepeatedOption"
+words_name MissingValue = codes "Words.MissingValue"
+words_name BadValue = codes "Words.BadValue"
+words_name MissingOption = codes "Words.MissingOption"
+
+abbrev pub rows_name : RowsFault → List ℕ
+rows_name (BadRowChar place) = codes "Rows.BadRowChar"
+rows_name (BadRowLength row) = codes "Rows.BadRowLength"
+rows_name TooManyRows = codes "Rows.TooManyRows"
+
+abbrev pub pattern_name : PatternFault → List ℕ
+pattern_name (Unexpected place) = codes "Pattern.Unexpected"
+pattern_name (RepeatedPiece place) = codes "Pattern.RepeatedPiece"
+pattern_name (TooManyChosen place) = codes "Pattern.TooManyChosen"
+pattern_name PatternTooLong = codes "Pattern.PatternTooLong"
+pattern_name TooManyQueues = codes "Pattern.TooManyQueues"
+
+abbrev pub fault_name : Fault → List ℕ
+fault_name (Words fault) = words_name fault.kind
+fault_name (Rows fault) = rows_name fault
+fault_name (FieldTooHigh row) = codes "FieldTooHigh"
+fault_name (FullRow row) = codes "FullRow"
+fault_name (Pattern fault) = pattern_name fault
+fault_name (TooFewPieces have need) = codes "TooFewPieces"
+fault_name (BadAfter place) = codes "BadAfter"
+
+abbrev pub rows_numbers : RowsFault → List ℕ
+rows_numbers (BadRowChar place) = place ∷ []
+rows_numbers (BadRowLength row) = row ∷ []
+rows_numbers TooManyRows = []
+
+abbrev pub pattern_numbers : PatternFault → List ℕ
+pattern_numbers (Unexpected place) = place ∷ []
+pattern_numbers (RepeatedPiece place) = place ∷ []
+pattern_numbers (TooManyChosen place) = place ∷ []
+pattern_numbers PatternTooLong = []
+pattern_numbers TooManyQueues = []
+
+abbrev pub fault_numbers : Fault → List ℕ
+fault_numbers (Words fault) = fault.index ∷ []
+fault_numbers (Rows fault) = rows_numbers fault
+fault_numbers (FieldTooHigh row) = row ∷ []
+fault_numbers (FullRow row) = row ∷ []
+fault_numbers (Pattern fault) = pattern_numbers fault
+fault_numbers (TooFewPieces have need) = have ∷ need ∷ []
+fault_numbers (BadAfter place) = place ∷ []
+
+-- each number with a blank before it
+abbrev pub line_with : List ℕ → List ℕ → List ℕ
+line_with name numbers = codes "input: " ++ name ++ flat_map (λ number. 32 ∷ decimal number) numbers ++ 10 ∷ []
+
+unfoldable pub fault_line : Fault → List ℕ
+fault_line fault = line_with (fault_name fault) (fault_numbers fault)

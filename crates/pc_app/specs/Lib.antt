@@ -1,0 +1,14 @@
+-- The definitions that the contracts of this crate cite.
+pub mod Numbers
+pub mod Names
+pub mod Given
+pub mod Words
+pub mod After
+pub mod Views
+pub mod Faults
+pub mod FaultLine
+pub mod Question
+pub mod Numbered
+pub mod Output
+pub mod Answers
+pub mod Codes

@@ -1,0 +1,136 @@
+// The line that a fault is reported by.
+ghost use Rattle.std.specs.Prelude.{◌≡◌};
+ghost use Rattle.pc_outside.specs.Counts.{HasCause};
+ghost use Rattle.pc_outside.specs.Writes.{WritesAll};
+ghost use Rattle.pc_app.specs.FaultLine.{words_name, rows_name, pattern_name, fault_name, rows_numbers, pattern_numbers, fault_numbers, line_with, fault_line};
+ghost use Rattle.pc_app.specs.Numbered.{numbers_of};
+
+use crate::faults::Fault;
+use crate::words::WordsKind;
+use itoa::Buffer;
+use pc_outside::{Failed, Sink, write_pieces};
+use queue_pattern::PatternFault;
+use well::RowsFault;
+
+/// The numbers of a fault.
+#[derive(Clone, Copy)]
+enum Numbers {
+    None,
+    One(usize),
+    Two(usize, usize),
+}
+
+fn words_name(kind: WordsKind) -> &'static [u8]
+    ensures { result.now ≡ words_name kind }
+{
+    match kind {
+        WordsKind::NoCommand => b"Words.NoCommand",
+        WordsKind::UnknownCommand => b"Words.UnknownCommand",
+        WordsKind::UnknownOption => b"Words.UnknownOption",
+        WordsKind::RepeatedOption => b"Words.RepeatedOption",
+        WordsKind::MissingValue => b"Words.MissingValue",
+        WordsKind::BadValue => b"Words.BadValue",
+        WordsKind::MissingOption => b"Words.MissingOption",
+    }
+}
+
+fn rows_name(fault: RowsFault) -> &'static [u8]
+    ensures { result.now ≡ rows_name fault }
+{
+    match fault {
+        RowsFault::BadRowChar { .. } => b"Rows.BadRowChar",
+        RowsFault::BadRowLength { .. } => b"Rows.BadRowLength",
+        RowsFault::TooManyRows => b"Rows.TooManyRows",
+    }
+}
+
+fn pattern_name(fault: PatternFault) -> &'static [u8]
+    ensures { result.now ≡ pattern_name fault }
+{
+    match fault {
+        PatternFault::Unexpected { .. } => b"Pattern.Unexpected",
+        PatternFault::RepeatedPiece { .. } => b"Pattern.RepeatedPiece",
+        PatternFault::TooManyChosen { .. } => b"Pattern.TooManyChosen",
+        PatternFault::PatternTooLong => b"Pattern.PatternTooLong",
+        PatternFault::TooManyQueues => b"Pattern.TooManyQueues",
+    }
+}
+
+fn fault_name(fault: Fault) -> &'static [u8]
+    ensures { result.now ≡ fault_name fault }
+{
+    match fault {
+        Fault::Words(words) => words_name(words.kind),
+        Fault::Rows(rows) => rows_name(rows),
+        Fault::FieldTooHigh { .. } => b"FieldTooHigh",
+        Fault::FullRow { .. } => b"FullRow",
+        Fault::Pattern(pattern) => pattern_name(pattern),
+        Fault::TooFewPieces { .. } => b"TooFewPieces",
+        Fault::BadAfter { .. } => b"BadAfter",
+    }
+}
+
+fn rows_numbers(fault: RowsFault) -> Numbers
+    ensures { numbers_of result ≡ rows_numbers fault }
+{
+    match fault {
+        RowsFault::BadRowChar { place } => Numbers::One(place),
+        RowsFault::BadRowLength { row } => Numbers::One(usize::from(row)),
+        RowsFault::TooManyRows => Numbers::None,
+    }
+}
+
+fn pattern_numbers(fault: PatternFault) -> Numbers
+    ensures { numbers_of result ≡ pattern_numbers fault }
+{
+    match fault {
+        PatternFault::Unexpected { place } => Numbers::One(place),
+        PatternFault::RepeatedPiece { place } => Numbers::One(place),
+        PatternFault::TooManyChosen { place } => Numbers::One(place),
+        PatternFault::PatternTooLong => Numbers::None,
+        PatternFault::TooManyQueues => Numbers::None,
+    }
+}
+
+fn fault_numbers(fault: Fault) -> Numbers
+    ensures { numbers_of result ≡ fault_numbers fault }
+{
+    match fault {
+        Fault::Words(words) => Numbers::One(words.index),
+        Fault::Rows(rows) => rows_numbers(rows),
+        Fault::FieldTooHigh { row } => Numbers::One(usize::from(row)),
+        Fault::FullRow { row } => Numbers::One(usize::from(row)),
+        Fault::Pattern(pattern) => pattern_numbers(pattern),
+        Fault::TooFewPieces { have, need } => Numbers::Two(usize::from(have), usize::from(need)),
+        Fault::BadAfter { place } => Numbers::One(place),
+    }
+}
+
+fn write_named<E: Sink>(err: &mut E, name: &[u8], numbers: Numbers) -> Result<(), Failed>
+    ensures written { WritesAll (E.written err.old) (E.written err.new) result (line_with name.now (numbers_of numbers)) }
+    ensures cause { HasCause (E.faults err.old) (E.faults err.new) result }
+{
+    let mut one = Buffer::new();
+    let mut other = Buffer::new();
+    match numbers {
+        Numbers::None => write_pieces(err, &[b"input: ", name, b"\n"]),
+        Numbers::One(number) => {
+            let digits = one.format(number).as_bytes();
+            write_pieces(err, &[b"input: ", name, b" ", digits, b"\n"])
+        }
+        Numbers::Two(first, second) => {
+            let digits = one.format(first).as_bytes();
+            let more = other.format(second).as_bytes();
+            write_pieces(err, &[b"input: ", name, b" ", digits, b" ", more, b"\n"])
+        }
+    }
+}
+
+/// Writes the line of a fault, as `input: TooFewPieces 1 2`.
+#[tactic(auto, unfolding(crate::specs::FaultLine::fault_line))]
+pub fn write_fault<E: Sink>(err: &mut E, fault: Fault) -> Result<(), Failed>
+    ensures written { WritesAll (E.written err.old) (E.written err.new) result (fault_line fault) }
+    ensures cause { HasCause (E.faults err.old) (E.faults err.new) result }
+{
+    write_named(err, fault_name(fault), fault_numbers(fault))
+}

@@ -1,0 +1,199 @@
+// The text of one placement, with keys or without, read byte by byte.
+ghost use Rattle.std.specs.Prelude.{◌≡◌, ◌≤◌, ◌<◌};
+ghost use Rattle.pc_app.specs.After.{step, step_at, second_digit_step, keys_step, key_step, capital_piece, is_key_letter, after_row_digit, may_end, unread};
+
+use srs::{Piece, Placement, Rotation};
+
+/// What may stand next.
+#[derive(Clone, Copy, Debug, PartialEq, Eq)]
+pub enum Due {
+    PieceLetter,
+    RotationLetter,
+    Colon,
+    Column,
+    Comma,
+    Row,
+    /// A second digit of the row, or what follows the placement.
+    SecondDigit,
+    End,
+    Key,
+    AfterKeys,
+}
+
+/// A placement of which some bytes were read.
+#[derive(Clone, Copy, Debug, PartialEq, Eq)]
+pub struct Reading {
+    pub due: Due,
+    pub placement: Placement,
+}
+
+fn capital_piece(byte: u8) -> Option<Piece>
+    ensures { result ≡ capital_piece byte }
+{
+    Piece::ALL
+        .iter()
+        .copied()
+        .find(|piece| piece.letter() == byte)
+}
+
+fn is_key_letter(byte: u8) -> bool
+    ensures { result ≡ is_key_letter byte }
+{
+    matches!(byte, b'L' | b'R' | b'D' | b'C' | b'A')
+}
+
+fn after_row_digit(digit: u8) -> Due
+    ensures { result ≡ after_row_digit digit }
+{
+    if digit == 1 || digit == 2 {
+        Due::SecondDigit
+    } else {
+        Due::End
+    }
+}
+
+fn keys_step(placement: Placement, byte: u8) -> Option<Reading>
+    ensures { result ≡ keys_step placement byte }
+{
+    (byte == b':').then_some(Reading {
+        due: Due::Key,
+        placement,
+    })
+}
+
+fn second_digit_step(placement: Placement, byte: u8) -> Option<Reading>
+    ensures { result ≡ second_digit_step placement byte }
+{
+    if !byte.is_ascii_digit() {
+        return keys_step(placement, byte);
+    }
+    let row = 10 * u16::from(placement.y) + u16::from(byte - b'0');
+    if row > 22 {
+        return None;
+    }
+    Some(Reading {
+        due: Due::End,
+        placement: Placement {
+            y: row as u8,
+            ..placement
+        },
+    })
+}
+
+fn key_step(placement: Placement, byte: u8) -> Option<Reading>
+    ensures { result ≡ key_step placement byte }
+{
+    if is_key_letter(byte) {
+        return Some(Reading {
+            due: Due::Key,
+            placement,
+        });
+    }
+    (byte == b'H').then_some(Reading {
+        due: Due::AfterKeys,
+        placement,
+    })
+}
+
+fn piece_step(placement: Placement, byte: u8) -> Option<Reading>
+    ensures { result ≡ step_at Due.PieceLetter placement byte }
+{
+    let piece = capital_piece(byte)?;
+    Some(Reading {
+        due: Due::RotationLetter,
+        placement: Placement { piece, ..placement },
+    })
+}
+
+fn rotation_step(placement: Placement, byte: u8) -> Option<Reading>
+    ensures { result ≡ step_at Due.RotationLetter placement byte }
+{
+    let rotation = Rotation::from_letter(byte)?;
+    Some(Reading {
+        due: Due::Colon,
+        placement: Placement {
+            rotation,
+            ..placement
+        },
+    })
+}
+
+fn column_step(placement: Placement, byte: u8) -> Option<Reading>
+    ensures { result ≡ step_at Due.Column placement byte }
+{
+    if !byte.is_ascii_digit() {
+        return None;
+    }
+    Some(Reading {
+        due: Due::Comma,
+        placement: Placement {
+            x: byte - b'0',
+            ..placement
+        },
+    })
+}
+
+fn row_step(placement: Placement, byte: u8) -> Option<Reading>
+    ensures { result ≡ step_at Due.Row placement byte }
+{
+    if !byte.is_ascii_digit() {
+        return None;
+    }
+    Some(Reading {
+        due: after_row_digit(byte - b'0'),
+        placement: Placement {
+            y: byte - b'0',
+            ..placement
+        },
+    })
+}
+
+impl Reading {
+    /// No byte was read yet.
+    pub fn unread() -> Reading
+        ensures { result ≡ unread }
+    {
+        Reading {
+            due: Due::PieceLetter,
+            placement: Placement {
+                piece: Piece::I,
+                rotation: Rotation::Spawn,
+                x: 0,
+                y: 0,
+            },
+        }
+    }
+
+    /// The placement may end here.
+    pub fn may_end(self) -> bool
+        ensures { result ≡ may_end self.due }
+    {
+        matches!(self.due, Due::SecondDigit | Due::End | Due::AfterKeys)
+    }
+
+    /// The reading after one more byte. `None` exactly where the byte may not stand there.
+    #[tactic(auto, unfolding(crate::specs::After::step))]
+    pub fn step(self, byte: u8) -> Option<Reading>
+        ensures { result ≡ step self byte }
+    {
+        let placement = self.placement;
+        match self.due {
+            Due::PieceLetter => piece_step(placement, byte),
+            Due::RotationLetter => rotation_step(placement, byte),
+            Due::Colon => (byte == b':').then_some(Reading {
+                due: Due::Column,
+                placement,
+            }),
+            Due::Column => column_step(placement, byte),
+            Due::Comma => (byte == b',').then_some(Reading {
+                due: Due::Row,
+                placement,
+            }),
+            Due::Row => row_step(placement, byte),
+            Due::SecondDigit => second_digit_step(placement, byte),
+            Due::End => keys_step(placement, byte),
+            Due::Key => key_step(placement, byte),
+            Due::AfterKeys => None,
+        }
+    }
+}

@@ -1,0 +1,36 @@
+// What the words ask for.
+use hold_queue::Hold;
+
+/// The words that give the field.
+#[derive(Clone, Copy, Debug, PartialEq, Eq)]
+pub enum FieldWords<'a> {
+    /// Rows text: rows from the top one down, divided by `/`.
+    Rows(&'a str),
+}
+
+/// The question: a field, how many of its rows are to be removed, and with which pieces.
+#[derive(Clone, Copy, Debug, PartialEq, Eq)]
+pub struct FieldSettings<'a> {
+    pub field: FieldWords<'a>,
+    /// How many rows are to be removed, 1 to 6.
+    pub height: u8,
+    /// The text of a pattern of queues.
+    pub patterns: &'a str,
+    pub hold: Hold,
+}
+
+/// What `path` is asked for.
+#[derive(Clone, Copy, Debug, PartialEq, Eq)]
+pub struct PathSettings<'a> {
+    pub common: FieldSettings<'a>,
+    /// The text of the sequence after which the list begins.
+    pub after: Option<&'a str>,
+    /// How many sequences are written at most.
+    pub limit: u32,
+}
+
+/// A command with its settings.
+#[derive(Clone, Copy, Debug, PartialEq, Eq)]
+pub enum Settings<'a> {
+    Path(PathSettings<'a>),
+}

@@ -1,0 +1,36 @@
+-- A text is read element by element.
+use Rattle.std.proofs.Common.{◌≡◌, ℕ, List, [], ◌∷◌, ◌++◌, append_assoc, append-nil, refl, ap, sym, ◌∙◌, Ok, Err}
+use Rattle.queue_pattern.specs.declared.element.Element.{Element}
+use Rattle.queue_pattern.specs.declared.fault.PatternFault.{PatternFault}
+use Rattle.queue_pattern.specs.Grammar.{Elements, elements, read_at, outside, before}
+
+-- these elements before those that follow
+abbrev pub after_front : List Element → Elements → Elements
+after_front front (Ok rest) = Ok (front ++ rest)
+after_front front (Err fault) = Err fault
+
+-- the text spells these elements and then what it spells from a place on
+pub record ReadsOn (text : List ℕ) (front : List Element) (place : ℕ) : Type 0 where
+  pub reads : elements text ≡ after_front front (read_at text outside place)
+
+after-one : (front : List Element) (element : Element) (rest : Elements) → after_front front (before (Ok element) rest) ≡ after_front (front ++ element ∷ []) rest
+after-one front element (Ok rest) = ap Ok (sym (append_assoc front (element ∷ []) rest))
+after-one front element (Err fault) = refl
+
+pub reads_more : (text : List ℕ) (front : List Element) (place next : ℕ) (element : Element) → ReadsOn text front place
+    → read_at text outside place ≡ before (Ok element) (read_at text outside next) → ReadsOn text (front ++ element ∷ []) next
+reads_more text front place next element so_far is =
+    record { reads = so_far.reads ∙ ap (after_front front) is ∙ after-one front element (read_at text outside next) }
+
+pub reads_none : (text : List ℕ) → ReadsOn text [] 0
+reads_none text = record { reads = go (elements text) }
+  where
+    go : (read : Elements) → read ≡ after_front [] read
+    go (Ok rest) = refl
+    go (Err fault) = refl
+
+pub reads_end : (text : List ℕ) (front : List Element) (place : ℕ) → ReadsOn text front place → read_at text outside place ≡ Ok [] → elements text ≡ Ok front
+reads_end text front place so_far is = so_far.reads ∙ ap (after_front front) is ∙ ap Ok (append-nil front)
+
+pub reads_fault : (text : List ℕ) (front : List Element) (place : ℕ) (fault : PatternFault) → ReadsOn text front place → read_at text outside place ≡ Err fault → elements text ≡ Err fault
+reads_fault text front place fault so_far is = so_far.reads ∙ ap (after_front front) is

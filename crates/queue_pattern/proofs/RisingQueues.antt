@@ -1,0 +1,111 @@
+-- The list of queues rises, so no two of them are equal.
+use Rattle.std.proofs.Common.{◌≡◌, ◌≢◌, ℕ, zero, suc, ◌-◌, ◌<◌, not, ◌==◌, List, [], ◌∷◌, ◌++◌, length, map, slice_get, Some, refl, ap, sym, subst, ◌∙◌, arith}
+use Rattle.std.specs.List.Sorted.{IsStrictlySortedBy}
+use Rattle.std.specs.Int.{bit_at}
+use Rattle.std.specs.Ordering.{ordering_then}
+use Rattle.std.specs.declared.cmp.Ordering.{Ordering}
+use Rattle.std.specs.declared.cmp.Ordering.TheVariants.{Less, Equal, Greater}
+use Rattle.std.proofs.lemmas.List.Kept.{IsStrictlySortedBy-filter}
+use Rattle.std.proofs.lemmas.Option.{get_or_from_slice_get, slice_get_within}
+use Rattle.srs.specs.declared.piece.Piece.{Piece}
+use Rattle.srs.specs.declared.piece.Piece.TheVariants.{I, L, O, Z, T, J, S}
+use Rattle.srs.specs.Piece.{all_pieces, piece_code}
+use Rattle.srs.proofs.MemberLemmas.{Contains-none, Contains-from_map}
+use Rattle.srs.proofs.RisingLemmas.{rising-first, rising-rest, rising-none, rising-cons, rising-flat_map, rising-map}
+use Rattle.queue_pattern.specs.declared.element.Element.{Element}
+use Rattle.queue_pattern.specs.Queues.{pieces_in, others, choices, queues}
+use Rattle.queue_pattern.specs.Order.{piece_cmp, queue_cmp}
+
+-- the order of lists of equal length, by their first difference
+unfoldable differ_cmp : List Piece → List Piece → Ordering
+differ_cmp [] ys = Equal
+differ_cmp (x ∷ xs) [] = Equal
+differ_cmp (x ∷ xs) (y ∷ ys) = ordering_then (piece_cmp x y) (differ_cmp xs ys)
+
+same_first : (p : Piece) (r : Ordering) → ordering_then (piece_cmp p p) r ≡ r
+same_first I r = refl
+same_first L r = refl
+same_first O r = refl
+same_first Z r = refl
+same_first T r = refl
+same_first J r = refl
+same_first S r = refl
+
+less_first : (a r : Ordering) → a ≡ Less → ordering_then a r ≡ Less
+less_first a r e = ap (λ o. ordering_then o r) e
+
+differ-more : (p : Piece) (xs ys : List Piece) → differ_cmp xs ys ≡ Less → differ_cmp (p ∷ xs) (p ∷ ys) ≡ Less
+unfolding differ_cmp
+differ-more p xs ys less = same_first p (differ_cmp xs ys) ∙ less
+
+differ-first : (p q : Piece) (xs ys : List Piece) → piece_cmp p q ≡ Less → differ_cmp (p ∷ xs) (q ∷ ys) ≡ Less
+unfolding differ_cmp
+differ-first p q xs ys less = less_first (piece_cmp p q) (differ_cmp xs ys) less
+
+-- what follows decides nothing after a difference
+differ-queues : (xs ys rest rest' : List Piece) → differ_cmp xs ys ≡ Less → queue_cmp (xs ++ rest) (ys ++ rest') ≡ Less
+unfolding differ_cmp
+differ-queues [] ys rest rest' less = cc
+differ-queues (x ∷ xs) [] rest rest' less = cc
+differ-queues (x ∷ xs) (y ∷ ys) rest rest' less = decided (differ-queues xs ys rest rest') (piece_cmp x y) refl less
+  where
+    decided : (differ_cmp xs ys ≡ Less → queue_cmp (xs ++ rest) (ys ++ rest') ≡ Less) → (o : Ordering) → piece_cmp x y ≡ o → ordering_then o (differ_cmp xs ys) ≡ Less → ordering_then (piece_cmp x y) (queue_cmp (xs ++ rest) (ys ++ rest')) ≡ Less
+    decided later Less is h = ap (λ a. ordering_then a (queue_cmp (xs ++ rest) (ys ++ rest'))) is
+    decided later Equal is h = ap (λ a. ordering_then a (queue_cmp (xs ++ rest) (ys ++ rest'))) is ∙ later h
+    decided later Greater is h = cc
+
+-- a list that begins alike
+alike-queues : (front xs ys : List Piece) → queue_cmp xs ys ≡ Less → queue_cmp (front ++ xs) (front ++ ys) ≡ Less
+alike-queues [] xs ys less = less
+alike-queues (p ∷ front) xs ys less = same_first p (queue_cmp (front ++ xs) (front ++ ys)) ∙ alike-queues front xs ys less
+
+all_rise : IsStrictlySortedBy piece_cmp all_pieces
+unfolding IsStrictlySortedBy
+all_rise = ((refl, (refl, (refl, (refl, (refl, (refl, tt)))))), ((refl, (refl, (refl, (refl, (refl, tt))))), ((refl, (refl, (refl, (refl, tt)))), ((refl, (refl, (refl, tt))), ((refl, (refl, tt)), ((refl, tt), (tt, tt)))))))
+
+pieces_in-rise : (set : ℕ) → IsStrictlySortedBy piece_cmp (pieces_in set)
+unfolding pieces_in
+pieces_in-rise set = IsStrictlySortedBy-filter piece_cmp (λ p. bit_at set (piece_code p - 1) == 1) all_pieces all_rise
+
+choices-rise : (n : ℕ) (pieces : List Piece) → IsStrictlySortedBy piece_cmp pieces → IsStrictlySortedBy differ_cmp (choices pieces n)
+unfolding choices others
+choices-rise zero pieces rise = rising-cons differ_cmp [] [] (λ y there. absurd (Contains-none y there)) (rising-none differ_cmp)
+choices-rise (suc n) pieces rise =
+    rising-flat_map piece_cmp differ_cmp (λ p. map (λ rest. p ∷ rest) (choices (others p pieces) n)) pieces rise
+    (λ p. rising-map differ_cmp differ_cmp (λ rest. p ∷ rest) (choices (others p pieces) n)
+    (choices-rise n (others p pieces) (IsStrictlySortedBy-filter piece_cmp (λ q. not (piece_code q == piece_code p)) pieces rise)) (differ-more p))
+    (λ p q less x y first second.
+    let one = Contains-from_map (λ rest. p ∷ rest) (choices (others p pieces) n) x first in
+    let two = Contains-from_map (λ rest. q ∷ rest) (choices (others q pieces) n) y second in
+    subst (λ b. differ_cmp x b ≡ Less) two.2 (subst (λ a. differ_cmp a (q ∷ two.0) ≡ Less) one.2 (differ-first p q one.0 two.0 less)))
+
+pub queues-rise : (elements : List Element) → IsStrictlySortedBy queue_cmp (queues elements)
+unfolding queues
+queues-rise [] = rising-cons queue_cmp [] [] (λ y there. absurd (Contains-none y there)) (rising-none queue_cmp)
+queues-rise (e ∷ elements) =
+    rising-flat_map differ_cmp queue_cmp (λ choice. map (λ rest. choice ++ rest) (queues elements)) (choices (pieces_in e.set) e.chosen)
+    (choices-rise e.chosen (pieces_in e.set) (pieces_in-rise e.set))
+    (λ choice. rising-map queue_cmp queue_cmp (λ rest. choice ++ rest) (queues elements) (queues-rise elements) (alike-queues choice))
+    (λ c d less x y first second.
+    let one = Contains-from_map (λ rest. c ++ rest) (queues elements) x first in
+    let two = Contains-from_map (λ rest. d ++ rest) (queues elements) y second in
+    subst (λ b. queue_cmp x b ≡ Less) two.2 (subst (λ a. queue_cmp a (d ++ two.0) ≡ Less) one.2 (differ-queues c d one.0 two.0 less)))
+
+itself : (queue : List Piece) → queue_cmp queue queue ≡ Less → ⊥
+itself [] less = no less
+  where
+    no : Equal ≡ Less → ⊥
+    no e = cc
+itself (p ∷ queue) less = itself queue (sym (same_first p (queue_cmp queue queue)) ∙ less)
+
+distinct : (qs : List (List Piece)) → IsStrictlySortedBy queue_cmp qs → (i j : ℕ) → i < j → j < length qs → slice_get qs i ≢ slice_get qs j
+distinct [] rise i j before within same = absurd (omega arith)
+distinct (q ∷ qs) rise zero zero before within same = absurd (omega arith)
+distinct (q ∷ qs) rise zero (suc j) before within same =
+    let there : slice_get qs j ≡ Some q = sym same in
+    itself q (rising-first queue_cmp q qs rise q (j, slice_get_within qs j q there, get_or_from_slice_get qs j q q there))
+distinct (q ∷ qs) rise (suc i) zero before within same = absurd (omega arith)
+distinct (q ∷ qs) rise (suc i) (suc j) before within same = distinct qs (rising-rest queue_cmp q qs rise) i j (omega arith) (omega arith) same
+
+pub queues-distinct : (elements : List Element) (i j : ℕ) → i < j → j < length (queues elements) → slice_get (queues elements) i ≢ slice_get (queues elements) j
+queues-distinct elements = distinct (queues elements) (queues-rise elements)

@@ -1,0 +1,176 @@
+-- Where the search for the queue with a number stands.
+use Rattle.std.proofs.Common.{◌≡◌, ℕ, suc, ◌+◌, ◌-◌, ◌*◌, ◌/◌, ◌%◌, ◌<◌, ◌≤◌, List, [], ◌∷◌, ◌++◌, length, append_assoc, refl, ap, sym, ◌∙◌, arith, Option, Some, None, true, subst, append-nil, length-append, Contains}
+use Rattle.std.specs.List.{slice_get}
+use Rattle.std.specs.Option.{option_map}
+use Rattle.std.specs.List.{list_all}
+use Rattle.std.proofs.lemmas.Nat.{div-add-mod', mod_below, div_below}
+use Rattle.std.proofs.lemmas.Bool.{and_parts}
+use Rattle.std.proofs.lemmas.Bool.Decides.{nat_tests}
+use Rattle.std.proofs.lemmas.List.Sums.{sum_by-cons}
+use Rattle.std.proofs.Math.Nat.{mul_assoc, mul-le-mul, one-mul, mul-div_cancel_left}
+use Rattle.std.proofs.lemmas.Option.{get_or_from_slice_get}
+use Rattle.srs.specs.declared.piece.Piece.{Piece}
+use Rattle.queue_pattern.specs.declared.element.Element.{Element}
+use Rattle.queue_pattern.specs.Queues.{tails, pieces_in, others, queues, falling_factor, queue_count, queue_len}
+use Rattle.queue_pattern.specs.Sound.{is_sound}
+use Rattle.queue_pattern.proofs.BuilderLemmas.{sound-within}
+use Rattle.queue_pattern.proofs.LimitLemmas.{queue_count-some}
+use Rattle.queue_pattern.proofs.ChoiceLemmas.{IsSet, pieces_in-set, length-others}
+use Rattle.queue_pattern.proofs.FallingLemmas.{falling_factor-more, falling_factor-none, falling_factor-some}
+use Rattle.queue_pattern.proofs.QueueLemmas.{tails-none, queues-none, tails-get, queues-tails}
+
+-- The member with this index begins with these pieces, and goes on as the member with the number left of those that may
+-- follow, which are as many as a block.
+pub record Stands (whole : List (List Piece)) (index : ℕ) (front : List Piece) (left block : ℕ) (rest : List (List Piece)) : Type 0 where
+  pub here : slice_get whole index ≡ option_map (λ tail. front ++ tail) (slice_get rest left)
+  pub within : left < block
+
+map-itself : {A : Type 0} (o : Option A) → option_map (λ x. x) o ≡ o
+map-itself None = refl
+map-itself (Some x) = refl
+
+pub stands_first : (whole : List (List Piece)) (index block : ℕ) → index < block → Stands whole index [] index block whole
+stands_first whole index block within = record { here = sym (map-itself (slice_get whole index)); within = within }
+
+map-append : (front : List Piece) (piece : Piece) (o : Option (List Piece)) →
+    option_map (λ tail. front ++ tail) (option_map (λ tail. piece ∷ tail) o) ≡ option_map (λ tail. (front ++ piece ∷ []) ++ tail) o
+map-append front piece None = refl
+map-append front piece (Some tail) = ap Some (sym (append_assoc front (piece ∷ []) tail))
+
+-- one more piece
+pub stands_more : (whole : List (List Piece)) (index : ℕ) (front : List Piece) (left block rest_block : ℕ) (pieces : List Piece) (n : ℕ) (elements : List Element) (piece : Piece)
+    → Stands whole index front left block (tails pieces (suc n) elements) → IsSet pieces
+    → rest_block ≡ falling_factor (length pieces - 1) n * queue_count elements → 0 < rest_block
+    → slice_get pieces (left / rest_block) ≡ Some piece
+    → Stands whole index (front ++ piece ∷ []) (left % rest_block) rest_block (tails (others piece pieces) n elements)
+stands_more whole index front left block rest_block pieces n elements piece so_far set is some there =
+    let split : left ≡ (left / rest_block) * rest_block + left % rest_block = sym (div-add-mod' left rest_block) in
+    let less : left % rest_block < rest_block = mod_below left rest_block some in
+    record {
+      here = so_far.here ∙ ap (λ k. option_map (λ tail. front ++ tail) (slice_get (tails pieces (suc n) elements) k)) split
+          ∙ ap (option_map (λ tail. front ++ tail)) (tails-get pieces n elements (left / rest_block) (left % rest_block) rest_block piece set is less there)
+          ∙ map-append front piece (slice_get (tails (others piece pieces) n elements) (left % rest_block));
+      within = less;
+    }
+
+-- between two elements: so many pieces are found, and the queue goes on with these elements
+pub record Between (whole : List Element) (index room : ℕ) (front : List Piece) (left block : ℕ) (rest : List Element) : Type 0 where
+  pub stands : Stands (queues whole) index front left block (queues rest)
+  pub blocks : block ≡ queue_count rest
+  pub pieces : length front + queue_len rest ≡ room
+  pub sound : list_all is_sound rest ≡ true
+
+-- within an element: n pieces of a set are still to be chosen
+pub record Within (whole : List Element) (index room : ℕ) (front : List Piece) (left block set n : ℕ) (rest : List Element) : Type 0 where
+  pub stands : Stands (queues whole) index front left block (tails (pieces_in set) n rest)
+  pub blocks : block ≡ falling_factor (length (pieces_in set)) n * queue_count rest
+  pub pieces : length front + (n + queue_len rest) ≡ room
+  pub few : set < 128
+  pub enough : n ≤ length (pieces_in set)
+  pub sound : list_all is_sound rest ≡ true
+
+pub between_first : (whole : List Element) (index block room : ℕ) → index < block → block ≡ queue_count whole → room ≡ queue_len whole → list_all is_sound whole ≡ true
+    → Between whole index room [] index block whole
+between_first whole index block room within is pieces sound =
+    record { stands = stands_first (queues whole) index block within; blocks = is; pieces = omega (arith, pieces); sound = sound }
+
+sound-set : (element : Element) → is_sound element ≡ true → element.set < 128
+unfolding is_sound
+sound-set element sound = grind (arith, nat_tests)
+
+pub into_element : (whole : List Element) (index room : ℕ) (front : List Piece) (left block : ℕ) (element : Element) (rest : List Element)
+    → Between whole index room front left block (element ∷ rest) → Within whole index room front left block element.set element.chosen rest
+unfolding queue_count
+into_element whole index room front left block element rest so_far =
+    let parts = and_parts (is_sound element) (list_all is_sound rest) so_far.sound in
+    record {
+      stands = subst (Stands (queues whole) index front left block) (queues-tails element rest) so_far.stands;
+      blocks = so_far.blocks;
+      pieces = omega (arith, so_far.pieces, sum_by-cons (λ (e : Element). e.chosen) element rest);
+      few = sound-set element parts.0;
+      enough = sound-within element parts.0;
+      sound = parts.1;
+    }
+
+pub out_of_element : (whole : List Element) (index room : ℕ) (front : List Piece) (left block set n : ℕ) (rest : List Element) → n ≡ 0
+    → Within whole index room front left block set n rest → Between whole index room front left block rest
+out_of_element whole index room front left block set n rest none so_far =
+    record {
+      stands = subst (Stands (queues whole) index front left block) (ap (λ k. tails (pieces_in set) k rest) none ∙ tails-none (pieces_in set) rest) so_far.stands;
+      blocks = so_far.blocks ∙ ap (λ k. falling_factor (length (pieces_in set)) k * queue_count rest) none
+          ∙ ap (λ k. k * queue_count rest) (falling_factor-none (length (pieces_in set))) ∙ one-mul (queue_count rest);
+      pieces = omega (arith, so_far.pieces);
+      sound = so_far.sound;
+    }
+
+-- the block of the next piece
+pub block_of : (whole : List Element) (index room : ℕ) (front : List Piece) (left block set n : ℕ) (rest : List Element)
+    → Within whole index room front left block set (suc n) rest
+    → (block ≡ length (pieces_in set) * (falling_factor (length (pieces_in set) - 1) n * queue_count rest))
+    × (0 < falling_factor (length (pieces_in set) - 1) n * queue_count rest) × (0 < length (pieces_in set))
+block_of whole index room front left block set n rest so_far = (
+  so_far.blocks ∙ ap (λ f. f * queue_count rest) (falling_factor-more (length (pieces_in set)) (suc n) n refl)
+      ∙ mul_assoc (length (pieces_in set)) (falling_factor (length (pieces_in set) - 1) n) (queue_count rest),
+  mul-le-mul (falling_factor-some n (length (pieces_in set) - 1) (omega (arith, so_far.enough))) (queue_count-some rest so_far.sound),
+  omega (arith, so_far.enough),
+)
+
+pub next_piece : (whole : List Element) (index room : ℕ) (front : List Piece) (left block set n rest_block next_set : ℕ) (rest : List Element) (piece : Piece)
+    → Within whole index room front left block set (suc n) rest
+    → rest_block ≡ falling_factor (length (pieces_in set) - 1) n * queue_count rest
+    → slice_get (pieces_in set) (left / rest_block) ≡ Some piece → Contains (pieces_in set) piece
+    → pieces_in next_set ≡ others piece (pieces_in set) → next_set < 128
+    → Within whole index room (front ++ piece ∷ []) (left % rest_block) rest_block next_set n rest
+next_piece whole index room front left block set n rest_block next_set rest piece so_far is there has next few =
+    let some = block_of whole index room front left block set n rest so_far in
+    let shorter : length (pieces_in next_set) + 1 ≡ length (pieces_in set) = ap (λ (ps : List Piece). length ps + 1) next ∙ length-others piece (pieces_in set) (pieces_in-set set) has in
+    record {
+      stands = subst (λ ps. Stands (queues whole) index (front ++ piece ∷ []) (left % rest_block) rest_block (tails ps n rest)) (sym next)
+          (stands_more (queues whole) index front left block rest_block (pieces_in set) n rest piece so_far.stands (pieces_in-set set) is (omega (arith, is, some.1)) there);
+      blocks = is ∙ ap (λ m. falling_factor m n * queue_count rest) (omega (arith, shorter));
+      pieces = omega (arith, so_far.pieces, length-append front (piece ∷ []));
+      few = few;
+      enough = omega (arith, so_far.enough, shorter);
+      sound = so_far.sound;
+    }
+
+-- no element is left: the queue is found
+pub found : (whole : List Element) (index room : ℕ) (front : List Piece) (left block : ℕ) → Between whole index room front left block [] → slice_get (queues whole) index ≡ Some front
+unfolding queue_count
+found whole index room front left block so_far =
+    let first : left ≡ 0 = omega (arith, so_far.stands.within, so_far.blocks) in
+    so_far.stands.here
+    ∙ ap (λ k. option_map (λ tail. front ++ tail) (slice_get (queues []) k)) first
+    ∙ ap (λ qs. option_map (λ tail. front ++ tail) (slice_get qs 0)) queues-none
+    ∙ ap Some (append-nil front)
+
+-- the block of the next piece, as it is computed
+pub record IsNextBlock (left block size set n : ℕ) (rest : List Element) : Type 0 where
+  pub is : block / size ≡ falling_factor (length (pieces_in set) - 1) n * queue_count rest
+  pub some : 0 < block / size
+  pub within : left / (block / size) < length (pieces_in set)
+
+pub next_block : (whole : List Element) (index room : ℕ) (front : List Piece) (left block set m n size : ℕ) (rest : List Element)
+    → Within whole index room front left block set m rest → m ≡ suc n → size ≡ length (pieces_in set) → IsNextBlock left block size set n rest
+next_block whole index room front left block set m n size rest so_far one_more number =
+    let now = subst (λ k. Within whole index room front left block set k rest) one_more so_far in
+    let parts = block_of whole index room front left block set n rest now in
+    let rest_block : ℕ = falling_factor (length (pieces_in set) - 1) n * queue_count rest in
+    let whole_block : block ≡ size * rest_block = parts.0 ∙ ap (λ k. k * rest_block) (sym number) in
+    let is : block / size ≡ rest_block = ap (λ k. k / size) whole_block ∙ mul-div_cancel_left rest_block (omega (arith, parts.2, number)) in
+    record {
+      is = is;
+      some = omega (arith, is, parts.1);
+      within = subst (λ k. left / k < length (pieces_in set)) (sym is) (div_below left rest_block (length (pieces_in set)) parts.1 (omega (arith, parts.0, now.stands.within)));
+    }
+
+pub piece_taken : (whole : List Element) (index room : ℕ) (front : List Piece) (left block set m n size next_set : ℕ) (rest : List Element) (piece : Piece)
+    → Within whole index room front left block set m rest → m ≡ suc n → size ≡ length (pieces_in set)
+    → slice_get (pieces_in set) (left / (block / size)) ≡ Some piece
+    → pieces_in next_set ≡ others piece (pieces_in set) → next_set < 128
+    → Within whole index room (front ++ piece ∷ []) (left % (block / size)) (block / size) next_set n rest
+piece_taken whole index room front left block set m n size next_set rest piece so_far one_more number there next few =
+    let now = subst (λ k. Within whole index room front left block set k rest) one_more so_far in
+    let q = next_block whole index room front left block set m n size rest so_far one_more number in
+    next_piece whole index room front left block set n (block / size) next_set rest piece now q.is there
+    (left / (block / size), q.within, get_or_from_slice_get (pieces_in set) (left / (block / size)) piece piece there) next few

@@ -1,0 +1,25 @@
+// An element of a pattern.
+ghost use Rattle.std.specs.Prelude.{◌≡◌, ◌-◌, ◌==◌};
+ghost use Rattle.std.specs.Int.{bit_at};
+ghost use Rattle.srs.specs.Piece.{piece_code};
+
+use crate::sets::is_in;
+use srs::Piece;
+
+/// An ordered choice of some different pieces of a set.
+#[derive(Clone, Copy, Debug, Default, PartialEq, Eq)]
+pub struct Element {
+    /// Bit `c - 1` is set exactly where the piece with code `c` is in the set.
+    pub set: u8,
+    /// How many pieces are chosen.
+    pub chosen: u8,
+}
+
+impl Element {
+    /// Whether the element's set has this piece.
+    pub fn has(self, piece: Piece) -> bool
+        ensures { result ≡ (bit_at self.set (piece_code piece - 1) == 1) }
+    {
+        is_in(piece, self.set)
+    }
+}

@@ -1,0 +1,25 @@
+// Laws of the definitions: functions with an empty body, whose contract is the law.
+ghost use Rattle.std.specs.Prelude.{◌≡◌, ◌≢◌, ℕ, ◌<◌, ◌≤◌, List, length, slice_get};
+ghost use Rattle.std.specs.List.Sorted.{IsStrictlySortedBy};
+ghost use Rattle.queue_pattern.specs.declared.element.Element.{Element};
+ghost use Rattle.queue_pattern.specs.declared.pattern.Pattern.{Pattern};
+ghost use Rattle.queue_pattern.specs.Order.{queue_cmp};
+ghost use Rattle.queue_pattern.specs.Pattern.{elements_of};
+ghost use Rattle.queue_pattern.specs.Queues.{queues, queue_count, queue_len};
+
+/// The list of queues has as many members as the factors of its elements make.
+pub fn queues_are_counted()
+    ensures { (elements : List Element) → length (queues elements) ≡ queue_count elements }
+{}
+
+/// The list of queues rises in the order of queues, so no two of them are equal.
+pub fn queues_rise()
+    ensures rising { (elements : List Element) → IsStrictlySortedBy queue_cmp (queues elements) }
+    ensures distinct { (elements : List Element) (i j : ℕ) → i < j → j < length (queues elements) → slice_get (queues elements) i ≢ slice_get (queues elements) j }
+{}
+
+/// A pattern has a queue, and its queues have at most 22 pieces.
+pub fn patterns_are_within_limits()
+    ensures some { (pattern : Pattern) → 0 < length (queues (elements_of pattern)) }
+    ensures short { (pattern : Pattern) → queue_len (elements_of pattern) ≤ 22 }
+{}

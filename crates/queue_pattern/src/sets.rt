@@ -1,0 +1,63 @@
+// Sets of pieces, as bits: bit `c - 1` for the piece with code `c`.
+ghost use Rattle.std.specs.Prelude.{◌≡◌, ℕ, ◌-◌, ◌<◌, ◌≤◌, ◌==◌, length, IsTrue, Some, slice_get};
+ghost use Rattle.std.specs.Int.{bit_at};
+ghost use Rattle.srs.specs.Piece.{piece_code};
+ghost use Rattle.queue_pattern.specs.Queues.{pieces_in, others};
+ghost use Rattle.queue_pattern.specs.Grammar.{set_of};
+
+use srs::Piece;
+
+/// The set of all pieces.
+pub const ALL: u8 = 127;
+
+/// Whether a set has this piece.
+pub fn is_in(piece: Piece, set: u8) -> bool
+    ensures { result ≡ (bit_at set (piece_code piece - 1) == 1) }
+{
+    set >> (piece.code() - 1) & 1 == 1
+}
+
+/// The set of one piece.
+pub fn set_of_one(piece: Piece) -> u8
+    ensures { result ≡ set_of piece }
+{
+    1 << (piece.code() - 1)
+}
+
+#[tactic(auto, unfolding(crate::specs::Queues::pieces_in))]
+/// How many pieces a set has.
+pub fn size(set: u8) -> u8
+    ensures number { result ≡ length (pieces_in set) }
+    ensures few { result ≤ 7 }
+{
+    Piece::ALL
+        .iter()
+        .filter(|piece| is_in(**piece, set))
+        .count() as u8
+}
+
+/// The set without one of its pieces.
+pub fn without(set: u8, piece: Piece) -> u8
+    requires { set < 128 }
+    ensures rest { pieces_in result ≡ others piece (pieces_in set) }
+    ensures within { result < 128 }
+{
+    set & !set_of_one(piece)
+}
+
+/// The piece of a set with this number, from 0, in the order of codes.
+pub fn nth(set: u8, number: u32) -> Piece
+    requires { number < length (pieces_in set) }
+    ensures { slice_get (pieces_in set) number ≡ Some result }
+{
+    let mut left = number;
+    for piece in Piece::ALL {
+        if is_in(piece, set) {
+            if left == 0 {
+                return piece;
+            }
+            left -= 1;
+        }
+    }
+    unreachable!()
+}

@@ -1,0 +1,19 @@
+-- The lemmas of this crate.
+pub mod FieldLemmas
+pub mod MovedCells
+pub mod StateSets
+pub mod ReachedLemmas
+pub mod TurnLemmas
+pub mod SpreadLemmas
+pub mod SettleLemmas
+pub mod FloodLemmas
+pub mod KickLemmas
+pub mod RestLemmas
+pub mod OffsetLemmas
+pub mod OpenedLemmas
+pub mod StartLemmas
+pub mod FourLemmas
+pub mod KeyLemmas
+pub mod FoldLemmas
+pub mod PlaceLemmas
+pub mod ScanLemmas

@@ -1,0 +1,85 @@
+// The flood: from a set of states to all that allowed keys reach from it.
+ghost use Rattle.std.specs.Prelude.{◌≡◌, ◌⊎◌, ℕ};
+ghost use Rattle.lane_board.specs.Field.{empty_field, union};
+ghost use Rattle.srs.specs.Rotation.{clockwise_of, anticlockwise_of};
+ghost use Rattle.srs.specs.Rules.{table_of};
+ghost use Rattle.reach.specs.Flood.{IsSettled, IsFlood};
+ghost use Rattle.reach.specs.Kicks.{kicks_of, turned_from};
+ghost use Rattle.reach.specs.Shifts.{shifts_in};
+ghost use Rattle.reach.specs.States.{states_of, states_with};
+
+use crate::pivots::Pivots;
+use crate::spread::{Shifts, spread};
+use crate::turn::turned;
+use moves::DropMode;
+use srs::{Piece, Rotation, Rules};
+
+/// All states to which allowed keys lead from the start states, where the free states are given. A rotation is visited
+/// again only where its states have changed.
+pub(crate) fn flood<const N: usize>(
+    free: &Pivots<N>,
+    rules: &Rules,
+    piece: Piece,
+    mode: DropMode,
+    start: &Pivots<N>,
+) -> Pivots<N>
+    ensures { IsFlood (record { table = table_of rules.now; piece = piece; mode = mode; free = states_of free.now }) (states_of start.now) (states_of result) }
+{
+    let mut reached = *start;
+    let mut done = Pivots::empty();
+    'rounds: while let Some(rotation) = done.difference(&reached) {
+        reached = settle(free, rules, piece, mode, rotation, &reached);
+        done = done.with(rotation, reached.board(rotation));
+    }
+    reached
+}
+
+/// The states with all that single moves and then a quarter turn reach from those in one rotation.
+fn settle<const N: usize>(
+    free: &Pivots<N>,
+    rules: &Rules,
+    piece: Piece,
+    mode: DropMode,
+    rotation: Rotation,
+    reached: &Pivots<N>,
+) -> Pivots<N>
+    ensures { IsSettled (record { table = table_of rules.now; piece = piece; mode = mode; free = states_of free.now }) rotation (states_of reached.now) (states_of result) }
+{
+    let wide = spread(free.board(rotation), shifts(mode), reached.board(rotation));
+    let reached = reached.with(rotation, &wide);
+    let reached = turn(free, rules, piece, rotation, rotation.clockwise(), &reached);
+    turn(
+        free,
+        rules,
+        piece,
+        rotation,
+        rotation.anticlockwise(),
+        &reached,
+    )
+}
+
+/// The moves within a rotation that the drop mode allows.
+fn shifts(mode: DropMode) -> Shifts
+    ensures { result ≡ shifts_in mode }
+{
+    match mode {
+        DropMode::Soft => Shifts::All,
+        DropMode::Hard => Shifts::Sideways,
+    }
+}
+
+/// The states with those that a quarter turn reaches from the states in one rotation.
+fn turn<const N: usize>(
+    free: &Pivots<N>,
+    rules: &Rules,
+    piece: Piece,
+    from: Rotation,
+    to: Rotation,
+    reached: &Pivots<N>,
+) -> Pivots<N>
+    requires { (to ≡ clockwise_of from) ⊎ (to ≡ anticlockwise_of from) }
+    ensures { states_of result ≡ states_with (states_of reached.now) to (union (states_of reached.now to) (turned_from (states_of free.now to) N (kicks_of (table_of rules.now) piece from to) (states_of reached.now from) empty_field)) }
+{
+    let arrivals = turned(free.board(to), rules, piece, from, to, reached.board(from));
+    reached.with(to, &reached.board(to).or(&arrivals))
+}

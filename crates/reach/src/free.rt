@@ -1,0 +1,59 @@
+// The states of a piece that a field leaves free.
+ghost use Rattle.std.specs.Prelude.{◌≡◌, pos, ◌≤ℤ◌, IsTrue};
+ghost use Rattle.std.specs.List.{list_all};
+ghost use Rattle.lane_board.specs.Board.{field_of};
+ghost use Rattle.srs.specs.Cells.{shape, is_near};
+ghost use Rattle.reach.specs.Opened.{opened, opened_at, IsFreeMap};
+ghost use Rattle.reach.specs.States.{states_of};
+
+use crate::pivots::Pivots;
+use lane_board::LaneBoard;
+use srs::{Piece, Placement, Rotation, cells};
+
+/// The states of a piece whose cells lie in the well and on no filled cell.
+pub(crate) fn free_states(filled: &LaneBoard<24>, piece: Piece) -> Pivots<24>
+    ensures { IsFreeMap (field_of filled.now) piece (states_of result) }
+{
+    let blank = LaneBoard::rows_below(23).minus(filled);
+    Pivots {
+        spawn: free_pivots(&blank, piece, Rotation::Spawn),
+        right: free_pivots(&blank, piece, Rotation::Right),
+        reverse: free_pivots(&blank, piece, Rotation::Reverse),
+        left: free_pivots(&blank, piece, Rotation::Left),
+    }
+}
+
+#[tactic(auto, unfolding(crate::specs::Opened::opened_at))]
+/// The pivots of one rotation at which all cells of the piece are blank.
+fn free_pivots(blank: &LaneBoard<24>, piece: Piece, rotation: Rotation) -> LaneBoard<24>
+    ensures { field_of result ≡ opened_at (field_of blank.now) 24 (shape piece rotation) (field_of blank.now) }
+{
+    let [a, b, c, d] = offsets(piece, rotation);
+    let first = opened(blank, a, blank);
+    let second = opened(blank, b, &first);
+    let third = opened(blank, c, &second);
+    opened(blank, d, &third)
+}
+
+/// The offsets of the four cells of a piece from its pivot: its cells where the pivot is in column 0 and row 0.
+fn offsets(piece: Piece, rotation: Rotation) -> [(i8, i8); 4]
+    ensures shape { result ≡ shape piece rotation }
+    ensures near { IsTrue (list_all is_near result) }
+{
+    cells(&Placement {
+        piece,
+        rotation,
+        x: 0,
+        y: 0,
+    })
+}
+
+/// Those of the pivots that have a blank cell at the offset.
+#[tactic(auto, unfolding(crate::specs::Opened::opened))]
+#[inline(always)]
+fn opened(blank: &LaneBoard<24>, offset: (i8, i8), pivots: &LaneBoard<24>) -> LaneBoard<24>
+    requires { IsTrue (is_near offset) }
+    ensures { field_of result ≡ opened (field_of blank.now) 24 offset (field_of pivots.now) }
+{
+    pivots.and(&blank.moved(0 - offset.0, 0 - offset.1))
+}

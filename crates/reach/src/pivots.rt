@@ -1,0 +1,93 @@
+// Four boards of pivots, one for each rotation.
+ghost use Rattle.std.specs.Prelude.{◌≡◌, IsTrue};
+ghost use Rattle.lane_board.specs.Lanes.{is_lane_count};
+
+use lane_board::LaneBoard;
+use srs::Rotation;
+
+/// A set of states of one piece: for each rotation the cells of their pivots.
+#[derive(Clone, Copy)]
+pub(crate) struct Pivots<const N: usize> {
+    pub(crate) spawn: LaneBoard<N>,
+    pub(crate) right: LaneBoard<N>,
+    pub(crate) reverse: LaneBoard<N>,
+    pub(crate) left: LaneBoard<N>,
+}
+
+impl<const N: usize> Pivots<N> {
+    ghost use Rattle.std.specs.Prelude.{◌↔◌, MatchOption, ◌≢◌};
+    ghost use Rattle.lane_board.specs.Board.{field_of};
+    ghost use Rattle.reach.specs.Folded.{no_states};
+    ghost use Rattle.reach.specs.States.{states_of, states_with};
+
+    /// No state.
+    pub(crate) fn empty() -> Pivots<N>
+        requires { IsTrue (is_lane_count N) }
+        ensures { states_of result ≡ no_states }
+    {
+        Pivots {
+            spawn: LaneBoard::empty(),
+            right: LaneBoard::empty(),
+            reverse: LaneBoard::empty(),
+            left: LaneBoard::empty(),
+        }
+    }
+
+    /// The pivots of the states in a rotation.
+    #[tactic(auto, unfolding(crate::specs::States::states_of))]
+    #[inline(always)]
+    pub(crate) fn board(&self, rotation: Rotation) -> &LaneBoard<N>
+        ensures { field_of result.now ≡ states_of self.now rotation }
+    {
+        match rotation {
+            Rotation::Spawn => &self.spawn,
+            Rotation::Right => &self.right,
+            Rotation::Reverse => &self.reverse,
+            Rotation::Left => &self.left,
+        }
+    }
+
+    /// The set with other pivots in one rotation.
+    #[inline(always)]
+    pub(crate) fn with(&self, rotation: Rotation, board: &LaneBoard<N>) -> Pivots<N>
+        ensures { states_of result ≡ states_with (states_of self.now) rotation (field_of board.now) }
+    {
+        match rotation {
+            Rotation::Spawn => Pivots {
+                spawn: *board,
+                ..*self
+            },
+            Rotation::Right => Pivots {
+                right: *board,
+                ..*self
+            },
+            Rotation::Reverse => Pivots {
+                reverse: *board,
+                ..*self
+            },
+            Rotation::Left => Pivots {
+                left: *board,
+                ..*self
+            },
+        }
+    }
+
+    /// A rotation in which the sets differ. `None` exactly where they are the same.
+    pub(crate) fn difference(&self, other: &Pivots<N>) -> Option<Rotation>
+        ensures { MatchOption result (states_of self.now ≡ states_of other.now) (λ r. states_of self.now r ≢ states_of other.now r) }
+    {
+        if !self.spawn.equal(&other.spawn) {
+            return Some(Rotation::Spawn);
+        }
+        if !self.right.equal(&other.right) {
+            return Some(Rotation::Right);
+        }
+        if !self.reverse.equal(&other.reverse) {
+            return Some(Rotation::Reverse);
+        }
+        if !self.left.equal(&other.left) {
+            return Some(Rotation::Left);
+        }
+        None
+    }
+}

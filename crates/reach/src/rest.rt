@@ -1,0 +1,29 @@
+// Where the states of a set come to rest.
+ghost use Rattle.std.specs.Prelude.{◌≡◌};
+ghost use Rattle.lane_board.specs.Board.{field_of};
+ghost use Rattle.reach.specs.Rested.{IsRested, AreRested};
+ghost use Rattle.reach.specs.States.{states_of};
+
+use crate::pivots::Pivots;
+use crate::spread::{Shifts, spread};
+use lane_board::LaneBoard;
+
+/// The states to which those of a set fall.
+pub(crate) fn resting<const N: usize>(free: &Pivots<N>, states: &Pivots<N>) -> Pivots<N>
+    ensures { AreRested N (states_of free.now) (states_of states.now) (states_of result) }
+{
+    Pivots {
+        spawn: rests(&free.spawn, &states.spawn),
+        right: rests(&free.right, &states.right),
+        reverse: rests(&free.reverse, &states.reverse),
+        left: rests(&free.left, &states.left),
+    }
+}
+
+/// The pivots to which those of one rotation fall: spread down, and with no free pivot below.
+fn rests<const N: usize>(free: &LaneBoard<N>, pivots: &LaneBoard<N>) -> LaneBoard<N>
+    ensures { IsRested N (field_of free.now) (field_of pivots.now) (field_of result) }
+{
+    let fallen = spread(free, Shifts::Down, pivots);
+    fallen.minus(&free.moved(0, 1))
+}

@@ -1,0 +1,72 @@
+// How a set of pivots spreads within one rotation.
+ghost use Rattle.std.specs.Prelude.{◌≡◌};
+ghost use Rattle.lane_board.specs.Board.{field_of};
+ghost use Rattle.reach.specs.Shifts.{sideways, lower, neighbours, widened, IsSpread};
+
+use lane_board::LaneBoard;
+
+/// The moves by which pivots spread: by one column, by one row down, or by either.
+#[derive(Clone, Copy)]
+pub(crate) enum Shifts {
+    Sideways,
+    Down,
+    All,
+}
+
+/// The pivots and all free ones that chains of these moves lead to through free ones.
+pub(crate) fn spread<const N: usize>(
+    free: &LaneBoard<N>,
+    shifts: Shifts,
+    from: &LaneBoard<N>,
+) -> LaneBoard<N>
+    ensures { IsSpread shifts N (field_of free.now) (field_of from.now) (field_of result) }
+{
+    let mut reached = *from;
+    'rounds: loop {
+        let wider = widened(free, shifts, &reached);
+        if wider.equal(&reached) {
+            return reached;
+        }
+        reached = wider;
+    }
+}
+
+/// The pivots and the free ones beside them.
+#[tactic(auto, unfolding(crate::specs::Shifts::widened))]
+#[inline(always)]
+fn widened<const N: usize>(free: &LaneBoard<N>, shifts: Shifts, from: &LaneBoard<N>) -> LaneBoard<N>
+    ensures { field_of result ≡ widened shifts N (field_of free.now) (field_of from.now) }
+{
+    let near = neighbours(shifts, from);
+    from.or(&free.and(&near))
+}
+
+/// The pivots moved by one of these moves.
+#[inline(always)]
+fn neighbours<const N: usize>(shifts: Shifts, from: &LaneBoard<N>) -> LaneBoard<N>
+    ensures { field_of result ≡ neighbours shifts N (field_of from.now) }
+{
+    match shifts {
+        Shifts::Sideways => sideways(from),
+        Shifts::Down => lower(from),
+        Shifts::All => sideways(from).or(&lower(from)),
+    }
+}
+
+/// The pivots moved by one column.
+#[tactic(auto, unfolding(crate::specs::Shifts::sideways))]
+#[inline(always)]
+fn sideways<const N: usize>(from: &LaneBoard<N>) -> LaneBoard<N>
+    ensures { field_of result ≡ sideways N (field_of from.now) }
+{
+    from.moved(-1, 0).or(&from.moved(1, 0))
+}
+
+/// The pivots moved by one row down.
+#[tactic(auto, unfolding(crate::specs::Shifts::lower))]
+#[inline(always)]
+fn lower<const N: usize>(from: &LaneBoard<N>) -> LaneBoard<N>
+    ensures { field_of result ≡ lower N (field_of from.now) }
+{
+    from.moved(0, -1)
+}

@@ -1,0 +1,8 @@
+// The forms in which answers are written.
+#![tactic(auto)]
+
+mod line;
+mod tail;
+
+pub use line::write_line;
+pub use tail::{Tail, write_tail};

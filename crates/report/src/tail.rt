@@ -1,0 +1,37 @@
+// The line that ends a report.
+ghost use Rattle.std.specs.Prelude.{◌≡◌};
+ghost use Rattle.pc_outside.specs.Counts.{HasCause};
+ghost use Rattle.pc_outside.specs.Writes.{WritesAll};
+ghost use Rattle.report.specs.Forms.{tail_word, tail_form};
+
+use itoa::Buffer;
+use pc_outside::{Failed, Sink, write_pieces};
+
+/// Why a report ends.
+#[derive(Clone, Copy, Debug, PartialEq, Eq)]
+pub enum Tail {
+    /// There is no further sequence.
+    End,
+    /// As many sequences are written as were asked for.
+    Limit,
+}
+
+impl Tail {
+    fn word(self) -> &'static [u8]
+        ensures { result.now ≡ tail_word self }
+    {
+        match self {
+            Tail::End => b"end ",
+            Tail::Limit => b"limit ",
+        }
+    }
+}
+
+/// Writes the line that ends a report of so many sequences: `end 12` or `limit 12`.
+pub fn write_tail<O: Sink>(out: &mut O, tail: Tail, count: u64) -> Result<(), Failed>
+    ensures written { WritesAll (O.written out.old) (O.written out.new) result (tail_form tail count) }
+    ensures cause { HasCause (O.faults out.old) (O.faults out.new) result }
+{
+    let mut digits = Buffer::new();
+    write_pieces(out, &[tail.word(), digits.format(count).as_bytes(), b"\n"])
+}
