@@ -13,6 +13,8 @@ use std::sync::ledger::{Blank, Ledger};
 #[cfg(test)]
 mod faults;
 #[cfg(test)]
+mod floods;
+#[cfg(test)]
 mod limits;
 #[cfg(test)]
 mod solutions;
