@@ -1,10 +1,10 @@
 -- Groups one after the other: their characters, and what stands where they are read.
-use Rattle.std.proofs.Common.{◌≡◌, ℕ, zero, suc, ◌+◌, ◌-◌, ◌*◌, ◌^◌, ◌<◌, ◌≤◌, Bool, true, false, cond, ltb, ◌&&◌, List, [], ◌∷◌, ◌++◌, length, take, drop, Result, Ok, Err, refl, sym, ap, subst, ◌∙◌, append_assoc, ◌⊎◌, inl, inr, arith}
+use Rattle.std.proofs.Common.{◌≡◌, ℕ, zero, suc, ◌+◌, ◌-◌, ◌*◌, ◌^◌, ◌<◌, ◌≤◌, Bool, true, false, cond, ltb, List, [], ◌∷◌, ◌++◌, length, take, Result, Ok, Err, refl, sym, ap, subst, ◌∙◌, ◌⊎◌, inl, inr, arith}
 use Rattle.std.specs.Prelude.{IsTrue}
 use Rattle.std.specs.List.{flat_map, list_all}
 use Rattle.std.proofs.Math.Seq.{take-append-add}
 use Rattle.std.proofs.lemmas.Bool.{cases_lt, ltb-true, and_parts}
-use Rattle.std.proofs.lemmas.List.{append-nil, take_all, take-append-le, length-append, length-take}
+use Rattle.std.proofs.lemmas.List.{append-nil, take_all, take-append-le, length-append}
 use Rattle.fumen_digits.specs.Number.{digits, Stands, NumberStands}
 use Rattle.fumen_digits.specs.Fault.{Fault}
 use Rattle.fumen_digits.specs.Fault.Fault.{BadComment}
@@ -52,9 +52,6 @@ length-unpacked_all (group ∷ groups) =
     omega (arith, length-append (unpacked 4 group) (flat_map (unpacked 4) groups), length-unpacked 4 group, length-unpacked_all groups)
 
 -- ---- one group
-
-group_of : (left group place : ℕ) → Bool → Result ℕ Fault
-group_of left group place b = cond b (Ok group) (Err (BadComment place))
 
 chosen_ok : (b : Bool) (g : ℕ) (f : Fault) (h : ℕ) → ◌≡◌ {A = Result ℕ Fault} (cond b (Ok g) (Err f)) (Ok h) → (b ≡ true) × (g ≡ h)
 chosen_ok true g f h e = (refl, cc)

@@ -1,3 +1,4 @@
+-- Lemmas on escaping and on the comment part. The crates above cite EscapeLaws, PartLaws and Written.
 pub mod Tables
 pub mod Packing
 pub mod UnescapeLoop

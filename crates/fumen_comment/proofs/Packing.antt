@@ -1,5 +1,5 @@
 -- Characters packed into a group, one at a time, and unpacked again.
-use Rattle.std.proofs.Common.{◌≡◌, ℕ, zero, suc, ◌+◌, ◌-◌, ◌*◌, ◌/◌, ◌%◌, ◌^◌, ◌<◌, ◌≤◌, min, List, [], ◌∷◌, ◌++◌, length, get_or, take, drop, refl, sym, ap, subst, ◌∙◌, arith}
+use Rattle.std.proofs.Common.{◌≡◌, ℕ, zero, suc, ◌+◌, ◌-◌, ◌*◌, ◌/◌, ◌^◌, ◌<◌, ◌≤◌, min, List, ◌∷◌, length, get_or, take, drop, refl, sym, ap, ◌∙◌, arith}
 use Rattle.std.proofs.Math.Nat.{pow-succ', pow-le-pow_right, mul-le-mul_left, mul-suc}
 use Rattle.std.proofs.lemmas.List.{drop_more, drop_all, take_min}
 use Rattle.fumen_comment.specs.Part.{packed, unpacked}
@@ -9,9 +9,6 @@ pub record IsPackedSoFar (text : List ℕ) (i number weight : ℕ) : Type 0 wher
   pub weight_is : weight ≡ 96 ^ i
   pub below : number < weight
   pub completes : number + weight * packed (drop i text) ≡ packed text
-
-pub packed_starts : (text : List ℕ) → IsPackedSoFar text 0 0 1
-packed_starts text = record { weight_is = refl; below = omega arith; completes = omega arith }
 
 pub packed_fits : (text : List ℕ) (i number weight c : ℕ) → i < 4 → c < 127 → IsPackedSoFar text i number weight
     → (weight * 96 ≤ 96 ^ 4) × (number + weight * (c - 32) < weight * 96)

@@ -1,17 +1,16 @@
 -- A comment that is read stands there, and what stands there is read; a fault is the first one there.
-use Rattle.std.proofs.Common.{◌≡◌, ℕ, ◌+◌, ◌-◌, ◌*◌, ◌/◌, ◌^◌, ◌<◌, ◌≤◌, min, List, [], ◌∷◌, ◌++◌, length, take, Result, Ok, Err, refl, sym, ap, subst, ◌∙◌, ◌⊎◌, inl, inr, arith}
+use Rattle.std.proofs.Common.{◌≡◌, ℕ, ◌+◌, ◌≤◌, List, ◌++◌, length, take, Result, Ok, Err, refl, sym, ap, subst, ◌∙◌, inl, inr, arith}
 use Rattle.std.specs.List.{flat_map}
 use Rattle.std.proofs.lemmas.List.{length-take}
 use Rattle.fumen_digits.specs.Number.{digits, Stands, NumberStands}
 use Rattle.fumen_digits.specs.Fault.{Fault}
-use Rattle.fumen_digits.specs.Fault.Fault.{BadComment}
-use Rattle.fumen_digits.specs.Reading.{◌>>=◌, number_at, IsNumberFault}
+use Rattle.fumen_digits.specs.Reading.{◌>>=◌, number_at}
 use Rattle.fumen_digits.proofs.Binds.{bind_ok, bind_err, ok_bind, err_bind}
 use Rattle.fumen_digits.proofs.Numbers.{length-digits}
 use Rattle.fumen_digits.proofs.Standing.{Stands-then, Stands-parts}
 use Rattle.fumen_digits.proofs.Readings.{stands_from_read, read_from_stands, number_fault_from_read, read_from_number_fault}
 use Rattle.fumen_comment.specs.Unescape.{unescaped}
-use Rattle.fumen_comment.specs.Part.{unpacked, group_count, AreGroups, SpellsText, SpellsComment}
+use Rattle.fumen_comment.specs.Part.{unpacked, group_count, AreGroups, SpellsText}
 use Rattle.fumen_comment.specs.Reading.{text_at, comment_at, IsGroupDue, IsCommentFault, CommentStands}
 use Rattle.fumen_comment.proofs.Groups.{characters_of, characters_of-is, length-unpacked_all, TextStands, text_from_read, read_from_text, GroupsDue, TextFault, text_fault_from_read, read_from_text_fault}
 

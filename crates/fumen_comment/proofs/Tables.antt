@@ -1,5 +1,5 @@
 -- Hexadecimal digits and the characters that stay, by ranges.
-use Rattle.std.proofs.Common.{◌≡◌, ℕ, ◌+◌, ◌-◌, ◌<◌, Bool, true, false, cond, eqb, ltb, leb, ◌&&◌, ◌||◌, Option, Some, None, refl, ap}
+use Rattle.std.proofs.Common.{◌≡◌, ℕ, ◌+◌, ◌-◌, ◌<◌, Bool, true, cond, eqb, ltb, leb, ◌&&◌, ◌||◌, Option, Some, None, refl}
 use Rattle.std.proofs.lemmas.Bool.{agree_below_at, eqb-true}
 use Rattle.fumen_comment.specs.Escape.{stays, hex_digit}
 use Rattle.fumen_comment.specs.Unescape.{hex_value}

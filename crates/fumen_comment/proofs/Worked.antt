@@ -1,9 +1,8 @@
 -- The definitions at worked cases, by computing them.
-use Rattle.std.proofs.Common.{◌≡◌, ℕ, List, [], ◌∷◌, ◌++◌, Result, Ok, Err, refl}
+use Rattle.std.proofs.Common.{◌≡◌, [], ◌∷◌, ◌++◌, Ok, Err, refl}
 use Rattle.std.specs.Prelude.{codes}
 use Rattle.fumen_digits.specs.Digit.{digit, value_of}
 use Rattle.fumen_digits.specs.Number.{digits}
-use Rattle.fumen_digits.specs.Fault.{Fault}
 use Rattle.fumen_digits.specs.Fault.Fault.{Truncated, BadComment}
 use Rattle.fumen_digits.specs.Reading.{number_from, value_at}
 use Rattle.fumen_comment.specs.Escape.{stays, hex_digit, escaped}

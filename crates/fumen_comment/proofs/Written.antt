@@ -1,9 +1,8 @@
 -- What is written for a text spells it.
-use Rattle.std.proofs.Common.{◌≡◌, ℕ, zero, suc, ◌+◌, ◌-◌, ◌*◌, ◌/◌, ◌%◌, ◌^◌, ◌<◌, ◌≤◌, min, Bool, true, false, ltb, ◌&&◌, List, [], ◌∷◌, ◌++◌, length, take, drop, All, Ok, refl, sym, ap, subst, ◌∙◌, inl, inr, arith}
-use Rattle.std.specs.Prelude.{IsTrue}
+use Rattle.std.proofs.Common.{◌≡◌, ℕ, zero, suc, ◌+◌, ◌-◌, ◌*◌, ◌/◌, ◌%◌, ◌^◌, ◌<◌, ◌≤◌, min, true, ltb, List, [], ◌∷◌, ◌++◌, length, take, drop, All, Ok, refl, sym, ap, subst, ◌∙◌, arith}
 use Rattle.std.specs.List.{flat_map, list_all, AllByRecursion}
 use Rattle.std.proofs.Math.Nat.{pow-succ', pow-le-pow_right}
-use Rattle.std.proofs.lemmas.Bool.{cases_lt, lt-ltb, and_from}
+use Rattle.std.proofs.lemmas.Bool.{lt-ltb, and_from}
 use Rattle.std.proofs.lemmas.List.{take_min, length-take, length-drop, take-append-drop, nil_from_length}
 use Rattle.std.proofs.lemmas.List.Elements.{recursion_from_All, All-take, All-drop}
 use Rattle.fumen_digits.specs.Digit.{AreDigits}
@@ -12,7 +11,7 @@ use Rattle.fumen_digits.specs.Number.{digits, Stands}
 use Rattle.fumen_comment.specs.Escape.{IsPrintable}
 use Rattle.fumen_comment.specs.Unescape.{unescaped}
 use Rattle.fumen_comment.specs.Part.{packed, unpacked, group_count, groups_of, comment_digits, is_group, AreGroups, SpellsText, SpellsComment}
-use Rattle.fumen_comment.specs.Reading.{comment_at, CommentStands}
+use Rattle.fumen_comment.specs.Reading.{comment_at}
 use Rattle.fumen_comment.proofs.Packing.{length-unpacked}
 use Rattle.fumen_comment.proofs.Groups.{characters_of, characters_of-is}
 use Rattle.fumen_comment.proofs.PartLaws.{read_from_comment}

@@ -53,6 +53,7 @@ IsCommentFault ds place f =
     IsNumberFault ds place 2 f
     ⊎ ((k left : ℕ) × IsGroupDue ds place k left × (IsNumberFault ds k 5 f ⊎ (IsBadGroup ds k left × (f ≡ BadComment k))))
 
+-- a fault of a comment among those of a text
 abbrev pub comment_fault : CommentFault → Fault
 comment_fault (fault.BadDigit place) = BadDigit place
 comment_fault (fault.Truncated place) = Truncated place

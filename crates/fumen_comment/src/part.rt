@@ -1,13 +1,13 @@
 // The comment part of a page: the length of the escaped text, and its characters in groups of four.
-ghost use Rattle.std.specs.Prelude.{◌≡◌, ℕ, ◌+◌, ◌^◌, ◌<◌, ◌≤◌, ◌++◌, List, length, take, nat_lt, All, IfOk, IfErr, OnOk, OnErr, Ok, Err};
-ghost use Rattle.fumen_comment.specs.Part.{comment_digits, group_count, is_group, packed, SpellsComment, unpacked};
+ghost use Rattle.std.specs.Prelude.{◌≡◌, ℕ, ◌+◌, ◌^◌, ◌<◌, ◌≤◌, ◌++◌, List, length, take, nat_lt, All, IfOk, OnOk, OnErr, Ok, Err};
 ghost use Rattle.std.specs.List.{list_all};
 ghost use Rattle.fumen_digits.specs.Digit.{AreDigits};
 ghost use Rattle.fumen_digits.specs.Number.{digits, Stands};
-ghost use Rattle.fumen_comment.specs.Escape.{IsPrintable};
-ghost use Rattle.fumen_comment.specs.Unescape.{unescaped};
 ghost use Rattle.fumen_digits.specs.Reading.{Gives, number_at};
 ghost use Rattle.fumen_comment.specs.declared.part.CommentFault.{CommentFault};
+ghost use Rattle.fumen_comment.specs.Escape.{IsPrintable};
+ghost use Rattle.fumen_comment.specs.Unescape.{unescaped};
+ghost use Rattle.fumen_comment.specs.Part.{comment_digits, group_count, is_group, packed, SpellsComment, unpacked};
 ghost use Rattle.fumen_comment.specs.Reading.{CommentStands, IsCommentFault, comment_at, comment_fault, group_at, text_at};
 
 use crate::comment::Comment;
@@ -27,7 +27,9 @@ pub enum CommentFault {
     BadComment { place: usize },
 }
 
-/// Appends the comment part of an escaped text. After NoMemory `out` is as before.
+/// Appends the comment part of an escaped text, as fumen writes it: its length in two digits, and five
+/// digits for each group of four characters, the last one filled up with 0. After NoMemory `out` is as
+/// before.
 pub fn write_comment(out: &mut Vec<u8>, escaped: &[u8]) -> Result<(), NoMemory>
     requires short { length escaped.now ≤ 4095 }
     requires printable { All IsPrintable escaped.now }
@@ -105,6 +107,9 @@ pub fn read_comment(
     // What reading from the left gives.
     ensures exact { Gives (λ x. x) comment_fault result (comment_at digits.now place) }
 
+    // The place behind it is among the digits, or at their end.
+    ensures within { IfOk result (λ x. x.1 ≤ length digits.now) }
+
     // What is read stands there, and what stands there is read, unless memory runs out.
     ensures found { IfOk result (λ x. CommentStands digits.now place x.0 x.1) }
     ensures only { (units : List ℕ) (end : ℕ) → CommentStands digits.now place units end →
@@ -129,10 +134,8 @@ fn read_part(
 {
     let length = number_at(digits, place, 2)?;
     let (text, end) = read_text(alloc, digits, place + 2, length as usize)?;
-    match unescape(alloc, &text) {
-        Ok(comment) => Ok((comment, end)),
-        Err(NoMemory) => Err(Refused::NoMemory),
-    }
+    let comment = unescape(alloc, &text)?;
+    Ok((comment, end))
 }
 
 // The characters of this many, and the place behind their groups.
@@ -151,21 +154,11 @@ fn read_text(
     while left > 0 {
         let group = group_at(digits, place, left)?;
         let characters = unpacked(group);
-        push_characters(&mut text, &characters[..left.min(4)])?;
+        text.extend_from_slice(&characters[..left.min(4)])?;
         left = left.saturating_sub(4);
         place += 5;
     }
     Ok((text, place))
-}
-
-fn push_characters(text: &mut Vec<u8>, characters: &[u8]) -> Result<(), Refused<CommentFault>>
-    ensures ok { OnOk result (text.new.items ≡ text.old.items ++ characters.now) }
-    ensures err { IfErr result (λ e. e ≡ Refused.NoMemory) }
-{
-    match text.extend_from_slice(characters) {
-        Ok(()) => Ok(()),
-        Err(_) => Err(Refused::NoMemory),
-    }
 }
 
 // The group at a place, from which so many characters are still to come.
@@ -215,7 +208,6 @@ fn unpacked(group: u32) -> [u8; 4]
 // The number at a place, its fault as one of a comment.
 fn number_at(digits: &[u8], place: usize, count: u8) -> Result<u32, Refused<CommentFault>>
     requires place { place ≤ length digits.now }
-    requires least { 1 ≤ count }
     requires most { count ≤ 5 }
     ensures exact { Gives (λ n. n) comment_fault result (number_at digits.now place count) }
     ensures within { IfOk result (λ _. place + count ≤ length digits.now) }

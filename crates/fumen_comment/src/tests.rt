@@ -113,5 +113,7 @@ fn units_of_a_comment(rt: HostRuntime) -> Result<(), Fail> {
     let units = [0xD800u16].to_vec(rt.alloc())?;
     let comment = Comment::from_units(units);
     assert_eq!(rt; comment.units(), [0xD800].as_slice());
+    let same = unescape(rt.alloc(), b"%ud800").ok().ok_or("no memory")?;
+    assert!(rt; comment == same);
     Ok(())
 }

@@ -1,5 +1,5 @@
 -- Steps of reading, one after the other.
-use Rattle.std.proofs.Common.{◌≡◌, Result, Ok, Err, refl, sym, ap, ◌∙◌, ◌⊎◌, inl, inr}
+use Rattle.std.proofs.Common.{◌≡◌, Result, Ok, Err, refl, ap, ◌⊎◌, inl, inr}
 use Rattle.fumen_digits.specs.Fault.{Fault}
 use Rattle.fumen_digits.specs.Reading.{◌>>=◌}
 

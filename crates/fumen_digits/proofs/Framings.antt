@@ -1,8 +1,8 @@
 -- The text round the digits, one byte at a time.
-use Rattle.std.proofs.Common.{◌≡◌, ℕ, zero, suc, ◌+◌, ◌-◌, ◌<◌, ◌≤◌, Bool, true, false, cond, eqb, not, ◌||◌, take, List, [], ◌∷◌, ◌++◌, length, get_or, drop, Option, Some, None, refl, sym, ap, ◌∙◌, append_assoc, arith}
+use Rattle.std.proofs.Common.{◌≡◌, ℕ, suc, ◌+◌, ◌<◌, ◌≤◌, Bool, true, false, cond, eqb, not, ◌||◌, take, List, [], ◌∷◌, ◌++◌, length, get_or, drop, Option, Some, None, refl, sym, ap, ◌∙◌, arith}
 use Rattle.std.specs.List.{flat_map, enumerate_from, filter, prefix_len}
 use Rattle.std.specs.Option.{option_map_or}
-use Rattle.std.proofs.lemmas.List.{append-nil, drop_more, drop_all}
+use Rattle.std.proofs.lemmas.List.{drop_more, drop_all}
 use Rattle.std.proofs.lemmas.Bool.{agree_below_at, or_parts}
 use Rattle.fumen_digits.specs.declared.dialect.Dialect.{Dialect}
 use Rattle.fumen_digits.specs.declared.dialect.Dialect.TheVariants.{V110, V115}
@@ -11,17 +11,6 @@ use Rattle.fumen_digits.specs.Framing.{begins_line, broken_digit, broken, is_dro
 
 abbrev pub lines_from : ℕ → List ℕ → List ℕ
 lines_from place ds = flat_map broken_digit (enumerate_from place ds)
-
--- the next digit is written behind the text so far
-pub lines_more : (text ds : List ℕ) (i d : ℕ) (total : List ℕ) → i < length ds → d ≡ get_or ds i d → text ++ lines_from i (drop i ds) ≡ total
-    → (text ++ broken_digit (i, d)) ++ lines_from (i + 1) (drop (i + 1) ds) ≡ total
-lines_more text ds i d total lt is so_far =
-    let one : drop i ds ≡ d ∷ drop (i + 1) ds = drop_more ds i d lt ∙ ap (λ (x : ℕ). x ∷ drop (i + 1) ds) (sym is) in
-    let two : text ++ (broken_digit (i, d) ++ lines_from (i + 1) (drop (i + 1) ds)) ≡ total = rw one at so_far in
-    append_assoc text (broken_digit (i, d)) (lines_from (i + 1) (drop (i + 1) ds)) ∙ two
-
-pub lines_all : (text ds : List ℕ) (i : ℕ) (total : List ℕ) → length ds ≤ i → text ++ lines_from i (drop i ds) ≡ total → text ≡ total
-lines_all text ds i total le so_far = sym (append-nil text) ∙ (rw (drop_all i ds le) at so_far)
 
 at_none : (byte : ℕ) (rest : List ℕ) → dialect_at (byte ∷ rest) ≡ None → digits_in rest ≡ digits_in (byte ∷ rest)
 unfolding digits_in

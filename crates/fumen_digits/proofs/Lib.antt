@@ -1,3 +1,4 @@
+-- Lemmas on digits, numbers and framing. The crates above cite Binds, Standing, Numbers, Readings and Answered.
 pub mod OptionTest
 pub mod DigitTable
 pub mod Numbers

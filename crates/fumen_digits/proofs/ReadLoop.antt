@@ -1,5 +1,5 @@
 -- Reading a number digit by digit, as a loop does.
-use Rattle.std.proofs.Common.{◌≡◌, ℕ, zero, suc, ◌+◌, ◌-◌, ◌*◌, ◌^◌, ◌<◌, ◌≤◌, List, Result, Ok, Err, refl, sym, ap, subst, ◌∙◌, arith}
+use Rattle.std.proofs.Common.{◌≡◌, ℕ, suc, ◌+◌, ◌-◌, ◌*◌, ◌^◌, ◌<◌, ◌≤◌, List, Result, Ok, Err, refl, sym, ap, ◌∙◌, arith}
 use Rattle.std.proofs.Math.Nat.{pow-succ', pow-le-pow_right, mul-le-mul_left, mul-suc}
 use Rattle.fumen_digits.specs.Fault.{Fault}
 use Rattle.fumen_digits.specs.Reading.{◌>>=◌, value_at, number_from, number_at}
@@ -14,18 +14,6 @@ pub record IsSoFar (ds : List ℕ) (place count i number weight : ℕ) : Type 0 
   pub weight_is : weight ≡ 64 ^ i
   pub below : number < weight
   pub completes : with_low number weight (number_from ds place (place + i) (count - i)) ≡ number_at ds place count
-
-from_zero : (read : Result ℕ Fault) → with_low 0 1 read ≡ read
-from_zero (Ok x) = let is : 0 + 1 * x ≡ x = omega arith in ap (λ (n : ℕ). Ok n) is
-from_zero (Err f) = refl
-
-pub starts : (ds : List ℕ) (place count : ℕ) → IsSoFar ds place count 0 0 1
-starts ds place count =
-    record {
-      weight_is = refl;
-      below = omega arith;
-      completes = from_zero (number_from ds place (place + 0) (count - 0)) ∙ (let k : place + 0 ≡ place = omega arith in let n : count - 0 ≡ count = omega arith in rw (k, n) refl);
-    }
 
 regroup : (number weight value : ℕ) (read : Result ℕ Fault) → with_low number weight (read >>= λ high. Ok (value + 64 * high)) ≡ with_low (number + weight * value) (weight * 64) read
 regroup number weight value (Ok x) = let is : number + weight * (value + 64 * x) ≡ number + weight * value + weight * 64 * x = grind arith in ap (λ (n : ℕ). Ok n) is

@@ -1,5 +1,5 @@
 -- A number that is read stands there, and what stands there is read; a fault is the first one there.
-use Rattle.std.proofs.Common.{◌≡◌, ℕ, zero, suc, ◌+◌, ◌-◌, ◌*◌, ◌/◌, ◌%◌, ◌^◌, ◌<◌, ◌≤◌, Bool, true, false, cond, ltb, List, [], ◌∷◌, ◌++◌, length, get_or, drop, Option, Some, None, Result, Ok, Err, refl, sym, ap, subst, ◌∙◌, ◌⊎◌, inl, inr, arith}
+use Rattle.std.proofs.Common.{◌≡◌, ℕ, zero, suc, ◌+◌, ◌*◌, ◌/◌, ◌%◌, ◌^◌, ◌<◌, ◌≤◌, List, [], ◌∷◌, length, get_or, Option, Some, None, Ok, Err, refl, sym, ap, subst, ◌∙◌, ◌⊎◌, inl, inr, arith}
 use Rattle.std.specs.Option.{ok_or}
 use Rattle.std.proofs.Math.Nat.{pow-succ'}
 use Rattle.std.proofs.lemmas.Bool.{cases_lt, lt-ltb, le-ltb}
@@ -10,8 +10,7 @@ use Rattle.fumen_digits.specs.Fault.Fault.{NoFumen, BadDigit, Truncated, RunPast
 use Rattle.fumen_digits.specs.Reading.{◌>>=◌, value_at, number_from, number_at, IsNumberFault}
 use Rattle.fumen_digits.proofs.DigitTable.{value_of_digit, digit_of_value}
 use Rattle.fumen_digits.proofs.Binds.{bind_ok, bind_err, ok_bind, err_bind}
-use Rattle.fumen_digits.proofs.Numbers.{length-digits}
-use Rattle.fumen_digits.proofs.Standing.{Stands-nil, Stands-head, Stands-cons, Stands-same}
+use Rattle.fumen_digits.proofs.Standing.{Stands-nil, Stands-head, Stands-cons}
 
 -- ---- one digit
 

@@ -1,6 +1,6 @@
 -- Texts that stand among the digits, one behind the other.
-use Rattle.std.proofs.Common.{◌≡◌, ℕ, zero, suc, ◌+◌, ◌-◌, ◌<◌, ◌≤◌, List, [], ◌∷◌, ◌++◌, length, get_or, take, drop, refl, sym, ap, subst, ◌∙◌, append_assoc, arith}
-use Rattle.std.proofs.lemmas.List.{append-nil, drop_more, drop-drop, drop_all, drop_at, take_at, length-append, length-drop, append_cancel_left}
+use Rattle.std.proofs.Common.{◌≡◌, ℕ, ◌+◌, ◌<◌, ◌≤◌, List, [], ◌∷◌, ◌++◌, length, get_or, take, drop, refl, sym, ap, ◌∙◌, append_assoc, arith}
+use Rattle.std.proofs.lemmas.List.{drop_more, drop-drop, drop_at, take_at, length-append}
 use Rattle.fumen_digits.specs.Number.{Stands}
 
 pub Stands-nil : (ds : List ℕ) (k : ℕ) → k ≤ length ds → Stands ds k [] k

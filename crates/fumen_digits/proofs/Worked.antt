@@ -1,10 +1,8 @@
 -- The definitions at worked cases, by computing them.
-use Rattle.std.proofs.Common.{◌≡◌, ℕ, List, [], ◌∷◌, ◌++◌, replicate, Option, Some, None, Result, Ok, Err, refl}
+use Rattle.std.proofs.Common.{◌≡◌, ◌∷◌, ◌++◌, replicate, Some, None, Ok, Err, refl}
 use Rattle.std.specs.Prelude.{codes}
-use Rattle.fumen_digits.specs.declared.dialect.Dialect.{Dialect}
 use Rattle.fumen_digits.specs.declared.dialect.Dialect.TheVariants.{V110, V115}
 use Rattle.fumen_digits.specs.Number.{digits}
-use Rattle.fumen_digits.specs.Fault.{Fault}
 use Rattle.fumen_digits.specs.Fault.Fault.{BadDigit, Truncated}
 use Rattle.fumen_digits.specs.Reading.{number_at, number_from, value_at}
 use Rattle.fumen_digits.specs.Framing.{digits_in, broken, kept}

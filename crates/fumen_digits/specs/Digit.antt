@@ -14,6 +14,7 @@ digit value = slice_index alphabet value
 unfoldable pub value_of : ℕ → Option ℕ
 value_of byte = position (λ d. d == byte) alphabet
 
+-- one of the 64
 abbrev pub IsDigit : ℕ → Type 0
 IsDigit byte = (value : ℕ) × (value < 64) × (byte ≡ digit value)
 

@@ -18,14 +18,14 @@ pub record NumberStands (ds : List ℕ) (place count n : ℕ) : Type 0 where
   pub below : n < 64 ^ count
   pub stands : Stands ds place (digits count n) (place + count)
 
--- digits stand from the place up to `at`, where a byte stands that is none, within the count
-pub record IsBadDigit (ds : List ℕ) (place count «at» : ℕ) : Type 0 where
+-- digits stand from the place up to another one, where a byte stands that is none, within the count
+pub record IsBadDigit (ds : List ℕ) (place count bad : ℕ) : Type 0 where
   pub front : List ℕ
-  pub digits_stand : Stands ds place front «at»
+  pub digits_stand : Stands ds place front bad
   pub each : AreDigits front
-  pub early : «at» < place + count
-  pub there : «at» < length ds
-  pub none : IsDigit (slice_index ds «at») → ⊥
+  pub early : bad < place + count
+  pub there : bad < length ds
+  pub none : IsDigit (slice_index ds bad) → ⊥
 
 -- only digits stand from the place on, and fewer than the count
 pub record IsTruncated (ds : List ℕ) (place count : ℕ) : Type 0 where

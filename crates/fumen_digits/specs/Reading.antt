@@ -10,6 +10,7 @@ use Rattle.fumen_digits.specs.Number.{IsBadDigit, IsTruncated}
 use Rattle.fumen_digits.specs.Fault.{Fault}
 use Rattle.fumen_digits.specs.Fault.Fault.{BadDigit, Truncated}
 
+-- a step, and what follows it unless it fails
 infixl 10 ◌>>=◌
 abbrev pub ◌>>=◌ : {A B : Type 0} → Result A Fault → (A → Result B Fault) → Result B Fault
 (Ok x) >>= f = f x
@@ -20,11 +21,12 @@ abbrev pub Reads : {X Y E : Type 0} → (X → Y) → (E → Fault) → Result X
 Reads view fault (Ok x) read = read ≡ Ok (view x)
 Reads view fault (Err e) read = read ≡ Err (fault e)
 
+-- A refusal by a fault is that of reading. Want of memory may come at any time.
 abbrev pub Refuses : {Y E : Type 0} → (E → Fault) → Refused E → Result Y Fault → Type 0
 Refuses fault (refused.Fault e) read = read ≡ Err (fault e)
 Refuses fault refused.NoMemory read = Unit {0}
 
--- The same of a reader that takes memory, unless it was refused.
+-- The same of a reader that takes memory, unless memory ran out.
 abbrev pub Gives : {X Y E : Type 0} → (X → Y) → (E → Fault) → Result X (Refused E) → Result Y Fault → Type 0
 Gives view fault (Ok x) read = read ≡ Ok (view x)
 Gives view fault (Err e) read = Refuses fault e read
@@ -48,10 +50,11 @@ number_at ds place count = number_from ds place place count
 
 -- the fault that the number of this count of digits at a place meets first
 abbrev pub IsNumberFault : List ℕ → ℕ → ℕ → Fault → Type 0
-IsNumberFault ds place count (BadDigit there) = IsBadDigit ds place count there
+IsNumberFault ds place count (BadDigit bad) = IsBadDigit ds place count bad
 IsNumberFault ds place count (Truncated begin) = (begin ≡ place) × IsTruncated ds place count
 IsNumberFault ds place count other = ⊥
 
+-- a fault of one number among those of a text
 abbrev pub digit_fault : DigitFault → Fault
 digit_fault (fault.Bad place) = BadDigit place
 digit_fault (fault.Truncated place) = Truncated place

@@ -2,7 +2,7 @@
 ghost use Rattle.std.specs.Prelude.{◌≡◌, ◌<◌, IfSome};
 ghost use Rattle.fumen_digits.specs.Digit.{digit, value_of};
 
-/// The digit of a value below 64, one of `A-Z a-z 0-9 + /` in this order.
+/// The digit of a value below 64: fumen has `A-Z`, `a-z`, `0-9`, `+` and `/`, in this order.
 #[tactic(auto, using(crate::proofs::DigitTable::digit_by_range))]
 pub fn digit_of(value: u8) -> u8
     requires { value < 64 }

@@ -17,9 +17,9 @@ pub enum DigitFault {
     Truncated { place: usize },
 }
 
-/// Appends a number as this many digits, the least first. After NoMemory `out` is as before.
+/// Appends a number as this many digits, the least first, as fumen writes its numbers. After NoMemory
+/// `out` is as before.
 pub fn push_number(out: &mut Vec<u8>, number: u32, count: u8) -> Result<(), NoMemory>
-    requires least { 1 ≤ count }
     requires most { count ≤ 5 }
     requires fits { number < 64 ^ count }
     ensures ok { OnOk result (out.new.items ≡ out.old.items ++ digits count number) }
@@ -58,7 +58,6 @@ pub fn push_number_undone()
 /// missing the number is Truncated at the place where it begins.
 pub fn read_number(digits: &[u8], place: usize, count: u8) -> Result<u32, DigitFault>
     requires place { place ≤ length digits.now }
-    requires least { 1 ≤ count }
     requires most { count ≤ 5 }
 
     // What reading from the left gives.

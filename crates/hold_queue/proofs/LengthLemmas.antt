@@ -7,6 +7,7 @@ use Rattle.queue_pattern.specs.declared.element.Element.{Element}
 use Rattle.queue_pattern.specs.Queues.{pieces_in, others, choices, queues, queue_len}
 use Rattle.hold_queue.specs.declared.hold.Hold.{Hold}
 use Rattle.hold_queue.specs.Permits.{Way, plain, exchange, first_hold, last, Permits}
+use Rattle.hold_queue.specs.QueueSet.{Line, LinePermits}
 use Rattle.hold_queue.specs.States.{count_held}
 
 choice-length : (n : ℕ) (pieces choice : List Piece) → Contains (choices pieces n) choice → length choice ≡ n
@@ -49,3 +50,6 @@ pub permits-length : (hold : Hold) (pieces queue : List Piece) (held : Option Pi
 permits-length hold [] queue held permitted = omega arith
 permits-length hold (piece ∷ pieces) queue held permitted =
     omega (arith, way-length permitted.2, permits-length hold pieces permitted.0 permitted.1 permitted.3)
+
+pub line-length : (line : Line) (pieces : List Piece) → LinePermits line pieces → length pieces ≤ queue_len line.elements + count_held line.held
+line-length line pieces permitted = omega (arith, permits-length line.hold pieces permitted.0 line.held permitted.2, queue-length line.elements permitted.0 permitted.1)

@@ -5,7 +5,9 @@ ghost use Rattle.srs.specs.Piece.{piece_code};
 ghost use Rattle.hold_queue.specs.declared.hold.Hold.{Hold};
 ghost use Rattle.hold_queue.specs.Permits.{Permits, permits};
 ghost use Rattle.hold_queue.specs.QueueSet.{Line, LinePermits, line_permits};
+ghost use Rattle.hold_queue.specs.States.{count_held};
 ghost use Rattle.hold_queue.specs.Supply.{supply_of};
+ghost use Rattle.queue_pattern.specs.Queues.{queue_len};
 
 /// What a queue permits, and what one of the queues permits, is decided by a test.
 pub fn permits_is_decided()
@@ -16,4 +18,9 @@ pub fn permits_is_decided()
 /// No permitted list that goes on by `left` pieces has more of a kind than the supply.
 pub fn supply_is_enough()
     ensures { (line : Line) (more : List Piece) (piece : Piece) → LinePermits line (line.played ++ more) → count_by (λ other. piece_code other == piece_code piece) more ≤ supply_of line (length more) piece }
+{}
+
+/// A permitted list has at most the pieces of a queue and the piece that is held at the start.
+pub fn permitted_lists_are_short()
+    ensures { (line : Line) (pieces : List Piece) → LinePermits line pieces → length pieces ≤ queue_len line.elements + count_held line.held }
 {}

@@ -14,3 +14,5 @@ pub mod Standing
 pub mod PatternFacts
 pub mod SingleLemmas
 pub mod RisingQueues
+pub mod SpellingLemmas
+pub mod SpelledLemmas

@@ -6,3 +6,4 @@ pub mod Reading
 pub mod Sound
 pub mod Builder
 pub mod Pattern
+pub mod Spelling

@@ -1,11 +1,13 @@
 // Laws of the definitions: functions with an empty body, whose contract is the law.
-ghost use Rattle.std.specs.Prelude.{◌≡◌, ◌≢◌, ℕ, ◌<◌, ◌≤◌, List, length, slice_get};
+ghost use Rattle.std.specs.Prelude.{◌≡◌, ◌≢◌, ◌↔◌, ℕ, ◌<◌, ◌≤◌, List, Ok, length, slice_get};
 ghost use Rattle.std.specs.List.Sorted.{IsStrictlySortedBy};
 ghost use Rattle.queue_pattern.specs.declared.element.Element.{Element};
 ghost use Rattle.queue_pattern.specs.declared.pattern.Pattern.{Pattern};
+ghost use Rattle.queue_pattern.specs.Grammar;
 ghost use Rattle.queue_pattern.specs.Order.{queue_cmp};
 ghost use Rattle.queue_pattern.specs.Pattern.{elements_of};
 ghost use Rattle.queue_pattern.specs.Queues.{queues, queue_count, queue_len};
+ghost use Rattle.queue_pattern.specs.Spelling.{SpellsElements};
 
 /// The list of queues has as many members as the factors of its elements make.
 pub fn queues_are_counted()
@@ -22,4 +24,9 @@ pub fn queues_rise()
 pub fn patterns_are_within_limits()
     ensures some { (pattern : Pattern) → 0 < length (queues (elements_of pattern)) }
     ensures short { (pattern : Pattern) → queue_len (elements_of pattern) ≤ 22 }
+{}
+
+/// A text is read as these elements exactly where it spells them.
+pub fn texts_are_read_as_they_spell()
+    ensures { (text : List ℕ) (elements : List Element) → (Grammar.elements text ≡ Ok elements) ↔ SpellsElements text elements }
 {}

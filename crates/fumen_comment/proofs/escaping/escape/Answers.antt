@@ -1,7 +1,8 @@
-use Rattle.std.proofs.Common.{ℕ, ◌^◌, ◌<◌, ◌≤◌, List, All, subst, sym, get_or, arith}
+-- Escaped text is printable.
+use Rattle.std.proofs.Common.{ℕ, ◌^◌, ◌<◌, List, All, subst, sym, arith}
 use Rattle.std.proofs.lemmas.Result.{IfOk-weaker}
 use Rattle.std.proofs.lemmas.List.Elements.{All-from_get_or}
-use Rattle.fumen_comment.specs.Escape.{IsPrintable, escaped}
+use Rattle.fumen_comment.specs.Escape.{IsPrintable}
 use Rattle.fumen_comment.proofs.EscapeLaws.{escaped_printable}
 use Rattle.fumen_comment.proofs.escaping.escape.Goals as goal
 

@@ -1,4 +1,5 @@
-use Rattle.std.proofs.Common.{◌≡◌, ◌^◌, ◌&&◌, Bool, ℕ, List, false, true, ltb, min, take, sym, ap, ◌∙◌, arith}
+-- The test of a group, by its size and then by the characters still to come.
+use Rattle.std.proofs.Common.{◌^◌, ◌&&◌, Bool, ℕ, List, ltb, take, sym, ap, ◌∙◌}
 use Rattle.std.specs.List.{list_all}
 use Rattle.std.proofs.lemmas.Bool.{le-ltb, lt-ltb}
 use Rattle.fumen_comment.specs.Part.{is_group, unpacked}

@@ -1,3 +1,4 @@
+-- One more character is packed, and then all are.
 use Rattle.std.proofs.Common.{refl, get_or, arith}
 use Rattle.fumen_comment.proofs.Packing.{packed_more, packed_all, packed_below}
 use Rattle.fumen_comment.proofs.part.packed.Goals as goal

@@ -1,3 +1,4 @@
+-- The length is written, one more group is, and then all are.
 use Rattle.std.proofs.Common.{ap, ◌∙◌}
 use Rattle.std.specs.Slice.Iter.{chunks_rest, chunks_size}
 use Rattle.fumen_comment.proofs.WriteLoop.{written_starts, written_more, written_all}

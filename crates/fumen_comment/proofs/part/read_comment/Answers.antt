@@ -1,4 +1,5 @@
-use Rattle.std.proofs.Common.{ℕ, List, Ok, Err}
+-- The comment that stands there and the first fault there, from what reading gives.
+use Rattle.std.proofs.Common.{ℕ, ◌≤◌, List, length, Ok, Err}
 use Rattle.fumen_digits.proofs.Answered.{gives_found, gives_fault, gives_same}
 use Rattle.fumen_comment.specs.Reading.{CommentStands, comment_at, comment_fault}
 use Rattle.fumen_comment.proofs.PartLaws.{comment_from_read, read_from_comment, comment_fault_from_read, read_from_comment_fault}
@@ -11,6 +12,11 @@ pub returns-clause-found : goal.returns-clause-found
 returns-clause-found c =
     let ds = c.args.digits.now in
     gives_found pair comment_fault (λ x. CommentStands ds c.args.place x.0 x.1) c.read_part.result (comment_at ds c.args.place) (λ x read. comment_from_read ds c.args.place x.0 x.1 c.requires read) c.read_part.ensures
+
+pub returns-clause-within : goal.returns-clause-within
+returns-clause-within c =
+    let ds = c.args.digits.now in
+    gives_found pair comment_fault (λ x. x.1 ≤ length ds) c.read_part.result (comment_at ds c.args.place) (λ x read. (comment_from_read ds c.args.place x.0 x.1 c.requires read).stands.within) c.read_part.ensures
 
 pub returns-clause-only : goal.returns-clause-only
 returns-clause-only c = λ units end stands.

@@ -1,7 +1,8 @@
-use Rattle.std.proofs.Common.{sym, subst, List, ℕ, arith}
+-- One more group is read, or has a fault; and then all are read.
+use Rattle.std.proofs.Common.{arith}
 use Rattle.std.proofs.lemmas.Result.{err_from_is_err_and}
 use Rattle.fumen_comment.proofs.Packing.{taken}
-use Rattle.fumen_comment.proofs.ReadLoop.{IsReadSoFar, text_starts, text_more, text_stops, text_ends}
+use Rattle.fumen_comment.proofs.ReadLoop.{text_starts, text_more, text_stops, text_ends}
 use Rattle.fumen_comment.proofs.part.read_text.Goals as goal
 
 pub loop-left-init : goal.loop-left-init
@@ -13,7 +14,7 @@ loop-left-preserved c =
     let left = c.loop-left.left in
     let group = c.in_ok-group.group in
     let more = taken left group c.min.result c.unpacked-characters.result c.min.ensures c.unpacked-characters.ensures in
-    rw (c.in_ok-push_characters.ensures.ok, c.saturating_sub-left.ensures) (text_more c.args.digits.now c.args.place c.args.count c.loop-left.text.items c.loop-left.place left group _ c.loop-left-test.true c.in_ok-group.ensures.within c.in_ok-group.ensures.exact more c.loop-left.invariant)
+    rw (c.in_ok-extend_from_slice.ensures.items, c.saturating_sub-left.ensures) (text_more c.args.digits.now c.args.place c.args.count c.loop-left.text.items c.loop-left.place left group _ c.loop-left-test.true c.in_ok-group.ensures.within c.in_ok-group.ensures.exact more c.loop-left.invariant)
 
 pub returns-in_err-group : goal.returns-in_err-group
 returns-in_err-group c =

@@ -1,3 +1,4 @@
+-- What was written is digits, spells the text, and is read again.
 use Rattle.fumen_comment.proofs.Written.{written_digits, written_comment, written_read}
 use Rattle.fumen_comment.proofs.part.write_comment_undone.Goals as goal
 

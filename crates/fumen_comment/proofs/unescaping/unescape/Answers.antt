@@ -1,4 +1,5 @@
-use Rattle.std.proofs.Common.{◌≡◌, ◌++◌, ◌-◌, refl, ap, ◌∙◌, List, ℕ, length, get_or, drop, take, arith}
+-- One more unit is read, and then all are.
+use Rattle.std.proofs.Common.{◌++◌, ◌-◌, refl, ap, ◌∙◌, List, ℕ, length, get_or, drop, take}
 use Rattle.std.proofs.lemmas.List.{take_rest}
 use Rattle.fumen_comment.specs.Unescape.{unescaped}
 use Rattle.fumen_comment.proofs.UnescapeLoop.{units_more, units_all}

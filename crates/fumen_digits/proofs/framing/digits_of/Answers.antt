@@ -1,3 +1,4 @@
+-- The first prefix decides: none stands before this place, or one stands here.
 use Rattle.std.proofs.Common.{sym, ap, ◌∙◌, ◌-◌, Some, List, ℕ, take, drop, length}
 use Rattle.std.proofs.lemmas.List.{take_rest}
 use Rattle.fumen_digits.proofs.Framings.{none_here, found_here, none_left}

@@ -1,3 +1,4 @@
+-- What was written is digits, and is read again.
 use Rattle.fumen_digits.proofs.Numbers.{AreDigits-digits}
 use Rattle.fumen_digits.proofs.Readings.{read_from_stands}
 use Rattle.fumen_digits.proofs.number.push_number_undone.Goals as goal

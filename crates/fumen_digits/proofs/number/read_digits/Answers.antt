@@ -1,4 +1,5 @@
-use Rattle.std.proofs.Common.{◌≡◌, sym, arith}
+-- One more digit is read, or one is missing; and what it adds fits.
+use Rattle.std.proofs.Common.{arith}
 use Rattle.std.proofs.lemmas.Result.{err_from_is_err_and}
 use Rattle.fumen_digits.specs.Reading.{digit_fault}
 use Rattle.fumen_digits.proofs.ReadLoop.{fits, goes_on, stops, is_read}

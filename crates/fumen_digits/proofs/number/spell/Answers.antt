@@ -1,3 +1,4 @@
+-- One more digit is written, and then all are.
 use Rattle.std.proofs.Common.{◌∙◌, arith}
 use Rattle.std.proofs.lemmas.List.{length-set}
 use Rattle.fumen_digits.specs.Number.{digits}
