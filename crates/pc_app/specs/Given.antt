@@ -1,9 +1,10 @@
 -- The values that the words of `path` give.
 use Rattle.std.specs.Prelude.{ℕ, Bool, List, Option, Some, None, option_map, is_some}
 use Rattle.hold_queue.specs.declared.hold.Hold.{Hold}
+use Rattle.moves.specs.declared.key.DropMode.{DropMode}
 use Rattle.pc_app.specs.declared.names.PathOption.{PathOption}
 use Rattle.pc_app.specs.declared.names.PathOption.TheVariants as options
-use Rattle.pc_app.specs.Names.{hold_in}
+use Rattle.pc_app.specs.Names.{hold_in, drop_in}
 use Rattle.pc_app.specs.Numbers.{number_in}
 
 pub record Given : Type 0 where
@@ -11,18 +12,20 @@ pub record Given : Type 0 where
   pub height : Option ℕ
   pub patterns : Option (List ℕ)
   pub hold : Option Hold
+  pub drop_mode : Option DropMode
   pub limit : Option ℕ
   pub after : Option (List ℕ)
 
 -- no values
 abbrev pub nothing_given : Given
-nothing_given = record { rows = None; height = None; patterns = None; hold = None; limit = None; after = None }
+nothing_given = record { rows = None; height = None; patterns = None; hold = None; drop_mode = None; limit = None; after = None }
 
 abbrev pub is_given : Given → PathOption → Bool
 is_given given options.Rows = is_some given.rows
 is_given given options.ClearLine = is_some given.height
 is_given given options.Patterns = is_some given.patterns
 is_given given options.Hold = is_some given.hold
+is_given given options.Drop = is_some given.drop_mode
 is_given given options.Limit = is_some given.limit
 is_given given options.After = is_some given.after
 
@@ -32,5 +35,6 @@ with_value given options.Rows value = Some (record given { rows = Some value })
 with_value given options.ClearLine value = option_map (λ height. record given { height = Some height }) (number_in 1 6 value)
 with_value given options.Patterns value = Some (record given { patterns = Some value })
 with_value given options.Hold value = option_map (λ hold. record given { hold = Some hold }) (hold_in value)
+with_value given options.Drop value = option_map (λ drop_mode. record given { drop_mode = Some drop_mode }) (drop_in value)
 with_value given options.Limit value = option_map (λ limit. record given { limit = Some limit }) (number_in 1 1000000000 value)
 with_value given options.After value = Some (record given { after = Some value })

@@ -4,21 +4,20 @@ use Rattle.srs.specs.declared.placement.Placement.{Placement}
 use Rattle.srs.specs.Kick.{srs_table}
 use Rattle.srs.specs.Rules.{table_of}
 use Rattle.well.specs.Well.{filled}
-use Rattle.moves.specs.declared.key.DropMode.TheVariants.{Soft}
 use Rattle.queue_pattern.specs.Pattern.{elements_of}
 use Rattle.enumerate.specs.declared.problem.Problem.{Problem}
 use Rattle.pc_app.specs.After.{sequence_in}
 use Rattle.pc_app.specs.Words.{PathQuestion}
 use Rattle.pc_app.specs.Faults.{cells_of, elements_asked, empties_asked}
 
--- the field, the height, the queues and the rules that are asked for; pieces drop softly, and none is held at the start
+-- the field, the height, the queues and the rules that are asked for; no piece is held at the start
 pub record IsProblemOf (question : PathQuestion) (problem : Problem) : Type 0 where
   pub field : filled problem.well ≡ cells_of question.field
   pub height : problem.height ≡ question.height
   pub queues : Ok (elements_of problem.pattern) ≡ elements_asked question
   pub hold : problem.hold ≡ question.hold
   pub held : problem.held ≡ None
-  pub drop : problem.drop_mode ≡ Soft
+  pub drop : problem.drop_mode ≡ question.drop_mode
   pub rules : table_of problem.rules ≡ srs_table
 
 abbrev pub IsGiven : ℕ → Option (List ℕ) → Option (List Placement) → Type 0

@@ -34,6 +34,7 @@ given_view given = record {
   height = given.height;
   patterns = option_copied given.patterns;
   hold = given.hold;
+  drop_mode = given.drop_mode;
   limit = given.limit;
   after = option_copied given.after;
 }
@@ -51,6 +52,7 @@ path_view settings = record {
   height = settings.common.height;
   patterns = settings.common.patterns.now;
   hold = settings.common.hold;
+  drop_mode = settings.drop_mode;
   after = option_copied settings.after;
   limit = settings.limit;
 }

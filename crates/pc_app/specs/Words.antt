@@ -2,6 +2,8 @@
 use Rattle.std.specs.Prelude.{ℕ, ◌+◌, List, [], ◌∷◌, length, Option, Some, None, unwrap_or, Result, Ok, Err, if◌then◌else◌}
 use Rattle.hold_queue.specs.declared.hold.Hold.{Hold}
 use Rattle.hold_queue.specs.declared.hold.Hold.TheVariants.{Allowed}
+use Rattle.moves.specs.declared.key.DropMode.{DropMode}
+use Rattle.moves.specs.declared.key.DropMode.TheVariants.{Soft}
 use Rattle.pc_app.specs.declared.names.Command.{Command}
 use Rattle.pc_app.specs.declared.names.Command.TheVariants.{Path}
 use Rattle.pc_app.specs.declared.names.PathOption.{PathOption}
@@ -21,6 +23,7 @@ pub record PathQuestion : Type 0 where
   pub height : ℕ
   pub patterns : List ℕ
   pub hold : Hold
+  pub drop_mode : DropMode
   pub after : Option (List ℕ)
   pub limit : ℕ
 
@@ -66,6 +69,7 @@ with_defaults given words (Some rows) (Some patterns) = Ok (record {
   height = unwrap_or given.height 4;
   patterns = patterns;
   hold = unwrap_or given.hold Allowed;
+  drop_mode = unwrap_or given.drop_mode Soft;
   after = given.after;
   limit = unwrap_or given.limit 1000000000;
 })

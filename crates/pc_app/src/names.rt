@@ -1,8 +1,9 @@
 // The names of commands and options, and of the values that are words.
 ghost use Rattle.std.specs.Prelude.{◌≡◌};
-ghost use Rattle.pc_app.specs.Names.{command_in, option_in, hold_in};
+ghost use Rattle.pc_app.specs.Names.{command_in, option_in, hold_in, drop_in};
 
 use hold_queue::Hold;
+use moves::DropMode;
 
 /// A command.
 #[derive(Clone, Copy, Debug, PartialEq, Eq)]
@@ -17,6 +18,7 @@ pub enum PathOption {
     ClearLine,
     Patterns,
     Hold,
+    Drop,
     Limit,
     After,
 }
@@ -40,6 +42,7 @@ pub fn option_named(word: &str) -> Option<PathOption>
         "--clear-line" => Some(PathOption::ClearLine),
         "--patterns" => Some(PathOption::Patterns),
         "--hold" => Some(PathOption::Hold),
+        "--drop" => Some(PathOption::Drop),
         "--limit" => Some(PathOption::Limit),
         "--after" => Some(PathOption::After),
         _ => None,
@@ -53,6 +56,17 @@ pub fn hold_named(word: &str) -> Option<Hold>
     match word {
         "use" => Some(Hold::Allowed),
         "avoid" => Some(Hold::Avoided),
+        _ => None,
+    }
+}
+
+#[tactic(auto, unfolding(crate::specs::Names::drop_in))]
+pub fn drop_named(word: &str) -> Option<DropMode>
+    ensures { result ≡ drop_in word.now }
+{
+    match word {
+        "soft" => Some(DropMode::Soft),
+        "hard" => Some(DropMode::Hard),
         _ => None,
     }
 }

@@ -17,7 +17,6 @@ use crate::after::sequence_in;
 use crate::faults::Fault;
 use crate::settings::{FieldWords, PathSettings};
 use enumerate::{Problem, Sequence};
-use moves::DropMode;
 use queue_pattern::Pattern;
 use srs::Rules;
 use well::Well;
@@ -115,7 +114,7 @@ pub fn ask(settings: &PathSettings<'_>) -> Result<Question, Fault>
         pattern,
         hold: settings.common.hold,
         held: None,
-        drop_mode: DropMode::Soft,
+        drop_mode: settings.drop_mode,
         rules: Rules::srs(),
     };
     Ok(Question { problem, after })

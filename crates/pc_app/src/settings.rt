@@ -1,5 +1,6 @@
 // What the words ask for.
 use hold_queue::Hold;
+use moves::DropMode;
 
 /// The words that give the field.
 #[derive(Clone, Copy, Debug, PartialEq, Eq)]
@@ -23,6 +24,7 @@ pub struct FieldSettings<'a> {
 #[derive(Clone, Copy, Debug, PartialEq, Eq)]
 pub struct PathSettings<'a> {
     pub common: FieldSettings<'a>,
+    pub drop_mode: DropMode,
     /// The text of the sequence after which the list begins.
     pub after: Option<&'a str>,
     /// How many sequences are written at most.

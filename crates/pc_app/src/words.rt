@@ -5,10 +5,11 @@ ghost use Rattle.pc_app.specs.Given.{is_given, with_value, nothing_given};
 ghost use Rattle.pc_app.specs.Words.{pair_read, pairs_read, settings, path_read, with_defaults};
 ghost use Rattle.pc_app.specs.Views.{HasHeight, IsHeight, AsksHeight, given_view, given_reading, path_reading, settings_reading, texts};
 
-use crate::names::{Command, PathOption, command_named, hold_named, option_named};
+use crate::names::{Command, PathOption, command_named, drop_named, hold_named, option_named};
 use crate::numbers::number_in;
 use crate::settings::{FieldSettings, FieldWords, PathSettings, Settings};
 use hold_queue::Hold;
+use moves::DropMode;
 
 /// What is wrong with the words.
 #[derive(Clone, Copy, Debug, PartialEq, Eq)]
@@ -48,6 +49,7 @@ struct Given<'a> {
     height: Option<u8>,
     patterns: Option<&'a str>,
     hold: Option<Hold>,
+    drop_mode: Option<DropMode>,
     limit: Option<u32>,
     after: Option<&'a str>,
 }
@@ -60,6 +62,7 @@ fn is_given(given: &Given, option: PathOption) -> bool
         PathOption::ClearLine => given.height.is_some(),
         PathOption::Patterns => given.patterns.is_some(),
         PathOption::Hold => given.hold.is_some(),
+        PathOption::Drop => given.drop_mode.is_some(),
         PathOption::Limit => given.limit.is_some(),
         PathOption::After => given.after.is_some(),
     }
@@ -90,6 +93,13 @@ fn with_value<'a>(given: Given<'a>, option: PathOption, value: &'a str) -> Optio
             let hold = hold_named(value)?;
             Some(Given {
                 hold: Some(hold),
+                ..given
+            })
+        }
+        PathOption::Drop => {
+            let drop_mode = drop_named(value)?;
+            Some(Given {
+                drop_mode: Some(drop_mode),
                 ..given
             })
         }
@@ -165,6 +175,7 @@ fn read_pairs(words: &[String]) -> Result<Given<'_>, WordsFault>
         height: None,
         patterns: None,
         hold: None,
+        drop_mode: None,
         limit: None,
         after: None,
     };
@@ -199,6 +210,7 @@ fn with_defaults(given: Given<'_>, words: usize) -> Result<PathSettings<'_>, Wor
             patterns,
             hold: given.hold.unwrap_or(Hold::Allowed),
         },
+        drop_mode: given.drop_mode.unwrap_or(DropMode::Soft),
         after: given.after,
         limit: given.limit.unwrap_or(MOST_SEQUENCES),
     })

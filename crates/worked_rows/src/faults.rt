@@ -54,6 +54,11 @@ fn words(rt: HostRuntime) -> Result<(), Fail> {
     )?;
     refused(
         &rt,
+        &["path", "--drop", "harder"],
+        b"input: Words.BadValue 2\n",
+    )?;
+    refused(
+        &rt,
         &["path", "--rows", ONE, "--rows", ONE],
         b"input: Words.RepeatedOption 3\n",
     )?;

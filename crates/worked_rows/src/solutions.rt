@@ -7,6 +7,8 @@ const ONE: &str = "XXXXXX____";
 
 const TWO: &str = "XXXXXX____/XXXXXX____";
 
+const OVERHANG: &str = "XXXXXXXX__/XXXXXX____/XXXXXXXX__";
+
 // Asserts that the run of these words ends with this output and no fault.
 fn lists(rt: &(impl AllocGlobal + Abort), words: &[&str], output: &[u8]) -> Result<(), Fail> {
     let ended = run_words(rt.alloc(), words, &[]).ok().ok_or("no memory")?;
@@ -78,16 +80,39 @@ fn held_pieces(rt: HostRuntime) -> Result<(), Fail> {
     path(&rt, TWO, "2", "TII", "use", b"I0:7,0 I0:7,0\nend 1\n")
 }
 
+fn hard(
+    rt: &(impl AllocGlobal + Abort),
+    rows: &str,
+    height: &str,
+    patterns: &str,
+    output: &[u8],
+) -> Result<(), Fail> {
+    lists(
+        rt,
+        &[
+            "path",
+            "--drop",
+            "hard",
+            "--rows",
+            rows,
+            "--clear-line",
+            height,
+            "--patterns",
+            patterns,
+        ],
+        output,
+    )
+}
+
+#[test]
+fn hard_drops(rt: HostRuntime) -> Result<(), Fail> {
+    hard(&rt, TWO, "2", "LL", b"L0:8,0 L2:7,1\nend 1\n")?;
+    hard(&rt, OVERHANG, "3", "IO", b"end 0\n")
+}
+
 #[test]
 fn turns_under_an_overhang(rt: HostRuntime) -> Result<(), Fail> {
-    path(
-        &rt,
-        "XXXXXXXX__/XXXXXX____/XXXXXXXX__",
-        "3",
-        "IO",
-        "use",
-        b"I0:7,1 O0:8,0\nend 1\n",
-    )?;
+    path(&rt, OVERHANG, "3", "IO", "use", b"I0:7,1 O0:8,0\nend 1\n")?;
     let column = "XXXXXXXXX_/XXXXXXXXX_/XXXXXXXXX_/XXXXXXXXX_";
     lists(
         &rt,
