@@ -1,6 +1,6 @@
 -- How many floods the events of a walk hold.
-use Rattle.std.proofs.Common.{◌≡◌, ◌⊎◌, ℕ, zero, suc, ◌+◌, ◌≤◌, Bool, true, false, ◌&&◌, List, [], ◌∷◌, ◌++◌, refl, sym, ap, subst, ◌∙◌, inl, inr, arith}
-use Rattle.std.specs.Prelude.{Contains, Some, filter, drop, take, ◌-◌, ◌==◌, if◌then◌else◌, sum_by}
+use Rattle.std.proofs.Common.{◌≡◌, ℕ, zero, suc, ◌+◌, ◌≤◌, Bool, true, false, ◌&&◌, List, [], ◌∷◌, ◌++◌, refl, sym, ap, subst, ◌∙◌, inl, inr, arith}
+use Rattle.std.specs.Prelude.{Contains, Some, filter, drop, take, ◌-◌, if◌then◌else◌, sum_by}
 use Rattle.std.specs.List.{flat_map}
 use Rattle.std.proofs.lemmas.Bool.{cases_Bool}
 use Rattle.std.proofs.lemmas.List.Sums.{sum_by-append, sum_by-cons}
@@ -10,16 +10,16 @@ use Rattle.srs.specs.Piece.{all_pieces, piece_code}
 use Rattle.srs.specs.Order.{placement_cmp}
 use Rattle.srs.specs.Rising.{is_above}
 use Rattle.srs.proofs.ListLemmas.{and_first, and_second}
-use Rattle.srs.proofs.MemberLemmas.{Contains-cases, Contains-here, Contains-none, Contains-there, filter-false, filter-true}
+use Rattle.srs.proofs.MemberLemmas.{Contains-cases, Contains-none, filter-false, filter-true}
 use Rattle.std.specs.Ordering.{is_lt}
 use Rattle.std.specs.Cmp.{tied_itself}
 use Rattle.srs.proofs.OrderLemmas.{placement_cmp-total}
 use Rattle.moves.specs.PlaceTest.{is_place}
 use Rattle.well.specs.LockLaws.{is_below}
 use Rattle.enumerate.specs.Position.{Position, after_of, may_play, places_at, is_live}
-use Rattle.enumerate.specs.Events.{Event, Tick, Flood, Found, floods, Walk, entered, tried, level, enter, begun, sought}
+use Rattle.enumerate.specs.Events.{Event, Tick, Flood, floods, Walk, entered, tried, level, enter, sought}
 use Rattle.enumerate.proofs.Resumed.{kinds-split, placed-there}
-use Rattle.enumerate.proofs.Tests.{by_test, if_true}
+use Rattle.enumerate.proofs.Tests.{if_true}
 use Rattle.enumerate.proofs.Walks.{floods-append}
 
 pub floods-flat_map : {A : Type 0} (f : A → List Event) (xs : List A) → floods (flat_map f xs) ≡ sum_by (λ x. floods (f x)) xs

@@ -1,14 +1,14 @@
 -- The list of a view: it is determined, it resumes after each of its members, and its first member is the next solution.
-use Rattle.std.proofs.Common.{◌≡◌, ◌≢◌, ◌⊎◌, Bool, true, false, List, [], ◌∷◌, ◌++◌, refl, sym, ap, subst, ◌∙◌, inl, inr, append_assoc}
+use Rattle.std.proofs.Common.{◌≡◌, ◌≢◌, false, List, [], ◌∷◌, ◌++◌, refl, sym, ap, subst, ◌∙◌, inl, inr}
 use Rattle.std.specs.Prelude.{Contains, Option, Some, None, filter}
 use Rattle.std.specs.List.Sorted.{IsStrictlySortedBy}
 use Rattle.std.specs.Ordering.{is_lt, ordering_reverse}
 use Rattle.std.specs.Cmp.{tied_itself}
-use Rattle.std.specs.declared.cmp.Ordering.TheVariants.{Less, Equal, Greater}
+use Rattle.std.specs.declared.cmp.Ordering.TheVariants.{Less, Equal}
 use Rattle.srs.specs.declared.piece.Piece.{Piece}
 use Rattle.srs.specs.declared.placement.Placement.{Placement}
 use Rattle.srs.specs.Order.{sequence_cmp}
-use Rattle.srs.specs.Rising.{is_above, IsLeastAbove, IsNextAbove, IsRisingListOf, NoneAbove}
+use Rattle.srs.specs.Rising.{is_above, IsLeastAbove, NoneAbove}
 use Rattle.srs.proofs.MemberLemmas.{Contains-cases, Contains-here, Contains-none, filter-each, filter-false}
 use Rattle.srs.proofs.OrderLemmas.{sequence_cmp-total}
 use Rattle.srs.proofs.RisingLemmas.{IsRisingListOf-filter, IsRisingListOf-unique, rising-first, rising-rest}

@@ -1,5 +1,5 @@
 -- The list from a position on has exactly the solutions from there.
-use Rattle.std.proofs.Common.{◌≡◌, ◌⊎◌, ℕ, zero, suc, ◌+◌, ◌≤◌, Bool, true, false, ◌&&◌, List, [], ◌∷◌, ◌++◌, length, map, refl, sym, ap, subst, ◌∙◌, inl, inr, arith, append_assoc, eq-eqb}
+use Rattle.std.proofs.Common.{◌≡◌, ℕ, zero, suc, Bool, true, List, [], ◌∷◌, ◌++◌, length, refl, sym, subst, inl, inr, arith, append_assoc, eq-eqb}
 use Rattle.std.specs.Prelude.{Contains, ◌==◌, if◌then◌else◌}
 use Rattle.std.specs.List.{flat_map}
 use Rattle.std.proofs.lemmas.Bool.{eqb-true}
@@ -9,8 +9,6 @@ use Rattle.srs.specs.declared.piece.Piece.TheVariants.{I, L, O, Z, T, J, S}
 use Rattle.srs.specs.declared.placement.Placement.{Placement}
 use Rattle.srs.specs.Piece.{all_pieces}
 use Rattle.srs.proofs.MemberLemmas.{Contains-cases, Contains-flat_map, Contains-from_flat_map, Contains-here, Contains-none}
-use Rattle.srs.specs.Placements.{IsCanonicalInside}
-use Rattle.srs.proofs.PlacementLemmas.{placements_of-list}
 use Rattle.moves.specs.Place.{IsPlace}
 use Rattle.hold_queue.specs.QueueSet.{LinePermits}
 use Rattle.enumerate.specs.Plays.{Plays}

@@ -1,5 +1,5 @@
 -- Each sequence that clears the field of a fit problem has as many placements as are needed.
-use Rattle.std.proofs.Common.{◌≡◌, ℕ, zero, suc, ◌+◌, ◌-◌, ◌*◌, ◌/◌, ◌<◌, ◌≤◌, Bool, true, false, List, [], ◌∷◌, length, refl, sym, ap, subst, ◌∙◌, ◌⊎◌, inl, inr, arith}
+use Rattle.std.proofs.Common.{◌≡◌, ℕ, zero, suc, ◌+◌, ◌-◌, ◌*◌, ◌≤◌, Bool, false, List, [], ◌∷◌, length, refl, ap, ◌∙◌, inl, inr, arith}
 use Rattle.std.proofs.lemmas.Bool.{cases_lt}
 use Rattle.lane_board.specs.Field.{Field}
 use Rattle.lane_board.specs.CellCount.{cell_count, row_count}
@@ -7,12 +7,11 @@ use Rattle.srs.specs.declared.placement.Placement.{Placement}
 use Rattle.srs.specs.Kick.{Table}
 use Rattle.srs.specs.Rules.{table_of}
 use Rattle.well.specs.Well.{filled}
-use Rattle.well.specs.Counts.{empties_below}
 use Rattle.well.specs.Lock.{locked, rows_removed}
 use Rattle.moves.specs.declared.key.DropMode.{DropMode}
 use Rattle.enumerate.specs.declared.problem.Problem.{Problem}
-use Rattle.enumerate.specs.Plays.{Plays, IsEmpty}
-use Rattle.enumerate.specs.Problem.{IsFit, empties_of, needed_of}
+use Rattle.enumerate.specs.Plays.{Plays}
+use Rattle.enumerate.specs.Problem.{IsFit, needed_of}
 use Rattle.enumerate.proofs.Game.{IsLow, filled-low, locked-count, locked-low, removed-within}
 use Rattle.enumerate.proofs.PlaceLaws.{place-free}
 

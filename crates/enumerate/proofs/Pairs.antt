@@ -1,31 +1,29 @@
 -- The floods of a whole walk are the pairs of a live prefix and a kind that may come next.
-use Rattle.std.proofs.Common.{◌≡◌, ◌⊎◌, ℕ, zero, suc, ◌+◌, ◌≤◌, Bool, true, false, ◌&&◌, List, [], ◌∷◌, ◌++◌, map, refl, sym, ap, subst, ◌∙◌, inl, inr, arith, append_assoc}
-use Rattle.std.specs.Prelude.{Contains, Option, Some, filter, ◌==◌, if◌then◌else◌, sum_by}
+use Rattle.std.proofs.Common.{◌≡◌, ℕ, zero, suc, ◌+◌, Bool, true, false, ◌&&◌, List, [], ◌∷◌, ◌++◌, refl, sym, ap, subst, ◌∙◌, inl, inr, arith, append_assoc}
+use Rattle.std.specs.Prelude.{Contains, filter, ◌==◌, if◌then◌else◌, sum_by}
 use Rattle.std.specs.List.{flat_map}
 use Rattle.std.specs.Bool.{one_answer}
 use Rattle.std.proofs.lemmas.Bool.{cases_Bool}
-use Rattle.std.proofs.lemmas.List.{append-nil, map-append}
+use Rattle.std.proofs.lemmas.List.{map-append}
 use Rattle.std.proofs.lemmas.List.Sums.{sum_by-cons}
 use Rattle.srs.specs.declared.piece.Piece.{Piece}
 use Rattle.srs.specs.declared.placement.Placement.{Placement}
 use Rattle.srs.specs.Piece.{all_pieces}
 use Rattle.srs.specs.Placements.{placements_of}
-use Rattle.srs.proofs.ListLemmas.{and_both, and_first, and_second}
+use Rattle.srs.proofs.ListLemmas.{and_both}
 use Rattle.srs.proofs.MemberLemmas.{Contains-here, Contains-there, filter-false, filter-true}
 use Rattle.srs.proofs.PlacementLemmas.{placements_of-list}
 use Rattle.moves.specs.PlaceTest.{is_place}
 use Rattle.hold_queue.specs.QueueSet.{Line, LinePermits, line_permits}
-use Rattle.enumerate.specs.declared.problem.Problem.{Problem}
-use Rattle.enumerate.specs.Problem.{needed_of}
 use Rattle.well.specs.LockLaws.{is_below}
 use Rattle.enumerate.specs.Solution.{pieces_of}
-use Rattle.enumerate.specs.Position.{Position, after_of, may_play, places_at, is_live, root_of}
-use Rattle.enumerate.specs.Events.{Event, Tick, Flood, Found, floods, Walk, entered, tried, level, enter, begun}
-use Rattle.enumerate.specs.Work.{can_stand, is_live_prefix, work_from, pairs}
+use Rattle.enumerate.specs.Position.{Position, after_of, may_play, places_at, is_live}
+use Rattle.enumerate.specs.Events.{Tick, Flood, Found, floods, entered, tried, enter, begun}
+use Rattle.enumerate.specs.Work.{can_stand, is_live_prefix, work_from}
 use Rattle.enumerate.proofs.FloodCounts.{floods-flat_map, floods-level}
 use Rattle.enumerate.proofs.Game.{permits-decides}
 use Rattle.enumerate.proofs.PermitLaws.{line_permits-front}
-use Rattle.enumerate.proofs.Tests.{by_test, if_false, if_true}
+use Rattle.enumerate.proofs.Tests.{if_false, if_true}
 
 -- the played pieces of a line have no part in what it permits
 line_permits-played : (line : Line) (played pieces : List Piece) → line_permits (record line { played = played }) pieces ≡ line_permits line pieces

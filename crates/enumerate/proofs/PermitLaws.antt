@@ -1,13 +1,13 @@
 -- What is permitted begins with what is permitted, and one queue alone is the queues of its pieces.
-use Rattle.std.proofs.Common.{◌≡◌, ◌⊎◌, ℕ, List, [], ◌∷◌, ◌++◌, map, refl, sym, ap, ◌∙◌}
-use Rattle.std.specs.Prelude.{Option, Contains}
+use Rattle.std.proofs.Common.{◌≡◌, List, [], ◌∷◌, ◌++◌, map, refl, ap, ◌∙◌}
+use Rattle.std.specs.Prelude.{Option}
 use Rattle.std.specs.List.{flat_map}
 use Rattle.srs.specs.declared.piece.Piece.{Piece}
 use Rattle.srs.specs.declared.piece.Piece.TheVariants.{I, L, O, Z, T, J, S}
 use Rattle.queue_pattern.specs.Grammar.{set_of}
-use Rattle.queue_pattern.specs.Queues.{pieces_in, others, choices, queues}
+use Rattle.queue_pattern.specs.Queues.{pieces_in, choices, queues}
 use Rattle.hold_queue.specs.declared.hold.Hold.{Hold}
-use Rattle.hold_queue.specs.Permits.{Permits, SomePermits}
+use Rattle.hold_queue.specs.Permits.{Permits}
 use Rattle.hold_queue.specs.QueueSet.{Line, LinePermits, singles}
 
 permits-front : (hold : Hold) (queue : List Piece) (held : Option Piece) (front rest : List Piece) → Permits hold queue held (front ++ rest) → Permits hold queue held front

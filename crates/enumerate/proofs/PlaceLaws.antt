@@ -1,26 +1,25 @@
 -- A place is canonical, lies inside the well and is free.
-use Rattle.std.proofs.Common.{◌≡◌, ℕ, ◌≤◌, Bool, true, false, ◌&&◌, List, refl, sym, ap, subst, ◌∙◌, arith, eq-eqb}
-use Rattle.std.specs.Prelude.{Some, ◌==◌, pos, ℤ}
-use Rattle.std.specs.List.{list_all}
+use Rattle.std.proofs.Common.{◌≡◌, true, ◌&&◌, ap, subst, ◌∙◌, arith, eq-eqb}
+use Rattle.std.specs.Prelude.{Some, ◌==◌, pos}
 use Rattle.lane_board.specs.Field.{Field}
 use Rattle.srs.specs.declared.piece.Piece.{Piece}
 use Rattle.srs.specs.declared.rotation.Rotation.{Rotation}
 use Rattle.srs.specs.declared.placement.Placement.{Placement}
 use Rattle.srs.specs.Piece.{piece_code}
 use Rattle.srs.specs.Kick.{Table}
-use Rattle.srs.specs.Cells.{Cell, cells_of, cells_at, in_well, is_inside_of, pivot_of}
-use Rattle.srs.specs.SameCells.{has_cell, HasSameCells}
+use Rattle.srs.specs.Cells.{Cell, cells_of, in_well, is_inside_of}
+use Rattle.srs.specs.SameCells.{HasSameCells}
 use Rattle.srs.specs.Canonical.{is_canonical}
 use Rattle.srs.specs.Placements.{IsCanonicalInside, is_canonical_inside}
 use Rattle.srs.proofs.CanonicalLemmas.{is_canonical-from, IsCanonical-from_test}
 use Rattle.srs.proofs.CellLemmas.{has_cell-all, list_all-from_has_cell}
 use Rattle.srs.proofs.CodeLemmas.{piece_code-injective}
-use Rattle.srs.proofs.ListLemmas.{and_both, and_first, and_second, list_all-true}
+use Rattle.srs.proofs.ListLemmas.{and_both, and_first, and_second}
 use Rattle.std.proofs.lemmas.Bool.{eqb-true}
 use Rattle.well.specs.Free.{is_open, is_free_at, is_free}
 use Rattle.moves.specs.declared.key.DropMode.{DropMode}
 use Rattle.moves.specs.Step.{state_at}
-use Rattle.moves.specs.Rest.{IsRest, lowered}
+use Rattle.moves.specs.Rest.{lowered}
 use Rattle.moves.specs.Place.{IsPlace}
 use Rattle.enumerate.specs.Standing.{may_lock}
 

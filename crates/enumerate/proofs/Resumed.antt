@@ -1,14 +1,13 @@
 -- What is found after a given sequence is what the whole list has above it.
-use Rattle.std.proofs.Common.{◌≡◌, ◌≢◌, ◌⊎◌, ℕ, zero, suc, ◌+◌, ◌<◌, ◌≤◌, Bool, true, false, ◌&&◌, List, [], ◌∷◌, ◌++◌, map, refl, sym, ap, subst, ◌∙◌, inl, inr, arith, append_assoc, cond}
-use Rattle.std.specs.Prelude.{Contains, Some, filter, drop, take, nat_lt, ◌-◌, ◌==◌, if◌then◌else◌}
+use Rattle.std.proofs.Common.{◌≡◌, ◌<◌, Bool, true, false, ◌&&◌, List, [], ◌∷◌, ◌++◌, map, refl, sym, ap, subst, ◌∙◌, inl, inr}
+use Rattle.std.specs.Prelude.{Contains, Some, filter, drop, take, nat_lt, ◌-◌, if◌then◌else◌}
 use Rattle.std.specs.List.{AllByRecursion, flat_map}
 use Rattle.std.specs.List.Sorted.{IsStrictlySortedBy}
-use Rattle.std.specs.Ordering.{is_lt, ordering_reverse, ordering_then, nat_cmp}
+use Rattle.std.specs.Ordering.{is_lt, ordering_reverse, ordering_then}
 use Rattle.std.specs.Cmp.{tied_itself}
 use Rattle.std.specs.declared.cmp.Ordering.{Ordering}
 use Rattle.std.specs.declared.cmp.Ordering.TheVariants.{Less, Equal, Greater}
 use Rattle.std.proofs.lemmas.Bool.{cases_Bool, ltb-true}
-use Rattle.std.proofs.lemmas.List.{append-nil}
 use Rattle.std.proofs.lemmas.List.Elements.{filter-append}
 use Rattle.std.proofs.lemmas.Grind.{flat_map-append}
 use Rattle.srs.specs.declared.piece.Piece.{Piece}
@@ -26,9 +25,8 @@ use Rattle.srs.proofs.MemberLemmas.{each-contained, Contains-filter, Contains-fr
 use Rattle.srs.proofs.OrderLemmas.{placement_cmp-antisymmetric, placement_cmp-piece, placement_cmp-total, sequence_cmp-first}
 use Rattle.srs.proofs.RisingLemmas.{rising-first, rising-rest}
 use Rattle.well.specs.LockLaws.{is_below}
-use Rattle.enumerate.specs.Position.{Position, after_of, may_play, places_at, is_live}
-use Rattle.enumerate.proofs.Solutions.{Sequences, in_kind, in_place, of_kind, of_place, places_at-rising, sols}
-use Rattle.enumerate.proofs.Tests.{by_test}
+use Rattle.enumerate.specs.Position.{Position, after_of, may_play, places_at}
+use Rattle.enumerate.proofs.Solutions.{Sequences, in_kind, in_place, of_kind, of_place, places_at-rising}
 
 -- above a sequence in the order
 abbrev pub past : List Placement → List Placement → Bool

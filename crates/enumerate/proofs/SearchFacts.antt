@@ -1,5 +1,4 @@
 -- What holds of every search.
-use Rattle.std.proofs.Common.{◌≡◌, ℕ, ◌+◌, ◌-◌, ◌≤◌, List, refl, arith}
 use Rattle.enumerate.specs.declared.search.Search.{Search}
 use Rattle.enumerate.specs.Items.{items_of}
 use Rattle.enumerate.specs.Search.{IsList}

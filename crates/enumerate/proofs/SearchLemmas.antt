@@ -1,40 +1,29 @@
 -- What a search holds: its first frame, and the list of what is still to come.
-use Rattle.std.proofs.Common.{◌≡◌, ◌↔◌, ◌⊎◌, inl, inr, lt-ltb, ℕ, zero, suc, ◌+◌, ◌-◌, ◌<◌, ◌≤◌, Bool, true, false, ◌&&◌, List, [], ◌∷◌, ◌++◌, length, get_or, set, take, refl, sym, ap, subst, ◌∙◌, arith}
-use Rattle.std.specs.Prelude.{Contains, Option, Some, None, filter, find, nat_le, nat_lt, if◌then◌else◌}
-use Rattle.std.specs.List.Sorted.{IsStrictlySortedBy}
-use Rattle.std.proofs.lemmas.Bool.{cases_Bool, le-leb}
+use Rattle.std.proofs.Common.{◌≡◌, ◌⊎◌, inl, inr, lt-ltb, ℕ, zero, suc, ◌+◌, ◌-◌, ◌<◌, ◌≤◌, Bool, true, false, ◌&&◌, List, [], ◌∷◌, length, get_or, set, take, refl, sym, ap, subst, ◌∙◌, arith}
+use Rattle.std.specs.Prelude.{Option, Some, None, nat_le, nat_lt}
+use Rattle.std.proofs.lemmas.Bool.{le-leb}
 use Rattle.std.proofs.lemmas.List.{get_or-set_same, take_more_set}
 use Rattle.srs.specs.declared.piece.Piece.{Piece}
 use Rattle.srs.specs.declared.placement.Placement.{Placement}
 use Rattle.srs.specs.Kick.{Table}
 use Rattle.srs.specs.Rules.{table_of}
-use Rattle.srs.specs.Order.{sequence_cmp}
-use Rattle.srs.specs.Rising.{is_above, IsRisingListOf}
 use Rattle.srs.proofs.ListLemmas.{and_both, and_second}
-use Rattle.srs.proofs.MemberLemmas.{filter-each, filter-false, filter-true, find-false, find-true}
-use Rattle.srs.proofs.OrderLemmas.{sequence_cmp-total}
-use Rattle.srs.proofs.RisingLemmas.{filter_above-next}
 use Rattle.well.specs.Well.{filled}
 use Rattle.moves.specs.declared.key.DropMode.{DropMode}
 use Rattle.hold_queue.specs.declared.set.QueueSet.{QueueSet}
-use Rattle.hold_queue.specs.QueueSet.{Line, line_of}
+use Rattle.hold_queue.specs.QueueSet.{line_of}
 use Rattle.enumerate.specs.declared.problem.Problem.{Problem}
 use Rattle.enumerate.specs.declared.frame.Frame.{Frame}
-use Rattle.enumerate.specs.Problem.{IsFit, empties_of, needed_of}
+use Rattle.enumerate.specs.Problem.{needed_of}
 use Rattle.enumerate.specs.Position.{Position, is_live, line_at, root_of}
-use Rattle.enumerate.specs.Events.{Event, begun, enter, found, floods, sought}
-use Rattle.enumerate.specs.Frames.{events_of, has_room, path_of, position_of, stacked}
+use Rattle.enumerate.specs.Events.{Event, begun, sought}
+use Rattle.enumerate.specs.Frames.{has_room, position_of, stacked}
 use Rattle.enumerate.specs.Rest.{rest_from, whole_from}
 use Rattle.enumerate.specs.Seeks.{IsFresh, SkipsTo}
 use Rattle.enumerate.specs.Walks.{Finds}
-use Rattle.enumerate.specs.Work.{pairs}
-use Rattle.enumerate.proofs.FloodCounts.{floods-sought}
-use Rattle.enumerate.proofs.Pairs.{floods-begun}
 use Rattle.enumerate.proofs.SeekLemmas.{fresh-events}
 use Rattle.enumerate.proofs.SkipLemmas.{skips-same}
-use Rattle.enumerate.proofs.Sought.{found-sought}
-use Rattle.enumerate.proofs.Tests.{if_false, if_true}
-use Rattle.enumerate.proofs.Walks.{finds-enter, prefixed-nil}
+use Rattle.enumerate.proofs.Tests.{if_false}
 
 pub first-position : (problem : Problem) (queue : Option (List Piece)) (queues : QueueSet) → line_of queues ≡ line_at problem queue →
     ◌≡◌ {A = Position} (record { table = table_of problem.rules; mode = problem.drop_mode; field = filled problem.well; rows = problem.height; line = line_of queues }) (root_of problem queue)

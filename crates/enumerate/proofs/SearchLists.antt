@@ -1,28 +1,24 @@
 -- The list of what a search has still to give.
-use Rattle.std.proofs.Common.{◌≡◌, ◌↔◌, ℕ, zero, suc, ◌+◌, ◌-◌, ◌≤◌, Bool, true, false, IsTrue, List, [], ◌∷◌, ◌++◌, length, refl, sym, ap, subst, ◌∙◌, ◌⊎◌, inl, inr, arith, take}
-use Rattle.std.specs.Prelude.{Contains, Option, Some, None, filter, find, nat_lt, ◌==◌}
-use Rattle.std.specs.List.Sorted.{IsStrictlySortedBy}
+use Rattle.std.proofs.Common.{◌≡◌, ℕ, zero, suc, ◌≤◌, Bool, List, [], ◌∷◌, ◌++◌, refl, sym, ap, subst, ◌∙◌, inl, inr, arith}
+use Rattle.std.specs.Prelude.{Option, Some, None, filter, find, ◌==◌}
 use Rattle.std.proofs.lemmas.Bool.{cases_Bool}
 use Rattle.srs.specs.declared.piece.Piece.{Piece}
 use Rattle.srs.specs.declared.placement.Placement.{Placement}
-use Rattle.srs.specs.Rules.{table_of}
 use Rattle.srs.specs.Order.{sequence_cmp}
-use Rattle.srs.specs.Rising.{is_above, IsRisingListOf, IsNextAbove}
-use Rattle.srs.proofs.MemberLemmas.{filter-each, filter-false, filter-true, find-false, find-true, Contains-none}
+use Rattle.srs.specs.Rising.{is_above, IsRisingListOf}
+use Rattle.srs.proofs.MemberLemmas.{filter-each, filter-false, filter-true, find-false, find-true}
 use Rattle.srs.proofs.OrderLemmas.{sequence_cmp-total}
-use Rattle.srs.proofs.RisingLemmas.{filter_above-next, IsRisingListOf-filter, rising-none}
-use Rattle.well.specs.Well.{filled}
+use Rattle.srs.proofs.RisingLemmas.{filter_above-next, IsRisingListOf-filter}
 use Rattle.queue_pattern.specs.Queues.{queues}
 use Rattle.hold_queue.specs.Permits.{SomePermits}
 use Rattle.hold_queue.specs.QueueSet.{LinePermits}
 use Rattle.enumerate.specs.declared.problem.Problem.{Problem}
-use Rattle.enumerate.specs.Plays.{Plays}
 use Rattle.enumerate.specs.Problem.{IsFit, needed_of}
 use Rattle.enumerate.specs.Solution.{IsSolution, pieces_of, queues_that_count}
-use Rattle.enumerate.specs.Search.{View, IsList, IsSolutionAbove}
+use Rattle.enumerate.specs.Search.{IsList}
 use Rattle.enumerate.specs.Position.{Position, line_at, root_of}
-use Rattle.enumerate.specs.Events.{Event, begun, enter, found, floods, sought}
-use Rattle.enumerate.specs.Rest.{rest_from, whole_from}
+use Rattle.enumerate.specs.Events.{begun, enter, found, floods, sought}
+use Rattle.enumerate.specs.Rest.{whole_from}
 use Rattle.enumerate.specs.Work.{pairs}
 use Rattle.enumerate.proofs.FloodCounts.{floods-sought}
 use Rattle.enumerate.proofs.Game.{IsLow, filled-low}

@@ -1,24 +1,20 @@
 -- What a frame is left with after it has passed all that comes before a placement.
-use Rattle.std.proofs.Common.{◌≡◌, ◌↔◌, ◌⊎◌, ℕ, zero, suc, ◌+◌, ◌≤◌, Bool, true, false, ◌&&◌, List, [], ◌∷◌, ◌++◌, refl, sym, ap, subst, ◌∙◌, inl, inr, arith, append_assoc}
+use Rattle.std.proofs.Common.{◌≡◌, ◌↔◌, ℕ, zero, suc, ◌+◌, Bool, true, false, ◌&&◌, List, [], ◌∷◌, ◌++◌, refl, sym, ap, subst, ◌∙◌, inl, inr, arith, append_assoc}
 use Rattle.std.specs.Prelude.{Contains, Option, Some, None, filter, drop, if◌then◌else◌}
 use Rattle.std.specs.List.{flat_map}
 use Rattle.std.specs.Option.{option_to_list}
 use Rattle.std.specs.List.Sorted.{IsStrictlySortedBy}
-use Rattle.std.specs.declared.cmp.Ordering.{Ordering}
 use Rattle.std.specs.declared.cmp.Ordering.TheVariants.{Less, Equal, Greater}
 use Rattle.std.specs.Cmp.{tied_itself}
 use Rattle.std.proofs.lemmas.Bool.{cases_Bool}
-use Rattle.std.proofs.lemmas.List.{append-nil}
 use Rattle.std.proofs.lemmas.List.Kept.{IsStrictlySortedBy-filter}
-use Rattle.srs.specs.declared.piece.Piece.{Piece}
 use Rattle.srs.specs.declared.placement.Placement.{Placement}
 use Rattle.srs.specs.Kick.{Table}
 use Rattle.srs.specs.Piece.{all_pieces, piece_code}
 use Rattle.srs.specs.Order.{placement_cmp}
 use Rattle.srs.specs.Placements.{placements_of}
 use Rattle.srs.specs.Rising.{is_above}
-use Rattle.srs.proofs.ListLemmas.{and_first, and_second}
-use Rattle.srs.proofs.MemberLemmas.{Contains-cases, Contains-here, Contains-none, Contains-there}
+use Rattle.srs.proofs.MemberLemmas.{Contains-cases, Contains-there}
 use Rattle.srs.proofs.OrderLemmas.{placement_cmp-total}
 use Rattle.srs.proofs.PlacementLemmas.{placements_of-list}
 use Rattle.srs.proofs.RisingLemmas.{rising-first, rising-none}
@@ -32,10 +28,10 @@ use Rattle.enumerate.specs.declared.turn.Turn.{Turn}
 use Rattle.enumerate.specs.declared.turn.Turn.TheVariants.{Passed, Flooded, Entered, Full, Over}
 use Rattle.well.specs.LockLaws.{is_below}
 use Rattle.enumerate.specs.Position.{Position, after_of, may_play, places_at, is_live}
-use Rattle.enumerate.specs.Events.{Event, Tick, Flood, Found, found, floods, entered, tried, level, enter, sought}
+use Rattle.enumerate.specs.Events.{Event, Tick, Flood, Found, found, floods, entered, level, enter, sought}
 use Rattle.enumerate.specs.Frames.{position_of, places_left, step_of, events_of}
 use Rattle.enumerate.specs.Turns.{Enters, EntersAs, IsChild, SamePosition}
-use Rattle.enumerate.specs.Seeks.{IsFresh, SkipsTo, Skips}
+use Rattle.enumerate.specs.Seeks.{SkipsTo}
 use Rattle.enumerate.proofs.FloodCounts.{floods-sought}
 use Rattle.enumerate.proofs.Resumed.{past, placed-there, there-placed}
 use Rattle.enumerate.proofs.Solutions.{sols}

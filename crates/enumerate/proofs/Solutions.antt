@@ -1,6 +1,6 @@
 -- The solutions from a position on: their list rises, and has each of them.
-use Rattle.std.proofs.Common.{◌≡◌, ◌≢◌, ◌⊎◌, ℕ, zero, suc, ◌+◌, ◌<◌, ◌≤◌, Bool, true, false, cond, List, [], ◌∷◌, ◌++◌, length, map, refl, sym, ap, subst, ◌∙◌, inl, inr, arith, append_assoc}
-use Rattle.std.specs.Prelude.{Contains, filter, ◌==◌, if◌then◌else◌}
+use Rattle.std.proofs.Common.{◌≡◌, ℕ, zero, suc, ◌<◌, true, List, [], ◌∷◌, map, refl, sym, subst, ◌∙◌}
+use Rattle.std.specs.Prelude.{Contains, ◌==◌, if◌then◌else◌}
 use Rattle.std.specs.List.{flat_map}
 use Rattle.std.specs.List.Sorted.{IsStrictlySortedBy}
 use Rattle.std.specs.Ordering.{nat_cmp}
@@ -13,7 +13,7 @@ use Rattle.srs.specs.declared.placement.Placement.{Placement}
 use Rattle.srs.specs.Piece.{all_pieces, piece_code}
 use Rattle.srs.specs.Order.{placement_cmp, sequence_cmp}
 use Rattle.srs.specs.Placements.{IsCanonicalInside, placements_of}
-use Rattle.srs.proofs.MemberLemmas.{Contains-cases, Contains-filter, Contains-from_filter, Contains-flat_map, Contains-from_flat_map, Contains-map, Contains-from_map, Contains-here, Contains-none}
+use Rattle.srs.proofs.MemberLemmas.{Contains-filter, Contains-from_filter, Contains-flat_map, Contains-from_flat_map, Contains-map, Contains-from_map, Contains-none}
 use Rattle.srs.proofs.OrderLemmas.{placement_cmp-piece, sequence_cmp-append, sequence_cmp-first}
 use Rattle.srs.proofs.PlacementLemmas.{placements_of-list}
 use Rattle.srs.proofs.RisingLemmas.{rising-cons, rising-flat_map, rising-map, rising-none}

@@ -1,20 +1,20 @@
 -- A search that begins after a given sequence finds what the whole list has above it, and makes no more floods.
-use Rattle.std.proofs.Common.{◌≡◌, ◌⊎◌, ℕ, zero, suc, ◌+◌, ◌≤◌, Bool, true, false, ◌&&◌, List, [], ◌∷◌, ◌++◌, map, refl, sym, ap, subst, ◌∙◌, inl, inr, arith}
-use Rattle.std.specs.Prelude.{Contains, Some, filter, drop, ◌==◌, if◌then◌else◌}
+use Rattle.std.proofs.Common.{◌≡◌, ℕ, zero, suc, Bool, true, false, ◌&&◌, List, [], ◌∷◌, ◌++◌, map, refl, sym, ap, subst, ◌∙◌}
+use Rattle.std.specs.Prelude.{Some, filter, drop, ◌==◌, if◌then◌else◌}
 use Rattle.std.specs.List.{flat_map}
 use Rattle.srs.specs.declared.piece.Piece.{Piece}
 use Rattle.srs.specs.declared.placement.Placement.{Placement}
 use Rattle.srs.specs.Piece.{all_pieces, piece_code}
-use Rattle.srs.specs.Order.{placement_cmp, sequence_cmp}
+use Rattle.srs.specs.Order.{placement_cmp}
 use Rattle.srs.specs.Rising.{is_above}
 use Rattle.srs.proofs.MemberLemmas.{Contains-from_flat_map, filter-each}
 use Rattle.moves.specs.PlaceTest.{is_place}
 use Rattle.well.specs.LockLaws.{is_below}
 use Rattle.enumerate.specs.Position.{Position, after_of, may_play, places_at, is_live}
-use Rattle.enumerate.specs.Events.{Event, Tick, Flood, Found, found, floods, entered, level, enter, begun, sought}
+use Rattle.enumerate.specs.Events.{Event, Flood, found, entered, level, enter, sought}
 use Rattle.enumerate.proofs.Solutions.{Sequences, in_kind, of_kind, of_place, sols}
 use Rattle.enumerate.proofs.Walks.{finds-enter, found-append, found-if_live, found-level, found-places, prefixed, prefixed-append, prefixed-cons}
-use Rattle.enumerate.proofs.Resumed.{all-past, filter-none, following, past}
+use Rattle.enumerate.proofs.Resumed.{all-past, following, past}
 
 -- the filter goes into a choice
 filter-if : (b : Bool) (test : List Placement → Bool) (l : List (List Placement)) → filter test (if b then l else []) ≡ (if b then filter test l else [])

@@ -1,11 +1,10 @@
 -- What one turn does to the events that are still to come.
-use Rattle.std.proofs.Common.{◌≡◌, ◌↔◌, ◌⊎◌, ℕ, zero, suc, ◌+◌, ◌-◌, ◌≤◌, Bool, true, false, ◌&&◌, List, [], ◌∷◌, ◌++◌, map, refl, sym, ap, subst, ◌∙◌, inl, inr, arith, eq-eqb, length, append_assoc}
-use Rattle.std.specs.Prelude.{Contains, Option, Some, None, IsTrue, MatchOption, filter, find, drop, slice_get, ◌==◌, if◌then◌else◌}
+use Rattle.std.proofs.Common.{◌≡◌, ◌↔◌, ℕ, suc, ◌+◌, ◌-◌, Bool, true, false, ◌&&◌, List, [], ◌∷◌, ◌++◌, refl, sym, ap, subst, ◌∙◌, inl, inr, arith, eq-eqb, append_assoc}
+use Rattle.std.specs.Prelude.{Contains, Option, Some, None, IsTrue, MatchOption, filter, find, drop, ◌==◌}
 use Rattle.std.specs.List.{flat_map}
 use Rattle.std.specs.Bool.{one_answer}
-use Rattle.std.specs.Option.{ForSome, option_to_list}
+use Rattle.std.specs.Option.{option_to_list}
 use Rattle.std.proofs.lemmas.Bool.{cases_Bool, eqb-true}
-use Rattle.std.proofs.lemmas.List.{append-nil}
 use Rattle.lane_board.specs.Field.{Field}
 use Rattle.srs.specs.declared.piece.Piece.{Piece}
 use Rattle.srs.specs.declared.placement.Placement.{Placement}
@@ -14,8 +13,7 @@ use Rattle.srs.specs.Piece.{all_pieces}
 use Rattle.srs.specs.Order.{placement_cmp}
 use Rattle.srs.specs.Placements.{placements_of}
 use Rattle.srs.specs.Rising.{is_above, IsNextAbove, IsRisingListOf}
-use Rattle.srs.proofs.ListLemmas.{and_first, and_second}
-use Rattle.srs.proofs.MemberLemmas.{Contains-filter, Contains-from_filter, Contains-here, Contains-there, find-Contains, filter-false, filter-true}
+use Rattle.srs.proofs.MemberLemmas.{Contains-filter, Contains-from_filter, Contains-here, Contains-there, filter-false, filter-true}
 use Rattle.srs.proofs.OrderLemmas.{placement_cmp-antisymmetric, placement_cmp-total}
 use Rattle.srs.proofs.PlacementLemmas.{placements_of-list}
 use Rattle.srs.proofs.RisingLemmas.{find-next_of, filter_above-next, filter_above-none, IsNextAbove-unique}
@@ -39,7 +37,7 @@ use Rattle.enumerate.specs.declared.turn.Turn.TheVariants.{Passed, Flooded, Ente
 use Rattle.enumerate.specs.Turns.{Enters, EntersAs, GoesAs, IsChild, SamePosition, Turns}
 use Rattle.enumerate.proofs.Game.{permits-decides, place-decides}
 use Rattle.enumerate.proofs.PlaceLaws.{lockable-listed, lockable-piece, place-lockable}
-use Rattle.enumerate.proofs.Tests.{by_test, if_false, if_true}
+use Rattle.enumerate.proofs.Tests.{if_false, if_true}
 
 pub filter-both : {A : Type 0} (a b : A → Bool) (xs : List A) → filter (λ x. a x && b x) xs ≡ filter b (filter a xs)
 filter-both a b [] = refl

@@ -1,5 +1,5 @@
 -- What frames stand for: the events that are still to come.
-use Rattle.std.specs.Prelude.{◌≡◌, ℕ, suc, ◌+◌, Bool, true, ◌&&◌, IsTrue, Option, Some, None, List, [], ◌∷◌, ◌++◌, filter, drop, nat_le}
+use Rattle.std.specs.Prelude.{ℕ, suc, ◌+◌, Bool, true, ◌&&◌, Option, Some, None, List, [], ◌∷◌, ◌++◌, filter, drop, nat_le}
 use Rattle.std.specs.List.{flat_map}
 use Rattle.std.specs.Option.{option_to_list}
 use Rattle.srs.specs.declared.placement.Placement.{Placement}

@@ -6,7 +6,7 @@ use Rattle.queue_pattern.specs.Pattern.{elements_of}
 use Rattle.queue_pattern.specs.Queues.{queue_len}
 use Rattle.srs.specs.declared.piece.Piece.{Piece}
 use Rattle.hold_queue.specs.declared.hold.Hold.{Hold}
-use Rattle.hold_queue.specs.declared.hold.Hold.TheVariants.{Allowed, Avoided}
+use Rattle.hold_queue.specs.declared.hold.Hold.TheVariants.{Allowed}
 use Rattle.enumerate.specs.declared.problem.Problem.{Problem}
 
 -- a piece held at the start may be played where hold is allowed

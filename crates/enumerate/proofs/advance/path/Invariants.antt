@@ -1,6 +1,5 @@
 -- The path of the frames so far.
 use Rattle.std.proofs.Common.{◌≡◌, ◌≤◌, take, length}
-use Rattle.arrayvec.specs.ArrayVec.{array_vec_len}
 use Rattle.enumerate.specs.Frames.{path_of}
 use Rattle.enumerate.proofs.advance.path.Given as goal
 

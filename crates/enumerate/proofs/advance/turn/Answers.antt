@@ -1,5 +1,5 @@
 -- A turn at the deepest frame is a turn of all frames.
-use Rattle.std.proofs.Common.{ℕ, ◌≡◌, ◌≤◌, ◌<◌, ◌+◌, ◌-◌, ◌∷◌, ◌++◌, List, [], length, get_or, take, set, refl, arith, sym, length-set}
+use Rattle.std.proofs.Common.{◌-◌, get_or, take, arith, length-set}
 use Rattle.srs.specs.Rules.{table_of}
 use Rattle.enumerate.proofs.Stacks.{array-deeper, array-entered, array-over, array-room, array-turn, turn-entered, turn-flooded, turn-full, turn-over, turn-passed}
 use Rattle.enumerate.proofs.advance.turn.Goals as goal

@@ -1,7 +1,7 @@
 -- The given sequence is passed by from its first placement to its last.
-use Rattle.std.proofs.Common.{◌≡◌, ◌<◌, ◌≤◌, ℕ, List, [], drop, length, refl, sym, ap, subst, ◌∙◌, arith}
+use Rattle.std.proofs.Common.{drop, refl, arith}
 use Rattle.srs.specs.Rules.{table_of}
-use Rattle.enumerate.proofs.SeekLemmas.{at-end, drop-none, skips-to, starts}
+use Rattle.enumerate.proofs.SeekLemmas.{drop-none, skips-to, starts}
 use Rattle.enumerate.proofs.seek.seek.Goals as goal
 
 pub loop-target-init : goal.loop-target-init

@@ -1,5 +1,5 @@
 -- What is still to be passed by at the last frame is what is left of the given sequence.
-use Rattle.std.proofs.Common.{◌≡◌, ◌+◌, ◌<◌, ◌≤◌, IsTrue, [], suc, drop, take, length}
+use Rattle.std.proofs.Common.{◌≡◌, ◌+◌, ◌<◌, IsTrue, [], suc, drop, take, length}
 use Rattle.std.specs.Prelude.{slice_index_or}
 use Rattle.srs.specs.Rules.{table_of}
 use Rattle.enumerate.specs.declared.frame.Frame.{Frame}

@@ -1,5 +1,5 @@
 -- What is passed by at the last frame is passed by of all.
-use Rattle.std.proofs.Common.{ℕ, ◌≡◌, ◌≤◌, ◌<◌, ◌+◌, List, length, get_or, set, refl, arith, length-set}
+use Rattle.std.proofs.Common.{arith, length-set}
 use Rattle.srs.specs.Rules.{table_of}
 use Rattle.enumerate.proofs.SeekLemmas.{deeper, deeper-within, there}
 use Rattle.enumerate.proofs.seek.skip_at.Goals as goal

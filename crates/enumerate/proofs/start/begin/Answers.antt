@@ -1,5 +1,5 @@
 -- The first frame stands for the whole search, and passes what comes before a given sequence.
-use Rattle.std.proofs.Common.{◌≡◌, ◌<◌, ◌≤◌, ◌-◌, ℕ, List, length, refl, sym, ap, subst, ◌∙◌, arith}
+use Rattle.std.proofs.Common.{sym, ap, subst, ◌∙◌, arith}
 use Rattle.srs.specs.Rules.{table_of}
 use Rattle.enumerate.specs.Items.{items_of}
 use Rattle.enumerate.specs.Rest.{whole_from}

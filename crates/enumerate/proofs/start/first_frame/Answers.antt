@@ -1,9 +1,9 @@
 -- The first frame stands for the first position.
-use Rattle.std.proofs.Common.{◌≡◌, refl, sym, ap, subst, ◌∙◌}
+use Rattle.std.proofs.Common.{sym, ap, ◌∙◌}
 use Rattle.hold_queue.specs.QueueSet.{line_of}
 use Rattle.enumerate.specs.Frames.{position_of}
 use Rattle.enumerate.specs.Items.{items_of}
-use Rattle.enumerate.specs.Position.{line_at, root_of}
+use Rattle.enumerate.specs.Position.{line_at}
 use Rattle.enumerate.proofs.SearchLemmas.{first-position}
 use Rattle.enumerate.proofs.start.first_frame.Goals as goal
 use Rattle.enumerate.proofs.start.first_frame.Goals.{in-None, in-Some}

@@ -1,5 +1,5 @@
 -- What comes before the start is passed by where that is still to be done, and then the frames go on.
-use Rattle.std.proofs.Common.{[], ◌≡◌, ◌≤◌, ◌+◌, refl, sym, ◌∙◌, arith, take}
+use Rattle.std.proofs.Common.{[], ◌∙◌, arith, take}
 use Rattle.srs.specs.Rules.{table_of}
 use Rattle.enumerate.specs.Items.{items_of}
 use Rattle.enumerate.specs.Frames.{stacked}

@@ -1,11 +1,9 @@
 -- A placement below the rows left leads to a frame of its own, or completes a solution.
-use Rattle.std.proofs.Common.{◌≡◌, ◌+◌, ◌-◌, ℕ, refl, sym, ap, ◌∙◌, arith, true, false, eq-eqb}
+use Rattle.std.proofs.Common.{◌≡◌, ◌+◌, ◌-◌, refl, sym, ap, ◌∙◌, arith, true}
 use Rattle.std.specs.Prelude.{◌==◌}
 use Rattle.well.specs.Well.{filled}
-use Rattle.well.specs.Lock.{rows_removed}
 use Rattle.well.specs.LockLaws.{is_below}
 use Rattle.enumerate.proofs.PlaceLaws.{lockable-free, lockable-inside}
-use Rattle.enumerate.proofs.Members.{may_play-permits}
 use Rattle.enumerate.proofs.TurnLemmas.{enters-blocked, enters-full, enters-rows_left, enters-child, enters-dead, is_child, line-permits, not-zero}
 use Rattle.enumerate.proofs.frame.Frame.enter.Goals as goal
 

@@ -1,13 +1,12 @@
 -- What the flood holds is the places of the kind, in order.
 use Rattle.std.proofs.Common.{◌≡◌, refl, sym, subst}
-use Rattle.std.specs.Prelude.{Some, true}
-use Rattle.srs.specs.declared.piece.Piece.{Piece}
+use Rattle.std.specs.Prelude.{true}
 use Rattle.srs.specs.Rules.{table_of}
 use Rattle.srs.proofs.MemberLemmas.{some_same}
 use Rattle.well.specs.Well.{filled}
 use Rattle.reach.specs.Places.{piece_of}
 use Rattle.hold_queue.specs.QueueSet.{line_of}
-use Rattle.enumerate.specs.Frames.{places_left, position_of}
+use Rattle.enumerate.specs.Frames.{position_of}
 use Rattle.enumerate.specs.Position.{may_play}
 use Rattle.enumerate.proofs.TurnLemmas.{Lockable, flooded-lockable, flooded-places}
 use Rattle.enumerate.proofs.frame.Frame.flood.Goals as goal

@@ -1,8 +1,7 @@
 -- The placements that are left rise, so that the search for one ends at it or past it.
-use Rattle.std.proofs.Common.{◌≡◌, ◌∷◌, [], List, length, refl, sym, ap, subst, ◌∙◌, arith}
+use Rattle.std.proofs.Common.{◌≡◌, ◌∷◌, length, refl, sym, ap, subst, arith}
 use Rattle.std.specs.Prelude.{Contains, Option, Some}
 use Rattle.std.specs.List.Sorted.{IsStrictlySortedBy}
-use Rattle.srs.specs.declared.placement.Placement.{Placement}
 use Rattle.srs.specs.Order.{placement_cmp}
 use Rattle.srs.proofs.MemberLemmas.{Contains-here, Contains-none}
 use Rattle.reach.specs.declared.held.Places.{Places}

@@ -1,5 +1,5 @@
 -- The placement is among those that are left just where it was at the start.
-use Rattle.std.proofs.Common.{◌≡◌, ◌↔◌, length}
+use Rattle.std.proofs.Common.{◌↔◌, length}
 use Rattle.std.specs.Prelude.{Contains}
 use Rattle.enumerate.specs.Frames.{places_left}
 use Rattle.enumerate.proofs.frame.Frame.reaches.Given as goal

@@ -1,16 +1,13 @@
 -- What comes before the placement is passed by, and what comes first at the placement itself is its frame or nothing.
-use Rattle.std.proofs.Common.{◌≡◌, ◌∷◌, ◌++◌, [], List, refl, sym, ap, subst, ◌∙◌, arith, true, false}
-use Rattle.std.specs.Prelude.{Contains, Some, None, filter}
+use Rattle.std.proofs.Common.{◌≡◌, refl, sym, subst, ◌∙◌, true}
 use Rattle.srs.specs.Rules.{table_of}
-use Rattle.srs.specs.Order.{placement_cmp}
-use Rattle.srs.specs.Rising.{is_above}
 use Rattle.srs.proofs.MemberLemmas.{some_same}
 use Rattle.well.specs.Well.{filled}
 use Rattle.moves.specs.PlaceTest.{is_place}
 use Rattle.hold_queue.specs.QueueSet.{line_of}
 use Rattle.reach.specs.Places.{piece_of}
 use Rattle.enumerate.specs.Frames.{places_left, position_of}
-use Rattle.enumerate.specs.Position.{may_play, places_at}
+use Rattle.enumerate.specs.Position.{may_play}
 use Rattle.enumerate.proofs.Game.{place-decides}
 use Rattle.enumerate.proofs.PlaceLaws.{place-lockable}
 use Rattle.enumerate.proofs.SkipLemmas.{dead-result, held-place, left-above, passes-kind, skips-dead, skips-entered, skips-same, skips-unplaced, unheld-place}

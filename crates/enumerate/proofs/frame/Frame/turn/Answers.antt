@@ -1,5 +1,5 @@
 -- The next placement is entered, or the next kind is tried.
-use Rattle.std.proofs.Common.{◌≡◌, ◌∷◌, refl, sym, ◌∙◌, ap, subst}
+use Rattle.std.proofs.Common.{◌≡◌, ◌∷◌, refl, subst}
 use Rattle.std.specs.Prelude.{Option, Some}
 use Rattle.srs.proofs.MemberLemmas.{some_same}
 use Rattle.reach.specs.declared.held.Places.{Places}

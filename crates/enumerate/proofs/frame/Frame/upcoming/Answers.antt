@@ -1,5 +1,5 @@
 -- The next held placement is the first of those that are left.
-use Rattle.std.proofs.Common.{◌≡◌, List, [], ◌∷◌, refl, sym, subst, IsTrue}
+use Rattle.std.proofs.Common.{◌≡◌, [], ◌∷◌, refl, sym, subst, IsTrue}
 use Rattle.std.specs.Prelude.{Option, Some, MatchOption}
 use Rattle.srs.specs.declared.placement.Placement.{Placement}
 use Rattle.srs.specs.Order.{placement_cmp}

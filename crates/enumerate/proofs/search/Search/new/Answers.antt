@@ -1,5 +1,5 @@
 -- A search that has yet to go to its start has all before it.
-use Rattle.std.proofs.Common.{◌≡◌, ◌≤◌, refl, sym, ap, ◌∙◌, arith}
+use Rattle.std.proofs.Common.{refl, sym, ap, ◌∙◌, arith}
 use Rattle.std.specs.Prelude.{None, filter}
 use Rattle.srs.specs.Order.{sequence_cmp}
 use Rattle.srs.specs.Rising.{is_above}

@@ -1,11 +1,11 @@
 -- What is still to come loses its first solution, which becomes the bound.
-use Rattle.std.proofs.Common.{◌≡◌, ℕ, ◌+◌, ◌-◌, ◌≤◌, [], ◌∷◌, List, take, refl, sym, ap, subst, ◌∙◌, arith}
+use Rattle.std.proofs.Common.{◌≡◌, [], ◌∷◌, take, refl, sym, ap, subst, ◌∙◌, arith}
 use Rattle.std.specs.Prelude.{None, Some, filter}
 use Rattle.srs.specs.Order.{sequence_cmp}
 use Rattle.srs.specs.Rising.{is_above}
 use Rattle.srs.specs.Rules.{table_of}
 use Rattle.enumerate.specs.Events.{found, floods}
-use Rattle.enumerate.specs.Frames.{path_of, stacked}
+use Rattle.enumerate.specs.Frames.{stacked}
 use Rattle.enumerate.specs.Items.{items_of}
 use Rattle.enumerate.specs.Rest.{rest_from, whole_from}
 use Rattle.enumerate.specs.ViewOf.{after_given, rest_of, solutions, view_of, whole_of, work}
