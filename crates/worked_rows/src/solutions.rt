@@ -47,28 +47,21 @@ fn path(
 fn one_piece(rt: HostRuntime) -> Result<(), Fail> {
     path(&rt, ONE, "1", "I", "avoid", b"I0:7,0\nend 1\n")?;
     path(&rt, ONE, "1", "T", "avoid", b"end 0\n")?;
-    path(&rt, "XXXXX_____", "1", "I", "use", b"end 0\n")
+    path(&rt, "XXXXX_____", "1", "I", "use", b"end 0\n")?;
+    path(&rt, "XXXXX_____", "1", "I", "avoid", b"end 0\n")
+}
+
+// The same over two rows, with hold and without.
+fn two_rows(rt: &(impl AllocGlobal + Abort), pieces: &str, output: &[u8]) -> Result<(), Fail> {
+    path(rt, TWO, "2", pieces, "use", output)?;
+    path(rt, TWO, "2", pieces, "avoid", output)
 }
 
 #[test]
 fn two_pieces(rt: HostRuntime) -> Result<(), Fail> {
-    path(&rt, TWO, "2", "II", "use", b"I0:7,0 I0:7,0\nend 1\n")?;
-    path(
-        &rt,
-        TWO,
-        "2",
-        "OO",
-        "use",
-        b"O0:6,0 O0:8,0\nO0:8,0 O0:6,0\nend 2\n",
-    )?;
-    path(
-        &rt,
-        TWO,
-        "2",
-        "LL",
-        "use",
-        b"L0:8,0 L2:7,1\nL2:7,1 L0:8,0\nend 2\n",
-    )
+    two_rows(&rt, "II", b"I0:7,0 I0:7,0\nend 1\n")?;
+    two_rows(&rt, "OO", b"O0:6,0 O0:8,0\nO0:8,0 O0:6,0\nend 2\n")?;
+    two_rows(&rt, "LL", b"L0:8,0 L2:7,1\nL2:7,1 L0:8,0\nend 2\n")
 }
 
 #[test]
