@@ -83,9 +83,6 @@ pub skips-flood : (old new : List Event) (before now : ℕ) → old ≡ Flood �
 unfolding found floods
 skips-flood old new before now e steps = record { same = ap found e; counted = omega (arith, ap floods e, steps); fewer = omega (arith, ap floods e) }
 
-pub skips-more : (a b c : List Event) (k l m : ℕ) → SkipsTo a b k l → SkipsTo b c l m → SkipsTo a c k m
-skips-more a b c k l m first second = record { same = first.same ∙ second.same; counted = first.counted ∙ second.counted; fewer = omega (arith, first.fewer, second.fewer) }
-
 pub skips-before : (a b c : List Event) (k l : ℕ) → SkipsTo a b k l → SkipsTo (a ++ c) (b ++ c) k l
 skips-before a b c k l skips = record {
   same = found-append a c ∙ ap (λ x. x ++ found c) skips.same ∙ sym (found-append b c);

@@ -2,9 +2,10 @@
 use Rattle.std.proofs.Common.{◌≡◌, ℕ, zero, suc, ◌<◌, Bool, true, false, not, ◌&&◌, ◌||◌, ◌==◌, Option, Some, None, refl, ap, ◌∙◌, sym, subst, inl, inr, ◌⊎◌, arith}
 use Rattle.std.proofs.lemmas.Bool.{cases_Bool, cases_lt}
 use Rattle.srs.specs.declared.piece.Piece.{Piece}
+use Rattle.queue_pattern.specs.Queues.{is_in}
 use Rattle.hold_queue.specs.declared.family.Family.{Family}
 use Rattle.hold_queue.specs.declared.family.Draw.{Draw}
-use Rattle.hold_queue.specs.Family.{has_set, is_in, with_piece, any_below, after_draw, IsDrawn}
+use Rattle.hold_queue.specs.Family.{has_set, with_piece, any_below, after_draw, IsDrawn}
 use Rattle.hold_queue.proofs.FamilyBits.{has_set-empty, has_set-one}
 
 pub or_cases : (a b : Bool) → (a || b) ≡ true → (a ≡ true) ⊎ (b ≡ true)

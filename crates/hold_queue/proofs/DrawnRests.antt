@@ -11,13 +11,13 @@ use Rattle.srs.proofs.ShapeLemmas.{each_piece}
 use Rattle.srs.proofs.MemberLemmas.{Contains-cases, Contains-none, Contains-filter, Contains-from_filter, Contains-flat_map, Contains-from_flat_map, Contains-map, Contains-from_map}
 use Rattle.queue_pattern.specs.declared.element.Element.{Element}
 use Rattle.queue_pattern.specs.Grammar.{set_of}
-use Rattle.queue_pattern.specs.Queues.{pieces_in, others, tails, falling_factor, queue_count}
+use Rattle.queue_pattern.specs.Queues.{is_in, pieces_in, others, tails, falling_factor, queue_count}
 use Rattle.queue_pattern.proofs.ChoiceLemmas.{IsSet, pieces_in-set, filter-set, others-set, length-others}
 use Rattle.queue_pattern.proofs.FallingLemmas.{falling_factor-more}
 use Rattle.queue_pattern.proofs.QueueLemmas.{tails-more, length-tails}
 use Rattle.hold_queue.specs.declared.family.Draw.{Draw}
 use Rattle.hold_queue.specs.declared.family.Family.{Family}
-use Rattle.hold_queue.specs.Family.{is_in, has_set, with_piece, any_below, after_draw, IsDrawn}
+use Rattle.hold_queue.specs.Family.{has_set, with_piece, any_below, after_draw, IsDrawn}
 use Rattle.hold_queue.specs.States.{in_progress, undrawn, rests, IsRest, IsRoomy}
 use Rattle.hold_queue.proofs.DrawLemmas.{any_below-from, any_below-to, not_true}
 use Rattle.hold_queue.proofs.RestLemmas.{stands, rests-done, set_after}

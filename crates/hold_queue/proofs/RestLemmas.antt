@@ -8,21 +8,11 @@ use Rattle.srs.specs.Piece.{all_pieces, piece_code}
 use Rattle.srs.proofs.ShapeLemmas.{each_piece}
 use Rattle.queue_pattern.specs.declared.element.Element.{Element}
 use Rattle.queue_pattern.specs.Grammar.{set_of}
-use Rattle.queue_pattern.specs.Queues.{pieces_in, others, queues, tails}
+use Rattle.queue_pattern.specs.Queues.{is_in, pieces_in, others, queues, tails}
 use Rattle.queue_pattern.proofs.QueueLemmas.{tails-none, queues-tails, queues-none}
-use Rattle.queue_pattern.proofs.SetLemmas.{filter_twice}
+use Rattle.queue_pattern.proofs.SetLemmas.{filter_twice, same, same_true}
 use Rattle.hold_queue.specs.declared.family.Draw.{Draw}
-use Rattle.hold_queue.specs.Family.{is_in}
 use Rattle.hold_queue.specs.States.{in_progress, undrawn, rests}
-
-abbrev same : Bool → Bool → Bool
-same a b = cond a b (not b)
-
-same_true : (a b : Bool) → same a b ≡ true → a ≡ b
-same_true true true e = refl
-same_true true false e = sym e
-same_true false true e = e
-same_true false false e = refl
 
 abbrev adds : ℕ → Piece → Piece → Bool
 adds set piece other = is_in piece set || same (not (is_in other (set + set_of piece))) (not (is_in other set) && not (piece_code other == piece_code piece))

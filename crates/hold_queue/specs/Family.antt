@@ -2,14 +2,10 @@
 use Rattle.std.specs.Prelude.{◌≡◌, ℕ, zero, suc, ◌-◌, ◌<◌, Bool, false, ◌&&◌, ◌||◌, ◌==◌, nat_lt, if◌then◌else◌, Option, Some, None}
 use Rattle.std.specs.Int.{bit_at}
 use Rattle.srs.specs.declared.piece.Piece.{Piece}
-use Rattle.srs.specs.Piece.{piece_code}
 use Rattle.queue_pattern.specs.Grammar.{set_of}
+use Rattle.queue_pattern.specs.Queues.{is_in}
 use Rattle.hold_queue.specs.declared.family.Family.{Family}
 use Rattle.hold_queue.specs.declared.family.Draw.{Draw}
-
--- whether a set of pieces has this piece
-abbrev pub is_in : Piece → ℕ → Bool
-is_in piece set = bit_at set (piece_code piece - 1) == 1
 
 -- whether a family has this set
 unfoldable pub has_set : Family → ℕ → Bool

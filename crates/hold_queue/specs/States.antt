@@ -5,11 +5,11 @@ use Rattle.std.specs.List.{list_any}
 use Rattle.srs.specs.declared.piece.Piece.{Piece}
 use Rattle.srs.specs.Piece.{all_pieces, piece_code}
 use Rattle.queue_pattern.specs.declared.element.Element.{Element}
-use Rattle.queue_pattern.specs.Queues.{pieces_in, queues, tails}
+use Rattle.queue_pattern.specs.Queues.{is_in, pieces_in, queues, tails}
 use Rattle.hold_queue.specs.declared.hold.Hold.{Hold}
 use Rattle.hold_queue.specs.declared.family.Family.{Family}
 use Rattle.hold_queue.specs.declared.family.Draw.{Draw}
-use Rattle.hold_queue.specs.Family.{has_set, is_in, any_below}
+use Rattle.hold_queue.specs.Family.{has_set, any_below}
 use Rattle.hold_queue.specs.Permits.{Way, some_permits}
 
 -- what the next piece is drawn from, after so many drawn pieces

@@ -1,5 +1,6 @@
 // How many pieces of one kind there are: in a pattern, held, and played.
 ghost use Rattle.std.specs.Prelude.{◌≡◌, ◌≤◌, ◌-◌, ◌==◌, length, count_by};
+ghost use Rattle.queue_pattern.specs.Queues.{is_in};
 ghost use Rattle.std.specs.Int.{bit_at};
 ghost use Rattle.srs.specs.Piece.{piece_code};
 ghost use Rattle.queue_pattern.specs.Pattern.{elements_of};
@@ -11,7 +12,7 @@ use srs::Piece;
 
 /// How many elements have this piece in their set.
 pub fn elements_with(pattern: &Pattern, piece: Piece) -> u8
-    ensures value { result ≡ count_by (λ element. bit_at element.set (piece_code piece - 1) == 1) (elements_of pattern.now) }
+    ensures value { result ≡ count_by (λ element. is_in piece element.set) (elements_of pattern.now) }
     ensures few { result ≤ 22 }
 {
     let mut count = 0;

@@ -1,9 +1,7 @@
 -- What callers know of the field of any board, and of full rows.
 use Rattle.std.proofs.Common.{◌≡◌, ℕ, ◌<◌, true, false, arith}
 use Rattle.std.specs.Int.{bit_at}
-use Rattle.std.proofs.lemmas.Bool.{eqb-true, eq-eqb, ne_eqb}
-use Rattle.std.proofs.lemmas.Bool.Decides.{nat_tests}
-use Rattle.std.proofs.lemmas.Nat.Bits.{bit_at-lt}
+use Rattle.std.proofs.lemmas.Bool.{eq-eqb, ne_eqb}
 use Rattle.lane_board.specs.Board.{field_of}
 use Rattle.lane_board.specs.Lanes.{has_bit}
 use Rattle.lane_board.specs.declared.board.LaneBoard.{LaneBoard}
@@ -13,15 +11,6 @@ use Rattle.lane_board.proofs.BoardRows.{cell_within}
 pub field_of-within : {N : ℕ} (b : LaneBoard N) (x y : ℕ) → field_of b x y ≡ true → (x < 10) × (y < N)
 unfolding field_of
 field_of-within {N} b x y filled = cell_within N b.rows x y b.size b.in_columns filled
-
--- a test of a bit, as `trailing_zeros` and its like speak of bits
-pub bit_from_true : (n k : ℕ) → has_bit n k ≡ true → bit_at n k ≡ 1
-unfolding has_bit
-bit_from_true n k set = eqb-true _ _ set
-
-pub bit_from_false : (n k : ℕ) → has_bit n k ≡ false → bit_at n k ≡ 0
-unfolding has_bit
-bit_from_false n k unset = grind (arith, nat_tests, bit_at-lt n k)
 
 pub true_from_bit : (n k : ℕ) → bit_at n k ≡ 1 → has_bit n k ≡ true
 unfolding has_bit

@@ -5,7 +5,7 @@ use Rattle.std.proofs.lemmas.List.Sums.{sum_by-cons}
 use Rattle.lane_board.specs.Field.{Field, with_cell}
 use Rattle.lane_board.specs.FullRows.{columns}
 use Rattle.lane_board.specs.CellCount.{row_count, cell_count}
-use Rattle.lane_board.proofs.CellCounts.{count_of, cell_count-same, row_count-same, row_count-empty}
+use Rattle.lane_board.proofs.CellCounts.{count_of, cell_count-same, row_count-same}
 use Rattle.lane_board.proofs.CellTests.{or_none}
 use Rattle.lane_board.proofs.RowTables.{column_is}
 
@@ -45,8 +45,3 @@ cell_count-with F column row (suc n) within below empty = elim (cases_eq row n) 
       omega (arith, under, ap (row_count (with_cell F column row)) same, ap (row_count F) same, row_count-with F column row within empty)
   | inr other ↦ omega (arith, cell_count-with F column row n within (omega (arith, other)) empty, row_count-elsewhere F column row n (λ e. other (sym e)))
 ]
-
--- an empty row adds nothing
-pub cell_count-empty_row : (F : Field) (n : ℕ) → ((x : ℕ) → F x n ≡ false) → cell_count F (suc n) ≡ cell_count F n
-unfolding cell_count
-cell_count-empty_row F n empty = omega (arith, row_count-empty F n empty)

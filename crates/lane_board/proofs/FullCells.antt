@@ -21,7 +21,3 @@ cell_from_full F x y column full = elim (cases_Bool (F x y)) [
 all_pass : (p : ℕ → Bool) (xs : List ℕ) → ((k : ℕ) → k < length xs → p (get_or xs k 0) ≡ true) → list_all p xs ≡ true
 all_pass p [] each = refl
 all_pass p (x ∷ xs) each = and_from _ _ (each 0 (omega arith)) (all_pass p xs (λ k below. each (suc k) (omega arith)))
-
-pub full_from_cells : (F : Field) (y : ℕ) → ((x : ℕ) → x < 10 → F x y ≡ true) → is_full F y ≡ true
-unfolding is_full
-full_from_cells F y filled = all_pass (λ x. F x y) columns (λ k below. ap (λ x. F x y) (column_is k below) ∙ filled k below)

@@ -1,13 +1,12 @@
 -- How many ordered choices there are.
 use Rattle.std.proofs.Common.{◌≡◌, ℕ, zero, suc, ◌+◌, ◌-◌, ◌<◌, ◌≤◌, Bool, true, false, not, cond, ◌==◌, List, [], ◌∷◌, length, refl, ap, ◌∙◌, arith, inl, inr, Contains, map, filter, count_by, get_or}
-use Rattle.std.specs.Int.{bit_at}
 use Rattle.std.proofs.lemmas.Bool.{cases_Bool}
 use Rattle.std.proofs.lemmas.List.{length-map}
 use Rattle.std.proofs.lemmas.List.Sums.{sum_by-cons, length-filter}
 use Rattle.srs.specs.declared.piece.Piece.{Piece}
 use Rattle.srs.specs.declared.piece.Piece.TheVariants.{I, L, O, Z, T, J, S}
 use Rattle.srs.specs.Piece.{all_pieces, piece_code}
-use Rattle.queue_pattern.specs.Queues.{pieces_in, others, choices, falling_factor}
+use Rattle.queue_pattern.specs.Queues.{is_in, pieces_in, others, choices, falling_factor}
 use Rattle.queue_pattern.proofs.UniformLemmas.{length-uniform}
 
 abbrev pub is : Piece → Piece → Bool
@@ -74,7 +73,7 @@ pub pieces_in-set : (set : ℕ) → IsSet (pieces_in set)
 unfolding pieces_in
 pieces_in-set set = record {
   once = λ piece.
-      let test : Piece → Bool = λ p. bit_at set (piece_code p - 1) == 1 in
+      let test : Piece → Bool = λ p. is_in p set in
       omega (arith, count-filter test (is piece) all_pieces, once_in_all piece);
 }
 

@@ -1,7 +1,6 @@
 -- A text is read element by element.
-use Rattle.std.proofs.Common.{◌≡◌, ℕ, List, [], ◌∷◌, ◌++◌, append_assoc, append-nil, refl, ap, sym, ◌∙◌, Ok, Err}
+use Rattle.std.proofs.Common.{◌≡◌, ℕ, List, [], ◌∷◌, ◌++◌, append_assoc, refl, ap, sym, ◌∙◌, Ok, Err}
 use Rattle.queue_pattern.specs.declared.element.Element.{Element}
-use Rattle.queue_pattern.specs.declared.fault.PatternFault.{PatternFault}
 use Rattle.queue_pattern.specs.Grammar.{Elements, elements, read_at, outside, before}
 
 -- these elements before those that follow
@@ -28,9 +27,3 @@ reads_none text = record { reads = go (elements text) }
     go : (read : Elements) → read ≡ after_front [] read
     go (Ok rest) = refl
     go (Err fault) = refl
-
-pub reads_end : (text : List ℕ) (front : List Element) (place : ℕ) → ReadsOn text front place → read_at text outside place ≡ Ok [] → elements text ≡ Ok front
-reads_end text front place so_far is = so_far.reads ∙ ap (after_front front) is ∙ ap Ok (append-nil front)
-
-pub reads_fault : (text : List ℕ) (front : List Element) (place : ℕ) (fault : PatternFault) → ReadsOn text front place → read_at text outside place ≡ Err fault → elements text ≡ Err fault
-reads_fault text front place fault so_far is = so_far.reads ∙ ap (after_front front) is

@@ -1,12 +1,12 @@
 -- One byte within brackets at a time.
-use Rattle.std.proofs.Common.{◌≡◌, ◌≢◌, ◌<◌, ◌≤◌, ◌+◌, ◌-◌, ◌^◌, lit<, ◌⊎◌, inl, inr, ℕ, List, length, get_or, refl, ap, sym, ◌∙◌, arith, Result, Ok, Err, Bool, true, false, subst, Option, Some, bit_or, ◌==◌}
-use Rattle.std.specs.Int.{bit_at}
+use Rattle.std.proofs.Common.{◌≡◌, ◌≢◌, ◌<◌, ◌≤◌, ◌+◌, ◌^◌, lit<, ◌⊎◌, inl, inr, ℕ, List, length, get_or, refl, ap, sym, ◌∙◌, arith, Result, Ok, Err, Bool, true, false, subst, Option, Some, bit_or}
+use Rattle.queue_pattern.specs.Queues.{is_in}
 use Rattle.std.proofs.lemmas.Bool.Decides.{nat_tests}
 use Rattle.std.proofs.lemmas.Bool.{cases_lt}
 use Rattle.srs.specs.declared.piece.Piece.{Piece}
 use Rattle.srs.specs.declared.piece.Piece.TheVariants.{I, L, O, Z, T, J, S}
 use Rattle.std.proofs.lemmas.Nat.{or_lt}
-use Rattle.srs.specs.Piece.{piece_code, piece_with_letter}
+use Rattle.srs.specs.Piece.{piece_with_letter}
 use Rattle.queue_pattern.specs.declared.fault.PatternFault.TheVariants.{RepeatedPiece}
 use Rattle.queue_pattern.specs.declared.fault.PatternFault.{PatternFault}
 use Rattle.queue_pattern.specs.Reading.{IsNextSet}
@@ -41,11 +41,11 @@ read_listed text start except listed place letter within other is =
 
 -- what a letter between brackets does: it is refused, or joins the listed pieces
 pub repeated : (start : ℕ) (except : Bool) (listed place : ℕ) (piece : Piece) (rest : Position → Elements)
-    → true ≡ (bit_at listed (piece_code piece - 1) == 1) → listed_step start except listed place (Some piece) rest ≡ Err (RepeatedPiece place)
+    → true ≡ is_in piece listed → listed_step start except listed place (Some piece) rest ≡ Err (RepeatedPiece place)
 repeated start except listed place piece rest is = rw (sym is) refl
 
 pub joined : (start : ℕ) (except : Bool) (listed place : ℕ) (piece : Piece) (rest : Position → Elements)
-    → false ≡ (bit_at listed (piece_code piece - 1) == 1)
+    → false ≡ is_in piece listed
     → listed_step start except listed place (Some piece) rest ≡ rest (listing start except (bit_or listed (set_of piece)))
 joined start except listed place piece rest is = rw (sym is) refl
 

@@ -1,7 +1,6 @@
 -- The list of queues rises, so no two of them are equal.
-use Rattle.std.proofs.Common.{◌≡◌, ◌≢◌, ℕ, zero, suc, ◌-◌, ◌<◌, not, ◌==◌, List, [], ◌∷◌, ◌++◌, length, map, slice_get, Some, refl, ap, sym, subst, ◌∙◌, arith}
+use Rattle.std.proofs.Common.{◌≡◌, ◌≢◌, ℕ, zero, suc, ◌<◌, not, ◌==◌, List, [], ◌∷◌, ◌++◌, length, map, slice_get, Some, refl, ap, sym, subst, ◌∙◌, arith}
 use Rattle.std.specs.List.Sorted.{IsStrictlySortedBy}
-use Rattle.std.specs.Int.{bit_at}
 use Rattle.std.specs.Ordering.{ordering_then}
 use Rattle.std.specs.declared.cmp.Ordering.{Ordering}
 use Rattle.std.specs.declared.cmp.Ordering.TheVariants.{Less, Equal, Greater}
@@ -13,7 +12,7 @@ use Rattle.srs.specs.Piece.{all_pieces, piece_code}
 use Rattle.srs.proofs.MemberLemmas.{Contains-none, Contains-from_map}
 use Rattle.srs.proofs.RisingLemmas.{rising-first, rising-rest, rising-none, rising-cons, rising-flat_map, rising-map}
 use Rattle.queue_pattern.specs.declared.element.Element.{Element}
-use Rattle.queue_pattern.specs.Queues.{pieces_in, others, choices, queues}
+use Rattle.queue_pattern.specs.Queues.{is_in, pieces_in, others, choices, queues}
 use Rattle.queue_pattern.specs.Order.{piece_cmp, queue_cmp}
 
 -- the order of lists of equal length, by their first difference
@@ -65,7 +64,7 @@ all_rise = ((refl, (refl, (refl, (refl, (refl, (refl, tt)))))), ((refl, (refl, (
 
 pieces_in-rise : (set : ℕ) → IsStrictlySortedBy piece_cmp (pieces_in set)
 unfolding pieces_in
-pieces_in-rise set = IsStrictlySortedBy-filter piece_cmp (λ p. bit_at set (piece_code p - 1) == 1) all_pieces all_rise
+pieces_in-rise set = IsStrictlySortedBy-filter piece_cmp (λ p. is_in p set) all_pieces all_rise
 
 choices-rise : (n : ℕ) (pieces : List Piece) → IsStrictlySortedBy piece_cmp pieces → IsStrictlySortedBy differ_cmp (choices pieces n)
 unfolding choices others

@@ -1,6 +1,5 @@
 -- Sets of pieces as bits: a set without one piece, and the piece with a number.
 use Rattle.std.proofs.Common.{◌≡◌, ℕ, ◌-◌, Bool, true, false, not, cond, ◌&&◌, ◌==◌, List, [], ◌∷◌, refl, ap, sym, ◌∙◌, bit_and, filter, inl, inr, drop, length, get_or, drop-cons, add-one, sub-one, zero, suc, Some, None, ◌≢◌, ◌≤◌, slice_get, ◌<◌, ◌+◌}
-use Rattle.std.specs.Int.{bit_at}
 use Rattle.std.specs.List.{list_all}
 use Rattle.std.proofs.lemmas.Bool.{agree_below_at, cases_Bool}
 use Rattle.std.proofs.lemmas.List.{drop_all}
@@ -8,30 +7,28 @@ use Rattle.std.proofs.lemmas.Option.{slice_get-get_or}
 use Rattle.srs.specs.declared.piece.Piece.{Piece}
 use Rattle.srs.specs.declared.piece.Piece.TheVariants.{I}
 use Rattle.srs.specs.Piece.{all_pieces, piece_code}
-use Rattle.queue_pattern.specs.Queues.{pieces_in, others}
+use Rattle.queue_pattern.specs.Queues.{is_in, pieces_in, others}
 use Rattle.srs.proofs.ShapeLemmas.{each_piece}
 use Rattle.queue_pattern.specs.Grammar.{set_of}
 use Rattle.queue_pattern.specs.Sound.{is_sound}
 
-abbrev same : Bool → Bool → Bool
+-- whether two tests answer alike
+abbrev pub same : Bool → Bool → Bool
 same a b = cond a b (not b)
 
-same_true : (a b : Bool) → same a b ≡ true → a ≡ b
+pub same_true : (a b : Bool) → same a b ≡ true → a ≡ b
 same_true true true e = refl
 same_true true false e = sym e
 same_true false true e = e
 same_true false false e = refl
 
-abbrev is_in : ℕ → Piece → Bool
-is_in set piece = bit_at set (piece_code piece - 1) == 1
-
 abbrev clears : ℕ → Piece → Piece → Bool
-clears set piece other = same (is_in (bit_and set (255 - set_of piece)) other) (is_in set other && not (piece_code other == piece_code piece))
+clears set piece other = same (is_in other (bit_and set (255 - set_of piece))) (is_in other set && not (piece_code other == piece_code piece))
 
 abbrev clears_all : ℕ → Bool
 clears_all set = list_all (λ piece. list_all (clears set piece) all_pieces) all_pieces
 
-cleared : (set : ℕ) → set < 128 → (piece other : Piece) → is_in (bit_and set (255 - set_of piece)) other ≡ (is_in set other && not (piece_code other == piece_code piece))
+cleared : (set : ℕ) → set < 128 → (piece other : Piece) → is_in other (bit_and set (255 - set_of piece)) ≡ (is_in other set && not (piece_code other == piece_code piece))
 cleared set within piece other =
     same_true _ _ (each_piece (clears set piece) (each_piece (λ p. list_all (clears set p) all_pieces) (agree_below_at clears_all (λ _. true) 128 set refl within) piece) other)
 
@@ -45,33 +42,33 @@ filter_twice p q r is (x ∷ xs) = elim (cases_Bool (p x)) [
 
 pub pieces_in-without : (set : ℕ) → set < 128 → (piece : Piece) → pieces_in (bit_and set (255 - set_of piece)) ≡ others piece (pieces_in set)
 unfolding pieces_in others
-pieces_in-without set within piece = filter_twice (is_in set) (λ other. not (piece_code other == piece_code piece)) (is_in (bit_and set (255 - set_of piece))) (cleared set within piece) all_pieces
+pieces_in-without set within piece = filter_twice (λ other. is_in other set) (λ other. not (piece_code other == piece_code piece)) (λ other. is_in other (bit_and set (255 - set_of piece))) (cleared set within piece) all_pieces
 
 -- those of some pieces that are in a set
 unfoldable pub members : ℕ → List Piece → List Piece
-members set pieces = filter (is_in set) pieces
+members set pieces = filter (λ piece. is_in piece set) pieces
 
 pub pieces_in-members : (set : ℕ) → pieces_in set ≡ members set all_pieces
 unfolding pieces_in members
 pieces_in-members set = refl
 
 -- the next piece is the first of those in the set, or it is not in it
-pub members-in : (set : ℕ) (pieces : List Piece) (i : ℕ) (d : Piece) → i < length pieces → is_in set (get_or pieces i d) ≡ true
+pub members-in : (set : ℕ) (pieces : List Piece) (i : ℕ) (d : Piece) → i < length pieces → is_in (get_or pieces i d) set ≡ true
     → members set (drop i pieces) ≡ get_or pieces i d ∷ members set (drop (i + 1) pieces)
 unfolding members
 members-in set pieces i d within inside = rw (drop-cons pieces i d, inside, add-one) refl
 
-pub members-out : (set : ℕ) (pieces : List Piece) (i : ℕ) (d : Piece) → i < length pieces → is_in set (get_or pieces i d) ≡ false
+pub members-out : (set : ℕ) (pieces : List Piece) (i : ℕ) (d : Piece) → i < length pieces → is_in (get_or pieces i d) set ≡ false
     → members set (drop i pieces) ≡ members set (drop (i + 1) pieces)
 unfolding members
 members-out set pieces i d within outside = rw (drop-cons pieces i d, outside, add-one) refl
 
 -- the piece with a number among those of a set: steps along the list of all pieces
-pub first_member : (set : ℕ) (pieces : List Piece) (i : ℕ) (d : Piece) → i < length pieces → is_in set (get_or pieces i d) ≡ true
+pub first_member : (set : ℕ) (pieces : List Piece) (i : ℕ) (d : Piece) → i < length pieces → is_in (get_or pieces i d) set ≡ true
     → slice_get (members set (drop i pieces)) 0 ≡ Some (get_or pieces i d)
 first_member set pieces i d within inside = rw (members-in set pieces i d within inside) refl
 
-pub later_member : (set : ℕ) (pieces : List Piece) (i left : ℕ) (d : Piece) → i < length pieces → is_in set (get_or pieces i d) ≡ true → left ≢ 0
+pub later_member : (set : ℕ) (pieces : List Piece) (i left : ℕ) (d : Piece) → i < length pieces → is_in (get_or pieces i d) set ≡ true → left ≢ 0
     → slice_get (members set (drop i pieces)) left ≡ slice_get (members set (drop (i + 1) pieces)) (left - 1)
 later_member set pieces i zero d within inside some = absurd (some refl)
 later_member set pieces i (suc left) d within inside some = rw (members-in set pieces i d within inside, sub-one) refl

@@ -1,12 +1,11 @@
 -- The grammar as a relation and the function that reads a text agree: what is read is spelled.
 use Rattle.std.proofs.Common.{◌≡◌, ◌≢◌, ℕ, ◌+◌, ◌-◌, ◌<◌, ◌≤◌, Bool, true, false, not, cond, ◌&&◌, ◌||◌, ◌==◌, nat_lt, nat_le, ltb-true, leb-true, eqb-true, List, [], ◌∷◌, ◌++◌, length, append_assoc, bit_or, refl, ap, sym, subst, ◌∙◌, arith, Option, Some, None, Ok, Err, inl, inr, ◌⊎◌}
-use Rattle.std.specs.Int.{bit_at}
 use Rattle.std.proofs.lemmas.Bool.{cases_Bool, and_parts}
 use Rattle.srs.specs.declared.piece.Piece.{Piece}
-use Rattle.srs.specs.Piece.{piece_code, piece_with_letter}
+use Rattle.srs.specs.Piece.{piece_with_letter}
 use Rattle.queue_pattern.specs.declared.element.Element.{Element}
 use Rattle.queue_pattern.specs.declared.fault.PatternFault.TheVariants.{TooManyChosen}
-use Rattle.queue_pattern.specs.Queues.{pieces_in}
+use Rattle.queue_pattern.specs.Queues.{is_in, pieces_in}
 use Rattle.queue_pattern.specs.Grammar.{Position, Elements, outside, opened, listing, closed, choosing, choice, before, bracketed, is_gap, set_of, all_set, step, outside_step, letter_step, listing_step, listed_step, opened_step, closed_step, choosing_step, end, elements_from}
 use Rattle.queue_pattern.specs.Spelling.{SpellsLetters, SpellsSet, all, these, others, SpellsChosen, one, digit, every, letter, chosen, SpellsElements, none, gap, element}
 
@@ -159,7 +158,7 @@ listing-goes start except so_far place byte bytes rest elements ih h = elim (on_
 
     letters : (o : Option Piece) → piece_with_letter byte ≡ o → listed_step start except so_far place o rest ≡ Ok elements → Lists except so_far (byte ∷ bytes) elements
     letters None is h = cc
-    letters (Some piece) is h = elim (on_if (bit_at so_far (piece_code piece - 1) == 1) _ _ _ h) [
+    letters (Some piece) is h = elim (on_if (is_in piece so_far) _ _ _ h) [
       | inl twice ↦ cc
       | inr once ↦
           let lists = ih (listing start except (bit_or so_far (set_of piece))) elements once.1 in

@@ -1,12 +1,11 @@
 -- The grammar of pattern texts: their elements, or the first fault from the left.
 use Rattle.std.specs.Prelude.{ℕ, ◌+◌, ◌-◌, ◌^◌, Bool, true, false, not, ◌&&◌, ◌||◌, ◌==◌, nat_lt, nat_le, if◌then◌else◌, List, [], ◌∷◌, length, bit_or, Option, Some, None, Result, Ok, Err, drop}
-use Rattle.std.specs.Int.{bit_at}
 use Rattle.srs.specs.declared.piece.Piece.{Piece}
 use Rattle.srs.specs.Piece.{piece_code, piece_with_letter}
 use Rattle.queue_pattern.specs.declared.element.Element.{Element}
 use Rattle.queue_pattern.specs.declared.fault.PatternFault.{PatternFault}
 use Rattle.queue_pattern.specs.declared.fault.PatternFault.TheVariants.{Unexpected, RepeatedPiece, TooManyChosen, PatternTooLong, TooManyQueues}
-use Rattle.queue_pattern.specs.Queues.{pieces_in, queue_len, queue_count}
+use Rattle.queue_pattern.specs.Queues.{is_in, pieces_in, queue_len, queue_count}
 
 -- the set of one piece
 abbrev pub set_of : Piece → ℕ
@@ -67,7 +66,7 @@ outside_step place byte rest =
 abbrev pub listed_step : ℕ → Bool → ℕ → ℕ → Option Piece → (Position → Elements) → Elements
 listed_step start except listed place None rest = Err (Unexpected place)
 listed_step start except listed place (Some piece) rest =
-    if bit_at listed (piece_code piece - 1) == 1 then Err (RepeatedPiece place)
+    if is_in piece listed then Err (RepeatedPiece place)
     else rest (listing start except (bit_or listed (set_of piece)))
 
 abbrev pub listing_step : ℕ → Bool → ℕ → ℕ → ℕ → (Position → Elements) → Elements

@@ -1,14 +1,18 @@
 -- The queues that a list of elements stands for.
-use Rattle.std.specs.Prelude.{ℕ, zero, suc, ◌-◌, ◌*◌, not, ◌==◌, List, [], ◌∷◌, ◌++◌, map, filter, length, sum_by}
+use Rattle.std.specs.Prelude.{ℕ, zero, suc, ◌-◌, ◌*◌, Bool, not, ◌==◌, List, [], ◌∷◌, ◌++◌, map, filter, length, sum_by}
 use Rattle.std.specs.List.{flat_map}
 use Rattle.std.specs.Int.{bit_at}
 use Rattle.srs.specs.declared.piece.Piece.{Piece}
 use Rattle.srs.specs.Piece.{all_pieces, piece_code}
 use Rattle.queue_pattern.specs.declared.element.Element.{Element}
 
+-- whether a set of pieces has this piece
+abbrev pub is_in : Piece → ℕ → Bool
+is_in piece set = bit_at set (piece_code piece - 1) == 1
+
 -- the pieces of a set, in the order of their codes
 unfoldable pub pieces_in : ℕ → List Piece
-pieces_in set = filter (λ piece. bit_at set (piece_code piece - 1) == 1) all_pieces
+pieces_in set = filter (λ piece. is_in piece set) all_pieces
 
 -- the pieces of a list other than this one
 unfoldable pub others : Piece → List Piece → List Piece

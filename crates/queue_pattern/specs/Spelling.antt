@@ -1,17 +1,16 @@
 -- The grammar of pattern texts as a relation: which texts spell which elements.
-use Rattle.std.specs.Prelude.{◌≡◌, ◌≢◌, ℕ, ◌+◌, ◌-◌, ◌<◌, ◌≤◌, ◌==◌, true, false, ◌⊎◌, List, [], ◌∷◌, ◌++◌, length, bit_or, Some}
-use Rattle.std.specs.Int.{bit_at}
+use Rattle.std.specs.Prelude.{◌≡◌, ◌≢◌, ℕ, ◌+◌, ◌-◌, ◌<◌, ◌≤◌, true, false, ◌⊎◌, List, [], ◌∷◌, ◌++◌, length, bit_or, Some}
 use Rattle.srs.specs.declared.piece.Piece.{Piece}
-use Rattle.srs.specs.Piece.{piece_code, piece_with_letter}
+use Rattle.srs.specs.Piece.{piece_with_letter}
 use Rattle.queue_pattern.specs.declared.element.Element.{Element}
-use Rattle.queue_pattern.specs.Queues.{pieces_in}
+use Rattle.queue_pattern.specs.Queues.{is_in, pieces_in}
 use Rattle.queue_pattern.specs.Grammar.{set_of, all_set, is_gap}
 
 -- letters of different pieces, none of which is in a set so far, and that set with them
 abbrev pub SpellsLetters : ℕ → List ℕ → ℕ → Type 0
 SpellsLetters so_far [] set = so_far ≡ set
 SpellsLetters so_far (byte ∷ bytes) set =
-    (piece : Piece) × (piece_with_letter byte ≡ Some piece) × ((bit_at so_far (piece_code piece - 1) == 1) ≡ false) × SpellsLetters (bit_or so_far (set_of piece)) bytes set
+    (piece : Piece) × (piece_with_letter byte ≡ Some piece) × (is_in piece so_far ≡ false) × SpellsLetters (bit_or so_far (set_of piece)) bytes set
 
 -- `*` for all pieces; one or more letters between brackets, for theirs; or after `^` for all others
 pub data SpellsSet : List ℕ → ℕ → Type 0 where

@@ -1,5 +1,6 @@
 // An element of a pattern.
 ghost use Rattle.std.specs.Prelude.{◌≡◌, ◌-◌, ◌==◌};
+ghost use Rattle.queue_pattern.specs.Queues.{is_in};
 ghost use Rattle.std.specs.Int.{bit_at};
 ghost use Rattle.srs.specs.Piece.{piece_code};
 
@@ -18,7 +19,7 @@ pub struct Element {
 impl Element {
     /// Whether the element's set has this piece.
     pub fn has(self, piece: Piece) -> bool
-        ensures { result ≡ (bit_at self.set (piece_code piece - 1) == 1) }
+        ensures { result ≡ is_in piece self.set }
     {
         is_in(piece, self.set)
     }

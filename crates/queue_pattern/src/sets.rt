@@ -2,7 +2,7 @@
 ghost use Rattle.std.specs.Prelude.{◌≡◌, ℕ, ◌-◌, ◌<◌, ◌≤◌, ◌==◌, length, IsTrue, Some, slice_get};
 ghost use Rattle.std.specs.Int.{bit_at};
 ghost use Rattle.srs.specs.Piece.{piece_code};
-ghost use Rattle.queue_pattern.specs.Queues.{pieces_in, others};
+ghost use Rattle.queue_pattern.specs.Queues.{is_in, pieces_in, others};
 ghost use Rattle.queue_pattern.specs.Grammar.{set_of};
 
 use srs::Piece;
@@ -12,7 +12,7 @@ pub const ALL: u8 = 127;
 
 /// Whether a set has this piece.
 pub fn is_in(piece: Piece, set: u8) -> bool
-    ensures { result ≡ (bit_at set (piece_code piece - 1) == 1) }
+    ensures { result ≡ is_in piece set }
 {
     set >> (piece.code() - 1) & 1 == 1
 }

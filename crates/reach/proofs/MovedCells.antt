@@ -1,7 +1,7 @@
 -- Which cells a moved field has.
 use Rattle.std.proofs.Common.{◌≡◌, ℕ, ◌<◌, true, ℤ, pos, negsuc, ◌+ℤ◌, ◌-ℤ◌, refl, ap, subst, arith}
 use Rattle.std.specs.Prelude.{neg_ℤ}
-use Rattle.std.proofs.lemmas.Bool.{and_parts, and_from, lt-ltb, ltb-true, false≢true}
+use Rattle.std.proofs.lemmas.Bool.{and_parts, and_from, lt-ltb, false≢true}
 use Rattle.std.proofs.lemmas.Int.{ints}
 use Rattle.lane_board.specs.Field.{Field, has_cell, rows_below, moved_within}
 use Rattle.srs.specs.Cells.{Cell, moved}
@@ -28,13 +28,6 @@ moved_from S n move x y filled = at (pos x -ℤ move.0) (pos y -ℤ move.1) refl
     at (pos a) (negsuc b) p q has = absurd (false≢true has)
     at (negsuc a) (pos b) p q has = absurd (false≢true has)
     at (negsuc a) (negsuc b) p q has = absurd (false≢true has)
-
-pub moved_inside : (S : Field) (n : ℕ) (dx dy : ℤ) (x y : ℕ) → moved_within S n dx dy x y ≡ true → (x < 10) × (y < n)
-unfolding moved_within rows_below
-moved_inside S n dx dy x y filled =
-    let parts = and_parts (rows_below n x y) _ filled in
-    let sides = and_parts _ _ parts.0 in
-    (ltb-true x 10 sides.0, ltb-true y n sides.1)
 
 pub moved_to : (S : Field) (n : ℕ) (move : Cell) (a b x y : ℕ) → S a b ≡ true → moved (pos a, pos b) move ≡ (pos x, pos y) → x < 10 → y < n → moved_within S n move.0 move.1 x y ≡ true
 unfolding moved_within rows_below has_cell moved

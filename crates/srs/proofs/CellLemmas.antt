@@ -100,9 +100,6 @@ is_same_cells-decides xs ys =
           (list_all-from_has_cell (has_cell xs) ys (λ c has. h.same c ∙ has)),
     )
 
-pub same_cells-refl : (xs : List Cell) → SameCells xs xs
-same_cells-refl xs = record { same = λ c. refl }
-
 pub same_cells-sym : {xs ys : List Cell} → SameCells xs ys → SameCells ys xs
 same_cells-sym h = record { same = λ c. sym (h.same c) }
 

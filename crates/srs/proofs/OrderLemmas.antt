@@ -80,8 +80,3 @@ sequence_cmp-first x y xs ys e = ap (λ r. ordering_then r (sequence_cmp xs ys))
 pub sequence_cmp-append : (front xs ys : List Placement) → sequence_cmp (front ++ xs) (front ++ ys) ≡ sequence_cmp xs ys
 sequence_cmp-append [] xs ys = refl
 sequence_cmp-append (x ∷ front) xs ys = ap (λ r. ordering_then r (sequence_cmp (front ++ xs) (front ++ ys))) (tied_itself placement_cmp-total x) ∙ sequence_cmp-append front xs ys
-
--- a sequence that begins another one comes before it
-pub sequence_cmp-front : (front : List Placement) (y : Placement) (ys : List Placement) → sequence_cmp front (front ++ y ∷ ys) ≡ Less
-sequence_cmp-front [] y ys = refl
-sequence_cmp-front (x ∷ front) y ys = ap (λ r. ordering_then r (sequence_cmp front (front ++ y ∷ ys))) (tied_itself placement_cmp-total x) ∙ sequence_cmp-front front y ys

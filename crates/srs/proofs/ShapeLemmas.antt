@@ -6,11 +6,11 @@ use Rattle.srs.specs.declared.piece.Piece.TheVariants.{I, L, O, Z, T, J, S}
 use Rattle.srs.specs.declared.rotation.Rotation.{Rotation}
 use Rattle.srs.specs.declared.rotation.Rotation.TheVariants.{Spawn, Right, Reverse, Left}
 use Rattle.srs.specs.Piece.{all_pieces, piece_code}
-use Rattle.srs.specs.Rotation.{all_rotations, rotation_place, clockwise_of}
-use Rattle.srs.specs.Cells.{Cell, moved, turned, shape, is_near}
-use Rattle.srs.specs.SameCells.{cells_eq, has_cell, SameCells}
+use Rattle.srs.specs.Rotation.{all_rotations, rotation_place}
+use Rattle.srs.specs.Cells.{Cell, moved, shape, is_near}
+use Rattle.srs.specs.SameCells.{has_cell, SameCells}
 use Rattle.srs.specs.Canonical.{canonical_rotation, canonical_move, rotation_count}
-use Rattle.srs.proofs.CellLemmas.{origin, cells_eq-decides, fits, is_apart, is_still, same_cells-from}
+use Rattle.srs.proofs.CellLemmas.{origin, fits, is_apart, is_still, same_cells-from}
 use Rattle.srs.proofs.ListLemmas.{and_both, list_all_each}
 
 or_false : (a b : Bool) → a ≡ false → (a || b) ≡ true → b ≡ true
@@ -91,10 +91,6 @@ canonical_earlier p r other = or_false _ _ other (each_state (λ p r. nat_lt (ro
 -- the canonical rotation has cells of its own
 pub canonical_rotation_own : (p : Piece) (r : Rotation) → nat_lt (rotation_place (canonical_rotation p r)) (rotation_count p) ≡ true
 canonical_rotation_own = each_state (λ p r. nat_lt (rotation_place (canonical_rotation p r)) (rotation_count p)) refl
-
--- a quarter turn clockwise turns the shape
-pub shape-clockwise : (p : Piece) (r : Rotation) → shape p (clockwise_of r) ≡ map turned (shape p r)
-shape-clockwise p r = (cells_eq-decides _ _).0 (each_state (λ p r. cells_eq (shape p (clockwise_of r)) (map turned (shape p r))) refl p r)
 
 -- no cell is more than two columns or rows from the pivot
 pub shape_near : (p : Piece) (r : Rotation) → list_all is_near (shape p r) ≡ true

@@ -1,5 +1,5 @@
 -- The cells of a placement one by one, how many cells locking leaves, and below which row they lie.
-use Rattle.std.proofs.Common.{◌≡◌, ℕ, zero, suc, ◌+◌, ◌-◌, ◌<◌, ◌≤◌, Bool, true, false, not, ◌&&◌, ◌||◌, ◌==◌, pos, negsuc, nat_le, ◌+ℤ◌, nat_abs, List, [], ◌∷◌, length, get_or, map, refl, sym, ap, ◌∙◌, arith}
+use Rattle.std.proofs.Common.{◌≡◌, ℕ, zero, suc, ◌+◌, ◌-◌, ◌≤◌, Bool, true, false, not, ◌&&◌, ◌||◌, ◌==◌, pos, negsuc, nat_le, ◌+ℤ◌, nat_abs, List, [], ◌∷◌, length, get_or, map, refl, sym, ap, ◌∙◌, arith}
 use Rattle.std.specs.Prelude.{int_lt}
 use Rattle.std.proofs.Math.Path.{fun_ext}
 use Rattle.std.specs.List.{list_all}
@@ -203,8 +203,3 @@ stays_below F q height within below placed x y above =
 pub removes_below : RemovesBelow
 unfolding rows_removed
 removes_below F q height within below placed = omega (arith, full_below_height (together F q) height within (together_below F q height below placed), full_below-le (together F q) height)
-
--- no cell is left in the rows from 23 less the removed ones on
-pub locked_below : (F : Field) (q : Placement) (x y : ℕ) → locked F q x y ≡ true → y + rows_removed F q < 23
-unfolding locked rows_removed
-locked_below F q x y left = left_below (together F q) 23 x y left

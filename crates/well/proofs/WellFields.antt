@@ -21,9 +21,6 @@ filled-within w x y has =
     let not_top : y ≢ 23 = λ e. both_ways _ (w.top_is_empty x) (subst (λ y. filled w x y ≡ true) e has) in
     (on_board.0, omega (arith, on_board.1, not_top))
 
-pub filled-above : (w : Well) (x y : ℕ) → 23 ≤ y → filled w x y ≡ false
-filled-above w x y above = false_from_ne_true _ (λ has. omega (arith, (filled-within w x y has).1))
-
 -- a cell in another row changes nothing in this one
 pub with_cell-other_row : (F : Field) (column row x y : ℕ) → y ≢ row → F x y ≡ false → with_cell F column row x y ≡ false
 unfolding with_cell
