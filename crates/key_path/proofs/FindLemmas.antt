@@ -1,0 +1,294 @@
+-- The search for a key word, turn by turn: what is found and marked, and the word that it ends with.
+use Rattle.std.proofs.Common.{◌≡◌, ℕ, ◌+◌, ◌-◌, ◌≤◌, true, false, Option, Some, None, List, [], ◌∷◌, ◌++◌, length, map, drop, refl, sym, ap, subst, ◌∙◌, inl, inr, arith}
+use Rattle.std.specs.Prelude.{Contains, replicate, reverse, slice_get}
+use Rattle.std.specs.List.{count_by}
+use Rattle.std.proofs.lemmas.Bool.{false≢true, cond-true, cond-false}
+use Rattle.std.proofs.lemmas.List.{length-append, length-map, length-reverse, map-append, reverse-reverse}
+use Rattle.std.proofs.lemmas.List.Elements.{Contains-push, Contains-push_cases}
+use Rattle.lane_board.specs.Field.{Field}
+use Rattle.srs.specs.declared.placement.Placement.{Placement}
+use Rattle.srs.specs.Kick.{Table}
+use Rattle.srs.specs.SameCells.{HasSameCells}
+use Rattle.srs.proofs.CellLemmas.{same_cells-sym, same_cells-trans}
+use Rattle.srs.proofs.CanonicalLemmas.{same_cells-piece}
+use Rattle.srs.proofs.MemberLemmas.{Contains-here, Contains-cases, Contains-none}
+use Rattle.well.specs.Free.{is_free}
+use Rattle.well.proofs.FreeLemmas.{free_pivot_inside}
+use Rattle.moves.specs.declared.key.Key.{Key}
+use Rattle.moves.specs.declared.key.DropMode.{DropMode}
+use Rattle.moves.specs.Keys.{allows}
+use Rattle.moves.specs.Leads.{spawn_of, spawned, leads}
+use Rattle.moves.specs.PlaceTest.{comes_to_rest}
+use Rattle.moves.specs.Place.{LeadsToRest}
+use Rattle.moves.specs.Step.{step_of}
+use Rattle.moves.specs.Walk.{led}
+use Rattle.moves.proofs.StepLemmas.{IsFreeState, step_is_finite, step_of-free}
+use Rattle.moves.proofs.WalkLemmas.{Leads, led_good, led_none, some_same, not_some}
+use Rattle.circular_buffer.specs.Buffer.{Buffer, buffer, keep_last}
+use Rattle.key_path.specs.declared.marks.Mark.{Mark}
+use Rattle.key_path.specs.declared.marks.Mark.TheVariants.{Unseen, Start, From}
+use Rattle.key_path.specs.Words.{key_place}
+use Rattle.key_path.specs.KeyWord.{IsKeyWord}
+use Rattle.key_path.specs.Marks.{IsPivot, marked, is_unseen, Traces, new_state}
+use Rattle.key_path.proofs.WordLemmas.{not_earlier, not_after-front}
+use Rattle.key_path.specs.Search.{Item, with_key, IsSought, IsAhead, IsPressed, IsNoted, IsFinding, IsTrying, IsReached}
+use Rattle.key_path.proofs.SearchLemmas.{sought_first, ahead_first, taken, pressed_again, pressed_new, sought_new, sought_next, ahead_next, all_found, found_before}
+use Rattle.key_path.proofs.MarkLemmas.{noted_first, noted_new, traces_once, room_left, one_state, count_marked}
+use Rattle.key_path.proofs.KeyWordLemmas.{way_of, from_way, least_is_short}
+use Rattle.key_path.proofs.NewStates.{IsNew, new_is, none_new}
+
+-- a buffer with room for one more item keeps all
+pub pushed : {X : Type 0} (before after : Buffer X) (x : X) → after ≡ buffer (keep_last before.capacity (before.items ++ x ∷ [])) before.capacity → length (before.items ++ x ∷ []) ≤ before.capacity → after.items ≡ before.items ++ x ∷ []
+pushed {X} before after x is fits =
+    let none : length (before.items ++ x ∷ []) - before.capacity ≡ 0 = omega arith in
+    ap (λ (b : Buffer X). b.items) is ∙ ap (λ k. drop k (before.items ++ x ∷ [])) none
+
+-- placements with the same cells have the same key words
+led_to_other : (table : Table) (F : Field) (mode : DropMode) (p q : Placement) (word : List Key) → HasSameCells p q → LeadsToRest table F mode word p → LeadsToRest table F mode word q
+led_to_other table F mode p q word same way = record {
+  allowed = way.allowed;
+  state = way.state;
+  reached = subst (λ piece. leads table F piece word ≡ Some way.state) (same_cells-piece p q same) way.reached;
+  rest = way.rest;
+  rests = way.rests;
+  same_cells = same_cells-trans way.same_cells same;
+}
+
+pub one_word : (table : Table) (F : Field) (mode : DropMode) (aim target : Placement) → HasSameCells aim target → (a : Option (List Key)) → IsKeyWord table F mode aim a → IsKeyWord table F mode target a
+one_word table F mode aim target same None is = record { none = λ word led above. is.none word (led_to_other table F mode target aim word (same_cells-sym same) led) above }
+one_word table F mode aim target same (Some word) is = record {
+  member = led_to_other table F mode aim target word same is.member;
+  above = is.above;
+  least = λ other led above. is.least other (led_to_other table F mode target aim other (same_cells-sym same) led) above;
+}
+
+spawned-some : (F : Field) (s : Placement) → is_free F (spawn_of s.piece) ≡ true → spawned F s.piece ≡ Some (spawn_of s.piece)
+unfolding spawned
+spawned-some F s free = cond-true _ (Some (spawn_of s.piece)) None free
+
+spawned-none : (F : Field) (s : Placement) → is_free F (spawn_of s.piece) ≡ false → spawned F s.piece ≡ None
+unfolding spawned
+spawned-none F s blocked = cond-false _ (Some (spawn_of s.piece)) None blocked
+
+module _ (table : Table) (F : Field) (mode : DropMode) (target : Placement) where
+  -- where the spawn is not free no word leads anywhere
+  pub no_spawn : is_free F (spawn_of target.piece) ≡ false → IsKeyWord table F mode target None
+  no_spawn blocked = record {
+    none = λ word leads above.
+        let way = way_of table F mode target word leads in
+        not_some (sym (led_none (step_of table F) word) ∙ sym (ap (λ s. led (step_of table F) s word) (spawned-none F target blocked)) ∙ way.leads.reached);
+  }
+
+  -- where the spawn comes to rest there, the word with no key is the least
+  pub spawn_word : is_free F (spawn_of target.piece) ≡ true → comes_to_rest F target (spawn_of target.piece) ≡ true → IsKeyWord table F mode target (Some [])
+  spawn_word free rests = record {
+    member = from_way table F mode target [] (record { state = spawn_of target.piece; leads = record { each = refl; reached = spawned-some F target free }; rests = rests });
+    above = refl;
+    least = λ other leads above less. not_earlier [] other (not_after-front [] other) less;
+  }
+
+  pub finding_first : (marks : List Mark) (waiting : List Placement) → is_free F (spawn_of target.piece) ≡ true → comes_to_rest F target (spawn_of target.piece) ≡ false →
+      marks ≡ marked (replicate 920 Unseen) (spawn_of target.piece) Start → waiting ≡ spawn_of target.piece ∷ [] → IsFinding table F mode target marks waiting
+  finding_first marks waiting free misses set alone = record {
+    items = start ∷ [];
+    front = start ∷ [];
+    states = alone;
+    few = omega arith;
+    sought = sought_first (step_of table F) (allows mode) (spawn_of target.piece);
+    ahead = ahead_first (step_of table F) (allows mode) (spawn_of target.piece);
+    noted = subst (λ marks. IsNoted marks (start ∷ [])) (sym set) (noted_first (spawn_of target.piece) pivot);
+    misses = λ x among. elim (Contains-cases start [] x among) [
+      | inl here ↦ subst (λ x. comes_to_rest F target x.state ≡ false) here misses
+      | inr none ↦ absurd (Contains-none x none)
+    ];
+  }
+    where
+      start : Item
+      start = record { state = spawn_of target.piece; word = [] }
+
+      pivot : IsPivot (spawn_of target.piece)
+      pivot = record { in_columns = omega arith; in_rows = omega arith }
+
+  -- the first state that waits is taken
+  pub trying_first : (marks : List Mark) (waiting rest : List Placement) (state : Placement) → slice_get waiting 0 ≡ Some state → rest ≡ drop 1 waiting → IsFinding table F mode target marks waiting → IsTrying table F mode target marks rest state 0
+  trying_first marks waiting rest state head tail finding = by_front finding.front refl
+    where
+      by_front : (front : List Item) → finding.front ≡ front → IsTrying table F mode target marks rest state 0
+      by_front [] e = absurd (not_some (sym (ap (λ xs. slice_get xs 0) (finding.states ∙ ap (map (λ (x : Item). x.state)) e)) ∙ head))
+      by_front (x ∷ front) e =
+          let states : waiting ≡ x.state ∷ map (λ (x : Item). x.state) front = finding.states ∙ ap (map (λ (x : Item). x.state)) e in
+          record {
+            items = finding.items;
+            x = x;
+            front = front;
+            at = some_same (sym (ap (λ xs. slice_get xs 0) states) ∙ head);
+            states = tail ∙ ap (drop 1) states;
+            few = omega (arith, finding.few, ap (λ (xs : List Item). length xs) e);
+            sought = subst (IsSought (step_of table F) (allows mode) (spawn_of target.piece) finding.items) e finding.sought;
+            pressed = taken (step_of table F) (allows mode) (spawn_of target.piece) finding.items x front (subst (IsAhead (step_of table F) (allows mode) (spawn_of target.piece) finding.items) e finding.ahead);
+            noted = finding.noted;
+            misses = finding.misses;
+          }
+
+  -- when all keys were tried, the next is to be taken
+  pub finding_next : (marks : List Mark) (waiting : List Placement) (state : Placement) → IsTrying table F mode target marks waiting state 5 → IsFinding table F mode target marks waiting
+  finding_next marks waiting state trying = record {
+    items = trying.items;
+    front = trying.front;
+    states = trying.states;
+    few = omega (arith, trying.few);
+    sought = sought_next (step_of table F) (allows mode) (spawn_of target.piece) trying.items trying.x trying.front trying.sought trying.pressed;
+    ahead = ahead_next (step_of table F) (allows mode) (spawn_of target.piece) trying.items trying.x trying.front trying.sought trying.pressed;
+    noted = trying.noted;
+    misses = trying.misses;
+  }
+
+  -- each state that was found is a free state of the piece
+  found_free : is_free F (spawn_of target.piece) ≡ true → (items front : List Item) → IsSought (step_of table F) (allows mode) (spawn_of target.piece) items front → (x : Item) → Contains items x → IsFreeState F target.piece x.state
+  found_free free items front sought x among =
+      led_good (step_is_finite table F target.piece) (Some (spawn_of target.piece)) (λ s e. subst (IsFreeState F target.piece) (some_same e) (record { kind = refl; free = free })) x.word x.state (sought.reached x among).reached
+
+  pub pivot_of_free : (s : Placement) → is_free F s ≡ true → IsPivot s
+  pivot_of_free s free = let inside = free_pivot_inside F s free in record { in_columns = inside.in_columns; in_rows = inside.in_rows }
+
+  -- the state whose keys are tried is free
+  pub trying_free : is_free F (spawn_of target.piece) ≡ true → (marks : List Mark) (waiting : List Placement) (state : Placement) (n : ℕ) → IsTrying table F mode target marks waiting state n → is_free F state ≡ true
+  trying_free free marks waiting state n trying =
+      subst (λ s. is_free F s ≡ true) trying.at (found_free free trying.items (trying.x ∷ trying.front) trying.sought trying.x (trying.sought.among trying.x (Contains-here trying.x trying.front))).free
+
+  -- a key that leads to no new state
+  pub trying_same : is_free F (spawn_of target.piece) ≡ true → (marks : List Mark) (waiting : List Placement) (state : Placement) (n : ℕ) (key : Key) → key_place key ≡ n → new_state table F mode marks state key ≡ None → IsTrying table F mode target marks waiting state n → IsTrying table F mode target marks waiting state (n + 1)
+  trying_same free marks waiting state n key place none trying = record {
+    items = trying.items;
+    x = trying.x;
+    front = trying.front;
+    at = trying.at;
+    states = trying.states;
+    few = trying.few;
+    sought = trying.sought;
+    pressed = pressed_again (step_of table F) (allows mode) (spawn_of target.piece) trying.items trying.x n key place known trying.pressed;
+    noted = trying.noted;
+    misses = trying.misses;
+  }
+    where
+      known : (t : Placement) → allows mode key ≡ true → step_of table F trying.x.state key ≡ Some t → (y : Item) × Contains trying.items y × (y.state ≡ t)
+      known t may e =
+          let moves = subst (λ s. step_of table F s key ≡ Some t) trying.at e in
+          let found = trying.noted.seen t (none_new table F mode marks state key none t may moves) in
+          let here = found_free free trying.items (trying.x ∷ trying.front) trying.sought trying.x (trying.sought.among trying.x (Contains-here trying.x trying.front)) in
+          let there = found_free free trying.items (trying.x ∷ trying.front) trying.sought found.0 found.1 in
+          let after = (step_is_finite table F target.piece).kept trying.x.state key t here e in
+          (found.0, found.1, one_state found.0.state t (there.kind ∙ sym after.kind) (pivot_of_free found.0.state there.free) (pivot_of_free t after.free) found.2)
+
+  -- a key that leads to a new state, which does not come to rest there
+  pub trying_new : is_free F (spawn_of target.piece) ≡ true → (marks marks' : List Mark) (waiting waiting' : List Placement) (state : Placement) (n : ℕ) (key : Key) (t : Placement) → key_place key ≡ n → new_state table F mode marks state key ≡ Some t →
+      comes_to_rest F target t ≡ false → marks' ≡ marked marks t (From state key) → waiting' ≡ waiting ++ t ∷ [] → IsTrying table F mode target marks waiting state n → IsTrying table F mode target marks' waiting' state (n + 1)
+  trying_new free marks marks' waiting waiting' state n key t place found misses set waits trying =
+      let new : IsNew table F mode marks state key t = new_is table F mode marks state key t found in
+      let here = trying.sought.among trying.x (Contains-here trying.x trying.front) in
+      let moves : step_of table F trying.x.state key ≡ Some t = subst (λ s. step_of table F s key ≡ Some t) (sym trying.at) new.moves in
+      let from = pivot_of_free trying.x.state (found_free free trying.items (trying.x ∷ trying.front) trying.sought trying.x here).free in
+      let pivot = pivot_of_free t (step_of-free table F state key t new.moves).free in
+      record {
+        items = trying.items ++ with_key trying.x key t ∷ [];
+        x = trying.x;
+        front = trying.front ++ with_key trying.x key t ∷ [];
+        at = trying.at;
+        states = waits ∙ ap (λ xs. xs ++ t ∷ []) trying.states ∙ sym (map-append (λ (x : Item). x.state) trying.front (with_key trying.x key t ∷ []));
+        few = omega (arith, trying.few, length-append trying.items (with_key trying.x key t ∷ []), length-append trying.front (with_key trying.x key t ∷ []));
+        sought = sought_new (step_of table F) (allows mode) (spawn_of target.piece) trying.items trying.x trying.front n key t place new.may moves here trying.sought trying.pressed;
+        pressed = pressed_new (step_of table F) (allows mode) (spawn_of target.piece) trying.items trying.x n key t place moves trying.pressed;
+        noted = subst (λ marks. IsNoted marks (trying.items ++ with_key trying.x key t ∷ [])) (sym (set ∙ ap (λ s. marked marks t (From s key)) (sym trying.at)))
+            (noted_new marks trying.items trying.x key t here from pivot new.unseen trying.noted);
+        misses = λ y among. elim (Contains-push_cases trying.items (with_key trying.x key t) y among) [
+          | inl old ↦ trying.misses y old
+          | inr is ↦ subst (λ y. comes_to_rest F target y.state ≡ false) is misses
+        ];
+      }
+
+  -- it is marked, so that one state fewer is unseen
+  pub new_counts : (marks marks' : List Mark) (waiting : List Placement) (state : Placement) (n : ℕ) (key : Key) (t : Placement) → new_state table F mode marks state key ≡ Some t → marks' ≡ marked marks t (From state key) → IsTrying table F mode target marks waiting state n →
+      count_by is_unseen marks' + 1 ≡ count_by is_unseen marks
+  new_counts marks marks' waiting state n key t found set trying =
+      let new : IsNew table F mode marks state key t = new_is table F mode marks state key t found in
+      subst (λ m. count_by is_unseen m + 1 ≡ count_by is_unseen marks) (sym set) (count_marked marks t (From state key) trying.noted.size (pivot_of_free t (step_of-free table F state key t new.moves).free) new.unseen refl)
+
+  -- it is a free state of the piece
+  pub new_free : is_free F (spawn_of target.piece) ≡ true → (marks : List Mark) (waiting : List Placement) (state : Placement) (n : ℕ) (key : Key) (t : Placement) → new_state table F mode marks state key ≡ Some t → IsTrying table F mode target marks waiting state n → IsFreeState F target.piece t
+  new_free free marks waiting state n key t found trying =
+      let after = step_of-free table F state key t (new_is table F mode marks state key t found).moves in
+      let before = found_free free trying.items (trying.x ∷ trying.front) trying.sought trying.x (trying.sought.among trying.x (Contains-here trying.x trying.front)) in
+      record { kind = after.kind ∙ ap (λ (s : Placement). s.piece) (sym trying.at) ∙ before.kind; free = after.free }
+
+  -- there is room for it
+  pub new_fits : (marks : List Mark) (waiting : List Placement) (state : Placement) (n : ℕ) (key : Key) (t : Placement) → new_state table F mode marks state key ≡ Some t → IsTrying table F mode target marks waiting state n → length (waiting ++ t ∷ []) ≤ 920
+  new_fits marks waiting state n key t found trying =
+      let new : IsNew table F mode marks state key t = new_is table F mode marks state key t found in
+      let pivot = pivot_of_free t (step_of-free table F state key t new.moves).free in
+      let room = room_left marks trying.items t pivot new.unseen trying.noted in
+      omega (arith, room, trying.few, length-append waiting (t ∷ []), ap (λ (xs : List Placement). length xs) trying.states, length-map trying.front (λ (x : Item). x.state))
+
+  -- a key that leads to a new state which comes to rest there
+  pub new_reached : is_free F (spawn_of target.piece) ≡ true → (marks marks' : List Mark) (waiting : List Placement) (state : Placement) (n : ℕ) (key : Key) (t : Placement) → key_place key ≡ n → new_state table F mode marks state key ≡ Some t →
+      comes_to_rest F target t ≡ true → marks' ≡ marked marks t (From state key) → IsTrying table F mode target marks waiting state n → IsReached table F mode target marks' t
+  new_reached free marks marks' waiting state n key t place found rests set trying = subst (λ marks. IsReached table F mode target marks t) (sym (set ∙ ap (λ s. marked marks t (From s key)) (sym trying.at))) reached
+    where
+      word : List Key
+      word = trying.x.word ++ key ∷ []
+
+      new : IsNew table F mode marks state key t
+      new = new_is table F mode marks state key t found
+
+      here : Contains trying.items trying.x
+      here = trying.sought.among trying.x (Contains-here trying.x trying.front)
+
+      moves : step_of table F trying.x.state key ≡ Some t
+      moves = subst (λ s. step_of table F s key ≡ Some t) (sym trying.at) new.moves
+
+      pressed : IsPressed (step_of table F) (allows mode) (spawn_of target.piece) trying.items trying.x (key_place key)
+      pressed = subst (IsPressed (step_of table F) (allows mode) (spawn_of target.piece) trying.items trying.x) (sym place) trying.pressed
+
+      leads : Leads (step_of table F) (allows mode) (Some (spawn_of target.piece)) t word
+      leads = (sought_new (step_of table F) (allows mode) (spawn_of target.piece) trying.items trying.x trying.front n key t place new.may moves here trying.sought trying.pressed).reached
+          (with_key trying.x key t) (Contains-push trying.items (with_key trying.x key t))
+
+      is_least : IsKeyWord table F mode target (Some word)
+      is_least = record {
+        member = from_way table F mode target word (record { state = t; leads = subst (λ s. Leads (step_of table F) (allows mode) s t word) (sym (spawned-some F target free)) leads; rests = rests });
+        above = refl;
+        least = λ other leads above less.
+            let way = way_of table F mode target other leads in
+            elim (found_before (step_of table F) (allows mode) (spawn_of target.piece) trying.items trying.x trying.front key trying.sought pressed other way.state
+            (subst (λ s. Leads (step_of table F) (allows mode) s way.state other) (spawned-some F target free) way.leads)) [
+              | inl has ↦ false≢true (sym (trying.misses has.item has.among) ∙ ap (comes_to_rest F target) has.is ∙ way.rests)
+              | inr not ↦ not_earlier word other not less
+            ];
+      }
+
+      noted : IsNoted (marked marks t (From trying.x.state key)) (trying.items ++ with_key trying.x key t ∷ [])
+      noted = noted_new marks trying.items trying.x key t here (pivot_of_free trying.x.state (found_free free trying.items (trying.x ∷ trying.front) trying.sought trying.x here).free)
+          (pivot_of_free t (step_of-free table F state key t new.moves).free) new.unseen trying.noted
+
+      traces : Traces (marked marks t (From trying.x.state key)) t (reverse word)
+      traces = noted.traces (with_key trying.x key t) (Contains-push trying.items (with_key trying.x key t))
+
+      reached : IsReached table F mode target (marked marks t (From trying.x.state key)) t
+      reached = record {
+        traced = record { keys = reverse word; traces = traces; few = omega (arith, length-reverse word, least_is_short table F mode target word is_least) };
+        least = λ traced. subst (λ w. IsKeyWord table F mode target (Some w))
+            (sym (ap reverse (traces_once (marked marks t (From trying.x.state key)) t traced.keys (reverse word) traced.traces traces) ∙ reverse-reverse word)) is_least;
+      }
+
+  -- where nothing waits any more, no word leads there
+  pub none_found : is_free F (spawn_of target.piece) ≡ true → (marks : List Mark) (waiting : List Placement) → slice_get waiting 0 ≡ None → IsFinding table F mode target marks waiting → IsKeyWord table F mode target None
+  none_found free marks waiting none finding = record {
+    none = λ word leads above.
+        let way = way_of table F mode target word leads in
+        let has = all_found (step_of table F) (allows mode) (spawn_of target.piece) finding.items (subst (IsSought (step_of table F) (allows mode) (spawn_of target.piece) finding.items) (no_front finding.front refl) finding.sought) word way.state
+        (subst (λ s. Leads (step_of table F) (allows mode) s way.state word) (spawned-some F target free) way.leads) in
+        false≢true (sym (finding.misses has.item has.among) ∙ ap (comes_to_rest F target) has.is ∙ way.rests);
+  }
+    where
+      no_front : (front : List Item) → finding.front ≡ front → front ≡ []
+      no_front [] e = refl
+      no_front (x ∷ front) e = absurd (not_some (sym none ∙ ap (λ xs. slice_get xs 0) (finding.states ∙ ap (map (λ (x : Item). x.state)) e)))

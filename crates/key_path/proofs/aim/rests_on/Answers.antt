@@ -1,0 +1,40 @@
+-- The canonical placements of a state and of its rest are turned alike and stand in one column.
+use Rattle.std.proofs.Common.{ap, arith}
+use Rattle.srs.specs.Rotation.{rotation_place}
+use Rattle.srs.proofs.CodeLemmas.{rotation_place-injective}
+use Rattle.well.specs.Well.{filled}
+use Rattle.well.proofs.FreeLemmas.{free_inside}
+use Rattle.moves.specs.Rest.{rest_of}
+use Rattle.moves.proofs.RestLemmas.{rest_of-only, rest_of-is}
+use Rattle.key_path.proofs.AimLemmas.{rest_below, elsewhere, by_rows}
+use Rattle.key_path.proofs.aim.rests_on.Goals as goal
+use Rattle.key_path.proofs.aim.rests_on.Goals.{then-place-via-then-place, then-place-via-else-place+then-above-aim}
+
+pub canonical-above-requires : goal.canonical-above-requires
+canonical-above-requires c = free_inside (filled c.args.well.now) c.args.state.now c.requires.free
+
+pub returns-then-place : goal.returns-then-place
+returns-then-place c =
+    let F = filled c.args.well.now in
+    let state = c.args.state.now in
+    let above = c.canonical-above.ensures in
+    elsewhere F c.args.aim.now c.canonical-above.result state c.requires.canonical (record { kind = above.piece; turn = above.rotation; pivot = above.pivot })
+    (rest_below F state (rest_of F state) (rest_of-is F state c.requires.free))
+    (λ turn column. elim c.then-place.branch [
+      | then-place-via-then-place w ↦ let one = ap rotation_place turn in omega (arith, w.if-place.true, c.place.ensures, c.place-2.ensures, one)
+      | then-place-via-else-place+then-above-aim w ↦ omega (arith, w.if-above-aim.true, column)
+    ])
+
+pub canonical-requires : goal.canonical-requires
+canonical-requires c = free_inside (filled c.args.well.now) c.fall.result (rest_below (filled c.args.well.now) c.args.state.now c.fall.result c.fall.ensures).free
+
+pub returns : goal.returns
+returns c =
+    let F = filled c.args.well.now in
+    let state = c.args.state.now in
+    let above = c.canonical-above.ensures in
+    let low = c.canonical.ensures in
+    by_rows F c.args.aim.now c.canonical-above.result state c.canonical.result c.fall.result c.requires.canonical c.requires.kind
+    (record { kind = above.piece; turn = above.rotation; pivot = above.pivot }) (rest_of-only F state c.fall.result c.requires.free c.fall.ensures) (rest_below F state c.fall.result c.fall.ensures)
+    (record { kind = low.piece; turn = low.rotation; pivot = low.pivot })
+    (rotation_place-injective c.canonical-above.result.rotation c.args.aim.now.rotation (omega (arith, c.place.ensures, c.place-2.ensures, c.if-place.false))) c.if-above-aim.false

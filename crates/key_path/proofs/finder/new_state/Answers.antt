@@ -1,0 +1,28 @@
+-- The key is not allowed, makes no move, or leads to a state whose mark decides.
+use Rattle.std.proofs.Common.{sym, ap, ◌∙◌}
+use Rattle.std.specs.Bool.{then_some}
+use Rattle.well.specs.Well.{filled}
+use Rattle.well.proofs.FreeLemmas.{free_pivot_inside}
+use Rattle.srs.specs.Rules.{table_of}
+use Rattle.moves.proofs.StepLemmas.{step_of-free}
+use Rattle.key_path.proofs.NewStates.{new_not_allowed, new_no_move, new_move}
+use Rattle.key_path.proofs.finder.new_state.Goals as goal
+
+pub returns-then-not-allows : goal.returns-then-not-allows
+returns-then-not-allows c = new_not_allowed (table_of c.args.rules.now) (filled c.args.well.now) c.args.drop_mode c.args.marks.now.marks c.args.state.now c.args.key (sym c.allows.ensures ∙ c.if-not-allows.true)
+
+pub returns-in_err-next : goal.returns-in_err-next
+returns-in_err-next c =
+    c.from_residual.ensures
+    ∙ new_no_move (table_of c.args.rules.now) (filled c.args.well.now) c.args.drop_mode c.args.marks.now.marks c.args.state.now c.args.key (sym c.allows.ensures ∙ c.if-not-allows.false) (sym c.step.ensures ∙ c.in_err-next.was)
+
+pub is_unseen-requires : goal.is_unseen-requires
+is_unseen-requires c =
+    let inside = free_pivot_inside (filled c.args.well.now) c.in_ok-next.next (step_of-free (table_of c.args.rules.now) (filled c.args.well.now) c.args.state.now c.args.key c.in_ok-next.next (sym c.step.ensures ∙ c.in_ok-next.was)).free in
+    record { in_columns = inside.in_columns; in_rows = inside.in_rows }
+
+pub returns : goal.returns
+returns c =
+    c.then_some.ensures
+    ∙ ap (λ b. then_some b c.in_ok-next.next) c.is_unseen.ensures
+    ∙ new_move (table_of c.args.rules.now) (filled c.args.well.now) c.args.drop_mode c.args.marks.now.marks c.args.state.now c.args.key c.in_ok-next.next (sym c.allows.ensures ∙ c.if-not-allows.false) (sym c.step.ensures ∙ c.in_ok-next.was)

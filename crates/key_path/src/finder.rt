@@ -1,0 +1,163 @@
+// The search for the least key word.
+ghost use Rattle.std.specs.Prelude.{◌≡◌, ◌+◌, IsTrue, false, MatchOption, length, option_map};
+ghost use Rattle.std.specs.List.{count_by};
+ghost use Rattle.srs.specs.Cells.{is_inside_of};
+ghost use Rattle.srs.specs.Canonical.{IsCanonical};
+ghost use Rattle.srs.specs.Rules.{table_of};
+ghost use Rattle.well.specs.Free.{is_free};
+ghost use Rattle.well.specs.Well.{filled};
+ghost use Rattle.moves.specs.Leads.{spawn_of};
+ghost use Rattle.moves.specs.PlaceTest.{comes_to_rest};
+ghost use Rattle.key_path.specs.KeyWord.{IsKeyWord, key_word};
+ghost use Rattle.key_path.specs.Marks.{IsPivot, is_unseen, new_state};
+ghost use Rattle.key_path.specs.Search.{IsFinding, IsTrying, IsReached};
+
+use crate::aim::rests_on;
+use crate::marks::{Mark, Marks, STATES};
+use arrayvec::ArrayVec;
+use circular_buffer::HeapCircularBuffer;
+use moves::{DropMode, Key, spawn, step};
+use pc_outside::NoMemory;
+use srs::{Placement, Rules, canonical};
+use std::alloc::Global;
+use well::Well;
+
+/// Keys, the first one first. A least word has fewer than 920 of them, one for each state that it leaves.
+pub type KeyWord = ArrayVec<Key, 920>;
+
+/// A finder of least key words, with the memory of its search.
+#[derive(Drop)]
+pub struct Finder {
+    /// States that were reached and from which no key was pressed yet, those of lesser words first.
+    waiting: HeapCircularBuffer<Placement, Global>,
+    ghost room: { waiting.capacity ≡ 920 },
+}
+
+impl Finder {
+    /// A finder. `NoMemory` where its memory is refused.
+    pub fn new(alloc: Global) -> Result<Finder, NoMemory> {
+        match HeapCircularBuffer::with_capacity(alloc, STATES) {
+            Ok(waiting) => Ok(Finder { waiting }),
+            Err(_) => Err(NoMemory),
+        }
+    }
+
+    /// Of the words of allowed keys that lead from the spawn to a state whose rest has the target's cells, the shortest, and
+    /// among these the least by the order of keys L, R, D, C, A, the first difference deciding. `None` exactly where no word
+    /// leads there.
+    #[tactic(auto, using(crate::proofs::KeyWordLemmas::is_key_word))]
+    pub fn find(
+        &mut self,
+        well: &Well,
+        rules: &Rules,
+        target: &Placement,
+        drop_mode: DropMode,
+    ) -> Option<KeyWord>
+        requires { IsTrue (is_inside_of target.now) }
+        ensures least { IsKeyWord (table_of rules.now) (filled well.now) drop_mode target.now (option_map (λ word. word.items) result) }
+        ensures named { option_map (λ word. word.items) result ≡ key_word (table_of rules.now) (filled well.now) drop_mode target.now }
+    {
+        self.least_word(well, rules, target, drop_mode)
+    }
+
+    /// The least word that leads to the target's cells.
+    fn least_word(
+        &mut self,
+        well: &Well,
+        rules: &Rules,
+        target: &Placement,
+        drop_mode: DropMode,
+    ) -> Option<KeyWord>
+        requires { IsTrue (is_inside_of target.now) }
+        ensures { IsKeyWord (table_of rules.now) (filled well.now) drop_mode target.now (option_map (λ word. word.items) result) }
+    {
+        let start = spawn(target.piece);
+        if !well.is_free(&start) {
+            return None;
+        }
+        let aim = canonical(target);
+        if rests_on(well, &aim, &start) {
+            return Some(KeyWord::new());
+        }
+        self.word_from(well, rules, &aim, drop_mode)
+    }
+
+    /// The least word that leads from the spawn to a canonical placement, where at least one key is needed: the states are
+    /// gone through in the order of their least words.
+    fn word_from(
+        &mut self,
+        well: &Well,
+        rules: &Rules,
+        aim: &Placement,
+        drop_mode: DropMode,
+    ) -> Option<KeyWord>
+        requires free { IsTrue (is_free (filled well.now) (spawn_of aim.now.piece)) }
+        requires canonical { IsCanonical aim.now }
+        requires elsewhere { comes_to_rest (filled well.now) aim.now (spawn_of aim.now.piece) ≡ false }
+        ensures { IsKeyWord (table_of rules.now) (filled well.now) drop_mode aim.now (option_map (λ word. word.items) result) }
+    {
+        let start = spawn(aim.piece);
+        let mut marks = Marks::new();
+        marks.set(&start, Mark::Start);
+        self.waiting.clear();
+        self.waiting.push_back(start);
+        while let Some(state) = self.waiting.pop_front() {
+            let reached = self.press_keys(&mut marks, &state, well, rules, aim, drop_mode);
+            if let Some(reached) = reached {
+                return Some(marks.word_to(&reached));
+            }
+        }
+        None
+    }
+
+    /// Presses each allowed key in a state. New states are marked and wait, up to the first that comes to rest on the aim, which
+    /// is answered.
+    fn press_keys(
+        &mut self,
+        marks: &mut Marks,
+        state: &Placement,
+        well: &Well,
+        rules: &Rules,
+        aim: &Placement,
+        drop_mode: DropMode,
+    ) -> Option<Placement>
+        requires free { IsTrue (is_free (filled well.now) (spawn_of aim.now.piece)) }
+        requires canonical { IsCanonical aim.now }
+        requires trying { IsTrying (table_of rules.now) (filled well.now) drop_mode aim.now marks.old.marks self.old.waiting.items state.now 0 }
+        ensures { MatchOption result
+            (IsFinding (table_of rules.now) (filled well.now) drop_mode aim.now marks.new.marks self.new.waiting.items
+            × (count_by is_unseen marks.new.marks + length self.new.waiting.items ≡ count_by is_unseen marks.old.marks + length self.old.waiting.items))
+            (λ reached. IsPivot reached × IsReached (table_of rules.now) (filled well.now) drop_mode aim.now marks.new.marks reached) }
+    {
+        for key in Key::ALL {
+            let Some(next) = new_state(well, rules, drop_mode, marks, state, key) else {
+                continue;
+            };
+            marks.set(&next, Mark::From(*state, key));
+            if rests_on(well, aim, &next) {
+                return Some(next);
+            }
+            self.waiting.push_back(next);
+        }
+        None
+    }
+}
+
+/// The state to which an allowed key leads, where no word led to it before.
+fn new_state(
+    well: &Well,
+    rules: &Rules,
+    drop_mode: DropMode,
+    marks: &Marks,
+    state: &Placement,
+    key: Key,
+) -> Option<Placement>
+    requires { IsTrue (is_free (filled well.now) state.now) }
+    ensures { result ≡ new_state (table_of rules.now) (filled well.now) drop_mode marks.now.marks state.now key }
+{
+    if !drop_mode.allows(key) {
+        return None;
+    }
+    let next = step(well, rules, state, key)?;
+    marks.is_unseen(&next).then_some(next)
+}

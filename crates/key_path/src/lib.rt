@@ -1,0 +1,12 @@
+// Least key words: the fewest keys, and the least word of them, that lead a piece to a placement.
+#![tactic(auto)]
+
+mod aim;
+mod finder;
+pub mod laws;
+mod marks;
+
+pub use finder::{Finder, KeyWord};
+
+#[cfg(test)]
+mod tests;

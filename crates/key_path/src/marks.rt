@@ -1,0 +1,89 @@
+// How each state of a piece was first reached.
+ghost use Rattle.std.specs.Prelude.{◌≡◌, ◌≤◌, ◌<◌, List, length, reverse, replicate};
+ghost use Rattle.key_path.specs.Marks.{IsPivot, state_code, mark_at, marked, is_unseen, Traced};
+
+use crate::finder::KeyWord;
+use moves::Key;
+use srs::Placement;
+
+/// A piece has at most so many free states: 4 rotations, 23 rows and 10 columns.
+pub(crate) const STATES: usize = 920;
+
+/// How a state was first reached.
+#[derive(Clone, Copy)]
+pub(crate) enum Mark {
+    /// It was not.
+    Unseen,
+    /// The piece appears in it.
+    Start,
+    /// From this state, by this key.
+    From(Placement, Key),
+}
+
+/// The marks of all states of a piece.
+#[derive(Drop)]
+pub(crate) struct Marks {
+    marks: [Mark; 920],
+}
+
+impl Marks {
+    /// No state is reached.
+    pub(crate) fn new() -> Marks
+        ensures { result.marks ≡ replicate 920 Mark.Unseen }
+    {
+        Marks {
+            marks: [Mark::Unseen; STATES],
+        }
+    }
+
+    /// Whether a state was not reached yet.
+    pub(crate) fn is_unseen(&self, state: &Placement) -> bool
+        requires { IsPivot state.now }
+        ensures { result ≡ is_unseen (mark_at self.now.marks state.now) }
+    {
+        matches!(self.at(state), Mark::Unseen)
+    }
+
+    /// The mark of a state.
+    #[tactic(auto, using(crate::proofs::MarkLemmas::code_below), unfolding(crate::specs::Marks::mark_at))]
+    fn at(&self, state: &Placement) -> Mark
+        requires { IsPivot state.now }
+        ensures { result ≡ mark_at self.now.marks state.now }
+    {
+        self.marks[code(state)]
+    }
+
+    /// Marks a state.
+    #[tactic(auto, using(crate::proofs::MarkLemmas::code_below), unfolding(crate::specs::Marks::marked))]
+    pub(crate) fn set(&mut self, state: &Placement, mark: Mark)
+        requires { IsPivot state.now }
+        ensures { self.new.marks ≡ marked self.old.marks state.now mark }
+    {
+        self.marks[code(state)] = mark;
+    }
+
+    /// The keys that lead to a state.
+    pub(crate) fn word_to(&self, state: &Placement) -> KeyWord
+        requires pivot { IsPivot state.now }
+        requires traced { Traced self.now.marks state.now }
+        ensures { (traced : Traced self.now.marks state.now) → result.items ≡ reverse traced.keys }
+    {
+        let mut word = KeyWord::new();
+        let mut reached = *state;
+        while let Mark::From(from, key) = self.at(&reached) {
+            word.push(key);
+            reached = from;
+        }
+        word.as_mut_slice().reverse();
+        word
+    }
+}
+
+/// The number of a state among all with its pivot in the well.
+#[tactic(auto, unfolding(crate::specs::Marks::state_code))]
+fn code(state: &Placement) -> usize
+    requires { IsPivot state.now }
+    ensures { result ≡ state_code state.now }
+{
+    usize::from(state.rotation.place()) * 230 + (usize::from(state.y) * 10 + usize::from(state.x))
+}
