@@ -1,0 +1,44 @@
+-- The pivot lies in the well, and so does the cell where it is written.
+use Rattle.std.proofs.Common.{◌≡◌, true, sym, ap, subst, ◌∙◌, arith}
+use Rattle.std.proofs.lemmas.Int.{ints}
+use Rattle.srs.specs.Cells.{Cell}
+use Rattle.srs.proofs.CanonicalLemmas.{pivot_inside}
+use Rattle.fumen_pages.specs.Action.{in_rows}
+use Rattle.fumen_pages.specs.Written.{place_of}
+use Rattle.fumen_pages.proofs.InsideLaws.{inside_well}
+use Rattle.fumen_pages.proofs.ActionWritten.{written_in_rows, written_there}
+use Rattle.fumen_pages.proofs.action.written_place.Goals as goal
+
+pub overflow_cast-pivot : goal.overflow_cast-pivot
+overflow_cast-pivot c =
+    let p = pivot_inside c.args.placement.now (inside_well c.args.dialect c.args.placement.now c.requires) in omega (arith, ints)
+
+pub overflow_cast-pivot-2 : goal.overflow_cast-pivot-2
+overflow_cast-pivot-2 c =
+    let p = pivot_inside c.args.placement.now (inside_well c.args.dialect c.args.placement.now c.requires) in omega (arith, ints)
+
+pub moved-written-requires-clause-right : goal.moved-written-requires-clause-right
+moved-written-requires-clause-right c =
+    let p = pivot_inside c.args.placement.now (inside_well c.args.dialect c.args.placement.now c.requires) in omega (arith, ints)
+
+pub moved-written-requires-clause-left : goal.moved-written-requires-clause-left
+moved-written-requires-clause-left c =
+    let p = pivot_inside c.args.placement.now (inside_well c.args.dialect c.args.placement.now c.requires) in omega (arith, ints)
+
+pub moved-written-requires-clause-high : goal.moved-written-requires-clause-high
+moved-written-requires-clause-high c =
+    let p = pivot_inside c.args.placement.now (inside_well c.args.dialect c.args.placement.now c.requires) in omega (arith, ints)
+
+pub moved-written-requires-clause-low : goal.moved-written-requires-clause-low
+moved-written-requires-clause-low c =
+    let p = pivot_inside c.args.placement.now (inside_well c.args.dialect c.args.placement.now c.requires) in omega (arith, ints)
+
+pub place_of-requires : goal.place_of-requires
+place_of-requires c =
+    let there = written_there c.args.dialect c.args.placement.now c.moved-written.result c.written_by.result c.requires c.moved-written.ensures c.written_by.ensures.pair in
+    subst (λ (x : Cell). in_rows c.args.dialect x ≡ true) (sym there) (written_in_rows c.args.dialect c.args.placement.now c.requires)
+
+pub returns-clause-exact : goal.returns-clause-exact
+returns-clause-exact c =
+    c.place_of.ensures.exact
+    ∙ ap (λ (x : Cell). place_of c.args.dialect x) (written_there c.args.dialect c.args.placement.now c.moved-written.result c.written_by.result c.requires c.moved-written.ensures c.written_by.ensures.pair)

@@ -1,0 +1,73 @@
+-- The record that stands there and the first fault there, from what reading gives.
+use Rattle.std.proofs.Common.{◌≡◌, ℕ, ◌≤◌, length, Result, Ok, Err, ap, ◌∙◌}
+use Rattle.std.specs.Prelude.{IfOk}
+use Rattle.std.proofs.lemmas.Result.{IfOk-weaker}
+use Rattle.fumen_digits.specs.Reading.{Reads}
+use Rattle.fumen_digits.proofs.Answered.{reads_ok, reads_err, ok_from_read, err_from_read}
+use Rattle.fumen_pages.specs.declared.record.CellsRead.{CellsRead}
+use Rattle.fumen_pages.specs.declared.record.CellsFault.{CellsFault}
+use Rattle.fumen_pages.specs.declared.record.CellsFault.TheVariants as bad
+use Rattle.fumen_pages.specs.Cells.{AreCells}
+use Rattle.fumen_pages.specs.Reading.{cells_fault, record_at}
+use Rattle.fumen_pages.proofs.CellsLaws.{RecordRead, read_from_ok, record_from_read, read_from_record, record_fault_from_read, read_from_record_fault}
+use Rattle.fumen_pages.proofs.record.read_cells.Goals as goal
+
+abbrev view : CellsRead → CellsRead
+view read = read
+
+stands : (c : goal.After-read_record) → IfOk c.read_record.result (λ read. RecordRead c.args.dialect c.args.digits.now c.args.place c.args.old.now read)
+stands c = go c.read_record.result c.read_record.ensures
+  where
+    go : (r : Result CellsRead CellsFault) → Reads view cells_fault r (record_at c.args.dialect c.args.digits.now c.args.place c.args.old.now) → IfOk r (λ read. RecordRead c.args.dialect c.args.digits.now c.args.place c.args.old.now read)
+    go (Ok read) reads = read_from_ok c.args.dialect c.args.digits.now c.args.place c.args.old.now read c.requires.place c.requires.old reads
+    go (Err f) reads = tt
+
+pub returns-clause-within : goal.returns-clause-within
+returns-clause-within c =
+    IfOk-weaker c.read_record.result (λ read. RecordRead c.args.dialect c.args.digits.now c.args.place c.args.old.now read) (λ read. read.place ≤ length c.args.digits.now) (λ read s. s.stands.stands.within) (stands c)
+
+pub returns-clause-sound : goal.returns-clause-sound
+returns-clause-sound c =
+    IfOk-weaker c.read_record.result (λ read. RecordRead c.args.dialect c.args.digits.now c.args.place c.args.old.now read) (λ read. AreCells c.args.dialect read.cells) (λ read s. s.sound) (stands c)
+
+pub returns-clause-found : goal.returns-clause-found
+returns-clause-found c = λ read.
+    let ds = c.args.digits.now in
+    let place = c.args.place in
+    let old = c.args.old.now in
+    let all = record_at c.args.dialect ds place old in (
+      λ e. record_from_read c.args.dialect ds place old read c.requires.place c.requires.old (reads_ok view cells_fault c.read_record.result all read c.read_record.ensures e),
+      λ s.
+          let x = ok_from_read view cells_fault c.read_record.result all read c.read_record.ensures (read_from_record c.args.dialect ds place old read c.requires.old s) in
+          x.1 ∙ ap (λ (k : CellsRead). Ok k) x.2,
+    )
+
+same_fault : (a b : CellsFault) → cells_fault a ≡ cells_fault b → a ≡ b
+same_fault (bad.BadDigit j) (bad.BadDigit k) e = let same : j ≡ k = cc in ap (λ (n : ℕ). bad.BadDigit n) same
+same_fault (bad.Truncated j) (bad.Truncated k) e = let same : j ≡ k = cc in ap (λ (n : ℕ). bad.Truncated n) same
+same_fault (bad.RunPastEnd j) (bad.RunPastEnd k) e = let same : j ≡ k = cc in ap (λ (n : ℕ). bad.RunPastEnd n) same
+same_fault (bad.BadCell j) (bad.BadCell k) e = let same : j ≡ k = cc in ap (λ (n : ℕ). bad.BadCell n) same
+same_fault (bad.BadDigit j) (bad.Truncated k) e = absurd cc
+same_fault (bad.BadDigit j) (bad.RunPastEnd k) e = absurd cc
+same_fault (bad.BadDigit j) (bad.BadCell k) e = absurd cc
+same_fault (bad.Truncated j) (bad.BadDigit k) e = absurd cc
+same_fault (bad.Truncated j) (bad.RunPastEnd k) e = absurd cc
+same_fault (bad.Truncated j) (bad.BadCell k) e = absurd cc
+same_fault (bad.RunPastEnd j) (bad.BadDigit k) e = absurd cc
+same_fault (bad.RunPastEnd j) (bad.Truncated k) e = absurd cc
+same_fault (bad.RunPastEnd j) (bad.BadCell k) e = absurd cc
+same_fault (bad.BadCell j) (bad.BadDigit k) e = absurd cc
+same_fault (bad.BadCell j) (bad.Truncated k) e = absurd cc
+same_fault (bad.BadCell j) (bad.RunPastEnd k) e = absurd cc
+
+pub returns-clause-fault : goal.returns-clause-fault
+returns-clause-fault c = λ f.
+    let ds = c.args.digits.now in
+    let place = c.args.place in
+    let old = c.args.old.now in
+    let all = record_at c.args.dialect ds place old in (
+      λ e. record_fault_from_read c.args.dialect ds place old (cells_fault f) c.requires.place c.requires.old (reads_err view cells_fault c.read_record.result all f c.read_record.ensures e),
+      λ s.
+          let x = err_from_read view cells_fault c.read_record.result all (cells_fault f) c.read_record.ensures (read_from_record_fault c.args.dialect ds place old (cells_fault f) c.requires.old s) in
+          x.1 ∙ ap (λ d. Err d) (same_fault x.0 f x.2),
+    )

@@ -1,0 +1,19 @@
+// The pages of fumens: their cells, their actions, what one page leaves for the next, and the digits that spell them.
+#![tactic(auto)]
+
+mod action;
+mod inside;
+mod next;
+mod page;
+mod record;
+mod tail;
+
+pub use action::{Action, ActionFault, action_number, action_number_undone, read_action};
+pub use inside::is_inside;
+pub use next::{mark, next_cells};
+pub use page::Page;
+pub use record::{CellsFault, CellsRead, read_cells, write_cells, write_cells_undone};
+pub use tail::{TailFault, read_page};
+
+#[cfg(test)]
+mod tests;

@@ -1,0 +1,278 @@
+// The record of a page's cells: runs of cells, each with one difference to the page before.
+ghost use Rattle.std.specs.Prelude.{◌≡◌, ℕ, ◌+◌, ◌<◌, ◌≤◌, ◌↔◌, ◌++◌, List, length, take, All, Bool, IfOk, OnOk, OnErr, IsTrue, Ok, Err};
+ghost use Rattle.std.specs.List.{list_all};
+ghost use Rattle.fumen_digits.specs.Dialect.{cell_count};
+ghost use Rattle.fumen_digits.specs.declared.dialect.Dialect.{Dialect};
+ghost use Rattle.fumen_digits.specs.Digit.{AreDigits};
+ghost use Rattle.fumen_digits.specs.Number.{Stands};
+ghost use Rattle.fumen_digits.specs.Reading.{Reads, number_at};
+ghost use Rattle.fumen_pages.specs.declared.record.CellsRead.{CellsRead};
+ghost use Rattle.fumen_pages.specs.declared.record.CellsFault.{CellsFault};
+ghost use Rattle.fumen_pages.specs.Cells.{AreCells, IsColour, shown};
+ghost use Rattle.fumen_pages.specs.Record.{CutsOther, moved_by, stays_colour, unchanged};
+ghost use Rattle.fumen_pages.specs.Written.{AreApart, difference, longest, same_count, written_record};
+ghost use Rattle.fumen_pages.specs.Reading.{IsRecordFault, RecordStands, cells_fault, checked_run, record_at, run_at};
+
+use fumen_digits::{Dialect, DigitFault, push_number, read_number};
+use pc_outside::NoMemory;
+
+/// The cells that a record spells.
+#[derive(Clone, Copy, Debug, PartialEq, Eq)]
+pub struct CellsRead {
+    /// The new cells.
+    pub cells: [u8; 240],
+    /// The place behind the record, as an index among the digits.
+    pub place: usize,
+    /// Whether the record is the single run `vh`, or `7e`, that changes no cell. The digit behind it, which
+    /// says how many more pages are unchanged, isn't part of the record.
+    pub unchanged: bool,
+}
+
+/// Why a record can't be read. A place is an index among the digits.
+#[derive(Clone, Copy, Debug, PartialEq, Eq)]
+pub enum CellsFault {
+    /// A byte that is no digit stands at this place.
+    BadDigit { place: usize },
+    /// The digits end within the number that begins at this place.
+    Truncated { place: usize },
+    /// The run at this place is longer than the cells that are left.
+    RunPastEnd { place: usize },
+    /// The run at this place fits, and makes a cell below 0 or above 8.
+    BadCell { place: usize },
+}
+
+/// Reads the record of a page's cells at a place, where the page before leaves the old ones.
+///
+/// The first fault from the left is answered.
+pub fn read_cells(
+    digits: &[u8],
+    place: usize,
+    dialect: Dialect,
+    old: &[u8; 240],
+) -> Result<CellsRead, CellsFault>
+    requires place { place ≤ length digits.now }
+    requires old { AreCells dialect old.now }
+
+    // What reading from the left gives.
+    ensures exact { Reads (λ read. read) cells_fault result (record_at dialect digits.now place old.now) }
+
+    // The place behind it is among the digits, or at their end, and the cells may be a page's.
+    ensures within { IfOk result (λ read. read.place ≤ length digits.now) }
+    ensures sound { IfOk result (λ read. AreCells dialect read.cells) }
+
+    // The record that stands there, or the first fault there.
+    ensures found { (read : CellsRead) → (result ≡ Ok read) ↔ RecordStands dialect digits.now place old.now read }
+    ensures fault { (f : CellsFault) → (result ≡ Err f) ↔ IsRecordFault dialect digits.now place old.now (cells_fault f) }
+{
+    read_record(digits, place, dialect, old)
+}
+
+fn read_record(
+    digits: &[u8],
+    place: usize,
+    dialect: Dialect,
+    old: &[u8; 240],
+) -> Result<CellsRead, CellsFault>
+    requires place { place ≤ length digits.now }
+    requires old { AreCells dialect old.now }
+    ensures { Reads (λ read. read) cells_fault result (record_at dialect digits.now place old.now) }
+{
+    let mut cells = *old;
+    let mut start = 240 - dialect.cells() as usize;
+    let mut behind = place;
+    while start < 240 {
+        let (count, shift) = run_at(digits, behind, dialect, &cells[start..])?;
+        move_by(&mut cells[start..start + count], shift);
+        start += count;
+        behind += 2;
+    }
+    let unchanged = digits[place..].starts_with(unchanged(dialect));
+    Ok(CellsRead {
+        cells,
+        place: behind,
+        unchanged,
+    })
+}
+
+// The run that changes no cell.
+#[tactic(auto, unfolding(fumen_digits::specs::Number::digits, fumen_digits::specs::Digit::digit))]
+fn unchanged(dialect: Dialect) -> &'static [u8]
+    ensures { result.now ≡ unchanged dialect }
+{
+    match dialect {
+        Dialect::V110 => b"7e",
+        Dialect::V115 => b"vh",
+    }
+}
+
+// The run at a place, over the cells that are left: how many, and their difference and 8.
+#[tactic(auto, unfolding(crate::specs::Reading::run_at))]
+fn run_at(
+    digits: &[u8],
+    place: usize,
+    dialect: Dialect,
+    left: &[u8],
+) -> Result<(usize, u8), CellsFault>
+    requires place { place ≤ length digits.now }
+    requires colours { All IsColour left.now }
+    ensures exact { Reads (λ run. run) cells_fault result (run_at (cell_count dialect) digits.now place left.now) }
+    ensures within { IfOk result (λ _. place + 2 ≤ length digits.now) }
+    ensures some { IfOk result (λ run. 1 ≤ run.0) }
+    ensures fits { IfOk result (λ run. run.0 ≤ length left.now) }
+    ensures colours { IfOk result (λ run. IsTrue (list_all (stays_colour run.1) (take run.0 left.now))) }
+{
+    let cells = u32::from(dialect.cells());
+    let number = number_at(digits, place)?;
+    checked_run(
+        place,
+        left,
+        (number % cells) as usize + 1,
+        (number / cells) as u8,
+    )
+}
+
+// A run of this many cells, with their difference and 8, unless it has a fault.
+fn checked_run(
+    place: usize,
+    left: &[u8],
+    count: usize,
+    shift: u8,
+) -> Result<(usize, u8), CellsFault>
+    requires shift { shift ≤ 18 }
+    requires colours { All IsColour left.now }
+    ensures exact { Reads (λ run. run) cells_fault result (checked_run place left.now count shift) }
+    ensures count { IfOk result (λ run. run.0 ≡ count) }
+    ensures fits { IfOk result (λ run. run.0 ≤ length left.now) }
+    ensures colours { IfOk result (λ run. IsTrue (list_all (stays_colour run.1) (take run.0 left.now))) }
+{
+    if count > left.len() {
+        return Err(CellsFault::RunPastEnd { place });
+    }
+    if !stay_colours(&left[..count], shift) {
+        return Err(CellsFault::BadCell { place });
+    }
+    Ok((count, shift))
+}
+
+// The number of a run at a place, its fault as one of the cells.
+fn number_at(digits: &[u8], place: usize) -> Result<u32, CellsFault>
+    requires { place ≤ length digits.now }
+    ensures exact { Reads (λ n. n) cells_fault result (number_at digits.now place 2) }
+    ensures within { IfOk result (λ _. place + 2 ≤ length digits.now) }
+    ensures below { IfOk result (λ n. n < 4096) }
+{
+    match read_number(digits, place, 2) {
+        Ok(number) => Ok(number),
+        Err(DigitFault::Bad { place }) => Err(CellsFault::BadDigit { place }),
+        Err(DigitFault::Truncated { place }) => Err(CellsFault::Truncated { place }),
+    }
+}
+
+// Whether all cells are colours with the difference added.
+fn stay_colours(cells: &[u8], shift: u8) -> bool
+    requires shift { shift ≤ 18 }
+    requires colours { All IsColour cells.now }
+    ensures { result ≡ list_all (stays_colour shift) cells.now }
+{
+    cells
+        .iter()
+        .all(|cell| 8 <= *cell + shift && *cell + shift <= 16)
+}
+
+// The difference is added to all cells.
+fn move_by(cells: &mut [u8], shift: u8)
+    requires { IsTrue (list_all (stays_colour shift) cells.old) }
+    ensures { cells.new ≡ moved_by shift cells.old }
+{
+    for cell in cells.iter_mut() {
+        *cell = *cell + shift - 8;
+    }
+}
+
+/// Appends the record of a page's cells, where the page before leaves the old ones: the longest runs of one
+/// difference. After NoMemory `out` is as before.
+pub fn write_cells(
+    out: &mut Vec<u8>,
+    dialect: Dialect,
+    old: &[u8; 240],
+    new: &[u8; 240],
+) -> Result<(), NoMemory>
+    requires old { AreCells dialect old.now }
+    requires new { AreCells dialect new.now }
+    ensures ok { OnOk result (out.new.items ≡ out.old.items ++ written_record dialect old.now new.now) }
+    ensures err { OnErr result (out.new.items ≡ out.old.items) }
+{
+    let before = out.len();
+    let written = push_runs(out, dialect, old, new);
+    if written.is_err() {
+        out.truncate(before);
+    }
+    written
+}
+
+// Appends the runs, or a front of them.
+fn push_runs(
+    out: &mut Vec<u8>,
+    dialect: Dialect,
+    old: &[u8; 240],
+    new: &[u8; 240],
+) -> Result<(), NoMemory>
+    requires old { AreCells dialect old.now }
+    requires new { AreCells dialect new.now }
+    ensures ok { OnOk result (out.new.items ≡ out.old.items ++ written_record dialect old.now new.now) }
+    ensures kept { take (length out.old.items) out.new.items ≡ out.old.items }
+{
+    let cells = dialect.cells();
+    let mut start = 240 - cells as usize;
+    while start < 240 {
+        let shift = difference(old[start], new[start]);
+        let count = same_count(&old[start..], &new[start..], shift);
+        push_number(
+            out,
+            u32::from(shift) * u32::from(cells) + (count - 1) as u32,
+            2,
+        )?;
+        start += count;
+    }
+    Ok(())
+}
+
+// The difference of a new cell to the old one, and 8.
+fn difference(old: u8, new: u8) -> u8
+    requires old { old ≤ 8 }
+    requires new { new ≤ 8 }
+    ensures value { result ≡ difference old new }
+    ensures most { result ≤ 16 }
+{
+    new + 8 - old
+}
+
+// How many cells from the first one on have this difference and 8.
+fn same_count(old: &[u8], new: &[u8], shift: u8) -> usize
+    requires same { length old.now ≡ length new.now }
+    requires old { All IsColour old.now }
+    requires new { All IsColour new.now }
+    ensures value { result ≡ same_count shift old.now new.now }
+    ensures most { result ≤ length old.now }
+{
+    for i in 0..old.len() {
+        if difference(old[i], new[i]) != shift {
+            return i;
+        }
+    }
+    old.len()
+}
+
+/// What is written is read again: the record of some cells has only digits, and cuts them, by runs that
+/// can't be longer; it is the run that changes no cell exactly where none changes, and is read as the new
+/// cells wherever it stands.
+pub fn write_cells_undone()
+    ensures digits { (dialect : Dialect) (old new : List ℕ) → AreDigits (written_record dialect old new) }
+    ensures same { (dialect : Dialect) (old : List ℕ) → AreCells dialect old → written_record dialect old old ≡ unchanged dialect }
+    ensures other { (dialect : Dialect) (old new : List ℕ) → AreCells dialect old → AreCells dialect new → (new ≡ old → ⊥) →
+        CutsOther dialect old new (written_record dialect old new) }
+    ensures longest { (dialect : Dialect) (old new : List ℕ) → AreCells dialect old → AreCells dialect new →
+        AreApart (longest (shown dialect old) (shown dialect new)) }
+    ensures read { (dialect : Dialect) (ds old new : List ℕ) (place end : ℕ) → AreCells dialect old → AreCells dialect new →
+        Stands ds place (written_record dialect old new) end → (same : Bool) × (record_at dialect ds place old ≡ Ok (record { cells = new; place = end; unchanged = same })) }
+{}

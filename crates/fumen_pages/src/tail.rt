@@ -1,0 +1,153 @@
+// What stands behind the cells of a page: its action, and its comment.
+ghost use Rattle.std.specs.Prelude.{◌≡◌, ℕ, ◌+◌, ◌≤◌, length, IfOk, Ok, Err, IsTrue};
+ghost use Rattle.std.specs.Option.{ForSome};
+ghost use Rattle.fumen_digits.specs.Reading.{Gives, number_at};
+ghost use Rattle.fumen_pages.specs.declared.page.Page.{Page};
+ghost use Rattle.fumen_pages.specs.declared.tail.TailFault.{TailFault};
+ghost use Rattle.fumen_pages.specs.Action.{is_inside_in};
+ghost use Rattle.fumen_pages.specs.Reading.{IsTailFault, TailStands, action_at, page_at, part_at, tail_fault};
+
+use crate::action::{Action, ActionFault, read_action};
+use crate::page::Page;
+use fumen_comment::{Comment, CommentFault, read_comment};
+use fumen_digits::{Dialect, DigitFault, read_number};
+use pc_outside::Refused;
+use std::alloc::Global;
+
+/// Why a page can't be read behind its cells. A place is an index among the digits, a page is counted from 1.
+#[derive(Clone, Copy, Debug, PartialEq, Eq)]
+pub enum TailFault {
+    /// A byte that is no digit stands at this place.
+    BadDigit { place: usize },
+    /// The digits end within the number that begins at this place.
+    Truncated { place: usize },
+    /// The number at this place is 1,024 times the cells of a page or more.
+    BadAction { place: usize },
+    /// The operation of this page has a cell outside columns 0 to 9 or the dialect's rows.
+    PieceOutside { page: u32 },
+    /// The group at this place is 96^4 or more, or has a character of value 95 within the length.
+    BadComment { place: usize },
+}
+
+/// Reads a page behind its cells, from its action on: the page of these cells, and the place behind it. The
+/// page is counted from 1.
+///
+/// The first fault from the left is answered.
+pub fn read_page(
+    alloc: Global,
+    digits: &[u8],
+    place: usize,
+    dialect: Dialect,
+    cells: &[u8; 240],
+    page: u32,
+) -> Result<(Page, usize), Refused<TailFault>>
+    requires { place ≤ length digits.now }
+
+    // What reading from the left gives.
+    ensures exact { Gives (λ x. x) tail_fault result (page_at dialect cells.now page digits.now place) }
+
+    // The place behind it is among the digits, or at their end, and its operation lies inside.
+    ensures within { IfOk result (λ x. x.1 ≤ length digits.now) }
+    ensures inside { IfOk result (λ x. ForSome x.0.operation (λ placement. IsTrue (is_inside_in dialect placement))) }
+
+    // The page has these cells and stands there, and a page that stands there is read, unless memory runs out.
+    ensures cells { IfOk result (λ x. x.0.cells ≡ cells.now) }
+    ensures found { IfOk result (λ x. TailStands dialect digits.now place x.0 x.1) }
+    ensures only { (read : Page) (end : ℕ) → read.cells ≡ cells.now → TailStands dialect digits.now place read end →
+        Gives (λ x. x) tail_fault result (Ok (read, end)) }
+
+    // A fault is the first one there, and the first one there is answered, unless memory runs out.
+    ensures fault { (f : TailFault) → result ≡ Err (Refused.Fault f) → IsTailFault dialect page digits.now place (tail_fault f) }
+    ensures fault_only { (f : TailFault) → IsTailFault dialect page digits.now place (tail_fault f) →
+        Gives (λ x. x) tail_fault result (Err (tail_fault f)) }
+{
+    read_tail(alloc, digits, place, dialect, cells, page)
+}
+
+#[tactic(auto, unfolding(crate::specs::Reading::page_at))]
+fn read_tail(
+    alloc: Global,
+    digits: &[u8],
+    place: usize,
+    dialect: Dialect,
+    cells: &[u8; 240],
+    page: u32,
+) -> Result<(Page, usize), Refused<TailFault>>
+    requires { place ≤ length digits.now }
+    ensures { Gives (λ x. x) tail_fault result (page_at dialect cells.now page digits.now place) }
+{
+    let action = action_at(digits, place, dialect, page)?;
+    let (comment, end) = part_at(alloc, digits, place + 3, action.comment)?;
+    let page = Page {
+        cells: *cells,
+        operation: action.operation,
+        rise: action.rise,
+        mirror: action.mirror,
+        colour: action.colour,
+        lock: action.lock,
+        comment,
+    };
+    Ok((page, end))
+}
+
+// The action at a place, its fault as one of a tail.
+#[tactic(auto, unfolding(crate::specs::Reading::action_at))]
+fn action_at(
+    digits: &[u8],
+    place: usize,
+    dialect: Dialect,
+    page: u32,
+) -> Result<Action, Refused<TailFault>>
+    requires { place ≤ length digits.now }
+    ensures exact { Gives (λ action. action) tail_fault result (action_at dialect page digits.now place) }
+    ensures within { IfOk result (λ _. place + 3 ≤ length digits.now) }
+{
+    let number = number_at(digits, place)?;
+    match read_action(dialect, number) {
+        Ok(action) => Ok(action),
+        Err(ActionFault::TooLarge) => Err(Refused::Fault(TailFault::BadAction { place })),
+        Err(ActionFault::Outside) => Err(Refused::Fault(TailFault::PieceOutside { page })),
+    }
+}
+
+// The number of an action at a place, its fault as one of a tail.
+fn number_at(digits: &[u8], place: usize) -> Result<u32, Refused<TailFault>>
+    requires { place ≤ length digits.now }
+    ensures exact { Gives (λ n. n) tail_fault result (number_at digits.now place 3) }
+    ensures within { IfOk result (λ _. place + 3 ≤ length digits.now) }
+{
+    match read_number(digits, place, 3) {
+        Ok(number) => Ok(number),
+        Err(DigitFault::Bad { place }) => Err(Refused::Fault(TailFault::BadDigit { place })),
+        Err(DigitFault::Truncated { place }) => Err(Refused::Fault(TailFault::Truncated { place })),
+    }
+}
+
+// The comment at a place, where there is one, and the place behind it.
+#[tactic(auto, unfolding(crate::specs::Reading::part_at))]
+fn part_at(
+    alloc: Global,
+    digits: &[u8],
+    place: usize,
+    has_comment: bool,
+) -> Result<(Option<Comment>, usize), Refused<TailFault>>
+    requires { place ≤ length digits.now }
+    ensures { Gives (λ x. x) tail_fault result (part_at has_comment digits.now place) }
+{
+    if !has_comment {
+        return Ok((None, place));
+    }
+    match read_comment(alloc, digits, place) {
+        Ok((comment, end)) => Ok((Some(comment), end)),
+        Err(Refused::Fault(CommentFault::BadDigit { place })) => {
+            Err(Refused::Fault(TailFault::BadDigit { place }))
+        }
+        Err(Refused::Fault(CommentFault::Truncated { place })) => {
+            Err(Refused::Fault(TailFault::Truncated { place }))
+        }
+        Err(Refused::Fault(CommentFault::BadComment { place })) => {
+            Err(Refused::Fault(TailFault::BadComment { place }))
+        }
+        Err(Refused::NoMemory) => Err(Refused::NoMemory),
+    }
+}
