@@ -1,0 +1,23 @@
+-- One more page is fit, or has the first fault; and then all are fit.
+use Rattle.std.proofs.Common.{arith}
+use Rattle.std.proofs.lemmas.Result.{err_from_is_err_and}
+use Rattle.fumen_text.proofs.EncodeLaws.{check_starts, check_more, check_stops, check_ends}
+use Rattle.fumen_text.proofs.checks.check_pages.Goals as goal
+
+pub returns-in_err-check_page-clause-fault : goal.returns-in_err-check_page-clause-fault
+returns-in_err-check_page-clause-fault c =
+    let p = err_from_is_err_and c.from_residual.result c.from_residual.ensures.1 in
+    rw (p.1, p.2) (check_stops c.in_err-check_page.field-0.0 c.args.dialect c.args.pages.now c.loop-i.i c.index-pages-i.result (omega arith) (omega (arith, c.if-pages-gt-MOST_PAGES.false)) c.index-pages-i.is c.in_err-check_page.ensures.fault c.loop-i.invariant)
+
+pub loop-i-init : goal.loop-i-init
+loop-i-init c = check_starts c.args.dialect c.args.pages.now
+
+pub loop-i-preserved : goal.loop-i-preserved
+loop-i-preserved c =
+    check_more c.args.dialect c.args.pages.now c.loop-i.i c.index-pages-i.result (omega arith) c.index-pages-i.is c.in_ok-check_page.ensures.fault c.in_ok-check_page.ensures.fit c.loop-i.invariant
+
+pub returns-clause-fault : goal.returns-clause-fault
+returns-clause-fault c = (check_ends c.args.dialect c.args.pages.now c.loop-i.i (omega arith) (omega (arith, c.if-pages-gt-MOST_PAGES.false)) c.loop-i.invariant).0
+
+pub returns-clause-fit : goal.returns-clause-fit
+returns-clause-fit c = (check_ends c.args.dialect c.args.pages.now c.loop-i.i (omega arith) (omega (arith, c.if-pages-gt-MOST_PAGES.false)) c.loop-i.invariant).1

@@ -1,0 +1,99 @@
+// The cells of a page: those that are promised, or those of a record, and the digit behind the unchanged run.
+ghost use Rattle.std.specs.Prelude.{◌≡◌, ◌+◌, ◌≤◌, length, IfOk};
+ghost use Rattle.fumen_digits.specs.Reading.{Gives, number_at};
+ghost use Rattle.fumen_pages.specs.Cells.{AreCells};
+ghost use Rattle.fumen_pages.specs.Reading.{record_at};
+ghost use Rattle.fumen_text.specs.Reading.{cells_at, fumen_fault, promise_at};
+
+use crate::fault::FumenFault;
+use crate::position::Position;
+use fumen_digits::{Dialect, DigitFault, read_number};
+use fumen_pages::{CellsFault, CellsRead, read_cells};
+use pc_outside::Refused;
+
+// Goes behind what spells the cells of the page that is due: they are the cells before it where the page is
+// promised, and else those of its record.
+pub(crate) fn cells_at(
+    digits: &[u8],
+    dialect: Dialect,
+    at: &Position,
+) -> Result<Position, Refused<FumenFault>>
+    requires place { at.now.place ≤ length digits.now }
+    requires cells { AreCells dialect at.now.cells }
+    ensures exact { Gives (λ x. x) fumen_fault result (cells_at dialect digits.now at.now.place at.now.cells at.now.promised) }
+    ensures within { IfOk result (λ x. x.place ≤ length digits.now) }
+    ensures sound { IfOk result (λ x. AreCells dialect x.cells) }
+{
+    if at.promised > 0 {
+        return Ok(Position {
+            place: at.place,
+            cells: at.cells,
+            promised: at.promised - 1,
+        });
+    }
+    let read = record_at(digits, at.place, dialect, &at.cells)?;
+    promise_at(digits, &read)
+}
+
+// Behind a record: the digit of the unchanged run says how many pages it promises.
+fn promise_at(digits: &[u8], read: &CellsRead) -> Result<Position, Refused<FumenFault>>
+    requires { read.now.place ≤ length digits.now }
+    ensures exact { Gives (λ x. x) fumen_fault result (promise_at digits.now read.now) }
+    ensures within { IfOk result (λ x. x.place ≤ length digits.now) }
+    ensures cells { IfOk result (λ x. x.cells ≡ read.now.cells) }
+{
+    if !read.unchanged {
+        return Ok(Position {
+            place: read.place,
+            cells: read.cells,
+            promised: 0,
+        });
+    }
+    let promised = digit_at(digits, read.place)?;
+    Ok(Position {
+        place: read.place + 1,
+        cells: read.cells,
+        promised,
+    })
+}
+
+// The value of the digit at a place, its fault as one of a text.
+fn digit_at(digits: &[u8], place: usize) -> Result<u32, Refused<FumenFault>>
+    requires { place ≤ length digits.now }
+    ensures exact { Gives (λ n. n) fumen_fault result (number_at digits.now place 1) }
+    ensures within { IfOk result (λ _. place + 1 ≤ length digits.now) }
+{
+    match read_number(digits, place, 1) {
+        Ok(value) => Ok(value),
+        Err(DigitFault::Bad { place }) => Err(Refused::Fault(FumenFault::BadDigit { place })),
+        Err(DigitFault::Truncated { place }) => {
+            Err(Refused::Fault(FumenFault::Truncated { place }))
+        }
+    }
+}
+
+// The record at a place, its fault as one of a text.
+fn record_at(
+    digits: &[u8],
+    place: usize,
+    dialect: Dialect,
+    old: &[u8; 240],
+) -> Result<CellsRead, Refused<FumenFault>>
+    requires place { place ≤ length digits.now }
+    requires old { AreCells dialect old.now }
+    ensures exact { Gives (λ read. read) fumen_fault result (record_at dialect digits.now place old.now) }
+    ensures within { IfOk result (λ read. read.place ≤ length digits.now) }
+    ensures sound { IfOk result (λ read. AreCells dialect read.cells) }
+{
+    match read_cells(digits, place, dialect, old) {
+        Ok(read) => Ok(read),
+        Err(CellsFault::BadDigit { place }) => Err(Refused::Fault(FumenFault::BadDigit { place })),
+        Err(CellsFault::Truncated { place }) => {
+            Err(Refused::Fault(FumenFault::Truncated { place }))
+        }
+        Err(CellsFault::RunPastEnd { place }) => {
+            Err(Refused::Fault(FumenFault::RunPastEnd { place }))
+        }
+        Err(CellsFault::BadCell { place }) => Err(Refused::Fault(FumenFault::BadCell { place })),
+    }
+}

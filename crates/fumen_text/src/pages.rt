@@ -1,0 +1,111 @@
+// Pages one after the other, as long as digits are left or pages are promised.
+ghost use Rattle.std.specs.Prelude.{◌≡◌, ◌+◌, ◌≤◌, length, IfOk};
+ghost use Rattle.fumen_digits.specs.Reading.{Gives};
+ghost use Rattle.fumen_pages.specs.Cells.{AreCells};
+ghost use Rattle.fumen_pages.specs.Sound.{IsSound};
+ghost use Rattle.fumen_pages.specs.Reading.{page_at, tail_fault};
+ghost use Rattle.fumen_text.specs.Reading.{fumen_fault, is_due, pages_in, step_at};
+
+use crate::cells::cells_at;
+use crate::fault::{FumenFault, MOST_PAGES};
+use crate::position::Position;
+use fumen_digits::Dialect;
+use fumen_pages::{Page, TailFault, next_cells, read_page};
+use pc_outside::Refused;
+use std::alloc::Global;
+
+// All pages of some digits.
+pub(crate) fn read_pages(
+    alloc: Global,
+    dialect: Dialect,
+    digits: &[u8],
+) -> Result<Vec<Page>, Refused<FumenFault>>
+    ensures { Gives (λ pages. pages.items) fumen_fault result (pages_in dialect digits.now) }
+{
+    let mut pages = Vec::new(alloc);
+    let mut at = Position {
+        place: 0,
+        cells: [0; 240],
+        promised: 0,
+    };
+    while is_due(digits, &at) {
+        let count = pages.len();
+        if count == MOST_PAGES {
+            return Err(Refused::Fault(FumenFault::TooManyPages));
+        }
+        let (page, behind) = step_at(alloc, digits, dialect, &at, count as u32 + 1)?;
+        pages.push(page)?;
+        at = behind;
+    }
+    Ok(pages)
+}
+
+// Whether one more page is due: digits are left, or a page is promised.
+fn is_due(digits: &[u8], at: &Position) -> bool
+    ensures { result ≡ is_due digits.now at.now.place at.now.promised }
+{
+    at.place < digits.len() || at.promised > 0
+}
+
+// The page that is due, counted from 1, and where the reader stands behind it.
+#[tactic(auto, unfolding(crate::specs::Reading::step_at))]
+fn step_at(
+    alloc: Global,
+    digits: &[u8],
+    dialect: Dialect,
+    at: &Position,
+    number: u32,
+) -> Result<(Page, Position), Refused<FumenFault>>
+    requires place { at.now.place ≤ length digits.now }
+    requires cells { AreCells dialect at.now.cells }
+    ensures exact { Gives (λ x. x) fumen_fault result (step_at dialect digits.now number at.now.place at.now.cells at.now.promised) }
+    ensures within { IfOk result (λ x. x.1.place ≤ length digits.now) }
+    ensures sound { IfOk result (λ x. AreCells dialect x.1.cells) }
+{
+    let tail = cells_at(digits, dialect, at)?;
+    let (page, place) = page_at(alloc, digits, dialect, &tail, number)?;
+    let cells = next_cells(dialect, &page);
+    let promised = tail.promised;
+    Ok((
+        page,
+        Position {
+            place,
+            cells,
+            promised,
+        },
+    ))
+}
+
+// The page whose tail stands at a place, and the place behind it, its fault as one of a text.
+fn page_at(
+    alloc: Global,
+    digits: &[u8],
+    dialect: Dialect,
+    at: &Position,
+    number: u32,
+) -> Result<(Page, usize), Refused<FumenFault>>
+    requires place { at.now.place ≤ length digits.now }
+    requires cells { AreCells dialect at.now.cells }
+    ensures exact { Gives (λ x. x) fumen_fault result (page_at dialect at.now.cells number digits.now at.now.place) }
+    ensures within { IfOk result (λ x. x.1 ≤ length digits.now) }
+    ensures sound { IfOk result (λ x. IsSound dialect x.0) }
+{
+    match read_page(alloc, digits, at.place, dialect, &at.cells, number) {
+        Ok(read) => Ok(read),
+        Err(Refused::NoMemory) => Err(Refused::NoMemory),
+        Err(Refused::Fault(fault)) => Err(Refused::Fault(text_fault(fault))),
+    }
+}
+
+// The fault of a tail as one of a text.
+fn text_fault(fault: TailFault) -> FumenFault
+    ensures { fumen_fault result ≡ tail_fault fault }
+{
+    match fault {
+        TailFault::BadDigit { place } => FumenFault::BadDigit { place },
+        TailFault::Truncated { place } => FumenFault::Truncated { place },
+        TailFault::BadAction { place } => FumenFault::BadAction { place },
+        TailFault::PieceOutside { page } => FumenFault::PieceOutside { page },
+        TailFault::BadComment { place } => FumenFault::BadComment { place },
+    }
+}

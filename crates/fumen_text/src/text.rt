@@ -1,0 +1,63 @@
+// Whole texts: the dialect and the pages of a fumen.
+ghost use Rattle.std.specs.Prelude.{◌≡◌, ℕ, List, IfOk, Ok, Err, ◌⊎◌};
+ghost use Rattle.fumen_digits.specs.declared.dialect.Dialect.{Dialect};
+ghost use Rattle.fumen_digits.specs.Fault.{Fault};
+ghost use Rattle.fumen_digits.specs.Reading.{Gives};
+ghost use Rattle.fumen_pages.specs.declared.page.Page.{Page};
+ghost use Rattle.fumen_text.specs.declared.fault.FumenFault.{FumenFault};
+ghost use Rattle.fumen_text.specs.Texts.{ReadsAs};
+ghost use Rattle.fumen_text.specs.Faults.{IsTextFault};
+ghost use Rattle.fumen_text.specs.Reading.{fumen_fault, text_pages};
+
+use crate::fault::FumenFault;
+use crate::pages::read_pages;
+use fumen_digits::{Dialect, digits_of};
+use fumen_pages::Page;
+use pc_outside::Refused;
+use std::alloc::Global;
+
+/// The dialect and the pages of a fumen text.
+///
+/// The digits are those of `digits_of`. While digits are left, or pages are promised to be unchanged, one
+/// more page is read: its record unless it is promised, the digit behind the run `vh` or `7e` that says how
+/// many of the next pages are promised, its action, and its comment. The first fault from the left is
+/// answered. A text with no digits has no pages, and no text has more than 10,000.
+pub fn decode(alloc: Global, text: &[u8]) -> Result<(Dialect, Vec<Page>), Refused<FumenFault>>
+    // What reading from the left gives.
+    ensures exact { Gives (λ x. (x.0, x.1.items)) fumen_fault result (text_pages text.now) }
+
+    // The text reads as these pages, and the pages that it reads as are answered, unless memory runs out.
+    ensures found { IfOk result (λ x. ReadsAs text.now x.0 x.1.items) }
+    ensures only { (dialect : Dialect) (pages : List Page) → ReadsAs text.now dialect pages →
+        Gives {Y = Dialect × List Page} (λ x. (x.0, x.1.items)) fumen_fault result (Ok (dialect, pages)) }
+
+    // A fault is that of the text, and the fault of the text is answered, unless memory runs out.
+    ensures fault { (f : FumenFault) → result ≡ Err (Refused.Fault f) → IsTextFault text.now (fumen_fault f) }
+    ensures fault_only { (f : FumenFault) → IsTextFault text.now (fumen_fault f) →
+        Gives {Y = Dialect × List Page} (λ x. (x.0, x.1.items)) fumen_fault result (Err (fumen_fault f)) }
+{
+    read_text(alloc, text)
+}
+
+fn read_text(alloc: Global, text: &[u8]) -> Result<(Dialect, Vec<Page>), Refused<FumenFault>>
+    ensures { Gives (λ x. (x.0, x.1.items)) fumen_fault result (text_pages text.now) }
+{
+    let framed = digits_of(alloc, text)?;
+    let Some((dialect, digits)) = framed else {
+        return Err(Refused::Fault(FumenFault::NoFumen));
+    };
+    let pages = read_pages(alloc, dialect, &digits)?;
+    Ok((dialect, pages))
+}
+
+/// Each text reads as some pages or has a fault, and never both: no two lists of pages, in no two dialects, and
+/// no two faults.
+pub fn one_reading()
+    ensures some { (text : List ℕ) →
+        ((dialect : Dialect) × (pages : List Page) × ReadsAs text dialect pages) ⊎ ((f : Fault) × IsTextFault text f) }
+    ensures one_list { (text : List ℕ) (dialect other : Dialect) (pages others : List Page) →
+        ReadsAs text dialect pages → ReadsAs text other others → (dialect ≡ other) × (pages ≡ others) }
+    ensures one_fault { (text : List ℕ) (f g : Fault) → IsTextFault text f → IsTextFault text g → f ≡ g }
+    ensures never_both { (text : List ℕ) (dialect : Dialect) (pages : List Page) (f : Fault) →
+        ReadsAs text dialect pages → IsTextFault text f → ⊥ }
+{}

@@ -1,0 +1,149 @@
+// Pages as a fumen text.
+ghost use Rattle.std.specs.Prelude.{◌≡◌, ℕ, ◌<◌, ◌++◌, List, min, nat_eq, All, IfOk, OnOk, None};
+ghost use Rattle.std.specs.List.{AllByRecursion};
+ghost use Rattle.fumen_digits.specs.declared.dialect.Dialect.{Dialect};
+ghost use Rattle.fumen_pages.specs.declared.page.Page.{Page};
+ghost use Rattle.fumen_pages.specs.Cells.{AreCells};
+ghost use Rattle.fumen_pages.specs.Next.{next};
+ghost use Rattle.fumen_text.specs.Texts.{ReadsAs, empty_cells};
+ghost use Rattle.fumen_text.specs.Written.{Finds, HasTypes, IsFit, cells_digits, keeps, list_fault, pages_digits, promised_behind, tail_digits, unchanged_pages, written};
+
+use crate::checks::check_pages;
+use crate::encode_fault::EncodeFault;
+use fumen_comment::{escape, write_comment};
+use fumen_digits::{Dialect, break_lines, push_number};
+use fumen_pages::{Page, action_number, next_cells, write_cells};
+use pc_outside::{NoMemory, Refused};
+use std::alloc::Global;
+
+/// The fumen text of some pages, in a dialect.
+///
+/// A page that keeps the cells which are left before it is written by the run `vh`, or `7e`, and a digit that
+/// promises the unchanged pages behind it, at most 63; those have no record. The record of another page has
+/// the longest runs. Without an operation, rotation and place are written as 0, and a comment is escaped and
+/// filled up with 0.
+///
+/// More than 10,000 pages are refused first; then, page by page, a cell above 8, a cell in a row that the
+/// dialect hasn't, an operation with a cell outside, and an escaped comment of more than 4,095 characters.
+pub fn encode(
+    alloc: Global,
+    dialect: Dialect,
+    pages: &[Page],
+) -> Result<Vec<u8>, Refused<EncodeFault>>
+    // A refusal is the first fault, and pages with a fault are refused, unless memory runs out.
+    ensures fault { Finds result (list_fault dialect pages.now) }
+
+    // The text that is written for these pages, and it reads as them.
+    ensures text { IfOk result (λ text. text.items ≡ written dialect pages.now) }
+    ensures reads { IfOk result (λ text. ReadsAs text.items dialect pages.now) }
+{
+    check_pages(alloc, dialect, pages)?;
+    let digits = write_pages(alloc, dialect, pages)?;
+    let text = break_lines(alloc, dialect, &digits)?;
+    Ok(text)
+}
+
+/// What is written reads as the pages: each list that `encode` doesn't refuse is what `decode` reads in its text.
+pub fn encode_undone()
+    ensures { (dialect : Dialect) (pages : List Page) → AllByRecursion HasTypes pages → list_fault dialect pages ≡ None →
+        ReadsAs (written dialect pages) dialect pages }
+{}
+
+// The digits of all pages.
+fn write_pages(alloc: Global, dialect: Dialect, pages: &[Page]) -> Result<Vec<u8>, NoMemory>
+    requires { All (IsFit dialect) pages.now }
+    ensures { IfOk result (λ digits. digits.items ≡ pages_digits dialect empty_cells 0 pages.now) }
+{
+    let mut digits = Vec::new(alloc);
+    let mut before = [0; 240];
+    let mut promised = 0;
+    for i in 0..pages.len() {
+        let page = &pages[i];
+        promised = push_cells(
+            &mut digits,
+            dialect,
+            &before,
+            promised,
+            page,
+            &pages[i + 1..],
+        )?;
+        push_tail(alloc, &mut digits, dialect, page)?;
+        before = next_cells(dialect, page);
+    }
+    Ok(digits)
+}
+
+// Appends what stands before the tail of a page, and gives the number of pages that are promised behind it.
+#[tactic(auto, unfolding(crate::specs::Written::promised_behind, crate::specs::Written::cells_digits))]
+fn push_cells(
+    digits: &mut Vec<u8>,
+    dialect: Dialect,
+    before: &[u8; 240],
+    promised: u32,
+    page: &Page,
+    rest: &[Page],
+) -> Result<u32, NoMemory>
+    requires before { AreCells dialect before.now }
+    requires page { IsFit dialect page.now }
+    requires rest { All (IsFit dialect) rest.now }
+    ensures after { IfOk result (λ after. after ≡ promised_behind dialect before.now promised page.now rest.now) }
+    ensures digits { IfOk result (λ after. digits.new.items ≡ digits.old.items ++ cells_digits dialect before.now promised page.now after) }
+{
+    if promised > 0 {
+        return Ok(promised - 1);
+    }
+    write_cells(digits, dialect, before, &page.cells)?;
+    if !keeps(before, page) {
+        return Ok(0);
+    }
+    let after = unchanged_pages(dialect, page, rest);
+    push_number(digits, after, 1)?;
+    Ok(after)
+}
+
+// Whether a page has the cells that are left before it.
+fn keeps(before: &[u8; 240], page: &Page) -> bool
+    ensures { result ≡ keeps before.now page.now }
+{
+    page.cells == *before
+}
+
+// How many pages directly behind a page are unchanged, at most 63.
+fn unchanged_pages(dialect: Dialect, page: &Page, rest: &[Page]) -> u32
+    requires page { IsFit dialect page.now }
+    requires rest { All (IsFit dialect) rest.now }
+    ensures value { result ≡ min 63 (unchanged_pages dialect (next dialect page.now) rest.now) }
+    ensures small { result < 64 }
+{
+    let mut count = 0;
+    let mut before = next_cells(dialect, page);
+    for page in rest {
+        if count == 63 {
+            return count;
+        }
+        if !keeps(&before, page) {
+            return count;
+        }
+        count += 1;
+        before = next_cells(dialect, page);
+    }
+    count
+}
+
+// Appends the action and the comment of a page.
+fn push_tail(
+    alloc: Global,
+    digits: &mut Vec<u8>,
+    dialect: Dialect,
+    page: &Page,
+) -> Result<(), NoMemory>
+    requires { IsFit dialect page.now }
+    ensures { OnOk result (digits.new.items ≡ digits.old.items ++ tail_digits dialect page.now) }
+{
+    push_number(digits, action_number(dialect, page), 3)?;
+    if let Some(comment) = &page.comment {
+        let text = escape(alloc, comment.units())?;
+        write_comment(digits, &text)?;
+    }
+    Ok(())
+}
