@@ -1,0 +1,2 @@
+-- Lemmas of the rows of a page.
+pub mod RowLemmas
