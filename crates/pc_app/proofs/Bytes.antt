@@ -4,7 +4,7 @@ use Rattle.std.proofs.lemmas.List.{drop_all}
 use Rattle.std.proofs.lemmas.Bool.{ltb-true}
 use Rattle.srs.specs.declared.placement.Placement.{Placement}
 use Rattle.pc_app.specs.declared.placement_text.Reading.{Reading}
-use Rattle.pc_app.specs.After.{read_from, read_on, step, may_end, unread, sequence_in}
+use Rattle.pc_app.specs.Reading.{read_from, read_on, step, may_end, unread, sequence_in}
 
 -- the bytes from a place on
 here : (text : List ℕ) (i : ℕ) → i < length text → drop i text ≡ get_or text i 0 ∷ drop (i + 1) text

@@ -1,10 +1,16 @@
--- What a command writes is determined by its words.
+-- What a command writes is determined by its words and the bytes of the source.
 use Rattle.std.proofs.Common.{◌≡◌, ℕ, List, [], ◌∷◌, append-nil, refl, sym, ap, subst, ◌∙◌, inl, inr, Option, Some, None, Result, Ok, Err, IsTrue}
 use Rattle.std.specs.Prelude.{Contains}
 use Rattle.std.specs.List.Sorted.{IsStrictlySortedBy}
 use Rattle.std.specs.Cmp.{IsTotalOrder, tied_itself}
 use Rattle.std.specs.declared.cmp.Ordering.{Ordering}
 use Rattle.std.specs.declared.cmp.Ordering.TheVariants.{Less, Equal}
+use Rattle.std.specs.List.{flat_map}
+use Rattle.std.proofs.lemmas.Option.{same_Some}
+use Rattle.fumen_pages.specs.declared.page.Page.{Page}
+use Rattle.fumen_text.proofs.TextLaws.{one_list}
+use Rattle.page_list.specs.Line.{page_form}
+use Rattle.report.specs.Page.{shown_page}
 use Rattle.srs.specs.declared.placement.Placement.{Placement}
 use Rattle.srs.specs.Rising.{is_above, IsRisingListOf}
 use Rattle.srs.specs.Order.{sequence_cmp}
@@ -21,14 +27,15 @@ use Rattle.hold_queue.specs.Permits.{SomePermits}
 use Rattle.enumerate.specs.declared.problem.Problem.{Problem}
 use Rattle.enumerate.specs.Plays.{Plays}
 use Rattle.enumerate.specs.Solution.{IsSolution, pieces_of}
-use Rattle.report.specs.Forms.{report_form}
+use Rattle.report.specs.Forms.{key_part, report_form}
 use Rattle.pc_outside.specs.Writes.{Grows, GrowsByFront}
 use Rattle.pc_outside.specs.WriteLaws.{begins, is_front}
 use Rattle.pc_app.specs.declared.words.WordsFault.{WordsFault}
 use Rattle.pc_app.specs.Answers.{Wrote, WroteFront}
-use Rattle.pc_app.specs.Words.{PathQuestion, Question, path, settings}
+use Rattle.pc_app.specs.Words.{PathQuestion, Question, path, settings, decode, show}
 use Rattle.pc_app.specs.Question.{IsProblemOf, IsGiven}
-use Rattle.pc_app.specs.Output.{IsPathOutput, IsOutputOf, IsOutput}
+use Rattle.pc_app.proofs.Fronts.{one_spelled}
+use Rattle.pc_app.specs.Output.{IsPathOutput, IsOutputOf, IsOutput, IsDecodeOutput, IsShown, IsShowOutput}
 
 -- of the same things there is one rising list
 module _ {A : Type 0} (cmp : A → A → Ordering) (total : IsTotalOrder cmp) where
@@ -95,7 +102,12 @@ same_given : (needed : ℕ) (text : Option (List ℕ)) (one other : Option (List
 same_given needed None one other first second = first ∙ sym second
 same_given needed (Some text) None other first second = absurd first
 same_given needed (Some text) (Some one) None first second = absurd second
-same_given needed (Some text) (Some one) (Some other) first second = cc
+same_given needed (Some text) (Some one) (Some other) first second = ap (λ s. Some s) (one_spelled needed text one other first second)
+
+-- and the same reports
+one_report : (question : PathQuestion) (one other : Problem) → IsProblemOf question one → IsProblemOf question other → (xs ys : List (List Placement)) → xs ≡ ys →
+    report_form (key_part question.keys (table_of one.rules) one.drop_mode) (filled one.well) question.limit xs ≡ report_form (key_part question.keys (table_of other.rules) other.drop_mode) (filled other.well) question.limit ys
+one_report question one other first second xs ys same = λ i. report_form (key_part question.keys ((first.rules ∙ sym second.rules) i) ((first.drop ∙ sym second.drop) i)) ((first.field ∙ sym second.field) i) question.limit (same i)
 
 path_output_unique : (question : PathQuestion) (a b : List ℕ) → IsPathOutput question a → IsPathOutput question b → a ≡ b
 path_output_unique question a b first second =
@@ -103,17 +115,34 @@ path_output_unique question a b first second =
     let same : first.sequences ≡ second.sequences = rising_list_unique sequence_cmp sequence_cmp-total first.sequences second.sequences first.list second.list
     (λ s m. record { solution = solution_of_same question first.problem second.problem first.named second.named s m.solution; above = subst (λ bound. IsTrue (is_above sequence_cmp bound s)) after m.above })
     (λ s m. record { solution = solution_of_same question second.problem first.problem second.named first.named s m.solution; above = subst (λ bound. IsTrue (is_above sequence_cmp bound s)) (sym after) m.above }) in
-    first.report ∙ ap (report_form question.limit) same ∙ sym second.report
+    first.report ∙ one_report question first.problem second.problem first.named second.named first.sequences second.sequences same ∙ sym second.report
 
-output_of_unique : (asked : Result Question WordsFault) (a b : List ℕ) → IsOutputOf asked a → IsOutputOf asked b → a ≡ b
-output_of_unique (Ok (path question)) a b first second = path_output_unique question a b first second
-output_of_unique (Err fault) a b first second = absurd first
+pub decode_output_unique : (bytes a b : List ℕ) → IsDecodeOutput bytes a → IsDecodeOutput bytes b → a ≡ b
+decode_output_unique bytes a b first second =
+    first.lines ∙ ap (flat_map page_form) (one_list bytes first.dialect first.pages second.dialect second.pages first.reads second.reads).1 ∙ sym second.lines
 
--- the words determine what is written
-pub output_unique : (words : List (List ℕ)) (a b : List ℕ) → IsOutput words a → IsOutput words b → a ≡ b
-output_unique words = output_of_unique (settings words)
+same_shown : (asked : Option ℕ) (pages : List Page) (a b : List ℕ) → IsShown asked pages a → IsShown asked pages b → a ≡ b
+same_shown None pages a b first second = first ∙ sym second
+same_shown (Some asked) pages a b first second =
+    first.2 ∙ ap (shown_page asked) (same_Some first.0 second.0 (sym first.1 ∙ second.1)) ∙ sym second.2
 
-whole_is_front : {old new : Option (List ℕ)} {bytes : List ℕ} → Grows old new bytes → GrowsByFront old new bytes
+pub show_output_unique : (asked : Option ℕ) (bytes a b : List ℕ) → IsShowOutput asked bytes a → IsShowOutput asked bytes b → a ≡ b
+show_output_unique asked bytes a b first second =
+    let same = (one_list bytes first.dialect first.pages second.dialect second.pages first.reads second.reads).1 in
+    same_shown asked second.pages a b (subst (λ pages. IsShown asked pages a) same first.shown) second.shown
+
+output_of_unique : (asked : Result Question WordsFault) (bytes a b : List ℕ) → IsOutputOf asked bytes a → IsOutputOf asked bytes b → a ≡ b
+output_of_unique (Ok (path question)) bytes a b first second = path_output_unique question a b first second
+output_of_unique (Ok decode) bytes a b first second = decode_output_unique bytes a b first second
+output_of_unique (Ok (show asked)) bytes a b first second = show_output_unique asked bytes a b first second
+output_of_unique (Err fault) bytes a b first second = absurd first
+
+-- the words and the source's bytes determine what is written
+pub output_unique : (words : List (List ℕ)) (bytes a b : List ℕ) → IsOutput words bytes a → IsOutput words bytes b → a ≡ b
+output_unique words bytes = output_of_unique (settings words) bytes
+
+-- the whole is a front of itself
+pub whole_is_front : {old new : Option (List ℕ)} {bytes : List ℕ} → Grows old new bytes → GrowsByFront old new bytes
 whole_is_front {bytes = bytes} grown = record { rest = []; up_to = record { front = bytes; divided = sym (append-nil bytes); grown = grown } }
 
 -- nothing was appended, which is a front of anything

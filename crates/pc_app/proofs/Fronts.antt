@@ -1,13 +1,18 @@
 -- The place at which a sequence's text is refused is the length of the longest front that begins such a text.
-use Rattle.std.proofs.Common.{◌≡◌, ℕ, zero, suc, ◌+◌, ◌-◌, ◌<◌, ◌≤◌, ◌==◌, ◌&&◌, Bool, true, false, nat_lt, List, [], ◌∷◌, ◌++◌, length, take, Option, Some, None, Result, Ok, Err, refl, sym, ap, subst, ◌∙◌, arith, inl, inr, ◌⊎◌}
+use Rattle.std.proofs.Common.{◌≡◌, ℕ, zero, suc, ◌+◌, ◌-◌, ◌<◌, ◌≤◌, ◌==◌, ◌&&◌, Bool, true, false, nat_lt, List, [], ◌∷◌, ◌++◌, length, take, Option, Some, None, Result, Ok, Err, refl, sym, ap, subst, ◌∙◌, arith, inl, inr, ◌⊎◌, ◌↔◌}
 use Rattle.srs.specs.declared.placement.Placement.{Placement}
 use Rattle.srs.specs.declared.piece.Piece.TheVariants.{I}
 use Rattle.srs.specs.declared.rotation.Rotation.TheVariants.{Spawn}
-use Rattle.std.proofs.lemmas.Bool.{lt-ltb}
+use Rattle.std.proofs.lemmas.Bool.{lt-ltb, cases_lt}
 use Rattle.pc_app.specs.declared.placement_text.Due.{Due}
 use Rattle.pc_app.specs.declared.placement_text.Due.TheVariants as due
 use Rattle.pc_app.specs.declared.placement_text.Reading.{Reading}
-use Rattle.pc_app.specs.After.{read_from, reading, step, may_end, unread, sequence_in, IsLongestFront}
+use Rattle.pc_app.specs.Reading.{read_from, reading, step, may_end, unread, sequence_in}
+use Rattle.pc_app.specs.SequenceText.{Spells, IsLongestFront, IsBadAfter}
+use Rattle.pc_app.specs.declared.faults.Fault.TheVariants.{BadAfter}
+use Rattle.pc_app.specs.Faults.{sequence_fault, after_fault}
+use Rattle.pc_app.proofs.SpelledText.{read-from_spelled}
+use Rattle.pc_app.proofs.ReadText.{spelled_from_read}
 
 abbrev pub Answer : Type 0
 Answer = Result (List Placement) ℕ
@@ -152,14 +157,14 @@ both_ways : {place : ℕ} {sequence : List Placement} {answer : Answer} → answ
 both_ways e f = cc
 
 -- a text is refused at the end of its longest front that begins the text of a sequence
-pub longest_front : (needed : ℕ) (text : List ℕ) (place : ℕ) → sequence_in needed text ≡ Err place → IsLongestFront needed text place
+longest_front : (needed : ℕ) (text : List ℕ) (place : ℕ) → sequence_in needed text ≡ Err place → IsLongestFront needed text place
 longest_front zero [] place refused = absurd (both_ways {sequence = []} refused refl)
 longest_front zero (byte ∷ bytes) place refused =
     let same : 0 ≡ place = same_place 0 place refused in
     subst (IsLongestFront zero (byte ∷ bytes)) same (record {
       within = omega arith;
-      begins = record { rest = []; sequence = []; whole = refl };
-      longest = λ longer above within front. no_longer longer above front.rest front.sequence front.whole;
+      begins = record { rest = []; sequence = []; whole = spelled_from_read zero [] [] refl };
+      longest = λ longer above within front. no_longer longer above front.rest front.sequence (read-from_spelled zero _ front.sequence front.whole);
     })
   where
     no_longer : (longer : ℕ) → 0 < longer → (rest : List ℕ) (sequence : List Placement) → sequence_in zero (take longer (byte ∷ bytes) ++ rest) ≡ Ok sequence → ⊥
@@ -171,6 +176,62 @@ longest_front (suc left) text place refused =
     let all : place - 0 ≡ place = omega arith in
     record {
       within = omega arith;
-      begins = record { rest = f.rest; sequence = f.sequence; whole = rw all at f.whole };
-      longest = λ longer above within front. both_ways (f.longer longer (omega arith) within front.rest) front.whole;
+      begins = record { rest = f.rest; sequence = f.sequence; whole = spelled_from_read (suc left) (take place text ++ f.rest) f.sequence (rw all at f.whole) };
+      longest = λ longer above within front. both_ways (f.longer longer (omega arith) within front.rest) (read-from_spelled (suc left) _ front.sequence front.whole);
     }
+
+bad-from_refused : (needed : ℕ) (text : List ℕ) (place : ℕ) → sequence_in needed text ≡ Err place → IsBadAfter needed text place
+bad-from_refused needed text place refused = record {
+  unspelled = λ sequence spelled. both_ways refused (read-from_spelled needed text sequence spelled);
+  longest_front = longest_front needed text place refused;
+}
+
+one_longest : (needed : ℕ) (text : List ℕ) (one other : ℕ) → IsLongestFront needed text one → IsLongestFront needed text other → one ≡ other
+one_longest needed text one other first second = elim (cases_lt one other) [
+  | inl above ↦ absurd (first.longest other above second.within second.begins)
+  | inr not_above ↦ elim (cases_lt other one) [
+    | inl above ↦ absurd (second.longest one above first.within first.begins)
+    | inr not_below ↦ omega (arith, not_above, not_below)
+  ]
+]
+
+refused-from_bad : (needed : ℕ) (text : List ℕ) (place : ℕ) → IsBadAfter needed text place → sequence_in needed text ≡ Err place
+refused-from_bad needed text place bad = by (sequence_in needed text) refl
+  where
+    by : (answer : Answer) → sequence_in needed text ≡ answer → sequence_in needed text ≡ Err place
+    by (Ok sequence) is = absurd (bad.unspelled sequence (spelled_from_read needed text sequence is))
+    by (Err refused) is = is ∙ ap (λ p. Err p) (one_longest needed text refused place (longest_front needed text refused is) bad.longest_front)
+
+-- what a text is read as, it spells; where it is refused, it spells nothing
+pub read_as_spelled : (needed : ℕ) (text : List ℕ) (sequence : List Placement) → (sequence_in needed text ≡ Ok sequence) ↔ Spells needed text sequence
+read_as_spelled needed text sequence = (spelled_from_read needed text sequence, read-from_spelled needed text sequence)
+
+pub refused_where_bad : (needed : ℕ) (text : List ℕ) (place : ℕ) → (sequence_in needed text ≡ Err place) ↔ IsBadAfter needed text place
+refused_where_bad needed text place = (bad-from_refused needed text place, refused-from_bad needed text place)
+
+pub one_spelled : (needed : ℕ) (text : List ℕ) (one other : List Placement) → Spells needed text one → Spells needed text other → one ≡ other
+one_spelled needed text one other first second =
+    let a = read-from_spelled needed text one first in
+    let b = read-from_spelled needed text other second in
+    cc
+
+-- the fault of a given text
+no_fault : (answer : Answer) → sequence_fault answer ≡ None → (sequence : List Placement) × (answer ≡ Ok sequence)
+no_fault (Ok sequence) is = (sequence, refl)
+no_fault (Err place) is = cc
+
+refused_at : (answer : Answer) (place : ℕ) → sequence_fault answer ≡ Some (BadAfter place) → answer ≡ Err place
+refused_at (Ok sequence) place is = cc
+refused_at (Err there) place is = cc
+
+pub no_fault_where_spelled : (needed : ℕ) (text : List ℕ) → (after_fault needed (Some text) ≡ None) ↔ ((sequence : List Placement) × Spells needed text sequence)
+no_fault_where_spelled needed text = (
+  λ none. let found = no_fault (sequence_in needed text) none in (found.0, spelled_from_read needed text found.0 found.1),
+  λ spelled. ap sequence_fault (read-from_spelled needed text spelled.0 spelled.1),
+)
+
+pub bad_after_where_bad : (needed : ℕ) (text : List ℕ) (place : ℕ) → (after_fault needed (Some text) ≡ Some (BadAfter place)) ↔ IsBadAfter needed text place
+bad_after_where_bad needed text place = (
+  λ bad. bad-from_refused needed text place (refused_at (sequence_in needed text) place bad),
+  λ bad. ap sequence_fault (refused-from_bad needed text place bad),
+)

@@ -3,4 +3,10 @@ pub mod Pairs
 pub mod Bytes
 pub mod Reports
 pub mod Determined
+pub mod SpelledText
+pub mod ReadText
 pub mod Fronts
+pub mod WrittenText
+pub mod ShowablePages
+pub mod SourceLaws
+pub mod PageAnswers

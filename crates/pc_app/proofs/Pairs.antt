@@ -3,6 +3,7 @@ use Rattle.std.proofs.Common.{◌≡◌, ℕ, zero, suc, ◌+◌, ◌<◌, ◌�
 use Rattle.std.specs.List.{slice_get}
 use Rattle.std.proofs.lemmas.List.{get_or-map, drop_all}
 use Rattle.pc_app.specs.declared.words.WordsFault.{WordsFault}
+use Rattle.pc_app.specs.declared.names.Command.{Command}
 use Rattle.pc_app.specs.Given.{Given}
 use Rattle.pc_app.specs.Words.{pair_read, pairs_read, then_given}
 
@@ -22,27 +23,27 @@ then_ok (Ok given) = refl
 then_ok (Err fault) = refl
 
 -- the pairs that begin with a name
-pairs_on : (given : Given) (i j : ℕ) (name : List ℕ) (tail : List (List ℕ)) → i + 2 ≡ j
-    → pairs_read given i (name ∷ tail) ≡ then_given (pair_read given i name (slice_get tail 0)) (λ more. pairs_read more j (drop 1 tail))
+pairs_on : (command : Command) (given : Given) (i j : ℕ) (name : List ℕ) (tail : List (List ℕ)) → i + 2 ≡ j
+    → pairs_read command given i (name ∷ tail) ≡ then_given (pair_read command given i name (slice_get tail 0)) (λ more. pairs_read command more j (drop 1 tail))
 unfolding pairs_read
-pairs_on given i j name [] e = then_ok (pair_read given i name None)
-pairs_on given i j name (value ∷ rest) e = ap (λ k. then_given (pair_read given i name (Some value)) (λ more. pairs_read more k rest)) e
+pairs_on command given i j name [] e = then_ok (pair_read command given i name None)
+pairs_on command given i j name (value ∷ rest) e = ap (λ k. then_given (pair_read command given i name (Some value)) (λ more. pairs_read command more k rest)) e
 
 -- what the pairs from an index on are read as, by the first of them
-pub reads_on : (given : Given) (i : ℕ) (texts : List (List ℕ)) (name : List ℕ) (value : Option (List ℕ)) (first : Result Given WordsFault)
-    → i < length texts → name ≡ get_or texts i [] → value ≡ slice_get texts (i + 1) → first ≡ pair_read given i name value
-    → pairs_read given i (drop i texts) ≡ then_given first (λ more. pairs_read more (i + 2) (drop (i + 2) texts))
-reads_on given i texts name value first within named valued read =
+pub reads_on : (command : Command) (given : Given) (i : ℕ) (texts : List (List ℕ)) (name : List ℕ) (value : Option (List ℕ)) (first : Result Given WordsFault)
+    → i < length texts → name ≡ get_or texts i [] → value ≡ slice_get texts (i + 1) → first ≡ pair_read command given i name value
+    → pairs_read command given i (drop i texts) ≡ then_given first (λ more. pairs_read command more (i + 2) (drop (i + 2) texts))
+reads_on command given i texts name value first within named valued read =
     let h = cut texts i within in
     let after : drop (i + 2) texts ≡ drop 1 (drop (suc i) texts) = let e : i + 2 ≡ suc (suc i) = omega arith in ap (λ k. drop k texts) e ∙ h.later in
     let given_value : value ≡ slice_get (drop (suc i) texts) 0 = let e : i + 1 ≡ suc i = omega arith in valued ∙ ap (slice_get texts) e ∙ h.next in
-    let on = pairs_on given i (i + 2) (get_or texts i []) (drop (suc i) texts) refl in
+    let on = pairs_on command given i (i + 2) (get_or texts i []) (drop (suc i) texts) refl in
     rw (h.here, after, read, named, given_value) on
 
 -- no pairs are left
-pub reads_none : (given : Given) (i : ℕ) (texts : List (List ℕ)) → length texts ≤ i → pairs_read given i (drop i texts) ≡ Ok given
+pub reads_none : (command : Command) (given : Given) (i : ℕ) (texts : List (List ℕ)) → length texts ≤ i → pairs_read command given i (drop i texts) ≡ Ok given
 unfolding pairs_read
-reads_none given i texts past = ap (pairs_read given i) (drop_all i texts past)
+reads_none command given i texts past = ap (pairs_read command given i) (drop_all i texts past)
 
 -- the text of a word
 pub text_at : {W : Type 0} (text : W → List ℕ) (words : List W) (i : ℕ) (word : W) → i < length words → word ≡ get_or words i word → text word ≡ get_or (map text words) i []

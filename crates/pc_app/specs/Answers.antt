@@ -1,8 +1,12 @@
--- What each status says of the fault, the output and the sink.
-use Rattle.std.specs.Prelude.{◌≡◌, ℕ, List, Option, Some, None}
+-- What each status says of the fault, the output, the sink and the source.
+use Rattle.std.specs.Prelude.{◌≡◌, ◌≢◌, ◌+◌, ◌⊎◌, ℕ, List, [], Bool, true, false, Option, Some, None}
+use Rattle.std.specs.Option.{ForSome}
 use Rattle.pc_outside.specs.Counts.{Rose}
+use Rattle.pc_outside.specs.Reads.{TakesFirst, TakesAtMost}
 use Rattle.pc_outside.specs.Writes.{Grows, GrowsByFront}
 use Rattle.pc_app.specs.declared.faults.Fault.{Fault}
+use Rattle.pc_app.specs.declared.faults.Fault.TheVariants.{SourceTooLong}
+use Rattle.pc_app.specs.Faults.{most_bytes}
 use Rattle.pc_app.specs.declared.status.Status.{Status}
 use Rattle.pc_app.specs.declared.status.Status.TheVariants.{Done, Input, SourceFault, SinkFault, NoMemory}
 
@@ -31,3 +35,29 @@ Answers fault Outputs old new before now Kept (Input found) = (fault ≡ Some fo
 Answers fault Outputs old new before now Kept SourceFault = ⊥
 Answers fault Outputs old new before now Kept SinkFault = FailedAfterFront fault Outputs old new before now
 Answers fault Outputs old new before now Kept NoMemory = (fault ≡ None) × Kept
+
+-- the same of a command that reads the source: a read may fail, and want of memory may come at any time
+abbrev pub AnswersReading : Option Fault → (List ℕ → Type 0) → Option (List ℕ) → Option (List ℕ) → ℕ → ℕ → Type 0 → Status → Type 0
+AnswersReading fault Outputs old new before now Kept SourceFault = Kept
+AnswersReading fault Outputs old new before now Kept NoMemory = ((fault ≡ None) × WroteFront Outputs old new) ⊎ Kept
+AnswersReading fault Outputs old new before now Kept status = Answers fault Outputs old new before now Kept status
+
+abbrev pub AnswersOf : Bool → Option Fault → (List ℕ → Type 0) → Option (List ℕ) → Option (List ℕ) → ℕ → ℕ → Type 0 → Status → Type 0
+AnswersOf true fault Outputs old new before now Kept status = AnswersReading fault Outputs old new before now Kept status
+AnswersOf false fault Outputs old new before now Kept status = Answers fault Outputs old new before now Kept status
+
+-- what a command that reads the source leaves of it: nothing at Done, and all but the first bytes where there are too many
+pub record ReadsSource (old new : Option (List ℕ)) (status : Status) : Type 0 where
+  pub ended : status ≡ Done → ForSome old (λ _. new ≡ Some [])
+  pub too_long : status ≡ Input SourceTooLong → TakesFirst old new (most_bytes + 1)
+  pub most : TakesAtMost old new (most_bytes + 1)
+
+-- what a command leaves of the source: all of it, where `Kept` says that it was not touched
+abbrev pub LeavesSource : Bool → Option (List ℕ) → Option (List ℕ) → Type 0 → Status → Type 0
+LeavesSource true old new Kept status = ReadsSource old new status
+LeavesSource false old new Kept status = Kept × (status ≢ SourceFault)
+
+-- How a run ends where a fault stands: by this fault. Where the source is read, a read may fail or memory run out before.
+abbrev pub Refuses : Bool → Fault → Status → Type 0
+Refuses true fault status = (status ≡ Input fault) ⊎ (status ≡ SourceFault) ⊎ (status ≡ NoMemory)
+Refuses false fault status = status ≡ Input fault

@@ -5,10 +5,12 @@ use Rattle.well.specs.declared.rows.RowsFault.{RowsFault}
 use Rattle.well.specs.declared.rows.RowsFault.TheVariants.{BadRowChar, BadRowLength, TooManyRows}
 use Rattle.queue_pattern.specs.declared.fault.PatternFault.{PatternFault}
 use Rattle.queue_pattern.specs.declared.fault.PatternFault.TheVariants.{Unexpected, RepeatedPiece, TooManyChosen, PatternTooLong, TooManyQueues}
+use Rattle.fumen_text.specs.declared.fault.FumenFault.{FumenFault}
+use Rattle.fumen_text.specs.declared.fault.FumenFault.TheVariants as fumen
 use Rattle.pc_app.specs.declared.words.WordsKind.{WordsKind}
 use Rattle.pc_app.specs.declared.words.WordsKind.TheVariants.{NoCommand, UnknownCommand, UnknownOption, RepeatedOption, MissingValue, BadValue, MissingOption}
 use Rattle.pc_app.specs.declared.faults.Fault.{Fault}
-use Rattle.pc_app.specs.declared.faults.Fault.TheVariants.{Words, Rows, FieldTooHigh, FullRow, Pattern, TooFewPieces, BadAfter}
+use Rattle.pc_app.specs.declared.faults.Fault.TheVariants.{Words, SourceTooLong, Fumen, NoPage, Rows, FieldTooHigh, FullRow, Pattern, TooFewPieces, BadAfter}
 
 abbrev pub words_name : WordsKind → List ℕ
 words_name NoCommand = codes "Words.NoCommand"
@@ -31,8 +33,22 @@ pattern_name (TooManyChosen place) = codes "Pattern.TooManyChosen"
 pattern_name PatternTooLong = codes "Pattern.PatternTooLong"
 pattern_name TooManyQueues = codes "Pattern.TooManyQueues"
 
+abbrev pub fumen_name : FumenFault → List ℕ
+fumen_name fumen.NoFumen = codes "Fumen.NoFumen"
+fumen_name (fumen.BadDigit place) = codes "Fumen.BadDigit"
+fumen_name (fumen.Truncated place) = codes "Fumen.Truncated"
+fumen_name (fumen.RunPastEnd place) = codes "Fumen.RunPastEnd"
+fumen_name (fumen.BadCell place) = codes "Fumen.BadCell"
+fumen_name (fumen.BadAction place) = codes "Fumen.BadAction"
+fumen_name (fumen.PieceOutside page) = codes "Fumen.PieceOutside"
+fumen_name (fumen.BadComment place) = codes "Fumen.BadComment"
+fumen_name fumen.TooManyPages = codes "Fumen.TooManyPages"
+
 abbrev pub fault_name : Fault → List ℕ
 fault_name (Words fault) = words_name fault.kind
+fault_name SourceTooLong = codes "SourceTooLong"
+fault_name (Fumen fault) = fumen_name fault
+fault_name (NoPage asked there) = codes "NoPage"
 fault_name (Rows fault) = rows_name fault
 fault_name (FieldTooHigh row) = codes "FieldTooHigh"
 fault_name (FullRow row) = codes "FullRow"
@@ -52,8 +68,22 @@ pattern_numbers (TooManyChosen place) = place ∷ []
 pattern_numbers PatternTooLong = []
 pattern_numbers TooManyQueues = []
 
+abbrev pub fumen_numbers : FumenFault → List ℕ
+fumen_numbers fumen.NoFumen = []
+fumen_numbers (fumen.BadDigit place) = place ∷ []
+fumen_numbers (fumen.Truncated place) = place ∷ []
+fumen_numbers (fumen.RunPastEnd place) = place ∷ []
+fumen_numbers (fumen.BadCell place) = place ∷ []
+fumen_numbers (fumen.BadAction place) = place ∷ []
+fumen_numbers (fumen.PieceOutside page) = page ∷ []
+fumen_numbers (fumen.BadComment place) = place ∷ []
+fumen_numbers fumen.TooManyPages = []
+
 abbrev pub fault_numbers : Fault → List ℕ
 fault_numbers (Words fault) = fault.index ∷ []
+fault_numbers SourceTooLong = []
+fault_numbers (Fumen fault) = fumen_numbers fault
+fault_numbers (NoPage asked there) = asked ∷ there ∷ []
 fault_numbers (Rows fault) = rows_numbers fault
 fault_numbers (FieldTooHigh row) = row ∷ []
 fault_numbers (FullRow row) = row ∷ []

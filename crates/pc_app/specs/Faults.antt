@@ -1,5 +1,5 @@
 -- The first fault of what the words name, in the order in which it is looked into.
-use Rattle.std.specs.Prelude.{ℕ, ◌/◌, ◌%◌, ◌&&◌, ◌==◌, nat_lt, if◌then◌else◌, List, [], ◌∷◌, Option, Some, None, option_map, Result, Ok, Err}
+use Rattle.std.specs.Prelude.{ℕ, ◌/◌, ◌%◌, ◌&&◌, ◌==◌, nat_lt, if◌then◌else◌, List, [], ◌∷◌, length, Option, Some, None, option_map, Result, Ok, Err}
 use Rattle.lane_board.specs.Field.{Field}
 use Rattle.well.specs.Rows.{rows_fault, written_cells}
 use Rattle.well.specs.Counts.{empties_below, lowest_full, lowest_filled_from}
@@ -8,11 +8,16 @@ use Rattle.queue_pattern.specs.declared.fault.PatternFault.{PatternFault}
 use Rattle.queue_pattern.specs.Grammar.{elements, limited}
 use Rattle.queue_pattern.specs.Queues.{queue_len}
 use Rattle.srs.specs.declared.placement.Placement.{Placement}
+use Rattle.fumen_digits.specs.declared.dialect.Dialect.{Dialect}
+use Rattle.fumen_digits.specs.Fault.{Fault as TextFault}
+use Rattle.fumen_pages.specs.declared.page.Page.{Page}
+use Rattle.fumen_text.specs.Reading.{text_pages}
+use Rattle.pc_app.specs.Named.{named}
 use Rattle.pc_app.specs.declared.words.WordsFault.{WordsFault}
 use Rattle.pc_app.specs.declared.faults.Fault.{Fault}
 use Rattle.pc_app.specs.declared.faults.Fault.TheVariants as faults
-use Rattle.pc_app.specs.After.{sequence_in}
-use Rattle.pc_app.specs.Words.{FieldText, rows_text, PathQuestion, Question, path, settings}
+use Rattle.pc_app.specs.Reading.{sequence_in}
+use Rattle.pc_app.specs.Words.{FieldText, rows_text, PathQuestion, Question, path, decode, show, settings}
 
 -- the first of these that is one
 abbrev pub first_of_these : List (Option Fault) → Option Fault
@@ -51,7 +56,8 @@ abbrev pub sequence_fault : Result (List Placement) ℕ → Option Fault
 sequence_fault (Ok sequence) = None
 sequence_fault (Err place) = Some (faults.BadAfter place)
 
--- a given sequence has as many placements as are needed
+-- A given text spells a sequence of as many placements as are needed, or is refused at the length of its longest front that
+-- begins one: the law `bad_after_is_at_the_longest_front` says this of the reading `sequence_in`.
 abbrev pub after_fault : ℕ → Option (List ℕ) → Option Fault
 after_fault needed None = None
 after_fault needed (Some text) = sequence_fault (sequence_in needed text)
@@ -73,10 +79,40 @@ path_fault question = first_of_these (
     ∷ after_fault (empties_asked question / 4) question.after
     ∷ [])
 
-abbrev pub question_fault : Result Question WordsFault → Option Fault
-question_fault (Err fault) = Some (faults.Words fault)
-question_fault (Ok (path question)) = path_fault question
+-- the most bytes that are read from the source
+abbrev pub most_bytes : ℕ
+most_bytes = 4194304
 
--- the first fault of the words, or of what they name
-unfoldable pub first_fault : List (List ℕ) → Option Fault
-first_fault words = question_fault (settings words)
+abbrev pub length_fault : ℕ → Option Fault
+length_fault count = if nat_lt most_bytes count then Some faults.SourceTooLong else None
+
+abbrev pub pages_fault : Result (Dialect × List Page) TextFault → Option Fault
+pages_fault (Ok pages) = None
+pages_fault (Err fault) = Some (faults.Fumen (named fault))
+
+-- the source is a fumen text
+unfoldable pub source_fault : List ℕ → Option Fault
+source_fault bytes = first_of_these (length_fault (length bytes) ∷ pages_fault (text_pages bytes) ∷ [])
+
+-- a page that is asked for stands in the list
+abbrev pub page_fault : Option ℕ → List Page → Option Fault
+page_fault None pages = None
+page_fault (Some asked) pages = if nat_lt (length pages) asked then Some (faults.NoPage asked (length pages)) else None
+
+abbrev pub asked_fault : Option ℕ → Result (Dialect × List Page) TextFault → Option Fault
+asked_fault asked (Ok (dialect, pages)) = page_fault asked pages
+asked_fault asked (Err fault) = None
+
+-- the source, and then the page
+unfoldable pub show_fault : Option ℕ → List ℕ → Option Fault
+show_fault asked bytes = first_of_these (source_fault bytes ∷ asked_fault asked (text_pages bytes) ∷ [])
+
+abbrev pub question_fault : Result Question WordsFault → List ℕ → Option Fault
+question_fault (Err fault) bytes = Some (faults.Words fault)
+question_fault (Ok (path question)) bytes = path_fault question
+question_fault (Ok decode) bytes = source_fault bytes
+question_fault (Ok (show asked)) bytes = show_fault asked bytes
+
+-- the first fault of the words, or of what they name, where the source has these bytes
+unfoldable pub first_fault : List (List ℕ) → List ℕ → Option Fault
+first_fault words bytes = question_fault (settings words) bytes

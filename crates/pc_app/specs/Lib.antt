@@ -3,7 +3,10 @@ pub mod Numbers
 pub mod Names
 pub mod Given
 pub mod Words
-pub mod After
+pub mod SequenceText
+pub mod Reading
+pub mod Named
+pub mod Source
 pub mod Views
 pub mod Faults
 pub mod FaultLine

@@ -1,28 +1,50 @@
 -- The names of commands and options, and the values that are words.
-use Rattle.std.specs.Prelude.{ℕ, List, codes, Option, Some, None, if◌then◌else◌}
+use Rattle.std.specs.Prelude.{ℕ, Bool, true, false, List, codes, Option, Some, None, if◌then◌else◌}
 use Rattle.std.specs.Str.{bytes_eq}
 use Rattle.hold_queue.specs.declared.hold.Hold.{Hold}
 use Rattle.hold_queue.specs.declared.hold.Hold.TheVariants as holds
 use Rattle.moves.specs.declared.key.DropMode.{DropMode}
 use Rattle.moves.specs.declared.key.DropMode.TheVariants as drops
 use Rattle.pc_app.specs.declared.names.Command.{Command}
-use Rattle.pc_app.specs.declared.names.Command.TheVariants.{Path}
-use Rattle.pc_app.specs.declared.names.PathOption.{PathOption}
-use Rattle.pc_app.specs.declared.names.PathOption.TheVariants as options
+use Rattle.pc_app.specs.declared.names.Command.TheVariants.{Path, Decode, Show}
+use Rattle.pc_app.specs.declared.names.CommandOption.{CommandOption}
+use Rattle.pc_app.specs.declared.names.CommandOption.TheVariants as options
 
 unfoldable pub command_in : List ℕ → Option Command
-command_in word = if bytes_eq word (codes "path") then Some Path else None
+command_in word =
+    if bytes_eq word (codes "path") then Some Path
+    else (if bytes_eq word (codes "decode") then Some Decode
+    else (if bytes_eq word (codes "show") then Some Show
+    else None))
 
-unfoldable pub option_in : List ℕ → Option PathOption
+unfoldable pub option_in : List ℕ → Option CommandOption
 option_in word =
     if bytes_eq word (codes "--rows") then Some options.Rows
     else (if bytes_eq word (codes "--clear-line") then Some options.ClearLine
     else (if bytes_eq word (codes "--patterns") then Some options.Patterns
     else (if bytes_eq word (codes "--hold") then Some options.Hold
     else (if bytes_eq word (codes "--drop") then Some options.Drop
+    else (if bytes_eq word (codes "--keys") then Some options.Keys
     else (if bytes_eq word (codes "--limit") then Some options.Limit
     else (if bytes_eq word (codes "--after") then Some options.After
-    else None))))))
+    else (if bytes_eq word (codes "--page") then Some options.Page
+    else None))))))))
+
+-- whether a command has this option
+abbrev pub has_option : Command → CommandOption → Bool
+has_option Path options.Page = false
+has_option Path option = true
+has_option Decode option = false
+has_option Show options.Page = true
+has_option Show option = false
+
+abbrev pub where_had : Command → Option CommandOption → Option CommandOption
+where_had command None = None
+where_had command (Some option) = if has_option command option then Some option else None
+
+-- the option of a command with this name
+unfoldable pub option_of : Command → List ℕ → Option CommandOption
+option_of command word = where_had command (option_in word)
 
 unfoldable pub hold_in : List ℕ → Option Hold
 hold_in word =
@@ -33,3 +55,9 @@ unfoldable pub drop_in : List ℕ → Option DropMode
 drop_in word =
     if bytes_eq word (codes "soft") then Some drops.Soft
     else (if bytes_eq word (codes "hard") then Some drops.Hard else None)
+
+-- whether something is asked for
+unfoldable pub yes_in : List ℕ → Option Bool
+yes_in word =
+    if bytes_eq word (codes "yes") then Some true
+    else (if bytes_eq word (codes "no") then Some false else None)

@@ -6,7 +6,7 @@ use Rattle.srs.specs.Rules.{table_of}
 use Rattle.well.specs.Well.{filled}
 use Rattle.queue_pattern.specs.Pattern.{elements_of}
 use Rattle.enumerate.specs.declared.problem.Problem.{Problem}
-use Rattle.pc_app.specs.After.{sequence_in}
+use Rattle.pc_app.specs.SequenceText.{Spells}
 use Rattle.pc_app.specs.Words.{PathQuestion}
 use Rattle.pc_app.specs.Faults.{cells_of, elements_asked, empties_asked}
 
@@ -20,11 +20,12 @@ pub record IsProblemOf (question : PathQuestion) (problem : Problem) : Type 0 wh
   pub drop : problem.drop_mode ≡ question.drop_mode
   pub rules : table_of problem.rules ≡ srs_table
 
+-- none where no text is given, and else the sequence of so many placements that it spells
 abbrev pub IsGiven : ℕ → Option (List ℕ) → Option (List Placement) → Type 0
 IsGiven needed None after = after ≡ None
 IsGiven needed (Some text) None = ⊥
-IsGiven needed (Some text) (Some sequence) = sequence_in needed text ≡ Ok sequence
+IsGiven needed (Some text) (Some sequence) = Spells needed text sequence
 
--- the sequence that the text of `--after` spells, where there is one
+-- the sequence of as many placements as are needed that the text of `--after` spells, where there is one
 abbrev pub IsAfterOf : PathQuestion → Option (List Placement) → Type 0
 IsAfterOf question after = IsGiven (empties_asked question / 4) question.after after

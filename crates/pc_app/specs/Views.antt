@@ -9,9 +9,9 @@ use Rattle.pc_app.specs.declared.settings.FieldWords.{FieldWords}
 use Rattle.pc_app.specs.declared.settings.FieldWords.TheVariants.{Rows}
 use Rattle.pc_app.specs.declared.settings.PathSettings.{PathSettings}
 use Rattle.pc_app.specs.declared.settings.Settings.{Settings}
-use Rattle.pc_app.specs.declared.settings.Settings.TheVariants.{Path}
+use Rattle.pc_app.specs.declared.settings.Settings.TheVariants.{Path, Decode, Show}
 use Rattle.pc_app.specs.Given.{Given}
-use Rattle.pc_app.specs.Words.{FieldText, rows_text, PathQuestion, Question, path}
+use Rattle.pc_app.specs.Words.{FieldText, rows_text, PathQuestion, Question, path, decode, show}
 
 -- the texts of the words
 abbrev pub texts : {Z : Type 0} → List (String Z) → List (List ℕ)
@@ -25,8 +25,20 @@ abbrev pub HasHeight : Option ℕ → Type 0
 HasHeight None = Unit {0}
 HasHeight (Some height) = IsHeight height
 
-abbrev pub AsksHeight : Settings → Type 0
-AsksHeight (Path settings) = IsHeight settings.common.height
+-- pages are counted from 1
+abbrev pub HasNumber : Option ℕ → Type 0
+HasNumber None = Unit {0}
+HasNumber (Some page) = 1 ≤ page
+
+-- the numbers that are given lie in the ranges of their options
+pub record HasRanges (given : GivenWords) : Type 0 where
+  pub height : HasHeight given.height
+  pub page : HasNumber given.page
+
+abbrev pub AsksInRange : Settings → Type 0
+AsksInRange (Path settings) = IsHeight settings.common.height
+AsksInRange Decode = Unit {0}
+AsksInRange (Show page) = HasNumber page
 
 abbrev pub given_view : GivenWords → Given
 given_view given = record {
@@ -35,8 +47,10 @@ given_view given = record {
   patterns = option_copied given.patterns;
   hold = given.hold;
   drop_mode = given.drop_mode;
+  keys = given.keys;
   limit = given.limit;
   after = option_copied given.after;
+  page = given.page;
 }
 
 abbrev pub given_reading : Result GivenWords WordsFault → Result Given WordsFault
@@ -53,6 +67,7 @@ path_view settings = record {
   patterns = settings.common.patterns.now;
   hold = settings.common.hold;
   drop_mode = settings.drop_mode;
+  keys = settings.keys;
   after = option_copied settings.after;
   limit = settings.limit;
 }
@@ -63,6 +78,8 @@ path_reading (Err fault) = Err fault
 
 abbrev pub settings_view : Settings → Question
 settings_view (Path settings) = path (path_view settings)
+settings_view Decode = decode
+settings_view (Show page) = show page
 
 abbrev pub settings_reading : Result Settings WordsFault → Result Question WordsFault
 settings_reading (Ok settings) = Ok (settings_view settings)

@@ -1,16 +1,16 @@
 -- What the words ask for, or their first fault from the left.
-use Rattle.std.specs.Prelude.{ℕ, ◌+◌, List, [], ◌∷◌, length, Option, Some, None, unwrap_or, Result, Ok, Err, if◌then◌else◌}
+use Rattle.std.specs.Prelude.{ℕ, ◌+◌, Bool, false, List, [], ◌∷◌, length, Option, Some, None, unwrap_or, Result, Ok, Err, if◌then◌else◌}
 use Rattle.hold_queue.specs.declared.hold.Hold.{Hold}
 use Rattle.hold_queue.specs.declared.hold.Hold.TheVariants.{Allowed}
 use Rattle.moves.specs.declared.key.DropMode.{DropMode}
 use Rattle.moves.specs.declared.key.DropMode.TheVariants.{Soft}
 use Rattle.pc_app.specs.declared.names.Command.{Command}
-use Rattle.pc_app.specs.declared.names.Command.TheVariants.{Path}
-use Rattle.pc_app.specs.declared.names.PathOption.{PathOption}
+use Rattle.pc_app.specs.declared.names.Command.TheVariants.{Path, Decode, Show}
+use Rattle.pc_app.specs.declared.names.CommandOption.{CommandOption}
 use Rattle.pc_app.specs.declared.words.WordsFault.{WordsFault}
 use Rattle.pc_app.specs.declared.words.WordsKind.{WordsKind}
 use Rattle.pc_app.specs.declared.words.WordsKind.TheVariants.{NoCommand, UnknownCommand, UnknownOption, RepeatedOption, MissingValue, BadValue, MissingOption}
-use Rattle.pc_app.specs.Names.{command_in, option_in}
+use Rattle.pc_app.specs.Names.{command_in, option_of}
 use Rattle.pc_app.specs.Given.{Given, nothing_given, is_given, with_value}
 
 -- the field that is asked about: rows text
@@ -24,12 +24,15 @@ pub record PathQuestion : Type 0 where
   pub patterns : List ℕ
   pub hold : Hold
   pub drop_mode : DropMode
+  pub keys : Bool
   pub after : Option (List ℕ)
   pub limit : ℕ
 
 -- a command with its question
 pub data Question : Type 0 where
   path : PathQuestion → Question
+  decode : Question
+  show : (page : Option ℕ) → Question
 
 abbrev pub fault_at : WordsKind → ℕ → WordsFault
 fault_at kind index = record { kind = kind; index = index }
@@ -39,28 +42,29 @@ abbrev pub taken : ℕ → Option Given → Result Given WordsFault
 taken index None = Err (fault_at BadValue (index + 1))
 taken index (Some given) = Ok given
 
-abbrev pub value_read : Given → ℕ → PathOption → Option (List ℕ) → Result Given WordsFault
+abbrev pub value_read : Given → ℕ → CommandOption → Option (List ℕ) → Result Given WordsFault
 value_read given index option None = Err (fault_at MissingValue index)
 value_read given index option (Some value) = taken index (with_value given option value)
 
-abbrev pub option_read : Given → ℕ → Option PathOption → Option (List ℕ) → Result Given WordsFault
+abbrev pub option_read : Given → ℕ → Option CommandOption → Option (List ℕ) → Result Given WordsFault
 option_read given index None value = Err (fault_at UnknownOption index)
 option_read given index (Some option) value =
     if is_given given option then Err (fault_at RepeatedOption index) else value_read given index option value
 
 -- a name at an index, and the value after it where there is one
-unfoldable pub pair_read : Given → ℕ → List ℕ → Option (List ℕ) → Result Given WordsFault
-pair_read given index name value = option_read given index (option_in name) value
+unfoldable pub pair_read : Command → Given → ℕ → List ℕ → Option (List ℕ) → Result Given WordsFault
+pair_read command given index name value = option_read given index (option_of command name) value
 
 abbrev pub then_given : Result Given WordsFault → (Given → Result Given WordsFault) → Result Given WordsFault
 then_given (Ok given) rest = rest given
 then_given (Err fault) rest = Err fault
 
 -- the pairs from an index on
-unfoldable pub pairs_read : Given → ℕ → List (List ℕ) → Result Given WordsFault
-pairs_read given index [] = Ok given
-pairs_read given index (name ∷ []) = pair_read given index name None
-pairs_read given index (name ∷ value ∷ rest) = then_given (pair_read given index name (Some value)) (λ more. pairs_read more (index + 2) rest)
+unfoldable pub pairs_read : Command → Given → ℕ → List (List ℕ) → Result Given WordsFault
+pairs_read command given index [] = Ok given
+pairs_read command given index (name ∷ []) = pair_read command given index name None
+pairs_read command given index (name ∷ value ∷ rest) =
+    then_given (pair_read command given index name (Some value)) (λ more. pairs_read command more (index + 2) rest)
 
 -- the question of the given values, with defaults; the field and the pattern are required
 abbrev pub with_defaults : Given → ℕ → Option (List ℕ) → Option (List ℕ) → Result PathQuestion WordsFault
@@ -70,26 +74,30 @@ with_defaults given words (Some rows) (Some patterns) = Ok (record {
   patterns = patterns;
   hold = unwrap_or given.hold Allowed;
   drop_mode = unwrap_or given.drop_mode Soft;
+  keys = unwrap_or given.keys false;
   after = given.after;
   limit = unwrap_or given.limit 1000000000;
 })
 with_defaults given words _ _ = Err (fault_at MissingOption words)
 
-abbrev pub path_settings : ℕ → Result Given WordsFault → Result PathQuestion WordsFault
-path_settings words (Ok given) = with_defaults given words given.rows given.patterns
-path_settings words (Err fault) = Err fault
-
 abbrev pub as_path : Result PathQuestion WordsFault → Result Question WordsFault
 as_path (Ok question) = Ok (path question)
 as_path (Err fault) = Err fault
 
--- the words after `path`
-unfoldable pub path_read : List (List ℕ) → ℕ → Result PathQuestion WordsFault
-path_read pairs words = path_settings words (pairs_read nothing_given 1 pairs)
+-- the question of a command, by the values that its words give
+abbrev pub question_of : Command → ℕ → Given → Result Question WordsFault
+question_of Path words given = as_path (with_defaults given words given.rows given.patterns)
+question_of Decode words given = Ok decode
+question_of Show words given = Ok (show given.page)
 
+abbrev pub question_read : Command → ℕ → Result Given WordsFault → Result Question WordsFault
+question_read command words (Ok given) = question_of command words given
+question_read command words (Err fault) = Err fault
+
+-- the words behind a command, and how many there are with it
 abbrev pub command_read : Option Command → List (List ℕ) → ℕ → Result Question WordsFault
 command_read None pairs words = Err (fault_at UnknownCommand 0)
-command_read (Some Path) pairs words = as_path (path_read pairs words)
+command_read (Some command) pairs words = question_read command words (pairs_read command nothing_given 1 pairs)
 
 -- what the words ask for
 unfoldable pub settings : List (List ℕ) → Result Question WordsFault

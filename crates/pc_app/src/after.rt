@@ -1,7 +1,7 @@
 // The value of `--after`: a sequence of so many placements.
 ghost use Rattle.std.specs.Prelude.{◌≡◌, ◌≤◌, ◌==◌, ◌&&◌, nat_lt, IfOk};
 ghost use Rattle.arrayvec.specs.ArrayVec.{array_vec_len};
-ghost use Rattle.pc_app.specs.After.{may_end, sequence_in};
+ghost use Rattle.pc_app.specs.Reading.{may_end, sequence_in};
 ghost use Rattle.pc_app.specs.Views.{sequence_reading};
 
 use crate::placement_text::Reading;

@@ -2,11 +2,12 @@
 ghost use Rattle.std.specs.Prelude.{◌≡◌};
 ghost use Rattle.pc_outside.specs.Counts.{HasCause};
 ghost use Rattle.pc_outside.specs.Writes.{WritesAll};
-ghost use Rattle.pc_app.specs.FaultLine.{words_name, rows_name, pattern_name, fault_name, rows_numbers, pattern_numbers, fault_numbers, line_with, fault_line};
+ghost use Rattle.pc_app.specs.FaultLine.{words_name, rows_name, pattern_name, fumen_name, fault_name, rows_numbers, pattern_numbers, fumen_numbers, fault_numbers, line_with, fault_line};
 ghost use Rattle.pc_app.specs.Numbered.{numbers_of};
 
 use crate::faults::Fault;
 use crate::words::WordsKind;
+use fumen_text::FumenFault;
 use itoa::Buffer;
 use pc_outside::{Failed, Sink, write_pieces};
 use queue_pattern::PatternFault;
@@ -56,11 +57,30 @@ fn pattern_name(fault: PatternFault) -> &'static [u8]
     }
 }
 
+fn fumen_name(fault: FumenFault) -> &'static [u8]
+    ensures { result.now ≡ fumen_name fault }
+{
+    match fault {
+        FumenFault::NoFumen => b"Fumen.NoFumen",
+        FumenFault::BadDigit { .. } => b"Fumen.BadDigit",
+        FumenFault::Truncated { .. } => b"Fumen.Truncated",
+        FumenFault::RunPastEnd { .. } => b"Fumen.RunPastEnd",
+        FumenFault::BadCell { .. } => b"Fumen.BadCell",
+        FumenFault::BadAction { .. } => b"Fumen.BadAction",
+        FumenFault::PieceOutside { .. } => b"Fumen.PieceOutside",
+        FumenFault::BadComment { .. } => b"Fumen.BadComment",
+        FumenFault::TooManyPages => b"Fumen.TooManyPages",
+    }
+}
+
 fn fault_name(fault: Fault) -> &'static [u8]
     ensures { result.now ≡ fault_name fault }
 {
     match fault {
         Fault::Words(words) => words_name(words.kind),
+        Fault::SourceTooLong => b"SourceTooLong",
+        Fault::Fumen(fumen) => fumen_name(fumen),
+        Fault::NoPage { .. } => b"NoPage",
         Fault::Rows(rows) => rows_name(rows),
         Fault::FieldTooHigh { .. } => b"FieldTooHigh",
         Fault::FullRow { .. } => b"FullRow",
@@ -92,11 +112,30 @@ fn pattern_numbers(fault: PatternFault) -> Numbers
     }
 }
 
+fn fumen_numbers(fault: FumenFault) -> Numbers
+    ensures { numbers_of result ≡ fumen_numbers fault }
+{
+    match fault {
+        FumenFault::NoFumen => Numbers::None,
+        FumenFault::BadDigit { place } => Numbers::One(place),
+        FumenFault::Truncated { place } => Numbers::One(place),
+        FumenFault::RunPastEnd { place } => Numbers::One(place),
+        FumenFault::BadCell { place } => Numbers::One(place),
+        FumenFault::BadAction { place } => Numbers::One(place),
+        FumenFault::PieceOutside { page } => Numbers::One(page as usize),
+        FumenFault::BadComment { place } => Numbers::One(place),
+        FumenFault::TooManyPages => Numbers::None,
+    }
+}
+
 fn fault_numbers(fault: Fault) -> Numbers
     ensures { numbers_of result ≡ fault_numbers fault }
 {
     match fault {
         Fault::Words(words) => Numbers::One(words.index),
+        Fault::SourceTooLong => Numbers::None,
+        Fault::Fumen(fumen) => fumen_numbers(fumen),
+        Fault::NoPage { asked, there } => Numbers::Two(asked as usize, there as usize),
         Fault::Rows(rows) => rows_numbers(rows),
         Fault::FieldTooHigh { row } => Numbers::One(usize::from(row)),
         Fault::FullRow { row } => Numbers::One(usize::from(row)),

@@ -1,13 +1,19 @@
 // What is wrong with the input.
 use crate::words::WordsFault;
+use fumen_text::FumenFault;
 use queue_pattern::PatternFault;
 use well::RowsFault;
 
-/// The first fault of the input, in the order in which it is looked into: the words, the field, the pattern, the number of
+/// The first fault of the input, in the order in which it is looked into: the words, the source, the field, the pattern, the number of
 /// pieces, the given sequence.
 #[derive(Clone, Copy, Debug, PartialEq, Eq)]
 pub enum Fault {
     Words(WordsFault),
+    /// The source gives more than 4,194,304 bytes.
+    SourceTooLong,
+    Fumen(FumenFault),
+    /// The page that is asked for is not there: its number, and how many pages there are.
+    NoPage { asked: u32, there: u32 },
     Rows(RowsFault),
     /// The lowest row at or above the height that has a filled cell.
     FieldTooHigh { row: u8 },

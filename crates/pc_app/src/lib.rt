@@ -2,6 +2,7 @@
 #![tactic(auto)]
 
 mod after;
+mod decode;
 mod fault_line;
 mod faults;
 pub mod laws;
@@ -11,6 +12,8 @@ mod path;
 mod placement_text;
 mod question;
 mod settings;
+mod show;
+mod source;
 mod status;
 mod top;
 mod words;

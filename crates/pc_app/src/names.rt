@@ -1,6 +1,6 @@
 // The names of commands and options, and of the values that are words.
 ghost use Rattle.std.specs.Prelude.{◌≡◌};
-ghost use Rattle.pc_app.specs.Names.{command_in, option_in, hold_in, drop_in};
+ghost use Rattle.pc_app.specs.Names.{command_in, option_in, has_option, option_of, hold_in, drop_in, yes_in};
 
 use hold_queue::Hold;
 use moves::DropMode;
@@ -9,18 +9,22 @@ use moves::DropMode;
 #[derive(Clone, Copy, Debug, PartialEq, Eq)]
 pub enum Command {
     Path,
+    Decode,
+    Show,
 }
 
-/// An option of `path`.
+/// An option of some command.
 #[derive(Clone, Copy, Debug, PartialEq, Eq)]
-pub enum PathOption {
+pub enum CommandOption {
     Rows,
     ClearLine,
     Patterns,
     Hold,
     Drop,
+    Keys,
     Limit,
     After,
+    Page,
 }
 
 #[tactic(auto, unfolding(crate::specs::Names::command_in))]
@@ -29,22 +33,48 @@ pub fn command_named(word: &str) -> Option<Command>
 {
     match word {
         "path" => Some(Command::Path),
+        "decode" => Some(Command::Decode),
+        "show" => Some(Command::Show),
         _ => None,
     }
 }
 
 #[tactic(auto, unfolding(crate::specs::Names::option_in))]
-pub fn option_named(word: &str) -> Option<PathOption>
+fn option_named(word: &str) -> Option<CommandOption>
     ensures { result ≡ option_in word.now }
 {
     match word {
-        "--rows" => Some(PathOption::Rows),
-        "--clear-line" => Some(PathOption::ClearLine),
-        "--patterns" => Some(PathOption::Patterns),
-        "--hold" => Some(PathOption::Hold),
-        "--drop" => Some(PathOption::Drop),
-        "--limit" => Some(PathOption::Limit),
-        "--after" => Some(PathOption::After),
+        "--rows" => Some(CommandOption::Rows),
+        "--clear-line" => Some(CommandOption::ClearLine),
+        "--patterns" => Some(CommandOption::Patterns),
+        "--hold" => Some(CommandOption::Hold),
+        "--drop" => Some(CommandOption::Drop),
+        "--keys" => Some(CommandOption::Keys),
+        "--limit" => Some(CommandOption::Limit),
+        "--after" => Some(CommandOption::After),
+        "--page" => Some(CommandOption::Page),
+        _ => None,
+    }
+}
+
+// Whether a command has this option.
+fn has_option(command: Command, option: CommandOption) -> bool
+    ensures { result ≡ has_option command option }
+{
+    match command {
+        Command::Path => !matches!(option, CommandOption::Page),
+        Command::Decode => false,
+        Command::Show => matches!(option, CommandOption::Page),
+    }
+}
+
+/// The option of a command with this name.
+#[tactic(auto, unfolding(crate::specs::Names::option_of))]
+pub fn option_of(command: Command, word: &str) -> Option<CommandOption>
+    ensures { result ≡ option_of command word.now }
+{
+    match option_named(word) {
+        Some(option) if has_option(command, option) => Some(option),
         _ => None,
     }
 }
@@ -67,6 +97,17 @@ pub fn drop_named(word: &str) -> Option<DropMode>
     match word {
         "soft" => Some(DropMode::Soft),
         "hard" => Some(DropMode::Hard),
+        _ => None,
+    }
+}
+
+#[tactic(auto, unfolding(crate::specs::Names::yes_in))]
+pub fn yes_named(word: &str) -> Option<bool>
+    ensures { result ≡ yes_in word.now }
+{
+    match word {
+        "yes" => Some(true),
+        "no" => Some(false),
         _ => None,
     }
 }

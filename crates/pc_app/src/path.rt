@@ -1,9 +1,12 @@
 // The command `path`: all solutions of a problem, one line each.
-ghost use Rattle.std.specs.Prelude.{◌≡◌, ◌≤◌, ℕ, List};
+ghost use Rattle.std.specs.Prelude.{◌≡◌, ◌≤◌, ℕ, List, IfOk, is_some};
+ghost use Rattle.srs.specs.Rules.{table_of};
+ghost use Rattle.well.specs.Well.{filled};
 ghost use Rattle.pc_outside.specs.Counts.{HasCause};
 ghost use Rattle.pc_outside.specs.Writes.{GrowsByFront, WritesAll};
-ghost use Rattle.enumerate.specs.ViewOf.{solutions};
-ghost use Rattle.report.specs.Forms.{report_form};
+ghost use Rattle.enumerate.specs.Plays.{Plays};
+ghost use Rattle.enumerate.specs.ViewOf.{solutions, view_of};
+ghost use Rattle.report.specs.Forms.{key_part, line_form, report_form};
 ghost use Rattle.pc_app.specs.Answers.{Answers};
 ghost use Rattle.pc_app.specs.Faults.{path_fault};
 ghost use Rattle.pc_app.specs.Output.{IsPathOutput};
@@ -12,21 +15,59 @@ ghost use Rattle.pc_app.specs.Views.{path_view};
 use crate::question::ask;
 use crate::settings::PathSettings;
 use crate::status::Status;
-use enumerate::Search;
-use pc_outside::{Failed, Sink};
+use enumerate::{Problem, Search, Sequence};
+use key_path::Finder;
+use pc_outside::{Failed, NoMemory, Sink};
 use reach::Steps;
 use report::{Tail, write_line, write_tail};
 use std::alloc::Global;
 use std::sync::ledger::Ledger;
 
-// Writes the solutions that are still to come, at most so many, and the line that ends the report.
+// A finder where keys are asked for.
+fn finder_for(alloc: Global, keys: bool) -> Result<Option<Finder>, NoMemory>
+    ensures { IfOk result (λ finder. is_some finder ≡ keys) }
+{
+    if !keys {
+        return Ok(None);
+    }
+    match Finder::new(alloc) {
+        Ok(finder) => Ok(Some(finder)),
+        Err(none) => Err(none),
+    }
+}
+
+// Writes the line of a solution, with keys where there is a finder.
+fn write_solution<O: Sink>(
+    out: &mut O,
+    problem: &Problem,
+    sequence: &Sequence,
+    finder: &mut Option<Finder>,
+) -> Result<(), Failed>
+    requires { Plays (table_of problem.now.rules) problem.now.drop_mode (filled problem.now.well) problem.now.height sequence.now.items }
+    ensures written { WritesAll (O.written out.old) (O.written out.new) result
+        (line_form (key_part (is_some finder.old) (table_of problem.now.rules) problem.now.drop_mode) (filled problem.now.well) sequence.now.items) }
+    ensures cause { HasCause (O.faults out.old) (O.faults out.new) result }
+    ensures kept { is_some finder.new ≡ is_some finder.old }
+{
+    match finder {
+        Some(finder) => write_line(out, problem, sequence, Some(finder)),
+        None => write_line(out, problem, sequence, None),
+    }
+}
+
+// Writes the solutions that are still to come, at most so many, and the line that ends the report. With a finder each
+// placement has its key word.
 fn write_report<O: Sink, L: Ledger>(
     out: &mut O,
+    problem: &Problem,
     search: &mut Search,
     limit: u32,
+    finder: &mut Option<Finder>,
     steps: &mut Steps<L>,
 ) -> Result<(), Failed>
-    ensures written { WritesAll (O.written out.old) (O.written out.new) result (report_form limit (solutions search.old)) }
+    requires { (view_of search.old).problem ≡ problem.now }
+    ensures written { WritesAll (O.written out.old) (O.written out.new) result
+        (report_form (key_part (is_some finder.old) (table_of problem.now.rules) problem.now.drop_mode) (filled problem.now.well) limit (solutions search.old)) }
     ensures cause { HasCause (O.faults out.old) (O.faults out.new) result }
 {
     for count in 0..limit {
@@ -34,7 +75,7 @@ fn write_report<O: Sink, L: Ledger>(
             Some(sequence) => sequence,
             None => return write_tail(out, Tail::End, u64::from(count)),
         };
-        write_line(out, &sequence)?;
+        write_solution(out, problem, &sequence, finder)?;
     }
     write_tail(out, Tail::Limit, u64::from(limit))
 }
@@ -59,11 +100,23 @@ pub fn run_path<O: Sink, L: Ledger>(
         Ok(question) => question,
         Err(fault) => return Status::Input(fault),
     };
-    let mut search = match Search::start(alloc, question.problem, question.after) {
+    let problem = question.problem;
+    let mut search = match Search::start(alloc, problem, question.after) {
         Ok(search) => search,
         Err(_) => return Status::NoMemory,
     };
-    match write_report(out, &mut search, settings.limit, steps) {
+    let mut finder = match finder_for(alloc, settings.keys) {
+        Ok(finder) => finder,
+        Err(_) => return Status::NoMemory,
+    };
+    match write_report(
+        out,
+        &problem,
+        &mut search,
+        settings.limit,
+        &mut finder,
+        steps,
+    ) {
         Ok(()) => Status::Done,
         Err(_) => Status::SinkFault,
     }

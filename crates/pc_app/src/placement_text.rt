@@ -1,6 +1,6 @@
 // The text of one placement, with keys or without, read byte by byte.
 ghost use Rattle.std.specs.Prelude.{◌≡◌, ◌≤◌, ◌<◌};
-ghost use Rattle.pc_app.specs.After.{step, step_at, second_digit_step, keys_step, key_step, capital_piece, is_key_letter, after_row_digit, may_end, unread};
+ghost use Rattle.pc_app.specs.Reading.{step, step_at, second_digit_step, keys_step, key_step, capital_piece, is_key_letter, after_row_digit, may_end, unread};
 
 use srs::{Piece, Placement, Rotation};
 
@@ -172,7 +172,7 @@ impl Reading {
     }
 
     /// The reading after one more byte. `None` exactly where the byte may not stand there.
-    #[tactic(auto, unfolding(crate::specs::After::step))]
+    #[tactic(auto, unfolding(crate::specs::Reading::step))]
     pub fn step(self, byte: u8) -> Option<Reading>
         ensures { result ≡ step self byte }
     {

@@ -76,6 +76,7 @@ fn pieces(empties: u8, pattern: &Pattern) -> Result<(), Fault>
     Ok(())
 }
 
+#[tactic(auto, using(crate::proofs::ReadText::spelled_from_read))]
 fn given(needed: u8, text: Option<&str>) -> Result<Option<Sequence>, Fault>
     requires { needed ≤ 22 }
     ensures fault { IfErr result (λ fault. after_fault needed (option_copied text.entry) ≡ Some fault) }

@@ -25,6 +25,8 @@ pub struct FieldSettings<'a> {
 pub struct PathSettings<'a> {
     pub common: FieldSettings<'a>,
     pub drop_mode: DropMode,
+    /// Whether each placement is followed by its key word.
+    pub keys: bool,
     /// The text of the sequence after which the list begins.
     pub after: Option<&'a str>,
     /// How many sequences are written at most.
@@ -35,4 +37,9 @@ pub struct PathSettings<'a> {
 #[derive(Clone, Copy, Debug, PartialEq, Eq)]
 pub enum Settings<'a> {
     Path(PathSettings<'a>),
+    Decode,
+    Show {
+        /// The number of the page that is shown, counted from 1, or None for all pages.
+        page: Option<u32>,
+    },
 }

@@ -3,6 +3,7 @@ ghost use Rattle.std.specs.Prelude.{◌≡◌};
 ghost use Rattle.pc_app.specs.Codes.{status_code};
 
 use crate::faults::Fault;
+use pc_outside::ReadError;
 
 /// How a run ended.
 #[derive(Clone, Copy, Debug, PartialEq, Eq)]
@@ -30,6 +31,20 @@ impl Status {
             Status::SourceFault => 3,
             Status::SinkFault => 4,
             Status::NoMemory => 5,
+        }
+    }
+}
+
+impl From<ReadError> for Status {
+    ghost use Rattle.pc_app.specs.Codes.{read_status};
+
+    ghost from_gives = { λ error status. status ≡ read_status error };
+
+    fn from(error: ReadError) -> Status {
+        match error {
+            ReadError::TooLong => Status::Input(Fault::SourceTooLong),
+            ReadError::Failed => Status::SourceFault,
+            ReadError::NoMemory => Status::NoMemory,
         }
     }
 }

@@ -2,10 +2,12 @@
 ghost use Rattle.std.specs.Prelude.{◌≡◌, ◌+◌, ◌^◌, ◌<◌, length, drop, option_copied, option_map, IfOk, IfSome};
 ghost use Rattle.std.specs.List.{slice_get};
 ghost use Rattle.pc_app.specs.Given.{is_given, with_value, nothing_given};
-ghost use Rattle.pc_app.specs.Words.{pair_read, pairs_read, settings, path_read, with_defaults};
-ghost use Rattle.pc_app.specs.Views.{HasHeight, IsHeight, AsksHeight, given_view, given_reading, path_reading, settings_reading, texts};
+ghost use Rattle.pc_app.specs.Words.{pair_read, pairs_read, question_of, settings, with_defaults};
+ghost use Rattle.pc_app.specs.Views.{HasRanges, IsHeight, AsksInRange, given_view, given_reading, path_reading, settings_reading, texts};
 
-use crate::names::{Command, PathOption, command_named, drop_named, hold_named, option_named};
+use crate::names::{
+    Command, CommandOption, command_named, drop_named, hold_named, option_of, yes_named,
+};
 use crate::numbers::number_in;
 use crate::settings::{FieldSettings, FieldWords, PathSettings, Settings};
 use hold_queue::Hold;
@@ -39,6 +41,8 @@ pub struct WordsFault {
 
 /// The rows that may be removed, at most.
 const MOST_ROWS: u32 = 6;
+/// The number of the last page that a list may have.
+const MOST_PAGES: u32 = 10_000;
 /// The sequences that may be written, at most.
 const MOST_SEQUENCES: u32 = 1_000_000_000;
 
@@ -50,87 +54,106 @@ struct Given<'a> {
     patterns: Option<&'a str>,
     hold: Option<Hold>,
     drop_mode: Option<DropMode>,
+    keys: Option<bool>,
     limit: Option<u32>,
     after: Option<&'a str>,
+    page: Option<u32>,
 }
 
-fn is_given(given: &Given, option: PathOption) -> bool
+fn is_given(given: &Given, option: CommandOption) -> bool
     ensures { result ≡ is_given (given_view given.now) option }
 {
     match option {
-        PathOption::Rows => given.rows.is_some(),
-        PathOption::ClearLine => given.height.is_some(),
-        PathOption::Patterns => given.patterns.is_some(),
-        PathOption::Hold => given.hold.is_some(),
-        PathOption::Drop => given.drop_mode.is_some(),
-        PathOption::Limit => given.limit.is_some(),
-        PathOption::After => given.after.is_some(),
+        CommandOption::Rows => given.rows.is_some(),
+        CommandOption::ClearLine => given.height.is_some(),
+        CommandOption::Patterns => given.patterns.is_some(),
+        CommandOption::Hold => given.hold.is_some(),
+        CommandOption::Drop => given.drop_mode.is_some(),
+        CommandOption::Keys => given.keys.is_some(),
+        CommandOption::Limit => given.limit.is_some(),
+        CommandOption::After => given.after.is_some(),
+        CommandOption::Page => given.page.is_some(),
     }
 }
 
-fn with_value<'a>(given: Given<'a>, option: PathOption, value: &'a str) -> Option<Given<'a>>
-    requires { HasHeight given.height }
+fn with_value<'a>(given: Given<'a>, option: CommandOption, value: &'a str) -> Option<Given<'a>>
+    requires { HasRanges given }
     ensures value { option_map given_view result ≡ with_value (given_view given.entry) option value.entry.now }
-    ensures height { IfSome result (λ more. HasHeight more.height) }
+    ensures ranges { IfSome result (λ more. HasRanges more) }
 {
     match option {
-        PathOption::Rows => Some(Given {
+        CommandOption::Rows => Some(Given {
             rows: Some(value),
             ..given
         }),
-        PathOption::ClearLine => {
+        CommandOption::ClearLine => {
             let height = number_in(1, MOST_ROWS, value.as_bytes())?;
             Some(Given {
                 height: Some(height as u8),
                 ..given
             })
         }
-        PathOption::Patterns => Some(Given {
+        CommandOption::Patterns => Some(Given {
             patterns: Some(value),
             ..given
         }),
-        PathOption::Hold => {
+        CommandOption::Hold => {
             let hold = hold_named(value)?;
             Some(Given {
                 hold: Some(hold),
                 ..given
             })
         }
-        PathOption::Drop => {
+        CommandOption::Drop => {
             let drop_mode = drop_named(value)?;
             Some(Given {
                 drop_mode: Some(drop_mode),
                 ..given
             })
         }
-        PathOption::Limit => {
+        CommandOption::Keys => {
+            let keys = yes_named(value)?;
+            Some(Given {
+                keys: Some(keys),
+                ..given
+            })
+        }
+        CommandOption::Limit => {
             let limit = number_in(1, MOST_SEQUENCES, value.as_bytes())?;
             Some(Given {
                 limit: Some(limit),
                 ..given
             })
         }
-        PathOption::After => Some(Given {
+        CommandOption::After => Some(Given {
             after: Some(value),
             ..given
         }),
+        CommandOption::Page => {
+            let page = number_in(1, MOST_PAGES, value.as_bytes())?;
+            Some(Given {
+                page: Some(page),
+                ..given
+            })
+        }
     }
 }
 
 // Takes the name at an index and its value, where there is one.
 #[tactic(auto, unfolding(crate::specs::Words::pair_read))]
 fn read_pair<'a>(
+    command: Command,
     given: Given<'a>,
     index: usize,
     name: &str,
     value: Option<&'a str>,
 ) -> Result<Given<'a>, WordsFault>
     requires index { index + 1 < 2 ^ 64 }
-    requires height { HasHeight given.height }
-    ensures value { given_reading result ≡ pair_read (given_view given.entry) index name.now (option_copied value.entry) }
-    ensures height { IfOk result (λ more. HasHeight more.height) }
+    requires ranges { HasRanges given }
+    ensures value { given_reading result ≡ pair_read command (given_view given.entry) index name.now (option_copied value.entry) }
+    ensures ranges { IfOk result (λ more. HasRanges more) }
 {
-    let Some(option) = option_named(name) else {
+    let Some(option) = option_of(command, name) else {
         return Err(WordsFault {
             kind: WordsKind::UnknownOption,
             index,
@@ -166,9 +189,10 @@ fn word_at(words: &[String], index: usize) -> Option<&str>
     }
 }
 
-fn read_pairs(words: &[String]) -> Result<Given<'_>, WordsFault>
-    ensures value { given_reading result ≡ pairs_read nothing_given 1 (drop 1 (texts words.entry.now)) }
-    ensures height { IfOk result (λ given. HasHeight given.height) }
+// The values of all pairs.
+fn read_pairs(command: Command, words: &[String]) -> Result<Given<'_>, WordsFault>
+    ensures value { given_reading result ≡ pairs_read command nothing_given 1 (drop 1 (texts words.entry.now)) }
+    ensures ranges { IfOk result (λ given. HasRanges given) }
 {
     let mut given = Given {
         rows: None,
@@ -176,13 +200,15 @@ fn read_pairs(words: &[String]) -> Result<Given<'_>, WordsFault>
         patterns: None,
         hold: None,
         drop_mode: None,
+        keys: None,
         limit: None,
         after: None,
+        page: None,
     };
     let mut index = 1;
     while index < words.len() {
         let value = word_at(words, index + 1);
-        match read_pair(given, index, words[index].as_str(), value) {
+        match read_pair(command, given, index, words[index].as_str(), value) {
             Ok(more) => given = more,
             Err(fault) => return Err(fault),
         }
@@ -193,7 +219,7 @@ fn read_pairs(words: &[String]) -> Result<Given<'_>, WordsFault>
 
 // The settings of the given values, with defaults; the field and the pattern are required.
 fn with_defaults(given: Given<'_>, words: usize) -> Result<PathSettings<'_>, WordsFault>
-    requires { HasHeight given.height }
+    requires { HasRanges given }
     ensures value { path_reading result ≡ with_defaults (given_view given.entry) words (given_view given.entry).rows (given_view given.entry).patterns }
     ensures height { IfOk result (λ settings. IsHeight settings.common.height) }
 {
@@ -211,19 +237,25 @@ fn with_defaults(given: Given<'_>, words: usize) -> Result<PathSettings<'_>, Wor
             hold: given.hold.unwrap_or(Hold::Allowed),
         },
         drop_mode: given.drop_mode.unwrap_or(DropMode::Soft),
+        keys: given.keys.unwrap_or(false),
         after: given.after,
         limit: given.limit.unwrap_or(MOST_SEQUENCES),
     })
 }
 
-#[tactic(auto, unfolding(crate::specs::Words::path_read))]
-fn read_path(words: &[String]) -> Result<PathSettings<'_>, WordsFault>
-    ensures value { path_reading result ≡ path_read (drop 1 (texts words.entry.now)) (length words.entry.now) }
-    ensures height { IfOk result (λ settings. IsHeight settings.common.height) }
+// The settings of a command, by the values that its words give.
+fn settings_of(command: Command, words: usize, given: Given<'_>) -> Result<Settings<'_>, WordsFault>
+    requires { HasRanges given }
+    ensures value { settings_reading result ≡ question_of command words (given_view given.entry) }
+    ensures ranges { IfOk result (λ settings. AsksInRange settings) }
 {
-    match read_pairs(words) {
-        Ok(given) => with_defaults(given, words.len()),
-        Err(fault) => Err(fault),
+    match command {
+        Command::Path => match with_defaults(given, words) {
+            Ok(settings) => Ok(Settings::Path(settings)),
+            Err(fault) => Err(fault),
+        },
+        Command::Decode => Ok(Settings::Decode),
+        Command::Show => Ok(Settings::Show { page: given.page }),
     }
 }
 
@@ -232,7 +264,7 @@ fn read_path(words: &[String]) -> Result<PathSettings<'_>, WordsFault>
 #[tactic(auto, unfolding(crate::specs::Words::settings))]
 pub fn read_words(words: &[String]) -> Result<Settings<'_>, WordsFault>
     ensures value { settings_reading result ≡ settings (texts words.entry.now) }
-    ensures height { IfOk result (λ settings. AsksHeight settings) }
+    ensures ranges { IfOk result (λ settings. AsksInRange settings) }
 {
     let Some(word) = words.first() else {
         return Err(WordsFault {
@@ -240,14 +272,14 @@ pub fn read_words(words: &[String]) -> Result<Settings<'_>, WordsFault>
             index: 0,
         });
     };
-    match command_named(word.as_str()) {
-        None => Err(WordsFault {
+    let Some(command) = command_named(word.as_str()) else {
+        return Err(WordsFault {
             kind: WordsKind::UnknownCommand,
             index: 0,
-        }),
-        Some(Command::Path) => match read_path(words) {
-            Ok(settings) => Ok(Settings::Path(settings)),
-            Err(fault) => Err(fault),
-        },
+        });
+    };
+    match read_pairs(command, words) {
+        Ok(given) => settings_of(command, words.len(), given),
+        Err(fault) => Err(fault),
     }
 }

@@ -1,7 +1,7 @@
 -- What was read and the bytes that are left give what the whole text gives, and there is room for all placements.
 use Rattle.std.proofs.Common.{◌≡◌, ◌+◌, ◌-◌, [], drop}
 use Rattle.arrayvec.specs.ArrayVec.{array_vec_len}
-use Rattle.pc_app.specs.After.{read_from, unread}
+use Rattle.pc_app.specs.Reading.{read_from, unread}
 use Rattle.pc_app.proofs.after.sequence_in.Given as goal
 
 abbrev pub invariant-loop-place : goal.invariant-loop-place

@@ -10,14 +10,14 @@ returns-in-Err-clause-value c =
     let words = c.args.words.now in
     let within : c.loop-index.index < length (texts words) = omega (arith, length-map words (λ word. string_bytes word), c.loop-index-test.true) in
     let named = c.as_str.ensures.value ∙ text_at (λ word. string_bytes word) words c.loop-index.index _ c.loop-index-test.true c.index-words-index.is in
-    sym (reads_on (given_view c.loop-index.given) c.loop-index.index (texts words) c.as_str.result.now _ (Err c.in-Err.fault) within named c.word_at-value.ensures c.in-Err.ensures.value) ∙ c.loop-index.invariant.0
+    sym (reads_on c.args.command (given_view c.loop-index.given) c.loop-index.index (texts words) c.as_str.result.now _ (Err c.in-Err.fault) within named c.word_at-value.ensures c.in-Err.ensures.value) ∙ c.loop-index.invariant.0
 
 pub loop-index-preserved : goal.loop-index-preserved
 loop-index-preserved c =
     let words = c.args.words.now in
     let within : c.loop-index.index < length (texts words) = omega (arith, length-map words (λ word. string_bytes word), c.loop-index-test.true) in
     let named = c.as_str.ensures.value ∙ text_at (λ word. string_bytes word) words c.loop-index.index _ c.loop-index-test.true c.index-words-index.is in
-    (sym (reads_on (given_view c.loop-index.given) c.loop-index.index (texts words) c.as_str.result.now _ (Ok (given_view c.in-Ok.more)) within named c.word_at-value.ensures c.in-Ok.ensures.value) ∙ c.loop-index.invariant.0, c.in-Ok.ensures.height)
+    (sym (reads_on c.args.command (given_view c.loop-index.given) c.loop-index.index (texts words) c.as_str.result.now _ (Ok (given_view c.in-Ok.more)) within named c.word_at-value.ensures c.in-Ok.ensures.value) ∙ c.loop-index.invariant.0, c.in-Ok.ensures.ranges)
 
 pub returns-clause-value : goal.returns-clause-value
-returns-clause-value c = sym (reads_none _ _ _ (omega (arith, length-map c.args.words.now (λ word. string_bytes word)))) ∙ c.loop-index.invariant.0
+returns-clause-value c = sym (reads_none _ _ _ _ (omega (arith, length-map c.args.words.now (λ word. string_bytes word)))) ∙ c.loop-index.invariant.0

@@ -1,5 +1,6 @@
--- The value of `--after`: a sequence of so many placements, with keys or without, read byte by byte.
-use Rattle.std.specs.Prelude.{◌≡◌, ℕ, ◌<◌, ◌≤◌, take, length, zero, suc, ◌+◌, ◌-◌, ◌*◌, Bool, true, false, ◌&&◌, ◌||◌, ◌==◌, nat_le, nat_lt, if◌then◌else◌, List, [], ◌∷◌, ◌++◌, find, Option, Some, None, option_map, Result, Ok, Err}
+-- How the value of `--after` is read, byte by byte. The form is that of `SequenceText`: the law
+-- `values_are_read_as_they_spell` says that both agree.
+use Rattle.std.specs.Prelude.{ℕ, zero, suc, ◌+◌, ◌-◌, ◌*◌, Bool, true, false, ◌&&◌, ◌||◌, ◌==◌, nat_le, nat_lt, if◌then◌else◌, List, [], ◌∷◌, ◌++◌, find, Option, Some, None, option_map, Result, Ok, Err}
 use Rattle.std.specs.Char.{is_ascii_digit}
 use Rattle.srs.specs.declared.piece.Piece.{Piece}
 use Rattle.srs.specs.declared.piece.Piece.TheVariants.{I}
@@ -88,15 +89,3 @@ abbrev pub sequence_in : ℕ → List ℕ → Result (List Placement) ℕ
 sequence_in zero [] = Ok []
 sequence_in zero (byte ∷ bytes) = Err 0
 sequence_in (suc left) text = read_from [] left unread 0 text
-
--- a text begins the text of some sequence of so many placements
-pub record Begins (needed : ℕ) (front : List ℕ) : Type 0 where
-  pub rest : List ℕ
-  pub sequence : List Placement
-  pub whole : sequence_in needed (front ++ rest) ≡ Ok sequence
-
--- so many bytes are the longest front of a text that begins the text of some sequence of so many placements
-pub record IsLongestFront (needed : ℕ) (text : List ℕ) (place : ℕ) : Type 0 where
-  pub within : place ≤ length text
-  pub begins : Begins needed (take place text)
-  pub longest : (longer : ℕ) → place < longer → longer ≤ length text → Begins needed (take longer text) → ⊥
