@@ -11,11 +11,17 @@ use std::marker::Brand;
 use std::sync::ledger::{Blank, Ledger};
 
 #[cfg(test)]
+mod asserts;
+#[cfg(test)]
 mod faults;
 #[cfg(test)]
 mod floods;
 #[cfg(test)]
+mod keys;
+#[cfg(test)]
 mod limits;
+#[cfg(test)]
+mod pages;
 #[cfg(test)]
 mod solutions;
 
@@ -43,19 +49,30 @@ fn counted<L: Ledger>(
     run(alloc, words, source, out, err, &mut steps)
 }
 
-/// Runs the words, where these writes of the output fail.
-pub fn run_words(alloc: Global, words: &[&str], failing: &[u32]) -> Result<Outcome, NoMemory> {
-    let mut texts = Vec::new(alloc);
-    for word in words {
-        texts.push(String::from_str(alloc, word)?)?;
+/// Runs the words over a source, where these writes of the output fail. The words are those of the line, divided by single
+/// blanks, and after them these more, which may have blanks.
+pub fn run_words(
+    alloc: Global,
+    line: &str,
+    more: &[&str],
+    mut source: MemorySource,
+    failing: &[u32],
+) -> Result<Outcome, NoMemory> {
+    let mut words = Vec::new(alloc);
+    if !line.is_empty() {
+        for word in line.split(' ') {
+            words.push(String::from_str(alloc, word)?)?;
+        }
     }
-    let mut source = MemorySource::new(Vec::new(alloc), Vec::new(alloc));
-    let mut out = MemorySink::new(alloc, 100_000, Vec::from_slice(alloc, failing)?)?;
+    for word in more {
+        words.push(String::from_str(alloc, word)?)?;
+    }
+    let mut out = MemorySink::new(alloc, 1_000_000, Vec::from_slice(alloc, failing)?)?;
     let mut err = MemorySink::new(alloc, 1_000, Vec::new(alloc))?;
     let status = counted::<Brand>(
         alloc,
         Blank::new(1),
-        &texts,
+        &words,
         &mut source,
         &mut out,
         &mut err,
