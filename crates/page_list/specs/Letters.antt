@@ -1,5 +1,5 @@
 -- The letters of a page's cells, and its rows.
-use Rattle.std.specs.Prelude.{ℕ, zero, suc, List, [], ◌∷◌, map, take, drop, Bool, ◌==◌, slice_index, codes}
+use Rattle.std.specs.Prelude.{ℕ, List, map, take, drop, Bool, ◌==◌, slice_index, codes}
 use Rattle.std.specs.List.{list_all, prefix_len}
 use Rattle.fumen_pages.specs.Next.{rows_in}
 

@@ -1,5 +1,5 @@
 -- What a command writes is determined by its words and the bytes of the source.
-use Rattle.std.proofs.Common.{◌≡◌, ℕ, List, [], ◌∷◌, append-nil, refl, sym, ap, subst, ◌∙◌, inl, inr, Option, Some, None, Result, Ok, Err, IsTrue}
+use Rattle.std.proofs.Common.{◌≡◌, ℕ, List, [], ◌∷◌, ◌++◌, append-nil, refl, sym, ap, subst, ◌∙◌, inl, inr, Option, Some, None, Result, Ok, Err, IsTrue}
 use Rattle.std.specs.Prelude.{Contains}
 use Rattle.std.specs.List.Sorted.{IsStrictlySortedBy}
 use Rattle.std.specs.Cmp.{IsTotalOrder, tied_itself}
@@ -7,9 +7,13 @@ use Rattle.std.specs.declared.cmp.Ordering.{Ordering}
 use Rattle.std.specs.declared.cmp.Ordering.TheVariants.{Less, Equal}
 use Rattle.std.specs.List.{flat_map}
 use Rattle.std.proofs.lemmas.Option.{same_Some}
+use Rattle.fumen_digits.specs.declared.dialect.Dialect.{Dialect}
+use Rattle.fumen_text.specs.Written.{written}
 use Rattle.fumen_pages.specs.declared.page.Page.{Page}
 use Rattle.fumen_text.proofs.TextLaws.{one_list}
+use Rattle.page_list.specs.declared.fault.ListFault.{ListFault}
 use Rattle.page_list.specs.Line.{page_form}
+use Rattle.page_list.specs.List.{pages_in}
 use Rattle.report.specs.Page.{shown_page}
 use Rattle.srs.specs.declared.placement.Placement.{Placement}
 use Rattle.srs.specs.Rising.{is_above, IsRisingListOf}
@@ -32,10 +36,10 @@ use Rattle.pc_outside.specs.Writes.{Grows, GrowsByFront}
 use Rattle.pc_outside.specs.WriteLaws.{begins, is_front}
 use Rattle.pc_app.specs.declared.words.WordsFault.{WordsFault}
 use Rattle.pc_app.specs.Answers.{Wrote, WroteFront}
-use Rattle.pc_app.specs.Words.{PathQuestion, Question, path, settings, decode, show}
+use Rattle.pc_app.specs.Words.{PathQuestion, Question, path, settings, decode, encode, show}
 use Rattle.pc_app.specs.Question.{IsProblemOf, IsGiven}
 use Rattle.pc_app.proofs.Fronts.{one_spelled}
-use Rattle.pc_app.specs.Output.{IsPathOutput, IsOutputOf, IsOutput, IsDecodeOutput, IsShown, IsShowOutput}
+use Rattle.pc_app.specs.Output.{IsPathOutput, IsOutputOf, IsOutput, IsDecodeOutput, IsEncodeOutput, IsShown, IsShowOutput}
 
 -- of the same things there is one rising list
 module _ {A : Type 0} (cmp : A → A → Ordering) (total : IsTotalOrder cmp) where
@@ -121,6 +125,14 @@ pub decode_output_unique : (bytes a b : List ℕ) → IsDecodeOutput bytes a →
 decode_output_unique bytes a b first second =
     first.lines ∙ ap (flat_map page_form) (one_list bytes first.dialect first.pages second.dialect second.pages first.reads second.reads).1 ∙ sym second.lines
 
+same_list : (x y : List Page) (read : Result (List Page) ListFault) → read ≡ Ok x → read ≡ Ok y → x ≡ y
+same_list x y read one other = cc
+
+encode_output_unique : (dialect : Dialect) (bytes a b : List ℕ) → IsEncodeOutput dialect bytes a → IsEncodeOutput dialect bytes b → a ≡ b
+encode_output_unique dialect bytes a b first second =
+    let same : first.pages ≡ second.pages = same_list first.pages second.pages (pages_in bytes) first.reads second.reads in
+    first.text ∙ ap (λ pages. written dialect pages ++ 10 ∷ []) same ∙ sym second.text
+
 same_shown : (asked : Option ℕ) (pages : List Page) (a b : List ℕ) → IsShown asked pages a → IsShown asked pages b → a ≡ b
 same_shown None pages a b first second = first ∙ sym second
 same_shown (Some asked) pages a b first second =
@@ -134,6 +146,7 @@ show_output_unique asked bytes a b first second =
 output_of_unique : (asked : Result Question WordsFault) (bytes a b : List ℕ) → IsOutputOf asked bytes a → IsOutputOf asked bytes b → a ≡ b
 output_of_unique (Ok (path question)) bytes a b first second = path_output_unique question a b first second
 output_of_unique (Ok decode) bytes a b first second = decode_output_unique bytes a b first second
+output_of_unique (Ok (encode dialect)) bytes a b first second = encode_output_unique dialect bytes a b first second
 output_of_unique (Ok (show asked)) bytes a b first second = show_output_unique asked bytes a b first second
 output_of_unique (Err fault) bytes a b first second = absurd first
 

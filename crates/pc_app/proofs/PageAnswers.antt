@@ -1,21 +1,23 @@
 -- What the showing of pages and the reading of the source say of a run.
 use Rattle.std.proofs.Common.{◌≡◌, inl, inr, ℕ, ◌+◌, ◌-◌, ◌<◌, ◌≤◌, Bool, true, false, List, [], ◌∷◌, ◌++◌, length, drop, get_or, Option, Some, None, Result, refl, ap, sym, subst, ◌∙◌, arith}
-use Rattle.std.specs.Prelude.{nat_lt}
+use Rattle.std.specs.Prelude.{nat_lt, option_map}
 use Rattle.std.proofs.lemmas.Bool.{le-ltb}
 use Rattle.std.proofs.lemmas.List.{at_drop_more, drop_all}
 use Rattle.std.proofs.lemmas.Option.{slice_get-get_or}
+use Rattle.fumen_digits.specs.declared.dialect.Dialect.{Dialect}
+use Rattle.fumen_text.specs.Written.{list_fault}
 use Rattle.fumen_pages.specs.declared.page.Page.{Page}
 use Rattle.fumen_text.proofs.TextLaws.{read_from_text}
 use Rattle.pc_outside.specs.Writes.{GrowsByFront, WritesAll}
 use Rattle.report.specs.Page.{shown_page}
 use Rattle.pc_app.specs.declared.faults.Fault.{Fault}
-use Rattle.pc_app.specs.declared.faults.Fault.TheVariants.{SourceTooLong, NoPage}
+use Rattle.pc_app.specs.declared.faults.Fault.TheVariants.{SourceTooLong, NoPage, Encode}
 use Rattle.pc_app.specs.declared.status.Status.{Status}
 use Rattle.pc_app.specs.declared.status.Status.TheVariants.{Done, Input, SourceFault, SinkFault, NoMemory}
 use Rattle.pc_app.specs.Answers.{WroteFront, Answers, AnswersReading, AnswersOf}
-use Rattle.pc_app.specs.Faults.{first_of_these, page_fault, source_fault, show_fault}
+use Rattle.pc_app.specs.Faults.{first_of_these, encode_fault, lines_fault, unwritten_fault, page_fault, source_fault, show_fault}
 use Rattle.pc_app.specs.Output.{IsShown, IsShowOutput, shown_from}
-use Rattle.pc_app.specs.Source.{HasPages, Stops, Supplies}
+use Rattle.pc_app.specs.Source.{HasList, HasPages, Stops, Supplies}
 use Rattle.pc_app.specs.Views.{HasNumber}
 use Rattle.pc_app.proofs.Determined.{nothing_is_front, whole_is_front}
 
@@ -63,6 +65,30 @@ pub shown_within : (asked : Option ℕ) (pages : List Page) (Outputs : List ℕ 
     → Answers (page_fault asked pages) Outputs old new before now Kept status → status ≡ Input SourceTooLong → ⊥
 shown_within asked pages Outputs old new before now Kept status answers is =
     never_too_long asked pages (subst (λ s. Answers (page_fault asked pages) Outputs old new before now Kept s) is answers).0
+
+-- the first of two faults, and the second where the first is none
+first_stops : (one other : Option Fault) (f : Fault) → one ≡ Some f → first_of_these (one ∷ other ∷ []) ≡ Some f
+first_stops one other f is = rw (is) refl
+
+first_passes : (one other : Option Fault) → one ≡ None → first_of_these (one ∷ other ∷ []) ≡ other
+first_passes one None none = rw (none) refl
+first_passes one (Some fault) none = rw (none) refl
+
+-- the pages of the lines are not had
+pub stops_encode : (dialect : Dialect) (bytes : List ℕ) (Outputs : List ℕ → Type 0) (old new : Option (List ℕ)) (before now : ℕ) (Kept : Type 0) (status : Status)
+    → Kept → Stops (lines_fault bytes) status → AnswersReading (encode_fault dialect bytes) Outputs old new before now Kept status
+unfolding encode_fault
+stops_encode dialect bytes Outputs old new before now Kept Done kept stops = absurd stops
+stops_encode dialect bytes Outputs old new before now Kept (Input f) kept stops = (first_stops (lines_fault bytes) _ f stops, kept)
+stops_encode dialect bytes Outputs old new before now Kept SourceFault kept stops = kept
+stops_encode dialect bytes Outputs old new before now Kept SinkFault kept stops = absurd stops
+stops_encode dialect bytes Outputs old new before now Kept NoMemory kept stops = inr kept
+
+-- the fault of pages that are had is that of their writing
+pub encode_reads : (dialect : Dialect) (bytes : List ℕ) (pages : List Page) → HasList bytes pages
+    → encode_fault dialect bytes ≡ option_map (λ fault. Encode fault) (list_fault dialect pages)
+unfolding encode_fault
+encode_reads dialect bytes pages has = first_passes (lines_fault bytes) _ has.none ∙ ap (unwritten_fault dialect) has.reads
 
 show_stops : (asked : Option ℕ) (bytes : List ℕ) (f : Fault) → source_fault bytes ≡ Some f → show_fault asked bytes ≡ Some f
 unfolding show_fault

@@ -12,12 +12,14 @@ use Rattle.fumen_text.proofs.TextLaws.{read_from_text}
 use Rattle.std.specs.Result.{IfErr, IsErrAnd}
 use Rattle.pc_outside.specs.declared.reading.ReadError.{ReadError}
 use Rattle.pc_outside.specs.declared.reading.ReadError.TheVariants as unread
+use Rattle.page_list.specs.declared.fault.ListFault.{ListFault}
+use Rattle.page_list.specs.List.{pages_in}
 use Rattle.pc_app.specs.declared.faults.Fault.{Fault}
 use Rattle.pc_app.specs.declared.faults.Fault.TheVariants as faults
 use Rattle.pc_app.specs.declared.status.Status.{Status}
 use Rattle.pc_app.specs.Codes.{read_status}
-use Rattle.pc_app.specs.Faults.{most_bytes, source_fault}
-use Rattle.pc_app.specs.Source.{HasPages, Stops}
+use Rattle.pc_app.specs.Faults.{lines_fault, most_bytes, source_fault}
+use Rattle.pc_app.specs.Source.{HasList, HasPages, Stops}
 
 named_fault : (f : FumenFault) → named (fumen_fault f) ≡ f
 named_fault fault.NoFumen = refl
@@ -48,6 +50,21 @@ has_pages bytes dialect pages within reads = record {
 pub has_fault : (bytes : List ℕ) (f : FumenFault) → length bytes ≤ most_bytes → text_pages bytes ≡ Err (fumen_fault f) → source_fault bytes ≡ Some (faults.Fumen f)
 unfolding source_fault
 has_fault bytes f within read = rw (le-ltb most_bytes (length bytes) within, read) (ap (λ g. Some (faults.Fumen g)) (named_fault f))
+
+-- the bytes are the lines of these pages
+pub has_list : (bytes : List ℕ) (pages : List Page) → length bytes ≤ most_bytes → pages_in bytes ≡ Ok pages → HasList bytes pages
+unfolding lines_fault
+has_list bytes pages within reads = record { none = rw (le-ltb most_bytes (length bytes) within, reads) refl; reads = reads }
+
+-- the bytes are no lines of pages
+pub has_line_fault : (bytes : List ℕ) (f : ListFault) → length bytes ≤ most_bytes → pages_in bytes ≡ Err f → lines_fault bytes ≡ Some (faults.List f)
+unfolding lines_fault
+has_line_fault bytes f within read = rw (le-ltb most_bytes (length bytes) within, read) refl
+
+-- there are more bytes than are read
+pub lines_too_long : (bytes : List ℕ) → most_bytes + 1 ≤ length bytes → lines_fault bytes ≡ Some faults.SourceTooLong
+unfolding lines_fault
+lines_too_long bytes long = rw (lt-ltb most_bytes (length bytes) (omega arith)) refl
 
 stops_error : (e : ReadError) (fault : Option Fault) → (e ≡ unread.TooLong → fault ≡ Some faults.SourceTooLong) → Stops fault (read_status e)
 stops_error unread.TooLong fault long = long refl

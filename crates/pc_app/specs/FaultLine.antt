@@ -7,10 +7,14 @@ use Rattle.queue_pattern.specs.declared.fault.PatternFault.{PatternFault}
 use Rattle.queue_pattern.specs.declared.fault.PatternFault.TheVariants.{Unexpected, RepeatedPiece, TooManyChosen, PatternTooLong, TooManyQueues}
 use Rattle.fumen_text.specs.declared.fault.FumenFault.{FumenFault}
 use Rattle.fumen_text.specs.declared.fault.FumenFault.TheVariants as fumen
+use Rattle.fumen_text.specs.declared.encode_fault.EncodeFault.{EncodeFault}
+use Rattle.fumen_text.specs.declared.encode_fault.EncodeFault.TheVariants as unwritten
+use Rattle.page_list.specs.declared.fault.ListKind.{ListKind}
+use Rattle.page_list.specs.declared.fault.ListKind.TheVariants as kinds
 use Rattle.pc_app.specs.declared.words.WordsKind.{WordsKind}
 use Rattle.pc_app.specs.declared.words.WordsKind.TheVariants.{NoCommand, UnknownCommand, UnknownOption, RepeatedOption, MissingValue, BadValue, MissingOption}
 use Rattle.pc_app.specs.declared.faults.Fault.{Fault}
-use Rattle.pc_app.specs.declared.faults.Fault.TheVariants.{Words, SourceTooLong, Fumen, NoPage, Rows, FieldTooHigh, FullRow, Pattern, TooFewPieces, BadAfter}
+use Rattle.pc_app.specs.declared.faults.Fault.TheVariants.{Words, SourceTooLong, Fumen, NoPage, List as ListOf, Encode, Rows, FieldTooHigh, FullRow, Pattern, TooFewPieces, BadAfter}
 
 abbrev pub words_name : WordsKind → List ℕ
 words_name NoCommand = codes "Words.NoCommand"
@@ -44,11 +48,28 @@ fumen_name (fumen.PieceOutside page) = codes "Fumen.PieceOutside"
 fumen_name (fumen.BadComment place) = codes "Fumen.BadComment"
 fumen_name fumen.TooManyPages = codes "Fumen.TooManyPages"
 
+abbrev pub list_name : ListKind → List ℕ
+list_name kinds.TooManyPages = codes "List.TooManyPages"
+list_name kinds.BadLine = codes "List.BadLine"
+list_name kinds.BadCells = codes "List.BadCells"
+list_name kinds.BadOperation = codes "List.BadOperation"
+list_name kinds.BadFlags = codes "List.BadFlags"
+list_name kinds.BadComment = codes "List.BadComment"
+
+abbrev pub encode_name : EncodeFault → List ℕ
+encode_name unwritten.TooManyPages = codes "Encode.TooManyPages"
+encode_name (unwritten.BadCell page) = codes "Encode.BadCell"
+encode_name (unwritten.PieceOutside page) = codes "Encode.PieceOutside"
+encode_name (unwritten.CommentTooLong page) = codes "Encode.CommentTooLong"
+encode_name (unwritten.RowTooHigh page) = codes "Encode.RowTooHigh"
+
 abbrev pub fault_name : Fault → List ℕ
 fault_name (Words fault) = words_name fault.kind
 fault_name SourceTooLong = codes "SourceTooLong"
 fault_name (Fumen fault) = fumen_name fault
 fault_name (NoPage asked there) = codes "NoPage"
+fault_name (ListOf fault) = list_name fault.kind
+fault_name (Encode fault) = encode_name fault
 fault_name (Rows fault) = rows_name fault
 fault_name (FieldTooHigh row) = codes "FieldTooHigh"
 fault_name (FullRow row) = codes "FullRow"
@@ -79,11 +100,20 @@ fumen_numbers (fumen.PieceOutside page) = page ∷ []
 fumen_numbers (fumen.BadComment place) = place ∷ []
 fumen_numbers fumen.TooManyPages = []
 
+abbrev pub encode_numbers : EncodeFault → List ℕ
+encode_numbers unwritten.TooManyPages = []
+encode_numbers (unwritten.BadCell page) = page ∷ []
+encode_numbers (unwritten.PieceOutside page) = page ∷ []
+encode_numbers (unwritten.CommentTooLong page) = page ∷ []
+encode_numbers (unwritten.RowTooHigh page) = page ∷ []
+
 abbrev pub fault_numbers : Fault → List ℕ
 fault_numbers (Words fault) = fault.index ∷ []
 fault_numbers SourceTooLong = []
 fault_numbers (Fumen fault) = fumen_numbers fault
 fault_numbers (NoPage asked there) = asked ∷ there ∷ []
+fault_numbers (ListOf fault) = fault.line ∷ []
+fault_numbers (Encode fault) = encode_numbers fault
 fault_numbers (Rows fault) = rows_numbers fault
 fault_numbers (FieldTooHigh row) = row ∷ []
 fault_numbers (FullRow row) = row ∷ []

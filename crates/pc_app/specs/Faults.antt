@@ -12,12 +12,15 @@ use Rattle.fumen_digits.specs.declared.dialect.Dialect.{Dialect}
 use Rattle.fumen_digits.specs.Fault.{Fault as TextFault}
 use Rattle.fumen_pages.specs.declared.page.Page.{Page}
 use Rattle.fumen_text.specs.Reading.{text_pages}
+use Rattle.fumen_text.specs.Written.{list_fault}
+use Rattle.page_list.specs.declared.fault.ListFault.{ListFault}
+use Rattle.page_list.specs.List.{pages_in}
 use Rattle.pc_app.specs.Named.{named}
 use Rattle.pc_app.specs.declared.words.WordsFault.{WordsFault}
 use Rattle.pc_app.specs.declared.faults.Fault.{Fault}
 use Rattle.pc_app.specs.declared.faults.Fault.TheVariants as faults
 use Rattle.pc_app.specs.Reading.{sequence_in}
-use Rattle.pc_app.specs.Words.{FieldText, rows_text, PathQuestion, Question, path, decode, show, settings}
+use Rattle.pc_app.specs.Words.{FieldText, rows_text, PathQuestion, Question, path, decode, encode, show, settings}
 
 -- the first of these that is one
 abbrev pub first_of_these : List (Option Fault) → Option Fault
@@ -94,6 +97,22 @@ pages_fault (Err fault) = Some (faults.Fumen (named fault))
 unfoldable pub source_fault : List ℕ → Option Fault
 source_fault bytes = first_of_these (length_fault (length bytes) ∷ pages_fault (text_pages bytes) ∷ [])
 
+abbrev pub list_fault_of : Result (List Page) ListFault → Option Fault
+list_fault_of (Ok pages) = None
+list_fault_of (Err fault) = Some (faults.List fault)
+
+abbrev pub unwritten_fault : Dialect → Result (List Page) ListFault → Option Fault
+unwritten_fault dialect (Ok pages) = option_map (λ fault. faults.Encode fault) (list_fault dialect pages)
+unwritten_fault dialect (Err fault) = None
+
+-- the source is a list of pages
+unfoldable pub lines_fault : List ℕ → Option Fault
+lines_fault bytes = first_of_these (length_fault (length bytes) ∷ list_fault_of (pages_in bytes) ∷ [])
+
+-- the source, and then its pages, which can be written in the dialect
+unfoldable pub encode_fault : Dialect → List ℕ → Option Fault
+encode_fault dialect bytes = first_of_these (lines_fault bytes ∷ unwritten_fault dialect (pages_in bytes) ∷ [])
+
 -- a page that is asked for stands in the list
 abbrev pub page_fault : Option ℕ → List Page → Option Fault
 page_fault None pages = None
@@ -111,6 +130,7 @@ abbrev pub question_fault : Result Question WordsFault → List ℕ → Option F
 question_fault (Err fault) bytes = Some (faults.Words fault)
 question_fault (Ok (path question)) bytes = path_fault question
 question_fault (Ok decode) bytes = source_fault bytes
+question_fault (Ok (encode dialect)) bytes = encode_fault dialect bytes
 question_fault (Ok (show asked)) bytes = show_fault asked bytes
 
 -- the first fault of the words, or of what they name, where the source has these bytes

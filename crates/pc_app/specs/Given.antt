@@ -1,10 +1,11 @@
 -- The values that the words of a command give.
 use Rattle.std.specs.Prelude.{ℕ, Bool, List, Option, Some, None, option_map, is_some}
+use Rattle.fumen_digits.specs.declared.dialect.Dialect.{Dialect}
 use Rattle.hold_queue.specs.declared.hold.Hold.{Hold}
 use Rattle.moves.specs.declared.key.DropMode.{DropMode}
 use Rattle.pc_app.specs.declared.names.CommandOption.{CommandOption}
 use Rattle.pc_app.specs.declared.names.CommandOption.TheVariants as options
-use Rattle.pc_app.specs.Names.{hold_in, drop_in, yes_in}
+use Rattle.pc_app.specs.Names.{hold_in, drop_in, yes_in, dialect_in}
 use Rattle.pc_app.specs.Numbers.{number_in}
 
 pub record Given : Type 0 where
@@ -17,10 +18,11 @@ pub record Given : Type 0 where
   pub limit : Option ℕ
   pub after : Option (List ℕ)
   pub page : Option ℕ
+  pub dialect : Option Dialect
 
 -- no values
 abbrev pub nothing_given : Given
-nothing_given = record { rows = None; height = None; patterns = None; hold = None; drop_mode = None; keys = None; limit = None; after = None; page = None }
+nothing_given = record { rows = None; height = None; patterns = None; hold = None; drop_mode = None; keys = None; limit = None; after = None; page = None; dialect = None }
 
 abbrev pub is_given : Given → CommandOption → Bool
 is_given given options.Rows = is_some given.rows
@@ -32,6 +34,7 @@ is_given given options.Keys = is_some given.keys
 is_given given options.Limit = is_some given.limit
 is_given given options.After = is_some given.after
 is_given given options.Page = is_some given.page
+is_given given options.Dialect = is_some given.dialect
 
 -- the values with one more, where it is in the list or the range of its option
 abbrev pub with_value : Given → CommandOption → List ℕ → Option Given
@@ -44,3 +47,4 @@ with_value given options.Keys value = option_map (λ keys. record given { keys =
 with_value given options.Limit value = option_map (λ limit. record given { limit = Some limit }) (number_in 1 1000000000 value)
 with_value given options.After value = Some (record given { after = Some value })
 with_value given options.Page value = option_map (λ page. record given { page = Some page }) (number_in 1 10000 value)
+with_value given options.Dialect value = option_map (λ dialect. record given { dialect = Some dialect }) (dialect_in value)

@@ -5,8 +5,10 @@ use Rattle.hold_queue.specs.declared.hold.Hold.{Hold}
 use Rattle.hold_queue.specs.declared.hold.Hold.TheVariants as holds
 use Rattle.moves.specs.declared.key.DropMode.{DropMode}
 use Rattle.moves.specs.declared.key.DropMode.TheVariants as drops
+use Rattle.fumen_digits.specs.declared.dialect.Dialect.{Dialect}
+use Rattle.fumen_digits.specs.declared.dialect.Dialect.TheVariants as dialects
 use Rattle.pc_app.specs.declared.names.Command.{Command}
-use Rattle.pc_app.specs.declared.names.Command.TheVariants.{Path, Decode, Show}
+use Rattle.pc_app.specs.declared.names.Command.TheVariants.{Path, Decode, Encode, Show}
 use Rattle.pc_app.specs.declared.names.CommandOption.{CommandOption}
 use Rattle.pc_app.specs.declared.names.CommandOption.TheVariants as options
 
@@ -14,8 +16,9 @@ unfoldable pub command_in : List ℕ → Option Command
 command_in word =
     if bytes_eq word (codes "path") then Some Path
     else (if bytes_eq word (codes "decode") then Some Decode
+    else (if bytes_eq word (codes "encode") then Some Encode
     else (if bytes_eq word (codes "show") then Some Show
-    else None))
+    else None)))
 
 unfoldable pub option_in : List ℕ → Option CommandOption
 option_in word =
@@ -28,13 +31,17 @@ option_in word =
     else (if bytes_eq word (codes "--limit") then Some options.Limit
     else (if bytes_eq word (codes "--after") then Some options.After
     else (if bytes_eq word (codes "--page") then Some options.Page
-    else None))))))))
+    else (if bytes_eq word (codes "--dialect") then Some options.Dialect
+    else None)))))))))
 
 -- whether a command has this option
 abbrev pub has_option : Command → CommandOption → Bool
 has_option Path options.Page = false
+has_option Path options.Dialect = false
 has_option Path option = true
 has_option Decode option = false
+has_option Encode options.Dialect = true
+has_option Encode option = false
 has_option Show options.Page = true
 has_option Show option = false
 
@@ -61,3 +68,8 @@ unfoldable pub yes_in : List ℕ → Option Bool
 yes_in word =
     if bytes_eq word (codes "yes") then Some true
     else (if bytes_eq word (codes "no") then Some false else None)
+
+unfoldable pub dialect_in : List ℕ → Option Dialect
+dialect_in word =
+    if bytes_eq word (codes "110") then Some dialects.V110
+    else (if bytes_eq word (codes "115") then Some dialects.V115 else None)

@@ -11,11 +11,13 @@ use Rattle.enumerate.specs.Search.{IsSolutionAbove}
 use Rattle.fumen_digits.specs.declared.dialect.Dialect.{Dialect}
 use Rattle.fumen_pages.specs.declared.page.Page.{Page}
 use Rattle.fumen_text.specs.Texts.{ReadsAs}
+use Rattle.fumen_text.specs.Written.{written}
+use Rattle.page_list.specs.List.{pages_in}
 use Rattle.page_list.specs.Line.{page_form}
 use Rattle.report.specs.Forms.{key_part, report_form}
 use Rattle.report.specs.Page.{shown_page}
 use Rattle.pc_app.specs.declared.words.WordsFault.{WordsFault}
-use Rattle.pc_app.specs.Words.{PathQuestion, Question, path, decode, show, settings}
+use Rattle.pc_app.specs.Words.{PathQuestion, Question, path, decode, encode, show, settings}
 use Rattle.pc_app.specs.Question.{IsProblemOf, IsAfterOf}
 
 -- The report of the rising list of all solutions of the problem that is named, after the given sequence where there is one:
@@ -53,10 +55,17 @@ pub record IsShowOutput (asked : Option ℕ) (bytes output : List ℕ) : Type 0 
   pub reads : ReadsAs bytes dialect pages
   pub shown : IsShown asked pages output
 
+-- the text of the pages that the source is the lines of, and a newline
+pub record IsEncodeOutput (dialect : Dialect) (bytes output : List ℕ) : Type 0 where
+  pub pages : List Page
+  pub reads : pages_in bytes ≡ Ok pages
+  pub text : output ≡ written dialect pages ++ 10 ∷ []
+
 abbrev pub IsOutputOf : Result Question WordsFault → List ℕ → List ℕ → Type 0
 IsOutputOf (Err fault) bytes output = ⊥
 IsOutputOf (Ok (path question)) bytes output = IsPathOutput question output
 IsOutputOf (Ok decode) bytes output = IsDecodeOutput bytes output
+IsOutputOf (Ok (encode dialect)) bytes output = IsEncodeOutput dialect bytes output
 IsOutputOf (Ok (show asked)) bytes output = IsShowOutput asked bytes output
 
 -- what the command that the words name writes, where the source has these bytes

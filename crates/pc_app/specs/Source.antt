@@ -6,17 +6,19 @@ use Rattle.fumen_digits.specs.declared.dialect.Dialect.{Dialect}
 use Rattle.fumen_pages.specs.declared.page.Page.{Page}
 use Rattle.fumen_pages.specs.Cells.{IsColour}
 use Rattle.fumen_text.specs.Texts.{ReadsAs}
+use Rattle.page_list.specs.List.{pages_in}
 use Rattle.pc_app.specs.declared.faults.Fault.{Fault}
 use Rattle.pc_app.specs.declared.status.Status.{Status}
 use Rattle.pc_app.specs.declared.status.Status.TheVariants.{Input, SourceFault, NoMemory}
 use Rattle.pc_app.specs.declared.words.WordsFault.{WordsFault}
-use Rattle.pc_app.specs.Faults.{source_fault}
-use Rattle.pc_app.specs.Words.{Question, path, decode, show, settings}
+use Rattle.pc_app.specs.Faults.{lines_fault, source_fault}
+use Rattle.pc_app.specs.Words.{Question, path, decode, encode, show, settings}
 
 abbrev pub reads_for : Result Question WordsFault → Bool
 reads_for (Err fault) = false
 reads_for (Ok (path question)) = false
 reads_for (Ok decode) = true
+reads_for (Ok (encode dialect)) = true
 reads_for (Ok (show asked)) = true
 
 -- whether the command that the words name reads the source
@@ -33,6 +35,11 @@ pub record HasPages (bytes : List ℕ) (pages : List Page) : Type 0 where
   pub none : source_fault bytes ≡ None
   pub dialect : Dialect
   pub reads : ReadsAs bytes dialect pages
+
+-- the bytes are the lines of these pages
+pub record HasList (bytes : List ℕ) (pages : List Page) : Type 0 where
+  pub none : lines_fault bytes ≡ None
+  pub reads : pages_in bytes ≡ Ok pages
 
 -- a page whose cells are colours, and whose operation lies in the well
 pub record IsShowable (page : Page) : Type 0 where

@@ -9,9 +9,9 @@ use Rattle.pc_app.specs.declared.settings.FieldWords.{FieldWords}
 use Rattle.pc_app.specs.declared.settings.FieldWords.TheVariants.{Rows}
 use Rattle.pc_app.specs.declared.settings.PathSettings.{PathSettings}
 use Rattle.pc_app.specs.declared.settings.Settings.{Settings}
-use Rattle.pc_app.specs.declared.settings.Settings.TheVariants.{Path, Decode, Show}
+use Rattle.pc_app.specs.declared.settings.Settings.TheVariants.{Path, Decode, Encode, Show}
 use Rattle.pc_app.specs.Given.{Given}
-use Rattle.pc_app.specs.Words.{FieldText, rows_text, PathQuestion, Question, path, decode, show}
+use Rattle.pc_app.specs.Words.{FieldText, rows_text, PathQuestion, Question, path, decode, encode, show}
 
 -- the texts of the words
 abbrev pub texts : {Z : Type 0} → List (String Z) → List (List ℕ)
@@ -38,6 +38,7 @@ pub record HasRanges (given : GivenWords) : Type 0 where
 abbrev pub AsksInRange : Settings → Type 0
 AsksInRange (Path settings) = IsHeight settings.common.height
 AsksInRange Decode = Unit {0}
+AsksInRange (Encode dialect) = Unit {0}
 AsksInRange (Show page) = HasNumber page
 
 abbrev pub given_view : GivenWords → Given
@@ -51,6 +52,7 @@ given_view given = record {
   limit = given.limit;
   after = option_copied given.after;
   page = given.page;
+  dialect = given.dialect;
 }
 
 abbrev pub given_reading : Result GivenWords WordsFault → Result Given WordsFault
@@ -79,6 +81,7 @@ path_reading (Err fault) = Err fault
 abbrev pub settings_view : Settings → Question
 settings_view (Path settings) = path (path_view settings)
 settings_view Decode = decode
+settings_view (Encode dialect) = encode dialect
 settings_view (Show page) = show page
 
 abbrev pub settings_reading : Result Settings WordsFault → Result Question WordsFault

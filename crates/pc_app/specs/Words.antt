@@ -1,11 +1,13 @@
 -- What the words ask for, or their first fault from the left.
 use Rattle.std.specs.Prelude.{ℕ, ◌+◌, Bool, false, List, [], ◌∷◌, length, Option, Some, None, unwrap_or, Result, Ok, Err, if◌then◌else◌}
+use Rattle.fumen_digits.specs.declared.dialect.Dialect.{Dialect}
+use Rattle.fumen_digits.specs.declared.dialect.Dialect.TheVariants.{V115}
 use Rattle.hold_queue.specs.declared.hold.Hold.{Hold}
 use Rattle.hold_queue.specs.declared.hold.Hold.TheVariants.{Allowed}
 use Rattle.moves.specs.declared.key.DropMode.{DropMode}
 use Rattle.moves.specs.declared.key.DropMode.TheVariants.{Soft}
 use Rattle.pc_app.specs.declared.names.Command.{Command}
-use Rattle.pc_app.specs.declared.names.Command.TheVariants.{Path, Decode, Show}
+use Rattle.pc_app.specs.declared.names.Command.TheVariants.{Path, Decode, Encode, Show}
 use Rattle.pc_app.specs.declared.names.CommandOption.{CommandOption}
 use Rattle.pc_app.specs.declared.words.WordsFault.{WordsFault}
 use Rattle.pc_app.specs.declared.words.WordsKind.{WordsKind}
@@ -32,6 +34,7 @@ pub record PathQuestion : Type 0 where
 pub data Question : Type 0 where
   path : PathQuestion → Question
   decode : Question
+  encode : Dialect → Question
   show : (page : Option ℕ) → Question
 
 abbrev pub fault_at : WordsKind → ℕ → WordsFault
@@ -88,6 +91,7 @@ as_path (Err fault) = Err fault
 abbrev pub question_of : Command → ℕ → Given → Result Question WordsFault
 question_of Path words given = as_path (with_defaults given words given.rows given.patterns)
 question_of Decode words given = Ok decode
+question_of Encode words given = Ok (encode (unwrap_or given.dialect V115))
 question_of Show words given = Ok (show given.page)
 
 abbrev pub question_read : Command → ℕ → Result Given WordsFault → Result Question WordsFault

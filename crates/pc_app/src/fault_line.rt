@@ -2,13 +2,14 @@
 ghost use Rattle.std.specs.Prelude.{◌≡◌};
 ghost use Rattle.pc_outside.specs.Counts.{HasCause};
 ghost use Rattle.pc_outside.specs.Writes.{WritesAll};
-ghost use Rattle.pc_app.specs.FaultLine.{words_name, rows_name, pattern_name, fumen_name, fault_name, rows_numbers, pattern_numbers, fumen_numbers, fault_numbers, line_with, fault_line};
+ghost use Rattle.pc_app.specs.FaultLine.{words_name, rows_name, pattern_name, fumen_name, list_name, encode_name, fault_name, rows_numbers, pattern_numbers, fumen_numbers, encode_numbers, fault_numbers, line_with, fault_line};
 ghost use Rattle.pc_app.specs.Numbered.{numbers_of};
 
 use crate::faults::Fault;
 use crate::words::WordsKind;
-use fumen_text::FumenFault;
+use fumen_text::{EncodeFault, FumenFault};
 use itoa::Buffer;
+use page_list::ListKind;
 use pc_outside::{Failed, Sink, write_pieces};
 use queue_pattern::PatternFault;
 use well::RowsFault;
@@ -73,6 +74,31 @@ fn fumen_name(fault: FumenFault) -> &'static [u8]
     }
 }
 
+fn list_name(kind: ListKind) -> &'static [u8]
+    ensures { result.now ≡ list_name kind }
+{
+    match kind {
+        ListKind::TooManyPages => b"List.TooManyPages",
+        ListKind::BadLine => b"List.BadLine",
+        ListKind::BadCells => b"List.BadCells",
+        ListKind::BadOperation => b"List.BadOperation",
+        ListKind::BadFlags => b"List.BadFlags",
+        ListKind::BadComment => b"List.BadComment",
+    }
+}
+
+fn encode_name(fault: EncodeFault) -> &'static [u8]
+    ensures { result.now ≡ encode_name fault }
+{
+    match fault {
+        EncodeFault::TooManyPages => b"Encode.TooManyPages",
+        EncodeFault::BadCell { .. } => b"Encode.BadCell",
+        EncodeFault::PieceOutside { .. } => b"Encode.PieceOutside",
+        EncodeFault::CommentTooLong { .. } => b"Encode.CommentTooLong",
+        EncodeFault::RowTooHigh { .. } => b"Encode.RowTooHigh",
+    }
+}
+
 fn fault_name(fault: Fault) -> &'static [u8]
     ensures { result.now ≡ fault_name fault }
 {
@@ -81,6 +107,8 @@ fn fault_name(fault: Fault) -> &'static [u8]
         Fault::SourceTooLong => b"SourceTooLong",
         Fault::Fumen(fumen) => fumen_name(fumen),
         Fault::NoPage { .. } => b"NoPage",
+        Fault::List(list) => list_name(list.kind),
+        Fault::Encode(encode) => encode_name(encode),
         Fault::Rows(rows) => rows_name(rows),
         Fault::FieldTooHigh { .. } => b"FieldTooHigh",
         Fault::FullRow { .. } => b"FullRow",
@@ -128,6 +156,18 @@ fn fumen_numbers(fault: FumenFault) -> Numbers
     }
 }
 
+fn encode_numbers(fault: EncodeFault) -> Numbers
+    ensures { numbers_of result ≡ encode_numbers fault }
+{
+    match fault {
+        EncodeFault::TooManyPages => Numbers::None,
+        EncodeFault::BadCell { page } => Numbers::One(page as usize),
+        EncodeFault::PieceOutside { page } => Numbers::One(page as usize),
+        EncodeFault::CommentTooLong { page } => Numbers::One(page as usize),
+        EncodeFault::RowTooHigh { page } => Numbers::One(page as usize),
+    }
+}
+
 fn fault_numbers(fault: Fault) -> Numbers
     ensures { numbers_of result ≡ fault_numbers fault }
 {
@@ -135,6 +175,8 @@ fn fault_numbers(fault: Fault) -> Numbers
         Fault::Words(words) => Numbers::One(words.index),
         Fault::SourceTooLong => Numbers::None,
         Fault::Fumen(fumen) => fumen_numbers(fumen),
+        Fault::List(list) => Numbers::One(list.line as usize),
+        Fault::Encode(encode) => encode_numbers(encode),
         Fault::NoPage { asked, there } => Numbers::Two(asked as usize, there as usize),
         Fault::Rows(rows) => rows_numbers(rows),
         Fault::FieldTooHigh { row } => Numbers::One(usize::from(row)),

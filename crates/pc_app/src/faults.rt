@@ -1,6 +1,7 @@
 // What is wrong with the input.
 use crate::words::WordsFault;
-use fumen_text::FumenFault;
+use fumen_text::{EncodeFault, FumenFault};
+use page_list::ListFault;
 use queue_pattern::PatternFault;
 use well::RowsFault;
 
@@ -14,6 +15,10 @@ pub enum Fault {
     Fumen(FumenFault),
     /// The page that is asked for is not there: its number, and how many pages there are.
     NoPage { asked: u32, there: u32 },
+    /// The source is no list of pages.
+    List(ListFault),
+    /// The pages can't be written.
+    Encode(EncodeFault),
     Rows(RowsFault),
     /// The lowest row at or above the height that has a filled cell.
     FieldTooHigh { row: u8 },

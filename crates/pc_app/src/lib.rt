@@ -3,6 +3,7 @@
 
 mod after;
 mod decode;
+mod encode;
 mod fault_line;
 mod faults;
 pub mod laws;

@@ -1,7 +1,8 @@
 // The names of commands and options, and of the values that are words.
 ghost use Rattle.std.specs.Prelude.{◌≡◌};
-ghost use Rattle.pc_app.specs.Names.{command_in, option_in, has_option, option_of, hold_in, drop_in, yes_in};
+ghost use Rattle.pc_app.specs.Names.{command_in, option_in, has_option, option_of, hold_in, drop_in, yes_in, dialect_in};
 
+use fumen_digits::Dialect;
 use hold_queue::Hold;
 use moves::DropMode;
 
@@ -10,6 +11,7 @@ use moves::DropMode;
 pub enum Command {
     Path,
     Decode,
+    Encode,
     Show,
 }
 
@@ -25,6 +27,7 @@ pub enum CommandOption {
     Limit,
     After,
     Page,
+    Dialect,
 }
 
 #[tactic(auto, unfolding(crate::specs::Names::command_in))]
@@ -34,6 +37,7 @@ pub fn command_named(word: &str) -> Option<Command>
     match word {
         "path" => Some(Command::Path),
         "decode" => Some(Command::Decode),
+        "encode" => Some(Command::Encode),
         "show" => Some(Command::Show),
         _ => None,
     }
@@ -53,6 +57,7 @@ fn option_named(word: &str) -> Option<CommandOption>
         "--limit" => Some(CommandOption::Limit),
         "--after" => Some(CommandOption::After),
         "--page" => Some(CommandOption::Page),
+        "--dialect" => Some(CommandOption::Dialect),
         _ => None,
     }
 }
@@ -62,8 +67,9 @@ fn has_option(command: Command, option: CommandOption) -> bool
     ensures { result ≡ has_option command option }
 {
     match command {
-        Command::Path => !matches!(option, CommandOption::Page),
+        Command::Path => !matches!(option, CommandOption::Page | CommandOption::Dialect),
         Command::Decode => false,
+        Command::Encode => matches!(option, CommandOption::Dialect),
         Command::Show => matches!(option, CommandOption::Page),
     }
 }
@@ -108,6 +114,17 @@ pub fn yes_named(word: &str) -> Option<bool>
     match word {
         "yes" => Some(true),
         "no" => Some(false),
+        _ => None,
+    }
+}
+
+#[tactic(auto, unfolding(crate::specs::Names::dialect_in))]
+pub fn dialect_named(word: &str) -> Option<Dialect>
+    ensures { result ≡ dialect_in word.now }
+{
+    match word {
+        "110" => Some(Dialect::V110),
+        "115" => Some(Dialect::V115),
         _ => None,
     }
 }

@@ -1,4 +1,5 @@
 // What the words ask for.
+use fumen_digits::Dialect;
 use hold_queue::Hold;
 use moves::DropMode;
 
@@ -38,6 +39,10 @@ pub struct PathSettings<'a> {
 pub enum Settings<'a> {
     Path(PathSettings<'a>),
     Decode,
+    Encode {
+        /// The dialect that is written.
+        dialect: Dialect,
+    },
     Show {
         /// The number of the page that is shown, counted from 1, or None for all pages.
         page: Option<u32>,

@@ -1,17 +1,18 @@
-// The pages of the fumen text that the source gives.
+// The pages of the fumen text, or of the lines, that the source gives.
 ghost use Rattle.std.specs.Prelude.{◌≡◌, ◌+◌, ◌≤◌, ℕ, List, [], All, Some, Err, vec_len, IfOk, IfErr};
 ghost use Rattle.std.specs.Option.{ForSome};
 ghost use Rattle.pc_outside.specs.Counts.{Rose};
 ghost use Rattle.pc_outside.specs.Reads.{TakesFirst, TakesAtMost};
 ghost use Rattle.pc_app.specs.declared.faults.Fault.{Fault};
 ghost use Rattle.pc_app.specs.declared.status.Status.{Status};
-ghost use Rattle.pc_app.specs.Faults.{most_bytes, source_fault};
-ghost use Rattle.pc_app.specs.Source.{HasPages, IsShowable, Stops};
+ghost use Rattle.pc_app.specs.Faults.{lines_fault, most_bytes, source_fault};
+ghost use Rattle.pc_app.specs.Source.{HasList, HasPages, IsShowable, Stops};
 
 use crate::faults::Fault;
 use crate::status::Status;
 use fumen_pages::Page;
 use fumen_text::decode;
+use page_list::parse;
 use pc_outside::{ReadError, Refused, Source, read_all};
 use std::alloc::Global;
 
@@ -33,6 +34,23 @@ pub fn source_pages<S: Source>(alloc: Global, source: &mut S) -> Result<Vec<Page
     match decode(alloc, &bytes) {
         Ok((_, pages)) => Ok(pages),
         Err(Refused::Fault(fault)) => Err(Status::Input(Fault::Fumen(fault))),
+        Err(Refused::NoMemory) => Err(Status::NoMemory),
+    }
+}
+
+/// Reads the source to its end, as the lines of pages: these pages, or the status that ends the run.
+pub fn source_list<S: Source>(alloc: Global, source: &mut S) -> Result<Vec<Page>, Status>
+    ensures pages { (bytes : List ℕ) → S.left source.old ≡ Some bytes → IfOk result (λ pages. HasList bytes pages.items) }
+    ensures ended { IfOk result (λ _. ForSome (S.left source.old) (λ _. S.left source.new ≡ Some [])) }
+    ensures stops { (bytes : List ℕ) → S.left source.old ≡ Some bytes → IfErr result (λ status. Stops (lines_fault bytes) status) }
+    ensures source_fault { result ≡ Err Status.SourceFault → Rose (S.faults source.old) (S.faults source.new) }
+    ensures too_long { result ≡ Err (Status.Input Fault.SourceTooLong) → TakesFirst (S.left source.old) (S.left source.new) (most_bytes + 1) }
+    ensures most { TakesAtMost (S.left source.old) (S.left source.new) (most_bytes + 1) }
+{
+    let bytes = read_all(alloc, source, MOST_BYTES)?;
+    match parse(alloc, &bytes) {
+        Ok(pages) => Ok(pages),
+        Err(Refused::Fault(fault)) => Err(Status::Input(Fault::List(fault))),
         Err(Refused::NoMemory) => Err(Status::NoMemory),
     }
 }

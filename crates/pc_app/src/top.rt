@@ -12,6 +12,7 @@ ghost use Rattle.pc_app.specs.Source.{reads_source, Supplies};
 ghost use Rattle.pc_app.specs.Views.{texts};
 
 use crate::decode::run_decode;
+use crate::encode::run_encode;
 use crate::fault_line::write_fault;
 use crate::faults::Fault;
 use crate::path::run_path;
@@ -47,6 +48,7 @@ fn answer<S: Source, O: Sink, L: Ledger>(
     match settings {
         Settings::Path(path) => run_path(alloc, &path, out, steps),
         Settings::Decode => run_decode(alloc, source, out),
+        Settings::Encode { dialect } => run_encode(alloc, source, dialect, out),
         Settings::Show { page } => run_show(alloc, source, page, out),
     }
 }

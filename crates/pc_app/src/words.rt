@@ -6,10 +6,12 @@ ghost use Rattle.pc_app.specs.Words.{pair_read, pairs_read, question_of, setting
 ghost use Rattle.pc_app.specs.Views.{HasRanges, IsHeight, AsksInRange, given_view, given_reading, path_reading, settings_reading, texts};
 
 use crate::names::{
-    Command, CommandOption, command_named, drop_named, hold_named, option_of, yes_named,
+    Command, CommandOption, command_named, dialect_named, drop_named, hold_named, option_of,
+    yes_named,
 };
 use crate::numbers::number_in;
 use crate::settings::{FieldSettings, FieldWords, PathSettings, Settings};
+use fumen_digits::Dialect;
 use hold_queue::Hold;
 use moves::DropMode;
 
@@ -58,6 +60,7 @@ struct Given<'a> {
     limit: Option<u32>,
     after: Option<&'a str>,
     page: Option<u32>,
+    dialect: Option<Dialect>,
 }
 
 fn is_given(given: &Given, option: CommandOption) -> bool
@@ -73,6 +76,7 @@ fn is_given(given: &Given, option: CommandOption) -> bool
         CommandOption::Limit => given.limit.is_some(),
         CommandOption::After => given.after.is_some(),
         CommandOption::Page => given.page.is_some(),
+        CommandOption::Dialect => given.dialect.is_some(),
     }
 }
 
@@ -133,6 +137,13 @@ fn with_value<'a>(given: Given<'a>, option: CommandOption, value: &'a str) -> Op
             let page = number_in(1, MOST_PAGES, value.as_bytes())?;
             Some(Given {
                 page: Some(page),
+                ..given
+            })
+        }
+        CommandOption::Dialect => {
+            let dialect = dialect_named(value)?;
+            Some(Given {
+                dialect: Some(dialect),
                 ..given
             })
         }
@@ -204,6 +215,7 @@ fn read_pairs(command: Command, words: &[String]) -> Result<Given<'_>, WordsFaul
         limit: None,
         after: None,
         page: None,
+        dialect: None,
     };
     let mut index = 1;
     while index < words.len() {
@@ -255,6 +267,9 @@ fn settings_of(command: Command, words: usize, given: Given<'_>) -> Result<Setti
             Err(fault) => Err(fault),
         },
         Command::Decode => Ok(Settings::Decode),
+        Command::Encode => Ok(Settings::Encode {
+            dialect: given.dialect.unwrap_or(Dialect::V115),
+        }),
         Command::Show => Ok(Settings::Show { page: given.page }),
     }
 }

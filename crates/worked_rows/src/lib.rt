@@ -13,6 +13,8 @@ use std::sync::ledger::{Blank, Ledger};
 #[cfg(test)]
 mod asserts;
 #[cfg(test)]
+mod encodes;
+#[cfg(test)]
 mod faults;
 #[cfg(test)]
 mod floods;

@@ -1,0 +1,120 @@
+-- Lines that are read one after the other.
+use Rattle.std.proofs.Common.{◌≡◌, ℕ, ◌+◌, ◌-◌, ◌<◌, ◌==◌, Bool, false, List, [], ◌∷◌, ◌++◌, length, length-drop, take, drop, refl, ap, sym, ◌∙◌, append_assoc, append-nil, inl, inr, lt-ltb, le-ltb, ne_eqb, if◌then◌else◌, arith}
+use Rattle.std.specs.Prelude.{All, nat_lt, Result, Ok, Err}
+use Rattle.std.specs.List.{slice_split, position_or_len}
+use Rattle.std.proofs.lemmas.Bool.{cases_lt}
+use Rattle.std.proofs.lemmas.List.Splits.{slice_split_none, slice_split_first, length-slice_split}
+use Rattle.std.proofs.lemmas.List.Sums.{fails_before_first}
+use Rattle.pc_outside.specs.declared.answers.Refused.{Refused}
+use Rattle.pc_outside.specs.declared.answers.Refused.TheVariants as refused
+use Rattle.fumen_pages.specs.declared.page.Page.{Page}
+use Rattle.page_list.specs.declared.fault.ListFault.{ListFault}
+use Rattle.page_list.specs.Cells.{cut_at}
+use Rattle.page_list.specs.List.{without_return, whole_lines, lines_of, first_line, page_at, pages_from}
+use Rattle.page_list.specs.Reading.{Gives, ◌>>=◌}
+
+abbrev is_newline : ℕ → Bool
+is_newline byte = byte == 10
+
+-- the place of the first newline, or the text's length
+abbrev place : List ℕ → ℕ
+place text = position_or_len is_newline text
+
+whole-more : (line : List ℕ) (parts : List (List ℕ)) → 0 < length parts → whole_lines (line ∷ parts) ≡ without_return line ∷ whole_lines parts
+unfolding whole_lines
+whole-more line [] some = absurd (omega arith)
+whole-more line (next ∷ parts) some = refl
+
+whole-last : (last : List ℕ) → 0 < length last → whole_lines (last ∷ []) ≡ last ∷ []
+unfolding whole_lines
+whole-last last some = ap (λ b. if b then [] else last ∷ []) (ne_eqb (length last) 0 (λ is. omega arith))
+
+none-left : lines_of [] ≡ []
+unfolding whole_lines
+none-left = refl
+
+cut-found : (text : List ℕ) → place text < length text → first_line text ≡ (without_return (take (place text) text), drop (place text + 1) text)
+unfolding first_line cut_at
+cut-found text found = rw (lt-ltb (place text) (length text) found) refl
+
+cut-missing : (text : List ℕ) → nat_lt (place text) (length text) ≡ false → first_line text ≡ (text, [])
+unfolding first_line cut_at
+cut-missing text missing = rw (missing) refl
+
+-- the first line, and those behind it
+pub lines-more : (text : List ℕ) → 0 < length text → lines_of text ≡ (first_line text).0 ∷ lines_of (first_line text).1
+lines-more text some = elim (cases_lt (place text) (length text)) [
+  | inl found ↦
+      let parts = slice_split is_newline (drop (place text + 1) text) in
+      let more : 0 < length parts = omega (arith, length-slice_split is_newline (drop (place text + 1) text)) in
+      ap whole_lines (slice_split_first is_newline text 0 found) ∙ whole-more (take (place text) text) parts more
+      ∙ sym (ap (λ (l : List ℕ × List ℕ). l.0 ∷ lines_of l.1) (cut-found text found))
+  | inr past ↦
+      let plain : All (λ byte. is_newline byte ≡ false) text = λ k d within. fails_before_first is_newline text k d (omega arith) in
+      ap whole_lines (slice_split_none is_newline text plain) ∙ whole-last text some
+      ∙ sym (ap (λ (l : List ℕ × List ℕ). l.0 ∷ lines_of l.1) (cut-missing text (le-ltb (place text) (length text) past)) ∙ ap (λ (l : List (List ℕ)). text ∷ l) none-left)
+]
+
+-- these pages stand in front
+abbrev pub behind : List Page → Result (List Page) ListFault → Result (List Page) ListFault
+behind done read = read >>= (λ pages. Ok (done ++ pages))
+
+behind-more : (done : List Page) (page : Page) (read : Result (List Page) ListFault) → behind done (read >>= (λ pages. Ok (page ∷ pages))) ≡ behind (done ++ page ∷ []) read
+behind-more done page (Ok pages) = ap Ok (sym (append_assoc done (page ∷ []) pages))
+behind-more done page (Err fault) = refl
+
+step : (done : List Page) (number : ℕ) (line : List ℕ) (lines : List (List ℕ)) (page : Page) → page_at number line ≡ Ok page
+    → behind done (pages_from number (line ∷ lines)) ≡ behind (done ++ page ∷ []) (pages_from (number + 1) lines)
+unfolding pages_from
+step done number line lines page is = rw (is) (behind-more done page (pages_from (number + 1) lines))
+
+stop : (done : List Page) (number : ℕ) (line : List ℕ) (lines : List (List ℕ)) (fault : ListFault) → page_at number line ≡ Err fault
+    → behind done (pages_from number (line ∷ lines)) ≡ Err fault
+unfolding pages_from
+stop done number line lines fault is = rw (is) refl
+
+-- one more page is read
+pub page_read : (done : List Page) (number next : ℕ) (text line rest : List ℕ) (page : Page) (all : Result (List Page) ListFault) → 0 < length text → first_line text ≡ (line, rest)
+    → page_at number line ≡ Ok page → next ≡ number + 1 → behind done (pages_from number (lines_of text)) ≡ all → behind (done ++ page ∷ []) (pages_from next (lines_of rest)) ≡ all
+page_read done number next text line rest page all some cut is following so_far =
+    let lines = lines-more text some ∙ ap (λ (l : List ℕ × List ℕ). l.0 ∷ lines_of l.1) cut in
+    ap (λ n. behind (done ++ page ∷ []) (pages_from n (lines_of rest))) following
+    ∙ sym (step done number line (lines_of rest) page is) ∙ sym (ap (λ (l : List (List ℕ)). behind done (pages_from number l)) lines) ∙ so_far
+
+-- a line has a fault
+pub page_missing : (done : List Page) (number : ℕ) (text line rest : List ℕ) (fault : ListFault) (all : Result (List Page) ListFault) → 0 < length text → first_line text ≡ (line, rest)
+    → page_at number line ≡ Err fault → behind done (pages_from number (lines_of text)) ≡ all → all ≡ Err fault
+page_missing done number text line rest fault all some cut is so_far =
+    let lines = lines-more text some ∙ ap (λ (l : List ℕ × List ℕ). l.0 ∷ lines_of l.1) cut in
+    sym so_far ∙ ap (λ (l : List (List ℕ)). behind done (pages_from number l)) lines ∙ stop done number line (lines_of rest) fault is
+
+-- a line is refused
+pub page_refused : {X : Type 0} (view : X → List Page) (refusal : Refused ListFault) (done : List Page) (number : ℕ) (text line rest : List ℕ) (all : Result (List Page) ListFault)
+    → 0 < length text → first_line text ≡ (line, rest) → Gives {X = Page} {Y = Page} (λ page. page) (Err refusal) (page_at number line)
+    → behind done (pages_from number (lines_of text)) ≡ all → Gives view (Err refusal) all
+page_refused view (refused.Fault fault) done number text line rest all some cut given so_far = page_missing done number text line rest fault all some cut given so_far
+page_refused view refused.NoMemory done number text line rest all some cut given so_far = tt
+
+from-none : (done : List Page) (number : ℕ) → behind done (pages_from number []) ≡ Ok done
+unfolding pages_from
+from-none done number = ap Ok (append-nil done)
+
+-- the text ends
+pub pages_read : (done : List Page) (number : ℕ) (text : List ℕ) (all : Result (List Page) ListFault) → text ≡ []
+    → behind done (pages_from number (lines_of text)) ≡ all → all ≡ Ok done
+pages_read done number text all none so_far =
+    sym so_far ∙ ap (λ (l : List ℕ). behind done (pages_from number (lines_of l))) none ∙ ap (λ (l : List (List ℕ)). behind done (pages_from number l)) none-left ∙ from-none done number
+
+-- no page stands in front
+pub from_start : (read : Result (List Page) ListFault) → behind [] read ≡ read
+from_start (Ok pages) = refl
+from_start (Err fault) = refl
+
+-- what is behind a line is shorter
+pub behind_shorter : (text line rest : List ℕ) → 0 < length text → first_line text ≡ (line, rest) → length rest < length text
+behind_shorter text line rest some cut = elim (cases_lt (place text) (length text)) [
+  | inl found ↦ let is = ap (λ (l : List ℕ × List ℕ). length l.1) (sym cut ∙ cut-found text found) in omega (arith, is, dropped text (place text + 1))
+  | inr past ↦ let is = ap (λ (l : List ℕ × List ℕ). length l.1) (sym cut ∙ cut-missing text (le-ltb (place text) (length text) past)) in omega arith
+] where
+  dropped : (l : List ℕ) (n : ℕ) → length (drop n l) ≡ length l - n
+  dropped l n = length-drop n l

@@ -1,0 +1,71 @@
+// Lists of pages, a line for each.
+ghost use Rattle.std.specs.Prelude.{◌≡◌, ◌≤◌, IfOk};
+ghost use Rattle.page_list.specs.List.{first_line, page_at, pages_in, without_return};
+ghost use Rattle.page_list.specs.Reading.{Gives};
+
+use crate::cells::cut_at;
+use crate::fault::{ListFault, ListKind};
+use crate::reading::read_line;
+use fumen_pages::Page;
+use pc_outside::Refused;
+use std::alloc::Global;
+
+// A line without the `\r` at its end.
+#[tactic(auto, unfolding(crate::specs::List::without_return))]
+fn without_return(line: &[u8]) -> &[u8]
+    ensures { result.now ≡ without_return line.now }
+{
+    if !line.is_empty() && line[line.len() - 1] == b'\r' {
+        &line[..line.len() - 1]
+    } else {
+        line
+    }
+}
+
+// The first line, and the text behind it.
+#[tactic(auto, unfolding(crate::specs::List::first_line))]
+fn first_line(text: &[u8]) -> (&[u8], &[u8])
+    ensures { first_line text.now ≡ (result.0.now, result.1.now) }
+{
+    match cut_at(b'\n', text) {
+        Some((line, behind)) => (without_return(line), behind),
+        None => (text, &[]),
+    }
+}
+
+// The page of the line of this number, counted from 1.
+#[tactic(auto, unfolding(crate::specs::List::page_at))]
+fn page_at(alloc: Global, number: u32, line: &[u8]) -> Result<Page, Refused<ListFault>>
+    ensures exact { Gives (λ page. page) result (page_at number line.now) }
+    ensures few { IfOk result (λ _. number ≤ 10000) }
+{
+    if number > 10_000 {
+        return Err(Refused::Fault(ListFault {
+            line: number,
+            kind: ListKind::TooManyPages,
+        }));
+    }
+    match read_line(alloc, line) {
+        Ok(page) => Ok(page),
+        Err(Refused::Fault(kind)) => Err(Refused::Fault(ListFault { line: number, kind })),
+        Err(Refused::NoMemory) => Err(Refused::NoMemory),
+    }
+}
+
+/// The pages of a text with a line for each, as `print_page` writes them, or the first line's fault.
+///
+/// Lines are ended by a newline; the last one need not be. One `\r` directly before a newline is dropped. Empty rows
+/// at the top, up to 23 rows in all, and an empty garbage row may be written out.
+pub fn parse(alloc: Global, text: &[u8]) -> Result<Vec<Page>, Refused<ListFault>>
+    ensures { Gives (λ pages. pages.items) result (pages_in text.now) }
+{
+    let mut pages = Vec::new(alloc);
+    let mut rest = text;
+    while !rest.is_empty() {
+        let (line, behind) = first_line(rest);
+        let page = page_at(alloc, pages.len() as u32 + 1, line)?;
+        pages.push(page)?;
+        rest = behind;
+    }
+    Ok(pages)
+}
