@@ -10,11 +10,9 @@ mod line;
 mod list;
 mod reading;
 
-pub use cells::{cells_in, cut_at};
 pub use fault::{ListFault, ListKind};
-pub use fields::{Flags, comment_of, flags_in, is_comment, operation_in};
 pub use laws::four_fields_read;
-pub use letters::{colour_letter, first_shown, letters_of, row};
+pub use letters::{first_shown, letters_of, row};
 pub use line::print_page;
 pub use list::parse;
 
