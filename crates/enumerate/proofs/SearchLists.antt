@@ -9,7 +9,6 @@ use Rattle.srs.specs.Rising.{is_above, IsRisingListOf}
 use Rattle.srs.proofs.MemberLemmas.{filter-each, filter-false, filter-true, find-false, find-true}
 use Rattle.srs.proofs.OrderLemmas.{sequence_cmp-total}
 use Rattle.srs.proofs.RisingLemmas.{filter_above-next, IsRisingListOf-filter}
-use Rattle.queue_pattern.specs.Queues.{queues}
 use Rattle.hold_queue.specs.Permits.{SomePermits}
 use Rattle.hold_queue.specs.QueueSet.{LinePermits}
 use Rattle.enumerate.specs.declared.problem.Problem.{Problem}
@@ -77,10 +76,6 @@ unfolding sols
 rows-left n some = if_false (n.rows == 0) ([] ∷ []) [] (not-zero n.rows some)
 
 -- ---- the whole list
-
-permits-same : (problem : Problem) (queue : Option (List Piece)) → queues (line_at problem queue).elements ≡ queues_that_count problem queue
-permits-same problem None = refl
-permits-same problem (Some queue) = queues-singles queue
 
 module _ (problem : Problem) (fit : IsFit problem) (queue : Option (List Piece)) where
   root-low : IsLow (root_of problem queue).field (root_of problem queue).rows

@@ -1,26 +1,22 @@
 -- What a page leaves: filled cells, rows without the full ones, risen and mirrored rows, and that they are cells again.
-use Rattle.std.proofs.Common.{◌≡◌, ℕ, suc, ◌+◌, ◌-◌, ◌*◌, ◌<◌, ◌≤◌, Bool, true, false, not, cond, eqb, List, [], ◌∷◌, ◌++◌, length, get_or, set, take, drop, map, refl, sym, ap, subst, ◌∙◌, append_assoc, arith}
+use Rattle.std.proofs.Common.{◌≡◌, ℕ, suc, ◌+◌, ◌-◌, ◌*◌, ◌<◌, ◌≤◌, Bool, true, false, not, cond, List, [], ◌∷◌, ◌++◌, length, get_or, set, take, drop, map, refl, sym, ap, subst, ◌∙◌, append_assoc, arith}
 use Rattle.std.specs.Prelude.{filter, fold, replicate, reverse}
 use Rattle.std.specs.List.{between}
-use Rattle.std.proofs.lemmas.Bool.{eqb-true}
 use Rattle.std.proofs.lemmas.List.Elements.{filter-append}
 use Rattle.std.proofs.lemmas.List.Filters.{length-filter_both}
-use Rattle.std.proofs.lemmas.List.{take-take, append-nil, take-append-drop, drop-append-le, drop-drop, drop_at, take_at, drop_all, take_all, length-append, length-drop, length-take-le, length-map, length-reverse, map-append}
+use Rattle.std.proofs.lemmas.List.{take-take, append-nil, take-append-drop, drop-append-le, drop-drop, drop_at, take_at, drop_all, take_all, length-append, length-drop, length-take-le, length-reverse, map-append}
 use borrow.Rule.Slice.PartMut.{put_mid, mid_of}
 use Rattle.fumen_digits.specs.declared.dialect.Dialect.{Dialect}
 use Rattle.fumen_digits.specs.declared.dialect.Dialect.TheVariants.{V110, V115}
 use Rattle.fumen_digits.specs.Dialect.{row_count}
 use Rattle.srs.specs.declared.placement.Placement.{Placement}
-use Rattle.srs.specs.Cells.{Cell, shape, cells_of}
-use Rattle.srs.proofs.ShapeLemmas.{each_state}
+use Rattle.srs.specs.Cells.{Cell, cells_of}
+use Rattle.srs.proofs.ShapeLemmas.{cells_length}
 use Rattle.fumen_pages.specs.Cells.{missing_count}
 use Rattle.fumen_pages.specs.Next.{Rows, rows_in, rows_of, empty_row, index_of, marked, is_full, without_full, cleared, risen, mirrored}
 use Rattle.fumen_pages.proofs.RowLaws.{flat, IsRow, length-flat, length-rows_in, rows_in_more, rows_in-flat, rows_in-front, IsDone, length-done, done_starts, old_row, row_there, done_more, done_lowered}
 
 -- ---- the cells of the operation
-
-shape_length : (p : Placement) → length (cells_of p) ≡ 4
-shape_length p = length-map (shape p.piece p.rotation) _ ∙ eqb-true (length (shape p.piece p.rotation)) 4 (each_state (λ q r. eqb (length (shape q r)) 4) refl p.piece p.rotation)
 
 abbrev written_at : ℕ → List ℕ → Cell → List ℕ
 written_at value before cell = set before (index_of cell) value
@@ -40,7 +36,7 @@ unfolding marked
 marked_four p cells value d a b c e f there one two three four =
     let set_at = written_at value in
     four ∙ (ap (λ (x : List ℕ). set_at x (get_or cells 3 d)) (three ∙ ap (λ (x : List ℕ). set_at x (get_or cells 2 d)) (two ∙ ap (λ (x : List ℕ). set_at x (get_or cells 1 d)) one))
-    ∙ (fold_four set_at a cells d (ap length there ∙ shape_length p) ∙ ap (λ (xs : List Cell). fold set_at a xs) there))
+    ∙ (fold_four set_at a cells d (ap length there ∙ cells_length p) ∙ ap (λ (xs : List Cell). fold set_at a xs) there))
 
 -- ---- rows that move
 

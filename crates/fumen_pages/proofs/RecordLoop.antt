@@ -13,6 +13,7 @@ use Rattle.fumen_digits.specs.Dialect.{cell_count}
 use Rattle.fumen_digits.specs.Fault.{Fault}
 use Rattle.fumen_digits.specs.Reading.{◌>>=◌}
 use Rattle.fumen_digits.proofs.Binds.{ok_bind, err_bind}
+use Rattle.fumen_comment.proofs.ReadLoop.{with_front, from_nothing, regroup}
 use Rattle.fumen_pages.specs.declared.record.CellsRead.{CellsRead}
 use Rattle.fumen_pages.specs.Cells.{IsColour, missing_count, shown, AreCells}
 use Rattle.fumen_pages.specs.Record.{moved_by, stays_colour, unchanged}
@@ -49,20 +50,6 @@ moved_more shift old i cells lt len is =
     map_over_more (λ (cell : ℕ). cell + shift - 8) old cells i (get_or cells i 0) lt is (get_or_default cells i 0 (get_or cells i 0) inside)
 
 -- ---- runs that are read one after another
-
--- the new cells so far, and those still to come
-pub with_front : List ℕ → Result (List ℕ × ℕ) Fault → Result (List ℕ × ℕ) Fault
-with_front front read = read >>= λ x. Ok (front ++ x.0, x.1)
-
-from_nothing : (read : Result (List ℕ × ℕ) Fault) → with_front [] read ≡ read
-unfolding with_front
-from_nothing (Ok x) = refl
-from_nothing (Err f) = refl
-
-regroup : (front more : List ℕ) (read : Result (List ℕ × ℕ) Fault) → with_front front (read >>= λ x. Ok (more ++ x.0, x.1)) ≡ with_front (front ++ more) read
-unfolding with_front
-regroup front more (Ok x) = ap (λ (cells : List ℕ). Ok (cells, x.1)) (sym (append_assoc front more x.0))
-regroup front more (Err f) = refl
 
 -- the cells before start are new, and what is left of the old ones completes them
 pub record AreReadSoFar (dialect : Dialect) (ds : List ℕ) (place : ℕ) (old cells : List ℕ) (start behind : ℕ) : Type 0 where

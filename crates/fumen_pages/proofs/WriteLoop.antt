@@ -1,7 +1,6 @@
 -- Writing the longest runs one after the other, and counting the cells of one, as loops do.
-use Rattle.std.proofs.Common.{◌≡◌, ℕ, suc, ◌+◌, ◌-◌, ◌*◌, ◌^◌, ◌<◌, ◌≤◌, Bool, true, false, cond, eqb, List, [], ◌∷◌, ◌++◌, length, get_or, take, drop, sym, ap, ◌∙◌, append_assoc, arith}
+use Rattle.std.proofs.Common.{◌≡◌, ℕ, suc, ◌+◌, ◌-◌, ◌*◌, ◌<◌, ◌≤◌, Bool, true, false, cond, eqb, List, [], ◌∷◌, ◌++◌, length, get_or, take, drop, sym, ap, ◌∙◌, append_assoc, arith}
 use Rattle.std.specs.List.{flat_map}
-use Rattle.std.proofs.Math.Nat.{mul-le-mul_right}
 use Rattle.std.proofs.lemmas.Bool.{eq-eqb, ne_eqb}
 use Rattle.std.proofs.lemmas.List.{append-nil, drop_more, drop_all, drop-drop, take_all, take-append-le, length-drop, length-take, length-take-le}
 use Rattle.fumen_digits.specs.declared.dialect.Dialect.{Dialect}
@@ -10,7 +9,6 @@ use Rattle.fumen_digits.specs.Number.{digits}
 use Rattle.fumen_pages.specs.Cells.{missing_count}
 use Rattle.fumen_pages.specs.Record.{Run, run_digits}
 use Rattle.fumen_pages.specs.Written.{difference, longest, same_count, written_record}
-use Rattle.fumen_pages.proofs.CellsLaws.{cell_count-most}
 use Rattle.fumen_pages.proofs.WrittenLaws.{from_first, longest_first, same_count_cons, same_count_none}
 
 -- ---- the cells of one run
@@ -97,15 +95,6 @@ next_run old new start shift count size new_size lt is counted most =
     ∙ same_count_cons shift (get_or old start 0) (get_or new start 0) (drop (start + 1) old) (drop (start + 1) new) true (eq-eqb (difference (get_or old start 0) (get_or new start 0)) shift (sym is))) in
     let len = ap length first in
     record { shift_is = is; count_is = all; some = omega arith; most = omega arith }
-
--- its number fits two digits
-pub run_fits_digits : (dialect : Dialect) (shift count start : ℕ) → shift ≤ 16 → 1 ≤ count → count ≤ 240 - start → missing_count dialect ≤ start → shift * cell_count dialect + (count - 1) < 64 ^ 2
-run_fits_digits dialect shift count start low some most from =
-    let n = cell_count-most dialect in
-    let one : shift * cell_count dialect ≤ 16 * cell_count dialect = mul-le-mul_right (cell_count dialect) low in
-    let small = n.1 in
-    let total = n.2 in
-    omega arith
 
 runs_from : (dialect : Dialect) (old new : List ℕ) (start shift count : ℕ) → length old ≡ 240 → length new ≡ 240 → start < 240 → IsNextRun old new start shift count
     → rest_digits dialect old new start ≡ digits 2 (shift * cell_count dialect + (count - 1)) ++ rest_digits dialect old new (start + count)

@@ -13,7 +13,6 @@ use Rattle.srs.proofs.CellLemmas.{same_cells-sym, same_cells-trans}
 use Rattle.srs.proofs.CanonicalLemmas.{same_cells-piece}
 use Rattle.srs.proofs.MemberLemmas.{Contains-here, Contains-cases, Contains-none}
 use Rattle.well.specs.Free.{is_free}
-use Rattle.well.proofs.FreeLemmas.{free_pivot_inside}
 use Rattle.moves.specs.declared.key.Key.{Key}
 use Rattle.moves.specs.declared.key.DropMode.{DropMode}
 use Rattle.moves.specs.Keys.{allows}
@@ -21,19 +20,21 @@ use Rattle.moves.specs.Leads.{spawn_of, spawned, leads}
 use Rattle.moves.specs.PlaceTest.{comes_to_rest}
 use Rattle.moves.specs.Place.{LeadsToRest}
 use Rattle.moves.specs.Step.{step_of}
-use Rattle.moves.specs.Walk.{led}
-use Rattle.moves.proofs.StepLemmas.{IsFreeState, step_is_finite, step_of-free}
-use Rattle.moves.proofs.WalkLemmas.{Leads, led_good, led_none, some_same, not_some}
+use Rattle.moves.specs.Walk.{led, Leads}
+use Rattle.moves.proofs.StepLemmas.{IsFreeState, step_is_finite, step_of-free, pivot_of_free}
+use Rattle.moves.proofs.StateLemmas.{one_state}
+use Rattle.moves.proofs.WalkLemmas.{led_good, led_none, some_same, not_some}
 use Rattle.circular_buffer.specs.Buffer.{Buffer, buffer, keep_last}
 use Rattle.key_path.specs.declared.marks.Mark.{Mark}
 use Rattle.key_path.specs.declared.marks.Mark.TheVariants.{Unseen, Start, From}
 use Rattle.key_path.specs.Words.{key_place}
 use Rattle.key_path.specs.KeyWord.{IsKeyWord}
-use Rattle.key_path.specs.Marks.{IsPivot, marked, is_unseen, Traces, new_state}
+use Rattle.moves.specs.States.{IsPivot}
+use Rattle.key_path.specs.Marks.{marked, is_unseen, Traces, new_state}
 use Rattle.key_path.proofs.WordLemmas.{not_earlier, not_after-front}
 use Rattle.key_path.specs.Search.{Item, with_key, IsSought, IsAhead, IsPressed, IsNoted, IsFinding, IsTrying, IsReached}
 use Rattle.key_path.proofs.SearchLemmas.{sought_first, ahead_first, taken, pressed_again, pressed_new, sought_new, sought_next, ahead_next, all_found, found_before}
-use Rattle.key_path.proofs.MarkLemmas.{noted_first, noted_new, traces_once, room_left, one_state, count_marked}
+use Rattle.key_path.proofs.MarkLemmas.{noted_first, noted_new, traces_once, room_left, count_marked}
 use Rattle.key_path.proofs.KeyWordLemmas.{way_of, from_way, least_is_short}
 use Rattle.key_path.proofs.NewStates.{IsNew, new_is, none_new}
 
@@ -148,9 +149,6 @@ module _ (table : Table) (F : Field) (mode : DropMode) (target : Placement) wher
   found_free free items front sought x among =
       led_good (step_is_finite table F target.piece) (Some (spawn_of target.piece)) (λ s e. subst (IsFreeState F target.piece) (some_same e) (record { kind = refl; free = free })) x.word x.state (sought.reached x among).reached
 
-  pub pivot_of_free : (s : Placement) → is_free F s ≡ true → IsPivot s
-  pivot_of_free s free = let inside = free_pivot_inside F s free in record { in_columns = inside.in_columns; in_rows = inside.in_rows }
-
   -- the state whose keys are tried is free
   pub trying_free : is_free F (spawn_of target.piece) ≡ true → (marks : List Mark) (waiting : List Placement) (state : Placement) (n : ℕ) → IsTrying table F mode target marks waiting state n → is_free F state ≡ true
   trying_free free marks waiting state n trying =
@@ -178,7 +176,7 @@ module _ (table : Table) (F : Field) (mode : DropMode) (target : Placement) wher
           let here = found_free free trying.items (trying.x ∷ trying.front) trying.sought trying.x (trying.sought.among trying.x (Contains-here trying.x trying.front)) in
           let there = found_free free trying.items (trying.x ∷ trying.front) trying.sought found.0 found.1 in
           let after = (step_is_finite table F target.piece).kept trying.x.state key t here e in
-          (found.0, found.1, one_state found.0.state t (there.kind ∙ sym after.kind) (pivot_of_free found.0.state there.free) (pivot_of_free t after.free) found.2)
+          (found.0, found.1, one_state found.0.state t (there.kind ∙ sym after.kind) (pivot_of_free F found.0.state there.free) (pivot_of_free F t after.free) found.2)
 
   -- a key that leads to a new state, which does not come to rest there
   pub trying_new : is_free F (spawn_of target.piece) ≡ true → (marks marks' : List Mark) (waiting waiting' : List Placement) (state : Placement) (n : ℕ) (key : Key) (t : Placement) → key_place key ≡ n → new_state table F mode marks state key ≡ Some t →
@@ -187,8 +185,8 @@ module _ (table : Table) (F : Field) (mode : DropMode) (target : Placement) wher
       let new : IsNew table F mode marks state key t = new_is table F mode marks state key t found in
       let here = trying.sought.among trying.x (Contains-here trying.x trying.front) in
       let moves : step_of table F trying.x.state key ≡ Some t = subst (λ s. step_of table F s key ≡ Some t) (sym trying.at) new.moves in
-      let from = pivot_of_free trying.x.state (found_free free trying.items (trying.x ∷ trying.front) trying.sought trying.x here).free in
-      let pivot = pivot_of_free t (step_of-free table F state key t new.moves).free in
+      let from = pivot_of_free F trying.x.state (found_free free trying.items (trying.x ∷ trying.front) trying.sought trying.x here).free in
+      let pivot = pivot_of_free F t (step_of-free table F state key t new.moves).free in
       record {
         items = trying.items ++ with_key trying.x key t ∷ [];
         x = trying.x;
@@ -211,7 +209,7 @@ module _ (table : Table) (F : Field) (mode : DropMode) (target : Placement) wher
       count_by is_unseen marks' + 1 ≡ count_by is_unseen marks
   new_counts marks marks' waiting state n key t found set trying =
       let new : IsNew table F mode marks state key t = new_is table F mode marks state key t found in
-      subst (λ m. count_by is_unseen m + 1 ≡ count_by is_unseen marks) (sym set) (count_marked marks t (From state key) trying.noted.size (pivot_of_free t (step_of-free table F state key t new.moves).free) new.unseen refl)
+      subst (λ m. count_by is_unseen m + 1 ≡ count_by is_unseen marks) (sym set) (count_marked marks t (From state key) trying.noted.size (pivot_of_free F t (step_of-free table F state key t new.moves).free) new.unseen refl)
 
   -- it is a free state of the piece
   pub new_free : is_free F (spawn_of target.piece) ≡ true → (marks : List Mark) (waiting : List Placement) (state : Placement) (n : ℕ) (key : Key) (t : Placement) → new_state table F mode marks state key ≡ Some t → IsTrying table F mode target marks waiting state n → IsFreeState F target.piece t
@@ -224,7 +222,7 @@ module _ (table : Table) (F : Field) (mode : DropMode) (target : Placement) wher
   pub new_fits : (marks : List Mark) (waiting : List Placement) (state : Placement) (n : ℕ) (key : Key) (t : Placement) → new_state table F mode marks state key ≡ Some t → IsTrying table F mode target marks waiting state n → length (waiting ++ t ∷ []) ≤ 920
   new_fits marks waiting state n key t found trying =
       let new : IsNew table F mode marks state key t = new_is table F mode marks state key t found in
-      let pivot = pivot_of_free t (step_of-free table F state key t new.moves).free in
+      let pivot = pivot_of_free F t (step_of-free table F state key t new.moves).free in
       let room = room_left marks trying.items t pivot new.unseen trying.noted in
       omega (arith, room, trying.few, length-append waiting (t ∷ []), ap (λ (xs : List Placement). length xs) trying.states, length-map trying.front (λ (x : Item). x.state))
 
@@ -266,8 +264,8 @@ module _ (table : Table) (F : Field) (mode : DropMode) (target : Placement) wher
       }
 
       noted : IsNoted (marked marks t (From trying.x.state key)) (trying.items ++ with_key trying.x key t ∷ [])
-      noted = noted_new marks trying.items trying.x key t here (pivot_of_free trying.x.state (found_free free trying.items (trying.x ∷ trying.front) trying.sought trying.x here).free)
-          (pivot_of_free t (step_of-free table F state key t new.moves).free) new.unseen trying.noted
+      noted = noted_new marks trying.items trying.x key t here (pivot_of_free F trying.x.state (found_free free trying.items (trying.x ∷ trying.front) trying.sought trying.x here).free)
+          (pivot_of_free F t (step_of-free table F state key t new.moves).free) new.unseen trying.noted
 
       traces : Traces (marked marks t (From trying.x.state key)) t (reverse word)
       traces = noted.traces (with_key trying.x key t) (Contains-push trying.items (with_key trying.x key t))

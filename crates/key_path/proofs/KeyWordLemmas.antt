@@ -25,11 +25,12 @@ use Rattle.moves.specs.Leads.{spawned, leads}
 use Rattle.moves.specs.Place.{LeadsToRest, IsPlace}
 use Rattle.moves.specs.PlaceTest.{comes_to_rest}
 use Rattle.moves.specs.Rest.{rest_of}
-use Rattle.moves.specs.Walk.{led}
+use Rattle.moves.specs.Walk.{led, Leads}
 use Rattle.moves.proofs.PlaceTest.{leads-free}
 use Rattle.moves.proofs.RestLemmas.{rest_of-is, rest_of-only}
-use Rattle.moves.proofs.StepLemmas.{IsFreeState, state_code, step_is_finite, spawned-free}
-use Rattle.moves.proofs.WalkLemmas.{Leads, short_keys}
+use Rattle.moves.proofs.StepLemmas.{IsFreeState, step_is_finite, spawned-free}
+use Rattle.moves.specs.States.{state_code}
+use Rattle.moves.proofs.WalkLemmas.{short_keys}
 use Rattle.key_path.specs.Words.{key_place, key_cmp, word_cmp, words_of, words_below}
 use Rattle.key_path.specs.KeyWord.{IsKeyWord, leads_to_rest, key_word}
 use Rattle.key_path.proofs.WordLemmas.{key_place-small, shorter_before, not_both, more_first, first_key, number_before, word_cmp-total, word_cmp-antisymmetric}

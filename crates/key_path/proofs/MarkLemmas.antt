@@ -1,41 +1,20 @@
 -- Marks: the keys by which they lead back, and as many of them as there are items.
-use Rattle.std.proofs.Common.{◌≡◌, ◌≢◌, ◌⊎◌, ℕ, zero, suc, ◌+◌, ◌<◌, nat_lt, true, false, cond, List, [], ◌∷◌, ◌++◌, length, get_or, refl, sym, ap, subst, ◌∙◌, inl, inr, arith}
+use Rattle.std.proofs.Common.{◌≡◌, ◌≢◌, ◌⊎◌, ℕ, zero, suc, ◌+◌, ◌<◌, true, false, cond, List, [], ◌∷◌, ◌++◌, length, get_or, refl, sym, ap, subst, ◌∙◌, inl, inr, arith}
 use Rattle.std.specs.Prelude.{Contains, replicate, reverse}
 use Rattle.std.specs.List.{count_by, refill}
-use Rattle.std.proofs.lemmas.Bool.{cases_order, false≢true, ltb-true}
+use Rattle.std.proofs.lemmas.Bool.{cases_order, false≢true}
 use Rattle.std.proofs.lemmas.List.{append-nil, append_assoc, length-append, length-set, length-replicate, get_or-set_same, get_or-set_other, reverse-append}
 use Rattle.std.proofs.lemmas.List.Sums.{sum_by-cons, sum_by-set}
 use Rattle.std.proofs.lemmas.List.Elements.{Contains-append_left, Contains-push, Contains-push_cases}
 use Rattle.srs.specs.declared.placement.Placement.{Placement}
-use Rattle.srs.specs.declared.rotation.Rotation.{Rotation}
-use Rattle.srs.specs.Rotation.{rotation_place}
 use Rattle.srs.proofs.MemberLemmas.{Contains-here, Contains-cases, Contains-none}
 use Rattle.moves.specs.declared.key.Key.{Key}
-use Rattle.srs.proofs.CodeLemmas.{rotation_place-injective}
-use Rattle.srs.proofs.ShapeLemmas.{each_rotation}
 use Rattle.key_path.specs.declared.marks.Mark.{Mark}
 use Rattle.key_path.specs.declared.marks.Mark.TheVariants.{Unseen, Start, From}
-use Rattle.key_path.specs.Marks.{IsPivot, state_code, mark_at, marked, is_unseen, Traces}
+use Rattle.moves.specs.States.{IsPivot, state_code}
+use Rattle.moves.proofs.StateLemmas.{code_below}
+use Rattle.key_path.specs.Marks.{mark_at, marked, is_unseen, Traces}
 use Rattle.key_path.specs.Search.{Item, with_key, IsNoted}
-
-rotation_place-small : (r : Rotation) → rotation_place r < 4
-rotation_place-small r = ltb-true _ _ (each_rotation (λ r. nat_lt (rotation_place r) 4) refl r)
-
-pub code_below : (s : Placement) → IsPivot s → state_code s < 920
-unfolding state_code
-code_below s pivot = omega (arith, pivot.in_columns, pivot.in_rows, rotation_place-small s.rotation)
-
--- states of one piece with one number are one
-pub one_state : (s t : Placement) → s.piece ≡ t.piece → IsPivot s → IsPivot t → state_code s ≡ state_code t → s ≡ t
-unfolding state_code
-one_state s t kind here there e =
-    same_parts
-    (rotation_place-injective s.rotation t.rotation (omega (arith, e, here.in_columns, here.in_rows, there.in_columns, there.in_rows)))
-    (omega (arith, e, here.in_columns, here.in_rows, there.in_columns, there.in_rows))
-    (omega (arith, e, here.in_columns, here.in_rows, there.in_columns, there.in_rows))
-  where
-    same_parts : s.rotation ≡ t.rotation → s.x ≡ t.x → s.y ≡ t.y → s ≡ t
-    same_parts r x y = λ i. record { piece = kind i; rotation = r i; x = x i; y = y i }
 
 -- the keys back are determined
 pub traces_once : (marks : List Mark) (s : Placement) (keys others : List Key) → Traces marks s keys → Traces marks s others → keys ≡ others

@@ -11,8 +11,8 @@ use Rattle.srs.specs.declared.placement.Placement.{Placement}
 use Rattle.srs.proofs.MemberLemmas.{Contains-here, Contains-there, Contains-cases, Contains-none}
 use Rattle.srs.proofs.RisingLemmas.{rising-first, rising-rest, rising-none, rising-cons, rising-append}
 use Rattle.moves.specs.declared.key.Key.{Key}
-use Rattle.moves.specs.Walk.{led}
-use Rattle.moves.proofs.WalkLemmas.{some_same, not_some, led_none, Leads}
+use Rattle.moves.specs.Walk.{led, Leads}
+use Rattle.moves.proofs.WalkLemmas.{some_same, not_some, led_none}
 use Rattle.key_path.specs.Words.{key_place, word_cmp, NotAfter}
 use Rattle.key_path.specs.Search.{Item, item_cmp, HasBy, with_key, IsClosed, IsSought, IsAhead, IsPressed}
 use Rattle.key_path.proofs.WordLemmas.{key_place-injective, not_after-itself, not_after-trans, not_after-before, before_not_after, shorter_before, not_after-front, more_before, key_before, more_not_after, key_place-small}

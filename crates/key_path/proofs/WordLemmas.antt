@@ -1,7 +1,7 @@
 -- The order of words: it is total, and what one more key does in it.
 use Rattle.std.proofs.Common.{◌≡◌, ◌⊎◌, ℕ, zero, suc, ◌<◌, true, false, List, [], ◌∷◌, ◌++◌, length, refl, sym, ap, subst, ◌∙◌, inl, inr, arith}
 use Rattle.std.specs.Prelude.{slice_index_or}
-use Rattle.std.specs.Ordering.{ordering_then, ordering_reverse, nat_cmp, is_gt}
+use Rattle.std.specs.Ordering.{ordering_then, nat_cmp, is_gt}
 use Rattle.std.specs.Cmp.{IsTotalOrder, nat_cmp_total, on_total, then_total, tied_itself}
 use Rattle.std.specs.Cmp.Lexicographic.{slice_cmp, lists_total}
 use Rattle.std.specs.FinMap.{IsAntisymmetric, nat_cmp-IsAntisymmetric, slice_cmp-IsAntisymmetric}
@@ -85,21 +85,6 @@ before_not_after u v w first not = elim (not_after-cases v w not) [
   | inl second ↦ word_cmp-total.trans u v w first second
   | inr same ↦ subst (λ w. word_cmp u w ≡ Less) same first
 ]
-
-pub not_after_before : (u v w : List Key) → NotAfter u v → word_cmp v w ≡ Less → word_cmp u w ≡ Less
-not_after_before u v w not second = elim (not_after-cases u v not) [
-  | inl first ↦ word_cmp-total.trans u v w first second
-  | inr same ↦ subst (λ u. word_cmp u w ≡ Less) (sym same) second
-]
-
--- a word that is not before another one has that not after it
-pub not_before : (v w : List Key) → (word_cmp v w ≡ Less → ⊥) → NotAfter w v
-not_before v w not = by_answer (word_cmp w v) refl
-  where
-    by_answer : (o : Ordering) → word_cmp w v ≡ o → NotAfter w v
-    by_answer Less e = ap is_gt e
-    by_answer Equal e = ap is_gt e
-    by_answer Greater e = absurd (not (word_cmp-total.antisymm v w ∙ ap ordering_reverse e))
 
 -- a shorter word is before a longer one
 pub shorter_before : (v w : List Key) → length v < length w → word_cmp v w ≡ Less

@@ -1,25 +1,16 @@
 -- Marks that say how each state of a piece was first reached.
-use Rattle.std.specs.Prelude.{◌≡◌, ℕ, ◌+◌, ◌*◌, ◌<◌, ◌≤◌, if◌then◌else◌, Bool, true, false, Option, None, List, [], ◌∷◌, length, slice_index_or, slice_set, option_and_then}
+use Rattle.std.specs.Prelude.{◌≡◌, ◌<◌, if◌then◌else◌, Bool, true, false, Option, None, List, [], ◌∷◌, length, slice_index_or, slice_set, option_and_then}
 use Rattle.std.specs.Bool.{then_some}
 use Rattle.lane_board.specs.Field.{Field}
 use Rattle.srs.specs.declared.placement.Placement.{Placement}
 use Rattle.srs.specs.Kick.{Table}
-use Rattle.srs.specs.Rotation.{rotation_place}
 use Rattle.moves.specs.declared.key.Key.{Key}
 use Rattle.moves.specs.declared.key.DropMode.{DropMode}
 use Rattle.moves.specs.Keys.{allows}
+use Rattle.moves.specs.States.{IsPivot, state_code}
 use Rattle.moves.specs.Step.{step_of}
 use Rattle.key_path.specs.declared.marks.Mark.{Mark}
 use Rattle.key_path.specs.declared.marks.Mark.TheVariants.{Unseen, Start, From}
-
--- the pivot lies in the well
-pub record IsPivot (state : Placement) : Type 0 where
-  pub in_columns : state.x ≤ 9
-  pub in_rows : state.y ≤ 22
-
--- the number of a state among those of its piece
-unfoldable pub state_code : Placement → ℕ
-state_code state = rotation_place state.rotation * 230 + (state.y * 10 + state.x)
 
 -- the mark of a state, and the marks with another one
 unfoldable pub mark_at : List Mark → Placement → Mark

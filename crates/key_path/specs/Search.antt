@@ -12,12 +12,13 @@ use Rattle.moves.specs.declared.key.DropMode.{DropMode}
 use Rattle.moves.specs.Keys.{allows}
 use Rattle.moves.specs.Leads.{spawn_of}
 use Rattle.moves.specs.PlaceTest.{comes_to_rest}
+use Rattle.moves.specs.States.{state_code}
 use Rattle.moves.specs.Step.{step_of}
-use Rattle.moves.proofs.WalkLemmas.{Leads}
+use Rattle.moves.specs.Walk.{Leads}
 use Rattle.key_path.specs.declared.marks.Mark.{Mark}
 use Rattle.key_path.specs.Words.{key_place, word_cmp, NotAfter}
 use Rattle.key_path.specs.KeyWord.{IsKeyWord}
-use Rattle.key_path.specs.Marks.{state_code, mark_at, is_unseen, Traces, Traced}
+use Rattle.key_path.specs.Marks.{mark_at, is_unseen, Traces, Traced}
 
 -- a state that was found, and the word by which it was found
 pub record Item : Type 0 where

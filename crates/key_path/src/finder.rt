@@ -9,7 +9,8 @@ ghost use Rattle.well.specs.Well.{filled};
 ghost use Rattle.moves.specs.Leads.{spawn_of};
 ghost use Rattle.moves.specs.PlaceTest.{comes_to_rest};
 ghost use Rattle.key_path.specs.KeyWord.{IsKeyWord, key_word};
-ghost use Rattle.key_path.specs.Marks.{IsPivot, is_unseen, new_state};
+ghost use Rattle.moves.specs.States.{IsPivot};
+ghost use Rattle.key_path.specs.Marks.{is_unseen, new_state};
 ghost use Rattle.key_path.specs.Search.{IsFinding, IsTrying, IsReached};
 
 use crate::aim::rests_on;

@@ -1,6 +1,7 @@
 // How each state of a piece was first reached.
 ghost use Rattle.std.specs.Prelude.{◌≡◌, ◌≤◌, ◌<◌, List, length, reverse, replicate};
-ghost use Rattle.key_path.specs.Marks.{IsPivot, state_code, mark_at, marked, is_unseen, Traced};
+ghost use Rattle.moves.specs.States.{IsPivot, state_code};
+ghost use Rattle.key_path.specs.Marks.{mark_at, marked, is_unseen, Traced};
 
 use crate::finder::KeyWord;
 use moves::Key;
@@ -45,7 +46,7 @@ impl Marks {
     }
 
     /// The mark of a state.
-    #[tactic(auto, using(crate::proofs::MarkLemmas::code_below), unfolding(crate::specs::Marks::mark_at))]
+    #[tactic(auto, using(moves::proofs::StateLemmas::code_below), unfolding(crate::specs::Marks::mark_at))]
     fn at(&self, state: &Placement) -> Mark
         requires { IsPivot state.now }
         ensures { result ≡ mark_at self.now.marks state.now }
@@ -54,7 +55,7 @@ impl Marks {
     }
 
     /// Marks a state.
-    #[tactic(auto, using(crate::proofs::MarkLemmas::code_below), unfolding(crate::specs::Marks::marked))]
+    #[tactic(auto, using(moves::proofs::StateLemmas::code_below), unfolding(crate::specs::Marks::marked))]
     pub(crate) fn set(&mut self, state: &Placement, mark: Mark)
         requires { IsPivot state.now }
         ensures { self.new.marks ≡ marked self.old.marks state.now mark }
@@ -80,7 +81,7 @@ impl Marks {
 }
 
 /// The number of a state among all with its pivot in the well.
-#[tactic(auto, unfolding(crate::specs::Marks::state_code))]
+#[tactic(auto, unfolding(moves::specs::States::state_code))]
 fn code(state: &Placement) -> usize
     requires { IsPivot state.now }
     ensures { result ≡ state_code state.now }

@@ -1,7 +1,6 @@
 -- A row is full where it has the cell in each of its ten columns.
-use Rattle.std.proofs.Common.{◌≡◌, ℕ, suc, ◌<◌, Bool, true, false, List, [], ◌∷◌, length, get_or, refl, ap, ◌∙◌, inl, inr, arith}
-use Rattle.std.specs.List.{list_all}
-use Rattle.std.proofs.lemmas.Bool.{and_from, both_ways, cases_Bool}
+use Rattle.std.proofs.Common.{◌≡◌, ℕ, ◌<◌, true, false, ap, ◌∙◌, inl, inr, arith}
+use Rattle.std.proofs.lemmas.Bool.{both_ways, cases_Bool}
 use Rattle.std.proofs.lemmas.List.Folds.{list_all_at}
 use Rattle.lane_board.specs.Field.{Field}
 use Rattle.lane_board.specs.FullRows.{columns, is_full}
@@ -17,7 +16,3 @@ cell_from_full F x y column full = elim (cases_Bool (F x y)) [
   | inl filled ↦ filled
   | inr empty ↦ absurd (both_ways _ (not_full_from_cell F x y column empty) full)
 ]
-
-all_pass : (p : ℕ → Bool) (xs : List ℕ) → ((k : ℕ) → k < length xs → p (get_or xs k 0) ≡ true) → list_all p xs ≡ true
-all_pass p [] each = refl
-all_pass p (x ∷ xs) each = and_from _ _ (each 0 (omega arith)) (all_pass p xs (λ k below. each (suc k) (omega arith)))

@@ -20,8 +20,10 @@ use Rattle.moves.specs.Leads.{spawned, leads}
 use Rattle.moves.specs.Rest.{rest_of}
 use Rattle.moves.specs.Place.{IsPlace}
 use Rattle.moves.specs.PlaceTest.{most_states, comes_to_rest, is_place}
-use Rattle.moves.proofs.WalkLemmas.{Leads, Found, led_good, short_keys, finds, found}
-use Rattle.moves.proofs.StepLemmas.{IsFreeState, state_code, step_is_finite, spawned-free}
+use Rattle.moves.specs.Walk.{Leads}
+use Rattle.moves.specs.States.{state_code}
+use Rattle.moves.proofs.WalkLemmas.{Found, led_good, short_keys, finds, found}
+use Rattle.moves.proofs.StepLemmas.{IsFreeState, step_is_finite, spawned-free}
 use Rattle.moves.proofs.RestLemmas.{rest_of-is, rest_of-only}
 
 -- tests of each element of a list, said in the two ways

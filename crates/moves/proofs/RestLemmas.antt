@@ -1,5 +1,5 @@
 -- The rest of a free state exists, is one, and is what the function gives.
-use Rattle.std.proofs.Common.{◌≡◌, ℕ, zero, suc, ◌+◌, ◌<◌, ◌≤◌, Bool, true, false, ℤ, pos, negsuc, ◌-ℤ◌, refl, sym, ap, subst, ◌∙◌, inl, inr, arith}
+use Rattle.std.proofs.Common.{◌≡◌, ℕ, zero, suc, ◌+◌, ◌<◌, ◌≤◌, Bool, true, false, ℤ, pos, negsuc, ◌-ℤ◌, sym, ap, subst, ◌∙◌, inl, inr, arith}
 use Rattle.std.proofs.lemmas.Bool.{cases_Bool, cond-true, cond-false, both_ways, cases_order, false_from_ne_true}
 use Rattle.std.proofs.lemmas.Int.{ints}
 use Rattle.lane_board.specs.Field.{Field}
@@ -30,9 +30,6 @@ one_lower x y k = let e : pos (suc y) -ℤ pos (suc k) ≡ pos y -ℤ pos k = om
 
 none_lower : (x y : ℕ) → ◌≡◌ {A = Cell} (pos x, pos y -ℤ pos 0) (pos x, pos y)
 none_lower x y = let e : pos y -ℤ pos 0 ≡ pos y = omega (arith, ints) in λ i. (pos x, e i)
-
-past_the_last : (x : ℕ) → ◌≡◌ {A = Cell} (pos x, pos 0 -ℤ pos 1) (pos x, negsuc 0)
-past_the_last x = refl
 
 module _ (F : Field) (piece : Piece) (rotation : Rotation) (x : ℕ) where
   free_at : Cell → Bool

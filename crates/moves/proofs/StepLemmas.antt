@@ -1,21 +1,20 @@
 -- A step, and any keys, lead to a free state of the same piece.
-use Rattle.std.proofs.Common.{◌≡◌, ℕ, ◌+◌, ◌*◌, ◌<◌, nat_lt, true, pos, negsuc, Some, None, List, [], ◌∷◌, refl, sym, subst, ◌∙◌, inl, inr, arith}
-use Rattle.std.proofs.lemmas.Bool.{cases_Bool, cond-true, cond-false, ltb-true}
+use Rattle.std.proofs.Common.{◌≡◌, true, pos, negsuc, Some, None, List, [], ◌∷◌, refl, sym, subst, ◌∙◌, inl, inr, arith}
+use Rattle.std.proofs.lemmas.Bool.{cases_Bool, cond-true, cond-false}
 use Rattle.lane_board.specs.Field.{Field}
 use Rattle.srs.specs.declared.piece.Piece.{Piece}
 use Rattle.srs.specs.declared.rotation.Rotation.{Rotation}
 use Rattle.srs.specs.declared.placement.Placement.{Placement}
 use Rattle.srs.specs.Cells.{Cell}
-use Rattle.srs.specs.Rotation.{rotation_place}
 use Rattle.srs.specs.Kick.{Table}
-use Rattle.srs.proofs.CodeLemmas.{rotation_place-injective}
-use Rattle.srs.proofs.ShapeLemmas.{each_rotation}
 use Rattle.well.specs.Free.{is_free_at, is_free}
 use Rattle.well.proofs.FreeLemmas.{free_pivot_inside}
 use Rattle.moves.specs.declared.key.Key.{Key}
 use Rattle.moves.specs.declared.key.Key.TheVariants.{Left, Right, Down, Clockwise, Anti}
 use Rattle.moves.specs.Step.{state_at, first_free, shifted, turned, step_of}
 use Rattle.moves.specs.Leads.{spawn_of, spawned}
+use Rattle.moves.specs.States.{IsPivot, state_code}
+use Rattle.moves.proofs.StateLemmas.{code_below, one_state}
 use Rattle.moves.proofs.WalkLemmas.{some_same, not_some, IsFinite}
 
 -- a free state of a piece
@@ -45,30 +44,18 @@ step_of-free table F s Down t e = first_free-free F s.piece _ _ t e
 step_of-free table F s Clockwise t e = first_free-free F s.piece _ _ t e
 step_of-free table F s Anti t e = first_free-free F s.piece _ _ t e
 
--- a number for each free state of a piece
-pub state_code : Placement → ℕ
-state_code s = rotation_place s.rotation * 230 + (s.y * 10 + s.x)
-
-rotation_place-small : (r : Rotation) → rotation_place r < 4
-rotation_place-small r = ltb-true _ _ (each_rotation (λ r. nat_lt (rotation_place r) 4) refl r)
+-- the pivot of a free state lies in the well
+pub pivot_of_free : (F : Field) (s : Placement) → is_free F s ≡ true → IsPivot s
+pivot_of_free F s free = let inside = free_pivot_inside F s free in record { in_columns = inside.in_columns; in_rows = inside.in_rows }
 
 pub step_is_finite : (table : Table) (F : Field) (piece : Piece) → IsFinite (step_of table F) (IsFreeState F piece) state_code 920
-unfolding state_code
 step_is_finite table F piece = record {
   kept = λ s key t here e.
       let there = step_of-free table F s key t e in
       record { kind = there.kind ∙ here.kind; free = there.free };
-  below = λ s here. let inside = free_pivot_inside F s here.free in omega (arith, inside.in_columns, inside.in_rows, rotation_place-small s.rotation);
-  one = λ s t here there e.
-      let inside = free_pivot_inside F s here.free in
-      let inside' = free_pivot_inside F t there.free in
-      same_state s t (here.kind ∙ sym there.kind) (rotation_place-injective s.rotation t.rotation (omega (arith, e, inside.in_columns, inside.in_rows, inside'.in_columns, inside'.in_rows)))
-      (omega (arith, e, inside.in_columns, inside.in_rows, inside'.in_columns, inside'.in_rows))
-      (omega (arith, e, inside.in_columns, inside.in_rows, inside'.in_columns, inside'.in_rows));
+  below = λ s here. code_below s (pivot_of_free F s here.free);
+  one = λ s t here there e. one_state s t (here.kind ∙ sym there.kind) (pivot_of_free F s here.free) (pivot_of_free F t there.free) e;
 }
-  where
-    same_state : (s t : Placement) → s.piece ≡ t.piece → s.rotation ≡ t.rotation → s.x ≡ t.x → s.y ≡ t.y → s ≡ t
-    same_state s t p r x y = λ i. record { piece = p i; rotation = r i; x = x i; y = y i }
 
 -- the spawn, where it is free
 pub spawned-free : (F : Field) (piece : Piece) (s : Placement) → spawned F piece ≡ Some s → IsFreeState F piece s

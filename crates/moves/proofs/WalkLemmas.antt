@@ -10,7 +10,7 @@ use Rattle.srs.specs.declared.placement.Placement.{Placement}
 use Rattle.moves.specs.declared.key.Key.{Key}
 use Rattle.moves.specs.declared.key.Key.TheVariants.{Left, Right, Down, Clockwise, Anti}
 use Rattle.moves.specs.Keys.{all_keys}
-use Rattle.moves.specs.Walk.{led, some_keys_lead}
+use Rattle.moves.specs.Walk.{led, Leads, some_keys_lead}
 
 pub some_same : {A : Type 0} {x y : A} → Some x ≡ Some y → x ≡ y
 some_same e = cc
@@ -29,11 +29,6 @@ pub record IsFinite (next : Placement → Key → Option Placement) (good : Plac
 pub led_none : (next : Placement → Key → Option Placement) (keys : List Key) → led next None keys ≡ None
 led_none next [] = refl
 led_none next (key ∷ keys) = led_none next keys
-
--- these keys, each allowed, lead from the start to a state
-pub record Leads (next : Placement → Key → Option Placement) (allowed : Key → Bool) (start : Option Placement) (target : Placement) (keys : List Key) : Type 0 where
-  pub each : list_all allowed keys ≡ true
-  pub reached : led next start keys ≡ Some target
 
 -- the states that keys pass, from the start on
 visited : (Placement → Key → Option Placement) → Option Placement → List Key → List Placement

@@ -1,13 +1,16 @@
 -- Facts of the table of shapes, tried at each piece and rotation.
-use Rattle.std.proofs.Common.{◌≡◌, nat_lt, Bool, true, false, not, ◌&&◌, ◌||◌, ◌==◌, List, map, refl, subst, arith}
+use Rattle.std.proofs.Common.{◌≡◌, nat_lt, Bool, true, false, not, ◌&&◌, ◌||◌, ◌==◌, List, length, map, refl, subst, ◌∙◌, arith}
 use Rattle.std.specs.List.{list_all}
+use Rattle.std.proofs.lemmas.Bool.{eqb-true}
+use Rattle.std.proofs.lemmas.List.{length-map}
 use Rattle.srs.specs.declared.piece.Piece.{Piece}
 use Rattle.srs.specs.declared.piece.Piece.TheVariants.{I, L, O, Z, T, J, S}
 use Rattle.srs.specs.declared.rotation.Rotation.{Rotation}
 use Rattle.srs.specs.declared.rotation.Rotation.TheVariants.{Spawn, Right, Reverse, Left}
+use Rattle.srs.specs.declared.placement.Placement.{Placement}
 use Rattle.srs.specs.Piece.{all_pieces, piece_code}
 use Rattle.srs.specs.Rotation.{all_rotations, rotation_place}
-use Rattle.srs.specs.Cells.{Cell, moved, shape, is_near}
+use Rattle.srs.specs.Cells.{Cell, moved, shape, cells_of, pivot_of, is_near}
 use Rattle.srs.specs.SameCells.{has_cell, SameCells}
 use Rattle.srs.specs.Canonical.{canonical_rotation, canonical_move, rotation_count}
 use Rattle.srs.proofs.CellLemmas.{origin, fits, is_apart, is_still, same_cells-from}
@@ -36,6 +39,13 @@ each_rotation test all Left = list_all_each test all_rotations 3 Spawn all (omeg
 -- what is tried of all pieces and rotations holds of each
 pub each_state : (test : Piece → Rotation → Bool) → list_all (λ piece. list_all (test piece) all_rotations) all_pieces ≡ true → (piece : Piece) (rotation : Rotation) → test piece rotation ≡ true
 each_state test all piece = each_rotation (test piece) (each_piece (λ p. list_all (test p) all_rotations) all piece)
+
+-- each placement has four cells
+shape_length : (piece : Piece) (rotation : Rotation) → length (shape piece rotation) ≡ 4
+shape_length piece rotation = eqb-true _ _ (each_state (λ p r. length (shape p r) == 4) refl piece rotation)
+
+pub cells_length : (placement : Placement) → length (cells_of placement) ≡ 4
+cells_length q = length-map (shape q.piece q.rotation) (moved (pivot_of q)) ∙ shape_length q.piece q.rotation
 
 -- the pivot is a cell
 pub pivot_in_shape : (piece : Piece) (rotation : Rotation) → has_cell (shape piece rotation) origin ≡ true

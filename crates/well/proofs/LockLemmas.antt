@@ -6,7 +6,6 @@ use Rattle.std.specs.List.{list_all}
 use Rattle.std.specs.Cmp.{both_ways}
 use Rattle.std.proofs.lemmas.Bool.{and_parts, and_from, or_from, false_from_ne_true, false≢true, not-true, not_from_false, eqb-true, eq-eqb, leb-true, ltb-true}
 use Rattle.std.proofs.lemmas.Int.{ints}
-use Rattle.std.proofs.lemmas.List.{length-map}
 use Rattle.lane_board.specs.Field.{Field, with_cell}
 use Rattle.lane_board.specs.FullRows.{full_below, without_full_rows}
 use Rattle.lane_board.specs.CellCount.{cell_count}
@@ -20,7 +19,7 @@ use Rattle.srs.specs.declared.placement.Placement.{Placement}
 use Rattle.srs.specs.Cells.{Cell, moved, shape, cells_of, in_well, pivot_of}
 use Rattle.srs.specs.SameCells.{cell_eq, has_cell}
 use Rattle.srs.proofs.CellLemmas.{cell_eq-decides, has_cell-all}
-use Rattle.srs.proofs.ShapeLemmas.{each_state}
+use Rattle.srs.proofs.ShapeLemmas.{each_state, cells_length}
 use Rattle.well.specs.Free.{is_open, is_free_at, is_free}
 use Rattle.well.specs.Lock.{with_place, together, locked, rows_removed}
 use Rattle.well.specs.LockLaws.{AddsFourCells, LiesBelow, is_below, StaysBelow, RemovesBelow}
@@ -72,12 +71,6 @@ added_four F (a ∷ []) d four = absurd (omega arith)
 added_four F (a ∷ b ∷ []) d four = absurd (omega arith)
 added_four F (a ∷ b ∷ c ∷ []) d four = absurd (omega arith)
 added_four F (a ∷ b ∷ c ∷ e ∷ f ∷ cells) d four = absurd (omega arith)
-
-shape_length : (piece : Piece) (rotation : Rotation) → length (shape piece rotation) ≡ 4
-shape_length piece rotation = eqb-true _ _ (each_state (λ p r. length (shape p r) == 4) refl piece rotation)
-
-pub cells_length : (placement : Placement) → length (cells_of placement) ≡ 4
-cells_length q = length-map (shape q.piece q.rotation) (moved (pivot_of q)) ∙ shape_length q.piece q.rotation
 
 pub together_of : (F : Field) (q : Placement) (cells : List Cell) (d : Cell) → cells ≡ cells_of q →
     with_place (with_place (with_place (with_place F (get_or cells 0 d)) (get_or cells 1 d)) (get_or cells 2 d)) (get_or cells 3 d) ≡ together F q

@@ -1,6 +1,7 @@
 -- The keys so far, and those by which the marks lead back from here, are those of the word.
 use Rattle.std.proofs.Common.{◌-◌, length}
-use Rattle.key_path.specs.Marks.{Traced, IsPivot}
+use Rattle.moves.specs.States.{IsPivot}
+use Rattle.key_path.specs.Marks.{Traced}
 use Rattle.key_path.proofs.MarkLemmas.{IsPassed}
 use Rattle.key_path.proofs.marks.Marks.word_to.Given as goal
 

@@ -9,7 +9,8 @@ use Rattle.well.specs.Free.{is_free}
 use Rattle.well.specs.Lock.{with_place}
 use Rattle.well.specs.Well.{filled}
 use Rattle.well.proofs.FreeLemmas.{free_inside, free_pivot_inside}
-use Rattle.well.proofs.LockLemmas.{cells_length, together_of}
+use Rattle.srs.proofs.ShapeLemmas.{cells_length}
+use Rattle.well.proofs.LockLemmas.{together_of}
 use Rattle.well.proofs.well.Well.with_placement.Goals as goal
 
 each_in_well : (F : Field) (q : Placement) (cells : List Cell) (k : ℕ) → cells ≡ cells_of q → is_free F q ≡ true → k < 4 → in_well (get_or cells k (pos 0, pos 0)) ≡ true
