@@ -1,0 +1,13 @@
+// Laws of the definitions: functions with an empty body, whose contract is the law.
+ghost use Rattle.std.specs.Prelude.{◌≡◌, ◌↔◌, ℕ, List, Some, None};
+ghost use Rattle.srs.specs.declared.placement.Placement.{Placement};
+ghost use Rattle.placement_form.specs.Form.{IsPlacementText};
+ghost use Rattle.placement_form.specs.Reading.{placement_in};
+
+/// A text is read as a placement exactly where it is the text of this placement, and as none exactly where it is the text
+/// of none. So it is the text of one placement at most.
+pub fn texts_are_read_as_written()
+    ensures read { (text : List ℕ) (placement : Placement) → (placement_in text ≡ Some placement) ↔ IsPlacementText text placement }
+    ensures none { (text : List ℕ) → (placement_in text ≡ None) ↔ ((placement : Placement) → IsPlacementText text placement → ⊥) }
+    ensures one { (text : List ℕ) (one other : Placement) → IsPlacementText text one → IsPlacementText text other → one ≡ other }
+{}
