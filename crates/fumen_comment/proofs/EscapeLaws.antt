@@ -1,5 +1,5 @@
--- Escaped text is printable, and unescaping gives the units back.
-use Rattle.std.proofs.Common.{◌≡◌, ℕ, ◌+◌, ◌*◌, ◌/◌, ◌%◌, ◌^◌, ◌<◌, Bool, true, false, cond, eqb, leb, ◌&&◌, ◌||◌, not, List, [], ◌∷◌, ◌++◌, drop, All, Some, refl, sym, ap, ◌∙◌, inl, inr, arith}
+-- Escaped text is printable and has no blank, and unescaping gives the units back.
+use Rattle.std.proofs.Common.{◌≡◌, ℕ, ◌+◌, ◌*◌, ◌/◌, ◌%◌, ◌^◌, ◌<◌, ◌≤◌, Bool, true, false, cond, eqb, leb, ◌&&◌, ◌||◌, not, List, [], ◌∷◌, ◌++◌, drop, All, Some, refl, sym, ap, ◌∙◌, inl, inr, arith}
 use Rattle.std.specs.List.{flat_map}
 use Rattle.std.proofs.lemmas.Bool.{agree_below_at, cases_lt, lt-ltb, le-ltb, leb-true, and_parts, not-true}
 use Rattle.std.proofs.lemmas.List.Elements.{All-nil, All-cons, All-append, All-head, All-tail}
@@ -8,16 +8,20 @@ use Rattle.fumen_comment.specs.Unescape.{hex_byte_at, hex_unit_at, unit_of, unes
 use Rattle.fumen_comment.proofs.Tables.{hex_value_of_digit}
 use Rattle.fumen_comment.proofs.UnescapeLoop.{unescaped-cons}
 
-in_range : (c : ℕ) → (leb 32 c && leb c 126) ≡ true → IsPrintable c
-in_range c e = let both = and_parts (leb 32 c) (leb c 126) e in (leb-true 32 c both.0, leb-true c 126 both.1)
+-- a character from `!` to `~`
+abbrev pub IsMark : ℕ → Type 0
+IsMark c = (33 ≤ c) × (c ≤ 126)
 
-hex_digit_printable : (v : ℕ) → v < 16 → IsPrintable (hex_digit v)
+in_range : (c : ℕ) → (leb 33 c && leb c 126) ≡ true → IsMark c
+in_range c e = let both = and_parts (leb 33 c) (leb c 126) e in (leb-true 33 c both.0, leb-true c 126 both.1)
+
+hex_digit_mark : (v : ℕ) → v < 16 → IsMark (hex_digit v)
 unfolding hex_digit
-hex_digit_printable v lt = in_range (hex_digit v) (agree_below_at (λ k. leb 32 (hex_digit k) && leb (hex_digit k) 126) (λ _. true) 16 v refl lt)
+hex_digit_mark v lt = in_range (hex_digit v) (agree_below_at (λ k. leb 33 (hex_digit k) && leb (hex_digit k) 126) (λ _. true) 16 v refl lt)
 
--- a character that stays is printable, and no `%`
+-- a character that stays is such a mark, and no `%`
 abbrev is_plain : ℕ → Bool
-is_plain b = (leb 32 b && leb b 126) && not (eqb b 37)
+is_plain b = (leb 33 b && leb b 126) && not (eqb b 37)
 
 stays_or_not : (b : ℕ) → b < 256 → (not (stays b) || is_plain b) ≡ true
 unfolding stays
@@ -26,35 +30,39 @@ stays_or_not b lt = agree_below_at (λ k. not (stays k) || is_plain k) (λ _. tr
 stays_plain : (b : ℕ) → b < 256 → stays b ≡ true → is_plain b ≡ true
 stays_plain b lt e = ap (λ (t : Bool). not t || is_plain b) (sym e) ∙ stays_or_not b lt
 
-hex_byte_printable : (byte : ℕ) → byte < 256 → All IsPrintable (hex_byte byte)
-hex_byte_printable byte lt =
-    All-cons IsPrintable (hex_digit (byte / 16)) (hex_digit (byte % 16) ∷ []) (hex_digit_printable (byte / 16) (omega arith))
-    (All-cons IsPrintable (hex_digit (byte % 16)) [] (hex_digit_printable (byte % 16) (omega arith)) (All-nil IsPrintable))
+hex_byte_marks : (byte : ℕ) → byte < 256 → All IsMark (hex_byte byte)
+hex_byte_marks byte lt =
+    All-cons IsMark (hex_digit (byte / 16)) (hex_digit (byte % 16) ∷ []) (hex_digit_mark (byte / 16) (omega arith))
+    (All-cons IsMark (hex_digit (byte % 16)) [] (hex_digit_mark (byte % 16) (omega arith)) (All-nil IsMark))
 
-percent : IsPrintable 37
+percent : IsMark 37
 percent = (omega arith, omega arith)
 
-letter_u : IsPrintable 117
+letter_u : IsMark 117
 letter_u = (omega arith, omega arith)
 
-low_unit_printable : (u : ℕ) (b : Bool) → u < 256 → stays u ≡ b → All IsPrintable (cond b (u ∷ []) (37 ∷ hex_byte u))
-low_unit_printable u true lt e =
-    All-cons IsPrintable u [] (in_range u (and_parts (leb 32 u && leb u 126) (not (eqb u 37)) (stays_plain u lt e)).0) (All-nil IsPrintable)
-low_unit_printable u false lt e = All-cons IsPrintable 37 (hex_byte u) percent (hex_byte_printable u lt)
+low_unit_marks : (u : ℕ) (b : Bool) → u < 256 → stays u ≡ b → All IsMark (cond b (u ∷ []) (37 ∷ hex_byte u))
+low_unit_marks u true lt e =
+    All-cons IsMark u [] (in_range u (and_parts (leb 33 u && leb u 126) (not (eqb u 37)) (stays_plain u lt e)).0) (All-nil IsMark)
+low_unit_marks u false lt e = All-cons IsMark 37 (hex_byte u) percent (hex_byte_marks u lt)
 
-unit_printable : (u : ℕ) → u < 2 ^ 16 → All IsPrintable (escaped_unit u)
-unit_printable u fits =
+unit_marks : (u : ℕ) → u < 2 ^ 16 → All IsMark (escaped_unit u)
+unit_marks u fits =
     elim (cases_lt u 256) [
-      | inl low ↦ rw (lt-ltb u 256 low) (low_unit_printable u (stays u) low refl)
+      | inl low ↦ rw (lt-ltb u 256 low) (low_unit_marks u (stays u) low refl)
       | inr high ↦
-          rw (le-ltb u 256 high) (All-cons IsPrintable 37 (117 ∷ hex_byte (u / 256) ++ hex_byte (u % 256)) percent (All-cons IsPrintable 117 (hex_byte (u / 256) ++ hex_byte (u % 256)) letter_u (All-append IsPrintable (hex_byte (u / 256)) (hex_byte (u % 256)) (hex_byte_printable (u / 256) (omega arith)) (hex_byte_printable (u % 256) (omega arith)))))
+          rw (le-ltb u 256 high) (All-cons IsMark 37 (117 ∷ hex_byte (u / 256) ++ hex_byte (u % 256)) percent (All-cons IsMark 117 (hex_byte (u / 256) ++ hex_byte (u % 256)) letter_u (All-append IsMark (hex_byte (u / 256)) (hex_byte (u % 256)) (hex_byte_marks (u / 256) (omega arith)) (hex_byte_marks (u % 256) (omega arith)))))
     ]
 
-pub escaped_printable : (units : List ℕ) → All (λ u. u < 2 ^ 16) units → All IsPrintable (escaped units)
+pub escaped_marks : (units : List ℕ) → All (λ u. u < 2 ^ 16) units → All IsMark (escaped units)
 unfolding escaped
-escaped_printable [] fits = All-nil IsPrintable
-escaped_printable (u ∷ units) fits =
-    All-append IsPrintable (escaped_unit u) (flat_map escaped_unit units) (unit_printable u (All-head (λ k. k < 2 ^ 16) u units fits)) (escaped_printable units (All-tail (λ k. k < 2 ^ 16) u units fits))
+escaped_marks [] fits = All-nil IsMark
+escaped_marks (u ∷ units) fits =
+    All-append IsMark (escaped_unit u) (flat_map escaped_unit units) (unit_marks u (All-head (λ k. k < 2 ^ 16) u units fits)) (escaped_marks units (All-tail (λ k. k < 2 ^ 16) u units fits))
+
+-- so it is printable
+pub escaped_printable : (units : List ℕ) → All (λ u. u < 2 ^ 16) units → All IsPrintable (escaped units)
+escaped_printable units fits = λ k d within. let mark = escaped_marks units fits k d within in (omega (arith, mark.0), mark.1)
 
 -- ---- unescaping undoes escaping
 
@@ -77,7 +85,7 @@ hex_digit_no_u v lt = agree_below_at (λ k. eqb (hex_digit k) 117) (λ _. false)
 stays_again : (u : ℕ) (rest : List ℕ) → u < 256 → stays u ≡ true → unit_of u rest ≡ (u, 0)
 unfolding unit_of
 stays_again u rest lt e =
-    let no_percent = not-true (eqb u 37) (and_parts (leb 32 u && leb u 126) (not (eqb u 37)) (stays_plain u lt e)).1 in
+    let no_percent = not-true (eqb u 37) (and_parts (leb 33 u && leb u 126) (not (eqb u 37)) (stays_plain u lt e)).1 in
     rw no_percent refl
 
 short_again : (u : ℕ) (rest : List ℕ) → u < 256 → unit_of 37 (hex_byte u ++ rest) ≡ (u, 2)

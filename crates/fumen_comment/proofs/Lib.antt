@@ -9,3 +9,4 @@ pub mod Groups
 pub mod PartLaws
 pub mod Written
 mod Worked
+pub mod UnitLaws

@@ -10,8 +10,8 @@ use Rattle.fumen_comment.specs.declared.part.CommentFault.{CommentFault}
 use Rattle.fumen_comment.specs.Part.{unpacked, group_count}
 use Rattle.fumen_comment.specs.Reading.{group_at, text_at, comment_fault}
 
--- the characters read so far, and those still to come
-pub with_front : List ℕ → Result (List ℕ × ℕ) Fault → Result (List ℕ × ℕ) Fault
+-- what is read so far, before what is still to come
+unfoldable pub with_front : List ℕ → Result (List ℕ × ℕ) Fault → Result (List ℕ × ℕ) Fault
 with_front front read = read >>= λ x. Ok (front ++ x.0, x.1)
 
 abbrev pub rest_at : List ℕ → ℕ → ℕ → Result (List ℕ × ℕ) Fault
@@ -22,7 +22,7 @@ pub record IsReadSoFar (ds : List ℕ) (start count : ℕ) (text : List ℕ) (pl
   pub within : place ≤ length ds
   pub completes : with_front text (rest_at ds place left) ≡ rest_at ds start count
 
-from_nothing : (read : Result (List ℕ × ℕ) Fault) → with_front [] read ≡ read
+pub from_nothing : (read : Result (List ℕ × ℕ) Fault) → with_front [] read ≡ read
 unfolding with_front
 from_nothing (Ok x) = refl
 from_nothing (Err f) = refl
@@ -30,7 +30,7 @@ from_nothing (Err f) = refl
 pub text_starts : (ds : List ℕ) (start count : ℕ) → start ≤ length ds → IsReadSoFar ds start count [] start count
 text_starts ds start count le = record { within = le; completes = from_nothing (rest_at ds start count) }
 
-regroup : (front more : List ℕ) (read : Result (List ℕ × ℕ) Fault) → with_front front (read >>= λ x. Ok (more ++ x.0, x.1)) ≡ with_front (front ++ more) read
+pub regroup : (front more : List ℕ) (read : Result (List ℕ × ℕ) Fault) → with_front front (read >>= λ x. Ok (more ++ x.0, x.1)) ≡ with_front (front ++ more) read
 unfolding with_front
 regroup front more (Ok x) = ap (λ (text : List ℕ). Ok (text, x.1)) (sym (append_assoc front more x.0))
 regroup front more (Err f) = refl

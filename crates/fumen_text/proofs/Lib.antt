@@ -9,3 +9,4 @@ pub mod WrittenLaws
 pub mod EncodeLaws
 pub mod WriteLoop
 mod Worked
+pub mod SpelledPages
