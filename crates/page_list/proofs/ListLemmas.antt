@@ -29,7 +29,7 @@ whole-last : (last : List ℕ) → 0 < length last → whole_lines (last ∷ [])
 unfolding whole_lines
 whole-last last some = ap (λ b. if b then [] else last ∷ []) (ne_eqb (length last) 0 (λ is. omega arith))
 
-none-left : lines_of [] ≡ []
+pub none-left : lines_of [] ≡ []
 unfolding whole_lines
 none-left = refl
 

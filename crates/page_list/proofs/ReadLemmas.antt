@@ -8,9 +8,10 @@ at : (front text : List ℕ) (place column : ℕ) → place < length text
     → with_front front (rows_at column (drop place text)) ≡ with_front front (rows_at column (get_or text place 0 ∷ drop (place + 1) text))
 at front text place column within = at_drop_more (λ rest. with_front front (rows_at column rest)) text place 0 within
 
-twice : (front : List ℕ) (colour : ℕ) (behind : Option (List ℕ)) → with_front front (with_front (colour ∷ []) behind) ≡ with_front (front ++ colour ∷ []) behind
-twice front colour None = refl
-twice front colour (Some colours) = ap Some (sym (append_assoc front (colour ∷ []) colours))
+-- colours in front of colours
+pub fronts : (front more : List ℕ) (behind : Option (List ℕ)) → with_front front (with_front more behind) ≡ with_front (front ++ more) behind
+fronts front more None = refl
+fronts front more (Some colours) = ap Some (sym (append_assoc front more colours))
 
 slash : (front rest : List ℕ) (column byte : ℕ) → (column == 10) ≡ true → (byte == 47) ≡ true → with_front front (rows_at column (byte ∷ rest)) ≡ with_front front (rows_at 0 rest)
 unfolding rows_at
@@ -23,7 +24,7 @@ no_slash front rest column byte ends is = rw (ends, is) refl
 letter : (front rest : List ℕ) (column byte colour : ℕ) → (column == 10) ≡ false → colour_in byte ≡ Some colour
     → with_front front (rows_at column (byte ∷ rest)) ≡ with_front (front ++ colour ∷ []) (rows_at (column + 1) rest)
 unfolding rows_at
-letter front rest column byte colour goes is = rw (goes, is) (twice front colour (rows_at (column + 1) rest))
+letter front rest column byte colour goes is = rw (goes, is) (fronts front (colour ∷ []) (rows_at (column + 1) rest))
 
 no_letter : (front rest : List ℕ) (column byte : ℕ) → (column == 10) ≡ false → colour_in byte ≡ None → with_front front (rows_at column (byte ∷ rest)) ≡ None
 unfolding rows_at

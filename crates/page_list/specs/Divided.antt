@@ -1,6 +1,12 @@
 -- What a line with four fields is.
 use Rattle.std.specs.Prelude.{◌≡◌, ℕ, ◌<◌, List, ◌∷◌, ◌++◌, length, false, ◌==◌, All}
-use Rattle.page_list.specs.Reading.{Four}
+
+-- the four fields of a line
+pub record Four : Type 0 where
+  pub cells : List ℕ
+  pub operation : List ℕ
+  pub flags : List ℕ
+  pub comment : List ℕ
 
 -- a field has some byte, and no blank
 pub record IsField (text : List ℕ) : Type 0 where

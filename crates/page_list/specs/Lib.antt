@@ -4,5 +4,6 @@ pub mod Divided
 pub mod Fields
 pub mod Letters
 pub mod Line
+pub mod LineForm
 pub mod List
 pub mod Reading

@@ -9,6 +9,7 @@ use Rattle.fumen_pages.specs.declared.page.Page.{Page}
 use Rattle.page_list.specs.declared.fault.ListKind.{ListKind}
 use Rattle.page_list.specs.declared.fault.ListKind.TheVariants.{BadLine, BadCells, BadOperation, BadFlags, BadComment}
 use Rattle.page_list.specs.declared.fields.Flags.{Flags}
+use Rattle.page_list.specs.Divided.{Four}
 use Rattle.page_list.specs.Cells.{cells_in, cut_at}
 use Rattle.page_list.specs.Fields.{operation_in, flags_in, comment_in}
 
@@ -23,13 +24,6 @@ infixl 10 ◌>>=◌
 abbrev pub ◌>>=◌ : {A B E : Type 0} → Result A E → (A → Result B E) → Result B E
 (Ok x) >>= f = f x
 (Err e) >>= f = Err e
-
--- the four fields of a line
-pub record Four : Type 0 where
-  pub cells : List ℕ
-  pub operation : List ℕ
-  pub flags : List ℕ
-  pub comment : List ℕ
 
 -- a field has some byte, and no blank
 abbrev pub is_field : List ℕ → Bool

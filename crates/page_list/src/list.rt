@@ -1,5 +1,8 @@
 // Lists of pages, a line for each.
-ghost use Rattle.std.specs.Prelude.{◌≡◌, ◌≤◌, IfOk};
+ghost use Rattle.std.specs.Prelude.{◌≡◌, ◌≤◌, IfOk, List, Ok, Err};
+ghost use Rattle.fumen_pages.specs.declared.page.Page.{Page};
+ghost use Rattle.page_list.specs.declared.fault.ListFault.{ListFault};
+ghost use Rattle.page_list.specs.LineForm.{IsListFault, SpellsPages};
 ghost use Rattle.page_list.specs.List.{first_line, page_at, pages_in, without_return};
 ghost use Rattle.page_list.specs.Reading.{Gives};
 
@@ -57,6 +60,22 @@ fn page_at(alloc: Global, number: u32, line: &[u8]) -> Result<Page, Refused<List
 /// Lines are ended by a newline; the last one need not be. One `\r` directly before a newline is dropped. Empty rows
 /// at the top, up to 23 rows in all, and an empty garbage row may be written out.
 pub fn parse(alloc: Global, text: &[u8]) -> Result<Vec<Page>, Refused<ListFault>>
+    // What reading line by line gives.
+    ensures exact { Gives (λ pages. pages.items) result (pages_in text.now) }
+
+    // The text spells the pages that are answered, and those that it spells are answered, unless memory runs out.
+    ensures found { IfOk result (λ pages. SpellsPages text.now pages.items) }
+    ensures only { (pages : List Page) → SpellsPages text.now pages → Gives (λ pages. pages.items) result (Ok pages) }
+
+    // The same of the fault.
+    ensures fault { (f : ListFault) → result ≡ Err (Refused.Fault f) → IsListFault text.now f }
+    ensures fault_only { (f : ListFault) → IsListFault text.now f → Gives (λ pages. pages.items) result (Err f) }
+{
+    read_pages(alloc, text)
+}
+
+// The pages of the lines, one after the other.
+fn read_pages(alloc: Global, text: &[u8]) -> Result<Vec<Page>, Refused<ListFault>>
     ensures { Gives (λ pages. pages.items) result (pages_in text.now) }
 {
     let mut pages = Vec::new(alloc);

@@ -5,7 +5,7 @@ ghost use Rattle.page_list.specs.Reading.{Gives, divided, four_in, is_field, lin
 
 use crate::cells::{cells_in, cut_at};
 use crate::fault::ListKind;
-use crate::fields::{comment_of, flags_in, is_comment, operation_in};
+use crate::fields::{comment_in, flags_in, operation_in};
 use fumen_pages::Page;
 use pc_outside::Refused;
 use std::alloc::Global;
@@ -80,10 +80,7 @@ pub(crate) fn read_line(alloc: Global, line: &[u8]) -> Result<Page, Refused<List
     let Some(flags) = flags_in(four.flags) else {
         return Err(Refused::Fault(ListKind::BadFlags));
     };
-    if !is_comment(four.comment) {
-        return Err(Refused::Fault(ListKind::BadComment));
-    }
-    let comment = comment_of(alloc, four.comment)?;
+    let comment = comment_in(alloc, four.comment)?;
     Ok(Page {
         cells,
         operation,

@@ -1,32 +1,38 @@
--- One more page is read, or a line has a fault, or the text ends.
-use Rattle.std.proofs.Common.{◌+◌, ◌∙◌, ◌<◌, ◌++◌, sym, ap, arith, length, length-append, [], ◌∷◌, Vec, Global}
-use Rattle.std.proofs.lemmas.List.{nil_from_length}
-use Rattle.std.proofs.lemmas.Result.{err_from_is_err_and}
+-- What the text spells, and its fault, from what reading gives.
+use Rattle.std.proofs.Common.{◌≡◌, List, Result, Ok, Err, Vec, Global, subst}
+use Rattle.std.specs.Prelude.{IfOk}
+use Rattle.pc_outside.specs.declared.answers.Refused.{Refused}
+use Rattle.pc_outside.specs.declared.answers.Refused.TheVariants as refused
 use Rattle.fumen_pages.specs.declared.page.Page.{Page}
-use Rattle.page_list.specs.List.{lines_of, page_at, pages_from, pages_in}
-use Rattle.page_list.proofs.ListLemmas.{behind, behind_shorter, page_read, page_refused, pages_read}
+use Rattle.page_list.specs.declared.fault.ListFault.{ListFault}
+use Rattle.page_list.specs.Reading.{Gives}
+use Rattle.page_list.specs.List.{pages_in}
+use Rattle.page_list.specs.LineForm.{SpellsPages}
+use Rattle.page_list.proofs.PagesSpelled.{pages_spelled, spelled_pages_read, fault_spelled, spelled_fault_read}
 use Rattle.page_list.proofs.list.parse.Goals as goal
 
-pub returns-in_err-page : goal.returns-in_err-page
-returns-in_err-page c =
-    let some : 0 < length c.loop-rest.rest.now = grind (arith, c.is_empty.ensures, c.loop-rest-test.true) in
-    let p = err_from_is_err_and c.from_residual.result c.from_residual.ensures.1 in
-    rw (p.1, p.2) (page_refused {X = Vec Page Global} (λ pages. pages.items) c.in_err-page.field-0.0 c.loop-rest.pages.items (c.len.result + 1) c.loop-rest.rest.now c.first_line.result.0.now c.first_line.result.1.now (pages_in c.args.text.now) some c.first_line.ensures c.in_err-page.ensures.exact
-    (ap (λ n. behind c.loop-rest.pages.items (pages_from (n + 1) (lines_of c.loop-rest.rest.now))) (c.len.ensures ∙ c.loop-rest.pages.ok.0) ∙ c.loop-rest.invariant.0))
+abbrev Answer : Type 0
+Answer = Result (Vec Page Global) (Refused ListFault)
 
-pub loop-rest-smaller : goal.loop-rest-smaller
-loop-rest-smaller c =
-    let some : 0 < length c.loop-rest.rest.now = grind (arith, c.is_empty.ensures, c.loop-rest-test.true) in
-    behind_shorter c.loop-rest.rest.now c.first_line.result.0.now c.first_line.result.1.now some c.first_line.ensures
+abbrev Given : Answer → Result (List Page) ListFault → Type 0
+Given answer read = Gives (λ (pages : Vec Page Global). pages.items) answer read
 
-pub loop-rest-preserved : goal.loop-rest-preserved
-loop-rest-preserved c =
-    let some : 0 < length c.loop-rest.rest.now = grind (arith, c.is_empty.ensures, c.loop-rest-test.true) in
-    rw (c.in_ok-push.ensures.items) (
-      page_read c.loop-rest.pages.items (length c.loop-rest.pages.items + 1) (length (c.loop-rest.pages.items ++ c.in_ok-page.page ∷ []) + 1) c.loop-rest.rest.now c.first_line.result.0.now c.first_line.result.1.now c.in_ok-page.page (pages_in c.args.text.now) some c.first_line.ensures
-          (ap (λ n. page_at (n + 1) c.first_line.result.0.now) (sym (c.len.ensures ∙ c.loop-rest.pages.ok.0)) ∙ c.in_ok-page.ensures.exact) (omega (arith, length-append c.loop-rest.pages.items (c.in_ok-page.page ∷ []))) c.loop-rest.invariant.0,
-      omega (arith, length-append c.loop-rest.pages.items (c.in_ok-page.page ∷ []), c.in_ok-page.ensures.few),
-    )
+found : (answer : Answer) (read : Result (List Page) ListFault) (P : List Page → Type 0) → ((pages : List Page) → read ≡ Ok pages → P pages) → Given answer read → IfOk answer (λ pages. P pages.items)
+found (Ok pages) read P spells given = spells pages.items given
+found (Err e) read P spells given = tt
 
-pub returns : goal.returns
-returns c = pages_read c.loop-rest.pages.items (length c.loop-rest.pages.items + 1) c.loop-rest.rest.now (pages_in c.args.text.now) (nil_from_length c.loop-rest.rest.now (grind (arith, c.is_empty.ensures, c.loop-rest-test.false))) c.loop-rest.invariant.0
+fault : (answer : Answer) (read : Result (List Page) ListFault) (f : ListFault) → answer ≡ Err (refused.Fault f) → Given answer read → read ≡ Err f
+fault answer read f is given = subst (λ a. Given a read) is given
+
+pub returns-clause-found : goal.returns-clause-found
+returns-clause-found c =
+    found c.read_pages.result (pages_in c.args.text.now) (SpellsPages c.args.text.now) (pages_spelled c.args.text.now) c.read_pages.ensures
+
+pub returns-clause-only : goal.returns-clause-only
+returns-clause-only c = λ pages s. subst (Given c.read_pages.result) (spelled_pages_read c.args.text.now pages s) c.read_pages.ensures
+
+pub returns-clause-fault : goal.returns-clause-fault
+returns-clause-fault c = λ f is. fault_spelled c.args.text.now f (fault c.read_pages.result (pages_in c.args.text.now) f is c.read_pages.ensures)
+
+pub returns-clause-fault_only : goal.returns-clause-fault_only
+returns-clause-fault_only c = λ f s. subst (Given c.read_pages.result) (spelled_fault_read c.args.text.now f s) c.read_pages.ensures

@@ -2,7 +2,7 @@
 use Rattle.std.proofs.Common.{◌≡◌, ◌+◌, ◌≤◌, length}
 use Rattle.page_list.specs.List.{lines_of, pages_from, pages_in}
 use Rattle.page_list.proofs.ListLemmas.{behind}
-use Rattle.page_list.proofs.list.parse.Given as goal
+use Rattle.page_list.proofs.list.read_pages.Given as goal
 
 abbrev pub invariant-loop-rest : goal.invariant-loop-rest
 invariant-loop-rest l =
