@@ -1,5 +1,5 @@
 -- What a command writes is determined by its words and the bytes of the source.
-use Rattle.std.proofs.Common.{◌≡◌, ℕ, List, [], ◌∷◌, ◌++◌, append-nil, refl, sym, ap, subst, ◌∙◌, inl, inr, Option, Some, None, Result, Ok, Err, IsTrue}
+use Rattle.std.proofs.Common.{◌≡◌, ℕ, ◌/◌, List, [], ◌∷◌, ◌++◌, refl, sym, ap, subst, ◌∙◌, inl, inr, Option, Some, None, Result, Ok, Err, IsTrue}
 use Rattle.std.specs.Prelude.{Contains}
 use Rattle.std.specs.List.Sorted.{IsStrictlySortedBy}
 use Rattle.std.specs.Cmp.{IsTotalOrder, tied_itself}
@@ -11,9 +11,8 @@ use Rattle.fumen_digits.specs.declared.dialect.Dialect.{Dialect}
 use Rattle.fumen_text.specs.Written.{written}
 use Rattle.fumen_pages.specs.declared.page.Page.{Page}
 use Rattle.fumen_text.proofs.TextLaws.{one_list}
-use Rattle.page_list.specs.declared.fault.ListFault.{ListFault}
 use Rattle.page_list.specs.Line.{page_form}
-use Rattle.page_list.specs.List.{pages_in}
+use Rattle.page_list.proofs.PagesSpelled.{one_page_list}
 use Rattle.report.specs.Page.{shown_page}
 use Rattle.srs.specs.declared.placement.Placement.{Placement}
 use Rattle.srs.specs.Rising.{is_above, IsRisingListOf}
@@ -22,6 +21,7 @@ use Rattle.srs.proofs.MemberLemmas.{Contains-here, Contains-there, Contains-case
 use Rattle.srs.proofs.RisingLemmas.{rising-first, rising-rest}
 use Rattle.srs.proofs.OrderLemmas.{sequence_cmp-total}
 use Rattle.srs.specs.Rules.{table_of}
+use Rattle.well.specs.Counts.{empties_below}
 use Rattle.well.specs.Well.{filled}
 use Rattle.queue_pattern.specs.declared.element.Element.{Element}
 use Rattle.queue_pattern.specs.declared.fault.PatternFault.{PatternFault}
@@ -29,15 +29,14 @@ use Rattle.queue_pattern.specs.Queues.{queues}
 use Rattle.queue_pattern.specs.Pattern.{elements_of}
 use Rattle.hold_queue.specs.Permits.{SomePermits}
 use Rattle.enumerate.specs.declared.problem.Problem.{Problem}
+use Rattle.enumerate.specs.Problem.{needed_of}
 use Rattle.enumerate.specs.Plays.{Plays}
 use Rattle.enumerate.specs.Solution.{IsSolution, pieces_of}
 use Rattle.report.specs.Forms.{key_part, report_form}
-use Rattle.pc_outside.specs.Writes.{Grows, GrowsByFront}
-use Rattle.pc_outside.specs.WriteLaws.{begins, is_front}
 use Rattle.pc_app.specs.declared.words.WordsFault.{WordsFault}
-use Rattle.pc_app.specs.Answers.{Wrote, WroteFront}
 use Rattle.pc_app.specs.Words.{PathQuestion, Question, path, settings, decode, encode, show}
 use Rattle.pc_app.specs.Question.{IsProblemOf, IsGiven}
+use Rattle.pc_app.proofs.FieldLaws.{one_field}
 use Rattle.pc_app.proofs.Fronts.{one_spelled}
 use Rattle.pc_app.specs.Output.{IsPathOutput, IsOutputOf, IsOutput, IsDecodeOutput, IsEncodeOutput, IsShown, IsShowOutput}
 
@@ -81,11 +80,11 @@ same_ok : (xs ys : List Element) → ◌≡◌ {A = Result (List Element) Patter
 same_ok xs ys e = cc
 
 -- two problems that one question names have the same solutions
-solution_of_same : (question : PathQuestion) (one other : Problem) → IsProblemOf question one → IsProblemOf question other → (sequence : List Placement) → IsSolution one None sequence → IsSolution other None sequence
-solution_of_same question one other first second sequence solution =
+solution_of_same : (question : PathQuestion) (bytes : List ℕ) (one other : Problem) → IsProblemOf question bytes one → IsProblemOf question bytes other → (sequence : List Placement) → IsSolution one None sequence → IsSolution other None sequence
+solution_of_same question bytes one other first second sequence solution =
     let table : table_of one.rules ≡ table_of other.rules = first.rules ∙ sym second.rules in
     let drop : one.drop_mode ≡ other.drop_mode = first.drop ∙ sym second.drop in
-    let field : filled one.well ≡ filled other.well = first.field ∙ sym second.field in
+    let field : filled one.well ≡ filled other.well = one_field question.field question.page bytes (filled one.well) (filled other.well) first.field second.field in
     let height : one.height ≡ other.height = first.height ∙ sym second.height in
     let hold : one.hold ≡ other.hold = first.hold ∙ sym second.hold in
     let held : one.held ≡ other.held = first.held ∙ sym second.held in
@@ -109,28 +108,35 @@ same_given needed (Some text) (Some one) None first second = absurd second
 same_given needed (Some text) (Some one) (Some other) first second = ap (λ s. Some s) (one_spelled needed text one other first second)
 
 -- and the same reports
-one_report : (question : PathQuestion) (one other : Problem) → IsProblemOf question one → IsProblemOf question other → (xs ys : List (List Placement)) → xs ≡ ys →
+one_report : (question : PathQuestion) (bytes : List ℕ) (one other : Problem) → IsProblemOf question bytes one → IsProblemOf question bytes other → (xs ys : List (List Placement)) → xs ≡ ys →
     report_form (key_part question.keys (table_of one.rules) one.drop_mode) (filled one.well) question.limit xs ≡ report_form (key_part question.keys (table_of other.rules) other.drop_mode) (filled other.well) question.limit ys
-one_report question one other first second xs ys same = λ i. report_form (key_part question.keys ((first.rules ∙ sym second.rules) i) ((first.drop ∙ sym second.drop) i)) ((first.field ∙ sym second.field) i) question.limit (same i)
+one_report question bytes one other first second xs ys same =
+    let field = one_field question.field question.page bytes (filled one.well) (filled other.well) first.field second.field in
+    λ i. report_form (key_part question.keys ((first.rules ∙ sym second.rules) i) ((first.drop ∙ sym second.drop) i)) (field i) question.limit (same i)
 
-path_output_unique : (question : PathQuestion) (a b : List ℕ) → IsPathOutput question a → IsPathOutput question b → a ≡ b
-path_output_unique question a b first second =
-    let after : first.after ≡ second.after = same_given _ question.after first.after second.after first.given second.given in
+-- and as many placements are needed
+same_needed : (question : PathQuestion) (bytes : List ℕ) (one other : Problem) → IsProblemOf question bytes one → IsProblemOf question bytes other → needed_of one ≡ needed_of other
+same_needed question bytes one other first second =
+    let field = one_field question.field question.page bytes (filled one.well) (filled other.well) first.field second.field in
+    λ i. empties_below (field i) ((first.height ∙ sym second.height) i) / 4
+
+path_output_unique : (question : PathQuestion) (bytes a b : List ℕ) → IsPathOutput question bytes a → IsPathOutput question bytes b → a ≡ b
+path_output_unique question bytes a b first second =
+    let needed = same_needed question bytes first.problem second.problem first.named second.named in
+    let given = subst (λ needed. IsGiven needed question.after first.after) needed first.given in
+    let after : first.after ≡ second.after = same_given _ question.after first.after second.after given second.given in
     let same : first.sequences ≡ second.sequences = rising_list_unique sequence_cmp sequence_cmp-total first.sequences second.sequences first.list second.list
-    (λ s m. record { solution = solution_of_same question first.problem second.problem first.named second.named s m.solution; above = subst (λ bound. IsTrue (is_above sequence_cmp bound s)) after m.above })
-    (λ s m. record { solution = solution_of_same question second.problem first.problem second.named first.named s m.solution; above = subst (λ bound. IsTrue (is_above sequence_cmp bound s)) (sym after) m.above }) in
-    first.report ∙ one_report question first.problem second.problem first.named second.named first.sequences second.sequences same ∙ sym second.report
+    (λ s m. record { solution = solution_of_same question bytes first.problem second.problem first.named second.named s m.solution; above = subst (λ bound. IsTrue (is_above sequence_cmp bound s)) after m.above })
+    (λ s m. record { solution = solution_of_same question bytes second.problem first.problem second.named first.named s m.solution; above = subst (λ bound. IsTrue (is_above sequence_cmp bound s)) (sym after) m.above }) in
+    first.report ∙ one_report question bytes first.problem second.problem first.named second.named first.sequences second.sequences same ∙ sym second.report
 
 pub decode_output_unique : (bytes a b : List ℕ) → IsDecodeOutput bytes a → IsDecodeOutput bytes b → a ≡ b
 decode_output_unique bytes a b first second =
     first.lines ∙ ap (flat_map page_form) (one_list bytes first.dialect first.pages second.dialect second.pages first.reads second.reads).1 ∙ sym second.lines
 
-same_list : (x y : List Page) (read : Result (List Page) ListFault) → read ≡ Ok x → read ≡ Ok y → x ≡ y
-same_list x y read one other = cc
-
 encode_output_unique : (dialect : Dialect) (bytes a b : List ℕ) → IsEncodeOutput dialect bytes a → IsEncodeOutput dialect bytes b → a ≡ b
 encode_output_unique dialect bytes a b first second =
-    let same : first.pages ≡ second.pages = same_list first.pages second.pages (pages_in bytes) first.reads second.reads in
+    let same = one_page_list bytes first.pages second.pages first.spelled second.spelled in
     first.text ∙ ap (λ pages. written dialect pages ++ 10 ∷ []) same ∙ sym second.text
 
 same_shown : (asked : Option ℕ) (pages : List Page) (a b : List ℕ) → IsShown asked pages a → IsShown asked pages b → a ≡ b
@@ -144,7 +150,7 @@ show_output_unique asked bytes a b first second =
     same_shown asked second.pages a b (subst (λ pages. IsShown asked pages a) same first.shown) second.shown
 
 output_of_unique : (asked : Result Question WordsFault) (bytes a b : List ℕ) → IsOutputOf asked bytes a → IsOutputOf asked bytes b → a ≡ b
-output_of_unique (Ok (path question)) bytes a b first second = path_output_unique question a b first second
+output_of_unique (Ok (path question)) bytes a b first second = path_output_unique question bytes a b first second
 output_of_unique (Ok decode) bytes a b first second = decode_output_unique bytes a b first second
 output_of_unique (Ok (encode dialect)) bytes a b first second = encode_output_unique dialect bytes a b first second
 output_of_unique (Ok (show asked)) bytes a b first second = show_output_unique asked bytes a b first second
@@ -153,20 +159,3 @@ output_of_unique (Err fault) bytes a b first second = absurd first
 -- the words and the source's bytes determine what is written
 pub output_unique : (words : List (List ℕ)) (bytes a b : List ℕ) → IsOutput words bytes a → IsOutput words bytes b → a ≡ b
 output_unique words bytes = output_of_unique (settings words) bytes
-
--- the whole is a front of itself
-pub whole_is_front : {old new : Option (List ℕ)} {bytes : List ℕ} → Grows old new bytes → GrowsByFront old new bytes
-whole_is_front {bytes = bytes} grown = record { rest = []; up_to = record { front = bytes; divided = sym (append-nil bytes); grown = grown } }
-
--- nothing was appended, which is a front of anything
-pub nothing_is_front : (old new : Option (List ℕ)) (bytes : List ℕ) → new ≡ old → GrowsByFront old new bytes
-nothing_is_front old new bytes same = subst (λ o. GrowsByFront old o bytes) (sym same) (is_front (begins old bytes))
-
--- an output was appended, or a front of one: then a front of each
-pub front_of_whole : (question : PathQuestion) (old new : Option (List ℕ)) → Wrote (IsPathOutput question) old new → (output : List ℕ) → IsPathOutput question output → GrowsByFront old new output
-front_of_whole question old new wrote output is =
-    subst (GrowsByFront old new) (path_output_unique question wrote.output output wrote.is_output is) (whole_is_front wrote.grown)
-
-pub front_of_front : (question : PathQuestion) (old new : Option (List ℕ)) → WroteFront (IsPathOutput question) old new → (output : List ℕ) → IsPathOutput question output → GrowsByFront old new output
-front_of_front question old new wrote output is =
-    subst (GrowsByFront old new) (path_output_unique question wrote.output output wrote.is_output is) wrote.grown

@@ -31,7 +31,7 @@ after_placement : (left : ℕ) (read : List Placement) (kind : Due) (placement :
 unfolding read_from step corner
 after_placement zero read kind placement place may = record { rest = []; sequence = read ++ placement ∷ []; whole = rw may refl }
 after_placement (suc left) read kind placement place may =
-    let more = after_placement left (read ++ placement ∷ []) due.End corner (place + 1 + 1 + 1 + 1 + 1 + 1 + 1) refl in
+    let more = after_placement left (read ++ placement ∷ []) due.AfterRow corner (place + 1 + 1 + 1 + 1 + 1 + 1 + 1) refl in
     let on : (may_end kind && nat_lt 0 (suc left)) ≡ true = rw may (lt-ltb 0 (suc left) (omega arith)) in
     let fewer : suc left - 1 ≡ left = omega arith in
     record { rest = 32 ∷ 73 ∷ 48 ∷ 58 ∷ 48 ∷ 44 ∷ 48 ∷ more.rest; sequence = more.sequence; whole = rw (on, fewer) more.whole }
@@ -43,7 +43,7 @@ one_byte byte no_blank stepped more = record { rest = byte ∷ more.rest; sequen
 
 from_row : (read : List Placement) (left : ℕ) (placement : Placement) (place : ℕ) → Completes read left (reading due.Row placement) place
 unfolding step
-from_row read left placement place = one_byte 48 refl refl (after_placement left read due.End (record placement { y = 0 }) (place + 1) refl)
+from_row read left placement place = one_byte 48 refl refl (after_placement left read due.AfterRow (record placement { y = 0 }) (place + 1) refl)
 
 from_column : (read : List Placement) (left : ℕ) (placement : Placement) (place : ℕ) → Completes read left (reading due.Column placement) place
 unfolding step
@@ -63,8 +63,7 @@ completes due.Colon read left placement place = one_byte 58 refl refl (from_colu
 completes due.Column read left placement place = from_column read left placement place
 completes due.Comma read left placement place = one_byte 44 refl refl (from_row read left placement (place + 1))
 completes due.Row read left placement place = from_row read left placement place
-completes due.SecondDigit read left placement place = after_placement left read due.SecondDigit placement place refl
-completes due.End read left placement place = after_placement left read due.End placement place refl
+completes due.AfterRow read left placement place = after_placement left read due.AfterRow placement place refl
 completes due.Key read left placement place = one_byte 72 refl refl (after_placement left read due.AfterKeys placement (place + 1) refl)
 completes due.AfterKeys read left placement place = after_placement left read due.AfterKeys placement place refl
 

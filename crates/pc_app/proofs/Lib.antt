@@ -2,6 +2,8 @@
 pub mod Pairs
 pub mod Bytes
 pub mod Reports
+pub mod Answering
+pub mod FieldLaws
 pub mod Determined
 pub mod SpelledText
 pub mod ReadText
@@ -10,3 +12,6 @@ pub mod WrittenText
 pub mod ShowablePages
 pub mod SourceLaws
 pub mod PageAnswers
+pub mod EncodeFaults
+pub mod PageCells
+pub mod PathAnswers

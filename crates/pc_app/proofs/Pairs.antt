@@ -2,10 +2,12 @@
 use Rattle.std.proofs.Common.{◌≡◌, ℕ, zero, suc, ◌+◌, ◌<◌, ◌≤◌, List, [], ◌∷◌, length, map, drop, get_or, Option, Some, None, Result, Ok, Err, refl, sym, ap, ◌∙◌, arith}
 use Rattle.std.specs.List.{slice_get}
 use Rattle.std.proofs.lemmas.List.{get_or-map, drop_all}
+use Rattle.std.proofs.lemmas.Option.{same_Some}
 use Rattle.pc_app.specs.declared.words.WordsFault.{WordsFault}
 use Rattle.pc_app.specs.declared.names.Command.{Command}
-use Rattle.pc_app.specs.Given.{Given}
-use Rattle.pc_app.specs.Words.{pair_read, pairs_read, then_given}
+use Rattle.pc_app.specs.Given.{Given, nothing_given}
+use Rattle.pc_app.specs.Names.{command_in}
+use Rattle.pc_app.specs.Words.{Question, command_read, pair_read, pairs_read, question_of, question_read, settings, then_given}
 
 -- a list from a place on: the item there, the one after it, and what follows both
 record Cut (texts rest tail : List (List ℕ)) (i : ℕ) : Type 0 where
@@ -48,3 +50,16 @@ reads_none command given i texts past = ap (pairs_read command given i) (drop_al
 -- the text of a word
 pub text_at : {W : Type 0} (text : W → List ℕ) (words : List W) (i : ℕ) (word : W) → i < length words → word ≡ get_or words i word → text word ≡ get_or (map text words) i []
 text_at text words i word within read = ap text read ∙ sym (get_or-map text words i word [] within)
+
+-- what all words ask for, by the command and the values behind it
+pub whole_read : (all : List (List ℕ)) (word : List ℕ) (command : Command) (given : Given) (count : ℕ) (asked : Result Question WordsFault) → slice_get all 0 ≡ Some word
+    → Some command ≡ command_in word → Ok given ≡ pairs_read command nothing_given 1 (drop 1 all) → count ≡ length all → asked ≡ question_of command count given → asked ≡ settings all
+unfolding settings
+whole_read [] word command given count asked first named read counted is = cc
+whole_read (here ∷ pairs) word command given count asked first named read counted is =
+    let same : here ≡ word = same_Some here word first in
+    let number : count ≡ length pairs + 1 = omega (arith, counted) in
+    is
+    ∙ ap (λ n. question_of command n given) number
+    ∙ ap (question_read command (length pairs + 1)) read
+    ∙ ap (λ c. command_read c pairs (length pairs + 1)) (named ∙ ap command_in (sym same))

@@ -1,45 +1,41 @@
 -- The form of a sequence's text and the function that reads it agree: what is read is spelled.
-use Rattle.std.proofs.Common.{◌≡◌, ℕ, zero, suc, ◌+◌, ◌-◌, ◌*◌, ◌/◌, ◌%◌, ◌<◌, ◌≤◌, Bool, true, false, ◌&&◌, ◌||◌, ◌==◌, nat_lt, nat_le, eqb-true, ltb-true, leb-true, List, [], ◌∷◌, ◌++◌, length, map, append_assoc, append-nil, Option, Some, None, Result, Ok, Err, refl, ap, sym, subst, ◌∙◌, arith, inl, inr, ◌⊎◌}
+use Rattle.std.proofs.Common.{◌≡◌, ℕ, zero, suc, ◌+◌, ◌-◌, ◌<◌, ◌≤◌, Bool, true, false, ◌&&◌, ◌==◌, nat_lt, eqb-true, ltb-true, List, [], ◌∷◌, ◌++◌, length, map, append_assoc, append-nil, Option, Some, None, Result, Ok, Err, refl, ap, sym, subst, ◌∙◌, arith, inl, inr}
 use Rattle.std.specs.Prelude.{decimal, option_map}
-use Rattle.std.specs.Char.{is_ascii_digit}
 use Rattle.std.proofs.lemmas.Bool.{cases_Bool, and_parts}
-use Rattle.std.proofs.lemmas.Bool.Decides.{nat_tests}
 use Rattle.std.proofs.lemmas.Fmt.{decimal_digit}
 use Rattle.std.proofs.lemmas.List.{map-append}
-use Rattle.srs.proofs.MemberLemmas.{find-Contains}
+use Rattle.std.proofs.lemmas.Option.{same_Some}
 use Rattle.srs.specs.declared.placement.Placement.{Placement}
-use Rattle.srs.specs.Piece.{piece_letter, all_pieces}
-use Rattle.srs.specs.Rotation.{rotation_letter, all_rotations, rotation_with_letter}
+use Rattle.srs.specs.Piece.{piece_letter}
+use Rattle.srs.specs.Rotation.{rotation_letter, rotation_with_letter}
 use Rattle.moves.specs.declared.key.Key.{Key}
 use Rattle.moves.specs.declared.key.Key.TheVariants as keys
 use Rattle.moves.specs.Keys.{key_letter}
-use Rattle.placement_form.specs.Form.{placement_form}
+use Rattle.placement_form.specs.Form.{placement_form, IsPlacementText}
+use Rattle.placement_form.specs.Reading.{capital_piece, digit_in, two_digit_row}
+use Rattle.placement_form.proofs.Digits.{IsDigit, digit_only, IsRowOf, two_only, both_digits}
+use Rattle.placement_form.proofs.ReadLaws.{piece_only, rotation_only}
 use Rattle.pc_app.specs.declared.placement_text.Due.{Due}
 use Rattle.pc_app.specs.declared.placement_text.Due.TheVariants as due
 use Rattle.pc_app.specs.declared.placement_text.Reading.{Reading}
-use Rattle.pc_app.specs.Reading.{read_from, read_on, reading, when, step, capital_piece, is_key_letter, keys_step, second_digit_step, after_row_digit, may_end, unread, sequence_in}
-use Rattle.pc_app.specs.SequenceText.{no_keys, dropped, none, SpellsPlacement, SpellsSequence, last, more, Spells}
-use Rattle.pc_app.proofs.SpelledText.{two_digits}
+use Rattle.pc_app.specs.Reading.{read_from, read_on, reading, when, step, is_key_letter, keys_step, after_row_step, may_end, unread, sequence_in}
+use Rattle.pc_app.specs.SequenceText.{alone, with_keys, none, SpellsPlacement, SpellsSequence, last, more, Spells}
 
 -- the text of a placement before its column
 head : Placement → List ℕ
 head placement = piece_letter placement.piece ∷ rotation_letter placement.rotation ∷ 58 ∷ []
 
--- what is known of the numbers, with what was read
+-- a column was read
 record Column (placement : Placement) (front : List ℕ) (text : List ℕ) : Type 0 where
   column : placement.x ≤ 9
   whole : front ≡ text
 
-record Row (placement : Placement) (front : List ℕ) (text : List ℕ) : Type 0 where
-  column : placement.x ≤ 9
-  row : placement.y ≤ 22
-  whole : front ≡ text
-
+-- a placement was read, and then keys
 record Pressed (placement : Placement) (front : List ℕ) : Type 0 where
-  column : placement.x ≤ 9
-  row : placement.y ≤ 22
+  text : List ℕ
+  written : IsPlacementText text placement
   pressed : List Key
-  whole : front ≡ placement_form placement ++ 58 ∷ map key_letter pressed
+  whole : front ≡ text ++ 58 ∷ map key_letter pressed
 
 -- the bytes of a placement that were read, by what is due next
 abbrev IsRead : Due → Placement → List ℕ → Type 0
@@ -49,8 +45,7 @@ IsRead due.Colon placement front = front ≡ piece_letter placement.piece ∷ ro
 IsRead due.Column placement front = front ≡ head placement
 IsRead due.Comma placement front = Column placement front (head placement ++ decimal placement.x)
 IsRead due.Row placement front = Column placement front (head placement ++ decimal placement.x ++ 44 ∷ [])
-IsRead due.SecondDigit placement front = ((placement.y ≡ 1) ⊎ (placement.y ≡ 2)) × Column placement front (placement_form placement)
-IsRead due.End placement front = Row placement front (placement_form placement)
+IsRead due.AfterRow placement front = IsPlacementText front placement
 IsRead due.Key placement front = Pressed placement front
 IsRead due.AfterKeys placement front = SpellsPlacement front placement
 
@@ -67,21 +62,6 @@ record Found {A B : Type 0} (f : A → B) (found : Option A) (taken : B) : Type 
 map-some : {A B : Type 0} (f : A → B) (found : Option A) (taken : B) → option_map f found ≡ Some taken → Found f found taken
 map-some f (Some item) taken e = record { item = item; is = refl; made = cc }
 map-some f None taken e = cc
-
-some_same : {A : Type 0} (one other : A) → ◌≡◌ {A = Option A} (Some one) (Some other) → one ≡ other
-some_same one other e = cc
-
--- a byte that is a digit
-record Digit (byte : ℕ) : Type 0 where
-  small : byte - 48 ≤ 9
-  is : 48 + (byte - 48) ≡ byte
-
-digit : (byte : ℕ) → is_ascii_digit byte ≡ true → Digit byte
-digit byte is =
-    let parts = and_parts _ _ is in
-    let low = leb-true 48 byte parts.0 in
-    let high = leb-true byte 57 parts.1 in
-    record { small = omega arith; is = omega arith }
 
 -- a letter of a key
 pressed_key : (byte : ℕ) → is_key_letter byte ≡ true → (key : Key) × (key_letter key ≡ byte)
@@ -109,14 +89,14 @@ at_piece : (placement : Placement) (front : List ℕ) (byte : ℕ) (next : Readi
 unfolding step
 at_piece placement front byte next so_far stepped =
     let found = map-some (λ piece. reading due.RotationLetter (record placement { piece = piece })) (capital_piece byte) next stepped in
-    let letter : piece_letter found.item ≡ byte = eqb-true _ _ (find-Contains (λ piece. piece_letter piece == byte) all_pieces found.item found.is).1 in
+    let letter = piece_only byte found.item found.is in
     subst (Grown front byte) found.made (rw so_far (ap (λ b. b ∷ []) (sym letter)))
 
 at_rotation : (placement : Placement) (front : List ℕ) (byte : ℕ) (next : Reading) → front ≡ piece_letter placement.piece ∷ [] → step (reading due.RotationLetter placement) byte ≡ Some next → Grown front byte next
 unfolding step
 at_rotation placement front byte next so_far stepped =
     let found = map-some (λ rotation. reading due.Colon (record placement { rotation = rotation })) (rotation_with_letter byte) next stepped in
-    let letter : rotation_letter found.item ≡ byte = eqb-true _ _ (find-Contains (λ rotation. rotation_letter rotation == byte) all_rotations found.item found.is).1 in
+    let letter = rotation_only byte found.item found.is in
     subst (Grown front byte) found.made (rw so_far (ap (λ b. piece_letter placement.piece ∷ b ∷ []) (sym letter)))
 
 at_colon : (placement : Placement) (front : List ℕ) (byte : ℕ) (next : Reading) → front ≡ piece_letter placement.piece ∷ rotation_letter placement.rotation ∷ [] → step (reading due.Colon placement) byte ≡ Some next
@@ -129,10 +109,10 @@ at_colon placement front byte next so_far stepped =
 at_column : (placement : Placement) (front : List ℕ) (byte : ℕ) (next : Reading) → front ≡ head placement → step (reading due.Column placement) byte ≡ Some next → Grown front byte next
 unfolding step head
 at_column placement front byte next so_far stepped =
-    let taken = when-some (is_ascii_digit byte) (reading due.Comma (record placement { x = byte - 48 })) next stepped in
-    let d = digit byte taken.0 in
-    let written : decimal (byte - 48) ≡ byte ∷ [] = decimal_digit (byte - 48) (omega (arith, d.small)) ∙ ap (λ b. b ∷ []) d.is in
-    subst (Grown front byte) taken.1 (record { column = d.small; whole = rw (so_far, written) refl })
+    let found = map-some (λ column. reading due.Comma (record placement { x = column })) (digit_in byte) next stepped in
+    let digit = digit_only byte found.item found.is in
+    let written : decimal found.item ≡ byte ∷ [] = decimal_digit found.item (omega (arith, digit.small)) ∙ ap (λ b. b ∷ []) digit.is in
+    subst (Grown front byte) found.made (record { column = digit.small; whole = rw (so_far, written) refl })
 
 at_comma : (placement : Placement) (front : List ℕ) (byte : ℕ) (next : Reading) → Column placement front (head placement ++ decimal placement.x) → step (reading due.Comma placement) byte ≡ Some next → Grown front byte next
 unfolding step
@@ -140,94 +120,65 @@ at_comma placement front byte next so_far stepped =
     let taken = when-some (byte == 44) (reading due.Row placement) next stepped in
     subst (Grown front byte) taken.1 (record { column = so_far.column; whole = ap (λ t. t ++ byte ∷ []) so_far.whole ∙ ap (λ b. head placement ++ decimal placement.x ++ b ∷ []) (eqb-true byte 44 taken.0) })
 
--- the row's first digit
-tens_or_none : (n : ℕ) → (n == 1 || n == 2) ≡ true → (n ≡ 1) ⊎ (n ≡ 2)
-tens_or_none n is = grind (arith, nat_tests)
-
-row_digit : (placement : Placement) (front : List ℕ) → placement.y ≤ 9 → Column placement front (placement_form placement) → IsRead (after_row_digit placement.y) placement front
-row_digit placement front small so_far = elim (cases_Bool (placement.y == 1 || placement.y == 2)) [
-  | inl is ↦ rw is (tens_or_none placement.y is, so_far)
-  | inr is ↦ rw is (record { column = so_far.column; row = omega (arith, small); whole = so_far.whole })
-]
-
 at_row : (placement : Placement) (front : List ℕ) (byte : ℕ) (next : Reading) → Column placement front (head placement ++ decimal placement.x ++ 44 ∷ []) → step (reading due.Row placement) byte ≡ Some next
     → Grown front byte next
 unfolding step head placement_form
 at_row placement front byte next so_far stepped =
-    let taken = when-some (is_ascii_digit byte) (reading (after_row_digit (byte - 48)) (record placement { y = byte - 48 })) next stepped in
-    let d = digit byte taken.0 in
-    let written : decimal (byte - 48) ≡ byte ∷ [] = decimal_digit (byte - 48) (omega (arith, d.small)) ∙ ap (λ b. b ∷ []) d.is in
-    subst (Grown front byte) taken.1
-    (row_digit (record placement { y = byte - 48 }) (front ++ byte ∷ []) d.small (record { column = so_far.column; whole = ap (λ t. t ++ byte ∷ []) so_far.whole ∙ rw written refl }))
+    let found = map-some (λ row. reading due.AfterRow (record placement { y = row })) (digit_in byte) next stepped in
+    let digit = digit_only byte found.item found.is in
+    let written : decimal found.item ≡ byte ∷ [] = decimal_digit found.item (omega (arith, digit.small)) ∙ ap (λ b. b ∷ []) digit.is in
+    subst (Grown front byte) found.made
+    (record { column = so_far.column; row = omega (arith, digit.small); written = ap (λ t. t ++ byte ∷ []) so_far.whole ∙ rw written refl })
 
 -- keys
-at_keys : (placement : Placement) (front : List ℕ) (byte : ℕ) (next : Reading) → placement.x ≤ 9 → placement.y ≤ 22 → front ≡ placement_form placement → keys_step placement byte ≡ Some next → Grown front byte next
-at_keys placement front byte next column row so_far stepped =
+at_keys : (placement : Placement) (front : List ℕ) (byte : ℕ) (next : Reading) → IsPlacementText front placement → keys_step placement byte ≡ Some next → Grown front byte next
+at_keys placement front byte next so_far stepped =
     let taken = when-some (byte == 58) (reading due.Key placement) next stepped in
-    subst (Grown front byte) taken.1 (record {
-      column = column;
-      row = row;
-      pressed = [];
-      whole = ap (λ t. t ++ byte ∷ []) so_far ∙ ap (λ b. placement_form placement ++ b ∷ []) (eqb-true byte 58 taken.0);
-    })
+    subst (Grown front byte) taken.1
+    (record { text = front; written = so_far; pressed = []; whole = ap (λ b. front ++ b ∷ []) (eqb-true byte 58 taken.0) })
 
 at_key : (placement : Placement) (front : List ℕ) (byte : ℕ) (next : Reading) → Pressed placement front → step (reading due.Key placement) byte ≡ Some next → Grown front byte next
 unfolding step
 at_key placement front byte next so_far stepped = elim (cases_Bool (is_key_letter byte)) [
   | inl is ↦
       let key = pressed_key byte is in
-      let same : reading due.Key placement ≡ next = some_same _ _ (rw is at stepped) in
+      let same : reading due.Key placement ≡ next = same_Some _ _ (rw is at stepped) in
       subst (Grown front byte) same (record {
-        column = so_far.column;
-        row = so_far.row;
+        text = so_far.text;
+        written = so_far.written;
         pressed = so_far.pressed ++ key.0 ∷ [];
-        whole = ap (λ t. t ++ byte ∷ []) so_far.whole ∙ append_assoc (placement_form placement) (58 ∷ map key_letter so_far.pressed) (byte ∷ [])
-            ∙ ap (λ t. placement_form placement ++ 58 ∷ t) (letters so_far.pressed key.0 byte key.1);
+        whole = ap (λ t. t ++ byte ∷ []) so_far.whole ∙ append_assoc so_far.text (58 ∷ map key_letter so_far.pressed) (byte ∷ [])
+            ∙ ap (λ t. so_far.text ++ 58 ∷ t) (letters so_far.pressed key.0 byte key.1);
       })
   | inr is ↦
       let taken = when-some (byte == 72) (reading due.AfterKeys placement) next (rw is at stepped) in
-      subst (Grown front byte) taken.1 (record {
-        column = so_far.column;
-        row = so_far.row;
-        keys = 58 ∷ map key_letter so_far.pressed ++ 72 ∷ [];
-        keys_spelled = dropped so_far.pressed;
-        whole = ap (λ t. t ++ byte ∷ []) so_far.whole ∙ append_assoc (placement_form placement) (58 ∷ map key_letter so_far.pressed) (byte ∷ [])
-            ∙ ap (λ b. placement_form placement ++ (58 ∷ map key_letter so_far.pressed ++ b ∷ [])) (eqb-true byte 72 taken.0);
-      })
+      let whole = ap (λ t. t ++ byte ∷ []) so_far.whole ∙ ap (λ b. so_far.text ++ 58 ∷ map key_letter so_far.pressed ++ b ∷ []) (eqb-true byte 72 taken.0) in
+      subst (Grown front byte) taken.1 (subst (λ t. SpellsPlacement t placement) (sym whole) (with_keys so_far.written so_far.pressed))
 ] where
   letters : (pressed : List Key) (key : Key) (byte : ℕ) → key_letter key ≡ byte → map key_letter pressed ++ byte ∷ [] ≡ map key_letter (pressed ++ key ∷ [])
   letters pressed key byte is = ap (λ b. map key_letter pressed ++ b ∷ []) (sym is) ∙ sym (map-append key_letter pressed (key ∷ []))
 
 -- a second digit of the row, or keys
-at_second : (placement : Placement) (front : List ℕ) (byte : ℕ) (next : Reading) → (placement.y ≡ 1) ⊎ (placement.y ≡ 2) → Column placement front (placement_form placement)
-    → second_digit_step placement byte ≡ Some next → Grown front byte next
-unfolding placement_form head
-at_second placement front byte next tens so_far stepped = elim (cases_Bool (is_ascii_digit byte)) [
-  | inl is ↦
-      let d = digit byte is in
-      let y = 10 * placement.y + (byte - 48) in
-      let low : 1 ≤ placement.y = tens_some placement.y tens in
-      let small = d.small in
-      let taken = when-some (nat_le y 22) (reading due.End (record placement { y = y })) next (rw is at stepped) in
-      let within = leb-true y 22 taken.0 in
-      let first : decimal placement.y ≡ (48 + placement.y) ∷ [] = decimal_digit placement.y (omega (arith, tens_small placement.y tens)) in
-      let tens_is : y / 10 ≡ placement.y = omega arith in
-      let ones_is : y % 10 ≡ byte - 48 = omega arith in
-      let written : decimal y ≡ (48 + placement.y) ∷ byte ∷ [] = two_digits y (omega arith) within ∙ rw (tens_is, ones_is, d.is) refl in
-      subst (Grown front byte) taken.1 (record {
-        column = so_far.column;
-        row = within;
-        whole = ap (λ t. t ++ byte ∷ []) so_far.whole ∙ rw (first, written) (append_assoc (head placement ++ decimal placement.x ++ 44 ∷ []) ((48 + placement.y) ∷ []) (byte ∷ []));
-      })
-  | inr is ↦ at_keys placement front byte next so_far.column (omega (arith, tens_small placement.y tens)) so_far.whole (rw is at stepped)
-] where
-  tens_some : (n : ℕ) → (n ≡ 1) ⊎ (n ≡ 2) → 1 ≤ n
-  tens_some n (inl e) = omega (arith, e)
-  tens_some n (inr e) = omega (arith, e)
+at_after_row : (placement : Placement) (front : List ℕ) (byte : ℕ) (next : Reading) → IsPlacementText front placement → after_row_step placement byte ≡ Some next → Grown front byte next
+unfolding head placement_form
+at_after_row placement front byte next so_far stepped = by (digit_in byte) refl
+  where
+    second : (ones row : ℕ) → IsDigit byte ones → IsRowOf placement.y ones row → IsPlacementText (front ++ byte ∷ []) (record placement { y = row })
+    second ones row digit made =
+        let small : placement.y ≤ 9 = omega (arith, made.is, made.within) in
+        let first : decimal placement.y ≡ (48 + placement.y) ∷ [] = decimal_digit placement.y (omega (arith, small)) in
+        let both = both_digits (48 + placement.y) byte placement.y ones row (record { small = small; is = refl }) digit made in
+        record {
+          column = so_far.column;
+          row = both.within;
+          written = ap (λ t. t ++ byte ∷ []) so_far.written ∙ rw (first, sym both.is) (append_assoc (head placement ++ decimal placement.x ++ 44 ∷ []) ((48 + placement.y) ∷ []) (byte ∷ []));
+        }
 
-  tens_small : (n : ℕ) → (n ≡ 1) ⊎ (n ≡ 2) → n ≤ 2
-  tens_small n (inl e) = omega (arith, e)
-  tens_small n (inr e) = omega (arith, e)
+    by : (digit : Option ℕ) → digit_in byte ≡ digit → Grown front byte next
+    by None is = at_keys placement front byte next so_far (rw is at stepped)
+    by (Some ones) is =
+        let found = map-some (λ row. reading due.AfterRow (record placement { y = row })) (two_digit_row placement.y ones) next (rw is at stepped) in
+        subst (Grown front byte) found.made (second ones found.item (digit_only byte ones is) (two_only placement.y ones found.item found.is))
 
 -- whatever is due
 grown : (kind : Due) (placement : Placement) (front : List ℕ) (byte : ℕ) (next : Reading) → IsRead kind placement front → step (reading kind placement) byte ≡ Some next → Grown front byte next
@@ -238,20 +189,13 @@ grown due.Colon placement front byte next so_far stepped = at_colon placement fr
 grown due.Column placement front byte next so_far stepped = at_column placement front byte next so_far stepped
 grown due.Comma placement front byte next so_far stepped = at_comma placement front byte next so_far stepped
 grown due.Row placement front byte next so_far stepped = at_row placement front byte next so_far stepped
-grown due.SecondDigit placement front byte next so_far stepped = at_second placement front byte next so_far.0 so_far.1 stepped
-grown due.End placement front byte next so_far stepped = at_keys placement front byte next so_far.column so_far.row so_far.whole stepped
+grown due.AfterRow placement front byte next so_far stepped = at_after_row placement front byte next so_far stepped
 grown due.Key placement front byte next so_far stepped = at_key placement front byte next so_far stepped
 grown due.AfterKeys placement front byte next so_far stepped = cc
 
 -- where a placement may end, its text was read
 ended : (kind : Due) (placement : Placement) (front : List ℕ) → IsRead kind placement front → may_end kind ≡ true → SpellsPlacement front placement
-ended due.SecondDigit placement front so_far may =
-    record { column = so_far.1.column; row = small so_far.0; keys = []; keys_spelled = no_keys; whole = so_far.1.whole ∙ sym (append-nil (placement_form placement)) }
-  where
-    small : (placement.y ≡ 1) ⊎ (placement.y ≡ 2) → placement.y ≤ 22
-    small (inl e) = omega (arith, e)
-    small (inr e) = omega (arith, e)
-ended due.End placement front so_far may = record { column = so_far.column; row = so_far.row; keys = []; keys_spelled = no_keys; whole = so_far.whole ∙ sym (append-nil (placement_form placement)) }
+ended due.AfterRow placement front so_far may = alone so_far
 ended due.AfterKeys placement front so_far may = so_far
 ended due.PieceLetter placement front so_far may = cc
 ended due.RotationLetter placement front so_far may = cc

@@ -1,11 +1,7 @@
 -- The form of a sequence's text and the function that reads it agree: what is spelled is read.
-use Rattle.std.proofs.Common.{◌≡◌, ℕ, zero, suc, ◌+◌, ◌-◌, ◌*◌, ◌/◌, ◌%◌, ◌≤◌, true, false, ◌||◌, ◌==◌, nat_lt, List, [], ◌∷◌, ◌++◌, length, map, append_assoc, append-nil, Some, Ok, refl, ap, sym, subst, ◌∙◌, arith, inl, inr}
+use Rattle.std.proofs.Common.{◌≡◌, ℕ, zero, suc, ◌+◌, ◌-◌, ◌*◌, ◌/◌, ◌%◌, ◌<◌, ◌≤◌, true, false, ◌==◌, nat_lt, List, [], ◌∷◌, ◌++◌, length, map, append_assoc, append-nil, Some, Ok, refl, ap, sym, subst, ◌∙◌, arith, inl, inr}
 use Rattle.std.specs.Prelude.{decimal}
-use Rattle.std.specs.Char.{is_ascii_digit}
-use Rattle.std.specs.Fmt.{digits}
-use Rattle.std.specs.Str.{bytes_eq}
-use Rattle.std.proofs.lemmas.Slice.Eq.{bytes_eq-Decides}
-use Rattle.std.proofs.lemmas.Bool.{cases_Bool, cases_lt, lt-ltb, le-leb, agree_below_at}
+use Rattle.std.proofs.lemmas.Bool.{cases_lt, lt-ltb}
 use Rattle.std.proofs.lemmas.Bool.Decides.{nat_tests}
 use Rattle.std.proofs.lemmas.Fmt.{decimal_digit}
 use Rattle.srs.specs.declared.piece.Piece.{Piece}
@@ -18,12 +14,14 @@ use Rattle.srs.specs.Rotation.{rotation_letter}
 use Rattle.moves.specs.declared.key.Key.{Key}
 use Rattle.moves.specs.declared.key.Key.TheVariants as keys
 use Rattle.moves.specs.Keys.{key_letter}
-use Rattle.placement_form.specs.Form.{placement_form}
+use Rattle.placement_form.specs.Form.{placement_form, IsPlacementText}
+use Rattle.placement_form.proofs.Digits.{two_digits, digit_read, two_read}
+use Rattle.placement_form.proofs.ReadLaws.{piece_read, rotation_read}
 use Rattle.pc_app.specs.declared.placement_text.Due.{Due}
 use Rattle.pc_app.specs.declared.placement_text.Due.TheVariants as due
 use Rattle.pc_app.specs.declared.placement_text.Reading.{Reading}
-use Rattle.pc_app.specs.Reading.{read_from, reading, step, after_row_digit, may_end, unread, sequence_in}
-use Rattle.pc_app.specs.SequenceText.{no_keys, SpellsKeys, none, dropped, SpellsPlacement, SpellsSequence, last, more, Spells}
+use Rattle.pc_app.specs.Reading.{read_from, reading, step, may_end, unread, sequence_in}
+use Rattle.pc_app.specs.SequenceText.{alone, with_keys, none, SpellsPlacement, SpellsSequence, last, more, Spells}
 
 -- the bytes from here on are read as this sequence, wherever they stand
 pub record Reads (read : List Placement) (left : ℕ) (now : Reading) (bytes : List ℕ) (sequence : List Placement) : Type 0 where
@@ -50,54 +48,23 @@ key_no_blank keys.Down = refl
 key_no_blank keys.Clockwise = refl
 key_no_blank keys.Anti = refl
 
--- a row from 10 on has two digits
-pub two_digits : (y : ℕ) → 10 ≤ y → y ≤ 22 → decimal y ≡ (48 + y / 10) ∷ (48 + y % 10) ∷ []
-unfolding digits
-two_digits y low high =
-    let e : 10 + (y - 10) ≡ y = omega arith in
-    subst (λ n. decimal n ≡ (48 + n / 10) ∷ (48 + n % 10) ∷ []) e
-    ((bytes_eq-Decides _ _).0 (agree_below_at (λ k. bytes_eq (decimal (10 + k)) ((48 + (10 + k) / 10) ∷ (48 + (10 + k) % 10) ∷ [])) (λ k. true) 13 (y - 10) refl (omega arith)))
-
--- what is due before the keys
-data BeforeKeys : Due → Type 0 where
-  after_digit : BeforeKeys due.SecondDigit
-  after_row : BeforeKeys due.End
-
 -- the digits of a row
-is_digit : (n : ℕ) → n ≤ 9 → is_ascii_digit (48 + n) ≡ true
-is_digit n small = grind (arith, nat_tests)
-
 digit_no_blank : (n : ℕ) → (48 + n == 32) ≡ false
 digit_no_blank n = grind (arith, nat_tests)
 
-before_keys : (digit : ℕ) → BeforeKeys (after_row_digit digit)
-before_keys digit = elim (cases_Bool (digit == 1 || digit == 2)) [
-  | inl is ↦ rw is after_digit
-  | inr is ↦ rw is after_row
-]
-
-row_step : (placement : Placement) (n : ℕ) → n ≤ 9 → step (reading due.Row placement) (48 + n) ≡ Some (reading (after_row_digit n) (record placement { y = n }))
+row_step : (placement : Placement) (n : ℕ) → n ≤ 9 → step (reading due.Row placement) (48 + n) ≡ Some (reading due.AfterRow (record placement { y = n }))
 unfolding step
-row_step placement n small = let e : 48 + n - 48 ≡ n = omega arith in rw (is_digit n small, e) refl
+row_step placement n small = rw (digit_read n small) refl
 
-second_step : (placement : Placement) (n : ℕ) → n ≤ 9 → 10 * placement.y + n ≤ 22
-    → step (reading due.SecondDigit placement) (48 + n) ≡ Some (reading due.End (record placement { y = 10 * placement.y + n }))
+second_step : (placement : Placement) (n : ℕ) → n ≤ 9 → 0 < placement.y → 10 * placement.y + n ≤ 22
+    → step (reading due.AfterRow placement) (48 + n) ≡ Some (reading due.AfterRow (record placement { y = 10 * placement.y + n }))
 unfolding step
-second_step placement n small within = let e : 48 + n - 48 ≡ n = omega arith in rw (is_digit n small, e, le-leb (10 * placement.y + n) 22 within) refl
-
-after_tens : (y : ℕ) → 10 ≤ y → y ≤ 22 → after_row_digit (y / 10) ≡ due.SecondDigit
-after_tens y low high = let t : (y / 10 == 1 || y / 10 == 2) ≡ true = grind (arith, nat_tests) in rw t refl
+second_step placement n small some within = rw (digit_read n small, two_read placement.y n some within) refl
 
 -- the letters of a placement
 piece_step : (placement : Placement) (piece : Piece) → step (reading due.PieceLetter placement) (piece_letter piece) ≡ Some (reading due.RotationLetter (record placement { piece = piece }))
 unfolding step
-piece_step placement I = refl
-piece_step placement L = refl
-piece_step placement O = refl
-piece_step placement Z = refl
-piece_step placement T = refl
-piece_step placement J = refl
-piece_step placement S = refl
+piece_step placement piece = rw (piece_read piece) refl
 
 piece_no_blank : (piece : Piece) → (piece_letter piece == 32) ≡ false
 piece_no_blank I = refl
@@ -111,10 +78,7 @@ piece_no_blank S = refl
 rotation_step : (placement : Placement) (rotation : Rotation)
     → step (reading due.RotationLetter placement) (rotation_letter rotation) ≡ Some (reading due.Colon (record placement { rotation = rotation }))
 unfolding step
-rotation_step placement Spawn = refl
-rotation_step placement Right = refl
-rotation_step placement Reverse = refl
-rotation_step placement Left = refl
+rotation_step placement rotation = rw (rotation_read rotation) refl
 
 rotation_no_blank : (rotation : Rotation) → (rotation_letter rotation == 32) ≡ false
 rotation_no_blank Spawn = refl
@@ -124,7 +88,7 @@ rotation_no_blank Left = refl
 
 column_step : (placement : Placement) (n : ℕ) → n ≤ 9 → step (reading due.Column placement) (48 + n) ≡ Some (reading due.Comma (record placement { x = n }))
 unfolding step
-column_step placement n small = let e : 48 + n - 48 ≡ n = omega arith in rw (is_digit n small, e) refl
+column_step placement n small = rw (digit_read n small) refl
 
 module _ (read : List Placement) (left : ℕ) (sequence : List Placement) where
   letters : (placement : Placement) (pressed : List Key) (rest : List ℕ) → Reads read left (reading due.AfterKeys placement) rest sequence
@@ -137,45 +101,40 @@ module _ (read : List Placement) (left : ℕ) (sequence : List Placement) where
   record Ends (placement : Placement) (rest : List ℕ) : Type 0 where
     at : (kind : Due) → may_end kind ≡ true → Reads read left (reading kind placement) rest sequence
 
-  keys_read : (kind : Due) (placement : Placement) (text rest : List ℕ) → BeforeKeys kind → SpellsKeys text → Ends placement rest → Reads read left (reading kind placement) (text ++ rest) sequence
-  unfolding step
-  keys_read kind placement text rest after_digit no_keys ends = ends.at due.SecondDigit refl
-  keys_read kind placement text rest after_row no_keys ends = ends.at due.End refl
-  keys_read kind placement text rest after_digit (dropped pressed) ends =
-      let e = append_assoc (map key_letter pressed) (72 ∷ []) rest in
-      rw e (one_byte 58 refl refl (letters placement pressed rest (ends.at due.AfterKeys refl)))
-  keys_read kind placement text rest after_row (dropped pressed) ends =
-      let e = append_assoc (map key_letter pressed) (72 ∷ []) rest in
-      rw e (one_byte 58 refl refl (letters placement pressed rest (ends.at due.AfterKeys refl)))
-
-  row_read : (placement : Placement) (y : ℕ) (text rest : List ℕ) → y ≤ 22 → SpellsKeys text → Ends (record placement { y = y }) rest
-      → Reads read left (reading due.Row placement) (decimal y ++ text ++ rest) sequence
-  row_read placement y text rest within spelled ends = elim (cases_lt y 10) [
-    | inl small ↦
-        rw (decimal_digit y small)
-        (one_byte (48 + y) (digit_no_blank y) (row_step placement y (omega arith)) (keys_read (after_row_digit y) (record placement { y = y }) text rest (before_keys y) spelled ends))
+  row_read : (placement : Placement) (y : ℕ) (rest : List ℕ) → y ≤ 22 → Reads read left (reading due.AfterRow (record placement { y = y })) rest sequence
+      → Reads read left (reading due.Row placement) (decimal y ++ rest) sequence
+  row_read placement y rest within later = elim (cases_lt y 10) [
+    | inl small ↦ rw (decimal_digit y small) (one_byte (48 + y) (digit_no_blank y) (row_step placement y (omega arith)) later)
     | inr large ↦
         let e : 10 * (y / 10) + y % 10 ≡ y = omega arith in
         rw (two_digits y large within)
         (one_byte (48 + y / 10) (digit_no_blank (y / 10)) (row_step placement (y / 10) (omega arith))
-        (rw (after_tens y large within)
-        (one_byte (48 + y % 10) (digit_no_blank (y % 10)) (second_step (record placement { y = y / 10 }) (y % 10) (omega arith) (omega (arith, e)))
-        (rw e (keys_read due.End (record placement { y = y }) text rest after_row spelled ends)))))
+        (one_byte (48 + y % 10) (digit_no_blank (y % 10)) (second_step (record placement { y = y / 10 }) (y % 10) (omega arith) (omega arith) (omega (arith, e)))
+        (rw e later)))
   ]
 
-  placement_read : (text rest : List ℕ) (placement : Placement) → SpellsPlacement text placement → Ends placement rest → Reads read left unread (text ++ rest) sequence
+  text_read : (text rest : List ℕ) (placement : Placement) → IsPlacementText text placement → Reads read left (reading due.AfterRow placement) rest sequence → Reads read left unread (text ++ rest) sequence
   unfolding step placement_form
-  placement_read text rest placement spelled ends =
-      let column : decimal placement.x ≡ (48 + placement.x) ∷ [] = decimal_digit placement.x (omega (arith, spelled.column)) in
-      let parts : text ++ rest ≡ piece_letter placement.piece ∷ rotation_letter placement.rotation ∷ 58 ∷ (48 + placement.x) ∷ 44 ∷ (decimal placement.y ++ spelled.keys ++ rest) =
-      ap (λ t. t ++ rest) spelled.whole ∙ rw column refl in
+  text_read text rest placement is later =
+      let column : decimal placement.x ≡ (48 + placement.x) ∷ [] = decimal_digit placement.x (omega (arith, is.column)) in
+      let parts : text ++ rest ≡ piece_letter placement.piece ∷ rotation_letter placement.rotation ∷ 58 ∷ (48 + placement.x) ∷ 44 ∷ (decimal placement.y ++ rest) =
+      ap (λ t. t ++ rest) is.written ∙ rw column refl in
       subst (λ t. Reads read left unread t sequence) (sym parts)
       (one_byte (piece_letter placement.piece) (piece_no_blank placement.piece) (piece_step unread.placement placement.piece)
       (one_byte (rotation_letter placement.rotation) (rotation_no_blank placement.rotation) (rotation_step (record unread.placement { piece = placement.piece }) placement.rotation)
       (one_byte 58 refl refl
-      (one_byte (48 + placement.x) (digit_no_blank placement.x) (column_step (record unread.placement { piece = placement.piece; rotation = placement.rotation }) placement.x spelled.column)
+      (one_byte (48 + placement.x) (digit_no_blank placement.x) (column_step (record unread.placement { piece = placement.piece; rotation = placement.rotation }) placement.x is.column)
       (one_byte 44 refl refl
-      (row_read (record placement { y = 0 }) placement.y spelled.keys rest spelled.row spelled.keys_spelled ends))))))
+      (row_read (record placement { y = 0 }) placement.y rest is.row later))))))
+
+  placement_read : (text rest : List ℕ) (placement : Placement) → SpellsPlacement text placement → Ends placement rest → Reads read left unread (text ++ rest) sequence
+  unfolding step
+  placement_read text rest placement (alone is) ends = text_read text rest placement is (ends.at due.AfterRow refl)
+  placement_read text rest placement (with_keys {text = front} is pressed) ends =
+      let keys = 58 ∷ map key_letter pressed in
+      let parts : front ++ (keys ++ 72 ∷ rest) ≡ (front ++ keys ++ 72 ∷ []) ++ rest = sym (append_assoc front keys (72 ∷ rest)) ∙ sym (append_assoc (front ++ keys) (72 ∷ []) rest) in
+      subst (λ t. Reads read left unread t sequence) parts
+      (text_read front (keys ++ 72 ∷ rest) placement is (one_byte 58 refl refl (letters placement pressed rest (ends.at due.AfterKeys refl))))
 
 -- placements are read after those that were read
 sequence_read : (text : List ℕ) (sequence : List Placement) → SpellsSequence text sequence → (read : List Placement) (left : ℕ) → length sequence ≡ suc left

@@ -1,5 +1,5 @@
 -- What a report writes for a solution spells it.
-use Rattle.std.proofs.Common.{ℕ, ◌-◌, List, [], ◌∷◌, None, append-nil, sym, subst}
+use Rattle.std.proofs.Common.{ℕ, ◌-◌, List, [], ◌∷◌, None, append-nil, refl, sym, subst}
 use Rattle.srs.specs.declared.placement.Placement.{Placement}
 use Rattle.srs.specs.Kick.{Table}
 use Rattle.srs.specs.Rules.{table_of}
@@ -17,12 +17,12 @@ use Rattle.enumerate.proofs.NeededCount.{long-needed}
 use Rattle.enumerate.proofs.PlaceLaws.{place-free, free-inside}
 use Rattle.placement_form.specs.Form.{placement_form}
 use Rattle.report.specs.Plain.{sequence_form}
-use Rattle.pc_app.specs.SequenceText.{no_keys, none, SpellsPlacement, SpellsSequence, last, more, Spells}
+use Rattle.pc_app.specs.SequenceText.{alone, none, SpellsPlacement, SpellsSequence, last, more, Spells}
 
 place_spelled : (table : Table) (mode : DropMode) (F : Field) (placement : Placement) → IsPlace table F mode placement → SpellsPlacement (placement_form placement) placement
 place_spelled table mode F placement place =
     let pivot = pivot_inside placement (free-inside F placement (place-free table F mode placement place)) in
-    record { column = pivot.in_columns; row = pivot.in_rows; keys = []; keys_spelled = no_keys; whole = sym (append-nil (placement_form placement)) }
+    alone (record { column = pivot.in_columns; row = pivot.in_rows; written = refl })
 
 played_spelled : (table : Table) (mode : DropMode) (sequence : List Placement) (F : Field) (rows : ℕ) → Plays table mode F rows sequence → SpellsSequence (sequence_form sequence) sequence
 played_spelled table mode [] F rows plays = none

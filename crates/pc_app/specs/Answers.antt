@@ -7,6 +7,7 @@ use Rattle.pc_outside.specs.Writes.{Grows, GrowsByFront}
 use Rattle.pc_app.specs.declared.faults.Fault.{Fault}
 use Rattle.pc_app.specs.declared.faults.Fault.TheVariants.{SourceTooLong}
 use Rattle.pc_app.specs.Faults.{most_bytes}
+use Rattle.pc_app.specs.Source.{Needs, nothing, memory, source_bytes}
 use Rattle.pc_app.specs.declared.status.Status.{Status}
 use Rattle.pc_app.specs.declared.status.Status.TheVariants.{Done, Input, SourceFault, SinkFault, NoMemory}
 
@@ -42,9 +43,16 @@ AnswersReading fault Outputs old new before now Kept SourceFault = Kept
 AnswersReading fault Outputs old new before now Kept NoMemory = ((fault ≡ None) × WroteFront Outputs old new) ⊎ Kept
 AnswersReading fault Outputs old new before now Kept status = Answers fault Outputs old new before now Kept status
 
-abbrev pub AnswersOf : Bool → Option Fault → (List ℕ → Type 0) → Option (List ℕ) → Option (List ℕ) → ℕ → ℕ → Type 0 → Status → Type 0
-AnswersOf true fault Outputs old new before now Kept status = AnswersReading fault Outputs old new before now Kept status
-AnswersOf false fault Outputs old new before now Kept status = Answers fault Outputs old new before now Kept status
+-- the same of a command that takes memory before its faults are known
+abbrev pub AnswersInMemory : Option Fault → (List ℕ → Type 0) → Option (List ℕ) → Option (List ℕ) → ℕ → ℕ → Type 0 → Status → Type 0
+AnswersInMemory fault Outputs old new before now Kept NoMemory = Kept
+AnswersInMemory fault Outputs old new before now Kept status = Answers fault Outputs old new before now Kept status
+
+-- a status with its cause, of a command that needs this before its faults are known
+abbrev pub AnswersOf : Needs → Option Fault → (List ℕ → Type 0) → Option (List ℕ) → Option (List ℕ) → ℕ → ℕ → Type 0 → Status → Type 0
+AnswersOf nothing fault Outputs old new before now Kept status = Answers fault Outputs old new before now Kept status
+AnswersOf memory fault Outputs old new before now Kept status = AnswersInMemory fault Outputs old new before now Kept status
+AnswersOf source_bytes fault Outputs old new before now Kept status = AnswersReading fault Outputs old new before now Kept status
 
 -- what a command that reads the source leaves of it: nothing at Done, and all but the first bytes where there are too many
 pub record ReadsSource (old new : Option (List ℕ)) (status : Status) : Type 0 where
@@ -57,7 +65,8 @@ abbrev pub LeavesSource : Bool → Option (List ℕ) → Option (List ℕ) → T
 LeavesSource true old new Kept status = ReadsSource old new status
 LeavesSource false old new Kept status = Kept × (status ≢ SourceFault)
 
--- How a run ends where a fault stands: by this fault. Where the source is read, a read may fail or memory run out before.
-abbrev pub Refuses : Bool → Fault → Status → Type 0
-Refuses true fault status = (status ≡ Input fault) ⊎ (status ≡ SourceFault) ⊎ (status ≡ NoMemory)
-Refuses false fault status = status ≡ Input fault
+-- How a run ends where a fault stands: by this fault, unless what is needed to know it can't be had: memory, or a read.
+abbrev pub Refuses : Needs → Fault → Status → Type 0
+Refuses nothing fault status = status ≡ Input fault
+Refuses memory fault status = (status ≡ Input fault) ⊎ (status ≡ NoMemory)
+Refuses source_bytes fault status = (status ≡ Input fault) ⊎ (status ≡ SourceFault) ⊎ (status ≡ NoMemory)

@@ -12,7 +12,7 @@ use Rattle.fumen_text.specs.declared.encode_fault.EncodeFault.TheVariants as unw
 use Rattle.page_list.specs.declared.fault.ListKind.{ListKind}
 use Rattle.page_list.specs.declared.fault.ListKind.TheVariants as kinds
 use Rattle.pc_app.specs.declared.words.WordsKind.{WordsKind}
-use Rattle.pc_app.specs.declared.words.WordsKind.TheVariants.{NoCommand, UnknownCommand, UnknownOption, RepeatedOption, MissingValue, BadValue, MissingOption}
+use Rattle.pc_app.specs.declared.words.WordsKind.TheVariants.{NoCommand, UnknownCommand, UnknownOption, RepeatedOption, BothFields, MissingValue, BadValue, MissingOption}
 use Rattle.pc_app.specs.declared.faults.Fault.{Fault}
 use Rattle.pc_app.specs.declared.faults.Fault.TheVariants.{Words, SourceTooLong, Fumen, NoPage, List as ListOf, Encode, Rows, FieldTooHigh, FullRow, Pattern, TooFewPieces, BadAfter}
 
@@ -21,6 +21,7 @@ words_name NoCommand = codes "Words.NoCommand"
 words_name UnknownCommand = codes "Words.UnknownCommand"
 words_name UnknownOption = codes "Words.UnknownOption"
 words_name RepeatedOption = codes "Words.RepeatedOption"
+words_name BothFields = codes "Words.BothFields"
 words_name MissingValue = codes "Words.MissingValue"
 words_name BadValue = codes "Words.BadValue"
 words_name MissingOption = codes "Words.MissingOption"

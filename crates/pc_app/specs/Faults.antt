@@ -1,6 +1,6 @@
 -- The first fault of what the words name, in the order in which it is looked into.
-use Rattle.std.specs.Prelude.{ℕ, ◌/◌, ◌%◌, ◌&&◌, ◌==◌, nat_lt, if◌then◌else◌, List, [], ◌∷◌, length, Option, Some, None, option_map, Result, Ok, Err}
-use Rattle.lane_board.specs.Field.{Field}
+use Rattle.std.specs.Prelude.{ℕ, ◌-◌, ◌/◌, ◌%◌, ◌&&◌, ◌==◌, nat_lt, if◌then◌else◌, List, [], ◌∷◌, length, Option, Some, None, option_map, slice_get, Result, Ok, Err}
+use Rattle.lane_board.specs.Field.{Field, empty_field}
 use Rattle.well.specs.Rows.{rows_fault, written_cells}
 use Rattle.well.specs.Counts.{empties_below, lowest_full, lowest_filled_from}
 use Rattle.queue_pattern.specs.declared.element.Element.{Element}
@@ -20,28 +20,14 @@ use Rattle.pc_app.specs.declared.words.WordsFault.{WordsFault}
 use Rattle.pc_app.specs.declared.faults.Fault.{Fault}
 use Rattle.pc_app.specs.declared.faults.Fault.TheVariants as faults
 use Rattle.pc_app.specs.Reading.{sequence_in}
-use Rattle.pc_app.specs.Words.{FieldText, rows_text, PathQuestion, Question, path, decode, encode, show, settings}
+use Rattle.pc_app.specs.FieldText.{is_of_source, text_given, page_cells}
+use Rattle.pc_app.specs.Words.{FieldText, rows_text, fumen_text, PathQuestion, Question, path, decode, encode, show, settings}
 
 -- the first of these that is one
 abbrev pub first_of_these : List (Option Fault) → Option Fault
 first_of_these [] = None
 first_of_these (Some fault ∷ rest) = Some fault
 first_of_these (None ∷ rest) = first_of_these rest
-
--- the filled cells of the field
-abbrev pub cells_of : FieldText → Field
-cells_of (rows_text text) = written_cells text
-
-abbrev pub text_fault : FieldText → Option Fault
-text_fault (rows_text text) = option_map (λ fault. faults.Rows fault) (rows_fault text)
-
--- the text of the field, a cell at or above the height, a full row
-unfoldable pub field_fault : FieldText → ℕ → Option Fault
-field_fault field height = first_of_these (
-    text_fault field
-    ∷ option_map (λ row. faults.FieldTooHigh row) (lowest_filled_from (cells_of field) height)
-    ∷ option_map (λ row. faults.FullRow row) (lowest_full (cells_of field))
-    ∷ [])
 
 abbrev pub pattern_fault : Result (List Element) PatternFault → Option Fault
 pattern_fault (Ok elements) = None
@@ -65,21 +51,24 @@ abbrev pub after_fault : ℕ → Option (List ℕ) → Option Fault
 after_fault needed None = None
 after_fault needed (Some text) = sequence_fault (sequence_in needed text)
 
--- the empty cells below the height
-abbrev pub empties_asked : PathQuestion → ℕ
-empties_asked question = empties_below (cells_of question.field) question.height
-
 -- the elements of the pattern, or the fault of its text
 abbrev pub elements_asked : PathQuestion → Result (List Element) PatternFault
 elements_asked question = limited (elements question.patterns)
 
--- the field, the pattern, the number of pieces, the given sequence
-unfoldable pub path_fault : PathQuestion → Option Fault
-path_fault question = first_of_these (
-    field_fault question.field question.height
+-- of a field with these cells: a cell at or above the height, a full row
+unfoldable pub rows_fault_of : Field → ℕ → Option Fault
+rows_fault_of F height = first_of_these (
+    option_map (λ row. faults.FieldTooHigh row) (lowest_filled_from F height)
+    ∷ option_map (λ row. faults.FullRow row) (lowest_full F)
+    ∷ [])
+
+-- of a question about a field with these cells: its rows, the pattern, the number of pieces, the given sequence
+unfoldable pub problem_fault : PathQuestion → Field → Option Fault
+problem_fault question F = first_of_these (
+    rows_fault_of F question.height
     ∷ pattern_fault (elements_asked question)
-    ∷ pieces_fault (empties_asked question) (elements_asked question)
-    ∷ after_fault (empties_asked question / 4) question.after
+    ∷ pieces_fault (empties_below F question.height) (elements_asked question)
+    ∷ after_fault (empties_below F question.height / 4) question.after
     ∷ [])
 
 -- the most bytes that are read from the source
@@ -126,9 +115,41 @@ asked_fault asked (Err fault) = None
 unfoldable pub show_fault : Option ℕ → List ℕ → Option Fault
 show_fault asked bytes = first_of_these (source_fault bytes ∷ asked_fault asked (text_pages bytes) ∷ [])
 
+-- a fumen text among the words, of whatever length, and then the page
+unfoldable pub fumen_fault_of : ℕ → List ℕ → Option Fault
+fumen_fault_of number text = first_of_these (pages_fault (text_pages text) ∷ asked_fault (Some number) (text_pages text) ∷ [])
+
+-- the text of the field, and the page where it is a fumen's
+abbrev pub text_fault : FieldText → ℕ → List ℕ → Option Fault
+text_fault (rows_text text) number bytes = option_map (λ fault. faults.Rows fault) (rows_fault text)
+text_fault (fumen_text word) number bytes = if is_of_source word then show_fault (Some number) bytes else fumen_fault_of number word
+
+-- the cells of a page, where it is there
+abbrev pub cells_shown : Option Page → Field
+cells_shown None = empty_field
+cells_shown (Some page) = page_cells page
+
+-- the cells of the page with this number, counted from 1, of a text that was read
+abbrev pub cells_read : ℕ → Result (Dialect × List Page) TextFault → Field
+cells_read number (Ok (dialect, pages)) = cells_shown (slice_get pages (number - 1))
+cells_read number (Err fault) = empty_field
+
+-- The cells of the field, where its text has no fault. The law `fields_are_read_as_they_are_asked` says that they are those
+-- of `IsFieldOf`.
+abbrev pub cells_of : FieldText → ℕ → List ℕ → Field
+cells_of (rows_text text) number bytes = written_cells text
+cells_of (fumen_text word) number bytes = cells_read number (text_pages (text_given word bytes))
+
+-- the text of the field, and then what is asked about the field
+unfoldable pub path_fault : PathQuestion → List ℕ → Option Fault
+path_fault question bytes = first_of_these (
+    text_fault question.field question.page bytes
+    ∷ problem_fault question (cells_of question.field question.page bytes)
+    ∷ [])
+
 abbrev pub question_fault : Result Question WordsFault → List ℕ → Option Fault
 question_fault (Err fault) bytes = Some (faults.Words fault)
-question_fault (Ok (path question)) bytes = path_fault question
+question_fault (Ok (path question)) bytes = path_fault question bytes
 question_fault (Ok decode) bytes = source_fault bytes
 question_fault (Ok (encode dialect)) bytes = encode_fault dialect bytes
 question_fault (Ok (show asked)) bytes = show_fault asked bytes

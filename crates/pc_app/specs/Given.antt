@@ -10,6 +10,7 @@ use Rattle.pc_app.specs.Numbers.{number_in}
 
 pub record Given : Type 0 where
   pub rows : Option (List ℕ)
+  pub tetfu : Option (List ℕ)
   pub height : Option ℕ
   pub patterns : Option (List ℕ)
   pub hold : Option Hold
@@ -22,10 +23,11 @@ pub record Given : Type 0 where
 
 -- no values
 abbrev pub nothing_given : Given
-nothing_given = record { rows = None; height = None; patterns = None; hold = None; drop_mode = None; keys = None; limit = None; after = None; page = None; dialect = None }
+nothing_given = record { rows = None; tetfu = None; height = None; patterns = None; hold = None; drop_mode = None; keys = None; limit = None; after = None; page = None; dialect = None }
 
 abbrev pub is_given : Given → CommandOption → Bool
 is_given given options.Rows = is_some given.rows
+is_given given options.Tetfu = is_some given.tetfu
 is_given given options.ClearLine = is_some given.height
 is_given given options.Patterns = is_some given.patterns
 is_given given options.Hold = is_some given.hold
@@ -39,6 +41,7 @@ is_given given options.Dialect = is_some given.dialect
 -- the values with one more, where it is in the list or the range of its option
 abbrev pub with_value : Given → CommandOption → List ℕ → Option Given
 with_value given options.Rows value = Some (record given { rows = Some value })
+with_value given options.Tetfu value = Some (record given { tetfu = Some value })
 with_value given options.ClearLine value = option_map (λ height. record given { height = Some height }) (number_in 1 6 value)
 with_value given options.Patterns value = Some (record given { patterns = Some value })
 with_value given options.Hold value = option_map (λ hold. record given { hold = Some hold }) (hold_in value)

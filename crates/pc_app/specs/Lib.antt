@@ -3,6 +3,7 @@ pub mod Numbers
 pub mod Names
 pub mod Given
 pub mod Words
+pub mod FieldText
 pub mod SequenceText
 pub mod Reading
 pub mod Named

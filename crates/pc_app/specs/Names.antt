@@ -23,6 +23,7 @@ command_in word =
 unfoldable pub option_in : List ℕ → Option CommandOption
 option_in word =
     if bytes_eq word (codes "--rows") then Some options.Rows
+    else (if bytes_eq word (codes "--tetfu") then Some options.Tetfu
     else (if bytes_eq word (codes "--clear-line") then Some options.ClearLine
     else (if bytes_eq word (codes "--patterns") then Some options.Patterns
     else (if bytes_eq word (codes "--hold") then Some options.Hold
@@ -32,11 +33,10 @@ option_in word =
     else (if bytes_eq word (codes "--after") then Some options.After
     else (if bytes_eq word (codes "--page") then Some options.Page
     else (if bytes_eq word (codes "--dialect") then Some options.Dialect
-    else None)))))))))
+    else None))))))))))
 
 -- whether a command has this option
 abbrev pub has_option : Command → CommandOption → Bool
-has_option Path options.Page = false
 has_option Path options.Dialect = false
 has_option Path option = true
 has_option Decode option = false

@@ -1,6 +1,7 @@
 -- What a command writes.
 use Rattle.std.specs.Prelude.{◌≡◌, ℕ, ◌+◌, ◌-◌, List, [], ◌∷◌, ◌++◌, Option, Some, None, slice_get, Result, Ok, Err}
 use Rattle.std.specs.List.{flat_map}
+use Rattle.lane_board.specs.Field.{Field}
 use Rattle.srs.specs.declared.placement.Placement.{Placement}
 use Rattle.srs.specs.Order.{sequence_cmp}
 use Rattle.srs.specs.Rising.{IsRisingListOf}
@@ -12,24 +13,29 @@ use Rattle.fumen_digits.specs.declared.dialect.Dialect.{Dialect}
 use Rattle.fumen_pages.specs.declared.page.Page.{Page}
 use Rattle.fumen_text.specs.Texts.{ReadsAs}
 use Rattle.fumen_text.specs.Written.{written}
-use Rattle.page_list.specs.List.{pages_in}
+use Rattle.page_list.specs.LineForm.{SpellsPages}
 use Rattle.page_list.specs.Line.{page_form}
 use Rattle.report.specs.Forms.{key_part, report_form}
 use Rattle.report.specs.Page.{shown_page}
 use Rattle.pc_app.specs.declared.words.WordsFault.{WordsFault}
 use Rattle.pc_app.specs.Words.{PathQuestion, Question, path, decode, encode, show, settings}
+use Rattle.pc_app.specs.FieldText.{IsFieldOf}
 use Rattle.pc_app.specs.Question.{IsProblemOf, IsAfterOf}
 
 -- The report of the rising list of all solutions of the problem that is named, after the given sequence where there is one:
 -- as many of them as the limit allows, and each placement with its key word where keys are asked for.
-pub record IsPathOutput (question : PathQuestion) (output : List ℕ) : Type 0 where
+pub record IsPathOutput (question : PathQuestion) (bytes output : List ℕ) : Type 0 where
   pub problem : Problem
-  pub named : IsProblemOf question problem
+  pub named : IsProblemOf question bytes problem
   pub after : Option (List Placement)
-  pub given : IsAfterOf question after
+  pub given : IsAfterOf question problem after
   pub sequences : List (List Placement)
   pub list : IsRisingListOf sequence_cmp (IsSolutionAbove (record { problem = problem; queue = None; bound = after })) sequences
   pub report : output ≡ report_form (key_part question.keys (table_of problem.rules) problem.drop_mode) (filled problem.well) question.limit sequences
+
+-- what is written where the field has these cells
+abbrev pub IsOutputFor : PathQuestion → Field → List ℕ → Type 0
+IsOutputFor question F output = (bytes : List ℕ) → IsFieldOf question.field question.page bytes F → IsPathOutput question bytes output
 
 -- the lines of the pages that the source reads as
 pub record IsDecodeOutput (bytes output : List ℕ) : Type 0 where
@@ -55,15 +61,15 @@ pub record IsShowOutput (asked : Option ℕ) (bytes output : List ℕ) : Type 0 
   pub reads : ReadsAs bytes dialect pages
   pub shown : IsShown asked pages output
 
--- the text of the pages that the source is the lines of, and a newline
+-- the fumen text of the pages that the source spells, and a newline
 pub record IsEncodeOutput (dialect : Dialect) (bytes output : List ℕ) : Type 0 where
   pub pages : List Page
-  pub reads : pages_in bytes ≡ Ok pages
+  pub spelled : SpellsPages bytes pages
   pub text : output ≡ written dialect pages ++ 10 ∷ []
 
 abbrev pub IsOutputOf : Result Question WordsFault → List ℕ → List ℕ → Type 0
 IsOutputOf (Err fault) bytes output = ⊥
-IsOutputOf (Ok (path question)) bytes output = IsPathOutput question output
+IsOutputOf (Ok (path question)) bytes output = IsPathOutput question bytes output
 IsOutputOf (Ok decode) bytes output = IsDecodeOutput bytes output
 IsOutputOf (Ok (encode dialect)) bytes output = IsEncodeOutput dialect bytes output
 IsOutputOf (Ok (show asked)) bytes output = IsShowOutput asked bytes output

@@ -1,20 +1,15 @@
 -- How the value of `--after` is read, byte by byte. The form is that of `SequenceText`: the law
 -- `values_are_read_as_they_spell` says that both agree.
-use Rattle.std.specs.Prelude.{ℕ, zero, suc, ◌+◌, ◌-◌, ◌*◌, Bool, true, false, ◌&&◌, ◌||◌, ◌==◌, nat_le, nat_lt, if◌then◌else◌, List, [], ◌∷◌, ◌++◌, find, Option, Some, None, option_map, Result, Ok, Err}
-use Rattle.std.specs.Char.{is_ascii_digit}
-use Rattle.srs.specs.declared.piece.Piece.{Piece}
+use Rattle.std.specs.Prelude.{ℕ, zero, suc, ◌+◌, ◌-◌, Bool, true, false, ◌&&◌, ◌||◌, ◌==◌, nat_lt, if◌then◌else◌, List, [], ◌∷◌, ◌++◌, Option, Some, None, option_map, Result, Ok, Err}
+use Rattle.std.specs.Option.{option_map_or}
 use Rattle.srs.specs.declared.piece.Piece.TheVariants.{I}
 use Rattle.srs.specs.declared.rotation.Rotation.TheVariants.{Spawn}
 use Rattle.srs.specs.declared.placement.Placement.{Placement}
-use Rattle.srs.specs.Piece.{all_pieces, piece_letter}
 use Rattle.srs.specs.Rotation.{rotation_with_letter}
+use Rattle.placement_form.specs.Reading.{capital_piece, digit_in, two_digit_row}
 use Rattle.pc_app.specs.declared.placement_text.Due.{Due}
 use Rattle.pc_app.specs.declared.placement_text.Due.TheVariants as due
 use Rattle.pc_app.specs.declared.placement_text.Reading.{Reading}
-
--- the piece with this capital letter
-abbrev pub capital_piece : ℕ → Option Piece
-capital_piece byte = find (λ piece. piece_letter piece == byte) all_pieces
 
 -- no byte of a placement was read yet
 abbrev pub unread : Reading
@@ -26,18 +21,14 @@ reading due placement = record { due = due; placement = placement }
 abbrev pub when : Bool → Reading → Option Reading
 when holds next = if holds then Some next else None
 
--- a row is 0 to 22, without a leading zero
-abbrev pub after_row_digit : ℕ → Due
-after_row_digit digit = if digit == 1 || digit == 2 then due.SecondDigit else due.End
-
 -- a colon after a placement: keys follow
 abbrev pub keys_step : Placement → ℕ → Option Reading
 keys_step placement byte = when (byte == 58) (reading due.Key placement)
 
-abbrev pub second_digit_step : Placement → ℕ → Option Reading
-second_digit_step placement byte =
-    if is_ascii_digit byte then when (nat_le (10 * placement.y + (byte - 48)) 22) (reading due.End (record placement { y = 10 * placement.y + (byte - 48) }))
-    else keys_step placement byte
+-- a second digit of the row, or the colon before keys; after a 0, or after two digits, no digit makes a row up to 22
+abbrev pub after_row_step : Placement → ℕ → Option Reading
+after_row_step placement byte =
+    option_map_or (λ ones. option_map (λ row. reading due.AfterRow (record placement { y = row })) (two_digit_row placement.y ones)) (digit_in byte) (keys_step placement byte)
 
 abbrev pub is_key_letter : ℕ → Bool
 is_key_letter byte = byte == 76 || (byte == 82 || (byte == 68 || (byte == 67 || byte == 65)))
@@ -51,11 +42,10 @@ abbrev pub step_at : Due → Placement → ℕ → Option Reading
 step_at due.PieceLetter placement byte = option_map (λ piece. reading due.RotationLetter (record placement { piece = piece })) (capital_piece byte)
 step_at due.RotationLetter placement byte = option_map (λ rotation. reading due.Colon (record placement { rotation = rotation })) (rotation_with_letter byte)
 step_at due.Colon placement byte = when (byte == 58) (reading due.Column placement)
-step_at due.Column placement byte = when (is_ascii_digit byte) (reading due.Comma (record placement { x = byte - 48 }))
+step_at due.Column placement byte = option_map (λ column. reading due.Comma (record placement { x = column })) (digit_in byte)
 step_at due.Comma placement byte = when (byte == 44) (reading due.Row placement)
-step_at due.Row placement byte = when (is_ascii_digit byte) (reading (after_row_digit (byte - 48)) (record placement { y = byte - 48 }))
-step_at due.SecondDigit placement byte = second_digit_step placement byte
-step_at due.End placement byte = keys_step placement byte
+step_at due.Row placement byte = option_map (λ row. reading due.AfterRow (record placement { y = row })) (digit_in byte)
+step_at due.AfterRow placement byte = after_row_step placement byte
 step_at due.Key placement byte = key_step placement byte
 step_at due.AfterKeys placement byte = None
 
@@ -65,8 +55,7 @@ step now byte = step_at now.due now.placement byte
 
 -- the placement may end here
 abbrev pub may_end : Due → Bool
-may_end due.SecondDigit = true
-may_end due.End = true
+may_end due.AfterRow = true
 may_end due.AfterKeys = true
 may_end _ = false
 

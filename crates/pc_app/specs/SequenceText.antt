@@ -3,20 +3,12 @@ use Rattle.std.specs.Prelude.{◌≡◌, ℕ, ◌<◌, ◌≤◌, List, [], ◌�
 use Rattle.srs.specs.declared.placement.Placement.{Placement}
 use Rattle.moves.specs.declared.key.Key.{Key}
 use Rattle.moves.specs.Keys.{key_letter}
-use Rattle.placement_form.specs.Form.{placement_form}
+use Rattle.placement_form.specs.Form.{IsPlacementText}
 
--- nothing, or what leads to a placement: a colon, the letters of any keys, and `H` for the hard drop
-pub data SpellsKeys : List ℕ → Type 0 where
-  no_keys : SpellsKeys []
-  dropped : (keys : List Key) → SpellsKeys (58 ∷ map key_letter keys ++ 72 ∷ [])
-
--- a placement as reports write it, in a column from 0 to 9 and a row from 0 to 22, and then its keys
-pub record SpellsPlacement (text : List ℕ) (placement : Placement) : Type 0 where
-  pub column : placement.x ≤ 9
-  pub row : placement.y ≤ 22
-  pub keys : List ℕ
-  pub keys_spelled : SpellsKeys keys
-  pub whole : text ≡ placement_form placement ++ keys
+-- the text of a placement, alone or with keys that lead to it: a colon, the letters of any keys, and `H` for the hard drop
+pub data SpellsPlacement : List ℕ → Placement → Type 0 where
+  alone : {text : List ℕ} {placement : Placement} → IsPlacementText text placement → SpellsPlacement text placement
+  with_keys : {text : List ℕ} {placement : Placement} → IsPlacementText text placement → (keys : List Key) → SpellsPlacement (text ++ 58 ∷ map key_letter keys ++ 72 ∷ []) placement
 
 -- placements divided by single blanks
 pub data SpellsSequence : List ℕ → List Placement → Type 0 where

@@ -6,12 +6,12 @@ use Rattle.srs.specs.declared.placement.Placement.{Placement}
 use Rattle.pc_app.specs.declared.words.Given.{Given as GivenWords}
 use Rattle.pc_app.specs.declared.words.WordsFault.{WordsFault}
 use Rattle.pc_app.specs.declared.settings.FieldWords.{FieldWords}
-use Rattle.pc_app.specs.declared.settings.FieldWords.TheVariants.{Rows}
+use Rattle.pc_app.specs.declared.settings.FieldWords.TheVariants.{Rows, Tetfu}
 use Rattle.pc_app.specs.declared.settings.PathSettings.{PathSettings}
 use Rattle.pc_app.specs.declared.settings.Settings.{Settings}
 use Rattle.pc_app.specs.declared.settings.Settings.TheVariants.{Path, Decode, Encode, Show}
 use Rattle.pc_app.specs.Given.{Given}
-use Rattle.pc_app.specs.Words.{FieldText, rows_text, PathQuestion, Question, path, decode, encode, show}
+use Rattle.pc_app.specs.Words.{FieldText, rows_text, fumen_text, PathQuestion, Question, path, decode, encode, show}
 
 -- the texts of the words
 abbrev pub texts : {Z : Type 0} → List (String Z) → List (List ℕ)
@@ -36,7 +36,7 @@ pub record HasRanges (given : GivenWords) : Type 0 where
   pub page : HasNumber given.page
 
 abbrev pub AsksInRange : Settings → Type 0
-AsksInRange (Path settings) = IsHeight settings.common.height
+AsksInRange (Path settings) = IsHeight settings.common.height × (1 ≤ settings.common.page)
 AsksInRange Decode = Unit {0}
 AsksInRange (Encode dialect) = Unit {0}
 AsksInRange (Show page) = HasNumber page
@@ -44,6 +44,7 @@ AsksInRange (Show page) = HasNumber page
 abbrev pub given_view : GivenWords → Given
 given_view given = record {
   rows = option_copied given.rows;
+  tetfu = option_copied given.tetfu;
   height = given.height;
   patterns = option_copied given.patterns;
   hold = given.hold;
@@ -61,10 +62,12 @@ given_reading (Err fault) = Err fault
 
 abbrev pub field_view : FieldWords → FieldText
 field_view (Rows text) = rows_text text.now
+field_view (Tetfu text) = fumen_text text.now
 
 abbrev pub path_view : PathSettings → PathQuestion
 path_view settings = record {
   field = field_view settings.common.field;
+  page = settings.common.page;
   height = settings.common.height;
   patterns = settings.common.patterns.now;
   hold = settings.common.hold;

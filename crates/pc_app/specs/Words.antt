@@ -1,5 +1,5 @@
 -- What the words ask for, or their first fault from the left.
-use Rattle.std.specs.Prelude.{ℕ, ◌+◌, Bool, false, List, [], ◌∷◌, length, Option, Some, None, unwrap_or, Result, Ok, Err, if◌then◌else◌}
+use Rattle.std.specs.Prelude.{ℕ, ◌+◌, Bool, false, List, [], ◌∷◌, length, Option, Some, None, is_some, unwrap_or, Result, Ok, Err, if◌then◌else◌}
 use Rattle.fumen_digits.specs.declared.dialect.Dialect.{Dialect}
 use Rattle.fumen_digits.specs.declared.dialect.Dialect.TheVariants.{V115}
 use Rattle.hold_queue.specs.declared.hold.Hold.{Hold}
@@ -9,19 +9,22 @@ use Rattle.moves.specs.declared.key.DropMode.TheVariants.{Soft}
 use Rattle.pc_app.specs.declared.names.Command.{Command}
 use Rattle.pc_app.specs.declared.names.Command.TheVariants.{Path, Decode, Encode, Show}
 use Rattle.pc_app.specs.declared.names.CommandOption.{CommandOption}
+use Rattle.pc_app.specs.declared.names.CommandOption.TheVariants.{Rows, Tetfu}
 use Rattle.pc_app.specs.declared.words.WordsFault.{WordsFault}
 use Rattle.pc_app.specs.declared.words.WordsKind.{WordsKind}
-use Rattle.pc_app.specs.declared.words.WordsKind.TheVariants.{NoCommand, UnknownCommand, UnknownOption, RepeatedOption, MissingValue, BadValue, MissingOption}
+use Rattle.pc_app.specs.declared.words.WordsKind.TheVariants.{NoCommand, UnknownCommand, UnknownOption, RepeatedOption, BothFields, MissingValue, BadValue, MissingOption}
 use Rattle.pc_app.specs.Names.{command_in, option_of}
 use Rattle.pc_app.specs.Given.{Given, nothing_given, is_given, with_value}
 
--- the field that is asked about: rows text
+-- the field that is asked about: rows text, or a fumen text, where `-` stands for that of the source
 pub data FieldText : Type 0 where
   rows_text : (text : List ℕ) → FieldText
+  fumen_text : (text : List ℕ) → FieldText
 
 -- the question of `path`: texts, numbers and rules, not yet looked into
 pub record PathQuestion : Type 0 where
   pub field : FieldText
+  pub page : ℕ
   pub height : ℕ
   pub patterns : List ℕ
   pub hold : Hold
@@ -45,6 +48,12 @@ abbrev pub taken : ℕ → Option Given → Result Given WordsFault
 taken index None = Err (fault_at BadValue (index + 1))
 taken index (Some given) = Ok given
 
+-- whether the option gives the field, which another one has given
+abbrev pub is_other_field : Given → CommandOption → Bool
+is_other_field given Rows = is_some given.tetfu
+is_other_field given Tetfu = is_some given.rows
+is_other_field given other = false
+
 abbrev pub value_read : Given → ℕ → CommandOption → Option (List ℕ) → Result Given WordsFault
 value_read given index option None = Err (fault_at MissingValue index)
 value_read given index option (Some value) = taken index (with_value given option value)
@@ -52,7 +61,9 @@ value_read given index option (Some value) = taken index (with_value given optio
 abbrev pub option_read : Given → ℕ → Option CommandOption → Option (List ℕ) → Result Given WordsFault
 option_read given index None value = Err (fault_at UnknownOption index)
 option_read given index (Some option) value =
-    if is_given given option then Err (fault_at RepeatedOption index) else value_read given index option value
+    if is_given given option then Err (fault_at RepeatedOption index)
+    else (if is_other_field given option then Err (fault_at BothFields index)
+    else value_read given index option value)
 
 -- a name at an index, and the value after it where there is one
 unfoldable pub pair_read : Command → Given → ℕ → List ℕ → Option (List ℕ) → Result Given WordsFault
@@ -69,10 +80,17 @@ pairs_read command given index (name ∷ []) = pair_read command given index nam
 pairs_read command given index (name ∷ value ∷ rest) =
     then_given (pair_read command given index name (Some value)) (λ more. pairs_read command more (index + 2) rest)
 
+-- the field of the given values, of which one at most gives it
+abbrev pub field_given : Option (List ℕ) → Option (List ℕ) → Option FieldText
+field_given (Some rows) tetfu = Some (rows_text rows)
+field_given None (Some tetfu) = Some (fumen_text tetfu)
+field_given None None = None
+
 -- the question of the given values, with defaults; the field and the pattern are required
-abbrev pub with_defaults : Given → ℕ → Option (List ℕ) → Option (List ℕ) → Result PathQuestion WordsFault
-with_defaults given words (Some rows) (Some patterns) = Ok (record {
-  field = rows_text rows;
+abbrev pub with_defaults : Given → ℕ → Option FieldText → Option (List ℕ) → Result PathQuestion WordsFault
+with_defaults given words (Some field) (Some patterns) = Ok (record {
+  field = field;
+  page = unwrap_or given.page 1;
   height = unwrap_or given.height 4;
   patterns = patterns;
   hold = unwrap_or given.hold Allowed;
@@ -89,7 +107,7 @@ as_path (Err fault) = Err fault
 
 -- the question of a command, by the values that its words give
 abbrev pub question_of : Command → ℕ → Given → Result Question WordsFault
-question_of Path words given = as_path (with_defaults given words given.rows given.patterns)
+question_of Path words given = as_path (with_defaults given words (field_given given.rows given.tetfu) given.patterns)
 question_of Decode words given = Ok decode
 question_of Encode words given = Ok (encode (unwrap_or given.dialect V115))
 question_of Show words given = Ok (show given.page)

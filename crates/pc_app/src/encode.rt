@@ -24,6 +24,7 @@ pub fn run_encode<S: Source, O: Sink>(
     ensures answers { (bytes : List ℕ) → S.left source.old ≡ Some bytes → AnswersReading (encode_fault dialect bytes) (IsEncodeOutput dialect bytes)
         (O.written out.old) (O.written out.new) (O.faults out.old) (O.faults out.new) (out.new ≡ out.old) result }
     ensures source_fault { result ≡ Status.SourceFault → Rose (S.faults source.old) (S.faults source.new) × (out.new ≡ out.old) }
+    ensures no_memory { result ≡ Status.NoMemory → out.new ≡ out.old }
     ensures source { ReadsSource (S.left source.old) (S.left source.new) result }
 {
     let pages = match source_list(alloc, source) {

@@ -30,6 +30,7 @@ fn words_name(kind: WordsKind) -> &'static [u8]
         WordsKind::UnknownCommand => b"Words.UnknownCommand",
         WordsKind::UnknownOption => b"Words.UnknownOption",
         WordsKind::RepeatedOption => b"Words.RepeatedOption",
+        WordsKind::BothFields => b"Words.BothFields",
         WordsKind::MissingValue => b"Words.MissingValue",
         WordsKind::BadValue => b"Words.BadValue",
         WordsKind::MissingOption => b"Words.MissingOption",

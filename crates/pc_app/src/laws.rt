@@ -1,19 +1,34 @@
 // Laws of the definitions: functions with an empty body, whose contract is the law.
-ghost use Rattle.std.specs.Prelude.{◌≡◌, ◌↔◌, ℕ, List, Some, None, Ok, Err};
+ghost use Rattle.std.specs.Prelude.{◌≡◌, ◌≤◌, ◌<◌, ◌↔◌, ℕ, List, length, option_map, Some, None, Ok, Err};
+ghost use Rattle.lane_board.specs.Field.{Field};
 ghost use Rattle.srs.specs.declared.placement.Placement.{Placement};
 ghost use Rattle.enumerate.specs.declared.problem.Problem.{Problem};
 ghost use Rattle.enumerate.specs.Problem.{IsFit, needed_of};
 ghost use Rattle.enumerate.specs.Solution.{IsSolution};
+ghost use Rattle.fumen_digits.specs.declared.dialect.Dialect.{Dialect};
+ghost use Rattle.fumen_pages.specs.declared.page.Page.{Page};
+ghost use Rattle.fumen_text.specs.Written.{list_fault};
+ghost use Rattle.page_list.specs.declared.fault.ListFault.{ListFault};
+ghost use Rattle.page_list.specs.LineForm.{IsListFault, SpellsPages};
 ghost use Rattle.report.specs.Plain.{sequence_form};
-ghost use Rattle.pc_app.specs.declared.faults.Fault.TheVariants.{BadAfter};
-ghost use Rattle.pc_app.specs.Faults.{after_fault};
+ghost use Rattle.pc_app.specs.declared.faults.Fault.TheVariants as faults;
+ghost use Rattle.pc_app.specs.declared.faults.Fault.TheVariants.{BadAfter, Encode, SourceTooLong};
+ghost use Rattle.pc_app.specs.Faults.{after_fault, cells_of, encode_fault, most_bytes, text_fault};
 ghost use Rattle.pc_app.specs.Reading.{sequence_in};
 ghost use Rattle.pc_app.specs.SequenceText.{Spells, IsBadAfter};
-ghost use Rattle.pc_app.specs.Output.{IsOutput};
+ghost use Rattle.pc_app.specs.FieldText.{IsFieldOf};
+ghost use Rattle.pc_app.specs.Output.{IsDecodeOutput, IsOutput};
+ghost use Rattle.pc_app.specs.Words.{FieldText};
 
 /// What a command writes is determined by its words and, where it reads the source, by the bytes of the source.
 pub fn output_is_determined()
     ensures { (words : List (List ℕ)) (bytes one other : List ℕ) → IsOutput words bytes one → IsOutput words bytes other → one ≡ other }
+{}
+
+/// A text of the field that has no fault asks for one field, the one whose cells the later faults are about.
+pub fn fields_are_read_as_they_are_asked()
+    ensures there { (field : FieldText) (number : ℕ) (bytes : List ℕ) → 1 ≤ number → text_fault field number bytes ≡ None → IsFieldOf field number bytes (cells_of field number bytes) }
+    ensures only { (field : FieldText) (number : ℕ) (bytes : List ℕ) (F : Field) → IsFieldOf field number bytes F → cells_of field number bytes ≡ F }
 {}
 
 /// The value of `--after` is read as a sequence of so many placements exactly where it spells this sequence; and it is
@@ -38,4 +53,19 @@ pub fn bad_after_is_at_the_longest_front()
 /// What a report writes for a solution of a fit problem may be given as `--after`: it spells this solution.
 pub fn written_solutions_may_be_given()
     ensures { (problem : Problem) (sequence : List Placement) → IsFit problem → IsSolution problem None sequence → Spells (needed_of problem) (sequence_form sequence) sequence }
+{}
+
+/// The lines that `decode` writes may be given to `encode`: they spell the pages that were decoded.
+pub fn decoded_lines_spell_their_pages()
+    ensures { (bytes output : List ℕ) (decoded : IsDecodeOutput bytes output) → SpellsPages output decoded.pages }
+{}
+
+/// The fault of `encode` is that the source is too long, or else the one fault of its lines, or else that the pages which
+/// it spells can't be written.
+pub fn encode_faults_are_those_of_the_lines()
+    ensures too_long { (dialect : Dialect) (bytes : List ℕ) → most_bytes < length bytes → encode_fault dialect bytes ≡ Some SourceTooLong }
+    ensures lines { (dialect : Dialect) (bytes : List ℕ) (fault : ListFault) → length bytes ≤ most_bytes → IsListFault bytes fault →
+        encode_fault dialect bytes ≡ Some (faults.List fault) }
+    ensures pages { (dialect : Dialect) (bytes : List ℕ) (pages : List Page) → length bytes ≤ most_bytes → SpellsPages bytes pages →
+        encode_fault dialect bytes ≡ option_map (λ fault. Encode fault) (list_fault dialect pages) }
 {}

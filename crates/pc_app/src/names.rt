@@ -19,6 +19,7 @@ pub enum Command {
 #[derive(Clone, Copy, Debug, PartialEq, Eq)]
 pub enum CommandOption {
     Rows,
+    Tetfu,
     ClearLine,
     Patterns,
     Hold,
@@ -49,6 +50,7 @@ fn option_named(word: &str) -> Option<CommandOption>
 {
     match word {
         "--rows" => Some(CommandOption::Rows),
+        "--tetfu" => Some(CommandOption::Tetfu),
         "--clear-line" => Some(CommandOption::ClearLine),
         "--patterns" => Some(CommandOption::Patterns),
         "--hold" => Some(CommandOption::Hold),
@@ -67,7 +69,7 @@ fn has_option(command: Command, option: CommandOption) -> bool
     ensures { result ≡ has_option command option }
 {
     match command {
-        Command::Path => !matches!(option, CommandOption::Page | CommandOption::Dialect),
+        Command::Path => !matches!(option, CommandOption::Dialect),
         Command::Decode => false,
         Command::Encode => matches!(option, CommandOption::Dialect),
         Command::Show => matches!(option, CommandOption::Page),

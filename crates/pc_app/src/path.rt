@@ -2,26 +2,30 @@
 ghost use Rattle.std.specs.Prelude.{◌≡◌, ◌≤◌, ℕ, List, IfOk, is_some};
 ghost use Rattle.srs.specs.Rules.{table_of};
 ghost use Rattle.well.specs.Well.{filled};
-ghost use Rattle.pc_outside.specs.Counts.{HasCause};
-ghost use Rattle.pc_outside.specs.Writes.{GrowsByFront, WritesAll};
+ghost use Rattle.pc_outside.specs.Counts.{HasCause, Rose};
+ghost use Rattle.pc_outside.specs.Writes.{WritesAll};
 ghost use Rattle.enumerate.specs.Plays.{Plays};
 ghost use Rattle.enumerate.specs.ViewOf.{solutions, view_of};
 ghost use Rattle.report.specs.Forms.{key_part, line_form, report_form};
-ghost use Rattle.pc_app.specs.Answers.{Answers};
-ghost use Rattle.pc_app.specs.Faults.{path_fault};
-ghost use Rattle.pc_app.specs.Output.{IsPathOutput};
+ghost use Rattle.pc_app.specs.declared.status.Status.{Status};
+ghost use Rattle.pc_app.specs.Answers.{Answers, AnswersOf, LeavesSource};
+ghost use Rattle.pc_app.specs.Faults.{path_fault, problem_fault};
+ghost use Rattle.pc_app.specs.Output.{IsOutputFor, IsPathOutput};
+ghost use Rattle.pc_app.specs.Source.{field_needs, is_source, Supplies};
 ghost use Rattle.pc_app.specs.Views.{path_view};
 
+use crate::field::field;
 use crate::question::ask;
 use crate::settings::PathSettings;
 use crate::status::Status;
 use enumerate::{Problem, Search, Sequence};
 use key_path::Finder;
-use pc_outside::{Failed, NoMemory, Sink};
+use pc_outside::{Failed, NoMemory, Sink, Source};
 use reach::Steps;
 use report::{Tail, write_line, write_tail};
 use std::alloc::Global;
 use std::sync::ledger::Ledger;
+use well::Well;
 
 // A finder where keys are asked for.
 fn finder_for(alloc: Global, keys: bool) -> Result<Option<Finder>, NoMemory>
@@ -81,22 +85,47 @@ fn write_report<O: Sink, L: Ledger>(
 }
 
 /// Answers what the settings ask for.
-pub fn run_path<O: Sink, L: Ledger>(
+pub fn run_path<S: Source, O: Sink, L: Ledger>(
     alloc: Global,
+    settings: &PathSettings<'_>,
+    source: &mut S,
+    out: &mut O,
+    steps: &mut Steps<L>,
+) -> Status
+    requires least { 1 ≤ settings.now.common.height }
+    requires most { settings.now.common.height ≤ 8 }
+    requires page { 1 ≤ settings.now.common.page }
+    ensures answers { let question = path_view settings.now in
+        (bytes : List ℕ) → Supplies (is_source (field_needs question.field)) (S.left source.old) bytes
+        → AnswersOf (field_needs question.field) (path_fault question bytes) (IsPathOutput question bytes)
+        (O.written out.old) (O.written out.new) (O.faults out.old) (O.faults out.new)
+        ((out.new ≡ out.old) × (steps.new ≡ steps.old)) result }
+    ensures source_fault { result ≡ Status.SourceFault → Rose (S.faults source.old) (S.faults source.new) × ((out.new ≡ out.old) × (steps.new ≡ steps.old)) }
+    ensures no_memory { result ≡ Status.NoMemory → (out.new ≡ out.old) × (steps.new ≡ steps.old) }
+    ensures source { LeavesSource (is_source (field_needs (path_view settings.now).field)) (S.left source.old) (S.left source.new) (source.new ≡ source.old) result }
+{
+    match field(alloc, &settings.common, source) {
+        Ok(well) => list_clears(alloc, well, settings, out, steps),
+        Err(status) => status,
+    }
+}
+
+// Lists the sequences that clear a field, as the settings ask for.
+fn list_clears<O: Sink, L: Ledger>(
+    alloc: Global,
+    well: Well,
     settings: &PathSettings<'_>,
     out: &mut O,
     steps: &mut Steps<L>,
 ) -> Status
     requires least { 1 ≤ settings.now.common.height }
     requires most { settings.now.common.height ≤ 8 }
-    ensures front { (output : List ℕ) → IsPathOutput (path_view settings.now) output
-        → GrowsByFront (O.written out.old) (O.written out.new) output }
-    ensures answers { let question = path_view settings.now in
-        Answers (path_fault question) (IsPathOutput question)
+    ensures { let question = path_view settings.now in
+        Answers (problem_fault question (filled well)) (IsOutputFor question (filled well))
         (O.written out.old) (O.written out.new) (O.faults out.old) (O.faults out.new)
         ((out.new ≡ out.old) × (steps.new ≡ steps.old)) result }
 {
-    let question = match ask(settings) {
+    let question = match ask(well, settings) {
         Ok(question) => question,
         Err(fault) => return Status::Input(fault),
     };

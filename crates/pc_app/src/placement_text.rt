@@ -1,7 +1,8 @@
 // The text of one placement, with keys or without, read byte by byte.
 ghost use Rattle.std.specs.Prelude.{◌≡◌, ◌≤◌, ◌<◌};
-ghost use Rattle.pc_app.specs.Reading.{step, step_at, second_digit_step, keys_step, key_step, capital_piece, is_key_letter, after_row_digit, may_end, unread};
+ghost use Rattle.pc_app.specs.Reading.{step, step_at, after_row_step, keys_step, key_step, is_key_letter, may_end, unread};
 
+use placement_form::{capital_piece, digit_in, two_digit_row};
 use srs::{Piece, Placement, Rotation};
 
 /// What may stand next.
@@ -14,8 +15,7 @@ pub enum Due {
     Comma,
     Row,
     /// A second digit of the row, or what follows the placement.
-    SecondDigit,
-    End,
+    AfterRow,
     Key,
     AfterKeys,
 }
@@ -27,29 +27,10 @@ pub struct Reading {
     pub placement: Placement,
 }
 
-fn capital_piece(byte: u8) -> Option<Piece>
-    ensures { result ≡ capital_piece byte }
-{
-    Piece::ALL
-        .iter()
-        .copied()
-        .find(|piece| piece.letter() == byte)
-}
-
 fn is_key_letter(byte: u8) -> bool
     ensures { result ≡ is_key_letter byte }
 {
     matches!(byte, b'L' | b'R' | b'D' | b'C' | b'A')
-}
-
-fn after_row_digit(digit: u8) -> Due
-    ensures { result ≡ after_row_digit digit }
-{
-    if digit == 1 || digit == 2 {
-        Due::SecondDigit
-    } else {
-        Due::End
-    }
 }
 
 fn keys_step(placement: Placement, byte: u8) -> Option<Reading>
@@ -61,22 +42,17 @@ fn keys_step(placement: Placement, byte: u8) -> Option<Reading>
     })
 }
 
-fn second_digit_step(placement: Placement, byte: u8) -> Option<Reading>
-    ensures { result ≡ second_digit_step placement byte }
+// After a 0, or after two digits, no digit makes a row up to 22.
+fn after_row_step(placement: Placement, byte: u8) -> Option<Reading>
+    ensures { result ≡ after_row_step placement byte }
 {
-    if !byte.is_ascii_digit() {
+    let Some(ones) = digit_in(byte) else {
         return keys_step(placement, byte);
-    }
-    let row = 10 * u16::from(placement.y) + u16::from(byte - b'0');
-    if row > 22 {
-        return None;
-    }
+    };
+    let y = two_digit_row(placement.y, ones)?;
     Some(Reading {
-        due: Due::End,
-        placement: Placement {
-            y: row as u8,
-            ..placement
-        },
+        due: Due::AfterRow,
+        placement: Placement { y, ..placement },
     })
 }
 
@@ -121,30 +97,20 @@ fn rotation_step(placement: Placement, byte: u8) -> Option<Reading>
 fn column_step(placement: Placement, byte: u8) -> Option<Reading>
     ensures { result ≡ step_at Due.Column placement byte }
 {
-    if !byte.is_ascii_digit() {
-        return None;
-    }
+    let x = digit_in(byte)?;
     Some(Reading {
         due: Due::Comma,
-        placement: Placement {
-            x: byte - b'0',
-            ..placement
-        },
+        placement: Placement { x, ..placement },
     })
 }
 
 fn row_step(placement: Placement, byte: u8) -> Option<Reading>
     ensures { result ≡ step_at Due.Row placement byte }
 {
-    if !byte.is_ascii_digit() {
-        return None;
-    }
+    let y = digit_in(byte)?;
     Some(Reading {
-        due: after_row_digit(byte - b'0'),
-        placement: Placement {
-            y: byte - b'0',
-            ..placement
-        },
+        due: Due::AfterRow,
+        placement: Placement { y, ..placement },
     })
 }
 
@@ -168,7 +134,7 @@ impl Reading {
     pub fn may_end(self) -> bool
         ensures { result ≡ may_end self.due }
     {
-        matches!(self.due, Due::SecondDigit | Due::End | Due::AfterKeys)
+        matches!(self.due, Due::AfterRow | Due::AfterKeys)
     }
 
     /// The reading after one more byte. `None` exactly where the byte may not stand there.
@@ -190,8 +156,7 @@ impl Reading {
                 placement,
             }),
             Due::Row => row_step(placement, byte),
-            Due::SecondDigit => second_digit_step(placement, byte),
-            Due::End => keys_step(placement, byte),
+            Due::AfterRow => after_row_step(placement, byte),
             Due::Key => key_step(placement, byte),
             Due::AfterKeys => None,
         }

@@ -1,5 +1,5 @@
 // From the settings of `path` to a problem that the search takes.
-ghost use Rattle.std.specs.Prelude.{◌≡◌, ◌/◌, ◌%◌, ◌≤◌, option_copied, None, Some, Ok, IfOk, IfErr, OnOk};
+ghost use Rattle.std.specs.Prelude.{◌≡◌, ℕ, List, ◌/◌, ◌%◌, ◌≤◌, option_copied, None, Some, Ok, IfOk, IfErr, OnOk};
 ghost use Rattle.std.specs.Option.{ForSome};
 ghost use Rattle.arrayvec.specs.ArrayVec.{array_vec_len};
 ghost use Rattle.well.specs.Well.{filled};
@@ -9,13 +9,14 @@ ghost use Rattle.queue_pattern.specs.Pattern.{elements_of};
 ghost use Rattle.queue_pattern.specs.Queues.{queue_len};
 ghost use Rattle.enumerate.specs.Problem.{IsFit, needed_of};
 ghost use Rattle.enumerate.specs.Items.{items_of};
-ghost use Rattle.pc_app.specs.Faults.{field_fault, pattern_fault, too_few, path_fault, after_fault, cells_of};
+ghost use Rattle.pc_app.specs.Faults.{rows_fault_of, pattern_fault, too_few, problem_fault, after_fault};
+ghost use Rattle.pc_app.specs.FieldText.{IsFieldOf};
 ghost use Rattle.pc_app.specs.Question.{IsProblemOf, IsGiven, IsAfterOf};
-ghost use Rattle.pc_app.specs.Views.{field_view, path_view};
+ghost use Rattle.pc_app.specs.Views.{path_view};
 
 use crate::after::sequence_in;
 use crate::faults::Fault;
-use crate::settings::{FieldWords, PathSettings};
+use crate::settings::PathSettings;
 use enumerate::{Problem, Sequence};
 use queue_pattern::Pattern;
 use srs::Rules;
@@ -29,28 +30,22 @@ pub struct Question {
     pub after: Option<Sequence>,
 }
 
-#[tactic(auto, unfolding(crate::specs::Faults::field_fault))]
-// The field, which has no cell at or above the height and no full row.
-fn field(words: FieldWords<'_>, height: u8) -> Result<Well, Fault>
+// The field has no cell at or above the height and no full row.
+#[tactic(auto, unfolding(crate::specs::Faults::rows_fault_of))]
+fn rows(well: &Well, height: u8) -> Result<(), Fault>
     requires { height ≤ 8 }
-    ensures fault { IfErr result (λ fault. field_fault (field_view words.entry) height ≡ Some fault) }
-    ensures none { OnOk result (field_fault (field_view words.entry) height ≡ None) }
-    ensures cells { IfOk result (λ well. filled well ≡ cells_of (field_view words.entry)) }
-    ensures below { IfOk result (λ well. lowest_filled_from (filled well) height ≡ None) }
-    ensures open_rows { IfOk result (λ well. lowest_full (filled well) ≡ None) }
+    ensures fault { IfErr result (λ fault. rows_fault_of (filled well.now) height ≡ Some fault) }
+    ensures none { OnOk result (rows_fault_of (filled well.now) height ≡ None) }
+    ensures below { OnOk result (lowest_filled_from (filled well.now) height ≡ None) }
+    ensures open_rows { OnOk result (lowest_full (filled well.now) ≡ None) }
 {
-    let FieldWords::Rows(text) = words;
-    let well = match Well::from_rows(text.as_bytes()) {
-        Ok(well) => well,
-        Err(fault) => return Err(Fault::Rows(fault)),
-    };
     if let Some(row) = well.lowest_filled_from(height) {
         return Err(Fault::FieldTooHigh { row });
     }
     if let Some(row) = well.lowest_full() {
         return Err(Fault::FullRow { row });
     }
-    Ok(well)
+    Ok(())
 }
 
 fn pattern(text: &str) -> Result<Pattern, Fault>
@@ -91,20 +86,21 @@ fn given(needed: u8, text: Option<&str>) -> Result<Option<Sequence>, Fault>
     }
 }
 
-#[tactic(auto, unfolding(crate::specs::Faults::path_fault))]
-/// The problem that the settings name, or the first fault of what they name.
-pub fn ask(settings: &PathSettings<'_>) -> Result<Question, Fault>
+#[tactic(auto, unfolding(crate::specs::Faults::problem_fault))]
+/// The problem that the settings name about a field, or the first fault of what they name.
+pub fn ask(well: Well, settings: &PathSettings<'_>) -> Result<Question, Fault>
     requires least { 1 ≤ settings.now.common.height }
     requires most { settings.now.common.height ≤ 8 }
-    ensures fault { IfErr result (λ fault. path_fault (path_view settings.now) ≡ Some fault) }
-    ensures none { OnOk result (path_fault (path_view settings.now) ≡ None) }
-    ensures problem { IfOk result (λ question. IsProblemOf (path_view settings.now) question.problem) }
-    ensures after { IfOk result (λ question. IsAfterOf (path_view settings.now) (items_of question.after)) }
-    ensures fit { IfOk result (λ question. IsFit question.problem) }
-    ensures len { IfOk result (λ question. ForSome question.after (λ sequence. array_vec_len sequence ≡ needed_of question.problem)) }
+    ensures fault { IfErr result (λ fault. problem_fault (path_view settings.now) (filled well) ≡ Some fault) }
+    ensures none { OnOk result (problem_fault (path_view settings.now) (filled well) ≡ None) }
+    ensures problem { let question = path_view settings.now in
+        (bytes : List ℕ) → IsFieldOf question.field question.page bytes (filled well) → IfOk result (λ asked. IsProblemOf question bytes asked.problem) }
+    ensures after { IfOk result (λ asked. IsAfterOf (path_view settings.now) asked.problem (items_of asked.after)) }
+    ensures fit { IfOk result (λ asked. IsFit asked.problem) }
+    ensures len { IfOk result (λ asked. ForSome asked.after (λ sequence. array_vec_len sequence ≡ needed_of asked.problem)) }
 {
     let height = settings.common.height;
-    let well = field(settings.common.field, height)?;
+    rows(&well, height)?;
     let pattern = pattern(settings.common.patterns)?;
     let empties = well.empties_below(height);
     pieces(empties, &pattern)?;

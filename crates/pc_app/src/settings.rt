@@ -8,12 +8,16 @@ use moves::DropMode;
 pub enum FieldWords<'a> {
     /// Rows text: rows from the top one down, divided by `/`.
     Rows(&'a str),
+    /// A fumen text, or `-` for that of the source, of which a page is the field.
+    Tetfu(&'a str),
 }
 
 /// The question: a field, how many of its rows are to be removed, and with which pieces.
 #[derive(Clone, Copy, Debug, PartialEq, Eq)]
 pub struct FieldSettings<'a> {
     pub field: FieldWords<'a>,
+    /// The number of the page that is the field where it is a fumen's, counted from 1.
+    pub page: u32,
     /// How many rows are to be removed, 1 to 6.
     pub height: u8,
     /// The text of a pattern of queues.

@@ -9,7 +9,7 @@ ghost use Rattle.pc_app.specs.Output.{IsShowOutput, IsShown, shown_from};
 ghost use Rattle.pc_app.specs.Source.{IsShowable};
 ghost use Rattle.pc_app.specs.Views.{HasNumber};
 
-use crate::faults::Fault;
+use crate::page::page_at;
 use crate::source::source_pages;
 use crate::status::Status;
 use fumen_pages::Page;
@@ -29,6 +29,7 @@ pub fn run_show<S: Source, O: Sink>(
     ensures answers { (bytes : List ℕ) → S.left source.old ≡ Some bytes → AnswersReading (show_fault asked bytes) (IsShowOutput asked bytes)
         (O.written out.old) (O.written out.new) (O.faults out.old) (O.faults out.new) (out.new ≡ out.old) result }
     ensures source_fault { result ≡ Status.SourceFault → Rose (S.faults source.old) (S.faults source.new) × (out.new ≡ out.old) }
+    ensures no_memory { result ≡ Status.NoMemory → out.new ≡ out.old }
     ensures source { ReadsSource (S.left source.old) (S.left source.new) result }
 {
     let pages = match source_pages(alloc, source) {
@@ -51,11 +52,11 @@ fn show<O: Sink>(out: &mut O, asked: Option<u32>, pages: &[Page]) -> Status
             Err(_) => Status::SinkFault,
         };
     };
-    let there = pages.len() as u32;
-    if there < asked {
-        return Status::Input(Fault::NoPage { asked, there });
-    }
-    match show_page(out, asked, &pages[asked as usize - 1]) {
+    let page = match page_at(pages, asked) {
+        Ok(page) => page,
+        Err(fault) => return Status::Input(fault),
+    };
+    match show_page(out, asked, page) {
         Ok(()) => Status::Done,
         Err(_) => Status::SinkFault,
     }

@@ -3,10 +3,11 @@ ghost use Rattle.std.specs.Prelude.{◌≡◌, ◌+◌, ◌≤◌, ℕ, List, []
 ghost use Rattle.std.specs.Option.{ForSome};
 ghost use Rattle.pc_outside.specs.Counts.{Rose};
 ghost use Rattle.pc_outside.specs.Reads.{TakesFirst, TakesAtMost};
+ghost use Rattle.fumen_text.specs.Reading.{text_pages};
 ghost use Rattle.pc_app.specs.declared.faults.Fault.{Fault};
 ghost use Rattle.pc_app.specs.declared.status.Status.{Status};
-ghost use Rattle.pc_app.specs.Faults.{lines_fault, most_bytes, source_fault};
-ghost use Rattle.pc_app.specs.Source.{HasList, HasPages, IsShowable, Stops};
+ghost use Rattle.pc_app.specs.Faults.{lines_fault, most_bytes, pages_fault, source_fault};
+ghost use Rattle.pc_app.specs.Source.{HasList, HasPages, HasText, IsShowable, Stops, memory, source_bytes};
 
 use crate::faults::Fault;
 use crate::status::Status;
@@ -25,13 +26,23 @@ pub fn source_pages<S: Source>(alloc: Global, source: &mut S) -> Result<Vec<Page
     ensures showable { IfOk result (λ pages. All IsShowable pages.items) }
     ensures few { IfOk result (λ pages. vec_len pages ≤ 10000) }
     ensures ended { IfOk result (λ _. ForSome (S.left source.old) (λ _. S.left source.new ≡ Some [])) }
-    ensures stops { (bytes : List ℕ) → S.left source.old ≡ Some bytes → IfErr result (λ status. Stops (source_fault bytes) status) }
+    ensures stops { (bytes : List ℕ) → S.left source.old ≡ Some bytes → IfErr result (λ status. Stops source_bytes (source_fault bytes) status) }
     ensures source_fault { result ≡ Err Status.SourceFault → Rose (S.faults source.old) (S.faults source.new) }
     ensures too_long { result ≡ Err (Status.Input Fault.SourceTooLong) → TakesFirst (S.left source.old) (S.left source.new) (most_bytes + 1) }
     ensures most { TakesAtMost (S.left source.old) (S.left source.new) (most_bytes + 1) }
 {
     let bytes = read_all(alloc, source, MOST_BYTES)?;
-    match decode(alloc, &bytes) {
+    text_pages(alloc, &bytes)
+}
+
+/// The pages of a fumen text, or the status that ends the run.
+pub fn text_pages(alloc: Global, text: &[u8]) -> Result<Vec<Page>, Status>
+    ensures pages { IfOk result (λ pages. HasText text.now pages.items) }
+    ensures showable { IfOk result (λ pages. All IsShowable pages.items) }
+    ensures few { IfOk result (λ pages. vec_len pages ≤ 10000) }
+    ensures stops { IfErr result (λ status. Stops memory (pages_fault (text_pages text.now)) status) }
+{
+    match decode(alloc, text) {
         Ok((_, pages)) => Ok(pages),
         Err(Refused::Fault(fault)) => Err(Status::Input(Fault::Fumen(fault))),
         Err(Refused::NoMemory) => Err(Status::NoMemory),
@@ -42,7 +53,7 @@ pub fn source_pages<S: Source>(alloc: Global, source: &mut S) -> Result<Vec<Page
 pub fn source_list<S: Source>(alloc: Global, source: &mut S) -> Result<Vec<Page>, Status>
     ensures pages { (bytes : List ℕ) → S.left source.old ≡ Some bytes → IfOk result (λ pages. HasList bytes pages.items) }
     ensures ended { IfOk result (λ _. ForSome (S.left source.old) (λ _. S.left source.new ≡ Some [])) }
-    ensures stops { (bytes : List ℕ) → S.left source.old ≡ Some bytes → IfErr result (λ status. Stops (lines_fault bytes) status) }
+    ensures stops { (bytes : List ℕ) → S.left source.old ≡ Some bytes → IfErr result (λ status. Stops source_bytes (lines_fault bytes) status) }
     ensures source_fault { result ≡ Err Status.SourceFault → Rose (S.faults source.old) (S.faults source.new) }
     ensures too_long { result ≡ Err (Status.Input Fault.SourceTooLong) → TakesFirst (S.left source.old) (S.left source.new) (most_bytes + 1) }
     ensures most { TakesAtMost (S.left source.old) (S.left source.new) (most_bytes + 1) }

@@ -1,5 +1,5 @@
 // The top call: from the words to what is written.
-ghost use Rattle.std.specs.Prelude.{◌≡◌, ◌≢◌, ◌+◌, ◌⊎◌, ℕ, List, [], true, false, None, Some};
+ghost use Rattle.std.specs.Prelude.{◌≡◌, ◌≢◌, ◌+◌, ◌⊎◌, ℕ, List, [], true, None, Some};
 ghost use Rattle.pc_outside.specs.Counts.{Rose};
 ghost use Rattle.pc_outside.specs.Writes.{Grows, GrowsByFront};
 ghost use Rattle.pc_app.specs.declared.faults.Fault.{Fault};
@@ -8,7 +8,7 @@ ghost use Rattle.pc_app.specs.Answers.{AnswersOf, FailedAfterFront, LeavesSource
 ghost use Rattle.pc_app.specs.FaultLine.{fault_line};
 ghost use Rattle.pc_app.specs.Faults.{first_fault};
 ghost use Rattle.pc_app.specs.Output.{IsOutput};
-ghost use Rattle.pc_app.specs.Source.{reads_source, Supplies};
+ghost use Rattle.pc_app.specs.Source.{needs_of, reads_source, takes_memory_first, Supplies};
 ghost use Rattle.pc_app.specs.Views.{texts};
 
 use crate::decode::run_decode;
@@ -35,10 +35,11 @@ fn answer<S: Source, O: Sink, L: Ledger>(
     steps: &mut Steps<L>,
 ) -> Status
     ensures answers { (bytes : List ℕ) → Supplies (reads_source (texts words.now)) (S.left source.old) bytes
-        → AnswersOf (reads_source (texts words.now)) (first_fault (texts words.now) bytes) (IsOutput (texts words.now) bytes)
+        → AnswersOf (needs_of (texts words.now)) (first_fault (texts words.now) bytes) (IsOutput (texts words.now) bytes)
         (O.written out.old) (O.written out.new) (O.faults out.old) (O.faults out.new)
         ((out.new ≡ out.old) × (steps.new ≡ steps.old)) result }
     ensures source_fault { result ≡ Status.SourceFault → Rose (S.faults source.old) (S.faults source.new) × ((out.new ≡ out.old) × (steps.new ≡ steps.old)) }
+    ensures no_memory { takes_memory_first (texts words.now) ≡ true → result ≡ Status.NoMemory → (out.new ≡ out.old) × (steps.new ≡ steps.old) }
     ensures source { LeavesSource (reads_source (texts words.now)) (S.left source.old) (S.left source.new) (source.new ≡ source.old) result }
 {
     let settings = match read_words(words) {
@@ -46,7 +47,7 @@ fn answer<S: Source, O: Sink, L: Ledger>(
         Err(fault) => return Status::Input(Fault::Words(fault)),
     };
     match settings {
-        Settings::Path(path) => run_path(alloc, &path, out, steps),
+        Settings::Path(path) => run_path(alloc, &path, source, out, steps),
         Settings::Decode => run_decode(alloc, source, out),
         Settings::Encode { dialect } => run_encode(alloc, source, dialect, out),
         Settings::Show { page } => run_show(alloc, source, page, out),
@@ -72,14 +73,14 @@ pub fn run<S: Source, O: Sink, E: Sink, L: Ledger>(
     ensures input { (bytes : List ℕ) → Supplies (reads_source (texts words.now)) (S.left source.old) bytes
         → (fault : Fault) → result ≡ Status.Input fault → first_fault (texts words.now) bytes ≡ Some fault }
     ensures fault { (bytes : List ℕ) → Supplies (reads_source (texts words.now)) (S.left source.old) bytes
-        → (fault : Fault) → first_fault (texts words.now) bytes ≡ Some fault → Refuses (reads_source (texts words.now)) fault result }
+        → (fault : Fault) → first_fault (texts words.now) bytes ≡ Some fault → Refuses (needs_of (texts words.now)) fault result }
     ensures quiet { (bytes : List ℕ) → Supplies (reads_source (texts words.now)) (S.left source.old) bytes
         → (fault : Fault) → first_fault (texts words.now) bytes ≡ Some fault → (out.new ≡ out.old) × (steps.new ≡ steps.old) }
     ensures source_fault { result ≡ Status.SourceFault → Rose (S.faults source.old) (S.faults source.new) × ((out.new ≡ out.old) × (steps.new ≡ steps.old)) }
     ensures sink_fault { (bytes : List ℕ) → Supplies (reads_source (texts words.now)) (S.left source.old) bytes → result ≡ Status.SinkFault
         → FailedAfterFront (first_fault (texts words.now) bytes) (IsOutput (texts words.now) bytes)
         (O.written out.old) (O.written out.new) (O.faults out.old) (O.faults out.new) }
-    ensures no_memory { reads_source (texts words.now) ≡ false → result ≡ Status.NoMemory → (out.new ≡ out.old) × (steps.new ≡ steps.old) }
+    ensures no_memory { takes_memory_first (texts words.now) ≡ true → result ≡ Status.NoMemory → (out.new ≡ out.old) × (steps.new ≡ steps.old) }
     ensures complete { (bytes : List ℕ) → Supplies (reads_source (texts words.now)) (S.left source.old) bytes → first_fault (texts words.now) bytes ≡ None
         → (Rose (S.faults source.old) (S.faults source.new) → ⊥) → (Rose (O.faults out.old) (O.faults out.new) → ⊥)
         → (result ≡ Status.Done) ⊎ (result ≡ Status.NoMemory) }

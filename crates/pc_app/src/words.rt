@@ -1,9 +1,9 @@
 // Reading the words: the command, and after it pairs of a name and a value.
-ghost use Rattle.std.specs.Prelude.{◌≡◌, ◌+◌, ◌^◌, ◌<◌, length, drop, option_copied, option_map, IfOk, IfSome};
+ghost use Rattle.std.specs.Prelude.{◌≡◌, ◌+◌, ◌^◌, ◌<◌, ◌≤◌, length, drop, option_copied, option_map, IfOk, IfSome};
 ghost use Rattle.std.specs.List.{slice_get};
 ghost use Rattle.pc_app.specs.Given.{is_given, with_value, nothing_given};
-ghost use Rattle.pc_app.specs.Words.{pair_read, pairs_read, question_of, settings, with_defaults};
-ghost use Rattle.pc_app.specs.Views.{HasRanges, IsHeight, AsksInRange, given_view, given_reading, path_reading, settings_reading, texts};
+ghost use Rattle.pc_app.specs.Words.{field_given, is_other_field, pair_read, pairs_read, question_of, settings, with_defaults};
+ghost use Rattle.pc_app.specs.Views.{HasRanges, IsHeight, AsksInRange, field_view, given_view, given_reading, path_reading, settings_reading, texts};
 
 use crate::names::{
     Command, CommandOption, command_named, dialect_named, drop_named, hold_named, option_of,
@@ -26,6 +26,8 @@ pub enum WordsKind {
     UnknownOption,
     /// The name stood before.
     RepeatedOption,
+    /// `--rows` and `--tetfu` both stand.
+    BothFields,
     /// The name is the last word.
     MissingValue,
     /// The value is not in the option's list or range.
@@ -52,6 +54,7 @@ const MOST_SEQUENCES: u32 = 1_000_000_000;
 #[derive(Clone, Copy)]
 struct Given<'a> {
     rows: Option<&'a str>,
+    tetfu: Option<&'a str>,
     height: Option<u8>,
     patterns: Option<&'a str>,
     hold: Option<Hold>,
@@ -68,6 +71,7 @@ fn is_given(given: &Given, option: CommandOption) -> bool
 {
     match option {
         CommandOption::Rows => given.rows.is_some(),
+        CommandOption::Tetfu => given.tetfu.is_some(),
         CommandOption::ClearLine => given.height.is_some(),
         CommandOption::Patterns => given.patterns.is_some(),
         CommandOption::Hold => given.hold.is_some(),
@@ -80,6 +84,17 @@ fn is_given(given: &Given, option: CommandOption) -> bool
     }
 }
 
+// Whether the option gives the field, which another one has given.
+fn is_other_field(given: &Given, option: CommandOption) -> bool
+    ensures { result ≡ is_other_field (given_view given.now) option }
+{
+    match option {
+        CommandOption::Rows => given.tetfu.is_some(),
+        CommandOption::Tetfu => given.rows.is_some(),
+        _ => false,
+    }
+}
+
 fn with_value<'a>(given: Given<'a>, option: CommandOption, value: &'a str) -> Option<Given<'a>>
     requires { HasRanges given }
     ensures value { option_map given_view result ≡ with_value (given_view given.entry) option value.entry.now }
@@ -88,6 +103,10 @@ fn with_value<'a>(given: Given<'a>, option: CommandOption, value: &'a str) -> Op
     match option {
         CommandOption::Rows => Some(Given {
             rows: Some(value),
+            ..given
+        }),
+        CommandOption::Tetfu => Some(Given {
+            tetfu: Some(value),
             ..given
         }),
         CommandOption::ClearLine => {
@@ -176,6 +195,12 @@ fn read_pair<'a>(
             index,
         });
     }
+    if is_other_field(&given, option) {
+        return Err(WordsFault {
+            kind: WordsKind::BothFields,
+            index,
+        });
+    }
     let Some(value) = value else {
         return Err(WordsFault {
             kind: WordsKind::MissingValue,
@@ -207,6 +232,7 @@ fn read_pairs(command: Command, words: &[String]) -> Result<Given<'_>, WordsFaul
 {
     let mut given = Given {
         rows: None,
+        tetfu: None,
         height: None,
         patterns: None,
         hold: None,
@@ -229,13 +255,25 @@ fn read_pairs(command: Command, words: &[String]) -> Result<Given<'_>, WordsFaul
     Ok(given)
 }
 
+// The field of the given values, of which one at most gives it.
+fn field_given<'a>(given: &Given<'a>) -> Option<FieldWords<'a>>
+    ensures { option_map field_view result ≡ field_given (given_view given.now).rows (given_view given.now).tetfu }
+{
+    match (given.rows, given.tetfu) {
+        (Some(rows), _) => Some(FieldWords::Rows(rows)),
+        (None, Some(tetfu)) => Some(FieldWords::Tetfu(tetfu)),
+        (None, None) => None,
+    }
+}
+
 // The settings of the given values, with defaults; the field and the pattern are required.
 fn with_defaults(given: Given<'_>, words: usize) -> Result<PathSettings<'_>, WordsFault>
     requires { HasRanges given }
-    ensures value { path_reading result ≡ with_defaults (given_view given.entry) words (given_view given.entry).rows (given_view given.entry).patterns }
+    ensures value { path_reading result ≡ with_defaults (given_view given.entry) words (field_given (given_view given.entry).rows (given_view given.entry).tetfu) (given_view given.entry).patterns }
     ensures height { IfOk result (λ settings. IsHeight settings.common.height) }
+    ensures page { IfOk result (λ settings. 1 ≤ settings.common.page) }
 {
-    let (Some(rows), Some(patterns)) = (given.rows, given.patterns) else {
+    let (Some(field), Some(patterns)) = (field_given(&given), given.patterns) else {
         return Err(WordsFault {
             kind: WordsKind::MissingOption,
             index: words,
@@ -243,7 +281,8 @@ fn with_defaults(given: Given<'_>, words: usize) -> Result<PathSettings<'_>, Wor
     };
     Ok(PathSettings {
         common: FieldSettings {
-            field: FieldWords::Rows(rows),
+            field,
+            page: given.page.unwrap_or(1),
             height: given.height.unwrap_or(4),
             patterns,
             hold: given.hold.unwrap_or(Hold::Allowed),
@@ -275,7 +314,7 @@ fn settings_of(command: Command, words: usize, given: Given<'_>) -> Result<Setti
 }
 
 /// The command and its settings, or the first fault of the words from the left. Of the faults of one name the order is:
-/// no option, a repeated one, no value, a bad value. An option that is absent is looked for last.
+/// no option, a repeated one, a second field, no value, a bad value. An option that is absent is looked for last.
 #[tactic(auto, unfolding(crate::specs::Words::settings))]
 pub fn read_words(words: &[String]) -> Result<Settings<'_>, WordsFault>
     ensures value { settings_reading result ≡ settings (texts words.entry.now) }

@@ -22,7 +22,7 @@ fault_of dialect bytes pages found has is = encode_reads dialect bytes pages has
 -- the text that was written, and a newline
 output_of : (dialect : Dialect) (bytes : List ℕ) (pages : List Page) (text : List ℕ) → HasList bytes pages → text ≡ written dialect pages
     → IsEncodeOutput dialect bytes (text ++ 10 ∷ [])
-output_of dialect bytes pages text has is = record { pages = pages; reads = has.reads; text = ap (λ t. t ++ 10 ∷ []) is }
+output_of dialect bytes pages text has is = record { pages = pages; spelled = has.spelled; text = ap (λ t. t ++ 10 ∷ []) is }
 
 finds_fault : (X : Type 0) (refusal : Refused EncodeFault) (f : EncodeFault) (found : Option EncodeFault) → Finds {X = X} (Err refusal) found → refusal ≡ refused.Fault f → found ≡ Some f
 finds_fault X refusal f found finds is = subst (λ r. Finds {X = X} (Err r) found) is finds

@@ -1,78 +1,25 @@
--- The list is that of the search which was started.
-use Rattle.std.proofs.Common.{◌≡◌, ℕ, List, refl, ap, subst}
-use Rattle.enumerate.specs.Search.{View, IsList}
-use Rattle.enumerate.specs.ViewOf.{solutions, view_of}
-use Rattle.enumerate.specs.Items.{items_of}
-use Rattle.enumerate.specs.declared.problem.Problem.{Problem}
-use Rattle.enumerate.specs.declared.search.Search.{Search}
-use Rattle.report.specs.Forms.{key_part, report_form}
-use Rattle.srs.specs.Rules.{table_of}
+-- The field is had, or the run ends.
+use Rattle.std.proofs.Common.{refl}
 use Rattle.well.specs.Well.{filled}
-use Rattle.srs.specs.declared.placement.Placement.{Placement}
-use Rattle.std.specs.Prelude.{Option, None}
-use Rattle.pc_app.specs.Words.{PathQuestion}
-use Rattle.pc_app.specs.Question.{IsProblemOf, IsAfterOf}
-use Rattle.pc_outside.specs.Writes.{Grows, GrowsByFront}
+use Rattle.pc_app.specs.Output.{IsOutputFor}
 use Rattle.pc_app.specs.Views.{path_view}
-use Rattle.pc_app.specs.Answers.{Wrote, WroteFront}
-use Rattle.pc_app.specs.Output.{IsPathOutput}
-use Rattle.pc_app.proofs.Determined.{front_of_whole, front_of_front, nothing_is_front}
+use Rattle.pc_app.proofs.Answering.{leaves_later}
+use Rattle.pc_app.proofs.PathAnswers.{stops_path, clears, clears_short, clears_read}
 use Rattle.pc_app.proofs.path.run_path.Goals as goal
 
--- the report of what a search gives at its start
-output_of : (question : PathQuestion) (problem : Problem) (after : Option (List Placement)) (search : Search) → IsProblemOf question problem → IsAfterOf question after
-    → view_of search ≡ record { problem = problem; queue = None; bound = after } → IsList (view_of search) (solutions search)
-    → IsPathOutput question (report_form (key_part question.keys (table_of problem.rules) problem.drop_mode) (filled problem.well) question.limit (solutions search))
-output_of question problem after search named given view list = record {
-  problem = problem;
-  named = named;
-  after = after;
-  given = given;
-  sequences = solutions search;
-  list = subst (λ v. IsList v (solutions search)) view list;
-  report = refl;
-}
+pub returns-in-Err-clause-answers : goal.returns-in-Err-clause-answers
+returns-in-Err-clause-answers g c = λ bytes told.
+    stops_path (path_view c.args.settings.now) bytes _ _ _ _ _ _ c.in-Err.status (refl, refl) (c.in-Err.ensures.stops bytes told)
 
-wrote_of : (Outputs : List ℕ → Type 0) (old new : Option (List ℕ)) (output : List ℕ) → Outputs output → Grows old new output → Wrote Outputs old new
-wrote_of Outputs old new output is grown = record { output = output; is_output = is; grown = grown }
+pub returns-in-Ok-clause-answers : goal.returns-in-Ok-clause-answers
+returns-in-Ok-clause-answers g c = λ bytes told.
+    clears (path_view c.args.settings.now) bytes (filled c.in-Ok.well) (c.in-Ok.ensures.field bytes told) _ _ _ _ _ c.list_clears.result c.list_clears.ensures
 
-front_of : (Outputs : List ℕ → Type 0) (old new : Option (List ℕ)) (output : List ℕ) → Outputs output → GrowsByFront old new output → WroteFront Outputs old new
-front_of Outputs old new output is grown = record { output = output; is_output = is; grown = grown }
-
-pub returns-in-Err-clause-front : goal.returns-in-Err-clause-front
-returns-in-Err-clause-front g c = λ output is. nothing_is_front _ _ output refl
-
-pub returns-in-Err-start-clause-front : goal.returns-in-Err-start-clause-front
-returns-in-Err-start-clause-front g c = λ output is. nothing_is_front _ _ output refl
-
-pub returns-in-Err-finder_for-clause-front : goal.returns-in-Err-finder_for-clause-front
-returns-in-Err-finder_for-clause-front g c = λ output is. nothing_is_front _ _ output refl
-
-pub write_report-requires : goal.write_report-requires
-write_report-requires g c = ap (λ (v : View). v.problem) c.in-Ok-start.ensures.view
-
-pub returns-in-Ok-write_report : goal.returns-in-Ok-write_report
-returns-in-Ok-write_report g c =
-    let problem = c.in-Ok.question.problem in
-    let written = output_of (path_view c.args.settings.now) problem (items_of c.in-Ok.question.after) c.in-Ok-start.search c.in-Ok.ensures.problem c.in-Ok.ensures.after c.in-Ok-start.ensures.view c.in-Ok-start.ensures.list in
-    let grown = subst (λ keys. Grows (g.O.Sink.written c.args.out.now) (g.O.Sink.written c.write_report.new.out) (report_form (key_part keys (table_of problem.rules) problem.drop_mode) (filled problem.well) c.args.settings.now.limit (solutions c.in-Ok-start.search))) c.in-Ok-finder_for.ensures c.in-Ok-write_report.ensures.written.done in
-    let wrote = wrote_of (IsPathOutput (path_view c.args.settings.now)) _ _ _ written grown in
-    record { front = front_of_whole _ _ _ wrote; answers = (c.in-Ok.ensures.none, wrote) }
-
-pub returns-clause-front : goal.returns-clause-front
-returns-clause-front g c =
-    let problem = c.in-Ok.question.problem in
-    let written = output_of (path_view c.args.settings.now) problem (items_of c.in-Ok.question.after) c.in-Ok-start.search c.in-Ok.ensures.problem c.in-Ok.ensures.after c.in-Ok-start.ensures.view c.in-Ok-start.ensures.list in
-    let grown = subst (λ keys. GrowsByFront (g.O.Sink.written c.args.out.now) (g.O.Sink.written c.write_report.new.out) (report_form (key_part keys (table_of problem.rules) problem.drop_mode) (filled problem.well) c.args.settings.now.limit (solutions c.in-Ok-start.search))) c.in-Ok-finder_for.ensures c.in-Err-write_report.ensures.written.failed in
-    front_of_front _ _ _ (front_of (IsPathOutput (path_view c.args.settings.now)) _ _ _ written grown)
-
-pub returns-clause-answers : goal.returns-clause-answers
-returns-clause-answers g c =
-    let problem = c.in-Ok.question.problem in
-    let written = output_of (path_view c.args.settings.now) problem (items_of c.in-Ok.question.after) c.in-Ok-start.search c.in-Ok.ensures.problem c.in-Ok.ensures.after c.in-Ok-start.ensures.view c.in-Ok-start.ensures.list in
-    let grown = subst (λ keys. GrowsByFront (g.O.Sink.written c.args.out.now) (g.O.Sink.written c.write_report.new.out) (report_form (key_part keys (table_of problem.rules) problem.drop_mode) (filled problem.well) c.args.settings.now.limit (solutions c.in-Ok-start.search))) c.in-Ok-finder_for.ensures c.in-Err-write_report.ensures.written.failed in
-    record {
-      none = c.in-Ok.ensures.none;
-      front = front_of (IsPathOutput (path_view c.args.settings.now)) _ _ _ written grown;
-      rose = c.in-Err-write_report.ensures.cause.failed;
-    }
+pub returns-in-Ok-clause-source : goal.returns-in-Ok-clause-source
+returns-in-Ok-clause-source g c =
+    let question = path_view c.args.settings.now in
+    let F = filled c.in-Ok.well in
+    leaves_later _ _ _ _ c.list_clears.result
+    (clears_short question F (IsOutputFor question F) _ _ _ _ _ c.list_clears.result c.list_clears.ensures)
+    (clears_read question F (IsOutputFor question F) _ _ _ _ _ c.list_clears.result c.list_clears.ensures)
+    c.in-Ok.ensures.source

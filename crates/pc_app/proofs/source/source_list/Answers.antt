@@ -19,7 +19,7 @@ returns-in-Ok-clause-pages g c = λ bytes told.
     let text = c.deref.ensures.value ∙ c.in_ok-bytes.ensures.all.whole bytes told in
     let within = c.in_ok-bytes.ensures.within in
     let counted = c.deref.ensures.len in
-    subst (λ t. HasList t c.in-Ok.pages.items) text (has_list c.deref.result.now c.in-Ok.pages.items (omega (arith, within, counted)) c.in-Ok.ensures)
+    subst (λ t. HasList t c.in-Ok.pages.items) text (has_list c.deref.result.now c.in-Ok.pages.items (omega (arith, within, counted)) c.in-Ok.ensures.exact)
 
 pub returns-in-Err-Fault-clause-stops : goal.returns-in-Err-Fault-clause-stops
 returns-in-Err-Fault-clause-stops g c = λ bytes told.
@@ -28,4 +28,4 @@ returns-in-Err-Fault-clause-stops g c = λ bytes told.
     let counted = c.deref.ensures.len in
     subst (λ t. lines_fault t ≡ Some (faults.List c.in-Err-Fault.fault)) text
     (has_line_fault c.deref.result.now c.in-Err-Fault.fault (omega (arith, within, counted))
-    (subst (λ r. Gives (λ (pages : Vec Page Global). pages.items) (Err r) (pages_in c.deref.result.now)) c.in-Err-Fault.field-0-is c.in-Err-Fault.ensures))
+    (subst (λ r. Gives (λ (pages : Vec Page Global). pages.items) (Err r) (pages_in c.deref.result.now)) c.in-Err-Fault.field-0-is c.in-Err-Fault.ensures.exact))

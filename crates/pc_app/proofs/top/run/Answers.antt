@@ -1,6 +1,6 @@
 -- On every status a front of each output was appended.
 use Rattle.pc_app.proofs.Determined.{output_unique}
-use Rattle.pc_app.proofs.PageAnswers.{front_of_each, kept_unread}
+use Rattle.pc_app.proofs.Answering.{front_of_each}
 use Rattle.pc_app.proofs.top.run.Goals as goal
 
 pub returns-in-Done-clause-front : goal.returns-in-Done-clause-front
@@ -17,7 +17,3 @@ returns-in-SinkFault-clause-front g c = λ bytes told. front_of_each g.O.Sink.wr
 
 pub returns-in-NoMemory-clause-front : goal.returns-in-NoMemory-clause-front
 returns-in-NoMemory-clause-front g c = λ bytes told. front_of_each g.O.Sink.written _ _ _ _ _ _ _ _ _ (output_unique _ bytes) (c.answer.ensures.answers bytes told)
-
-pub returns-in-NoMemory-clause-no_memory : goal.returns-in-NoMemory-clause-no_memory
-returns-in-NoMemory-clause-no_memory g c = λ unread is.
-    kept_unread _ _ _ _ _ _ _ _ _ c.in-NoMemory.ensures.answers unread

@@ -1,0 +1,14 @@
+-- A text is read as pages.
+use Rattle.std.proofs.Common.{subst}
+use Rattle.fumen_digits.specs.Reading.{Refuses}
+use Rattle.fumen_text.specs.Reading.{fumen_fault, text_pages}
+use Rattle.pc_app.proofs.ShowablePages.{read_showable}
+use Rattle.pc_app.proofs.SourceLaws.{has_fault}
+use Rattle.pc_app.proofs.source.text_pages.Goals as goal
+
+pub returns-in-Ok-clause-showable : goal.returns-in-Ok-clause-showable
+returns-in-Ok-clause-showable c = read_showable c.args.text.now c.in-Ok.field-0-0 c.in-Ok.pages.items c.in-Ok.ensures.found
+
+pub returns-in-Err-Fault-clause-stops : goal.returns-in-Err-Fault-clause-stops
+returns-in-Err-Fault-clause-stops c =
+    has_fault c.args.text.now c.in-Err-Fault.fault (subst (λ r. Refuses fumen_fault r (text_pages c.args.text.now)) c.in-Err-Fault.field-0-is c.in-Err-Fault.ensures.exact)
