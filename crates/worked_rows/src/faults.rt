@@ -20,7 +20,7 @@ fn words(rt: HostRuntime) -> Result<(), Fail> {
         ("path --keys Yes", b"input: Words.BadValue 2\n"),
         ("path --keys", b"input: Words.MissingValue 1\n"),
         ("path --rows _ --rows _", b"input: Words.RepeatedOption 3\n"),
-        ("path --page 1", b"input: Words.UnknownOption 1\n"),
+        ("path --dialect 115", b"input: Words.UnknownOption 1\n"),
     ];
     for (line, text) in rows {
         fault(&rt, line, text)?;

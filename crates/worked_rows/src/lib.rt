@@ -17,6 +17,8 @@ mod encodes;
 #[cfg(test)]
 mod faults;
 #[cfg(test)]
+mod fields;
+#[cfg(test)]
 mod floods;
 #[cfg(test)]
 mod keys;
@@ -33,6 +35,8 @@ pub struct Outcome {
     pub status: Status,
     pub out: MemorySink,
     pub err: MemorySink,
+    /// The source, with the bytes that were not read.
+    pub source: MemorySource,
 }
 
 fn counted<L: Ledger>(
@@ -79,5 +83,10 @@ pub fn run_words(
         &mut out,
         &mut err,
     );
-    Ok(Outcome { status, out, err })
+    Ok(Outcome {
+        status,
+        out,
+        err,
+        source,
+    })
 }

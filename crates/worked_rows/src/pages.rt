@@ -159,7 +159,7 @@ fn words_of_the_commands(rt: HostRuntime) -> Result<(), Fail> {
     )?;
     refused(
         &rt,
-        "path --page 1",
+        "path --dialect 115",
         &[],
         text,
         b"input: Words.UnknownOption 1\n",
