@@ -24,3 +24,5 @@ pub mod Marks
 pub mod PrintedLines
 -- Laws of the cells that are spelled.
 pub mod SpelledCells
+-- Worked texts.
+mod Worked
