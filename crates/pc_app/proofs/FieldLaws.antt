@@ -49,11 +49,11 @@ path_reads question bytes F has =
     first_passes _ (problem_fault question (cells_of question.field question.page bytes)) has.none
     ∙ ap (problem_fault question) (field_cells question.field question.page bytes F has.is)
 
-fumen_reads : (number : ℕ) (text : List ℕ) (pages : List Page) → HasText text pages → fumen_fault_of number text ≡ page_fault (Some number) pages
+pub fumen_reads : (number : ℕ) (text : List ℕ) (pages : List Page) → HasText text pages → fumen_fault_of number text ≡ page_fault (Some number) pages
 unfolding fumen_fault_of
 fumen_reads number text pages has = rw (read_from_text text has.dialect pages has.reads) (first_alone (page_fault (Some number) pages))
 
-fumen_stops : (number : ℕ) (text : List ℕ) (f : Fault) → pages_fault (text_pages text) ≡ Some f → fumen_fault_of number text ≡ Some f
+pub fumen_stops : (number : ℕ) (text : List ℕ) (f : Fault) → pages_fault (text_pages text) ≡ Some f → fumen_fault_of number text ≡ Some f
 unfolding fumen_fault_of
 fumen_stops number text f is = first_stops (pages_fault (text_pages text)) _ f is
 

@@ -13,5 +13,6 @@ pub mod ShowablePages
 pub mod SourceLaws
 pub mod PageAnswers
 pub mod EncodeFaults
+pub mod TextFaults
 pub mod PageCells
 pub mod PathAnswers

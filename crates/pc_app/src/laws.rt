@@ -1,5 +1,5 @@
 // Laws of the definitions: functions with an empty body, whose contract is the law.
-ghost use Rattle.std.specs.Prelude.{◌≡◌, ◌≤◌, ◌<◌, ◌↔◌, ℕ, List, length, option_map, Some, None, Ok, Err};
+ghost use Rattle.std.specs.Prelude.{◌≡◌, ◌≤◌, ◌<◌, ◌↔◌, ℕ, false, List, length, Option, option_map, Some, None, Ok, Err};
 ghost use Rattle.lane_board.specs.Field.{Field};
 ghost use Rattle.srs.specs.declared.placement.Placement.{Placement};
 ghost use Rattle.enumerate.specs.declared.problem.Problem.{Problem};
@@ -7,18 +7,22 @@ ghost use Rattle.enumerate.specs.Problem.{IsFit, needed_of};
 ghost use Rattle.enumerate.specs.Solution.{IsSolution};
 ghost use Rattle.fumen_digits.specs.declared.dialect.Dialect.{Dialect};
 ghost use Rattle.fumen_pages.specs.declared.page.Page.{Page};
+ghost use Rattle.fumen_digits.specs.Fault.{Fault as TextFault};
+ghost use Rattle.fumen_text.specs.Faults.{IsTextFault};
+ghost use Rattle.fumen_text.specs.Texts.{ReadsAs};
 ghost use Rattle.fumen_text.specs.Written.{list_fault};
 ghost use Rattle.page_list.specs.declared.fault.ListFault.{ListFault};
 ghost use Rattle.page_list.specs.LineForm.{IsListFault, SpellsPages};
 ghost use Rattle.report.specs.Plain.{sequence_form};
 ghost use Rattle.pc_app.specs.declared.faults.Fault.TheVariants as faults;
-ghost use Rattle.pc_app.specs.declared.faults.Fault.TheVariants.{BadAfter, Encode, SourceTooLong};
-ghost use Rattle.pc_app.specs.Faults.{after_fault, cells_of, encode_fault, most_bytes, text_fault};
+ghost use Rattle.pc_app.specs.declared.faults.Fault.TheVariants.{BadAfter, Encode, Fumen, SourceTooLong};
+ghost use Rattle.pc_app.specs.Faults.{after_fault, cells_of, encode_fault, most_bytes, page_fault, show_fault, source_fault, text_fault};
 ghost use Rattle.pc_app.specs.Reading.{sequence_in};
 ghost use Rattle.pc_app.specs.SequenceText.{Spells, IsBadAfter};
-ghost use Rattle.pc_app.specs.FieldText.{IsFieldOf};
+ghost use Rattle.pc_app.specs.FieldText.{IsFieldOf, is_of_source};
+ghost use Rattle.pc_app.specs.Named.{named};
 ghost use Rattle.pc_app.specs.Output.{IsDecodeOutput, IsOutput};
-ghost use Rattle.pc_app.specs.Words.{FieldText};
+ghost use Rattle.pc_app.specs.Words.{FieldText, fumen_text};
 
 /// What a command writes is determined by its words and, where it reads the source, by the bytes of the source.
 pub fn output_is_determined()
@@ -68,4 +72,25 @@ pub fn encode_faults_are_those_of_the_lines()
         encode_fault dialect bytes ≡ Some (faults.List fault) }
     ensures pages { (dialect : Dialect) (bytes : List ℕ) (pages : List Page) → length bytes ≤ most_bytes → SpellsPages bytes pages →
         encode_fault dialect bytes ≡ option_map (λ fault. Encode fault) (list_fault dialect pages) }
+{}
+
+/// The fault of `decode` is that the source is too long, or else the one fault of its text; that of `show` is this one, or
+/// else that the page which is asked for is none of those that the text reads as.
+pub fn source_faults_are_those_of_the_text()
+    ensures too_long { (bytes : List ℕ) → most_bytes < length bytes → source_fault bytes ≡ Some SourceTooLong }
+    ensures text { (bytes : List ℕ) (fault : TextFault) → length bytes ≤ most_bytes → IsTextFault bytes fault →
+        source_fault bytes ≡ Some (Fumen (named fault)) }
+    ensures pages { (bytes : List ℕ) (dialect : Dialect) (pages : List Page) → length bytes ≤ most_bytes → ReadsAs bytes dialect pages →
+        source_fault bytes ≡ None }
+    ensures page { (bytes : List ℕ) (dialect : Dialect) (pages : List Page) (asked : Option ℕ) → length bytes ≤ most_bytes → ReadsAs bytes dialect pages →
+        show_fault asked bytes ≡ page_fault asked pages }
+{}
+
+/// The fault of a fumen text among the words, as the field, is the one fault of this text, or else that the page which is
+/// asked for is none of those that it reads as.
+pub fn field_faults_are_those_of_the_text()
+    ensures text { (word : List ℕ) (number : ℕ) (bytes : List ℕ) (fault : TextFault) → is_of_source word ≡ false → IsTextFault word fault →
+        text_fault (fumen_text word) number bytes ≡ Some (Fumen (named fault)) }
+    ensures page { (word : List ℕ) (number : ℕ) (bytes : List ℕ) (dialect : Dialect) (pages : List Page) → is_of_source word ≡ false → ReadsAs word dialect pages →
+        text_fault (fumen_text word) number bytes ≡ page_fault (Some number) pages }
 {}
