@@ -1,9 +1,8 @@
 -- The line form at worked texts: what they spell, or their fault.
-use Rattle.std.proofs.Common.{◌≡◌, ℕ, ◌-◌, List, [], ◌∷◌, ◌++◌, Bool, true, false, Option, Some, None, Ok, Err, refl}
+use Rattle.std.proofs.Common.{ℕ, [], ◌∷◌, ◌++◌, true, false, Some, None, refl}
 use Rattle.std.specs.Prelude.{codes, replicate}
 use Rattle.srs.specs.declared.piece.Piece.TheVariants.{T}
 use Rattle.srs.specs.declared.rotation.Rotation.TheVariants.{Spawn}
-use Rattle.srs.specs.declared.placement.Placement.{Placement}
 use Rattle.placement_form.specs.Reading.{placement_in, row_in}
 use Rattle.fumen_comment.specs.Unescape.{hex_value, hex_byte_at, hex_unit_at, unit_of, unescaped_behind}
 use Rattle.fumen_pages.specs.declared.page.Page.{Page}
@@ -13,7 +12,7 @@ use Rattle.page_list.specs.declared.fault.ListKind.TheVariants.{BadLine, BadCell
 use Rattle.page_list.specs.Cells.{cut_at, rows_at, rows_colours, garbage_colours, cells_in}
 use Rattle.page_list.specs.Fields.{is_dash, operation_in, flags_in, units_in, comment_in}
 use Rattle.page_list.specs.Reading.{four_in, line_in}
-use Rattle.page_list.specs.List.{without_return, whole_lines, page_at, pages_from, pages_in}
+use Rattle.page_list.specs.List.{without_return, whole_lines, page_at, pages_from}
 use Rattle.page_list.specs.LineForm.{SpellsPages, IsListFault}
 use Rattle.page_list.proofs.PagesSpelled.{pages_spelled, fault_spelled}
 

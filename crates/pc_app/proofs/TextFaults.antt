@@ -1,5 +1,5 @@
 -- The faults of a fumen text, the source's or another, by what it reads as.
-use Rattle.std.proofs.Common.{◌≡◌, ℕ, ◌<◌, ◌≤◌, false, List, length, Option, Some, None, refl, ap, ◌∙◌, arith}
+use Rattle.std.proofs.Common.{◌≡◌, ℕ, ◌<◌, ◌≤◌, false, List, length, Option, Some, None, ap, ◌∙◌, arith}
 use Rattle.fumen_digits.specs.declared.dialect.Dialect.{Dialect}
 use Rattle.fumen_digits.specs.Fault.{Fault as TextFault}
 use Rattle.fumen_pages.specs.declared.page.Page.{Page}
