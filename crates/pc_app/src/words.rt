@@ -100,73 +100,25 @@ fn with_value<'a>(given: Given<'a>, option: CommandOption, value: &'a str) -> Op
     ensures value { option_map given_view result ≡ with_value (given_view given.entry) option value.entry.now }
     ensures ranges { IfSome result (λ more. HasRanges more) }
 {
+    let mut more = given;
     match option {
-        CommandOption::Rows => Some(Given {
-            rows: Some(value),
-            ..given
-        }),
-        CommandOption::Tetfu => Some(Given {
-            tetfu: Some(value),
-            ..given
-        }),
+        CommandOption::Rows => more.rows = Some(value),
+        CommandOption::Tetfu => more.tetfu = Some(value),
         CommandOption::ClearLine => {
-            let height = number_in(1, MOST_ROWS, value.as_bytes())?;
-            Some(Given {
-                height: Some(height as u8),
-                ..given
-            })
+            more.height = Some(number_in(1, MOST_ROWS, value.as_bytes())? as u8);
         }
-        CommandOption::Patterns => Some(Given {
-            patterns: Some(value),
-            ..given
-        }),
-        CommandOption::Hold => {
-            let hold = hold_named(value)?;
-            Some(Given {
-                hold: Some(hold),
-                ..given
-            })
-        }
-        CommandOption::Drop => {
-            let drop_mode = drop_named(value)?;
-            Some(Given {
-                drop_mode: Some(drop_mode),
-                ..given
-            })
-        }
-        CommandOption::Keys => {
-            let keys = yes_named(value)?;
-            Some(Given {
-                keys: Some(keys),
-                ..given
-            })
-        }
+        CommandOption::Patterns => more.patterns = Some(value),
+        CommandOption::Hold => more.hold = Some(hold_named(value)?),
+        CommandOption::Drop => more.drop_mode = Some(drop_named(value)?),
+        CommandOption::Keys => more.keys = Some(yes_named(value)?),
         CommandOption::Limit => {
-            let limit = number_in(1, MOST_SEQUENCES, value.as_bytes())?;
-            Some(Given {
-                limit: Some(limit),
-                ..given
-            })
+            more.limit = Some(number_in(1, MOST_SEQUENCES, value.as_bytes())?);
         }
-        CommandOption::After => Some(Given {
-            after: Some(value),
-            ..given
-        }),
-        CommandOption::Page => {
-            let page = number_in(1, MOST_PAGES, value.as_bytes())?;
-            Some(Given {
-                page: Some(page),
-                ..given
-            })
-        }
-        CommandOption::Dialect => {
-            let dialect = dialect_named(value)?;
-            Some(Given {
-                dialect: Some(dialect),
-                ..given
-            })
-        }
+        CommandOption::After => more.after = Some(value),
+        CommandOption::Page => more.page = Some(number_in(1, MOST_PAGES, value.as_bytes())?),
+        CommandOption::Dialect => more.dialect = Some(dialect_named(value)?),
     }
+    Some(more)
 }
 
 // Takes the name at an index and its value, where there is one.

@@ -114,56 +114,19 @@ fn pages_are_shown(rt: HostRuntime) -> Result<(), Fail> {
 
 #[test]
 fn words_of_the_commands(rt: HostRuntime) -> Result<(), Fail> {
-    let text = b"v115@vhAAgH";
-    refused(
-        &rt,
-        "decode --page 1",
-        &[],
-        text,
-        b"input: Words.UnknownOption 1\n",
-    )?;
-    refused(
-        &rt,
-        "show --rows _",
-        &[],
-        text,
-        b"input: Words.UnknownOption 1\n",
-    )?;
-    refused(
-        &rt,
-        "show --page 0",
-        &[],
-        text,
-        b"input: Words.BadValue 2\n",
-    )?;
-    refused(
-        &rt,
-        "show --page 10001",
-        &[],
-        text,
-        b"input: Words.BadValue 2\n",
-    )?;
-    refused(
-        &rt,
-        "show --page",
-        &[],
-        text,
-        b"input: Words.MissingValue 1\n",
-    )?;
-    refused(
-        &rt,
-        "show --page 1 --page 1",
-        &[],
-        text,
-        b"input: Words.RepeatedOption 3\n",
-    )?;
-    refused(
-        &rt,
-        "path --dialect 115",
-        &[],
-        text,
-        b"input: Words.UnknownOption 1\n",
-    )
+    let rows: [(&str, &[u8]); 7] = [
+        ("decode --page 1", b"input: Words.UnknownOption 1\n"),
+        ("show --rows _", b"input: Words.UnknownOption 1\n"),
+        ("show --page 0", b"input: Words.BadValue 2\n"),
+        ("show --page 10001", b"input: Words.BadValue 2\n"),
+        ("show --page", b"input: Words.MissingValue 1\n"),
+        ("show --page 1 --page 1", b"input: Words.RepeatedOption 3\n"),
+        ("path --dialect 115", b"input: Words.UnknownOption 1\n"),
+    ];
+    for (line, fault) in rows {
+        refused(&rt, line, &[], b"v115@vhAAgH", fault)?;
+    }
+    Ok(())
 }
 
 #[test]
