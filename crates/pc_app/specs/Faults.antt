@@ -82,7 +82,7 @@ abbrev pub pages_fault : Result (Dialect × List Page) TextFault → Option Faul
 pages_fault (Ok pages) = None
 pages_fault (Err fault) = Some (faults.Fumen (named fault))
 
--- the source is a fumen text
+-- The source is a fumen text: the law `source_faults_are_those_of_the_text` says this of the reading `text_pages`.
 unfoldable pub source_fault : List ℕ → Option Fault
 source_fault bytes = first_of_these (length_fault (length bytes) ∷ pages_fault (text_pages bytes) ∷ [])
 
@@ -98,7 +98,8 @@ unwritten_fault dialect (Err fault) = None
 unfoldable pub lines_fault : List ℕ → Option Fault
 lines_fault bytes = first_of_these (length_fault (length bytes) ∷ list_fault_of (pages_in bytes) ∷ [])
 
--- the source, and then its pages, which can be written in the dialect
+-- The source, and then its pages, which can be written in the dialect: the law `encode_faults_are_those_of_the_lines` says
+-- this of the reading `pages_in`.
 unfoldable pub encode_fault : Dialect → List ℕ → Option Fault
 encode_fault dialect bytes = first_of_these (lines_fault bytes ∷ unwritten_fault dialect (pages_in bytes) ∷ [])
 
@@ -115,7 +116,8 @@ asked_fault asked (Err fault) = None
 unfoldable pub show_fault : Option ℕ → List ℕ → Option Fault
 show_fault asked bytes = first_of_these (source_fault bytes ∷ asked_fault asked (text_pages bytes) ∷ [])
 
--- a fumen text among the words, of whatever length, and then the page
+-- A fumen text among the words, of whatever length, and then the page: the law `field_faults_are_those_of_the_text` says this
+-- of the reading `text_pages`.
 unfoldable pub fumen_fault_of : ℕ → List ℕ → Option Fault
 fumen_fault_of number text = first_of_these (pages_fault (text_pages text) ∷ asked_fault (Some number) (text_pages text) ∷ [])
 
