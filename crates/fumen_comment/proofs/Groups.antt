@@ -6,15 +6,13 @@ use Rattle.std.proofs.Math.Seq.{take-append-add}
 use Rattle.std.proofs.lemmas.Bool.{cases_lt, ltb-true, and_parts}
 use Rattle.std.proofs.lemmas.List.{append-nil, take_all, take-append-le, length-append}
 use Rattle.fumen_digits.specs.Number.{digits, Stands, NumberStands}
-use Rattle.fumen_digits.specs.Fault.{Fault}
+use Rattle.fumen_digits.specs.Fault.{Fault, IsNumberFault}
 use Rattle.fumen_digits.specs.Fault.Fault.{BadComment}
-use Rattle.fumen_digits.specs.Reading.{◌>>=◌, number_at, IsNumberFault}
-use Rattle.fumen_digits.proofs.Binds.{bind_ok, bind_err, ok_bind, err_bind}
-use Rattle.fumen_digits.proofs.Numbers.{length-digits}
-use Rattle.fumen_digits.proofs.Standing.{Stands-nil, Stands-then, Stands-parts}
-use Rattle.fumen_digits.proofs.Readings.{stands_from_read, read_from_stands, number_fault_from_read, read_from_number_fault}
+use Rattle.fumen_digits.specs.Reading.{◌>>=◌, number_at}
+use Rattle.fumen_digits.proofs.CallerLemmas.{bind_ok, bind_err, ok_bind, err_bind, length-digits, Stands-nil, Stands-then, Stands-parts, stands_from_read, read_from_stands, number_fault_from_read, read_from_number_fault}
 use Rattle.fumen_comment.specs.Part.{unpacked, is_group, AreGroups}
-use Rattle.fumen_comment.specs.Reading.{group_at, text_at, IsBadGroup}
+use Rattle.fumen_comment.specs.Reading.{group_at, text_at}
+use Rattle.fumen_comment.specs.Faults.{IsBadGroup}
 use Rattle.fumen_comment.proofs.Packing.{length-unpacked}
 
 -- ---- the characters of groups

@@ -1,12 +1,13 @@
--- Lemmas on escaping and on the comment part. The crates above cite EscapeLaws, PartLaws and Written.
-pub mod Tables
-pub mod Packing
-pub mod UnescapeLoop
-pub mod WriteLoop
-pub mod EscapeLaws
-pub mod ReadLoop
-pub mod Groups
-pub mod PartLaws
-pub mod Written
+-- Lemmas on escaping and on the comment part.
+mod Tables
+mod Packing
+mod UnescapeLoop
+mod WriteLoop
+mod EscapeLaws
+mod ReadLoop
+mod Groups
+mod CommentReadAsSpelled
+mod WrittenIsSpelled
 mod Worked
-pub mod UnitLaws
+mod UnitLaws
+pub mod CallerLemmas

@@ -4,11 +4,13 @@ use Rattle.std.proofs.lemmas.List.{append-nil}
 use Rattle.pc_outside.specs.declared.answers.Refused.{Refused}
 use Rattle.pc_outside.specs.declared.answers.Refused.TheVariants as refused
 use Rattle.fumen_digits.specs.Fault.{Fault}
-use Rattle.fumen_digits.specs.Reading.{◌>>=◌, Refuses}
-use Rattle.fumen_digits.proofs.Binds.{ok_bind, err_bind}
+use Rattle.fumen_digits.specs.Reading.{◌>>=◌}
+use Rattle.fumen_digits.specs.Answers.{IsRefusal}
+use Rattle.fumen_digits.proofs.CallerLemmas.{ok_bind, err_bind}
 use Rattle.fumen_comment.specs.declared.part.CommentFault.{CommentFault}
 use Rattle.fumen_comment.specs.Part.{unpacked, group_count}
-use Rattle.fumen_comment.specs.Reading.{group_at, text_at, comment_fault}
+use Rattle.fumen_comment.specs.Reading.{group_at, text_at}
+use Rattle.fumen_comment.specs.Faults.{comment_fault}
 
 -- what is read so far, before what is still to come
 unfoldable pub with_front : List ℕ → Result (List ℕ × ℕ) Fault → Result (List ℕ × ℕ) Fault
@@ -55,8 +57,8 @@ text_more ds start count text place left group more some room read more_is s =
       completes = ap (λ (x : List ℕ). with_front (text ++ x) rest) more_is ∙ (sym (regroup text (take left (unpacked 4 group)) rest) ∙ (ap (λ (r : Result (List ℕ × ℕ) Fault). with_front text r) (sym (read_group ds place left group some read)) ∙ s.completes));
     }
 
-pub text_stops : (e : Refused CommentFault) (ds : List ℕ) (start count : ℕ) (text : List ℕ) (place left : ℕ) → 0 < left → Refuses comment_fault e (group_at ds place left)
-    → IsReadSoFar ds start count text place left → Refuses comment_fault e (rest_at ds start count)
+pub text_stops : (e : Refused CommentFault) (ds : List ℕ) (start count : ℕ) (text : List ℕ) (place left : ℕ) → 0 < left → IsRefusal comment_fault e (group_at ds place left)
+    → IsReadSoFar ds start count text place left → IsRefusal comment_fault e (rest_at ds start count)
 unfolding text_at with_front
 text_stops (refused.Fault d) ds start count text place left some read s =
     let failed : rest_at ds place left ≡ Err (comment_fault d) = rw (one_group left some) (err_bind (group_at ds place left) (λ g. behind_group ds place left (group_count (left - 4)) g) (comment_fault d) read) in

@@ -3,7 +3,7 @@ use Rattle.std.proofs.Common.{◌≡◌, ℕ, ◌+◌, ◌-◌, ◌<◌, Bool, t
 use Rattle.std.proofs.lemmas.Bool.{agree_below_at, eqb-true}
 use Rattle.fumen_comment.specs.Escape.{stays, hex_digit}
 use Rattle.fumen_comment.specs.Unescape.{hex_value}
-use Rattle.fumen_digits.proofs.OptionTest.{same_option, same_option-true}
+use Rattle.fumen_digits.proofs.CallerLemmas.{same_option, same_option-true}
 
 abbrev pub ranged_hex_digit : ℕ → ℕ
 ranged_hex_digit v = cond (ltb v 10) (48 + v) (65 + (v - 10))

@@ -1,6 +1,7 @@
 -- Text as ECMAScript's `escape` writes it (Annex B), from units of 16 bits.
-use Rattle.std.specs.Prelude.{ℕ, ◌/◌, ◌%◌, ◌≤◌, List, [], ◌∷◌, ◌++◌, Bool, ◌==◌, nat_lt, if◌then◌else◌, slice_index, codes}
+use Rattle.std.specs.Prelude.{ℕ, ◌/◌, ◌%◌, ◌^◌, ◌<◌, ◌≤◌, All, Option, List, [], ◌∷◌, ◌++◌, Bool, ◌==◌, nat_lt, if◌then◌else◌, slice_index, codes}
 use Rattle.std.specs.List.{list_any, flat_map}
+use Rattle.std.specs.Option.{ForSome}
 
 -- a character from the blank to `~`
 abbrev pub IsPrintable : ℕ → Type 0
@@ -27,3 +28,7 @@ escaped_unit unit =
 -- the escaped text of some units
 unfoldable pub escaped : List ℕ → List ℕ
 escaped units = flat_map escaped_unit units
+
+-- the units of a comment, if there is one, have 16 bits
+abbrev pub HasUnits : Option (List ℕ) → Type 0
+HasUnits comment = ForSome comment (λ units. All (λ unit. unit < 2 ^ 16) units)

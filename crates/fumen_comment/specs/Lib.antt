@@ -1,5 +1,7 @@
--- What the contracts of this crate, and of the crates above that have comments, speak of.
+-- What a reader must believe
 pub mod Escape
 pub mod Unescape
 pub mod Part
+pub mod Faults
+-- What serves proofs alone
 pub mod Reading

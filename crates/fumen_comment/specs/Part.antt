@@ -27,7 +27,8 @@ groups_of (suc count) text = packed (take 4 text) ∷ groups_of count (drop 4 te
 unfoldable pub comment_digits : List ℕ → List ℕ
 comment_digits text = digits 2 (length text) ++ flat_map (digits 5) (groups_of (group_count (length text)) text)
 
--- whether a number is a group where so many characters are still to come: it is below 96 ^ 4, and none of these has the value 95
+-- whether a number is a group where so many characters are still to come: it is below 96 ^ 4, and none of these has the
+-- value 95
 unfoldable pub is_group : ℕ → ℕ → Bool
 is_group left group = nat_lt group (96 ^ 4) && list_all (λ c. nat_lt c 127) (take left (unpacked 4 group))
 

@@ -38,7 +38,7 @@ fn push_unit(text: &mut Vec<u8>, unit: u16) -> Result<(), NoMemory>
     push_hex_byte(text, (unit % 256) as u8)
 }
 
-// A unit below 256.
+/// A unit below 256.
 fn push_low_unit(text: &mut Vec<u8>, unit: u8) -> Result<(), NoMemory>
     ensures { OnOk result (text.new.items ≡ text.old.items ++ escaped_unit unit) }
 {

@@ -3,13 +3,14 @@
 
 mod comment;
 mod escaping;
+pub mod laws;
 mod part;
 mod unescaping;
 
 pub use comment::Comment;
 pub use escaping::escape;
-pub use part::{CommentFault, read_comment, write_comment, write_comment_undone};
-pub use unescaping::{escape_undone, unescape};
+pub use part::{CommentFault, read_comment, write_comment};
+pub use unescaping::unescape;
 
 #[cfg(test)]
 mod tests;

@@ -1,14 +1,14 @@
 // The comment part of a page: the length of the escaped text, and its characters in groups of four.
 ghost use Rattle.std.specs.Prelude.{◌≡◌, ℕ, ◌+◌, ◌^◌, ◌<◌, ◌≤◌, ◌++◌, List, length, take, nat_lt, All, IfOk, OnOk, OnErr, Ok, Err};
 ghost use Rattle.std.specs.List.{list_all};
-ghost use Rattle.fumen_digits.specs.Digit.{AreDigits};
-ghost use Rattle.fumen_digits.specs.Number.{digits, Stands};
-ghost use Rattle.fumen_digits.specs.Reading.{Gives, number_at};
+ghost use Rattle.fumen_digits.specs.Number.{digits};
+ghost use Rattle.fumen_digits.specs.Reading.{number_at};
+ghost use Rattle.fumen_digits.specs.Answers.{Gives};
 ghost use Rattle.fumen_comment.specs.declared.part.CommentFault.{CommentFault};
 ghost use Rattle.fumen_comment.specs.Escape.{IsPrintable};
-ghost use Rattle.fumen_comment.specs.Unescape.{unescaped};
-ghost use Rattle.fumen_comment.specs.Part.{comment_digits, group_count, is_group, packed, SpellsComment, unpacked};
-ghost use Rattle.fumen_comment.specs.Reading.{CommentStands, IsCommentFault, comment_at, comment_fault, group_at, text_at};
+ghost use Rattle.fumen_comment.specs.Part.{comment_digits, group_count, is_group, packed, unpacked};
+ghost use Rattle.fumen_comment.specs.Reading.{comment_at, group_at, text_at};
+ghost use Rattle.fumen_comment.specs.Faults.{CommentStands, IsCommentFault, comment_fault};
 
 use crate::comment::Comment;
 use crate::unescaping::unescape;
@@ -44,7 +44,7 @@ pub fn write_comment(out: &mut Vec<u8>, escaped: &[u8]) -> Result<(), NoMemory>
     written
 }
 
-// Appends the length and the groups, or a front of them.
+/// Appends the length and the groups, or a front of them.
 fn push_part(out: &mut Vec<u8>, escaped: &[u8]) -> Result<(), NoMemory>
     requires short { length escaped.now ≤ 4095 }
     requires printable { All IsPrintable escaped.now }
@@ -58,7 +58,7 @@ fn push_part(out: &mut Vec<u8>, escaped: &[u8]) -> Result<(), NoMemory>
     Ok(())
 }
 
-// Appends the group of up to four characters.
+/// Appends the group of up to four characters.
 fn push_group(out: &mut Vec<u8>, group: &[u8]) -> Result<(), NoMemory>
     requires short { length group.now ≤ 4 }
     requires printable { All IsPrintable group.now }
@@ -68,7 +68,7 @@ fn push_group(out: &mut Vec<u8>, group: &[u8]) -> Result<(), NoMemory>
     push_number(out, packed(group), 5)
 }
 
-// The number of up to four characters.
+/// The number of up to four characters.
 fn packed(group: &[u8]) -> u32
     requires short { length group.now ≤ 4 }
     requires printable { All IsPrintable group.now }
@@ -83,16 +83,6 @@ fn packed(group: &[u8]) -> u32
     }
     number
 }
-
-/// What is written is read again: the comment part of an escaped text has only digits, spells the
-/// unescaped units, and is read as these wherever it stands.
-pub fn write_comment_undone()
-    ensures digits { (text : List ℕ) → AreDigits (comment_digits text) }
-    ensures spells { (text : List ℕ) → length text ≤ 4095 → All IsPrintable text →
-        SpellsComment (unescaped text) (comment_digits text) }
-    ensures read { (ds text : List ℕ) (place end : ℕ) → length text ≤ 4095 → All IsPrintable text →
-        Stands ds place (comment_digits text) end → comment_at ds place ≡ Ok (unescaped text, end) }
-{}
 
 /// Reads the comment part at a place: the comment, and the place behind it.
 ///
@@ -116,7 +106,8 @@ pub fn read_comment(
         Gives (λ x. x) comment_fault result (Ok (units, end)) }
 
     // A fault is the first one there, and the first one there is answered, unless memory runs out.
-    ensures fault { (f : CommentFault) → result ≡ Err (Refused.Fault f) → IsCommentFault digits.now place (comment_fault f) }
+    ensures fault { (f : CommentFault) → result ≡ Err (Refused.Fault f) →
+        IsCommentFault digits.now place (comment_fault f) }
     ensures fault_only { (f : CommentFault) → IsCommentFault digits.now place (comment_fault f) →
         Gives (λ x. x) comment_fault result (Err (comment_fault f)) }
 {
@@ -138,7 +129,7 @@ fn read_part(
     Ok((comment, end))
 }
 
-// The characters of this many, and the place behind their groups.
+/// The characters of this many, and the place behind their groups.
 fn read_text(
     alloc: Global,
     digits: &[u8],
@@ -161,7 +152,7 @@ fn read_text(
     Ok((text, place))
 }
 
-// The group at a place, from which so many characters are still to come.
+/// The group at a place, from which so many characters are still to come.
 #[tactic(auto, unfolding(crate::specs::Reading::group_at))]
 fn group_at(digits: &[u8], place: usize, left: usize) -> Result<u32, Refused<CommentFault>>
     requires { place ≤ length digits.now }
@@ -185,14 +176,14 @@ fn is_group(left: usize, group: u32) -> bool
     all_below_95(&characters[..left.min(4)])
 }
 
-// Whether no character has the value 95, which no character stands for.
+/// Whether no character has the value 95, which no character stands for.
 fn all_below_95(characters: &[u8]) -> bool
     ensures { result ≡ list_all (λ c. nat_lt c 127) characters.now }
 {
     characters.iter().all(|c| *c < 127)
 }
 
-// The four characters of a group.
+/// The four characters of a group.
 #[tactic(auto, unfolding(crate::specs::Part::unpacked))]
 fn unpacked(group: u32) -> [u8; 4]
     ensures { result ≡ unpacked 4 group }
@@ -205,7 +196,7 @@ fn unpacked(group: u32) -> [u8; 4]
     ]
 }
 
-// The number at a place, its fault as one of a comment.
+/// The number at a place, its fault as one of a comment.
 fn number_at(digits: &[u8], place: usize, count: u8) -> Result<u32, Refused<CommentFault>>
     requires place { place ≤ length digits.now }
     requires most { count ≤ 5 }

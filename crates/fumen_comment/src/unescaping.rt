@@ -1,6 +1,5 @@
 // Units from escaped text.
-ghost use Rattle.std.specs.Prelude.{◌≡◌, ℕ, ◌^◌, ◌<◌, ◌≤◌, List, length, All, IfOk, IfSome};
-ghost use Rattle.fumen_comment.specs.Escape.{escaped};
+ghost use Rattle.std.specs.Prelude.{◌≡◌, ◌<◌, ◌≤◌, length, IfOk, IfSome};
 ghost use Rattle.fumen_comment.specs.Unescape.{hex_byte_at, hex_unit_at, hex_value, unescaped, unit_of};
 
 use crate::comment::Comment;
@@ -24,7 +23,7 @@ pub fn unescape(alloc: Global, text: &[u8]) -> Result<Comment, NoMemory>
     Ok(Comment::from_units(units))
 }
 
-// The unit that a character stands for, and how many of the characters behind it belong to it.
+/// The unit that a character stands for, and how many of the characters behind it belong to it.
 #[tactic(auto, unfolding(crate::specs::Unescape::unit_of))]
 fn unit_of(c: u8, behind: &[u8]) -> (u16, usize)
     ensures unit { result.0 ≡ (unit_of c behind.now).0 }
@@ -43,7 +42,7 @@ fn unit_of(c: u8, behind: &[u8]) -> (u16, usize)
     (u16::from(b'%'), 0)
 }
 
-// The number of the four hexadecimal digits behind the `u` that a text begins with.
+/// The number of the four hexadecimal digits behind the `u` that a text begins with.
 #[tactic(auto, unfolding(crate::specs::Unescape::hex_unit_at))]
 fn hex_unit_at(text: &[u8]) -> Option<u16>
     ensures value { result ≡ hex_unit_at text.now }
@@ -59,7 +58,7 @@ fn hex_unit_at(text: &[u8]) -> Option<u16>
     }
 }
 
-// The number of the two hexadecimal digits that a text begins with.
+/// The number of the two hexadecimal digits that a text begins with.
 #[tactic(auto, unfolding(crate::specs::Unescape::hex_byte_at))]
 fn hex_byte_at(text: &[u8]) -> Option<u8>
     ensures value { result ≡ hex_byte_at text.now }
@@ -71,7 +70,7 @@ fn hex_byte_at(text: &[u8]) -> Option<u8>
     }
 }
 
-// The value of a hexadecimal digit of either case.
+/// The value of a hexadecimal digit of either case.
 #[tactic(auto, using(crate::proofs::Tables::hex_value_by_range))]
 fn hex_value(c: u8) -> Option<u8>
     ensures value { result ≡ hex_value c }
@@ -84,8 +83,3 @@ fn hex_value(c: u8) -> Option<u8>
         _ => None,
     }
 }
-
-/// Unescaping undoes escaping: `unescape` gives back the units that `escape` wrote.
-pub fn escape_undone()
-    ensures { (units : List ℕ) → All (λ unit. unit < 2 ^ 16) units → unescaped (escaped units) ≡ units }
-{}

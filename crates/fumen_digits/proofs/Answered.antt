@@ -5,8 +5,8 @@ use Rattle.pc_outside.specs.declared.answers.Refused.{Refused}
 use Rattle.pc_outside.specs.declared.answers.Refused.TheVariants as refused
 use Rattle.fumen_digits.specs.declared.number.DigitFault.{DigitFault}
 use Rattle.fumen_digits.specs.declared.number.DigitFault.TheVariants as digit
-use Rattle.fumen_digits.specs.Fault.{Fault}
-use Rattle.fumen_digits.specs.Reading.{Reads, Gives, digit_fault}
+use Rattle.fumen_digits.specs.Fault.{Fault, digit_fault}
+use Rattle.fumen_digits.specs.Answers.{Reads, Gives}
 
 pub reads_ok : {X Y E : Type 0} (view : X → Y) (fault : E → Fault) (r : Result X E) (read : Result Y Fault) (x : X) → Reads view fault r read → r ≡ Ok x → read ≡ Ok (view x)
 reads_ok {X = X} {E = E} view fault r read x reads e = let P : Result X E → Type 0 = λ q. Reads view fault q read in subst P e reads

@@ -4,10 +4,10 @@ use Rattle.fumen_digits.specs.declared.dialect.Dialect.{Dialect}
 use Rattle.fumen_digits.specs.declared.dialect.Dialect.TheVariants.{V110, V115}
 
 -- the rows of a page, the garbage row not among them
-abbrev pub row_count : Dialect → ℕ
-row_count V110 = 21
-row_count V115 = 23
+abbrev pub page_row_count : Dialect → ℕ
+page_row_count V110 = 21
+page_row_count V115 = 23
 
 -- the cells of a page: ten in each row, and ten in the garbage row
-abbrev pub cell_count : Dialect → ℕ
-cell_count dialect = 10 * row_count dialect + 10
+abbrev pub page_cell_count : Dialect → ℕ
+page_cell_count dialect = 10 * page_row_count dialect + 10

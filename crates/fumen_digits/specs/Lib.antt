@@ -1,7 +1,9 @@
--- What the contracts of this crate, and of the crates above that read fumens, speak of.
+-- What a reader must believe
 pub mod Dialect
 pub mod Digit
 pub mod Number
 pub mod Fault
-pub mod Reading
 pub mod Framing
+pub mod Answers
+-- What serves proofs alone
+pub mod Reading

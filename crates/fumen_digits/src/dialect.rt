@@ -11,11 +11,11 @@ pub enum Dialect {
 }
 
 impl Dialect {
-    ghost use Rattle.fumen_digits.specs.Dialect.{row_count, cell_count};
+    ghost use Rattle.fumen_digits.specs.Dialect.{page_row_count, page_cell_count};
 
     /// The rows of a page, without the garbage row under them.
     pub fn rows(self) -> u8
-        ensures { result ≡ row_count self }
+        ensures { result ≡ page_row_count self }
     {
         match self {
             Dialect::V110 => 21,
@@ -25,7 +25,7 @@ impl Dialect {
 
     /// The cells of a page, those of the garbage row among them.
     pub fn cells(self) -> u8
-        ensures { result ≡ cell_count self }
+        ensures { result ≡ page_cell_count self }
     {
         10 * (self.rows() + 1)
     }

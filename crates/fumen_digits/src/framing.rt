@@ -1,8 +1,7 @@
 // The text round the digits: the prefix, the line breaks, and the end.
-ghost use Rattle.std.specs.Prelude.{◌≡◌, ℕ, ◌≤◌, List, length, Some, IfOk, IsSome, IsTrue};
+ghost use Rattle.std.specs.Prelude.{◌≡◌, ◌≤◌, length, Some, IfOk, IsSome, IsTrue};
 ghost use Rattle.std.specs.Option.{option_map};
 ghost use Rattle.fumen_digits.specs.declared.dialect.Dialect.{Dialect};
-ghost use Rattle.fumen_digits.specs.Digit.{AreDigits};
 ghost use Rattle.fumen_digits.specs.Framing.{begins_line, broken, dialect_at, digits_in, has_prefix, is_dropped, kept, version};
 
 use crate::dialect::Dialect;
@@ -26,7 +25,7 @@ pub fn digits_of(alloc: Global, text: &[u8]) -> Result<Option<(Dialect, Vec<u8>)
     Ok(None)
 }
 
-// The dialect of the prefix that a text begins with.
+/// The dialect of the prefix that a text begins with.
 fn dialect_at(text: &[u8]) -> Option<Dialect>
     ensures value { result ≡ dialect_at text.now }
     ensures room { IsSome result → 5 ≤ length text.now }
@@ -52,7 +51,7 @@ fn has_prefix(dialect: Dialect, text: &[u8]) -> bool
     }
 }
 
-// What stands behind the letter of a prefix.
+/// What stands behind the letter of a prefix.
 fn version(dialect: Dialect) -> &'static [u8]
     ensures { result.now ≡ version dialect }
 {
@@ -68,7 +67,7 @@ fn is_dropped(byte: u8) -> bool
     matches!(byte, 9..=13 | b' ' | b'?')
 }
 
-// The digits of the text behind a prefix.
+/// The digits of the text behind a prefix.
 #[tactic(auto, unfolding(crate::specs::Framing::kept))]
 fn kept(alloc: Global, text: &[u8]) -> Result<Vec<u8>, NoMemory>
     ensures { IfOk result (λ digits. digits.items ≡ kept text.now) }
@@ -100,15 +99,9 @@ pub fn break_lines(alloc: Global, dialect: Dialect, digits: &[u8]) -> Result<Vec
     Ok(text)
 }
 
-// Whether a line begins at this digit.
+/// Whether a line begins at this digit.
 fn begins_line(place: usize) -> bool
     ensures { result ≡ begins_line place }
 {
     place >= 42 && (place - 42) % 47 == 0
 }
-
-/// What was broken into lines is read again: `digits_of` undoes `break_lines`, for digits.
-pub fn break_lines_undone()
-    ensures { (dialect : Dialect) (digits : List ℕ) → AreDigits digits →
-        digits_in (broken dialect digits) ≡ Some (dialect, digits) }
-{}

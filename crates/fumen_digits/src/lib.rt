@@ -4,12 +4,13 @@
 mod dialect;
 mod digit;
 mod framing;
+pub mod laws;
 mod number;
 
 pub use dialect::Dialect;
 pub use digit::{digit_of, digit_value};
-pub use framing::{break_lines, break_lines_undone, digits_of};
-pub use number::{DigitFault, push_number, push_number_undone, read_number};
+pub use framing::{break_lines, digits_of};
+pub use number::{DigitFault, push_number, read_number};
 
 #[cfg(test)]
 mod tests;

@@ -1,9 +1,10 @@
 // Numbers of a fixed count of digits, the least digit first.
-ghost use Rattle.std.specs.Prelude.{◌≡◌, ℕ, ◌+◌, ◌^◌, ◌<◌, ◌≤◌, ◌↔◌, ◌++◌, List, length, take, IfOk, OnOk, OnErr, Ok, Err};
+ghost use Rattle.std.specs.Prelude.{◌≡◌, ℕ, ◌+◌, ◌^◌, ◌<◌, ◌≤◌, ◌↔◌, ◌++◌, length, take, IfOk, OnOk, OnErr, Ok, Err};
 ghost use Rattle.fumen_digits.specs.declared.number.DigitFault.{DigitFault};
-ghost use Rattle.fumen_digits.specs.Digit.{AreDigits};
-ghost use Rattle.fumen_digits.specs.Number.{digits, NumberStands, Stands};
-ghost use Rattle.fumen_digits.specs.Reading.{Reads, digit_fault, value_at, number_at, IsNumberFault};
+ghost use Rattle.fumen_digits.specs.Number.{digits, NumberStands};
+ghost use Rattle.fumen_digits.specs.Reading.{value_at, number_at};
+ghost use Rattle.fumen_digits.specs.Fault.{digit_fault, IsNumberFault};
+ghost use Rattle.fumen_digits.specs.Answers.{Reads};
 
 use crate::digit::{digit_of, digit_value};
 use pc_outside::NoMemory;
@@ -30,7 +31,7 @@ pub fn push_number(out: &mut Vec<u8>, number: u32, count: u8) -> Result<(), NoMe
     Ok(())
 }
 
-// The digits of a number, at the front.
+/// The digits of a number, at the front.
 fn spell(number: u32, count: u8) -> [u8; 5]
     requires { count ≤ 5 }
     ensures { take count result ≡ digits count number }
@@ -43,14 +44,6 @@ fn spell(number: u32, count: u8) -> [u8; 5]
     }
     spelled
 }
-
-/// What is written is read again: the digits of a number are digits, and are read as this number wherever
-/// they stand.
-pub fn push_number_undone()
-    ensures digits { (count n : ℕ) → AreDigits (digits count n) }
-    ensures read { (ds : List ℕ) (place count n : ℕ) → n < 64 ^ count → Stands ds place (digits count n) (place + count) →
-        number_at ds place count ≡ Ok n }
-{}
 
 /// Reads the number of this many digits at a place.
 ///
@@ -74,7 +67,7 @@ pub fn read_number(digits: &[u8], place: usize, count: u8) -> Result<u32, DigitF
     read_digits(digits, place, count)
 }
 
-// The number, digit by digit.
+/// The number, digit by digit.
 fn read_digits(digits: &[u8], place: usize, count: u8) -> Result<u32, DigitFault>
     requires place { place ≤ length digits.now }
     requires most { count ≤ 5 }
@@ -90,7 +83,7 @@ fn read_digits(digits: &[u8], place: usize, count: u8) -> Result<u32, DigitFault
     Ok(number)
 }
 
-// The value of the digit at a place, in a number that begins at start.
+/// The value of the digit at a place, in a number that begins at start.
 #[tactic(auto, unfolding(crate::specs::Reading::value_at))]
 fn value_at(digits: &[u8], start: usize, place: usize) -> Result<u32, DigitFault>
     ensures value { Reads (λ v. v) digit_fault result (value_at digits.now start place) }

@@ -1,15 +1,16 @@
--- Lemmas on pages. The crates above cite NextSound, ActionLaws, TailLaws and CellsLaws.
-pub mod InsideLaws
-pub mod RowLaws
-pub mod NextLaws
-pub mod NextSound
-pub mod FlagLaws
-pub mod ActionLaws
-pub mod TailLaws
-pub mod RecordLaws
-pub mod CellsLaws
-pub mod RecordLoop
-pub mod WrittenLaws
-pub mod WriteLoop
-pub mod ActionWritten
+-- Lemmas on pages: their cells, their actions, and what one leaves for the next.
+mod InsideLaws
+mod RowLaws
+mod NextLaws
+mod NextSound
+mod FlagLaws
+mod ActionReadAsSpelled
+mod PageReadAsSpelled
+mod RunsReadAsSpelled
+mod RecordReadAsSpelled
+mod RecordLoop
+mod WrittenRecordIsSpelled
+mod WriteLoop
+mod WrittenActionIsSpelled
 mod Worked
+pub mod CallerLemmas

@@ -8,18 +8,18 @@ use Rattle.std.proofs.lemmas.List.{take-take, append-nil, take-append-drop, drop
 use borrow.Rule.Slice.PartMut.{put_mid, mid_of}
 use Rattle.fumen_digits.specs.declared.dialect.Dialect.{Dialect}
 use Rattle.fumen_digits.specs.declared.dialect.Dialect.TheVariants.{V110, V115}
-use Rattle.fumen_digits.specs.Dialect.{row_count}
+use Rattle.fumen_digits.specs.Dialect.{page_row_count}
 use Rattle.srs.specs.declared.placement.Placement.{Placement}
 use Rattle.srs.specs.Cells.{Cell, cells_of}
-use Rattle.srs.proofs.ShapeLemmas.{cells_length}
-use Rattle.fumen_pages.specs.Cells.{missing_count}
-use Rattle.fumen_pages.specs.Next.{Rows, rows_in, rows_of, empty_row, index_of, marked, is_full, without_full, cleared, risen, mirrored}
+use Rattle.srs.proofs.CallerLemmas.{cells_length}
+use Rattle.fumen_pages.specs.Cells.{missing_count, place_of}
+use Rattle.fumen_pages.specs.Next.{Rows, rows_in, rows_of, empty_row, marked, is_full_page_row, without_full, cleared, risen, mirrored}
 use Rattle.fumen_pages.proofs.RowLaws.{flat, IsRow, length-flat, length-rows_in, rows_in_more, rows_in-flat, rows_in-front, IsDone, length-done, done_starts, old_row, row_there, done_more, done_lowered}
 
 -- ---- the cells of the operation
 
 abbrev written_at : ℕ → List ℕ → Cell → List ℕ
-written_at value before cell = set before (index_of cell) value
+written_at value before cell = set before (place_of V115 cell) value
 
 fold_four : (f : List ℕ → Cell → List ℕ) (a : List ℕ) (cells : List Cell) (d : Cell) → length cells ≡ 4 → f (f (f (f a (get_or cells 0 d)) (get_or cells 1 d)) (get_or cells 2 d)) (get_or cells 3 d) ≡ fold f a cells
 fold_four f a (x ∷ y ∷ z ∷ w ∷ []) d four = refl
@@ -30,7 +30,7 @@ fold_four f a (x ∷ y ∷ z ∷ []) d four = absurd (omega arith)
 fold_four f a (x ∷ y ∷ z ∷ w ∷ v ∷ cells) d four = absurd (omega arith)
 
 pub marked_four : (p : Placement) (cells : List Cell) (value : ℕ) (d : Cell) (a b c e f : List ℕ) → cells ≡ cells_of p
-    → b ≡ set a (index_of (get_or cells 0 d)) value → c ≡ set b (index_of (get_or cells 1 d)) value → e ≡ set c (index_of (get_or cells 2 d)) value → f ≡ set e (index_of (get_or cells 3 d)) value
+    → b ≡ set a (place_of V115 (get_or cells 0 d)) value → c ≡ set b (place_of V115 (get_or cells 1 d)) value → e ≡ set c (place_of V115 (get_or cells 2 d)) value → f ≡ set e (place_of V115 (get_or cells 3 d)) value
     → f ≡ marked p value a
 unfolding marked
 marked_four p cells value d a b c e f there one two three four =
@@ -63,7 +63,7 @@ lifted rows turned last room is none =
 
 -- ---- the rows of a page
 
-pub rows_end : (dialect : Dialect) → missing_count dialect + 10 * row_count dialect ≡ 230
+pub rows_end : (dialect : Dialect) → missing_count dialect + 10 * page_row_count dialect ≡ 230
 rows_end V110 = refl
 rows_end V115 = refl
 
@@ -71,7 +71,7 @@ same_rows : (a b : List (List ℕ)) (c d : List ℕ) → a ≡ b → c ≡ d →
 same_rows a b c d e f = λ i. record { field = e i; garbage = f i }
 
 -- all rows are rewritten
-pub rows_done : (dialect : Dialect) (old page : List ℕ) (i : ℕ) (done : List (List ℕ)) → length old ≡ 240 → i ≡ row_count dialect → IsDone old page (missing_count dialect) i done
+pub rows_done : (dialect : Dialect) (old page : List ℕ) (i : ℕ) (done : List (List ℕ)) → length old ≡ 240 → i ≡ page_row_count dialect → IsDone old page (missing_count dialect) i done
     → (rows_of dialect page ≡ record { field = done; garbage = (rows_of dialect old).garbage }) × (take (missing_count dialect) page ≡ take (missing_count dialect) old)
 unfolding rows_of
 rows_done dialect old page i done size all s =
@@ -81,11 +81,11 @@ rows_done dialect old page i done size all s =
     let rest = drop (10 * i) (drop m old) in
     let others : drop m page ≡ flat done ++ rest = ap (λ (xs : List ℕ). drop m xs) s.parts ∙ drop_at (take m old) (flat done ++ rest) m len in
     let whole : length (flat done) ≡ 10 * i = length-flat done s.rows ∙ ap (λ (n : ℕ). 10 * n) s.count in
-    let field : rows_in (row_count dialect) (drop m page) ≡ done = ap (λ (xs : List ℕ). rows_in (row_count dialect) xs) others ∙ rows_in-flat (row_count dialect) done rest s.rows (s.count ∙ all) in
+    let field : rows_in (page_row_count dialect) (drop m page) ≡ done = ap (λ (xs : List ℕ). rows_in (page_row_count dialect) xs) others ∙ rows_in-flat (page_row_count dialect) done rest s.rows (s.count ∙ all) in
     let at : m + 10 * i ≡ 230 = omega arith in
     let behind : drop 230 page ≡ rest = ap (λ (n : ℕ). drop n page) (sym at) ∙ (sym (drop-drop (10 * i) m page) ∙ (ap (λ (xs : List ℕ). drop (10 * i) xs) others ∙ drop_at (flat done) rest (10 * i) whole)) in
     let same : rest ≡ drop 230 old = drop-drop (10 * i) m old ∙ ap (λ (n : ℕ). drop n old) at in
-    (same_rows (rows_in (row_count dialect) (drop m page)) done (drop 230 page) (drop 230 old) field (behind ∙ same), ap (λ (xs : List ℕ). take m xs) s.parts ∙ take_at (take m old) (flat done ++ rest) m len)
+    (same_rows (rows_in (page_row_count dialect) (drop m page)) done (drop 230 page) (drop 230 old) field (behind ∙ same), ap (λ (xs : List ℕ). take m xs) s.parts ∙ take_at (take m old) (flat done ++ rest) m len)
 
 -- ---- rise
 
@@ -93,7 +93,7 @@ first_row : (n : ℕ) (xs : List ℕ) → take 10 xs ∷ rows_in n (drop 10 xs) 
 unfolding rows_in
 first_row n xs = refl
 
-row_count-least : (dialect : Dialect) → 1 ≤ row_count dialect
+row_count-least : (dialect : Dialect) → 1 ≤ page_row_count dialect
 row_count-least V110 = omega arith
 row_count-least V115 = omega arith
 
@@ -102,7 +102,7 @@ pub risen_rows : (dialect : Dialect) (old page : List ℕ) → length old ≡ 24
 unfolding rows_of
 risen_rows dialect old page size is =
     let m = missing_count dialect in
-    let count = row_count dialect in
+    let count = page_row_count dialect in
     let end = rows_end dialect in
     let cells = drop m old in
     let len : length (take m old) ≡ m = length-take-le m old (omega arith) in
@@ -134,13 +134,13 @@ risen_from dialect rise old lifted_rows top k size rises at rest is =
 -- ---- mirror
 
 -- a row of the page is among its cells
-pub row_room : (dialect : Dialect) (old : List ℕ) (i : ℕ) → length old ≡ 240 → i < row_count dialect → (missing_count dialect ≤ length old) × (10 * (i + 1) ≤ length (drop (missing_count dialect) old))
+pub row_room : (dialect : Dialect) (old : List ℕ) (i : ℕ) → length old ≡ 240 → i < page_row_count dialect → (missing_count dialect ≤ length old) × (10 * (i + 1) ≤ length (drop (missing_count dialect) old))
 row_room dialect old i size lt =
     let end = rows_end dialect in
     let left = length-drop (missing_count dialect) old in
     (omega arith, omega arith)
 
-pub old_row-length : (dialect : Dialect) (old : List ℕ) (i : ℕ) → length old ≡ 240 → i < row_count dialect → IsRow (old_row old (missing_count dialect) i)
+pub old_row-length : (dialect : Dialect) (old : List ℕ) (i : ℕ) → length old ≡ 240 → i < page_row_count dialect → IsRow (old_row old (missing_count dialect) i)
 old_row-length dialect old i size lt =
     let room = (row_room dialect old i size lt).1 in
     let left = length-drop (10 * i) (drop (missing_count dialect) old) in
@@ -153,7 +153,7 @@ rows_so_far old m i = let one : i + 1 ≡ suc i = omega arith in ap (λ (n : ℕ
 abbrev pub mirrored_so_far : Dialect → List ℕ → ℕ → List (List ℕ)
 mirrored_so_far dialect old i = map reverse (rows_in i (drop (missing_count dialect) old))
 
-pub mirrored_more : (dialect : Dialect) (old page row : List ℕ) (i start k : ℕ) → length old ≡ 240 → i < row_count dialect → start ≡ missing_count dialect + 10 * i → k ≡ 10 → row ≡ reverse (mid_of start k page)
+pub mirrored_more : (dialect : Dialect) (old page row : List ℕ) (i start k : ℕ) → length old ≡ 240 → i < page_row_count dialect → start ≡ missing_count dialect + 10 * i → k ≡ 10 → row ≡ reverse (mid_of start k page)
     → IsDone old page (missing_count dialect) i (mirrored_so_far dialect old i) → IsDone old (put_mid start k page row) (missing_count dialect) (i + 1) (mirrored_so_far dialect old (i + 1))
 mirrored_more dialect old page row i start k size lt at ten is s =
     let m = missing_count dialect in
@@ -168,31 +168,31 @@ mirrored_more dialect old page row i start k size lt at ten is s =
 
 -- ---- removal
 
-all_kept : (row : List ℕ) (rows : List (List ℕ)) → is_full row ≡ false → filter (λ r. not (is_full r)) (rows ++ row ∷ []) ≡ filter (λ r. not (is_full r)) rows ++ row ∷ []
-all_kept row rows gap = filter-append (λ r. not (is_full r)) rows (row ∷ []) ∙ ap (λ (b : Bool). filter (λ r. not (is_full r)) rows ++ cond (not b) (row ∷ []) []) gap
+all_kept : (row : List ℕ) (rows : List (List ℕ)) → is_full_page_row row ≡ false → filter (λ r. not (is_full_page_row r)) (rows ++ row ∷ []) ≡ filter (λ r. not (is_full_page_row r)) rows ++ row ∷ []
+all_kept row rows gap = filter-append (λ r. not (is_full_page_row r)) rows (row ∷ []) ∙ ap (λ (b : Bool). filter (λ r. not (is_full_page_row r)) rows ++ cond (not b) (row ∷ []) []) gap
 
-none_kept : (row : List ℕ) (rows : List (List ℕ)) → is_full row ≡ true → filter (λ r. not (is_full r)) (rows ++ row ∷ []) ≡ filter (λ r. not (is_full r)) rows
-none_kept row rows full = filter-append (λ r. not (is_full r)) rows (row ∷ []) ∙ (ap (λ (b : Bool). filter (λ r. not (is_full r)) rows ++ cond (not b) (row ∷ []) []) full ∙ append-nil (filter (λ r. not (is_full r)) rows))
+none_kept : (row : List ℕ) (rows : List (List ℕ)) → is_full_page_row row ≡ true → filter (λ r. not (is_full_page_row r)) (rows ++ row ∷ []) ≡ filter (λ r. not (is_full_page_row r)) rows
+none_kept row rows full = filter-append (λ r. not (is_full_page_row r)) rows (row ∷ []) ∙ (ap (λ (b : Bool). filter (λ r. not (is_full_page_row r)) rows ++ cond (not b) (row ∷ []) []) full ∙ append-nil (filter (λ r. not (is_full_page_row r)) rows))
 
-pub kept_least : (rows : List (List ℕ)) → length (filter (λ r. not (is_full r)) rows) ≤ length rows
-kept_least rows = let both = length-filter_both (λ r. not (is_full r)) is_full (λ r. sym (not_not (is_full r))) rows in omega arith
+pub kept_least : (rows : List (List ℕ)) → length (filter (λ r. not (is_full_page_row r)) rows) ≤ length rows
+kept_least rows = let both = length-filter_both (λ r. not (is_full_page_row r)) is_full_page_row (λ r. sym (not_not (is_full_page_row r))) rows in omega arith
   where
     not_not : (b : Bool) → not (not b) ≡ b
     not_not true = refl
     not_not false = refl
 
-pub without_full_kept : (row : List ℕ) (rows : List (List ℕ)) → is_full row ≡ false → without_full (rows ++ row ∷ []) ≡ without_full rows ++ row ∷ []
+pub without_full_kept : (row : List ℕ) (rows : List (List ℕ)) → is_full_page_row row ≡ false → without_full (rows ++ row ∷ []) ≡ without_full rows ++ row ∷ []
 unfolding without_full
 without_full_kept row rows gap =
-    let kept = filter (λ r. not (is_full r)) rows in
+    let kept = filter (λ r. not (is_full_page_row r)) rows in
     let same : length (rows ++ row ∷ []) - length (kept ++ row ∷ []) ≡ length rows - length kept = omega (arith, length-append rows (row ∷ []), length-append kept (row ∷ [])) in
     ap (λ (xs : List (List ℕ)). replicate (length (rows ++ row ∷ []) - length xs) empty_row ++ xs) (all_kept row rows gap)
     ∙ (ap (λ (n : ℕ). replicate n empty_row ++ (kept ++ row ∷ [])) same ∙ sym (append_assoc (replicate (length rows - length kept) empty_row) kept (row ∷ [])))
 
-pub without_full_gone : (row : List ℕ) (rows : List (List ℕ)) → is_full row ≡ true → without_full (rows ++ row ∷ []) ≡ empty_row ∷ without_full rows
+pub without_full_gone : (row : List ℕ) (rows : List (List ℕ)) → is_full_page_row row ≡ true → without_full (rows ++ row ∷ []) ≡ empty_row ∷ without_full rows
 unfolding without_full
 without_full_gone row rows full =
-    let kept = filter (λ r. not (is_full r)) rows in
+    let kept = filter (λ r. not (is_full_page_row r)) rows in
     let more : length (rows ++ row ∷ []) - length kept ≡ suc (length rows - length kept) = omega (arith, length-append rows (row ∷ []), kept_least rows) in
     ap (λ (xs : List (List ℕ)). replicate (length (rows ++ row ∷ []) - length xs) empty_row ++ xs) (none_kept row rows full)
     ∙ ap (λ (n : ℕ). replicate n empty_row ++ kept) more
@@ -201,12 +201,12 @@ abbrev pub cleared_so_far : Dialect → List ℕ → ℕ → List (List ℕ)
 cleared_so_far dialect old i = without_full (rows_in i (drop (missing_count dialect) old))
 
 -- the row that is looked at
-pub looked_at : (dialect : Dialect) (old page : List ℕ) (i start end : ℕ) (done : List (List ℕ)) → length old ≡ 240 → i < row_count dialect → start ≡ missing_count dialect + 10 * i → end ≡ start + 10 → IsDone old page (missing_count dialect) i done → between start end page ≡ old_row old (missing_count dialect) i
+pub looked_at : (dialect : Dialect) (old page : List ℕ) (i start end : ℕ) (done : List (List ℕ)) → length old ≡ 240 → i < page_row_count dialect → start ≡ missing_count dialect + 10 * i → end ≡ start + 10 → IsDone old page (missing_count dialect) i done → between start end page ≡ old_row old (missing_count dialect) i
 looked_at dialect old page i start end done size lt at ten s =
     let k : end - start ≡ 10 = omega arith in
     ap (λ (n : ℕ). take n (drop start page)) k ∙ row_there old page (missing_count dialect) i start done (row_room dialect old i size lt).0 at s
 
-pub cleared_kept : (dialect : Dialect) (old page : List ℕ) (i : ℕ) → length old ≡ 240 → i < row_count dialect → is_full (old_row old (missing_count dialect) i) ≡ false → IsDone old page (missing_count dialect) i (cleared_so_far dialect old i)
+pub cleared_kept : (dialect : Dialect) (old page : List ℕ) (i : ℕ) → length old ≡ 240 → i < page_row_count dialect → is_full_page_row (old_row old (missing_count dialect) i) ≡ false → IsDone old page (missing_count dialect) i (cleared_so_far dialect old i)
     → IsDone old page (missing_count dialect) (i + 1) (cleared_so_far dialect old (i + 1))
 cleared_kept dialect old page i size lt gap s =
     let m = missing_count dialect in
@@ -218,7 +218,7 @@ cleared_kept dialect old page i size lt gap s =
     let rows : cleared_so_far dialect old (i + 1) ≡ cleared_so_far dialect old i ++ row ∷ [] = ap without_full (rows_so_far old m i) ∙ without_full_kept row (rows_in i (drop m old)) gap in
     subst (λ (xs : List (List ℕ)). IsDone old page m (i + 1) xs) (sym rows) (done_more old page page m i start (cleared_so_far dialect old i) row room refl (old_row-length dialect old i size lt) whole s)
 
-pub cleared_gone : (dialect : Dialect) (old page low : List ℕ) (i top k : ℕ) → length old ≡ 240 → i < row_count dialect → top ≡ missing_count dialect → k ≡ 10 * (i + 1) → is_full (old_row old (missing_count dialect) i) ≡ true
+pub cleared_gone : (dialect : Dialect) (old page low : List ℕ) (i top k : ℕ) → length old ≡ 240 → i < page_row_count dialect → top ≡ missing_count dialect → k ≡ 10 * (i + 1) → is_full_page_row (old_row old (missing_count dialect) i) ≡ true
     → low ≡ empty_row ++ take (length (mid_of top k page) - 10) (mid_of top k page) → IsDone old page (missing_count dialect) i (cleared_so_far dialect old i)
     → IsDone old (put_mid top k page low) (missing_count dialect) (i + 1) (cleared_so_far dialect old (i + 1))
 cleared_gone dialect old page low i top k size lt at ten full is s =
@@ -246,18 +246,18 @@ pub cleared_starts : (dialect : Dialect) (old : List ℕ) → IsDone old old (mi
 unfolding rows_in without_full
 cleared_starts dialect old = done_starts old (missing_count dialect)
 
-field_is : (dialect : Dialect) (old : List ℕ) (i : ℕ) → i ≡ row_count dialect → rows_in i (drop (missing_count dialect) old) ≡ (rows_of dialect old).field
+field_is : (dialect : Dialect) (old : List ℕ) (i : ℕ) → i ≡ page_row_count dialect → rows_in i (drop (missing_count dialect) old) ≡ (rows_of dialect old).field
 unfolding rows_of
 field_is dialect old i all = ap (λ (n : ℕ). rows_in n (drop (missing_count dialect) old)) all
 
-pub mirrored_all : (dialect : Dialect) (old page : List ℕ) (i : ℕ) → length old ≡ 240 → i ≡ row_count dialect → IsDone old page (missing_count dialect) i (mirrored_so_far dialect old i)
+pub mirrored_all : (dialect : Dialect) (old page : List ℕ) (i : ℕ) → length old ≡ 240 → i ≡ page_row_count dialect → IsDone old page (missing_count dialect) i (mirrored_so_far dialect old i)
     → (rows_of dialect page ≡ mirrored true (rows_of dialect old)) × (take (missing_count dialect) page ≡ take (missing_count dialect) old)
 mirrored_all dialect old page i size all s =
     let done = rows_done dialect old page i (mirrored_so_far dialect old i) size all s in
     let garbage = (rows_of dialect old).garbage in
     (done.0 ∙ same_rows (mirrored_so_far dialect old i) (map reverse (rows_of dialect old).field) garbage garbage (ap (λ (xs : List (List ℕ)). map reverse xs) (field_is dialect old i all)) refl, done.1)
 
-pub cleared_all : (dialect : Dialect) (old page : List ℕ) (i : ℕ) → length old ≡ 240 → i ≡ row_count dialect → IsDone old page (missing_count dialect) i (cleared_so_far dialect old i)
+pub cleared_all : (dialect : Dialect) (old page : List ℕ) (i : ℕ) → length old ≡ 240 → i ≡ page_row_count dialect → IsDone old page (missing_count dialect) i (cleared_so_far dialect old i)
     → (rows_of dialect page ≡ cleared (rows_of dialect old)) × (take (missing_count dialect) page ≡ take (missing_count dialect) old)
 cleared_all dialect old page i size all s =
     let done = rows_done dialect old page i (cleared_so_far dialect old i) size all s in

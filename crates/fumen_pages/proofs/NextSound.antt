@@ -8,17 +8,17 @@ use Rattle.std.proofs.lemmas.List.{take-append-drop, take_at, drop-drop, length-
 use Rattle.std.proofs.lemmas.List.Elements.{All-nil, All-cons, All-head, All-tail, All-replicate, All-get_or, All-from_get_or, All-append, All-set, All-weaker, All-take, All-drop, All-map, All-filter}
 use Rattle.fumen_digits.specs.declared.dialect.Dialect.{Dialect}
 use Rattle.fumen_digits.specs.declared.dialect.Dialect.TheVariants.{V110, V115}
-use Rattle.fumen_digits.specs.Dialect.{row_count}
+use Rattle.fumen_digits.specs.Dialect.{page_row_count}
 use Rattle.srs.specs.declared.piece.Piece.{Piece}
 use Rattle.srs.specs.declared.piece.Piece.TheVariants.{I, L, O, Z, T, J, S}
 use Rattle.srs.specs.declared.placement.Placement.{Placement}
 use Rattle.srs.specs.Piece.{piece_code}
 use Rattle.srs.specs.Cells.{Cell, cells_of}
 use Rattle.fumen_pages.specs.declared.page.Page.{Page}
-use Rattle.fumen_pages.specs.Cells.{IsColour, missing_count, shown, AreCells}
+use Rattle.fumen_pages.specs.Cells.{IsColour, missing_count, shown, AreCells, place_of}
 use Rattle.fumen_pages.specs.Action.{in_rows, is_inside_in}
 use Rattle.fumen_pages.specs.Sound.{IsSound}
-use Rattle.fumen_pages.specs.Next.{Rows, rows_in, rows_of, cells_of_rows, empty_row, index_of, marked, filled, is_full, without_full, cleared, risen, mirrored, next}
+use Rattle.fumen_pages.specs.Next.{Rows, rows_in, rows_of, cells_of_rows, empty_row, marked, operation_filled, is_full_page_row, without_full, cleared, risen, mirrored, next}
 use Rattle.fumen_pages.proofs.InsideLaws.{in_rows-place}
 use Rattle.fumen_pages.proofs.RowLaws.{flat, flat-rows_in, length-rows_in}
 use Rattle.fumen_pages.proofs.NextLaws.{rows_end, kept_least}
@@ -31,7 +31,7 @@ IsGoodRow row = (length row ≡ 10) × All IsColour row
 -- the rows of a page of the dialect
 pub record AreRowsOf (dialect : Dialect) (rows : Rows) : Type 0 where
   pub field : All IsGoodRow rows.field
-  pub count : length rows.field ≡ row_count dialect
+  pub count : length rows.field ≡ page_row_count dialect
   pub last : IsGoodRow rows.garbage
 
 empty_row-good : IsGoodRow empty_row
@@ -50,21 +50,21 @@ rows_of-good dialect cells size colours =
     let end = rows_end dialect in
     let left = length-drop (missing_count dialect) cells in
     record {
-      field = rows_in-good (row_count dialect) (shown dialect cells) (omega arith) (All-drop IsColour (missing_count dialect) cells colours);
-      count = length-rows_in (row_count dialect) (shown dialect cells);
+      field = rows_in-good (page_row_count dialect) (shown dialect cells) (omega arith) (All-drop IsColour (missing_count dialect) cells colours);
+      count = length-rows_in (page_row_count dialect) (shown dialect cells);
       last = (length-drop 230 cells ∙ omega arith, All-drop IsColour 230 cells colours);
     }
 
 without_full-good : (rows : List (List ℕ)) → All IsGoodRow rows → All IsGoodRow (without_full rows)
 unfolding without_full
 without_full-good rows good =
-    let kept = filter (λ row. not (is_full row)) rows in
-    All-append IsGoodRow (replicate (length rows - length kept) empty_row) kept (All-replicate IsGoodRow (length rows - length kept) empty_row empty_row-good) (All-filter (λ row. not (is_full row)) IsGoodRow rows good)
+    let kept = filter (λ row. not (is_full_page_row row)) rows in
+    All-append IsGoodRow (replicate (length rows - length kept) empty_row) kept (All-replicate IsGoodRow (length rows - length kept) empty_row empty_row-good) (All-filter (λ row. not (is_full_page_row row)) IsGoodRow rows good)
 
 length-without_full : (rows : List (List ℕ)) → length (without_full rows) ≡ length rows
 unfolding without_full
 length-without_full rows =
-    let kept = filter (λ row. not (is_full row)) rows in
+    let kept = filter (λ row. not (is_full_page_row row)) rows in
     let all = length-append (replicate (length rows - length kept) empty_row) kept in
     let empties = length-replicate (length rows - length kept) empty_row in
     let least = kept_least rows in
@@ -74,7 +74,7 @@ cleared-good : (dialect : Dialect) (rows : Rows) → AreRowsOf dialect rows → 
 cleared-good dialect rows good =
     record { field = without_full-good rows.field good.field; count = length-without_full rows.field ∙ good.count; last = good.last }
 
-row_count-positive : (dialect : Dialect) → 1 ≤ row_count dialect
+row_count-positive : (dialect : Dialect) → 1 ≤ page_row_count dialect
 row_count-positive V110 = omega arith
 row_count-positive V115 = omega arith
 
@@ -145,7 +145,7 @@ pub cells_of_rows-rows_of : (dialect : Dialect) (cells : List ℕ) → length ce
 unfolding cells_of_rows rows_of
 cells_of_rows-rows_of dialect cells size empty =
     let m = missing_count dialect in
-    let count = row_count dialect in
+    let count = page_row_count dialect in
     let there : drop (10 * count) (drop m cells) ≡ drop 230 cells = drop-drop (10 * count) m cells ∙ ap (λ (n : ℕ). drop n cells) (rows_end dialect) in
     let rows : flat (rows_in count (drop m cells)) ++ drop 230 cells ≡ drop m cells = ap (λ (xs : List ℕ). flat (rows_in count (drop m cells)) ++ xs) (sym there) ∙ flat-rows_in count (drop m cells) in
     sym (take-append-drop m cells) ∙ (ap (λ (xs : List ℕ). xs ++ drop m cells) empty ∙ ap (λ (xs : List ℕ). replicate m 0 ++ xs) (sym rows))
@@ -162,12 +162,12 @@ piece_code-colour J = omega arith
 piece_code-colour S = omega arith
 
 -- the cells of the operation lie among those of the dialect
-index_of-shown : (dialect : Dialect) (cell : Cell) → in_rows dialect cell ≡ true → missing_count dialect ≤ index_of cell
-index_of-shown dialect cell inside =
+place_of-shown : (dialect : Dialect) (cell : Cell) → in_rows dialect cell ≡ true → missing_count dialect ≤ place_of V115 cell
+place_of-shown dialect cell inside =
     let at = in_rows-place dialect cell inside in
     let row = at.row in
     let end = rows_end dialect in
-    subst (λ (c : Cell). missing_count dialect ≤ index_of c) (sym at.is) (omega arith)
+    subst (λ (c : Cell). missing_count dialect ≤ place_of V115 c) (sym at.is) (omega arith)
 
 -- some cells are painted
 record ArePainted (dialect : Dialect) (before after : List ℕ) : Type 0 where
@@ -175,23 +175,23 @@ record ArePainted (dialect : Dialect) (before after : List ℕ) : Type 0 where
   colours : All IsColour before → All IsColour after
   missing : take (missing_count dialect) after ≡ take (missing_count dialect) before
 
-painted_cells : (dialect : Dialect) (colour : ℕ) (before : List ℕ) (cells : List Cell) → colour ≤ 8 → list_all (in_rows dialect) cells ≡ true → ArePainted dialect before (fold (λ was cell. set was (index_of cell) colour) before cells)
+painted_cells : (dialect : Dialect) (colour : ℕ) (before : List ℕ) (cells : List Cell) → colour ≤ 8 → list_all (in_rows dialect) cells ≡ true → ArePainted dialect before (fold (λ was cell. set was (place_of V115 cell) colour) before cells)
 painted_cells dialect colour before [] good inside = record { size = refl; colours = λ all. all; missing = refl }
 painted_cells dialect colour before (cell ∷ cells) good inside =
     let parts = and_parts (in_rows dialect cell) (list_all (in_rows dialect) cells) inside in
-    let rest = painted_cells dialect colour (set before (index_of cell) colour) cells good parts.1 in
+    let rest = painted_cells dialect colour (set before (place_of V115 cell) colour) cells good parts.1 in
     record {
-      size = rest.size ∙ length-set before (index_of cell) colour;
-      colours = λ all. rest.colours (All-set IsColour before (index_of cell) colour good all);
-      missing = rest.missing ∙ take-set-le (missing_count dialect) before (index_of cell) colour (index_of-shown dialect cell parts.0);
+      size = rest.size ∙ length-set before (place_of V115 cell) colour;
+      colours = λ all. rest.colours (All-set IsColour before (place_of V115 cell) colour good all);
+      missing = rest.missing ∙ take-set-le (missing_count dialect) before (place_of V115 cell) colour (place_of-shown dialect cell parts.0);
     }
 
 marked-painted : (dialect : Dialect) (p : Placement) (colour : ℕ) (before : List ℕ) → colour ≤ 8 → is_inside_in dialect p ≡ true → ArePainted dialect before (marked p colour before)
 unfolding marked
 marked-painted dialect p colour before good inside = painted_cells dialect colour before (cells_of p) good inside
 
-filled-painted : (dialect : Dialect) (operation : Option Placement) (before : List ℕ) → ForSome operation (λ p. is_inside_in dialect p ≡ true) → ArePainted dialect before (filled operation before)
-unfolding filled
+filled-painted : (dialect : Dialect) (operation : Option Placement) (before : List ℕ) → ForSome operation (λ p. is_inside_in dialect p ≡ true) → ArePainted dialect before (operation_filled operation before)
+unfolding operation_filled
 filled-painted dialect None before inside = record { size = refl; colours = λ all. all; missing = refl }
 filled-painted dialect (Some p) before inside =
     marked-painted dialect p (piece_code p.piece) before (piece_code-colour p.piece) (inside p refl)
@@ -201,12 +201,12 @@ filled-painted dialect (Some p) before inside =
 next_kept : (dialect : Dialect) (page : Page) → page.lock ≡ false → next dialect page ≡ page.cells
 unfolding next
 next_kept dialect page open_page =
-    ap (λ (b : Bool). cond b (cells_of_rows dialect (mirrored page.mirror (risen page.rise (cleared (rows_of dialect (filled page.operation page.cells)))))) page.cells) open_page
+    ap (λ (b : Bool). cond b (cells_of_rows dialect (mirrored page.mirror (risen page.rise (cleared (rows_of dialect (operation_filled page.operation page.cells)))))) page.cells) open_page
 
-next_locked : (dialect : Dialect) (page : Page) → page.lock ≡ true → next dialect page ≡ cells_of_rows dialect (mirrored page.mirror (risen page.rise (cleared (rows_of dialect (filled page.operation page.cells)))))
+next_locked : (dialect : Dialect) (page : Page) → page.lock ≡ true → next dialect page ≡ cells_of_rows dialect (mirrored page.mirror (risen page.rise (cleared (rows_of dialect (operation_filled page.operation page.cells)))))
 unfolding next
 next_locked dialect page locked =
-    ap (λ (b : Bool). cond b (cells_of_rows dialect (mirrored page.mirror (risen page.rise (cleared (rows_of dialect (filled page.operation page.cells)))))) page.cells) locked
+    ap (λ (b : Bool). cond b (cells_of_rows dialect (mirrored page.mirror (risen page.rise (cleared (rows_of dialect (operation_filled page.operation page.cells)))))) page.cells) locked
 
 -- a sound page leaves cells of the dialect
 pub next_cells_sound : (dialect : Dialect) (page : Page) → IsSound dialect page → AreCells dialect (next dialect page)
@@ -216,7 +216,7 @@ next_cells_sound dialect page sound = go page.lock refl
     go false e = subst (λ (cells : List ℕ). AreCells dialect cells) (sym (next_kept dialect page e)) sound.cells
     go true e =
         let painted = filled-painted dialect page.operation page.cells sound.inside in
-        let rows = rows_of-good dialect (filled page.operation page.cells) (painted.size ∙ sound.cells.size) (painted.colours sound.cells.colours) in
+        let rows = rows_of-good dialect (operation_filled page.operation page.cells) (painted.size ∙ sound.cells.size) (painted.colours sound.cells.colours) in
         let left = mirrored-good dialect page.mirror _ (risen-good dialect page.rise _ (cleared-good dialect _ rows)) in
         subst (λ (cells : List ℕ). AreCells dialect cells) (sym (next_locked dialect page e)) (cells_of_rows-sound dialect _ left)
 
@@ -225,12 +225,12 @@ pub left_open : (dialect : Dialect) (page : Page) → page.lock ≡ false → pa
 left_open dialect page e = sym (next_kept dialect page e)
 
 -- one that locks: the cells are filled, and then the rows are cleared, risen and mirrored
-pub left_locked : (dialect : Dialect) (page : Page) (a b c d : List ℕ) → IsSound dialect page → page.lock ≡ true → length d ≡ 240 → a ≡ filled page.operation page.cells
+pub left_locked : (dialect : Dialect) (page : Page) (a b c d : List ℕ) → IsSound dialect page → page.lock ≡ true → length d ≡ 240 → a ≡ operation_filled page.operation page.cells
     → rows_of dialect b ≡ cleared (rows_of dialect a) → take (missing_count dialect) b ≡ take (missing_count dialect) a
     → rows_of dialect c ≡ risen page.rise (rows_of dialect b) → take (missing_count dialect) c ≡ take (missing_count dialect) b
     → rows_of dialect d ≡ mirrored page.mirror (rows_of dialect c) → take (missing_count dialect) d ≡ take (missing_count dialect) c → d ≡ next dialect page
 left_locked dialect page a b c d sound locked size fill clear clear_kept rise rise_kept mirror mirror_kept =
     let painted = filled-painted dialect page.operation page.cells sound.inside in
     let empty : take (missing_count dialect) d ≡ replicate (missing_count dialect) 0 = mirror_kept ∙ (rise_kept ∙ (clear_kept ∙ (ap (λ (xs : List ℕ). take (missing_count dialect) xs) fill ∙ (painted.missing ∙ sound.cells.missing)))) in
-    let rows : rows_of dialect d ≡ mirrored page.mirror (risen page.rise (cleared (rows_of dialect (filled page.operation page.cells)))) = mirror ∙ ap (λ (r : Rows). mirrored page.mirror r) (rise ∙ ap (λ (r : Rows). risen page.rise r) (clear ∙ ap (λ (xs : List ℕ). cleared (rows_of dialect xs)) fill)) in
+    let rows : rows_of dialect d ≡ mirrored page.mirror (risen page.rise (cleared (rows_of dialect (operation_filled page.operation page.cells)))) = mirror ∙ ap (λ (r : Rows). mirrored page.mirror r) (rise ∙ ap (λ (r : Rows). risen page.rise r) (clear ∙ ap (λ (xs : List ℕ). cleared (rows_of dialect xs)) fill)) in
     cells_of_rows-rows_of dialect d size empty ∙ (ap (λ (r : Rows). cells_of_rows dialect r) rows ∙ sym (next_locked dialect page locked))

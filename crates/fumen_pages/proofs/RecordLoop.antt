@@ -7,19 +7,19 @@ use Rattle.std.proofs.lemmas.List.{append-nil, take_rest, take_all, drop_more, d
 use Rattle.std.proofs.lemmas.List.Edits.{map_over_more}
 use Rattle.std.proofs.lemmas.List.Elements.{All-drop}
 use borrow.Rule.Slice.PartMut.{put_mid, mid_of}
-use Rattle.srs.proofs.ListLemmas.{list_all_each}
+use Rattle.lists.proofs.CallerLemmas.{list_all_each}
 use Rattle.fumen_digits.specs.declared.dialect.Dialect.{Dialect}
-use Rattle.fumen_digits.specs.Dialect.{cell_count}
+use Rattle.fumen_digits.specs.Dialect.{page_cell_count}
 use Rattle.fumen_digits.specs.Fault.{Fault}
 use Rattle.fumen_digits.specs.Reading.{◌>>=◌}
-use Rattle.fumen_digits.proofs.Binds.{ok_bind, err_bind}
-use Rattle.fumen_comment.proofs.ReadLoop.{with_front, from_nothing, regroup}
+use Rattle.fumen_digits.proofs.CallerLemmas.{ok_bind, err_bind}
+use Rattle.fumen_comment.proofs.CallerLemmas.{with_front, from_nothing, regroup}
 use Rattle.fumen_pages.specs.declared.record.CellsRead.{CellsRead}
 use Rattle.fumen_pages.specs.Cells.{IsColour, missing_count, shown, AreCells}
 use Rattle.fumen_pages.specs.Record.{moved_by, stays_colour, unchanged}
 use Rattle.fumen_pages.specs.Reading.{run_at, runs_at, record_at}
-use Rattle.fumen_pages.proofs.RecordLaws.{rest_of, runs_more, runs_none}
-use Rattle.fumen_pages.proofs.CellsLaws.{shown-length, cell_count-most}
+use Rattle.fumen_pages.proofs.RunsReadAsSpelled.{rest_of, runs_more, runs_none}
+use Rattle.fumen_pages.proofs.RecordReadAsSpelled.{shown-length, cell_count-most}
 
 -- ---- cells that are moved one after another
 
@@ -61,12 +61,12 @@ pub record AreReadSoFar (dialect : Dialect) (ds : List ℕ) (place : ℕ) (old c
   pub within : behind ≤ length ds
   pub colours : All IsColour (drop start cells)
   pub missing : take (missing_count dialect) cells ≡ replicate (missing_count dialect) 0
-  pub completes : with_front (drop (missing_count dialect) (take start cells)) (runs_at (cell_count dialect) ds behind most (drop start cells)) ≡ runs_at (cell_count dialect) ds place (cell_count dialect) (shown dialect old)
+  pub completes : with_front (drop (missing_count dialect) (take start cells)) (runs_at (page_cell_count dialect) ds behind most (drop start cells)) ≡ runs_at (page_cell_count dialect) ds place (page_cell_count dialect) (shown dialect old)
 
 pub read_starts : (dialect : Dialect) (ds : List ℕ) (place : ℕ) (old : List ℕ) (start : ℕ) → AreCells dialect old → place ≤ length ds → start ≡ missing_count dialect → AreReadSoFar dialect ds place old old start place
 read_starts dialect ds place old start sound le at =
     let m = missing_count dialect in
-    let n = cell_count dialect in
+    let n = page_cell_count dialect in
     let len = shown-length dialect old sound in
     let most = cell_count-most dialect in
     let size : length (take m old) ≡ m = length-take-le m old (omega (arith, sound.size)) in
@@ -102,11 +102,11 @@ rest_cells-all : (cells : List ℕ) (start : ℕ) → length cells ≡ 240 → r
 rest_cells-all cells start size = take_all (240 - start) (drop start cells) (omega (arith, length-drop start cells))
 
 pub read_more : (dialect : Dialect) (ds : List ℕ) (place : ℕ) (old cells : List ℕ) (start behind count shift : ℕ) (moved : List ℕ) (k : ℕ) → start < 240 → behind + 2 ≤ length ds → 1 ≤ count → count ≤ length (rest_cells cells start) → k ≡ count
-    → run_at (cell_count dialect) ds behind (rest_cells cells start) ≡ Ok (count, shift) → moved ≡ moved_by shift (mid_of start k cells) → AreReadSoFar dialect ds place old cells start behind
+    → run_at (page_cell_count dialect) ds behind (rest_cells cells start) ≡ Ok (count, shift) → moved ≡ moved_by shift (mid_of start k cells) → AreReadSoFar dialect ds place old cells start behind
     → AreReadSoFar dialect ds place old (put_mid start k cells moved) (start + count) (behind + 2)
 read_more dialect ds place old cells start behind count shift moved k lt behind_run least among at made_run is s =
     let m = missing_count dialect in
-    let n = cell_count dialect in
+    let n = page_cell_count dialect in
     let left = drop start cells in
     let more = one_more s.most start cells s.size lt s.room in
     let total = length-drop start cells in
@@ -151,11 +151,11 @@ abbrev pub read_of : Dialect → List ℕ → ℕ → List ℕ × ℕ → Result
 read_of dialect ds place new =
     Ok (record { cells = replicate (missing_count dialect) 0 ++ new.0; place = new.1; unchanged = starts_with nat_eq (drop place ds) (unchanged dialect) })
 
-pub read_stops : (dialect : Dialect) (ds : List ℕ) (place : ℕ) (old cells : List ℕ) (start behind : ℕ) (f : Fault) → start < 240 → run_at (cell_count dialect) ds behind (rest_cells cells start) ≡ Err f → AreReadSoFar dialect ds place old cells start behind
+pub read_stops : (dialect : Dialect) (ds : List ℕ) (place : ℕ) (old cells : List ℕ) (start behind : ℕ) (f : Fault) → start < 240 → run_at (page_cell_count dialect) ds behind (rest_cells cells start) ≡ Err f → AreReadSoFar dialect ds place old cells start behind
     → record_at dialect ds place old ≡ Err f
 unfolding record_at with_front
 read_stops dialect ds place old cells start behind f lt failed_run s =
-    let n = cell_count dialect in
+    let n = page_cell_count dialect in
     let left = drop start cells in
     let more = one_more s.most start cells s.size lt s.room in
     let read : run_at n ds behind left ≡ Err f = ap (λ (xs : List ℕ). run_at n ds behind xs) (sym (rest_cells-all cells start s.size)) ∙ failed_run in
@@ -167,7 +167,7 @@ pub read_ends : (dialect : Dialect) (ds : List ℕ) (place : ℕ) (old cells : L
 unfolding record_at with_front
 read_ends dialect ds place old cells start behind same end is s =
     let m = missing_count dialect in
-    let n = cell_count dialect in
+    let n = page_cell_count dialect in
     let none : length (drop start cells) ≡ 0 = length-drop start cells ∙ omega (arith, s.size) in
     let all : take start cells ≡ cells = sym (append-nil (take start cells)) ∙ (ap (λ (xs : List ℕ). take start cells ++ xs) (sym (drop_all start cells (omega (arith, s.size)))) ∙ take-append-drop start cells) in
     let done : runs_at n ds place n (shown dialect old) ≡ Ok (drop m cells, behind) = sym s.completes ∙ (ap (λ (r : Result (List ℕ × ℕ) Fault). with_front (drop m (take start cells)) r) (runs_none n ds behind s.most (drop start cells) none) ∙ ap (λ (xs : List ℕ). Ok (xs, behind)) (append-nil (drop m (take start cells)) ∙ ap (λ (xs : List ℕ). drop m xs) all)) in

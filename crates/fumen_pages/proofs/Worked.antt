@@ -12,7 +12,7 @@ use Rattle.srs.specs.Cells.{moved}
 use Rattle.fumen_pages.specs.declared.page.Page.{Page}
 use Rattle.fumen_pages.specs.declared.action.ActionFault.TheVariants.{TooLarge, Outside}
 use Rattle.fumen_pages.specs.Action.{moved_back}
-use Rattle.fumen_pages.specs.Next.{rows_in, rows_of, cells_of_rows, marked, filled, without_full, next}
+use Rattle.fumen_pages.specs.Next.{rows_in, rows_of, cells_of_rows, marked, operation_filled, without_full, next}
 use Rattle.fumen_pages.specs.Record.{unchanged}
 use Rattle.fumen_pages.specs.Written.{extended, longest, written_record, number_of}
 use Rattle.fumen_pages.specs.Reading.{run_at, runs_at, record_at, action_in, action_at, page_at, part_at}
@@ -40,7 +40,7 @@ low = 8 ∷ 8 ∷ 8 ∷ 8 ∷ 8 ∷ 8 ∷ 8 ∷ 8 ∷ 0 ∷ 8 ∷ []
 
 -- the T fills row 0, which goes; its top falls to row 0, and the rise lifts it to row 1; both rows are mirrored
 locked : (next V115 (page holed low)) ≡ replicate 210 0 ++ (replicate 5 0 ++ 5 ∷ replicate 4 0) ++ (8 ∷ 0 ∷ replicate 8 8) ++ replicate 10 0
-unfolding next filled marked rows_of rows_in cells_of_rows without_full page holed low moved moved_back
+unfolding next operation_filled marked rows_of rows_in cells_of_rows without_full page holed low moved moved_back
 locked = refl
 
 -- without a lock the cells stay

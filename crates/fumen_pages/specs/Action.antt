@@ -2,7 +2,7 @@
 use Rattle.std.specs.Prelude.{◌≡◌, ℕ, ◌+◌, ◌-◌, ◌*◌, ◌/◌, ◌%◌, ◌<◌, Bool, true, false, not, ◌&&◌, nat_le, nat_lt, IsTrue, pos, ◌-ℤ◌, Option, Some, None}
 use Rattle.std.specs.List.{list_all}
 use Rattle.fumen_digits.specs.declared.dialect.Dialect.{Dialect}
-use Rattle.fumen_digits.specs.Dialect.{row_count, cell_count}
+use Rattle.fumen_digits.specs.Dialect.{page_row_count, page_cell_count}
 use Rattle.srs.specs.declared.piece.Piece.{Piece}
 use Rattle.srs.specs.declared.piece.Piece.TheVariants.{I, O, Z, S}
 use Rattle.srs.specs.declared.rotation.Rotation.{Rotation}
@@ -36,13 +36,14 @@ written_by piece rotation = (pos 0, pos 0)
 unfoldable pub moved_back : Cell → Cell → Cell
 moved_back cell move = (cell.0 -ℤ move.0, cell.1 -ℤ move.1)
 
--- the cell with a number, counted from the top row of the dialect down, each row from left to right; the garbage row is the row below 0
+-- the cell with a number, counted from the top row of the dialect down, each row from left to right; the garbage row is
+-- the row below 0
 abbrev pub numbered_cell : Dialect → ℕ → Cell
-numbered_cell dialect place = (pos (place % 10), pos (row_count dialect - 1) -ℤ pos (place / 10))
+numbered_cell dialect place = (pos (place % 10), pos (page_row_count dialect - 1) -ℤ pos (place / 10))
 
 -- a cell of the columns 0 to 9 and the dialect's rows
 abbrev pub in_rows : Dialect → Cell → Bool
-in_rows dialect (pos x, pos y) = nat_le x 9 && nat_lt y (row_count dialect)
+in_rows dialect (pos x, pos y) = nat_le x 9 && nat_lt y (page_row_count dialect)
 in_rows dialect other = false
 
 -- all four cells lie there
@@ -55,17 +56,19 @@ bit false = 0
 
 -- the flags as one number
 abbrev pub flags_of : Action → ℕ
-flags_of action = bit action.rise + 2 * bit action.mirror + 4 * bit action.colour + 8 * bit action.comment + 16 * bit (not action.lock)
+flags_of action = bit action.rise + 2 * bit action.mirror + 4 * bit action.colour + 8 * bit action.comment
+    + 16 * bit (not action.lock)
 
 -- the number of these parts
 abbrev pub number_of_parts : Dialect → ℕ → ℕ → ℕ → ℕ → ℕ
 number_of_parts dialect piece rotation place flags =
-    piece + 8 * rotation + 32 * place + 32 * cell_count dialect * flags
+    piece + 8 * rotation + 32 * place + 32 * page_cell_count dialect * flags
 
 -- a number names a piece in a rotation, with the pivot at a cell, inside or not
-pub record Names (dialect : Dialect) (number : ℕ) (piece : Piece) (rotation : Rotation) (pivot : Cell) (flags : ℕ) : Type 0 where
+pub record Names (dialect : Dialect) (number : ℕ) (piece : Piece) (rotation : Rotation) (pivot : Cell)
+    (flags : ℕ) : Type 0 where
   pub place : ℕ
-  pub within : place < cell_count dialect
+  pub within : place < page_cell_count dialect
   pub written : numbered_cell dialect place ≡ moved pivot (written_by piece rotation)
   pub number_is : number ≡ number_of_parts dialect (piece_code piece) (rotation_code rotation) place flags
 
@@ -74,7 +77,7 @@ pub record NamesNone (dialect : Dialect) (number flags : ℕ) : Type 0 where
   pub rotation : ℕ
   pub place : ℕ
   pub turned : rotation < 4
-  pub within : place < cell_count dialect
+  pub within : place < page_cell_count dialect
   pub number_is : number ≡ number_of_parts dialect 0 rotation place flags
 
 -- a number says this operation, if any, which lies inside
@@ -99,4 +102,4 @@ pub record SaysOutside (dialect : Dialect) (number : ℕ) : Type 0 where
 
 -- the least number that is no action's
 abbrev pub action_end : Dialect → ℕ
-action_end dialect = 1024 * cell_count dialect
+action_end dialect = 1024 * page_cell_count dialect

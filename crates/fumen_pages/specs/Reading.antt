@@ -1,13 +1,12 @@
 -- Reading a page from a place on, with the first fault that is met.
-use Rattle.std.specs.Prelude.{◌≡◌, ℕ, zero, suc, ◌+◌, ◌-◌, ◌*◌, ◌/◌, ◌%◌, ◌<◌, ◌≤◌, List, [], ◌∷◌, ◌++◌, length, take, drop, replicate, Bool, true, false, ◌==◌, nat_eq, nat_lt, if◌then◌else◌, Option, Some, None, Result, Ok, Err, ◌⊎◌, pos}
-use Rattle.std.specs.List.{list_all, flat_map, starts_with, AllByRecursion}
+use Rattle.std.specs.Prelude.{ℕ, zero, suc, ◌+◌, ◌*◌, ◌/◌, ◌%◌, List, [], ◌∷◌, ◌++◌, length, take, drop, replicate, Bool, true, false, ◌==◌, nat_eq, nat_lt, if◌then◌else◌, Option, Some, None, Result, Ok, Err, pos}
+use Rattle.std.specs.List.{list_all, starts_with}
 use Rattle.fumen_digits.specs.declared.dialect.Dialect.{Dialect}
-use Rattle.fumen_digits.specs.Dialect.{cell_count}
-use Rattle.fumen_digits.specs.Number.{Stands, NumberStands}
+use Rattle.fumen_digits.specs.Dialect.{page_cell_count}
 use Rattle.fumen_digits.specs.Fault.{Fault}
-use Rattle.fumen_digits.specs.Fault.Fault.{BadDigit, Truncated, RunPastEnd, BadCell, BadAction, PieceOutside, BadComment}
-use Rattle.fumen_digits.specs.Reading.{◌>>=◌, number_at, IsNumberFault}
-use Rattle.fumen_comment.specs.Reading.{comment_at, IsCommentFault}
+use Rattle.fumen_digits.specs.Fault.Fault.{RunPastEnd, BadCell, BadAction, PieceOutside}
+use Rattle.fumen_digits.specs.Reading.{◌>>=◌, number_at}
+use Rattle.fumen_comment.specs.Reading.{comment_at}
 use Rattle.srs.specs.declared.piece.Piece.{Piece}
 use Rattle.srs.specs.declared.rotation.Rotation.{Rotation}
 use Rattle.srs.specs.declared.rotation.Rotation.TheVariants.{Spawn, Right, Reverse, Left}
@@ -19,14 +18,9 @@ use Rattle.fumen_pages.specs.declared.action.Action.{Action}
 use Rattle.fumen_pages.specs.declared.action.ActionFault.{ActionFault}
 use Rattle.fumen_pages.specs.declared.action.ActionFault.TheVariants as bad_action
 use Rattle.fumen_pages.specs.declared.record.CellsRead.{CellsRead}
-use Rattle.fumen_pages.specs.declared.record.CellsFault.{CellsFault}
-use Rattle.fumen_pages.specs.declared.record.CellsFault.TheVariants as bad_cells
-use Rattle.fumen_pages.specs.declared.tail.TailFault.{TailFault}
-use Rattle.fumen_pages.specs.declared.tail.TailFault.TheVariants as bad_tail
 use Rattle.fumen_pages.specs.Cells.{missing_count, shown}
-use Rattle.fumen_pages.specs.Action.{written_by, moved_back, numbered_cell, in_rows, action_end, SaysAction, SaysOutside}
-use Rattle.fumen_pages.specs.Record.{Run, IsRun, moved_by, stays_colour, run_digits, unchanged, IsRecord}
-use Rattle.fumen_pages.specs.Tail.{Tail}
+use Rattle.fumen_pages.specs.Action.{written_by, moved_back, numbered_cell, in_rows, action_end}
+use Rattle.fumen_pages.specs.Record.{moved_by, stays_colour, unchanged}
 
 -- ---- the record of the cells
 
@@ -54,74 +48,25 @@ runs_at n ds place (suc most) (cell ∷ others) = do
 -- the cells of the record at a place
 unfoldable pub record_at : Dialect → List ℕ → ℕ → List ℕ → Result CellsRead Fault
 record_at dialect ds place old = do
-  new ← runs_at (cell_count dialect) ds place (cell_count dialect) (shown dialect old)
-  Ok (record { cells = replicate (missing_count dialect) 0 ++ new.0; place = new.1; unchanged = starts_with nat_eq (drop place ds) (unchanged dialect) })
-
--- these cells are spelled by the record at a place, from the old ones
-pub record RecordStands (dialect : Dialect) (ds : List ℕ) (place : ℕ) (old : List ℕ) (read : CellsRead) : Type 0 where
-  pub text : List ℕ
-  pub stands : Stands ds place text read.place
-  pub spells : IsRecord dialect old read.cells read.unchanged text
-
--- some runs stand at a place, up to place k, and one more is due there, over the cells that are left of the old ones
-pub record IsRunDue (n : ℕ) (ds : List ℕ) (place : ℕ) (old : List ℕ) (k : ℕ) (left : List ℕ) : Type 0 where
-  pub runs : List Run
-  pub each : AllByRecursion (IsRun n) runs
-  pub from : old ≡ flat_map (λ run. run.old) runs ++ left
-  pub some : 1 ≤ length left
-  pub runs_stand : Stands ds place (flat_map (run_digits n) runs) k
-
--- a run of this many cells stands at a place, with this difference and 8
-pub record RunStands (n : ℕ) (ds : List ℕ) (place count shift : ℕ) : Type 0 where
-  pub some : 1 ≤ count
-  pub most : count ≤ n
-  pub stands : NumberStands ds place 2 (shift * n + (count - 1))
-
--- a run is longer than the cells that are left
-pub record IsLongRun (n : ℕ) (ds : List ℕ) (place : ℕ) (left : List ℕ) : Type 0 where
-  pub count : ℕ
-  pub shift : ℕ
-  pub stands : RunStands n ds place count shift
-  pub long : length left < count
-
--- a run that fits makes a cell below 0 or above 8
-pub record IsBadRun (n : ℕ) (ds : List ℕ) (place : ℕ) (left : List ℕ) : Type 0 where
-  pub count : ℕ
-  pub shift : ℕ
-  pub stands : RunStands n ds place count shift
-  pub fits : count ≤ length left
-  pub bad : list_all (stays_colour shift) (take count left) ≡ false
-
--- the fault of a run that is due at a place: that of its number, or that it is too long, or makes a bad cell
-abbrev pub IsRunFault : ℕ → List ℕ → ℕ → List ℕ → Fault → Type 0
-IsRunFault n ds place left f =
-    IsNumberFault ds place 2 f ⊎ (IsLongRun n ds place left × (f ≡ RunPastEnd place)) ⊎ (IsBadRun n ds place left × (f ≡ BadCell place))
-
--- the fault of the runs at a place, over the old cells: that of a run that is due
-abbrev pub IsRunsFault : ℕ → List ℕ → ℕ → List ℕ → Fault → Type 0
-IsRunsFault n ds place old f = (k : ℕ) × (left : List ℕ) × IsRunDue n ds place old k left × IsRunFault n ds k left f
-
--- the fault of the record at a place
-abbrev pub IsRecordFault : Dialect → List ℕ → ℕ → List ℕ → Fault → Type 0
-IsRecordFault dialect ds place old f = IsRunsFault (cell_count dialect) ds place (shown dialect old) f
-
--- a fault of a record among those of a text
-abbrev pub cells_fault : CellsFault → Fault
-cells_fault (bad_cells.BadDigit place) = BadDigit place
-cells_fault (bad_cells.Truncated place) = Truncated place
-cells_fault (bad_cells.RunPastEnd place) = RunPastEnd place
-cells_fault (bad_cells.BadCell place) = BadCell place
+  new ← runs_at (page_cell_count dialect) ds place (page_cell_count dialect) (shown dialect old)
+  Ok (record {
+    cells = replicate (missing_count dialect) 0 ++ new.0;
+    place = new.1;
+    unchanged = starts_with nat_eq (drop place ds) (unchanged dialect);
+  })
 
 -- ---- the action
 
 -- the rotation with one of fumen's numbers, of which there are four
 abbrev pub rotation_with_code : ℕ → Rotation
-rotation_with_code code = if code == 0 then Reverse else (if code == 1 then Right else (if code == 2 then Spawn else Left))
+rotation_with_code code =
+    if code == 0 then Reverse else (if code == 1 then Right else (if code == 2 then Spawn else Left))
 
 -- the placement with its pivot at a cell, where all its cells lie in the dialect's rows
 abbrev pub placed : Dialect → Piece → Rotation → Cell → Result (Option Placement) ActionFault
 placed dialect piece rotation (pos x, pos y) =
-    if list_all (in_rows dialect) (cells_at piece rotation (pos x, pos y)) then Ok (Some (record { piece = piece; rotation = rotation; x = x; y = y }))
+    if list_all (in_rows dialect) (cells_at piece rotation (pos x, pos y)) then Ok
+    (Some (record { piece = piece; rotation = rotation; x = x; y = y }))
     else Err bad_action.Outside
 placed dialect piece rotation other = Err bad_action.Outside
 
@@ -151,7 +96,9 @@ with_flags flags (Err fault) = Err fault
 unfoldable pub action_in : Dialect → ℕ → Result Action ActionFault
 action_in dialect number =
     if nat_lt number (action_end dialect)
-    then with_flags (number / (32 * cell_count dialect)) (operation_of dialect (piece_with_code (number % 8)) (rotation_with_code (number / 8 % 4)) (number / 32 % cell_count dialect))
+    then with_flags (number / (32 * page_cell_count dialect))
+    (operation_of dialect (piece_with_code (number % 8)) (rotation_with_code (number / 8 % 4))
+    (number / 32 % page_cell_count dialect))
     else Err bad_action.TooLarge
 
 -- a fault of an action among those of a text, where the number stands at a place, in a page counted from 1
@@ -197,45 +144,3 @@ page_at dialect cells page ds place = do
   action ← action_at dialect page ds place
   part ← part_at action.comment ds (place + 3)
   Ok (page_of cells action part.0, part.1)
-
--- the tail of a page stands at a place, up to end
-pub record TailStands (dialect : Dialect) (ds : List ℕ) (place : ℕ) (page : Page) (end : ℕ) : Type 0 where
-  pub text : List ℕ
-  pub stands : Stands ds place text end
-  pub spells : Tail dialect page text
-
--- a number stands at a place that is no action's
-pub record IsLargeAction (dialect : Dialect) (ds : List ℕ) (place : ℕ) : Type 0 where
-  pub number : ℕ
-  pub stands : NumberStands ds place 3 number
-  pub large : action_end dialect ≤ number
-
--- a number stands at a place that names a piece with a cell outside
-pub record IsOutsideAction (dialect : Dialect) (ds : List ℕ) (place : ℕ) : Type 0 where
-  pub number : ℕ
-  pub stands : NumberStands ds place 3 number
-  pub outside : SaysOutside dialect number
-
--- the number of an action with a comment stands at a place, so that its comment is due behind it
-pub record IsCommentDue (dialect : Dialect) (ds : List ℕ) (place : ℕ) : Type 0 where
-  pub number : ℕ
-  pub stands : NumberStands ds place 3 number
-  pub action : Action
-  pub says : SaysAction dialect number action
-  pub flagged : action.comment ≡ true
-
--- the fault of the tail at a place, of a page counted from 1: that of its number, or of what the number says, or of the comment that is due
-abbrev pub IsTailFault : Dialect → ℕ → List ℕ → ℕ → Fault → Type 0
-IsTailFault dialect page ds place f =
-    IsNumberFault ds place 3 f
-    ⊎ (IsLargeAction dialect ds place × (f ≡ BadAction place))
-    ⊎ (IsOutsideAction dialect ds place × (f ≡ PieceOutside page))
-    ⊎ (IsCommentDue dialect ds place × IsCommentFault ds (place + 3) f)
-
--- a fault of a tail among those of a text
-abbrev pub tail_fault : TailFault → Fault
-tail_fault (bad_tail.BadDigit place) = BadDigit place
-tail_fault (bad_tail.Truncated place) = Truncated place
-tail_fault (bad_tail.BadAction place) = BadAction place
-tail_fault (bad_tail.PieceOutside page) = PieceOutside page
-tail_fault (bad_tail.BadComment place) = BadComment place

@@ -2,7 +2,7 @@
 use Rattle.std.specs.Prelude.{◌≡◌, ℕ, ◌+◌, ◌-◌, ◌*◌, ◌≤◌, List, length, map, Bool, true, false, ◌&&◌, nat_le, IsTrue}
 use Rattle.std.specs.List.{list_all, flat_map, AllByRecursion}
 use Rattle.fumen_digits.specs.declared.dialect.Dialect.{Dialect}
-use Rattle.fumen_digits.specs.Dialect.{cell_count}
+use Rattle.fumen_digits.specs.Dialect.{page_cell_count}
 use Rattle.fumen_digits.specs.Number.{digits}
 use Rattle.fumen_pages.specs.Cells.{shown, AreCells}
 
@@ -41,11 +41,11 @@ pub record Cuts (dialect : Dialect) (old new ds : List ℕ) : Type 0 where
   pub old_cells : AreCells dialect old
   pub new_cells : AreCells dialect new
   pub runs : List Run
-  pub cut : CutsInto (cell_count dialect) runs (shown dialect old) (shown dialect new) ds
+  pub cut : CutsInto (page_cell_count dialect) runs (shown dialect old) (shown dialect new) ds
 
 -- the single run of all cells that changes none of them: `vh`, or `7e`
 abbrev pub unchanged : Dialect → List ℕ
-unchanged dialect = digits 2 (8 * cell_count dialect + (cell_count dialect - 1))
+unchanged dialect = digits 2 (8 * page_cell_count dialect + (page_cell_count dialect - 1))
 
 -- another one than that
 pub record CutsOther (dialect : Dialect) (old new ds : List ℕ) : Type 0 where

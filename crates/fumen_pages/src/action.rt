@@ -2,13 +2,14 @@
 ghost use Rattle.std.specs.Prelude.{◌≡◌, ◌*◌, ◌^◌, ◌≤◌, ◌<◌, ◌↔◌, ◌≤ℤ◌, pos, IsTrue, Ok, Err};
 ghost use Rattle.std.specs.Option.{ForSome};
 ghost use Rattle.fumen_digits.specs.declared.dialect.Dialect.{Dialect};
-ghost use Rattle.fumen_digits.specs.Dialect.{cell_count};
+ghost use Rattle.fumen_digits.specs.Dialect.{page_cell_count};
 ghost use Rattle.srs.specs.Cells.{is_near, minus, moved, pivot_of};
 ghost use Rattle.fumen_pages.specs.declared.action.Action.{Action};
 ghost use Rattle.fumen_pages.specs.declared.page.Page.{Page};
-ghost use Rattle.fumen_pages.specs.Action.{SaysAction, SaysOutside, action_end, bit, flags_of, in_rows, is_inside_in, moved_back, numbered_cell, rotation_code, written_by};
+ghost use Rattle.fumen_pages.specs.Action.{SaysAction, SaysOutside, action_end, bit, flags_of, in_rows, is_inside_in, numbered_cell, rotation_code, written_by};
 ghost use Rattle.fumen_pages.specs.Sound.{IsSound, action_of};
-ghost use Rattle.fumen_pages.specs.Written.{number_of, operation_number, place_of};
+ghost use Rattle.fumen_pages.specs.Written.{number_of, operation_number};
+ghost use Rattle.fumen_pages.specs.Cells.{place_of};
 ghost use Rattle.fumen_pages.specs.Reading.{action_in, operation_of, placed, rotation_with_code};
 
 use crate::inside::is_inside;
@@ -77,7 +78,7 @@ fn read_parts(dialect: Dialect, number: u32) -> Result<Action, ActionFault>
     })
 }
 
-// The rotation with one of fumen's numbers, 0 to 3.
+/// The rotation with one of fumen's numbers, 0 to 3.
 fn rotation_with_code(code: u8) -> Rotation
     ensures { result ≡ rotation_with_code code }
 {
@@ -89,27 +90,28 @@ fn rotation_with_code(code: u8) -> Rotation
     }
 }
 
-// The placement of a piece, if one is named, whose pivot is written at a place.
+/// The placement of a piece, if one is named, whose pivot is written at a place.
 fn operation_of(
     dialect: Dialect,
     piece: Option<Piece>,
     rotation: Rotation,
     place: u8,
 ) -> Result<Option<Placement>, ActionFault>
-    requires { place < cell_count dialect }
+    requires { place < page_cell_count dialect }
     ensures { result ≡ operation_of dialect piece rotation place }
 {
     let Some(piece) = piece else {
         return Ok(None);
     };
     let written = numbered_cell(dialect, place);
-    let pivot = moved_back(written, written_by(piece, rotation));
+    let (columns, rows) = written_by(piece, rotation);
+    let pivot = moved(written, (-columns, -rows));
     placed(dialect, piece, rotation, pivot)
 }
 
-// The cell with a number, as column and row.
+/// The cell with a number, as column and row.
 fn numbered_cell(dialect: Dialect, place: u8) -> (i8, i8)
-    requires { place < cell_count dialect }
+    requires { place < page_cell_count dialect }
     ensures cell { result ≡ numbered_cell dialect place }
     ensures right { result.0 ≤ℤ pos 31 }
     ensures left { minus 31 ≤ℤ result.0 }
@@ -120,7 +122,7 @@ fn numbered_cell(dialect: Dialect, place: u8) -> (i8, i8)
     ((place % 10) as i8, top - (place / 10) as i8)
 }
 
-// What the pivot is moved by where it is written, by columns and rows.
+/// What the pivot is moved by where it is written, by columns and rows.
 fn written_by(piece: Piece, rotation: Rotation) -> (i8, i8)
     ensures pair { result ≡ written_by piece rotation }
     ensures near { IsTrue (is_near result) }
@@ -134,20 +136,7 @@ fn written_by(piece: Piece, rotation: Rotation) -> (i8, i8)
     }
 }
 
-// A cell moved back by a number of columns and rows.
-#[tactic(auto, unfolding(crate::specs::Action::moved_back))]
-fn moved_back(cell: (i8, i8), by: (i8, i8)) -> (i8, i8)
-    requires right { cell.0 ≤ℤ pos 31 }
-    requires left { minus 31 ≤ℤ cell.0 }
-    requires high { cell.1 ≤ℤ pos 31 }
-    requires low { minus 31 ≤ℤ cell.1 }
-    requires near { IsTrue (is_near by) }
-    ensures { result ≡ moved_back cell by }
-{
-    (cell.0 - by.0, cell.1 - by.1)
-}
-
-// The placement with its pivot at a cell, where all its cells lie in the dialect's rows.
+/// The placement with its pivot at a cell, where all its cells lie in the dialect's rows.
 fn placed(
     dialect: Dialect,
     piece: Piece,
@@ -182,18 +171,11 @@ pub fn action_number(dialect: Dialect, page: &Page) -> u32
     operation_number(dialect, &page.operation) + 32 * cells * flags_number(page)
 }
 
-/// What is written is read again: the number of a sound page's action says its operation, its flags and
-/// whether it has a comment, and is read as these.
-pub fn action_number_undone()
-    ensures says { (dialect : Dialect) (page : Page) → IsSound dialect page → SaysAction dialect (number_of dialect page) (action_of page) }
-    ensures read { (dialect : Dialect) (page : Page) → IsSound dialect page → action_in dialect (number_of dialect page) ≡ Ok (action_of page) }
-{}
-
-// The part of a number that names an operation.
+/// The part of a number that names an operation.
 fn operation_number(dialect: Dialect, operation: &Option<Placement>) -> u32
     requires { ForSome operation.now (λ placement. IsTrue (is_inside_in dialect placement)) }
     ensures exact { result ≡ operation_number dialect operation.now }
-    ensures below { result < 32 * cell_count dialect }
+    ensures below { result < 32 * page_cell_count dialect }
 {
     let Some(placement) = operation else {
         return 0;
@@ -203,7 +185,7 @@ fn operation_number(dialect: Dialect, operation: &Option<Placement>) -> u32
     piece + 8 * rotation + 32 * u32::from(written_place(dialect, placement))
 }
 
-// Fumen's number of a rotation.
+/// Fumen's number of a rotation.
 fn rotation_code(rotation: Rotation) -> u8
     ensures code { result ≡ rotation_code rotation }
     ensures below { result < 4 }
@@ -216,18 +198,19 @@ fn rotation_code(rotation: Rotation) -> u8
     }
 }
 
-// The number of the cell where the pivot is written.
+/// The number of the cell where the pivot is written.
 fn written_place(dialect: Dialect, placement: &Placement) -> u8
     requires { IsTrue (is_inside_in dialect placement.now) }
-    ensures exact { result ≡ place_of dialect (moved (pivot_of placement.now) (written_by placement.now.piece placement.now.rotation)) }
-    ensures below { result < cell_count dialect }
+    ensures exact { result ≡ place_of dialect (moved (pivot_of placement.now)
+        (written_by placement.now.piece placement.now.rotation)) }
+    ensures below { result < page_cell_count dialect }
 {
     let pivot = (placement.x as i8, placement.y as i8);
     let written = moved(pivot, written_by(placement.piece, placement.rotation));
     place_of(dialect, written)
 }
 
-// A cell moved by a number of columns and rows.
+/// A cell moved by a number of columns and rows.
 #[tactic(auto, unfolding(srs::specs::Cells::moved))]
 fn moved(cell: (i8, i8), by: (i8, i8)) -> (i8, i8)
     requires right { cell.0 ≤ℤ pos 31 }
@@ -240,17 +223,17 @@ fn moved(cell: (i8, i8), by: (i8, i8)) -> (i8, i8)
     (cell.0 + by.0, cell.1 + by.1)
 }
 
-// The number of a cell of the dialect's rows.
+/// The number of a cell of the dialect's rows.
 fn place_of(dialect: Dialect, cell: (i8, i8)) -> u8
     requires { IsTrue (in_rows dialect cell) }
     ensures exact { result ≡ place_of dialect cell }
-    ensures below { result < cell_count dialect }
+    ensures below { result < page_cell_count dialect }
 {
     let (x, y) = cell;
     (dialect.rows() - 1 - y as u8) * 10 + x as u8
 }
 
-// The flags of a page as one number.
+/// The flags of a page as one number.
 fn flags_number(page: &Page) -> u32
     ensures exact { result ≡ flags_of (action_of page.now) }
     ensures below { result < 32 }

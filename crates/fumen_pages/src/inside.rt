@@ -16,7 +16,7 @@ pub fn is_inside(dialect: Dialect, placement: &Placement) -> bool
     cells(placement).iter().all(|cell| in_rows(dialect, *cell))
 }
 
-// Whether a cell, as column and row, lies in columns 0 to 9 and in the dialect's rows.
+/// Whether a cell, as column and row, lies in columns 0 to 9 and in the dialect's rows.
 fn in_rows(dialect: Dialect, cell: (i8, i8)) -> bool
     ensures { result ≡ in_rows dialect cell }
 {

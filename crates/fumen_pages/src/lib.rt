@@ -3,16 +3,17 @@
 
 mod action;
 mod inside;
+pub mod laws;
 mod next;
 mod page;
 mod record;
 mod tail;
 
-pub use action::{Action, ActionFault, action_number, action_number_undone, read_action};
+pub use action::{Action, ActionFault, action_number, read_action};
 pub use inside::is_inside;
 pub use next::{mark, next_cells};
 pub use page::Page;
-pub use record::{CellsFault, CellsRead, read_cells, write_cells, write_cells_undone};
+pub use record::{CellsFault, CellsRead, read_cells, write_cells};
 pub use tail::{TailFault, read_page};
 
 #[cfg(test)]

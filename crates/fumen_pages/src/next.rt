@@ -2,8 +2,9 @@
 ghost use Rattle.std.specs.Prelude.{◌≡◌, ◌-◌, ◌≤◌, ◌++◌, length, take, drop, replicate, slice_set, IsTrue};
 ghost use Rattle.std.specs.Option.{ForSome};
 ghost use Rattle.srs.specs.Cells.{in_well, is_inside_of};
-ghost use Rattle.fumen_pages.specs.Cells.{AreCells, missing_count};
-ghost use Rattle.fumen_pages.specs.Next.{cleared, filled, index_of, is_full, marked, mirrored, next, risen, rows_of};
+ghost use Rattle.fumen_pages.specs.Cells.{AreCells, missing_count, place_of};
+ghost use Rattle.fumen_pages.specs.Next.{cleared, operation_filled, is_full_page_row, marked, mirrored, next, risen, rows_of};
+ghost use Rattle.fumen_digits.specs.declared.dialect.Dialect.TheVariants.{V115};
 ghost use Rattle.fumen_pages.specs.Sound.{IsSound};
 
 use crate::page::Page;
@@ -38,11 +39,11 @@ fn left_cells(dialect: Dialect, page: &Page) -> [u8; 240]
     cells
 }
 
-// The cells of the operation, if any, take the colour of its piece.
-#[tactic(auto, unfolding(crate::specs::Next::filled))]
+/// The cells of the operation, if any, take the colour of its piece.
+#[tactic(auto, unfolding(crate::specs::Next::operation_filled))]
 fn fill(page: &mut [u8; 240], operation: &Option<Placement>)
     requires { ForSome operation.now (λ placement. IsTrue (is_inside_of placement)) }
-    ensures { page.new ≡ filled operation.now page.old }
+    ensures { page.new ≡ operation_filled operation.now page.old }
 {
     if let Some(placement) = operation {
         mark(page, placement, placement.piece.code());
@@ -62,16 +63,16 @@ pub fn mark(page: &mut [u8; 240], placement: &Placement, value: u8)
     set_cell(page, d, value);
 }
 
-// A cell, as column and row, takes a value.
+/// A cell, as column and row, takes a value.
 fn set_cell(page: &mut [u8; 240], cell: (i8, i8), value: u8)
     requires { IsTrue (in_well cell) }
-    ensures { page.new ≡ slice_set page.old (index_of cell) value }
+    ensures { page.new ≡ slice_set page.old (place_of V115 cell) value }
 {
     let (x, y) = cell;
     page[(22 - y as usize) * 10 + x as usize] = value;
 }
 
-// The full rows go, those above them move down, and empty rows come in at the top.
+/// The full rows go, those above them move down, and empty rows come in at the top.
 fn clear(dialect: Dialect, page: &mut [u8; 240])
     ensures rows { rows_of dialect page.new ≡ cleared (rows_of dialect page.old) }
     ensures missing { take (missing_count dialect) page.new ≡ take (missing_count dialect) page.old }
@@ -85,14 +86,14 @@ fn clear(dialect: Dialect, page: &mut [u8; 240])
     }
 }
 
-// Whether none of the cells of a row is empty.
+/// Whether none of the cells of a row is empty.
 fn is_full(row: &[u8]) -> bool
-    ensures { result ≡ is_full row.now }
+    ensures { result ≡ is_full_page_row row.now }
 {
     row.iter().all(|cell| *cell != 0)
 }
 
-// The last row goes, the others move down by one, and an empty row comes in at the top.
+/// The last row goes, the others move down by one, and an empty row comes in at the top.
 fn lower(rows: &mut [u8])
     requires { 10 ≤ length rows.old }
     ensures { rows.new ≡ replicate 10 0 ++ take (length rows.old - 10) rows.old }
@@ -101,7 +102,7 @@ fn lower(rows: &mut [u8])
     rows[..10].copy_from_slice(&[0; 10]);
 }
 
-// With a rise the top row goes, each row moves up by one, and the garbage row is empty.
+/// With a rise the top row goes, each row moves up by one, and the garbage row is empty.
 fn rise(dialect: Dialect, rise: bool, page: &mut [u8; 240])
     ensures rows { rows_of dialect page.new ≡ risen rise (rows_of dialect page.old) }
     ensures missing { take (missing_count dialect) page.new ≡ take (missing_count dialect) page.old }
@@ -113,7 +114,7 @@ fn rise(dialect: Dialect, rise: bool, page: &mut [u8; 240])
     lift(&mut page[top..]);
 }
 
-// The first row goes, the others move up by one, and an empty row comes in at the end.
+/// The first row goes, the others move up by one, and an empty row comes in at the end.
 fn lift(rows: &mut [u8])
     requires { 10 ≤ length rows.old }
     ensures { rows.new ≡ drop 10 rows.old ++ replicate 10 0 }
@@ -123,7 +124,7 @@ fn lift(rows: &mut [u8])
     rows[last..].copy_from_slice(&[0; 10]);
 }
 
-// With a mirror each row but the garbage row is reversed.
+/// With a mirror each row but the garbage row is reversed.
 fn mirror(dialect: Dialect, mirror: bool, page: &mut [u8; 240])
     ensures rows { rows_of dialect page.new ≡ mirrored mirror (rows_of dialect page.old) }
     ensures missing { take (missing_count dialect) page.new ≡ take (missing_count dialect) page.old }

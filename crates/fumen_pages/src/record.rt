@@ -1,17 +1,17 @@
 // The record of a page's cells: runs of cells, each with one difference to the page before.
-ghost use Rattle.std.specs.Prelude.{◌≡◌, ℕ, ◌+◌, ◌<◌, ◌≤◌, ◌↔◌, ◌++◌, List, length, take, All, Bool, IfOk, OnOk, OnErr, IsTrue, Ok, Err};
+ghost use Rattle.std.specs.Prelude.{◌≡◌, ◌+◌, ◌<◌, ◌≤◌, ◌↔◌, ◌++◌, length, take, All, IfOk, OnOk, OnErr, IsTrue, Ok, Err};
 ghost use Rattle.std.specs.List.{list_all};
-ghost use Rattle.fumen_digits.specs.Dialect.{cell_count};
+ghost use Rattle.fumen_digits.specs.Dialect.{page_cell_count};
 ghost use Rattle.fumen_digits.specs.declared.dialect.Dialect.{Dialect};
-ghost use Rattle.fumen_digits.specs.Digit.{AreDigits};
-ghost use Rattle.fumen_digits.specs.Number.{Stands};
-ghost use Rattle.fumen_digits.specs.Reading.{Reads, number_at};
+ghost use Rattle.fumen_digits.specs.Reading.{number_at};
+ghost use Rattle.fumen_digits.specs.Answers.{Reads};
 ghost use Rattle.fumen_pages.specs.declared.record.CellsRead.{CellsRead};
 ghost use Rattle.fumen_pages.specs.declared.record.CellsFault.{CellsFault};
-ghost use Rattle.fumen_pages.specs.Cells.{AreCells, IsColour, shown};
-ghost use Rattle.fumen_pages.specs.Record.{CutsOther, moved_by, stays_colour, unchanged};
-ghost use Rattle.fumen_pages.specs.Written.{AreApart, difference, longest, same_count, written_record};
-ghost use Rattle.fumen_pages.specs.Reading.{IsRecordFault, RecordStands, cells_fault, checked_run, record_at, run_at};
+ghost use Rattle.fumen_pages.specs.Cells.{AreCells, IsColour};
+ghost use Rattle.fumen_pages.specs.Record.{moved_by, stays_colour, unchanged};
+ghost use Rattle.fumen_pages.specs.Written.{colour_difference, same_count, written_record};
+ghost use Rattle.fumen_pages.specs.Reading.{checked_run, record_at, run_at};
+ghost use Rattle.fumen_pages.specs.Faults.{IsRecordFault, RecordStands, cells_fault};
 
 use fumen_digits::{Dialect, DigitFault, push_number, read_number};
 use pc_outside::NoMemory;
@@ -62,7 +62,8 @@ pub fn read_cells(
 
     // The record that stands there, or the first fault there.
     ensures found { (read : CellsRead) → (result ≡ Ok read) ↔ RecordStands dialect digits.now place old.now read }
-    ensures fault { (f : CellsFault) → (result ≡ Err f) ↔ IsRecordFault dialect digits.now place old.now (cells_fault f) }
+    ensures fault { (f : CellsFault) → (result ≡ Err f)
+        ↔ IsRecordFault dialect digits.now place old.now (cells_fault f) }
 {
     read_record(digits, place, dialect, old)
 }
@@ -94,7 +95,7 @@ fn read_record(
     })
 }
 
-// The run that changes no cell.
+/// The run that changes no cell.
 #[tactic(auto, unfolding(fumen_digits::specs::Number::digits, fumen_digits::specs::Digit::digit))]
 fn unchanged(dialect: Dialect) -> &'static [u8]
     ensures { result.now ≡ unchanged dialect }
@@ -105,7 +106,7 @@ fn unchanged(dialect: Dialect) -> &'static [u8]
     }
 }
 
-// The run at a place, over the cells that are left: how many, and their difference and 8.
+/// The run at a place, over the cells that are left: how many, and their difference and 8.
 #[tactic(auto, unfolding(crate::specs::Reading::run_at))]
 fn run_at(
     digits: &[u8],
@@ -115,7 +116,7 @@ fn run_at(
 ) -> Result<(usize, u8), CellsFault>
     requires place { place ≤ length digits.now }
     requires colours { All IsColour left.now }
-    ensures exact { Reads (λ run. run) cells_fault result (run_at (cell_count dialect) digits.now place left.now) }
+    ensures exact { Reads (λ run. run) cells_fault result (run_at (page_cell_count dialect) digits.now place left.now) }
     ensures within { IfOk result (λ _. place + 2 ≤ length digits.now) }
     ensures some { IfOk result (λ run. 1 ≤ run.0) }
     ensures fits { IfOk result (λ run. run.0 ≤ length left.now) }
@@ -131,7 +132,7 @@ fn run_at(
     )
 }
 
-// A run of this many cells, with their difference and 8, unless it has a fault.
+/// A run of this many cells, with their difference and 8, unless it has a fault.
 fn checked_run(
     place: usize,
     left: &[u8],
@@ -154,7 +155,7 @@ fn checked_run(
     Ok((count, shift))
 }
 
-// The number of a run at a place, its fault as one of the cells.
+/// The number of a run at a place, its fault as one of the cells.
 fn number_at(digits: &[u8], place: usize) -> Result<u32, CellsFault>
     requires { place ≤ length digits.now }
     ensures exact { Reads (λ n. n) cells_fault result (number_at digits.now place 2) }
@@ -168,7 +169,7 @@ fn number_at(digits: &[u8], place: usize) -> Result<u32, CellsFault>
     }
 }
 
-// Whether all cells are colours with the difference added.
+/// Whether all cells are colours with the difference added.
 fn stay_colours(cells: &[u8], shift: u8) -> bool
     requires shift { shift ≤ 18 }
     requires colours { All IsColour cells.now }
@@ -179,7 +180,7 @@ fn stay_colours(cells: &[u8], shift: u8) -> bool
         .all(|cell| 8 <= *cell + shift && *cell + shift <= 16)
 }
 
-// The difference is added to all cells.
+/// The difference is added to all cells.
 fn move_by(cells: &mut [u8], shift: u8)
     requires { IsTrue (list_all (stays_colour shift) cells.old) }
     ensures { cells.new ≡ moved_by shift cells.old }
@@ -210,7 +211,7 @@ pub fn write_cells(
     written
 }
 
-// Appends the runs, or a front of them.
+/// Appends the runs, or a front of them.
 fn push_runs(
     out: &mut Vec<u8>,
     dialect: Dialect,
@@ -237,17 +238,17 @@ fn push_runs(
     Ok(())
 }
 
-// The difference of a new cell to the old one, and 8.
+/// The difference of a new cell to the old one, and 8.
 fn difference(old: u8, new: u8) -> u8
     requires old { old ≤ 8 }
     requires new { new ≤ 8 }
-    ensures value { result ≡ difference old new }
+    ensures value { result ≡ colour_difference old new }
     ensures most { result ≤ 16 }
 {
     new + 8 - old
 }
 
-// How many cells from the first one on have this difference and 8.
+/// How many cells from the first one on have this difference and 8.
 fn same_count(old: &[u8], new: &[u8], shift: u8) -> usize
     requires same { length old.now ≡ length new.now }
     requires old { All IsColour old.now }
@@ -262,17 +263,3 @@ fn same_count(old: &[u8], new: &[u8], shift: u8) -> usize
     }
     old.len()
 }
-
-/// What is written is read again: the record of some cells has only digits, and cuts them, by runs that
-/// can't be longer; it is the run that changes no cell exactly where none changes, and is read as the new
-/// cells wherever it stands.
-pub fn write_cells_undone()
-    ensures digits { (dialect : Dialect) (old new : List ℕ) → AreDigits (written_record dialect old new) }
-    ensures same { (dialect : Dialect) (old : List ℕ) → AreCells dialect old → written_record dialect old old ≡ unchanged dialect }
-    ensures other { (dialect : Dialect) (old new : List ℕ) → AreCells dialect old → AreCells dialect new → (new ≡ old → ⊥) →
-        CutsOther dialect old new (written_record dialect old new) }
-    ensures longest { (dialect : Dialect) (old new : List ℕ) → AreCells dialect old → AreCells dialect new →
-        AreApart (longest (shown dialect old) (shown dialect new)) }
-    ensures read { (dialect : Dialect) (ds old new : List ℕ) (place end : ℕ) → AreCells dialect old → AreCells dialect new →
-        Stands ds place (written_record dialect old new) end → (same : Bool) × (record_at dialect ds place old ≡ Ok (record { cells = new; place = end; unchanged = same })) }
-{}

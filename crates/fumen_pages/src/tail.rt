@@ -1,11 +1,13 @@
 // What stands behind the cells of a page: its action, and its comment.
 ghost use Rattle.std.specs.Prelude.{◌≡◌, ℕ, ◌+◌, ◌≤◌, length, IfOk, Ok, Err, IsTrue};
 ghost use Rattle.std.specs.Option.{ForSome};
-ghost use Rattle.fumen_digits.specs.Reading.{Gives, number_at};
+ghost use Rattle.fumen_digits.specs.Reading.{number_at};
+ghost use Rattle.fumen_digits.specs.Answers.{Gives};
 ghost use Rattle.fumen_pages.specs.declared.page.Page.{Page};
 ghost use Rattle.fumen_pages.specs.declared.tail.TailFault.{TailFault};
 ghost use Rattle.fumen_pages.specs.Action.{is_inside_in};
-ghost use Rattle.fumen_pages.specs.Reading.{IsTailFault, TailStands, action_at, page_at, part_at, tail_fault};
+ghost use Rattle.fumen_pages.specs.Reading.{action_at, page_at, part_at};
+ghost use Rattle.fumen_pages.specs.Faults.{IsTailFault, TailStands, tail_fault};
 
 use crate::action::{Action, ActionFault, read_action};
 use crate::page::Page;
@@ -57,7 +59,8 @@ pub fn read_page(
         Gives (λ x. x) tail_fault result (Ok (read, end)) }
 
     // A fault is the first one there, and the first one there is answered, unless memory runs out.
-    ensures fault { (f : TailFault) → result ≡ Err (Refused.Fault f) → IsTailFault dialect page digits.now place (tail_fault f) }
+    ensures fault { (f : TailFault) → result ≡ Err (Refused.Fault f) →
+        IsTailFault dialect page digits.now place (tail_fault f) }
     ensures fault_only { (f : TailFault) → IsTailFault dialect page digits.now place (tail_fault f) →
         Gives (λ x. x) tail_fault result (Err (tail_fault f)) }
 {
@@ -90,7 +93,7 @@ fn read_tail(
     Ok((page, end))
 }
 
-// The action at a place, its fault as one of a tail.
+/// The action at a place, its fault as one of a tail.
 #[tactic(auto, unfolding(crate::specs::Reading::action_at))]
 fn action_at(
     digits: &[u8],
@@ -110,7 +113,7 @@ fn action_at(
     }
 }
 
-// The number of an action at a place, its fault as one of a tail.
+/// The number of an action at a place, its fault as one of a tail.
 fn number_at(digits: &[u8], place: usize) -> Result<u32, Refused<TailFault>>
     requires { place ≤ length digits.now }
     ensures exact { Gives (λ n. n) tail_fault result (number_at digits.now place 3) }
@@ -123,7 +126,7 @@ fn number_at(digits: &[u8], place: usize) -> Result<u32, Refused<TailFault>>
     }
 }
 
-// The comment at a place, where there is one, and the place behind it.
+/// The comment at a place, where there is one, and the place behind it.
 #[tactic(auto, unfolding(crate::specs::Reading::part_at))]
 fn part_at(
     alloc: Global,

@@ -5,7 +5,7 @@ use pc_outside::Refused;
 use srs::{Piece, Placement, Rotation};
 use std::test::Fail;
 
-// A T in the gap of row 0, over a garbage row with one gap; the page rises and is mirrored.
+/// A T in the gap of row 0, over a garbage row with one gap; the page rises and is mirrored.
 #[test]
 fn next_page(rt: HostRuntime) -> Result<(), Fail> {
     let digits = b"bhC8CeL8AeA8V4O";

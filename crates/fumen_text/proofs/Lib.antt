@@ -1,12 +1,13 @@
 -- Lemmas on pages that are read one after the other.
-pub mod CellsLaws
-pub mod StepLaws
-pub mod WholePages
-pub mod PagesLaws
-pub mod TextLaws
-pub mod ReadLoop
-pub mod WrittenLaws
-pub mod EncodeLaws
-pub mod WriteLoop
+mod CellsReadAsSpelled
+mod PageReadAsSpelled
+mod WholePages
+mod PagesReadAsSpelled
+mod TextReadAsSpelled
+mod ReadLoop
+mod WrittenIsSpelled
+mod WrittenIsRead
+mod WriteLoop
 mod Worked
-pub mod SpelledPages
+mod SpelledPages
+pub mod CallerLemmas

@@ -6,8 +6,9 @@ use Rattle.pc_outside.specs.declared.answers.Refused.TheVariants as refused
 use Rattle.fumen_digits.specs.declared.dialect.Dialect.{Dialect}
 use Rattle.fumen_digits.specs.Fault.{Fault}
 use Rattle.fumen_digits.specs.Fault.Fault.{TooManyPages}
-use Rattle.fumen_digits.specs.Reading.{◌>>=◌, Refuses}
-use Rattle.fumen_digits.proofs.Binds.{ok_bind, err_bind}
+use Rattle.fumen_digits.specs.Reading.{◌>>=◌}
+use Rattle.fumen_digits.specs.Answers.{IsRefusal}
+use Rattle.fumen_digits.proofs.CallerLemmas.{ok_bind, err_bind}
 use Rattle.fumen_pages.specs.declared.page.Page.{Page}
 use Rattle.fumen_pages.specs.declared.record.CellsRead.{CellsRead}
 use Rattle.fumen_pages.specs.Cells.{AreCells}
@@ -15,26 +16,27 @@ use Rattle.fumen_pages.specs.Reading.{record_at}
 use Rattle.fumen_text.specs.declared.position.Position.{Position}
 use Rattle.fumen_text.specs.declared.fault.FumenFault.{FumenFault}
 use Rattle.fumen_text.specs.Texts.{empty_cells}
-use Rattle.fumen_text.specs.Reading.{cells_at, fumen_fault, is_due, pages_at, position, promise_at, step_at}
-use Rattle.fumen_text.proofs.PagesLaws.{from_nothing, others_at, turn_due, turn_ended, turn_full, with_front}
-use Rattle.fumen_text.proofs.TextLaws.{empty_sound}
+use Rattle.fumen_text.specs.Reading.{page_cells_at, is_due, pages_at, position, promise_at, next_page_at}
+use Rattle.fumen_text.specs.Faults.{fumen_fault}
+use Rattle.fumen_text.proofs.PagesReadAsSpelled.{from_nothing, others_at, turn_due, turn_ended, turn_full, with_front}
+use Rattle.fumen_text.proofs.TextReadAsSpelled.{empty_sound}
 
 -- ---- the cells of a page
 
-pub cells_promised : (d : Dialect) (ds : List ℕ) (place : ℕ) (before : List ℕ) (promised : ℕ) → 0 < promised → cells_at d ds place before promised ≡ Ok (position place before (promised - 1))
-unfolding cells_at
+pub cells_promised : (d : Dialect) (ds : List ℕ) (place : ℕ) (before : List ℕ) (promised : ℕ) → 0 < promised → page_cells_at d ds place before promised ≡ Ok (position place before (promised - 1))
+unfolding page_cells_at
 cells_promised d ds place before zero some = absurd (omega arith)
 cells_promised d ds place before (suc left) some =
     let fewer : left ≡ suc left - 1 = omega arith in
     ap (λ (k : ℕ). Ok (position place before k)) fewer
 
-pub cells_recorded : (d : Dialect) (ds : List ℕ) (place : ℕ) (before : List ℕ) (promised : ℕ) (read : CellsRead) → promised ≡ 0 → record_at d ds place before ≡ Ok read → promise_at ds read ≡ cells_at d ds place before promised
-unfolding cells_at
+pub cells_recorded : (d : Dialect) (ds : List ℕ) (place : ℕ) (before : List ℕ) (promised : ℕ) (read : CellsRead) → promised ≡ 0 → record_at d ds place before ≡ Ok read → promise_at ds read ≡ page_cells_at d ds place before promised
+unfolding page_cells_at
 cells_recorded d ds place before zero read none e = sym (ok_bind (record_at d ds place before) (λ r. promise_at ds r) read e)
 cells_recorded d ds place before (suc left) read none e = absurd (omega (arith, none))
 
-pub cells_refused : (e : Refused FumenFault) (d : Dialect) (ds : List ℕ) (place : ℕ) (before : List ℕ) (promised : ℕ) → promised ≡ 0 → Refuses fumen_fault e (record_at d ds place before) → Refuses fumen_fault e (cells_at d ds place before promised)
-unfolding cells_at
+pub cells_refused : (e : Refused FumenFault) (d : Dialect) (ds : List ℕ) (place : ℕ) (before : List ℕ) (promised : ℕ) → promised ≡ 0 → IsRefusal fumen_fault e (record_at d ds place before) → IsRefusal fumen_fault e (page_cells_at d ds place before promised)
+unfolding page_cells_at
 cells_refused (refused.Fault f) d ds place before zero none read = err_bind (record_at d ds place before) (λ r. promise_at ds r) (fumen_fault f) read
 cells_refused (refused.Fault f) d ds place before (suc left) none read = absurd (omega (arith, none))
 cells_refused refused.NoMemory d ds place before promised none read = tt
@@ -66,10 +68,10 @@ regroup pages page (Ok others) = ap (λ (x : List Page). Ok x) (sym (append_asso
 regroup pages page (Err f) = refl
 
 pub read_more : (d : Dialect) (ds : List ℕ) (most count : ℕ) (pages : List Page) (at : Position) (step : Page × Position) → is_due ds at.place at.promised ≡ true → count ≡ length pages → count < most
-    → step_at d ds (count + 1) at.place at.cells at.promised ≡ Ok step → step.1.place ≤ length ds → AreCells d step.1.cells → IsReadSoFar d ds most pages at
+    → next_page_at d ds (count + 1) at.place at.cells at.promised ≡ Ok step → step.1.place ≤ length ds → AreCells d step.1.cells → IsReadSoFar d ds most pages at
     → IsReadSoFar d ds most (pages ++ step.0 ∷ []) step.1
 read_more d ds most count pages at step due counted fewer read_counted within sound s =
-    let read = subst (λ (n : ℕ). step_at d ds (n + 1) at.place at.cells at.promised ≡ Ok step) counted read_counted in
+    let read = subst (λ (n : ℕ). next_page_at d ds (n + 1) at.place at.cells at.promised ≡ Ok step) counted read_counted in
     let more = length-append pages (step.0 ∷ []) in
     let left = most - length pages - 1 in
     let room : most - length pages ≡ suc left = omega arith in
@@ -79,7 +81,7 @@ read_more d ds most count pages at step due counted fewer read_counted within so
     let others = pages_at d ds left (number + 1) step.1.place step.1.cells step.1.promised in
     let turn : pages_at d ds (most - length pages) number at.place at.cells at.promised ≡ (others >>= λ x. Ok (step.0 ∷ x)) =
     ap (λ (n : ℕ). pages_at d ds n number at.place at.cells at.promised) room
-    ∙ (turn_due d ds left number at.place at.cells at.promised due ∙ ok_bind (step_at d ds number at.place at.cells at.promised) (λ x. others_at d ds left number x) step read) in
+    ∙ (turn_due d ds left number at.place at.cells at.promised due ∙ ok_bind (next_page_at d ds number at.place at.cells at.promised) (λ x. others_at d ds left number x) step read) in
     let behind : pages_at d ds (most - length (pages ++ step.0 ∷ [])) (length (pages ++ step.0 ∷ []) + 1) step.1.place step.1.cells step.1.promised ≡ others =
     ap (λ (n : ℕ). pages_at d ds n (length (pages ++ step.0 ∷ []) + 1) step.1.place step.1.cells step.1.promised) room_is
     ∙ ap (λ (n : ℕ). pages_at d ds left n step.1.place step.1.cells step.1.promised) number_is in
@@ -93,17 +95,17 @@ read_more d ds most count pages at step due counted fewer read_counted within so
     }
 
 pub read_stops : (e : Refused FumenFault) (d : Dialect) (ds : List ℕ) (most count : ℕ) (pages : List Page) (at : Position) → is_due ds at.place at.promised ≡ true → count ≡ length pages → count < most
-    → Refuses fumen_fault e (step_at d ds (count + 1) at.place at.cells at.promised) → IsReadSoFar d ds most pages at
-    → Refuses fumen_fault e (pages_at d ds most 1 0 empty_cells 0)
+    → IsRefusal fumen_fault e (next_page_at d ds (count + 1) at.place at.cells at.promised) → IsReadSoFar d ds most pages at
+    → IsRefusal fumen_fault e (pages_at d ds most 1 0 empty_cells 0)
 unfolding with_front
 read_stops (refused.Fault f) d ds most count pages at due counted fewer read_counted s =
-    let read = subst (λ (n : ℕ). step_at d ds (n + 1) at.place at.cells at.promised ≡ Err (fumen_fault f)) counted read_counted in
+    let read = subst (λ (n : ℕ). next_page_at d ds (n + 1) at.place at.cells at.promised ≡ Err (fumen_fault f)) counted read_counted in
     let left = most - length pages - 1 in
     let room : most - length pages ≡ suc left = omega arith in
     let number = length pages + 1 in
     let failed : pages_at d ds (most - length pages) number at.place at.cells at.promised ≡ Err (fumen_fault f) =
     ap (λ (n : ℕ). pages_at d ds n number at.place at.cells at.promised) room
-    ∙ (turn_due d ds left number at.place at.cells at.promised due ∙ err_bind (step_at d ds number at.place at.cells at.promised) (λ x. others_at d ds left number x) (fumen_fault f) read) in
+    ∙ (turn_due d ds left number at.place at.cells at.promised due ∙ err_bind (next_page_at d ds number at.place at.cells at.promised) (λ x. others_at d ds left number x) (fumen_fault f) read) in
     sym s.completes ∙ ap (λ (r : Result (List Page) Fault). with_front pages r) failed
 read_stops refused.NoMemory d ds most count pages at due counted fewer read s = tt
 

@@ -4,14 +4,13 @@ use Rattle.std.proofs.lemmas.Bool.{cases_lt, lt-ltb, le-ltb}
 use Rattle.std.proofs.lemmas.List.{append-nil, drop_all, length-append}
 use Rattle.fumen_digits.specs.declared.dialect.Dialect.{Dialect}
 use Rattle.fumen_digits.specs.Number.{digits, Stands}
-use Rattle.fumen_digits.proofs.Numbers.{length-digits}
-use Rattle.fumen_digits.proofs.Standing.{Stands-nil, Stands-then, Stands-parts}
+use Rattle.fumen_digits.proofs.CallerLemmas.{length-digits, Stands-nil, Stands-then, Stands-parts}
 use Rattle.fumen_pages.specs.declared.page.Page.{Page}
 use Rattle.fumen_pages.specs.Next.{next}
-use Rattle.fumen_text.specs.Spells.{Spells}
+use Rattle.fumen_text.specs.Spells.{SpellsFumen}
 use Rattle.fumen_text.specs.Faults.{IsDue, PagesStand, SpellsWhole}
 use Rattle.fumen_text.specs.Reading.{is_due}
-use Rattle.fumen_text.proofs.StepLaws.{PageStands}
+use Rattle.fumen_text.proofs.PageReadAsSpelled.{PageStands}
 
 -- ---- a page is due, or not
 
@@ -122,8 +121,8 @@ whole_nothing P d ds place before promised k cells after s p =
 
 -- ---- pages up to the end of the digits
 
-pub spells_from_whole : (d : Dialect) (before : List ℕ) (promised : ℕ) (pages : List Page) (cells text : List ℕ) → SpellsWhole d before promised pages cells 0 text → Spells d before promised pages text
-unfolding Spells SpellsWhole
+pub spells_from_whole : (d : Dialect) (before : List ℕ) (promised : ℕ) (pages : List Page) (cells text : List ℕ) → SpellsWhole d before promised pages cells 0 text → SpellsFumen d before promised pages text
+unfolding SpellsFumen SpellsWhole
 spells_from_whole d before promised [] cells text s = (sym s.1, s.2)
 spells_from_whole d before promised (page ∷ pages) cells text s =
     let head = s.2 in
@@ -139,8 +138,8 @@ spells_from_whole d before promised (page ∷ pages) cells text s =
       },
     )
 
-pub whole_from_spells : (d : Dialect) (before : List ℕ) (promised : ℕ) (pages : List Page) (text : List ℕ) → Spells d before promised pages text → (cells : List ℕ) × SpellsWhole d before promised pages cells 0 text
-unfolding Spells SpellsWhole
+pub whole_from_spells : (d : Dialect) (before : List ℕ) (promised : ℕ) (pages : List Page) (text : List ℕ) → SpellsFumen d before promised pages text → (cells : List ℕ) × SpellsWhole d before promised pages cells 0 text
+unfolding SpellsFumen SpellsWhole
 whole_from_spells d before promised [] text s = (before, (refl, sym s.0, s.1))
 whole_from_spells d before promised (page ∷ pages) text s =
     let head = s.2 in

@@ -10,9 +10,9 @@ use Rattle.fumen_pages.specs.Record.{unchanged}
 use Rattle.fumen_pages.specs.Written.{written_record}
 use Rattle.fumen_text.specs.Texts.{empty_cells}
 use Rattle.fumen_text.specs.Written.{cells_digits, keeps, pages_digits, promised_behind, tail_digits, unchanged_pages}
-use Rattle.fumen_pages.proofs.WrittenLaws.{written_same}
-use Rattle.fumen_text.proofs.WrittenLaws.{keeps_decides}
-use Rattle.fumen_text.proofs.TextLaws.{empty_sound}
+use Rattle.fumen_pages.proofs.CallerLemmas.{written_same}
+use Rattle.fumen_text.proofs.WrittenIsSpelled.{keeps_decides}
+use Rattle.fumen_text.proofs.TextReadAsSpelled.{empty_sound}
 
 -- what is left begins with the page at i
 next_left : (pages : List Page) (i : ℕ) (page : Page) → i < length pages → page ≡ get_or pages i page → drop i pages ≡ page ∷ drop (i + 1) pages

@@ -3,17 +3,18 @@ use Rattle.std.specs.Prelude.{◌≡◌, ℕ, zero, suc, ◌+◌, ◌<◌, List,
 use Rattle.fumen_digits.specs.declared.dialect.Dialect.{Dialect}
 use Rattle.fumen_digits.specs.Framing.{digits_in}
 use Rattle.fumen_digits.specs.Number.{Stands}
-use Rattle.fumen_digits.specs.Fault.{Fault}
-use Rattle.fumen_digits.specs.Fault.Fault.{NoFumen, TooManyPages}
-use Rattle.fumen_digits.specs.Reading.{IsNumberFault}
+use Rattle.fumen_digits.specs.Fault.{Fault, IsNumberFault}
+use Rattle.fumen_digits.specs.Fault.Fault.{NoFumen, TooManyPages, BadDigit, Truncated, RunPastEnd, BadCell, BadAction, PieceOutside, BadComment}
 use Rattle.fumen_pages.specs.declared.page.Page.{Page}
 use Rattle.fumen_pages.specs.Next.{next}
 use Rattle.fumen_pages.specs.Record.{unchanged}
 use Rattle.fumen_pages.specs.Sound.{IsSound}
 use Rattle.fumen_pages.specs.Tail.{Tail}
-use Rattle.fumen_pages.specs.Reading.{IsRecordFault, IsTailFault}
+use Rattle.fumen_pages.specs.Faults.{IsRecordFault, IsTailFault}
 use Rattle.fumen_text.specs.Spells.{Then, SpellsCells}
 use Rattle.fumen_text.specs.Texts.{empty_cells, most_pages}
+use Rattle.fumen_text.specs.declared.fault.FumenFault.{FumenFault}
+use Rattle.fumen_text.specs.declared.fault.FumenFault.TheVariants as fault
 
 -- ds spells these pages whole, which leave these cells, and so many pages promised
 unfoldable pub SpellsWhole : Dialect → List ℕ → ℕ → List Page → List ℕ → ℕ → List ℕ → Type 0
@@ -21,10 +22,12 @@ SpellsWhole d before promised [] cells after ds = (cells ≡ before) × (after �
 SpellsWhole d before promised (page ∷ pages) cells after ds =
     (between : ℕ)
     × IsSound d page
-    × Then (SpellsCells d before promised page.cells between) (Then (Tail d page) (SpellsWhole d (next d page) between pages cells after)) ds
+    × Then (SpellsCells d before promised page.cells between)
+    (Then (Tail d page) (SpellsWhole d (next d page) between pages cells after)) ds
 
 -- pages stand whole from a place up to k, and leave these cells, and so many pages promised
-pub record PagesStand (d : Dialect) (ds : List ℕ) (place : ℕ) (before : List ℕ) (promised : ℕ) (pages : List Page) (k : ℕ) (cells : List ℕ) (after : ℕ) : Type 0 where
+pub record PagesStand (d : Dialect) (ds : List ℕ) (place : ℕ) (before : List ℕ) (promised : ℕ) (pages : List Page)
+    (k : ℕ) (cells : List ℕ) (after : ℕ) : Type 0 where
   pub text : List ℕ
   pub stands : Stands ds place text k
   pub spells : SpellsWhole d before promised pages cells after text
@@ -34,7 +37,8 @@ abbrev pub IsDue : List ℕ → ℕ → ℕ → Type 0
 IsDue ds k promised = (k < length ds) ⊎ (0 < promised)
 
 -- the cells of a page are spelled from place k up to place j, where its tail is due
-pub record CellsStand (d : Dialect) (ds : List ℕ) (k : ℕ) (before : List ℕ) (promised : ℕ) (j : ℕ) (cells : List ℕ) (after : ℕ) : Type 0 where
+pub record CellsStand (d : Dialect) (ds : List ℕ) (k : ℕ) (before : List ℕ) (promised : ℕ) (j : ℕ) (cells : List ℕ)
+    (after : ℕ) : Type 0 where
   pub text : List ℕ
   pub stands : Stands ds k text j
   pub spells : SpellsCells d before promised cells after text
@@ -50,7 +54,8 @@ IsCellsFault d ds k before (suc left) f = ⊥
 abbrev pub IsPageFault : Dialect → List ℕ → ℕ → ℕ → List ℕ → ℕ → Fault → Type 0
 IsPageFault d ds number k before promised f =
     IsCellsFault d ds k before promised f
-    ⊎ ((j : ℕ) × (cells : List ℕ) × (after : ℕ) × CellsStand d ds k before promised j cells after × IsTailFault d number ds j f)
+    ⊎ ((j : ℕ) × (cells : List ℕ) × (after : ℕ) × CellsStand d ds k before promised j cells after
+    × IsTailFault d number ds j f)
 
 -- the fault of some digits: pages stand whole up to a place, and one more is due there, which is one too
 -- many, or has a fault
@@ -70,3 +75,15 @@ abbrev pub IsTextFault : List ℕ → Fault → Type 0
 IsTextFault text f =
     ((digits_in text ≡ None) × (f ≡ NoFumen))
     ⊎ ((d : Dialect) × (ds : List ℕ) × (digits_in text ≡ Some (d, ds)) × IsDigitsFault d ds f)
+
+-- a fault of a text as a refusal has it
+abbrev pub fumen_fault : FumenFault → Fault
+fumen_fault fault.NoFumen = NoFumen
+fumen_fault (fault.BadDigit place) = BadDigit place
+fumen_fault (fault.Truncated place) = Truncated place
+fumen_fault (fault.RunPastEnd place) = RunPastEnd place
+fumen_fault (fault.BadCell place) = BadCell place
+fumen_fault (fault.BadAction place) = BadAction place
+fumen_fault (fault.PieceOutside page) = PieceOutside page
+fumen_fault (fault.BadComment place) = BadComment place
+fumen_fault fault.TooManyPages = TooManyPages

@@ -1,6 +1,7 @@
--- What the contracts of this crate, and of the crates above that read or write fumens, speak of.
+-- What a reader must believe
 pub mod Spells
 pub mod Texts
 pub mod Faults
-pub mod Reading
 pub mod Written
+-- What serves proofs alone
+pub mod Reading

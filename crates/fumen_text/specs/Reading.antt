@@ -3,15 +3,13 @@ use Rattle.std.specs.Prelude.{ℕ, zero, suc, ◌+◌, List, [], ◌∷◌, leng
 use Rattle.fumen_digits.specs.declared.dialect.Dialect.{Dialect}
 use Rattle.fumen_digits.specs.Framing.{digits_in}
 use Rattle.fumen_digits.specs.Fault.{Fault}
-use Rattle.fumen_digits.specs.Fault.Fault.{NoFumen, BadDigit, Truncated, RunPastEnd, BadCell, BadAction, PieceOutside, BadComment, TooManyPages}
+use Rattle.fumen_digits.specs.Fault.Fault.{NoFumen, TooManyPages}
 use Rattle.fumen_digits.specs.Reading.{◌>>=◌, number_at}
 use Rattle.fumen_pages.specs.declared.page.Page.{Page}
 use Rattle.fumen_pages.specs.declared.record.CellsRead.{CellsRead}
 use Rattle.fumen_pages.specs.Next.{next}
 use Rattle.fumen_pages.specs.Reading.{record_at, page_at}
 use Rattle.fumen_text.specs.declared.position.Position.{Position}
-use Rattle.fumen_text.specs.declared.fault.FumenFault.{FumenFault}
-use Rattle.fumen_text.specs.declared.fault.FumenFault.TheVariants as fault
 use Rattle.fumen_text.specs.Texts.{empty_cells, most_pages}
 
 abbrev pub position : ℕ → List ℕ → ℕ → Position
@@ -24,14 +22,14 @@ promise_at ds read =
     else Ok (position read.place read.cells 0)
 
 -- behind the cells of the page at a place: its cells are these, and so many pages are promised behind it
-unfoldable pub cells_at : Dialect → List ℕ → ℕ → List ℕ → ℕ → Result Position Fault
-cells_at d ds place before zero = record_at d ds place before >>= λ read. promise_at ds read
-cells_at d ds place before (suc left) = Ok (position place before left)
+unfoldable pub page_cells_at : Dialect → List ℕ → ℕ → List ℕ → ℕ → Result Position Fault
+page_cells_at d ds place before zero = record_at d ds place before >>= λ read. promise_at ds read
+page_cells_at d ds place before (suc left) = Ok (position place before left)
 
 -- the page at a place, counted from 1, and where the reader stands behind it
-unfoldable pub step_at : Dialect → List ℕ → ℕ → ℕ → List ℕ → ℕ → Result (Page × Position) Fault
-step_at d ds number place before promised = do
-  at ← cells_at d ds place before promised
+unfoldable pub next_page_at : Dialect → List ℕ → ℕ → ℕ → List ℕ → ℕ → Result (Page × Position) Fault
+next_page_at d ds number place before promised = do
+  at ← page_cells_at d ds place before promised
   page ← page_at d at.cells number ds at.place
   Ok (page.0, position page.1 (next d page.0) at.promised)
 
@@ -44,32 +42,20 @@ unfoldable pub pages_at : Dialect → List ℕ → ℕ → ℕ → ℕ → List 
 pages_at d ds zero number place before promised = if is_due ds place promised then Err TooManyPages else Ok []
 pages_at d ds (suc room) number place before promised =
     if is_due ds place promised then (
-    step_at d ds number place before promised >>= λ step.
+    next_page_at d ds number place before promised >>= λ step.
     pages_at d ds room (number + 1) step.1.place step.1.cells step.1.promised >>= λ pages.
     Ok (step.0 ∷ pages)
     ) else Ok []
 
 -- the pages of some digits
-abbrev pub pages_in : Dialect → List ℕ → Result (List Page) Fault
-pages_in d ds = pages_at d ds most_pages 1 0 empty_cells 0
+abbrev pub pages_of_digits : Dialect → List ℕ → Result (List Page) Fault
+pages_of_digits d ds = pages_at d ds most_pages 1 0 empty_cells 0
 
 -- the dialect and the pages of framed digits, if there are any
 abbrev pub framed_pages : Option (Dialect × List ℕ) → Result (Dialect × List Page) Fault
 framed_pages None = Err NoFumen
-framed_pages (Some (d, ds)) = pages_in d ds >>= λ pages. Ok (d, pages)
+framed_pages (Some (d, ds)) = pages_of_digits d ds >>= λ pages. Ok (d, pages)
 
 -- the dialect and the pages of a text
 abbrev pub text_pages : List ℕ → Result (Dialect × List Page) Fault
 text_pages text = framed_pages (digits_in text)
-
--- a fault of a text as a refusal has it
-abbrev pub fumen_fault : FumenFault → Fault
-fumen_fault fault.NoFumen = NoFumen
-fumen_fault (fault.BadDigit place) = BadDigit place
-fumen_fault (fault.Truncated place) = Truncated place
-fumen_fault (fault.RunPastEnd place) = RunPastEnd place
-fumen_fault (fault.BadCell place) = BadCell place
-fumen_fault (fault.BadAction place) = BadAction place
-fumen_fault (fault.PieceOutside page) = PieceOutside page
-fumen_fault (fault.BadComment place) = BadComment place
-fumen_fault fault.TooManyPages = TooManyPages

@@ -40,9 +40,10 @@ SpellsCells d before zero cells after ds = IsRecorded d before cells after ds �
 SpellsCells d before (suc left) cells after ds = IsPromised before cells left after ds
 
 -- ds spells these pages, where these cells are left before them and so many pages are promised
-unfoldable pub Spells : Dialect → List ℕ → ℕ → List Page → List ℕ → Type 0
-Spells d before promised [] ds = (promised ≡ 0) × (ds ≡ [])
-Spells d before promised (page ∷ pages) ds =
+unfoldable pub SpellsFumen : Dialect → List ℕ → ℕ → List Page → List ℕ → Type 0
+SpellsFumen d before promised [] ds = (promised ≡ 0) × (ds ≡ [])
+SpellsFumen d before promised (page ∷ pages) ds =
     (after : ℕ)
     × IsSound d page
-    × Then (SpellsCells d before promised page.cells after) (Then (Tail d page) (Spells d (next d page) after pages)) ds
+    × Then (SpellsCells d before promised page.cells after)
+    (Then (Tail d page) (SpellsFumen d (next d page) after pages)) ds

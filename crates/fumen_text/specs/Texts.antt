@@ -3,7 +3,7 @@ use Rattle.std.specs.Prelude.{◌≡◌, ℕ, ◌≤◌, List, length, replicate
 use Rattle.fumen_digits.specs.declared.dialect.Dialect.{Dialect}
 use Rattle.fumen_digits.specs.Framing.{digits_in}
 use Rattle.fumen_pages.specs.declared.page.Page.{Page}
-use Rattle.fumen_text.specs.Spells.{Spells}
+use Rattle.fumen_text.specs.Spells.{SpellsFumen}
 
 -- the cells before the first page
 abbrev pub empty_cells : List ℕ
@@ -17,5 +17,5 @@ most_pages = 10000
 pub record ReadsAs (text : List ℕ) (d : Dialect) (pages : List Page) : Type 0 where
   pub ds : List ℕ
   pub framed : digits_in text ≡ Some (d, ds)
-  pub spelled : Spells d empty_cells 0 pages ds
+  pub spelled : SpellsFumen d empty_cells 0 pages ds
   pub few : length pages ≤ most_pages

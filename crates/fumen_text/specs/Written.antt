@@ -1,14 +1,14 @@
 -- The text that is written for a list of pages, and why none is.
-use Rattle.std.specs.Prelude.{◌≡◌, ℕ, zero, suc, ◌+◌, ◌^◌, ◌<◌, List, [], ◌∷◌, ◌++◌, length, take, min, All, Bool, IsTrue, not, nat_eq, nat_le, nat_lt, ◌==◌, true, if◌then◌else◌, Option, Some, None, Result, Ok, Err}
+use Rattle.std.specs.Prelude.{◌≡◌, ℕ, zero, suc, ◌+◌, List, [], ◌∷◌, ◌++◌, length, take, min, Bool, IsTrue, not, nat_eq, nat_le, nat_lt, ◌==◌, true, if◌then◌else◌, Option, Some, None, Result, Ok, Err}
 use Rattle.std.specs.List.{list_all}
-use Rattle.std.specs.Option.{ForSome, option_or, option_map_or}
+use Rattle.std.specs.Option.{option_or, option_map_or}
 use Rattle.std.specs.Cmp.Lexicographic.{pointwise}
 use Rattle.pc_outside.specs.declared.answers.Refused.{Refused}
 use Rattle.pc_outside.specs.declared.answers.Refused.TheVariants as refused
 use Rattle.fumen_digits.specs.declared.dialect.Dialect.{Dialect}
 use Rattle.fumen_digits.specs.Number.{digits}
 use Rattle.fumen_digits.specs.Framing.{broken}
-use Rattle.fumen_comment.specs.Escape.{escaped}
+use Rattle.fumen_comment.specs.Escape.{escaped, HasUnits}
 use Rattle.fumen_comment.specs.Part.{comment_digits}
 use Rattle.fumen_pages.specs.declared.page.Page.{Page}
 use Rattle.fumen_pages.specs.Cells.{missing_count}
@@ -35,12 +35,14 @@ unchanged_pages d before (page ∷ pages) = if keeps before page then suc (uncha
 -- How many pages are promised behind a page. The digit of an unchanged page promises the unchanged pages that
 -- directly follow it, at most 63.
 unfoldable pub promised_behind : Dialect → List ℕ → ℕ → Page → List Page → ℕ
-promised_behind d before zero page pages = if keeps before page then min 63 (unchanged_pages d (next d page) pages) else 0
+promised_behind d before zero page pages =
+    if keeps before page then min 63 (unchanged_pages d (next d page) pages) else 0
 promised_behind d before (suc left) page pages = left
 
 -- the digits before the tail of a page, where so many pages are promised behind it
 unfoldable pub cells_digits : Dialect → List ℕ → ℕ → Page → ℕ → List ℕ
-cells_digits d before zero page after = if keeps before page then unchanged d ++ digits 1 after else written_record d before page.cells
+cells_digits d before zero page after =
+    if keeps before page then unchanged d ++ digits 1 after else written_record d before page.cells
 cells_digits d before (suc left) page after = []
 
 -- the digits of the comment, if there is one
@@ -70,31 +72,29 @@ abbrev pub is_short : Option (List ℕ) → Bool
 is_short comment = option_map_or (λ units. nat_le (length (escaped units)) 4095) comment true
 
 -- the first fault of a page, counted from 1
-unfoldable pub page_fault : Dialect → ℕ → Page → Option EncodeFault
-page_fault d number page =
+unfoldable pub page_encode_fault : Dialect → ℕ → Page → Option EncodeFault
+page_encode_fault d number page =
     if not (list_all (λ cell. nat_le cell 8) page.cells) then Some (fault.BadCell number)
     else (if not (list_all (λ cell. cell == 0) (take (missing_count d) page.cells)) then Some (fault.RowTooHigh number)
     else (if not (option_map_or (is_inside_in d) page.operation true) then Some (fault.PieceOutside number)
     else (if not (is_short page.comment) then Some (fault.CommentTooLong number) else None)))
 
 -- the first fault of some pages, the first of which has this number
-unfoldable pub pages_fault : Dialect → ℕ → List Page → Option EncodeFault
-pages_fault d number [] = None
-pages_fault d number (page ∷ pages) = option_or (page_fault d number page) (pages_fault d (number + 1) pages)
+unfoldable pub pages_encode_fault : Dialect → ℕ → List Page → Option EncodeFault
+pages_encode_fault d number [] = None
+pages_encode_fault d number (page ∷ pages) =
+    option_or (page_encode_fault d number page) (pages_encode_fault d (number + 1) pages)
 
 -- the first fault of a list of pages
-abbrev pub list_fault : Dialect → List Page → Option EncodeFault
-list_fault d pages = if nat_lt most_pages (length pages) then Some fault.TooManyPages else pages_fault d 1 pages
+abbrev pub list_encode_fault : Dialect → List Page → Option EncodeFault
+list_encode_fault d pages =
+    if nat_lt most_pages (length pages) then Some fault.TooManyPages else pages_encode_fault d 1 pages
 
 -- A refusal is this fault, and there is none where something else is answered. Want of memory may come at any time.
-abbrev pub Finds : {X : Type 0} → Result X (Refused EncodeFault) → Option EncodeFault → Type 0
-Finds (Ok x) found = found ≡ None
-Finds (Err (refused.Fault f)) found = found ≡ Some f
-Finds (Err refused.NoMemory) found = Unit {0}
-
--- the units of a comment, if there is one, have 16 bits
-abbrev pub HasUnits : Option (List ℕ) → Type 0
-HasUnits comment = ForSome comment (λ units. All (λ unit. unit < 2 ^ 16) units)
+abbrev pub IsRefusedBy : {X : Type 0} → Result X (Refused EncodeFault) → Option EncodeFault → Type 0
+IsRefusedBy (Ok x) found = found ≡ None
+IsRefusedBy (Err (refused.Fault f)) found = found ≡ Some f
+IsRefusedBy (Err refused.NoMemory) found = Unit {0}
 
 -- what the types of a page's fields say: 240 cells, and units of 16 bits
 pub record HasTypes (page : Page) : Type 0 where
@@ -102,7 +102,7 @@ pub record HasTypes (page : Page) : Type 0 where
   pub units : HasUnits page.comment
 
 -- a page that is written without a fault
-pub record IsFit (d : Dialect) (page : Page) : Type 0 where
+pub record IsWritable (d : Dialect) (page : Page) : Type 0 where
   pub sound : IsSound d page
   pub units : HasUnits page.comment
   pub short : IsTrue (is_short page.comment)

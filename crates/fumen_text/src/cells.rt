@@ -1,9 +1,11 @@
 // The cells of a page: those that are promised, or those of a record, and the digit behind the unchanged run.
 ghost use Rattle.std.specs.Prelude.{◌≡◌, ◌+◌, ◌≤◌, length, IfOk};
-ghost use Rattle.fumen_digits.specs.Reading.{Gives, number_at};
+ghost use Rattle.fumen_digits.specs.Reading.{number_at};
+ghost use Rattle.fumen_digits.specs.Answers.{Gives};
 ghost use Rattle.fumen_pages.specs.Cells.{AreCells};
 ghost use Rattle.fumen_pages.specs.Reading.{record_at};
-ghost use Rattle.fumen_text.specs.Reading.{cells_at, fumen_fault, promise_at};
+ghost use Rattle.fumen_text.specs.Reading.{page_cells_at, promise_at};
+ghost use Rattle.fumen_text.specs.Faults.{fumen_fault};
 
 use crate::fault::FumenFault;
 use crate::position::Position;
@@ -11,8 +13,8 @@ use fumen_digits::{Dialect, DigitFault, read_number};
 use fumen_pages::{CellsFault, CellsRead, read_cells};
 use pc_outside::Refused;
 
-// Goes behind what spells the cells of the page that is due: they are the cells before it where the page is
-// promised, and else those of its record.
+/// Goes behind what spells the cells of the page that is due: they are the cells before it where the page is
+/// promised, and else those of its record.
 pub(crate) fn cells_at(
     digits: &[u8],
     dialect: Dialect,
@@ -20,7 +22,8 @@ pub(crate) fn cells_at(
 ) -> Result<Position, Refused<FumenFault>>
     requires place { at.now.place ≤ length digits.now }
     requires cells { AreCells dialect at.now.cells }
-    ensures exact { Gives (λ x. x) fumen_fault result (cells_at dialect digits.now at.now.place at.now.cells at.now.promised) }
+    ensures exact { Gives (λ x. x) fumen_fault result
+        (page_cells_at dialect digits.now at.now.place at.now.cells at.now.promised) }
     ensures within { IfOk result (λ x. x.place ≤ length digits.now) }
     ensures sound { IfOk result (λ x. AreCells dialect x.cells) }
 {
@@ -35,7 +38,7 @@ pub(crate) fn cells_at(
     promise_at(digits, &read)
 }
 
-// Behind a record: the digit of the unchanged run says how many pages it promises.
+/// Behind a record: the digit of the unchanged run says how many pages it promises.
 fn promise_at(digits: &[u8], read: &CellsRead) -> Result<Position, Refused<FumenFault>>
     requires { read.now.place ≤ length digits.now }
     ensures exact { Gives (λ x. x) fumen_fault result (promise_at digits.now read.now) }
@@ -57,7 +60,7 @@ fn promise_at(digits: &[u8], read: &CellsRead) -> Result<Position, Refused<Fumen
     })
 }
 
-// The value of the digit at a place, its fault as one of a text.
+/// The value of the digit at a place, its fault as one of a text.
 fn digit_at(digits: &[u8], place: usize) -> Result<u32, Refused<FumenFault>>
     requires { place ≤ length digits.now }
     ensures exact { Gives (λ n. n) fumen_fault result (number_at digits.now place 1) }
@@ -72,7 +75,7 @@ fn digit_at(digits: &[u8], place: usize) -> Result<u32, Refused<FumenFault>>
     }
 }
 
-// The record at a place, its fault as one of a text.
+/// The record at a place, its fault as one of a text.
 fn record_at(
     digits: &[u8],
     place: usize,

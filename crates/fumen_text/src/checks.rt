@@ -2,9 +2,9 @@
 ghost use Rattle.std.specs.Prelude.{◌≡◌, ◌+◌, ◌^◌, ◌<◌, ◌≤◌, length, nat_le, nat_lt, All, OnOk, IfOk, take, ◌==◌, true};
 ghost use Rattle.std.specs.List.{list_all};
 ghost use Rattle.std.specs.Option.{option_map_or};
-ghost use Rattle.fumen_comment.specs.Escape.{escaped};
+ghost use Rattle.fumen_comment.specs.Escape.{escaped, HasUnits};
 ghost use Rattle.fumen_pages.specs.Action.{is_inside_in};
-ghost use Rattle.fumen_text.specs.Written.{Finds, HasTypes, HasUnits, IsFit, is_short, list_fault, page_fault};
+ghost use Rattle.fumen_text.specs.Written.{IsRefusedBy, HasTypes, IsWritable, is_short, list_encode_fault, page_encode_fault};
 
 use crate::encode_fault::EncodeFault;
 use crate::fault::MOST_PAGES;
@@ -15,14 +15,14 @@ use pc_outside::{NoMemory, Refused};
 use srs::Placement;
 use std::alloc::Global;
 
-// Whether the pages can be written, or their first fault.
+/// Whether the pages can be written, or their first fault.
 pub(crate) fn check_pages(
     alloc: Global,
     dialect: Dialect,
     pages: &[Page],
 ) -> Result<(), Refused<EncodeFault>>
-    ensures fault { Finds result (list_fault dialect pages.now) }
-    ensures fit { OnOk result (All (IsFit dialect) pages.now) }
+    ensures fault { IsRefusedBy result (list_encode_fault dialect pages.now) }
+    ensures fit { OnOk result (All (IsWritable dialect) pages.now) }
 {
     if pages.len() > MOST_PAGES {
         return Err(Refused::Fault(EncodeFault::TooManyPages));
@@ -33,27 +33,27 @@ pub(crate) fn check_pages(
     Ok(())
 }
 
-// Whether a page, counted from 1, can be written, or its first fault.
+/// Whether a page, counted from 1, can be written, or its first fault.
 fn check_page(
     alloc: Global,
     dialect: Dialect,
     number: u32,
     page: &Page,
 ) -> Result<(), Refused<EncodeFault>>
-    ensures fault { Finds result (page_fault dialect number page.now) }
-    ensures fit { OnOk result (IsFit dialect page.now) }
+    ensures fault { IsRefusedBy result (page_encode_fault dialect number page.now) }
+    ensures fit { OnOk result (IsWritable dialect page.now) }
 {
     check_parts(alloc, dialect, number, page)
 }
 
-#[tactic(auto, unfolding(crate::specs::Written::page_fault))]
+#[tactic(auto, unfolding(crate::specs::Written::page_encode_fault))]
 fn check_parts(
     alloc: Global,
     dialect: Dialect,
     number: u32,
     page: &Page,
 ) -> Result<(), Refused<EncodeFault>>
-    ensures fault { Finds result (page_fault dialect number page.now) }
+    ensures fault { IsRefusedBy result (page_encode_fault dialect number page.now) }
     ensures types { OnOk result (HasTypes page.now) }
 {
     if !are_colours(&page.cells) {
@@ -84,7 +84,7 @@ fn are_empty(cells: &[u8]) -> bool
     cells.iter().all(|cell| *cell == 0)
 }
 
-// Whether the operation, if there is one, lies in the dialect's rows.
+/// Whether the operation, if there is one, lies in the dialect's rows.
 fn is_placed(dialect: Dialect, operation: &Option<Placement>) -> bool
     ensures { result ≡ option_map_or (is_inside_in dialect) operation.now true }
 {
@@ -94,7 +94,7 @@ fn is_placed(dialect: Dialect, operation: &Option<Placement>) -> bool
     }
 }
 
-// Whether the escaped comment, if there is one, has at most 4,095 characters.
+/// Whether the escaped comment, if there is one, has at most 4,095 characters.
 fn is_short(alloc: Global, comment: &Option<Comment>) -> Result<bool, NoMemory>
     ensures short { IfOk result (λ short. short ≡ is_short comment.now) }
     ensures units { OnOk result (HasUnits comment.now) }
@@ -105,8 +105,8 @@ fn is_short(alloc: Global, comment: &Option<Comment>) -> Result<bool, NoMemory>
     }
 }
 
-// Whether the escaped text of these units has at most 4,095 characters.
-#[tactic(auto, using(crate::proofs::EncodeLaws::short_escaped))]
+/// Whether the escaped text of these units has at most 4,095 characters.
+#[tactic(auto, using(crate::proofs::WrittenIsRead::short_escaped))]
 fn has_short_text(alloc: Global, units: &[u16]) -> Result<bool, NoMemory>
     ensures short { IfOk result (λ short. short ≡ nat_le (length (escaped units.now)) 4095) }
     ensures units { All (λ unit. unit < 2 ^ 16) units.now }

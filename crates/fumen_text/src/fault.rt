@@ -1,6 +1,6 @@
 // The faults of a fumen text.
 
-// The most pages of one list.
+/// The most pages of one list.
 pub(crate) const MOST_PAGES: usize = 10_000;
 
 /// Why a text is no fumen. A place is an index among the digits, a page is counted from 1.

@@ -5,6 +5,7 @@ mod cells;
 mod checks;
 mod encode_fault;
 mod fault;
+pub mod laws;
 mod pages;
 mod position;
 mod text;
@@ -12,8 +13,8 @@ mod written;
 
 pub use encode_fault::EncodeFault;
 pub use fault::FumenFault;
-pub use text::{decode, one_reading};
-pub use written::{encode, encode_undone};
+pub use text::decode;
+pub use written::encode;
 
 #[cfg(test)]
 mod tests;

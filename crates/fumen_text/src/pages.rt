@@ -1,10 +1,12 @@
 // Pages one after the other, as long as digits are left or pages are promised.
 ghost use Rattle.std.specs.Prelude.{◌≡◌, ◌+◌, ◌≤◌, length, IfOk};
-ghost use Rattle.fumen_digits.specs.Reading.{Gives};
+ghost use Rattle.fumen_digits.specs.Answers.{Gives};
 ghost use Rattle.fumen_pages.specs.Cells.{AreCells};
 ghost use Rattle.fumen_pages.specs.Sound.{IsSound};
-ghost use Rattle.fumen_pages.specs.Reading.{page_at, tail_fault};
-ghost use Rattle.fumen_text.specs.Reading.{fumen_fault, is_due, pages_in, step_at};
+ghost use Rattle.fumen_pages.specs.Reading.{page_at};
+ghost use Rattle.fumen_pages.specs.Faults.{tail_fault};
+ghost use Rattle.fumen_text.specs.Reading.{is_due, pages_of_digits, next_page_at};
+ghost use Rattle.fumen_text.specs.Faults.{fumen_fault};
 
 use crate::cells::cells_at;
 use crate::fault::{FumenFault, MOST_PAGES};
@@ -14,13 +16,13 @@ use fumen_pages::{Page, TailFault, next_cells, read_page};
 use pc_outside::Refused;
 use std::alloc::Global;
 
-// All pages of some digits.
+/// All pages of some digits.
 pub(crate) fn read_pages(
     alloc: Global,
     dialect: Dialect,
     digits: &[u8],
 ) -> Result<Vec<Page>, Refused<FumenFault>>
-    ensures { Gives (λ pages. pages.items) fumen_fault result (pages_in dialect digits.now) }
+    ensures { Gives (λ pages. pages.items) fumen_fault result (pages_of_digits dialect digits.now) }
 {
     let mut pages = Vec::new(alloc);
     let mut at = Position {
@@ -40,15 +42,15 @@ pub(crate) fn read_pages(
     Ok(pages)
 }
 
-// Whether one more page is due: digits are left, or a page is promised.
+/// Whether one more page is due: digits are left, or a page is promised.
 fn is_due(digits: &[u8], at: &Position) -> bool
     ensures { result ≡ is_due digits.now at.now.place at.now.promised }
 {
     at.place < digits.len() || at.promised > 0
 }
 
-// The page that is due, counted from 1, and where the reader stands behind it.
-#[tactic(auto, unfolding(crate::specs::Reading::step_at))]
+/// The page that is due, counted from 1, and where the reader stands behind it.
+#[tactic(auto, unfolding(crate::specs::Reading::next_page_at))]
 fn step_at(
     alloc: Global,
     digits: &[u8],
@@ -58,7 +60,8 @@ fn step_at(
 ) -> Result<(Page, Position), Refused<FumenFault>>
     requires place { at.now.place ≤ length digits.now }
     requires cells { AreCells dialect at.now.cells }
-    ensures exact { Gives (λ x. x) fumen_fault result (step_at dialect digits.now number at.now.place at.now.cells at.now.promised) }
+    ensures exact { Gives (λ x. x) fumen_fault result
+        (next_page_at dialect digits.now number at.now.place at.now.cells at.now.promised) }
     ensures within { IfOk result (λ x. x.1.place ≤ length digits.now) }
     ensures sound { IfOk result (λ x. AreCells dialect x.1.cells) }
 {
@@ -76,7 +79,7 @@ fn step_at(
     ))
 }
 
-// The page whose tail stands at a place, and the place behind it, its fault as one of a text.
+/// The page whose tail stands at a place, and the place behind it, its fault as one of a text.
 fn page_at(
     alloc: Global,
     digits: &[u8],
@@ -97,7 +100,7 @@ fn page_at(
     }
 }
 
-// The fault of a tail as one of a text.
+/// The fault of a tail as one of a text.
 fn text_fault(fault: TailFault) -> FumenFault
     ensures { fumen_fault result ≡ tail_fault fault }
 {

@@ -7,7 +7,7 @@ use pc_outside::Refused;
 use srs::{Piece, Placement, Rotation};
 use std::test::Fail;
 
-// The `T` in the middle of the bottom row.
+/// The `T` in the middle of the bottom row.
 const MIDDLE: Placement = Placement {
     piece: Piece::T,
     rotation: Rotation::Spawn,

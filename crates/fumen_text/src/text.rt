@@ -1,13 +1,13 @@
 // Whole texts: the dialect and the pages of a fumen.
-ghost use Rattle.std.specs.Prelude.{◌≡◌, ℕ, List, IfOk, Ok, Err, ◌⊎◌};
+ghost use Rattle.std.specs.Prelude.{◌≡◌, List, IfOk, Ok, Err};
 ghost use Rattle.fumen_digits.specs.declared.dialect.Dialect.{Dialect};
 ghost use Rattle.fumen_digits.specs.Fault.{Fault};
-ghost use Rattle.fumen_digits.specs.Reading.{Gives};
+ghost use Rattle.fumen_digits.specs.Answers.{Gives};
 ghost use Rattle.fumen_pages.specs.declared.page.Page.{Page};
 ghost use Rattle.fumen_text.specs.declared.fault.FumenFault.{FumenFault};
 ghost use Rattle.fumen_text.specs.Texts.{ReadsAs};
-ghost use Rattle.fumen_text.specs.Faults.{IsTextFault};
-ghost use Rattle.fumen_text.specs.Reading.{fumen_fault, text_pages};
+ghost use Rattle.fumen_text.specs.Faults.{IsTextFault, fumen_fault};
+ghost use Rattle.fumen_text.specs.Reading.{text_pages};
 
 use crate::fault::FumenFault;
 use crate::pages::read_pages;
@@ -49,15 +49,3 @@ fn read_text(alloc: Global, text: &[u8]) -> Result<(Dialect, Vec<Page>), Refused
     let pages = read_pages(alloc, dialect, &digits)?;
     Ok((dialect, pages))
 }
-
-/// Each text reads as some pages or has a fault, and never both: no two lists of pages, in no two dialects, and
-/// no two faults.
-pub fn one_reading()
-    ensures some { (text : List ℕ) →
-        ((dialect : Dialect) × (pages : List Page) × ReadsAs text dialect pages) ⊎ ((f : Fault) × IsTextFault text f) }
-    ensures one_list { (text : List ℕ) (dialect other : Dialect) (pages others : List Page) →
-        ReadsAs text dialect pages → ReadsAs text other others → (dialect ≡ other) × (pages ≡ others) }
-    ensures one_fault { (text : List ℕ) (f g : Fault) → IsTextFault text f → IsTextFault text g → f ≡ g }
-    ensures never_both { (text : List ℕ) (dialect : Dialect) (pages : List Page) (f : Fault) →
-        ReadsAs text dialect pages → IsTextFault text f → ⊥ }
-{}

@@ -1,12 +1,11 @@
 // Pages as a fumen text.
-ghost use Rattle.std.specs.Prelude.{◌≡◌, ℕ, ◌<◌, ◌++◌, List, min, nat_eq, All, IfOk, OnOk, None};
-ghost use Rattle.std.specs.List.{AllByRecursion};
+ghost use Rattle.std.specs.Prelude.{◌≡◌, ℕ, ◌<◌, ◌++◌, min, nat_eq, All, IfOk, OnOk};
 ghost use Rattle.fumen_digits.specs.declared.dialect.Dialect.{Dialect};
 ghost use Rattle.fumen_pages.specs.declared.page.Page.{Page};
 ghost use Rattle.fumen_pages.specs.Cells.{AreCells};
 ghost use Rattle.fumen_pages.specs.Next.{next};
 ghost use Rattle.fumen_text.specs.Texts.{ReadsAs, empty_cells};
-ghost use Rattle.fumen_text.specs.Written.{Finds, HasTypes, IsFit, cells_digits, keeps, list_fault, pages_digits, promised_behind, tail_digits, unchanged_pages, written};
+ghost use Rattle.fumen_text.specs.Written.{IsRefusedBy, IsWritable, cells_digits, keeps, list_encode_fault, pages_digits, promised_behind, tail_digits, unchanged_pages, written};
 
 use crate::checks::check_pages;
 use crate::encode_fault::EncodeFault;
@@ -31,7 +30,7 @@ pub fn encode(
     pages: &[Page],
 ) -> Result<Vec<u8>, Refused<EncodeFault>>
     // A refusal is the first fault, and pages with a fault are refused, unless memory runs out.
-    ensures fault { Finds result (list_fault dialect pages.now) }
+    ensures fault { IsRefusedBy result (list_encode_fault dialect pages.now) }
 
     // The text that is written for these pages, and it reads as them.
     ensures text { IfOk result (λ text. text.items ≡ written dialect pages.now) }
@@ -43,15 +42,9 @@ pub fn encode(
     Ok(text)
 }
 
-/// What is written reads as the pages: each list that `encode` doesn't refuse is what `decode` reads in its text.
-pub fn encode_undone()
-    ensures { (dialect : Dialect) (pages : List Page) → AllByRecursion HasTypes pages → list_fault dialect pages ≡ None →
-        ReadsAs (written dialect pages) dialect pages }
-{}
-
-// The digits of all pages.
+/// The digits of all pages.
 fn write_pages(alloc: Global, dialect: Dialect, pages: &[Page]) -> Result<Vec<u8>, NoMemory>
-    requires { All (IsFit dialect) pages.now }
+    requires { All (IsWritable dialect) pages.now }
     ensures { IfOk result (λ digits. digits.items ≡ pages_digits dialect empty_cells 0 pages.now) }
 {
     let mut digits = Vec::new(alloc);
@@ -73,7 +66,7 @@ fn write_pages(alloc: Global, dialect: Dialect, pages: &[Page]) -> Result<Vec<u8
     Ok(digits)
 }
 
-// Appends what stands before the tail of a page, and gives the number of pages that are promised behind it.
+/// Appends what stands before the tail of a page, and gives the number of pages that are promised behind it.
 #[tactic(auto, unfolding(crate::specs::Written::promised_behind, crate::specs::Written::cells_digits))]
 fn push_cells(
     digits: &mut Vec<u8>,
@@ -84,10 +77,11 @@ fn push_cells(
     rest: &[Page],
 ) -> Result<u32, NoMemory>
     requires before { AreCells dialect before.now }
-    requires page { IsFit dialect page.now }
-    requires rest { All (IsFit dialect) rest.now }
+    requires page { IsWritable dialect page.now }
+    requires rest { All (IsWritable dialect) rest.now }
     ensures after { IfOk result (λ after. after ≡ promised_behind dialect before.now promised page.now rest.now) }
-    ensures digits { IfOk result (λ after. digits.new.items ≡ digits.old.items ++ cells_digits dialect before.now promised page.now after) }
+    ensures digits { IfOk result (λ after. digits.new.items
+        ≡ digits.old.items ++ cells_digits dialect before.now promised page.now after) }
 {
     if promised > 0 {
         return Ok(promised - 1);
@@ -101,17 +95,17 @@ fn push_cells(
     Ok(after)
 }
 
-// Whether a page has the cells that are left before it.
+/// Whether a page has the cells that are left before it.
 fn keeps(before: &[u8; 240], page: &Page) -> bool
     ensures { result ≡ keeps before.now page.now }
 {
     page.cells == *before
 }
 
-// How many pages directly behind a page are unchanged, at most 63.
+/// How many pages directly behind a page are unchanged, at most 63.
 fn unchanged_pages(dialect: Dialect, page: &Page, rest: &[Page]) -> u32
-    requires page { IsFit dialect page.now }
-    requires rest { All (IsFit dialect) rest.now }
+    requires page { IsWritable dialect page.now }
+    requires rest { All (IsWritable dialect) rest.now }
     ensures value { result ≡ min 63 (unchanged_pages dialect (next dialect page.now) rest.now) }
     ensures small { result < 64 }
 {
@@ -130,14 +124,14 @@ fn unchanged_pages(dialect: Dialect, page: &Page, rest: &[Page]) -> u32
     count
 }
 
-// Appends the action and the comment of a page.
+/// Appends the action and the comment of a page.
 fn push_tail(
     alloc: Global,
     digits: &mut Vec<u8>,
     dialect: Dialect,
     page: &Page,
 ) -> Result<(), NoMemory>
-    requires { IsFit dialect page.now }
+    requires { IsWritable dialect page.now }
     ensures { OnOk result (digits.new.items ≡ digits.old.items ++ tail_digits dialect page.now) }
 {
     push_number(digits, action_number(dialect, page), 3)?;

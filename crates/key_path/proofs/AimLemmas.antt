@@ -8,14 +8,13 @@ use Rattle.srs.specs.declared.placement.Placement.{Placement}
 use Rattle.srs.specs.Cells.{Cell, moved, pivot_of, cells_of, is_inside_of}
 use Rattle.srs.specs.SameCells.{HasSameCells, is_same_cells}
 use Rattle.srs.specs.Canonical.{IsCanonical, canonical_rotation, canonical_move}
-use Rattle.srs.proofs.CellLemmas.{is_same_cells-decides, same_cells-sym, same_cells-trans}
-use Rattle.srs.proofs.CanonicalLemmas.{LiesAt, canonical_pivot, canonical_unique, found_cells, found_canonical}
+use Rattle.srs.proofs.CallerLemmas.{is_same_cells-decides, same_cells-sym, same_cells-trans, LiesAt, canonical_pivot, canonical_unique, found_cells, found_canonical}
 use Rattle.well.specs.Free.{is_free_at, is_free}
-use Rattle.well.proofs.FreeLemmas.{free_inside}
+use Rattle.well.proofs.CallerLemmas.{free_inside}
 use Rattle.moves.specs.Rest.{lowered, IsRest, rest_of}
 use Rattle.moves.specs.Step.{state_at}
 use Rattle.moves.specs.PlaceTest.{comes_to_rest}
-use Rattle.moves.proofs.WalkLemmas.{some_same, not_some}
+use Rattle.moves.proofs.CallerLemmas.{some_same, not_some}
 
 -- the canonical placement of a state
 pub record IsCanonicalOf (low state : Placement) : Type 0 where

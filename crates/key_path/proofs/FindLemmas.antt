@@ -1,4 +1,4 @@
--- The search for a key word, turn by turn: what is found and marked, and the word that it ends with.
+-- The search for a key word, turn by turn: what is found and marked, and the key word that it ends with.
 use Rattle.std.proofs.Common.{◌≡◌, ℕ, ◌+◌, ◌-◌, ◌≤◌, true, false, Option, Some, None, List, [], ◌∷◌, ◌++◌, length, map, drop, refl, sym, ap, subst, ◌∙◌, inl, inr, arith}
 use Rattle.std.specs.Prelude.{Contains, replicate, reverse, slice_get}
 use Rattle.std.specs.List.{count_by}
@@ -9,33 +9,30 @@ use Rattle.lane_board.specs.Field.{Field}
 use Rattle.srs.specs.declared.placement.Placement.{Placement}
 use Rattle.srs.specs.Kick.{Table}
 use Rattle.srs.specs.SameCells.{HasSameCells}
-use Rattle.srs.proofs.CellLemmas.{same_cells-sym, same_cells-trans}
-use Rattle.srs.proofs.CanonicalLemmas.{same_cells-piece}
-use Rattle.srs.proofs.MemberLemmas.{Contains-here, Contains-cases, Contains-none}
+use Rattle.srs.proofs.CallerLemmas.{same_cells-sym, same_cells-trans, same_cells-piece}
+use Rattle.lists.proofs.CallerLemmas.{Contains-here, Contains-cases, Contains-none}
 use Rattle.well.specs.Free.{is_free}
 use Rattle.moves.specs.declared.key.Key.{Key}
 use Rattle.moves.specs.declared.key.DropMode.{DropMode}
 use Rattle.moves.specs.Keys.{allows}
-use Rattle.moves.specs.Leads.{spawn_of, spawned, leads}
+use Rattle.moves.specs.Leads.{spawn_of, spawned, state_after}
 use Rattle.moves.specs.PlaceTest.{comes_to_rest}
 use Rattle.moves.specs.Place.{LeadsToRest}
 use Rattle.moves.specs.Step.{step_of}
 use Rattle.moves.specs.Walk.{led, Leads}
-use Rattle.moves.proofs.StepLemmas.{IsFreeState, step_is_finite, step_of-free, pivot_of_free}
-use Rattle.moves.proofs.StateLemmas.{one_state}
-use Rattle.moves.proofs.WalkLemmas.{led_good, led_none, some_same, not_some}
+use Rattle.moves.proofs.CallerLemmas.{IsFreeState, step_is_finite, step_of-free, pivot_of_free, one_state, led_good, led_none, some_same, not_some, from_tests, to_tests}
 use Rattle.circular_buffer.specs.Buffer.{Buffer, buffer, keep_last}
 use Rattle.key_path.specs.declared.marks.Mark.{Mark}
 use Rattle.key_path.specs.declared.marks.Mark.TheVariants.{Unseen, Start, From}
-use Rattle.key_path.specs.Words.{key_place}
-use Rattle.key_path.specs.KeyWord.{IsKeyWord}
+use Rattle.key_path.specs.KeyWords.{key_place}
+use Rattle.key_path.specs.LeastKeyWord.{IsLeastKeyWord}
 use Rattle.moves.specs.States.{IsPivot}
-use Rattle.key_path.specs.Marks.{marked, is_unseen, Traces, new_state}
+use Rattle.key_path.specs.Marks.{with_mark, is_unseen, Traces, new_state}
 use Rattle.key_path.proofs.WordLemmas.{not_earlier, not_after-front}
 use Rattle.key_path.specs.Search.{Item, with_key, IsSought, IsAhead, IsPressed, IsNoted, IsFinding, IsTrying, IsReached}
 use Rattle.key_path.proofs.SearchLemmas.{sought_first, ahead_first, taken, pressed_again, pressed_new, sought_new, sought_next, ahead_next, all_found, found_before}
 use Rattle.key_path.proofs.MarkLemmas.{noted_first, noted_new, traces_once, room_left, count_marked}
-use Rattle.key_path.proofs.KeyWordLemmas.{way_of, from_way, least_is_short}
+use Rattle.key_path.proofs.KeyWordLemmas.{least_is_short}
 use Rattle.key_path.proofs.NewStates.{IsNew, new_is, none_new}
 
 -- a buffer with room for one more item keeps all
@@ -49,13 +46,13 @@ led_to_other : (table : Table) (F : Field) (mode : DropMode) (p q : Placement) (
 led_to_other table F mode p q word same way = record {
   allowed = way.allowed;
   state = way.state;
-  reached = subst (λ piece. leads table F piece word ≡ Some way.state) (same_cells-piece p q same) way.reached;
+  reached = subst (λ piece. state_after table F piece word ≡ Some way.state) (same_cells-piece p q same) way.reached;
   rest = way.rest;
   rests = way.rests;
   same_cells = same_cells-trans way.same_cells same;
 }
 
-pub one_word : (table : Table) (F : Field) (mode : DropMode) (aim target : Placement) → HasSameCells aim target → (a : Option (List Key)) → IsKeyWord table F mode aim a → IsKeyWord table F mode target a
+pub one_word : (table : Table) (F : Field) (mode : DropMode) (aim target : Placement) → HasSameCells aim target → (a : Option (List Key)) → IsLeastKeyWord table F mode aim a → IsLeastKeyWord table F mode target a
 one_word table F mode aim target same None is = record { none = λ word led above. is.none word (led_to_other table F mode target aim word (same_cells-sym same) led) above }
 one_word table F mode aim target same (Some word) is = record {
   member = led_to_other table F mode aim target word same is.member;
@@ -72,24 +69,24 @@ unfolding spawned
 spawned-none F s blocked = cond-false _ (Some (spawn_of s.piece)) None blocked
 
 module _ (table : Table) (F : Field) (mode : DropMode) (target : Placement) where
-  -- where the spawn is not free no word leads anywhere
-  pub no_spawn : is_free F (spawn_of target.piece) ≡ false → IsKeyWord table F mode target None
+  -- where the spawn is not free no key word leads anywhere
+  pub no_spawn : is_free F (spawn_of target.piece) ≡ false → IsLeastKeyWord table F mode target None
   no_spawn blocked = record {
     none = λ word leads above.
-        let way = way_of table F mode target word leads in
+        let way = to_tests table F mode word target leads in
         not_some (sym (led_none (step_of table F) word) ∙ sym (ap (λ s. led (step_of table F) s word) (spawned-none F target blocked)) ∙ way.leads.reached);
   }
 
-  -- where the spawn comes to rest there, the word with no key is the least
-  pub spawn_word : is_free F (spawn_of target.piece) ≡ true → comes_to_rest F target (spawn_of target.piece) ≡ true → IsKeyWord table F mode target (Some [])
+  -- where the spawn comes to rest there, the key word with no key is the least
+  pub spawn_word : is_free F (spawn_of target.piece) ≡ true → comes_to_rest F target (spawn_of target.piece) ≡ true → IsLeastKeyWord table F mode target (Some [])
   spawn_word free rests = record {
-    member = from_way table F mode target [] (record { state = spawn_of target.piece; leads = record { each = refl; reached = spawned-some F target free }; rests = rests });
+    member = from_tests table F mode [] target (record { state = spawn_of target.piece; leads = record { each = refl; reached = spawned-some F target free }; rests = rests });
     above = refl;
     least = λ other leads above less. not_earlier [] other (not_after-front [] other) less;
   }
 
   pub finding_first : (marks : List Mark) (waiting : List Placement) → is_free F (spawn_of target.piece) ≡ true → comes_to_rest F target (spawn_of target.piece) ≡ false →
-      marks ≡ marked (replicate 920 Unseen) (spawn_of target.piece) Start → waiting ≡ spawn_of target.piece ∷ [] → IsFinding table F mode target marks waiting
+      marks ≡ with_mark (replicate 920 Unseen) (spawn_of target.piece) Start → waiting ≡ spawn_of target.piece ∷ [] → IsFinding table F mode target marks waiting
   finding_first marks waiting free misses set alone = record {
     items = start ∷ [];
     front = start ∷ [];
@@ -180,7 +177,7 @@ module _ (table : Table) (F : Field) (mode : DropMode) (target : Placement) wher
 
   -- a key that leads to a new state, which does not come to rest there
   pub trying_new : is_free F (spawn_of target.piece) ≡ true → (marks marks' : List Mark) (waiting waiting' : List Placement) (state : Placement) (n : ℕ) (key : Key) (t : Placement) → key_place key ≡ n → new_state table F mode marks state key ≡ Some t →
-      comes_to_rest F target t ≡ false → marks' ≡ marked marks t (From state key) → waiting' ≡ waiting ++ t ∷ [] → IsTrying table F mode target marks waiting state n → IsTrying table F mode target marks' waiting' state (n + 1)
+      comes_to_rest F target t ≡ false → marks' ≡ with_mark marks t (From state key) → waiting' ≡ waiting ++ t ∷ [] → IsTrying table F mode target marks waiting state n → IsTrying table F mode target marks' waiting' state (n + 1)
   trying_new free marks marks' waiting waiting' state n key t place found misses set waits trying =
       let new : IsNew table F mode marks state key t = new_is table F mode marks state key t found in
       let here = trying.sought.among trying.x (Contains-here trying.x trying.front) in
@@ -196,7 +193,7 @@ module _ (table : Table) (F : Field) (mode : DropMode) (target : Placement) wher
         few = omega (arith, trying.few, length-append trying.items (with_key trying.x key t ∷ []), length-append trying.front (with_key trying.x key t ∷ []));
         sought = sought_new (step_of table F) (allows mode) (spawn_of target.piece) trying.items trying.x trying.front n key t place new.may moves here trying.sought trying.pressed;
         pressed = pressed_new (step_of table F) (allows mode) (spawn_of target.piece) trying.items trying.x n key t place moves trying.pressed;
-        noted = subst (λ marks. IsNoted marks (trying.items ++ with_key trying.x key t ∷ [])) (sym (set ∙ ap (λ s. marked marks t (From s key)) (sym trying.at)))
+        noted = subst (λ marks. IsNoted marks (trying.items ++ with_key trying.x key t ∷ [])) (sym (set ∙ ap (λ s. with_mark marks t (From s key)) (sym trying.at)))
             (noted_new marks trying.items trying.x key t here from pivot new.unseen trying.noted);
         misses = λ y among. elim (Contains-push_cases trying.items (with_key trying.x key t) y among) [
           | inl old ↦ trying.misses y old
@@ -205,7 +202,7 @@ module _ (table : Table) (F : Field) (mode : DropMode) (target : Placement) wher
       }
 
   -- it is marked, so that one state fewer is unseen
-  pub new_counts : (marks marks' : List Mark) (waiting : List Placement) (state : Placement) (n : ℕ) (key : Key) (t : Placement) → new_state table F mode marks state key ≡ Some t → marks' ≡ marked marks t (From state key) → IsTrying table F mode target marks waiting state n →
+  pub new_counts : (marks marks' : List Mark) (waiting : List Placement) (state : Placement) (n : ℕ) (key : Key) (t : Placement) → new_state table F mode marks state key ≡ Some t → marks' ≡ with_mark marks t (From state key) → IsTrying table F mode target marks waiting state n →
       count_by is_unseen marks' + 1 ≡ count_by is_unseen marks
   new_counts marks marks' waiting state n key t found set trying =
       let new : IsNew table F mode marks state key t = new_is table F mode marks state key t found in
@@ -228,8 +225,8 @@ module _ (table : Table) (F : Field) (mode : DropMode) (target : Placement) wher
 
   -- a key that leads to a new state which comes to rest there
   pub new_reached : is_free F (spawn_of target.piece) ≡ true → (marks marks' : List Mark) (waiting : List Placement) (state : Placement) (n : ℕ) (key : Key) (t : Placement) → key_place key ≡ n → new_state table F mode marks state key ≡ Some t →
-      comes_to_rest F target t ≡ true → marks' ≡ marked marks t (From state key) → IsTrying table F mode target marks waiting state n → IsReached table F mode target marks' t
-  new_reached free marks marks' waiting state n key t place found rests set trying = subst (λ marks. IsReached table F mode target marks t) (sym (set ∙ ap (λ s. marked marks t (From s key)) (sym trying.at))) reached
+      comes_to_rest F target t ≡ true → marks' ≡ with_mark marks t (From state key) → IsTrying table F mode target marks waiting state n → IsReached table F mode target marks' t
+  new_reached free marks marks' waiting state n key t place found rests set trying = subst (λ marks. IsReached table F mode target marks t) (sym (set ∙ ap (λ s. with_mark marks t (From s key)) (sym trying.at))) reached
     where
       word : List Key
       word = trying.x.word ++ key ∷ []
@@ -250,12 +247,12 @@ module _ (table : Table) (F : Field) (mode : DropMode) (target : Placement) wher
       leads = (sought_new (step_of table F) (allows mode) (spawn_of target.piece) trying.items trying.x trying.front n key t place new.may moves here trying.sought trying.pressed).reached
           (with_key trying.x key t) (Contains-push trying.items (with_key trying.x key t))
 
-      is_least : IsKeyWord table F mode target (Some word)
+      is_least : IsLeastKeyWord table F mode target (Some word)
       is_least = record {
-        member = from_way table F mode target word (record { state = t; leads = subst (λ s. Leads (step_of table F) (allows mode) s t word) (sym (spawned-some F target free)) leads; rests = rests });
+        member = from_tests table F mode word target (record { state = t; leads = subst (λ s. Leads (step_of table F) (allows mode) s t word) (sym (spawned-some F target free)) leads; rests = rests });
         above = refl;
         least = λ other leads above less.
-            let way = way_of table F mode target other leads in
+            let way = to_tests table F mode other target leads in
             elim (found_before (step_of table F) (allows mode) (spawn_of target.piece) trying.items trying.x trying.front key trying.sought pressed other way.state
             (subst (λ s. Leads (step_of table F) (allows mode) s way.state other) (spawned-some F target free) way.leads)) [
               | inl has ↦ false≢true (sym (trying.misses has.item has.among) ∙ ap (comes_to_rest F target) has.is ∙ way.rests)
@@ -263,25 +260,25 @@ module _ (table : Table) (F : Field) (mode : DropMode) (target : Placement) wher
             ];
       }
 
-      noted : IsNoted (marked marks t (From trying.x.state key)) (trying.items ++ with_key trying.x key t ∷ [])
+      noted : IsNoted (with_mark marks t (From trying.x.state key)) (trying.items ++ with_key trying.x key t ∷ [])
       noted = noted_new marks trying.items trying.x key t here (pivot_of_free F trying.x.state (found_free free trying.items (trying.x ∷ trying.front) trying.sought trying.x here).free)
           (pivot_of_free F t (step_of-free table F state key t new.moves).free) new.unseen trying.noted
 
-      traces : Traces (marked marks t (From trying.x.state key)) t (reverse word)
+      traces : Traces (with_mark marks t (From trying.x.state key)) t (reverse word)
       traces = noted.traces (with_key trying.x key t) (Contains-push trying.items (with_key trying.x key t))
 
-      reached : IsReached table F mode target (marked marks t (From trying.x.state key)) t
+      reached : IsReached table F mode target (with_mark marks t (From trying.x.state key)) t
       reached = record {
         traced = record { keys = reverse word; traces = traces; few = omega (arith, length-reverse word, least_is_short table F mode target word is_least) };
-        least = λ traced. subst (λ w. IsKeyWord table F mode target (Some w))
-            (sym (ap reverse (traces_once (marked marks t (From trying.x.state key)) t traced.keys (reverse word) traced.traces traces) ∙ reverse-reverse word)) is_least;
+        least = λ traced. subst (λ w. IsLeastKeyWord table F mode target (Some w))
+            (sym (ap reverse (traces_once (with_mark marks t (From trying.x.state key)) t traced.keys (reverse word) traced.traces traces) ∙ reverse-reverse word)) is_least;
       }
 
-  -- where nothing waits any more, no word leads there
-  pub none_found : is_free F (spawn_of target.piece) ≡ true → (marks : List Mark) (waiting : List Placement) → slice_get waiting 0 ≡ None → IsFinding table F mode target marks waiting → IsKeyWord table F mode target None
+  -- where nothing waits any more, no key word leads there
+  pub none_found : is_free F (spawn_of target.piece) ≡ true → (marks : List Mark) (waiting : List Placement) → slice_get waiting 0 ≡ None → IsFinding table F mode target marks waiting → IsLeastKeyWord table F mode target None
   none_found free marks waiting none finding = record {
     none = λ word leads above.
-        let way = way_of table F mode target word leads in
+        let way = to_tests table F mode word target leads in
         let has = all_found (step_of table F) (allows mode) (spawn_of target.piece) finding.items (subst (IsSought (step_of table F) (allows mode) (spawn_of target.piece) finding.items) (no_front finding.front refl) finding.sought) word way.state
         (subst (λ s. Leads (step_of table F) (allows mode) s way.state word) (spawned-some F target free) way.leads) in
         false≢true (sym (finding.misses has.item has.among) ∙ ap (comes_to_rest F target) has.is ∙ way.rests);

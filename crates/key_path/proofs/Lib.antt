@@ -1,9 +1,9 @@
--- Lemmas on words and their order, on the search for states, and on its marks.
-pub mod WordLemmas
-pub mod SearchLemmas
-pub mod AimLemmas
-pub mod MarkLemmas
-pub mod KeyWordLemmas
-pub mod NewStates
-pub mod FindLemmas
-mod Examples
+-- Lemmas on key words and their order, on the search for states, and on its marks.
+mod WordLemmas
+mod SearchLemmas
+mod AimLemmas
+mod MarkLemmas
+mod KeyWordLemmas
+mod NewStates
+mod FindLemmas
+mod Worked

@@ -7,13 +7,13 @@ use Rattle.std.proofs.lemmas.List.{append-nil, append_assoc, length-append, leng
 use Rattle.std.proofs.lemmas.List.Sums.{sum_by-cons, sum_by-set}
 use Rattle.std.proofs.lemmas.List.Elements.{Contains-append_left, Contains-push, Contains-push_cases}
 use Rattle.srs.specs.declared.placement.Placement.{Placement}
-use Rattle.srs.proofs.MemberLemmas.{Contains-here, Contains-cases, Contains-none}
+use Rattle.lists.proofs.CallerLemmas.{Contains-here, Contains-cases, Contains-none}
 use Rattle.moves.specs.declared.key.Key.{Key}
 use Rattle.key_path.specs.declared.marks.Mark.{Mark}
 use Rattle.key_path.specs.declared.marks.Mark.TheVariants.{Unseen, Start, From}
 use Rattle.moves.specs.States.{IsPivot, state_code}
-use Rattle.moves.proofs.StateLemmas.{code_below}
-use Rattle.key_path.specs.Marks.{mark_at, marked, is_unseen, Traces}
+use Rattle.moves.proofs.CallerLemmas.{code_below}
+use Rattle.key_path.specs.Marks.{mark_at, with_mark, is_unseen, Traces}
 use Rattle.key_path.specs.Search.{Item, with_key, IsNoted}
 
 -- the keys back are determined
@@ -29,12 +29,12 @@ traces_once marks s (k ∷ ks) (l ∷ ls) one other =
     λ i. key i ∷ rest i
 
 -- a mark that was set is there, and the others stay
-mark_here : (marks : List Mark) (s : Placement) (mark : Mark) → length marks ≡ 920 → IsPivot s → mark_at (marked marks s mark) s ≡ mark
-unfolding mark_at marked
+mark_here : (marks : List Mark) (s : Placement) (mark : Mark) → length marks ≡ 920 → IsPivot s → mark_at (with_mark marks s mark) s ≡ mark
+unfolding mark_at with_mark
 mark_here marks s mark size pivot = get_or-set_same marks (state_code s) mark Unseen (omega (arith, size, code_below s pivot))
 
-mark_there : (marks : List Mark) (s t : Placement) (mark : Mark) → state_code t ≢ state_code s → mark_at (marked marks s mark) t ≡ mark_at marks t
-unfolding mark_at marked
+mark_there : (marks : List Mark) (s t : Placement) (mark : Mark) → state_code t ≢ state_code s → mark_at (with_mark marks s mark) t ≡ mark_at marks t
+unfolding mark_at with_mark
 mark_there marks s t mark other = get_or-set_other marks (state_code s) (state_code t) mark Unseen other
 
 one_mark : (marks : List Mark) (s t : Placement) → state_code t ≡ state_code s → mark_at marks t ≡ mark_at marks s
@@ -42,11 +42,11 @@ unfolding mark_at
 one_mark marks s t e = ap (λ n. get_or marks n Unseen) e
 
 -- setting the mark of an unseen state leaves a mark that is no Unseen
-mark_kept : (marks : List Mark) (s t : Placement) (mark : Mark) → is_unseen (mark_at marks s) ≡ true → is_unseen (mark_at marks t) ≡ false → mark_at (marked marks s mark) t ≡ mark_at marks t
+mark_kept : (marks : List Mark) (s t : Placement) (mark : Mark) → is_unseen (mark_at marks s) ≡ true → is_unseen (mark_at marks t) ≡ false → mark_at (with_mark marks s mark) t ≡ mark_at marks t
 mark_kept marks s t mark unseen seen =
     mark_there marks s t mark (λ e. false≢true (sym seen ∙ ap is_unseen (one_mark marks s t e) ∙ unseen))
 
-traces_kept : (marks : List Mark) (s t : Placement) (mark : Mark) (keys : List Key) → is_unseen (mark_at marks s) ≡ true → Traces marks t keys → Traces (marked marks s mark) t keys
+traces_kept : (marks : List Mark) (s t : Placement) (mark : Mark) (keys : List Key) → is_unseen (mark_at marks s) ≡ true → Traces marks t keys → Traces (with_mark marks s mark) t keys
 traces_kept marks s t mark [] unseen traces = mark_kept marks s t mark unseen (ap is_unseen traces) ∙ traces
 traces_kept marks s t mark (key ∷ keys) unseen traces =
     (traces.0, mark_kept marks s t mark unseen (ap is_unseen traces.1) ∙ traces.1, traces.2, traces_kept marks s traces.0 mark keys unseen traces.3)
@@ -72,8 +72,8 @@ not_same m n apart same = elim apart [ inl less ↦ omega (arith, less, same) | 
 
 -- one mark fewer is unseen
 pub count_marked : (marks : List Mark) (s : Placement) (mark : Mark) → length marks ≡ 920 → IsPivot s → is_unseen (mark_at marks s) ≡ true → is_unseen mark ≡ false →
-    count_by is_unseen (marked marks s mark) + 1 ≡ count_by is_unseen marks
-unfolding mark_at marked
+    count_by is_unseen (with_mark marks s mark) + 1 ≡ count_by is_unseen marks
+unfolding mark_at with_mark
 count_marked marks s mark size pivot unseen other =
     let counted = sum_by-set (λ x. cond (is_unseen x) 1 0) marks (state_code s) mark Unseen (omega (arith, size, code_below s pivot)) in
     let before : ◌≡◌ {A = ℕ} (cond (is_unseen (get_or marks (state_code s) Unseen)) 1 0) 1 = ap (λ b. cond b 1 0) unseen in
@@ -84,14 +84,14 @@ count_marked marks s mark size pivot unseen other =
 pub room_left : (marks : List Mark) (items : List Item) (s : Placement) → IsPivot s → is_unseen (mark_at marks s) ≡ true → IsNoted marks items → length items < 920
 room_left marks items s pivot unseen noted = omega (arith, noted.counted, count_marked marks s Start noted.size pivot unseen refl)
 
-sized : (marks : List Mark) (s : Placement) (mark : Mark) → length marks ≡ 920 → length (marked marks s mark) ≡ 920
-unfolding marked
+sized : (marks : List Mark) (s : Placement) (mark : Mark) → length marks ≡ 920 → length (with_mark marks s mark) ≡ 920
+unfolding with_mark
 sized marks s mark size = length-set marks (state_code s) mark ∙ size
 
-pub noted_first : (start : Placement) → IsPivot start → IsNoted (marked (replicate 920 Unseen) start Start) (record { state = start; word = [] } ∷ [])
+pub noted_first : (start : Placement) → IsPivot start → IsNoted (with_mark (replicate 920 Unseen) start Start) (record { state = start; word = [] } ∷ [])
 noted_first start pivot = record {
   size = sized (replicate 920 Unseen) start Start none;
-  traces = λ x among. subst (λ x. Traces (marked (replicate 920 Unseen) start Start) x.state (reverse x.word)) (only x among) (mark_here (replicate 920 Unseen) start Start none pivot);
+  traces = λ x among. subst (λ x. Traces (with_mark (replicate 920 Unseen) start Start) x.state (reverse x.word)) (only x among) (mark_here (replicate 920 Unseen) start Start none pivot);
   seen = λ s seen. elim (cases_order (state_code s) (state_code start)) [
     | inl same ↦ (record { state = start; word = [] }, Contains-here _ [], sym same)
     | inr apart ↦ absurd (false≢true (sym seen ∙ ap is_unseen (mark_there (replicate 920 Unseen) start s Start (not_same (state_code s) (state_code start) apart) ∙ unseen_at s)))
@@ -106,13 +106,13 @@ noted_first start pivot = record {
     only x among = elim (Contains-cases _ [] x among) [ inl e ↦ e | inr none ↦ absurd (Contains-none x none) ]
 
 pub noted_new : (marks : List Mark) (items : List Item) (x : Item) (key : Key) (t : Placement) → Contains items x → IsPivot x.state → IsPivot t → is_unseen (mark_at marks t) ≡ true → IsNoted marks items →
-    IsNoted (marked marks t (From x.state key)) (items ++ with_key x key t ∷ [])
+    IsNoted (with_mark marks t (From x.state key)) (items ++ with_key x key t ∷ [])
 noted_new marks items x key t here from pivot unseen noted = record {
   size = sized marks t (From x.state key) noted.size;
   traces = λ y among. elim (Contains-push_cases items (with_key x key t) y among) [
     | inl old ↦ traces_kept marks t y.state (From x.state key) (reverse y.word) unseen (noted.traces y old)
-    | inr new ↦ subst (λ y. Traces (marked marks t (From x.state key)) y.state (reverse y.word)) new
-        (subst (Traces (marked marks t (From x.state key)) t) (sym (reverse-append x.word (key ∷ [])))
+    | inr new ↦ subst (λ y. Traces (with_mark marks t (From x.state key)) y.state (reverse y.word)) new
+        (subst (Traces (with_mark marks t (From x.state key)) t) (sym (reverse-append x.word (key ∷ [])))
         (x.state, mark_here marks t (From x.state key) noted.size pivot, from, traces_kept marks t x.state (From x.state key) (reverse x.word) unseen (noted.traces x here)))
   ];
   seen = λ s seen. elim (cases_order (state_code s) (state_code t)) [

@@ -10,7 +10,7 @@ use Rattle.moves.specs.declared.key.Key.{Key}
 use Rattle.moves.specs.declared.key.DropMode.{DropMode}
 use Rattle.moves.specs.Keys.{allows}
 use Rattle.moves.specs.Step.{step_of}
-use Rattle.moves.proofs.WalkLemmas.{some_same, not_some}
+use Rattle.moves.proofs.CallerLemmas.{some_same, not_some}
 use Rattle.key_path.specs.declared.marks.Mark.{Mark}
 use Rattle.key_path.specs.Marks.{mark_at, is_unseen, new_state}
 

@@ -1,4 +1,4 @@
--- A search for states, the lesser words first: what it has found, and that nothing before it is left out.
+-- A search for states, the lesser key words first: what it has found, and that nothing before it is left out.
 use Rattle.std.proofs.Common.{◌≡◌, ◌⊎◌, ℕ, ◌+◌, ◌≤◌, Bool, true, Option, Some, None, List, [], ◌∷◌, ◌++◌, refl, sym, ap, subst, ◌∙◌, inl, inr, arith}
 use Rattle.std.specs.Prelude.{Contains}
 use Rattle.std.specs.List.{list_all}
@@ -8,12 +8,11 @@ use Rattle.std.proofs.lemmas.List.{append-nil, append_assoc, length-append}
 use Rattle.std.proofs.lemmas.List.Sums.{fold-append}
 use Rattle.std.proofs.lemmas.List.Elements.{Contains-append_left, Contains-push, Contains-push_cases}
 use Rattle.srs.specs.declared.placement.Placement.{Placement}
-use Rattle.srs.proofs.MemberLemmas.{Contains-here, Contains-there, Contains-cases, Contains-none}
-use Rattle.srs.proofs.RisingLemmas.{rising-first, rising-rest, rising-none, rising-cons, rising-append}
+use Rattle.lists.proofs.CallerLemmas.{Contains-here, Contains-there, Contains-cases, Contains-none, rising-first, rising-rest, rising-none, rising-cons, rising-append}
 use Rattle.moves.specs.declared.key.Key.{Key}
 use Rattle.moves.specs.Walk.{led, Leads}
-use Rattle.moves.proofs.WalkLemmas.{some_same, not_some, led_none}
-use Rattle.key_path.specs.Words.{key_place, word_cmp, NotAfter}
+use Rattle.moves.proofs.CallerLemmas.{some_same, not_some, led_none}
+use Rattle.key_path.specs.KeyWords.{key_place, key_word_cmp, NotAfter}
 use Rattle.key_path.specs.Search.{Item, item_cmp, HasBy, with_key, IsClosed, IsSought, IsAhead, IsPressed}
 use Rattle.key_path.proofs.WordLemmas.{key_place-injective, not_after-itself, not_after-trans, not_after-before, before_not_after, shorter_before, not_after-front, more_before, key_before, more_not_after, key_place-small}
 
@@ -43,7 +42,7 @@ module _ (next : Placement → Key → Option Placement) (allowed : Key → Bool
   pub ahead_first : IsAhead next allowed start (first ∷ []) (first ∷ [])
   ahead_first = record {
     ahead = λ x y word key here not among. elim (Contains-cases first [] y among) [
-      | inl e ↦ subst (λ y. word_cmp y.word (word ++ key ∷ []) ≡ Less) e (shorter_before [] (word ++ key ∷ []) (omega (arith, length-append word (key ∷ []))))
+      | inl e ↦ subst (λ y. key_word_cmp y.word (word ++ key ∷ []) ≡ Less) e (shorter_before [] (word ++ key ∷ []) (omega (arith, length-append word (key ∷ []))))
       | inr none ↦ absurd (Contains-none y none)
     ];
   }
@@ -79,9 +78,9 @@ module _ (next : Placement → Key → Option Placement) (allowed : Key → Bool
     ];
     ahead = λ y word other among still. elim (Contains-push_cases items (with_key x key t) y among) [
       | inl old ↦ pressed.ahead y word other old (elim still [ inl later ↦ inl later | inr here ↦ inr (here.0, omega (arith, here.1)) ])
-      | inr new ↦ subst (λ y. word_cmp y.word (word ++ other ∷ []) ≡ Less) new (elim still [
+      | inr new ↦ subst (λ y. key_word_cmp y.word (word ++ other ∷ []) ≡ Less) new (elim still [
         | inl later ↦ more_before x.word word key other later
-        | inr here ↦ subst (λ w. word_cmp (x.word ++ key ∷ []) (w ++ other ∷ []) ≡ Less) here.0 (key_before x.word key other (omega (arith, here.1, place)))
+        | inr here ↦ subst (λ w. key_word_cmp (x.word ++ key ∷ []) (w ++ other ∷ []) ≡ Less) here.0 (key_before x.word key other (omega (arith, here.1, place)))
       ])
     ];
   }
@@ -151,7 +150,7 @@ module _ (next : Placement → Key → Option Placement) (allowed : Key → Bool
     ahead = λ z y word key waits not among. pressed.ahead y word key among (inl (before_not_after x.word z.word word (rising-first item_cmp x waiting sought.rising z waits) not));
   }
 
-  -- Where each key leads from an item to one that is in time, or the word has passed a mark, so do all words.
+  -- Where each key leads from an item to one that is in time, or the key word has passed a mark, so do all key words.
   leads_on : (items : List Item) (Past : List Key → Type 0) → ((u v : List Key) → Past u → Past (u ++ v)) →
       ((x : Item) (u : List Key) (key : Key) (t : Placement) → Contains items x → NotAfter x.word u → allowed key ≡ true → next x.state key ≡ Some t → HasBy items t (u ++ key ∷ []) ⊎ Past (u ++ key ∷ [])) →
       (v : List Key) (x : Item) (u : List Key) (s : Placement) → Contains items x → NotAfter x.word u → list_all allowed v ≡ true → led next (Some x.state) v ≡ Some s → HasBy items s (u ++ v) ⊎ Past (u ++ v)
@@ -177,7 +176,7 @@ module _ (next : Placement → Key → Option Placement) (allowed : Key → Bool
   closed_step : (items : List Item) (x : Item) (u : List Key) (key : Key) (t : Placement) → NotAfter x.word u → allowed key ≡ true → next x.state key ≡ Some t → IsClosed next allowed start items x → HasBy items t (u ++ key ∷ [])
   closed_step items x u key t not may e closed = has_later items t (x.word ++ key ∷ []) (u ++ key ∷ []) (more_not_after x.word u key not) (closed.each key t may e)
 
-  -- where nothing waits, each state to which a word leads was found
+  -- where nothing waits, each state to which a key word leads was found
   pub all_found : (items : List Item) → IsSought next allowed start items [] → (v : List Key) (s : Placement) → Leads next allowed (Some start) s v → HasBy items s v
   all_found items sought v s leads = elim (from_start items (λ _. ⊥) (λ u v never. never) sought.begins step v s leads) [ inl has ↦ has | inr never ↦ absurd never ]
     where
@@ -187,7 +186,7 @@ module _ (next : Placement → Key → Option Placement) (allowed : Key → Bool
         | inr none ↦ absurd (Contains-none x none)
       ]
 
-  -- while keys are tried, so was each state to which a word before the one that is tried leads
+  -- while keys are tried, so was each state to which a key word before the one that is tried leads
   pub found_before : (items : List Item) (x : Item) (waiting : List Item) (key : Key) → IsSought next allowed start items (x ∷ waiting) → IsPressed next allowed start items x (key_place key) →
       (v : List Key) (s : Placement) → Leads next allowed (Some start) s v → HasBy items s v ⊎ NotAfter (x.word ++ key ∷ []) v
   found_before items x waiting key sought pressed v s leads =

@@ -1,4 +1,4 @@
--- The order of words: it is total, and what one more key does in it.
+-- The order of key words: it is total, and what one more key does in it.
 use Rattle.std.proofs.Common.{◌≡◌, ◌⊎◌, ℕ, zero, suc, ◌<◌, true, false, List, [], ◌∷◌, ◌++◌, length, refl, sym, ap, subst, ◌∙◌, inl, inr, arith}
 use Rattle.std.specs.Prelude.{slice_index_or}
 use Rattle.std.specs.Ordering.{ordering_then, nat_cmp, is_gt}
@@ -9,11 +9,11 @@ use Rattle.std.specs.declared.cmp.Ordering.{Ordering}
 use Rattle.std.specs.declared.cmp.Ordering.TheVariants.{Less, Equal, Greater}
 use Rattle.std.proofs.lemmas.Cmp.{ranked, upto}
 use Rattle.std.proofs.lemmas.List.{length-append, append-nil}
-use Rattle.srs.proofs.OrderLemmas.{below_is_less}
+use Rattle.lists.proofs.CallerLemmas.{below_is_less}
 use Rattle.moves.specs.declared.key.Key.{Key}
 use Rattle.moves.specs.declared.key.Key.TheVariants.{Left, Right, Down, Clockwise, Anti}
 use Rattle.moves.specs.Keys.{all_keys}
-use Rattle.key_path.specs.Words.{key_place, key_cmp, word_cmp, NotAfter}
+use Rattle.key_path.specs.KeyWords.{key_place, key_cmp, key_word_cmp, NotAfter}
 
 -- the key at a place
 abbrev pub key_at : ℕ → Key
@@ -50,7 +50,7 @@ key_cmp-total = on_total key_place nat_cmp_total
 key_cmp-antisymmetric : IsAntisymmetric key_cmp
 key_cmp-antisymmetric key other e = key_place-injective key other (nat_cmp-IsAntisymmetric _ _ e)
 
-pub word_cmp-total : IsTotalOrder word_cmp
+pub word_cmp-total : IsTotalOrder key_word_cmp
 word_cmp-total = then_total (on_total (λ (word : List Key). length word) nat_cmp_total) (lists_total key_cmp-total)
 
 second_tied : (a b : Ordering) → ordering_then a b ≡ Equal → b ≡ Equal
@@ -58,7 +58,7 @@ second_tied Less b e = cc
 second_tied Equal b e = e
 second_tied Greater b e = cc
 
-pub word_cmp-antisymmetric : IsAntisymmetric word_cmp
+pub word_cmp-antisymmetric : IsAntisymmetric key_word_cmp
 word_cmp-antisymmetric v w e = slice_cmp-IsAntisymmetric key_cmp-antisymmetric v w (second_tied (nat_cmp (length v) (length w)) (slice_cmp key_cmp v w) e)
 
 pub not_after-itself : (v : List Key) → NotAfter v v
@@ -67,34 +67,34 @@ not_after-itself v = ap is_gt (tied_itself word_cmp-total v)
 pub not_after-trans : (u v w : List Key) → NotAfter u v → NotAfter v w → NotAfter u w
 not_after-trans = upto word_cmp-total
 
-pub not_after-before : (v w : List Key) → word_cmp v w ≡ Less → NotAfter v w
+pub not_after-before : (v w : List Key) → key_word_cmp v w ≡ Less → NotAfter v w
 not_after-before v w e = ap is_gt e
 
--- a word that is not after another one is before it or is it
-pub not_after-cases : (v w : List Key) → NotAfter v w → (word_cmp v w ≡ Less) ⊎ (v ≡ w)
-not_after-cases v w not = by_answer (word_cmp v w) refl
+-- a key word that is not after another one is before it or is it
+pub not_after-cases : (v w : List Key) → NotAfter v w → (key_word_cmp v w ≡ Less) ⊎ (v ≡ w)
+not_after-cases v w not = by_answer (key_word_cmp v w) refl
   where
-    by_answer : (o : Ordering) → word_cmp v w ≡ o → (word_cmp v w ≡ Less) ⊎ (v ≡ w)
+    by_answer : (o : Ordering) → key_word_cmp v w ≡ o → (key_word_cmp v w ≡ Less) ⊎ (v ≡ w)
     by_answer Less e = inl e
     by_answer Equal e = inr (word_cmp-antisymmetric v w e)
     by_answer Greater e = let no : true ≡ false = sym (ap is_gt e) ∙ not in absurd cc
 
--- before a word that is not after another one is before that
-pub before_not_after : (u v w : List Key) → word_cmp u v ≡ Less → NotAfter v w → word_cmp u w ≡ Less
+-- before a key word that is not after another one is before that
+pub before_not_after : (u v w : List Key) → key_word_cmp u v ≡ Less → NotAfter v w → key_word_cmp u w ≡ Less
 before_not_after u v w first not = elim (not_after-cases v w not) [
   | inl second ↦ word_cmp-total.trans u v w first second
-  | inr same ↦ subst (λ w. word_cmp u w ≡ Less) same first
+  | inr same ↦ subst (λ w. key_word_cmp u w ≡ Less) same first
 ]
 
--- a shorter word is before a longer one
-pub shorter_before : (v w : List Key) → length v < length w → word_cmp v w ≡ Less
+-- a shorter key word is before a longer one
+pub shorter_before : (v w : List Key) → length v < length w → key_word_cmp v w ≡ Less
 shorter_before v w shorter = ap (λ o. ordering_then o (slice_cmp key_cmp v w)) (below_is_less _ _ shorter)
 
--- between words of one length the keys decide
-pub as_long : (v w : List Key) → length v ≡ length w → word_cmp v w ≡ slice_cmp key_cmp v w
+-- between key words of one length the keys decide
+pub as_long : (v w : List Key) → length v ≡ length w → key_word_cmp v w ≡ slice_cmp key_cmp v w
 as_long v w same = ap (λ o. ordering_then o (slice_cmp key_cmp v w)) (subst (λ n. nat_cmp (length v) n ≡ Equal) same (tied_itself nat_cmp_total (length v)))
 
-before_cases : (v w : List Key) → word_cmp v w ≡ Less → (length v < length w) ⊎ ((length v ≡ length w) × (slice_cmp key_cmp v w ≡ Less))
+before_cases : (v w : List Key) → key_word_cmp v w ≡ Less → (length v < length w) ⊎ ((length v ≡ length w) × (slice_cmp key_cmp v w ≡ Less))
 before_cases v w = by_length (nat_cmp (length v) (length w)) refl
   where
     by_length : (o : Ordering) → o ≡ nat_cmp (length v) (length w) → ordering_then o (slice_cmp key_cmp v w) ≡ Less → (length v < length w) ⊎ ((length v ≡ length w) × (slice_cmp key_cmp v w ≡ Less))
@@ -117,59 +117,59 @@ first_difference (x ∷ v) (y ∷ w) xs ys same e = elim (then_cases (key_cmp x 
   | inr later ↦ ap (λ o. ordering_then o (slice_cmp key_cmp (v ++ xs) (w ++ ys))) later.0 ∙ first_difference v w xs ys (omega arith) later.1
 ]
 
--- what two words begin with alike decides nothing
+-- what two key words begin with alike decides nothing
 same_front : (front v w : List Key) → slice_cmp key_cmp (front ++ v) (front ++ w) ≡ slice_cmp key_cmp v w
 same_front [] v w = refl
 same_front (x ∷ front) v w = ap (λ o. ordering_then o (slice_cmp key_cmp (front ++ v) (front ++ w))) (tied_itself key_cmp-total x) ∙ same_front front v w
 
--- a word is before what it begins
-pub before_longer : (v : List Key) (key : Key) (w : List Key) → word_cmp v (v ++ key ∷ w) ≡ Less
+-- a key word is before what it begins
+pub before_longer : (v : List Key) (key : Key) (w : List Key) → key_word_cmp v (v ++ key ∷ w) ≡ Less
 before_longer v key w = shorter_before v (v ++ key ∷ w) (omega (arith, length-append v (key ∷ w)))
 
 pub not_after-front : (v w : List Key) → NotAfter v (v ++ w)
 not_after-front v [] = subst (NotAfter v) (sym (append-nil v)) (not_after-itself v)
 not_after-front v (key ∷ w) = not_after-before v (v ++ key ∷ w) (before_longer v key w)
 
--- with one more key a lesser word stays the lesser one, whatever the keys are
-pub more_before : (v w : List Key) (key other : Key) → word_cmp v w ≡ Less → word_cmp (v ++ key ∷ []) (w ++ other ∷ []) ≡ Less
+-- with one more key a lesser key word stays the lesser one, whatever the keys are
+pub more_before : (v w : List Key) (key other : Key) → key_word_cmp v w ≡ Less → key_word_cmp (v ++ key ∷ []) (w ++ other ∷ []) ≡ Less
 more_before v w key other less = elim (before_cases v w less) [
   | inl shorter ↦ shorter_before (v ++ key ∷ []) (w ++ other ∷ []) (omega (arith, shorter, length-append v (key ∷ []), length-append w (other ∷ [])))
   | inr alike ↦ as_long (v ++ key ∷ []) (w ++ other ∷ []) (omega (arith, alike.0, length-append v (key ∷ []), length-append w (other ∷ []))) ∙ first_difference v w (key ∷ []) (other ∷ []) alike.0 alike.1
 ]
 
--- an earlier key makes of one word the lesser one
-pub key_before : (v : List Key) (key other : Key) → key_place key < key_place other → word_cmp (v ++ key ∷ []) (v ++ other ∷ []) ≡ Less
+-- an earlier key makes of one key word the lesser one
+pub key_before : (v : List Key) (key other : Key) → key_place key < key_place other → key_word_cmp (v ++ key ∷ []) (v ++ other ∷ []) ≡ Less
 key_before v key other less =
     as_long _ _ (length-append v (key ∷ []) ∙ sym (length-append v (other ∷ [])))
     ∙ same_front v (key ∷ []) (other ∷ [])
     ∙ ap (λ o. ordering_then o Equal) (below_is_less _ _ less)
 
--- the same key makes of a word that is not after another one no later one
+-- the same key makes of a key word that is not after another one no later one
 pub more_not_after : (v w : List Key) (key : Key) → NotAfter v w → NotAfter (v ++ key ∷ []) (w ++ key ∷ [])
 more_not_after v w key not = elim (not_after-cases v w not) [
   | inl less ↦ not_after-before (v ++ key ∷ []) (w ++ key ∷ []) (more_before v w key key less)
   | inr same ↦ subst (λ w. NotAfter (v ++ key ∷ []) (w ++ key ∷ [])) same (not_after-itself (v ++ key ∷ []))
 ]
 
--- no word is before another one and after it
-pub not_both : (v w : List Key) → word_cmp v w ≡ Less → word_cmp w v ≡ Less → ⊥
-not_both v w less more = let tied : word_cmp v v ≡ Equal = tied_itself word_cmp-total v in let itself : word_cmp v v ≡ Less = word_cmp-total.trans v w v less more in cc
+-- no key word is before another one and after it
+pub not_both : (v w : List Key) → key_word_cmp v w ≡ Less → key_word_cmp w v ≡ Less → ⊥
+not_both v w less more = let tied : key_word_cmp v v ≡ Equal = tied_itself word_cmp-total v in let itself : key_word_cmp v v ≡ Less = word_cmp-total.trans v w v less more in cc
 
--- no word is before one that is not after it
-pub not_earlier : (v w : List Key) → NotAfter v w → word_cmp w v ≡ Less → ⊥
+-- no key word is before one that is not after it
+pub not_earlier : (v w : List Key) → NotAfter v w → key_word_cmp w v ≡ Less → ⊥
 not_earlier v w not less = elim (not_after-cases v w not) [
   | inl more ↦ not_both v w more less
-  | inr same ↦ let tied : word_cmp v v ≡ Equal = tied_itself word_cmp-total v in let itself : word_cmp v v ≡ Less = subst (λ w. word_cmp w v ≡ Less) (sym same) less in cc
+  | inr same ↦ let tied : key_word_cmp v v ≡ Equal = tied_itself word_cmp-total v in let itself : key_word_cmp v v ≡ Less = subst (λ w. key_word_cmp w v ≡ Less) (sym same) less in cc
 ]
 
--- the same first key changes nothing, and between words of one length a lesser first key decides
-pub more_first : (key : Key) (v w : List Key) → word_cmp v w ≡ Less → word_cmp (key ∷ v) (key ∷ w) ≡ Less
+-- the same first key changes nothing, and between key words of one length a lesser first key decides
+pub more_first : (key : Key) (v w : List Key) → key_word_cmp v w ≡ Less → key_word_cmp (key ∷ v) (key ∷ w) ≡ Less
 more_first key v w less = elim (before_cases v w less) [
   | inl shorter ↦ shorter_before (key ∷ v) (key ∷ w) (omega (arith, shorter))
   | inr alike ↦ as_long (key ∷ v) (key ∷ w) (ap suc alike.0) ∙ same_front (key ∷ []) v w ∙ alike.1
 ]
 
-pub first_key : (j k : Key) (v w : List Key) → key_cmp j k ≡ Less → length v ≡ length w → word_cmp (j ∷ v) (k ∷ w) ≡ Less
+pub first_key : (j k : Key) (v w : List Key) → key_cmp j k ≡ Less → length v ≡ length w → key_word_cmp (j ∷ v) (k ∷ w) ≡ Less
 first_key j k v w less same = as_long (j ∷ v) (k ∷ w) (ap suc same) ∙ ap (λ o. ordering_then o (slice_cmp key_cmp v w)) less
 
 pub number_before : (m n : ℕ) → nat_cmp m n ≡ Less → m < n

@@ -1,5 +1,6 @@
--- The definitions that the contracts of this crate cite.
-pub mod Words
-pub mod KeyWord
+-- What a reader must believe
+pub mod KeyWords
+pub mod LeastKeyWord
+-- What serves proofs alone
 pub mod Marks
 pub mod Search

@@ -16,8 +16,8 @@ use Rattle.key_path.specs.declared.marks.Mark.TheVariants.{Unseen, Start, From}
 unfoldable pub mark_at : List Mark → Placement → Mark
 mark_at marks state = slice_index_or marks (state_code state) Unseen
 
-unfoldable pub marked : List Mark → Placement → Mark → List Mark
-marked marks state mark = slice_set marks (state_code state) mark
+unfoldable pub with_mark : List Mark → Placement → Mark → List Mark
+with_mark marks state mark = slice_set marks (state_code state) mark
 
 abbrev pub is_unseen : Mark → Bool
 is_unseen Unseen = true
@@ -26,7 +26,8 @@ is_unseen _ = false
 -- the marks lead back from a state to the start by these keys, the last one first
 abbrev pub Traces : List Mark → Placement → List Key → Type 0
 Traces marks state [] = mark_at marks state ≡ Start
-Traces marks state (key ∷ keys) = (from : Placement) × (mark_at marks state ≡ From from key) × IsPivot from × Traces marks from keys
+Traces marks state (key ∷ keys) =
+    (from : Placement) × (mark_at marks state ≡ From from key) × IsPivot from × Traces marks from keys
 
 -- they do by fewer keys than there are states
 pub record Traced (marks : List Mark) (state : Placement) : Type 0 where
@@ -37,4 +38,5 @@ pub record Traced (marks : List Mark) (state : Placement) : Type 0 where
 -- the state to which an allowed key leads, where it is unseen
 unfoldable pub new_state : Table → Field → DropMode → List Mark → Placement → Key → Option Placement
 new_state table F mode marks state key =
-    if allows mode key then option_and_then (λ next. then_some (is_unseen (mark_at marks next)) next) (step_of table F state key) else None
+    if allows mode key then option_and_then (λ next. then_some (is_unseen (mark_at marks next)) next)
+    (step_of table F state key) else None

@@ -1,4 +1,4 @@
--- What a search for a key word has found, while it goes through states in the order of their least words.
+-- What a search for the least key word has found, while it goes through states in the order of their least key words.
 use Rattle.std.specs.Prelude.{◌≡◌, ◌⊎◌, ℕ, ◌+◌, ◌<◌, ◌≤◌, Bool, true, false, Option, Some, List, [], ◌∷◌, ◌++◌, length, map, reverse, Contains}
 use Rattle.std.specs.List.{count_by}
 use Rattle.std.specs.List.Sorted.{IsStrictlySortedBy}
@@ -16,36 +16,37 @@ use Rattle.moves.specs.States.{state_code}
 use Rattle.moves.specs.Step.{step_of}
 use Rattle.moves.specs.Walk.{Leads}
 use Rattle.key_path.specs.declared.marks.Mark.{Mark}
-use Rattle.key_path.specs.Words.{key_place, word_cmp, NotAfter}
-use Rattle.key_path.specs.KeyWord.{IsKeyWord}
+use Rattle.key_path.specs.KeyWords.{key_place, key_word_cmp, NotAfter}
+use Rattle.key_path.specs.LeastKeyWord.{IsLeastKeyWord}
 use Rattle.key_path.specs.Marks.{mark_at, is_unseen, Traces, Traced}
 
--- a state that was found, and the word by which it was found
+-- a state that was found, and the key word by which it was found
 pub record Item : Type 0 where
   pub state : Placement
   pub word : List Key
 
 abbrev pub item_cmp : Item → Item → Ordering
-item_cmp x y = word_cmp x.word y.word
+item_cmp x y = key_word_cmp x.word y.word
 
--- an item with this state, and with a word that is not after this one
+-- an item with this state, and with a key word that is not after this one
 pub record HasBy (items : List Item) (state : Placement) (word : List Key) : Type 0 where
   pub item : Item
   pub among : Contains items item
   pub is : item.state ≡ state
   pub in_time : NotAfter item.word word
 
--- the state to which one more key leads from an item, with its word
+-- the state to which one more key leads from an item, with its key word
 abbrev pub with_key : Item → Key → Placement → Item
 with_key x key t = record { state = t; word = x.word ++ key ∷ [] }
 
 module _ (next : Placement → Key → Option Placement) (allowed : Key → Bool) (start : Placement) where
   -- each key that is allowed leads from the item to one that was found
   pub record IsClosed (items : List Item) (x : Item) : Type 0 where
-    pub each : (key : Key) (t : Placement) → allowed key ≡ true → next x.state key ≡ Some t → HasBy items t (x.word ++ key ∷ [])
+    pub each : (key : Key) (t : Placement) → allowed key ≡ true → next x.state key ≡ Some t
+        → HasBy items t (x.word ++ key ∷ [])
 
-  -- What was found: items with words that lead to them, the start with no key, and each item is closed or waits. Those that
-  -- wait rise by their words.
+  -- What was found: items with key words that lead to them, the start with no key, and each item is closed or waits.
+  -- Those that wait rise by their key words.
   pub record IsSought (items waiting : List Item) : Type 0 where
     pub reached : (x : Item) → Contains items x → Leads next allowed (Some start) x.state x.word
     pub begins : HasBy items start []
@@ -53,20 +54,25 @@ module _ (next : Placement → Key → Option Placement) (allowed : Key → Bool
     pub among : (x : Item) → Contains waiting x → Contains items x
     pub rising : IsStrictlySortedBy item_cmp waiting
 
-  -- every word that is still to be tried is after those of the items
+  -- every key word that is still to be tried is after those of the items
   pub record IsAhead (items waiting : List Item) : Type 0 where
-    pub ahead : (x y : Item) (word : List Key) (key : Key) → Contains waiting x → NotAfter x.word word → Contains items y → word_cmp y.word (word ++ key ∷ []) ≡ Less
+    pub ahead : (x y : Item) (word : List Key) (key : Key) → Contains waiting x → NotAfter x.word word
+        → Contains items y → key_word_cmp y.word (word ++ key ∷ []) ≡ Less
 
   -- the same where the first keys of an item were tried
   pub record IsPressed (items : List Item) (x : Item) (n : ℕ) : Type 0 where
-    pub tried : (key : Key) (t : Placement) → key_place key < n → allowed key ≡ true → next x.state key ≡ Some t → HasBy items t (x.word ++ key ∷ [])
-    pub ahead : (y : Item) (word : List Key) (key : Key) → Contains items y → (word_cmp x.word word ≡ Less) ⊎ ((x.word ≡ word) × (n ≤ key_place key)) → word_cmp y.word (word ++ key ∷ []) ≡ Less
+    pub tried : (key : Key) (t : Placement) → key_place key < n → allowed key ≡ true → next x.state key ≡ Some t
+        → HasBy items t (x.word ++ key ∷ [])
+    pub ahead : (y : Item) (word : List Key) (key : Key) → Contains items y
+        → (key_word_cmp x.word word ≡ Less) ⊎ ((x.word ≡ word) × (n ≤ key_place key))
+        → key_word_cmp y.word (word ++ key ∷ []) ≡ Less
 
--- each item is marked by the keys of its word, each mark is that of an item, and there are as many marks as items
+-- each item is marked by the keys of its key word, each mark is that of an item, and there are as many marks as items
 pub record IsNoted (marks : List Mark) (items : List Item) : Type 0 where
   pub size : length marks ≡ 920
   pub traces : (x : Item) → Contains items x → Traces marks x.state (reverse x.word)
-  pub seen : (s : Placement) → is_unseen (mark_at marks s) ≡ false → (x : Item) × Contains items x × (state_code x.state ≡ state_code s)
+  pub seen : (s : Placement) → is_unseen (mark_at marks s) ≡ false
+      → (x : Item) × Contains items x × (state_code x.state ≡ state_code s)
   pub counted : count_by is_unseen marks + length items ≡ 920
 
 module _ (table : Table) (F : Field) (mode : DropMode) (target : Placement) where
@@ -94,7 +100,7 @@ module _ (table : Table) (F : Field) (mode : DropMode) (target : Placement) wher
     pub noted : IsNoted marks items
     pub misses : (y : Item) → Contains items y → comes_to_rest F target y.state ≡ false
 
-  -- the marks lead back from a state by the least word
+  -- the marks lead back from a state by the least key word
   pub record IsReached (marks : List Mark) (t : Placement) : Type 0 where
     pub traced : Traced marks t
-    pub least : (traced : Traced marks t) → IsKeyWord table F mode target (Some (reverse traced.keys))
+    pub least : (traced : Traced marks t) → IsLeastKeyWord table F mode target (Some (reverse traced.keys))

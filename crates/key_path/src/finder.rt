@@ -8,7 +8,7 @@ ghost use Rattle.well.specs.Free.{is_free};
 ghost use Rattle.well.specs.Well.{filled};
 ghost use Rattle.moves.specs.Leads.{spawn_of};
 ghost use Rattle.moves.specs.PlaceTest.{comes_to_rest};
-ghost use Rattle.key_path.specs.KeyWord.{IsKeyWord, key_word};
+ghost use Rattle.key_path.specs.LeastKeyWord.{IsLeastKeyWord, least_key_word};
 ghost use Rattle.moves.specs.States.{IsPivot};
 ghost use Rattle.key_path.specs.Marks.{is_unseen, new_state};
 ghost use Rattle.key_path.specs.Search.{IsFinding, IsTrying, IsReached};
@@ -23,13 +23,13 @@ use srs::{Placement, Rules, canonical};
 use std::alloc::Global;
 use well::Well;
 
-/// Keys, the first one first. A least word has fewer than 920 of them, one for each state that it leaves.
+/// Keys, the first one first. A least key word has fewer than 920 of them, one for each state that it leaves.
 pub type KeyWord = ArrayVec<Key, 920>;
 
 /// A finder of least key words, with the memory of its search.
 #[derive(Drop)]
 pub struct Finder {
-    /// States that were reached and from which no key was pressed yet, those of lesser words first.
+    /// States that were reached and from which no key was pressed yet, those of lesser key words first.
     waiting: HeapCircularBuffer<Placement, Global>,
     ghost room: { waiting.capacity ≡ 920 },
 }
@@ -43,9 +43,9 @@ impl Finder {
         }
     }
 
-    /// Of the words of allowed keys that lead from the spawn to a state whose rest has the target's cells, the shortest, and
-    /// among these the least by the order of keys L, R, D, C, A, the first difference deciding. `None` exactly where no word
-    /// leads there.
+    /// Of the key words of allowed keys that lead from the spawn to a state whose rest has the target's cells, the
+    /// shortest, and among these the least by the order of keys L, R, D, C, A, the first difference deciding. `None`
+    /// exactly where no key word leads there.
     #[tactic(auto, using(crate::proofs::KeyWordLemmas::is_key_word))]
     pub fn find(
         &mut self,
@@ -55,13 +55,15 @@ impl Finder {
         drop_mode: DropMode,
     ) -> Option<KeyWord>
         requires { IsTrue (is_inside_of target.now) }
-        ensures least { IsKeyWord (table_of rules.now) (filled well.now) drop_mode target.now (option_map (λ word. word.items) result) }
-        ensures named { option_map (λ word. word.items) result ≡ key_word (table_of rules.now) (filled well.now) drop_mode target.now }
+        ensures least { IsLeastKeyWord (table_of rules.now) (filled well.now) drop_mode target.now
+            (option_map (λ word. word.items) result) }
+        ensures named { option_map (λ word. word.items) result
+            ≡ least_key_word (table_of rules.now) (filled well.now) drop_mode target.now }
     {
         self.least_word(well, rules, target, drop_mode)
     }
 
-    /// The least word that leads to the target's cells.
+    /// The least key word that leads to the target's cells.
     fn least_word(
         &mut self,
         well: &Well,
@@ -70,7 +72,8 @@ impl Finder {
         drop_mode: DropMode,
     ) -> Option<KeyWord>
         requires { IsTrue (is_inside_of target.now) }
-        ensures { IsKeyWord (table_of rules.now) (filled well.now) drop_mode target.now (option_map (λ word. word.items) result) }
+        ensures { IsLeastKeyWord (table_of rules.now) (filled well.now) drop_mode target.now
+            (option_map (λ word. word.items) result) }
     {
         let start = spawn(target.piece);
         if !well.is_free(&start) {
@@ -83,8 +86,8 @@ impl Finder {
         self.word_from(well, rules, &aim, drop_mode)
     }
 
-    /// The least word that leads from the spawn to a canonical placement, where at least one key is needed: the states are
-    /// gone through in the order of their least words.
+    /// The least key word that leads from the spawn to a canonical placement, where at least one key is needed: the
+    /// states are gone through in the order of their least key words.
     fn word_from(
         &mut self,
         well: &Well,
@@ -95,7 +98,8 @@ impl Finder {
         requires free { IsTrue (is_free (filled well.now) (spawn_of aim.now.piece)) }
         requires canonical { IsCanonical aim.now }
         requires elsewhere { comes_to_rest (filled well.now) aim.now (spawn_of aim.now.piece) ≡ false }
-        ensures { IsKeyWord (table_of rules.now) (filled well.now) drop_mode aim.now (option_map (λ word. word.items) result) }
+        ensures { IsLeastKeyWord (table_of rules.now) (filled well.now) drop_mode aim.now
+            (option_map (λ word. word.items) result) }
     {
         let start = spawn(aim.piece);
         let mut marks = Marks::new();
@@ -111,8 +115,8 @@ impl Finder {
         None
     }
 
-    /// Presses each allowed key in a state. New states are marked and wait, up to the first that comes to rest on the aim, which
-    /// is answered.
+    /// Presses each allowed key in a state. New states are marked and wait, up to the first that comes to rest on the
+    /// aim, which is answered.
     fn press_keys(
         &mut self,
         marks: &mut Marks,
@@ -124,11 +128,14 @@ impl Finder {
     ) -> Option<Placement>
         requires free { IsTrue (is_free (filled well.now) (spawn_of aim.now.piece)) }
         requires canonical { IsCanonical aim.now }
-        requires trying { IsTrying (table_of rules.now) (filled well.now) drop_mode aim.now marks.old.marks self.old.waiting.items state.now 0 }
+        requires trying { IsTrying (table_of rules.now)
+            (filled well.now) drop_mode aim.now marks.old.marks self.old.waiting.items state.now 0 }
         ensures { MatchOption result
             (IsFinding (table_of rules.now) (filled well.now) drop_mode aim.now marks.new.marks self.new.waiting.items
-            × (count_by is_unseen marks.new.marks + length self.new.waiting.items ≡ count_by is_unseen marks.old.marks + length self.old.waiting.items))
-            (λ reached. IsPivot reached × IsReached (table_of rules.now) (filled well.now) drop_mode aim.now marks.new.marks reached) }
+            × (count_by is_unseen marks.new.marks + length self.new.waiting.items
+            ≡ count_by is_unseen marks.old.marks + length self.old.waiting.items))
+            (λ reached. IsPivot reached × IsReached (table_of rules.now)
+            (filled well.now) drop_mode aim.now marks.new.marks reached) }
     {
         for key in Key::ALL {
             let Some(next) = new_state(well, rules, drop_mode, marks, state, key) else {
@@ -144,7 +151,7 @@ impl Finder {
     }
 }
 
-/// The state to which an allowed key leads, where no word led to it before.
+/// The state to which an allowed key leads, where no key word led to it before.
 fn new_state(
     well: &Well,
     rules: &Rules,

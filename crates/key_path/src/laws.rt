@@ -7,29 +7,33 @@ ghost use Rattle.srs.specs.Kick.{Table};
 ghost use Rattle.moves.specs.declared.key.DropMode.{DropMode};
 ghost use Rattle.moves.specs.declared.key.Key.{Key};
 ghost use Rattle.moves.specs.Place.{IsPlace};
-ghost use Rattle.key_path.specs.KeyWord.{IsKeyWord, key_word};
-ghost use Rattle.key_path.specs.Words.{word_cmp};
+ghost use Rattle.key_path.specs.LeastKeyWord.{IsLeastKeyWord, least_key_word};
+ghost use Rattle.key_path.specs.KeyWords.{key_word_cmp};
 
 use std::cmp::Ordering;
 
-/// The order of words is total, and Equal only of equal words.
+/// The order of key words is total, and Equal only of equal key words.
 pub fn words_are_ordered()
-    ensures total { IsTotalOrder word_cmp }
-    ensures equal { (word other : List Key) → word_cmp word other ≡ Ordering.Equal → word ≡ other }
+    ensures total { IsTotalOrder key_word_cmp }
+    ensures equal { (word other : List Key) → key_word_cmp word other ≡ Ordering.Equal → word ≡ other }
 {}
 
-/// A placement has one key word, or none: the one that `key_word` names.
+/// A placement has one key word, or none: the one that `least_key_word` names.
 pub fn key_words_are_found()
-    ensures one { (table : Table) (F : Field) (mode : DropMode) (target : Placement) → IsKeyWord table F mode target (key_word table F mode target) }
-    ensures no_other { (table : Table) (F : Field) (mode : DropMode) (target : Placement) (word : Option (List Key)) → IsKeyWord table F mode target word → word ≡ key_word table F mode target }
+    ensures one { (table : Table) (F : Field) (mode : DropMode) (target : Placement) →
+        IsLeastKeyWord table F mode target (least_key_word table F mode target) }
+    ensures no_other { (table : Table) (F : Field) (mode : DropMode) (target : Placement) (word : Option (List Key)) →
+        IsLeastKeyWord table F mode target word → word ≡ least_key_word table F mode target }
 {}
 
-/// A least word has fewer keys than a piece has states.
+/// A least key word has fewer keys than a piece has states.
 pub fn key_words_are_short()
-    ensures { (table : Table) (F : Field) (mode : DropMode) (target : Placement) (word : List Key) → IsKeyWord table F mode target (Some word) → length word < 920 }
+    ensures { (table : Table) (F : Field) (mode : DropMode) (target : Placement) (word : List Key) →
+        IsLeastKeyWord table F mode target (Some word) → length word < 920 }
 {}
 
 /// Each placement that legal keys reach has a key word.
 pub fn places_have_key_words()
-    ensures { (table : Table) (F : Field) (mode : DropMode) (placement : Placement) → IsPlace table F mode placement → IsTrue (is_some (key_word table F mode placement)) }
+    ensures { (table : Table) (F : Field) (mode : DropMode) (placement : Placement) → IsPlace table F mode placement →
+        IsTrue (is_some (least_key_word table F mode placement)) }
 {}

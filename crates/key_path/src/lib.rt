@@ -1,4 +1,4 @@
-// Least key words: the fewest keys, and the least word of them, that lead a piece to a placement.
+// Least key words: the fewest keys, and the least key word of them, that lead a piece to a placement.
 #![tactic(auto)]
 
 mod aim;

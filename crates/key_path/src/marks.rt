@@ -1,7 +1,7 @@
 // How each state of a piece was first reached.
 ghost use Rattle.std.specs.Prelude.{◌≡◌, ◌≤◌, ◌<◌, List, length, reverse, replicate};
 ghost use Rattle.moves.specs.States.{IsPivot, state_code};
-ghost use Rattle.key_path.specs.Marks.{mark_at, marked, is_unseen, Traced};
+ghost use Rattle.key_path.specs.Marks.{mark_at, with_mark, is_unseen, Traced};
 
 use crate::finder::KeyWord;
 use moves::Key;
@@ -46,7 +46,7 @@ impl Marks {
     }
 
     /// The mark of a state.
-    #[tactic(auto, using(moves::proofs::StateLemmas::code_below), unfolding(crate::specs::Marks::mark_at))]
+    #[tactic(auto, using(moves::proofs::CallerLemmas::code_below), unfolding(crate::specs::Marks::mark_at))]
     fn at(&self, state: &Placement) -> Mark
         requires { IsPivot state.now }
         ensures { result ≡ mark_at self.now.marks state.now }
@@ -55,10 +55,10 @@ impl Marks {
     }
 
     /// Marks a state.
-    #[tactic(auto, using(moves::proofs::StateLemmas::code_below), unfolding(crate::specs::Marks::marked))]
+    #[tactic(auto, using(moves::proofs::CallerLemmas::code_below), unfolding(crate::specs::Marks::with_mark))]
     pub(crate) fn set(&mut self, state: &Placement, mark: Mark)
         requires { IsPivot state.now }
-        ensures { self.new.marks ≡ marked self.old.marks state.now mark }
+        ensures { self.new.marks ≡ with_mark self.old.marks state.now mark }
     {
         self.marks[code(state)] = mark;
     }

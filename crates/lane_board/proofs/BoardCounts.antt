@@ -4,16 +4,16 @@ use Rattle.std.specs.Simd.Lanes.{chunk}
 use Rattle.std.proofs.lemmas.List.{get_or-drop, length-drop}
 use Rattle.std.proofs.lemmas.List.Sums.{sum_by_more}
 use Rattle.lane_board.specs.CellCount.{cell_count}
-use Rattle.lane_board.specs.Lanes.{cells_in}
+use Rattle.lane_board.specs.Lanes.{cells_of_bits}
 use Rattle.lane_board.proofs.RowTables.{row_count_is}
 
 -- the cells of k more rows
 cell_count-more : (rows : List ℕ) (at k : ℕ) → ((y : ℕ) → get_or rows y 0 < 1024) → at + k ≤ length rows →
-    cell_count (cells_in rows) (at + k) ≡ cell_count (cells_in rows) at + sum_by count_ones (take k (drop at rows))
+    cell_count (cells_of_bits rows) (at + k) ≡ cell_count (cells_of_bits rows) at + sum_by count_ones (take k (drop at rows))
 unfolding cell_count
-cell_count-more rows at zero small within = ap (cell_count (cells_in rows)) {y = at} (omega arith) ∙ omega arith
+cell_count-more rows at zero small within = ap (cell_count (cells_of_bits rows)) {y = at} (omega arith) ∙ omega arith
 cell_count-more rows at (suc k) small within =
-    ap (cell_count (cells_in rows)) {y = suc (at + k)} (omega arith)
+    ap (cell_count (cells_of_bits rows)) {y = suc (at + k)} (omega arith)
     ∙ omega (
       arith,
       cell_count-more rows at k small (omega arith),
@@ -25,5 +25,5 @@ cell_count-more rows at (suc k) small within =
 
 -- the cells of eight more rows
 pub cell_count-eight : (rows : List ℕ) (at : ℕ) → ((y : ℕ) → get_or rows y 0 < 1024) → at + 8 ≤ length rows →
-    cell_count (cells_in rows) (at + 8) ≡ cell_count (cells_in rows) at + sum_by count_ones (chunk at 8 rows)
+    cell_count (cells_of_bits rows) (at + 8) ≡ cell_count (cells_of_bits rows) at + sum_by count_ones (chunk at 8 rows)
 cell_count-eight rows at small within = cell_count-more rows at 8 small within

@@ -6,7 +6,7 @@ use Rattle.std.proofs.lemmas.List.{get_or_past}
 use Rattle.std.proofs.lemmas.Simd.{get_or-put_chunk_above, length-put_chunk}
 use Rattle.std.proofs.lemmas.Bool.{cases_lt, agree_below_at, and_left, and_right, lt-ltb, le-ltb}
 use Rattle.lane_board.specs.Field.{intersection, rows_below}
-use Rattle.lane_board.specs.Lanes.{has_bit, cells_in}
+use Rattle.lane_board.specs.Lanes.{has_bit, cells_of_bits}
 use Rattle.lane_board.proofs.CellTests.{and_true}
 use Rattle.lane_board.proofs.EightRows.{written_more, loaded}
 use Rattle.lane_board.proofs.RowBits.{has_bit-zero, has_bit-above}
@@ -20,8 +20,8 @@ full_row_bits x = elim (cases_lt x 10) [
 ]
 
 pub filled_below : (height end : ℕ) (rows : List ℕ) → end ≡ height → ((y : ℕ) → y < end → get_or rows y 0 ≡ 1023) → ((y : ℕ) → end ≤ y → get_or rows y 0 ≡ 0) →
-    cells_in rows ≡ rows_below height
-unfolding cells_in rows_below
+    cells_of_bits rows ≡ rows_below height
+unfolding cells_of_bits rows_below
 filled_below height end rows end_is filled empty = fun_ext (λ x. fun_ext (λ y. elim (cases_lt y end) [
   | inl below ↦
       ap (λ row. has_bit row x) (filled y below)
@@ -46,8 +46,8 @@ copied_more size at next xs rows lanes written next_is within lanes_are eight wr
 }
 
 pub copied_all : (n m end : ℕ) (xs rows : List ℕ) → end ≡ min n m → length xs ≡ n → ((z : ℕ) → get_or xs z 0 < 1024) → IsCopiedBelow xs rows m end →
-    cells_in rows ≡ intersection (cells_in xs) (rows_below m)
-unfolding intersection rows_below cells_in
+    cells_of_bits rows ≡ intersection (cells_of_bits xs) (rows_below m)
+unfolding intersection rows_below cells_of_bits
 copied_all n m end xs rows end_is size small all = fun_ext (λ x. fun_ext (λ y. elim (cases_lt y end) [
   | inl below ↦
       ap (λ row. has_bit row x) (all.copied y below)

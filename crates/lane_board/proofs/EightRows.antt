@@ -1,12 +1,13 @@
 -- Rows taken eight at a time: what a load, an operator and a store do to each row.
-use Rattle.std.proofs.Common.{◌≡◌, ℕ, zero, suc, ◌+◌, ◌-◌, ◌*◌, ◌/◌, ◌%◌, ◌^◌, ◌<◌, ◌≤◌, ◌↔◌, Bool, true, false, not, cond, eqb, map, w16, count_ones, sum_by, replicate, List, [], ◌∷◌, length, get_or, refl, ap, ap₂, ◌∙◌, sym, inl, inr, arith}
-use Rattle.std.specs.Simd.Lanes.{chunk, put_chunk, zip2, mask_l, top, fold_l}
-use Rattle.std.proofs.lemmas.List.{get_or_past, get_or-map}
+use Rattle.std.proofs.Common.{◌≡◌, ℕ, zero, suc, ◌+◌, ◌-◌, ◌*◌, ◌/◌, ◌%◌, ◌^◌, ◌<◌, ◌≤◌, ◌↔◌, Bool, true, false, not, cond, eqb, map, w16, count_ones, sum_by, replicate, List, [], ◌∷◌, ◌++◌, length, get_or, refl, ap, ap₂, ◌∙◌, sym, inl, inr, arith}
+use Rattle.std.specs.Simd.Lanes.{chunk, put_chunk, zip2, mask_l, top, fold_l, pick_l}
+use Rattle.std.specs.List.{range_with_len}
+use Rattle.std.proofs.lemmas.List.{get_or_past, get_or-map, get_or_append_left, get_or-append_right, length-append}
 use Rattle.std.proofs.lemmas.List.Sums.{sum_by-cons}
 use Rattle.std.proofs.lemmas.Nat.{ones-le}
 use Rattle.std.proofs.lemmas.Bool.{cases_lt, cases_Bool, eqb-true, eq-eqb, not_from_true, not-false}
 use Rattle.std.proofs.lemmas.Nat.Bits.{bit_at-zero}
-use Rattle.std.proofs.lemmas.Simd.{get_or-chunk, get_or-put_chunk_below, get_or-put_chunk_at, get_or-zip2, length-zip2, bit_mask_l, mask_l-mod, tops_compared, bitmask_splat}
+use Rattle.std.proofs.lemmas.Simd.{pick_l-range_with_len, get_or-chunk, get_or-put_chunk_below, get_or-put_chunk_at, get_or-zip2, length-zip2, bit_mask_l, mask_l-mod, tops_compared, bitmask_splat}
 use Rattle.lane_board.specs.Lanes.{has_bit}
 
 -- an operator with what another makes of the same lanes
@@ -132,3 +133,16 @@ pub count_lanes : (at : ℕ) (rows lanes : List ℕ) → ((k : ℕ) → get_or r
 count_lanes at rows lanes small lanes_are eight =
     fold_ones 0 lanes (λ k. loaded_small at k rows lanes small lanes_are eight) (omega (arith, eight))
     ∙ omega (arith, ap (sum_by count_ones) lanes_are)
+
+-- eight of sixteen rows
+pub eight_of : (from n : ℕ) (low high result : List ℕ) → length low ≡ 8 → length high ≡ 8 → n ≤ 8 → result ≡ pick_l 0 (low ++ high) (range_with_len n 8) → from ≡ n → (k : ℕ) → k < 8 → get_or result k 0 ≡ get_or (low ++ high) (from + k) 0
+eight_of from n low high result is_low is_high small is e k below =
+    loaded n k (low ++ high) result (is ∙ pick_l-range_with_len 0 (low ++ high) n 8 (omega (arith, length-append low high))) below ∙ ap (λ m. get_or (low ++ high) (m + k) 0) (sym e)
+
+pub low_eight : (from : ℕ) (low high result : List ℕ) → length low ≡ 8 → result ≡ low → from ≡ 0 → (k : ℕ) → k < 8 → get_or result k 0 ≡ get_or (low ++ high) (from + k) 0
+low_eight from low high result is_low is e k below =
+    ap (λ l. get_or l k 0) is ∙ sym (get_or_append_left low high 0 k (omega arith)) ∙ ap (λ m. get_or (low ++ high) m 0) {x = k} {y = from + k} (omega arith)
+
+pub high_eight : (from : ℕ) (low high result : List ℕ) → length low ≡ 8 → result ≡ high → from ≡ 8 → (k : ℕ) → k < 8 → get_or result k 0 ≡ get_or (low ++ high) (from + k) 0
+high_eight from low high result is_low is e k below =
+    ap (λ l. get_or l k 0) is ∙ ap (λ m. get_or high m 0) {x = k} {y = from + k - 8} (omega arith) ∙ sym (get_or-append_right low high 8 (from + k) 0 is_low (omega arith))

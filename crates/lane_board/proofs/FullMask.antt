@@ -7,7 +7,7 @@ use Rattle.std.proofs.lemmas.List.{get_or_past}
 use Rattle.std.proofs.lemmas.Nat.{shl_whole, shl_below, shr_split, shr_below, ones_cat, or_lt, mod_below, pow_pos, pow_below}
 use Rattle.lane_board.specs.Field.{Field}
 use Rattle.lane_board.specs.FullRows.{is_full, full_below}
-use Rattle.lane_board.specs.Lanes.{has_bit, cells_in}
+use Rattle.lane_board.specs.Lanes.{has_bit, cells_of_bits}
 use Rattle.lane_board.proofs.CellTests.{or_none}
 use Rattle.lane_board.proofs.RowBits.{has_bit-or, has_bit-shifted_low, has_bit-shifted_high, has_bit-past, has_bit-low}
 use Rattle.lane_board.proofs.RowTables.{is_full_row}
@@ -64,10 +64,10 @@ ones_full F (suc n) mask small told =
 -- once all rows are seen, the bits tell which rows are full, and how many
 pub mask_tells : (rows : List ℕ) (n seen mask : ℕ) → seen ≡ n → length rows ≡ n → ((y : ℕ) → get_or rows y 0 < 1024) → mask < 2 ^ seen →
     ((y : ℕ) → y < seen → has_bit mask y ≡ (get_or rows y 0 == 1023)) →
-    (has_bit mask ≡ is_full (cells_in rows)) × (count_ones mask ≡ full_below (cells_in rows) n)
-mask_tells rows n seen mask all size small below told = (fun_ext bit, ones_full (cells_in rows) seen mask below (λ y _. bit y) ∙ ap (full_below (cells_in rows)) all)
+    (has_bit mask ≡ is_full (cells_of_bits rows)) × (count_ones mask ≡ full_below (cells_of_bits rows) n)
+mask_tells rows n seen mask all size small below told = (fun_ext bit, ones_full (cells_of_bits rows) seen mask below (λ y _. bit y) ∙ ap (full_below (cells_of_bits rows)) all)
   where
-    bit : (y : ℕ) → has_bit mask y ≡ is_full (cells_in rows) y
+    bit : (y : ℕ) → has_bit mask y ≡ is_full (cells_of_bits rows) y
     bit y = elim (cases_lt y seen) [
       | inl within ↦ told y within ∙ sym (is_full_row rows y (small y))
       | inr past ↦

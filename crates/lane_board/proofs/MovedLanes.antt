@@ -1,9 +1,9 @@
 -- Eight rows moved by columns, as shifts of each lane.
-use Rattle.std.proofs.Common.{◌≡◌, ℕ, zero, suc, ◌+◌, ◌-◌, ◌*◌, ◌/◌, ◌%◌, ◌^◌, ◌<◌, ◌≤◌, ℤ, pos, negsuc, ◌+ℤ◌, ◌-ℤ◌, bit_and, List, length, get_or, map, replicate, ap, ◌∙◌, sym, inl, inr, arith}
+use Rattle.std.proofs.Common.{◌≡◌, ℕ, zero, suc, ◌+◌, ◌-◌, ◌*◌, ◌/◌, ◌%◌, ◌^◌, ◌<◌, ◌≤◌, ℤ, pos, negsuc, ◌+ℤ◌, ◌-ℤ◌, bit_and, List, ◌++◌, length, get_or, map, replicate, ap, ◌∙◌, sym, inl, inr, arith}
 use Rattle.std.proofs.Math.Path.{fun_ext}
 use Rattle.std.specs.Simd.Lanes.{chunk, put_chunk, zip2}
 use Rattle.std.proofs.lemmas.Bool.{cases_lt}
-use Rattle.std.proofs.lemmas.List.{length-map, get_or-map, get_or_past}
+use Rattle.std.proofs.lemmas.List.{length-map, get_or-map, get_or_past, get_or_append_left, get_or-append_right}
 use Rattle.std.proofs.lemmas.Int.{ints}
 use Rattle.std.proofs.lemmas.Nat.{and_mask}
 use Rattle.std.proofs.lemmas.Simd.{zip2_splat, map-map, get_or-put_chunk_above}
@@ -83,14 +83,46 @@ framed_all dx n end rows framed size end_is all z = elim (cases_lt z end) [
       ∙ sym (ap (λ y. moved_row dx (row_at rows y)) past)
 ]
 
--- eight rows from row `at + 1` on, moved by columns: seven of these eight and the first of the next
-pub lane_lowered : (dx : ℤ) (at : ℕ) (rows lanes next above moved : List ℕ) → lanes ≡ chunk at 8 rows → get_or next 0 0 ≡ get_or rows (at + 8) 0 →
-    ((k : ℕ) → k < 7 → get_or above k 0 ≡ get_or lanes (k + 1) 0) → get_or above 7 0 ≡ get_or next 0 0 → length above ≡ 8 → moved ≡ map (moved_row dx) above →
-    (k : ℕ) → k < 8 → get_or moved k 0 ≡ moved_row dx (get_or rows (at + k + 1) 0)
-lane_lowered dx at rows lanes next above moved lanes_are next_is seven last eight moved_is k below =
-    ap (λ l. get_or l k 0) moved_is
-    ∙ get_or-map (moved_row dx) above k 0 0 (omega (arith, eight))
-    ∙ ap (moved_row dx) (elim (cases_lt k 7) [
-      | inl one_of_seven ↦ seven k one_of_seven ∙ loaded at (k + 1) rows lanes lanes_are (omega arith) ∙ ap (λ j. get_or rows j 0) (omega arith)
-      | inr at_last ↦ ap (λ j. get_or above j 0) {y = 7} (omega arith) ∙ last ∙ next_is ∙ ap (λ j. get_or rows j 0) (omega arith)
-    ])
+-- eight rows that lie so many rows higher: of these eight and the next
+pub eight_higher : (at up : ℕ) (dy : ℤ) (rows lanes next result : List ℕ) → pos up +ℤ dy ≡ pos 0 → up ≤ 8 → length lanes ≡ 8 → lanes ≡ chunk at 8 rows → ((k : ℕ) → k < 8 → get_or next k 0 ≡ get_or rows (at + 8 + k) 0) →
+    ((k : ℕ) → k < 8 → get_or result k 0 ≡ get_or (lanes ++ next) (up + k) 0) → (k : ℕ) → k < 8 → get_or result k 0 ≡ row_at rows (pos (at + k) -ℤ dy)
+unfolding row_at
+eight_higher at up dy rows lanes next result opposite small eight lanes_are next_is joined k below =
+    let there : pos (at + k) -ℤ dy ≡ pos (at + (up + k)) = omega (arith, ints) in
+    joined k below ∙ elim (cases_lt (up + k) 8) [
+      | inl here ↦ get_or_append_left lanes next 0 (up + k) (omega (arith, eight)) ∙ loaded at (up + k) rows lanes lanes_are here
+      | inr past ↦ get_or-append_right lanes next 8 (up + k) 0 eight past ∙ next_is (up + k - 8) (omega arith) ∙ ap (λ j. get_or rows j 0) {x = at + 8 + (up + k - 8)} {y = at + (up + k)} (omega arith)
+    ] ∙ ap (row_at rows) (sym there)
+
+-- and so many rows lower: of the eight before and these
+pub eight_lower : (at from : ℕ) (dy : ℤ) (rows before lanes result : List ℕ) → pos from +ℤ dy ≡ pos 8 → from ≤ 8 → length before ≡ 8 → length lanes ≡ 8 → lanes ≡ chunk at 8 rows → ((k : ℕ) → k < 8 → get_or before k 0 ≡ row_at rows (pos (at + k) -ℤ pos 8)) →
+    ((k : ℕ) → k < 8 → get_or result k 0 ≡ get_or (before ++ lanes) (from + k) 0) → (k : ℕ) → k < 8 → get_or result k 0 ≡ row_at rows (pos (at + k) -ℤ dy)
+unfolding row_at
+eight_lower at from dy rows before lanes result dy_is small eight_before eight lanes_are before_is joined k below =
+    joined k below ∙ elim (cases_lt (from + k) 8) [
+      | inl early ↦
+          let there : pos (at + (from + k)) -ℤ pos 8 ≡ pos (at + k) -ℤ dy = omega (arith, ints) in
+          get_or_append_left before lanes 0 (from + k) (omega (arith, eight_before)) ∙ before_is (from + k) early ∙ ap (row_at rows) there
+      | inr late ↦
+          let there : pos (at + (from + k - 8)) ≡ pos (at + k) -ℤ dy = omega (arith, ints) in
+          get_or-append_right before lanes 8 (from + k) 0 eight_before late ∙ loaded at (from + k - 8) rows lanes lanes_are (omega arith) ∙ ap (row_at rows) there
+    ]
+
+-- the eight rows before row `at`, or none below the board
+pub none_before : (at k : ℕ) (rows : List ℕ) → at ≡ 0 → k < 8 → get_or (replicate 8 0) k 0 ≡ row_at rows (pos (at + k) -ℤ pos 8)
+unfolding row_at
+none_before at k rows first below =
+    let under : pos (at + k) -ℤ pos 8 ≡ negsuc (7 - k) = omega (arith, ints) in
+    zero_at 8 k ∙ sym (ap (row_at rows) under)
+
+pub eight_before : (at k : ℕ) (rows lanes : List ℕ) → 8 ≤ at → lanes ≡ chunk (at - 8) 8 rows → k < 8 → get_or lanes k 0 ≡ row_at rows (pos (at + k) -ℤ pos 8)
+unfolding row_at
+eight_before at k rows lanes some lanes_are below =
+    let there : pos (at - 8 + k) ≡ pos (at + k) -ℤ pos 8 = omega (arith, ints) in
+    loaded (at - 8) k rows lanes lanes_are below ∙ ap (row_at rows) there
+
+-- eight rows moved by columns
+pub lane_near : (dx dy : ℤ) (at : ℕ) (rows lanes moved : List ℕ) → ((k : ℕ) → k < 8 → get_or lanes k 0 ≡ row_at rows (pos (at + k) -ℤ dy)) → length lanes ≡ 8 → moved ≡ map (moved_row dx) lanes → (k : ℕ) → k < 8 →
+    get_or moved k 0 ≡ moved_row dx (row_at rows (pos (at + k) -ℤ dy))
+lane_near dx dy at rows lanes moved lanes_are eight moved_is k below =
+    ap (λ l. get_or l k 0) moved_is ∙ get_or-map (moved_row dx) lanes k 0 0 (omega (arith, eight)) ∙ ap (moved_row dx) (lanes_are k below)

@@ -5,7 +5,7 @@ use Rattle.std.proofs.lemmas.Bool.{cases_lt, and_left, and_right, le-ltb, lt-ltb
 use Rattle.std.proofs.lemmas.Int.{ints}
 use Rattle.std.proofs.lemmas.Nat.{mod_below, shr_le}
 use Rattle.lane_board.specs.Field.{has_cell, rows_below, moved_within}
-use Rattle.lane_board.specs.Lanes.{has_bit, cells_in, moved_row, row_at}
+use Rattle.lane_board.specs.Lanes.{has_bit, cells_of_bits, moved_row, row_at}
 use Rattle.lane_board.proofs.BoardRows.{no_cell_above, each_in_columns}
 use Rattle.lane_board.proofs.CellTests.{and_true}
 use Rattle.lane_board.proofs.RowBits.{has_bit-zero, has_bit-above, has_bit-low, has_bit-shifted_low, has_bit-shifted_high, has_bit-shifted_right}
@@ -49,8 +49,8 @@ column_moved dx row x small = elim (cases_lt x 10) [
 ]
 
 -- a cell by its row and its column
-cell_at : (rows : List ℕ) (x y : ℤ) → has_cell (cells_in rows) x y ≡ column_at (row_at rows y) x
-unfolding has_cell cells_in column_at row_at
+cell_at : (rows : List ℕ) (x y : ℤ) → has_cell (cells_of_bits rows) x y ≡ column_at (row_at rows y) x
+unfolding has_cell cells_of_bits column_at row_at
 cell_at rows (pos x) (pos y) = refl
 cell_at rows (pos x) (negsuc y) = sym (has_bit-zero x)
 cell_at rows (negsuc x) y = refl
@@ -63,14 +63,14 @@ row_at-small rows (negsuc y) small = omega arith
 -- a board each of whose rows is the moved row of another board, so many rows further down
 pub moved_cells : (dx dy : ℤ) (n : ℕ) (xs rows : List ℕ) → length rows ≡ n → ((z : ℕ) → get_or xs z 0 < 1024) →
     ((y : ℕ) → y < n → get_or rows y 0 ≡ moved_row dx (row_at xs (pos y -ℤ dy))) →
-    cells_in rows ≡ moved_within (cells_in xs) n dx dy
-unfolding moved_within rows_below cells_in
+    cells_of_bits rows ≡ moved_within (cells_of_bits xs) n dx dy
+unfolding moved_within rows_below cells_of_bits
 moved_cells dx dy n xs rows size small moved = fun_ext (λ x. fun_ext (λ y. elim (cases_lt y n) [
   | inl below ↦
       ap (λ row. has_bit row x) (moved y below)
       ∙ column_moved dx (row_at xs (pos y -ℤ dy)) x (row_at-small xs (pos y -ℤ dy) small)
       ∙ ap (λ b. nat_lt x 10 && b) (sym (cell_at xs (pos x -ℤ dx) (pos y -ℤ dy)))
-      ∙ sym (ap (λ b. (nat_lt x 10 && b) && has_cell (cells_in xs) (pos x -ℤ dx) (pos y -ℤ dy)) (lt-ltb y n below) ∙ ap (λ b. b && has_cell (cells_in xs) (pos x -ℤ dx) (pos y -ℤ dy)) (and_true (nat_lt x 10) true refl))
+      ∙ sym (ap (λ b. (nat_lt x 10 && b) && has_cell (cells_of_bits xs) (pos x -ℤ dx) (pos y -ℤ dy)) (lt-ltb y n below) ∙ ap (λ b. b && has_cell (cells_of_bits xs) (pos x -ℤ dx) (pos y -ℤ dy)) (and_true (nat_lt x 10) true refl))
   | inr above ↦
       no_cell_above n x y rows size above
       ∙ sym (and_left _ _ (and_right (nat_lt x 10) (nat_lt y n) (le-ltb y n above)))

@@ -5,15 +5,15 @@ use Rattle.std.proofs.lemmas.Bool.{cases_eq, eq-eqb, ne_eqb}
 use Rattle.std.proofs.lemmas.List.{get_or-set_same, get_or-set_other, length-set, length-replicate}
 use Rattle.lane_board.specs.Field.{Field, empty_field}
 use Rattle.lane_board.specs.FullRows.{is_full, full_below, without_full_rows}
-use Rattle.lane_board.specs.Lanes.{has_bit, cells_in}
+use Rattle.lane_board.specs.Lanes.{has_bit, cells_of_bits}
 use Rattle.lane_board.proofs.Removal.{full_below-full, full_below-other, without_full_rows-full, row_left, rows_left}
 use Rattle.lane_board.proofs.BoardRows.{in_columns-set, cells_in-zeros, zero_at}
 use Rattle.lane_board.proofs.RowTables.{is_full_row}
 
 -- the rows that are left of the first y, of which `kept` are copied so far
 pub record IsCopied (from rows : List ℕ) (kept y : ℕ) : Type 0 where
-  pub counted : kept + full_below (cells_in from) y ≡ y
-  pub cells : cells_in rows ≡ without_full_rows (cells_in from) y
+  pub counted : kept + full_below (cells_of_bits from) y ≡ y
+  pub cells : cells_of_bits rows ≡ without_full_rows (cells_of_bits from) y
   pub small : (z : ℕ) → get_or rows z 0 < 1024
   pub size : length rows ≡ length from
 
@@ -31,39 +31,39 @@ pub copied_full : (from rows left : List ℕ) (kept more y next : ℕ) → next 
     IsCopied from rows kept y → IsCopied from left more next
 copied_full from rows left kept more y next next_is left_is more_is small full so_far =
     subst₃ (IsCopied from) (sym left_is) (sym more_is) (sym next_is) (subst (IsCopied from rows kept) {x = suc y} (omega arith) (record {
-      counted = omega (arith, so_far.counted, full_below-full (cells_in from) y is_full_here);
-      cells = so_far.cells ∙ sym (without_full_rows-full (cells_in from) y is_full_here);
+      counted = omega (arith, so_far.counted, full_below-full (cells_of_bits from) y is_full_here);
+      cells = so_far.cells ∙ sym (without_full_rows-full (cells_of_bits from) y is_full_here);
       small = so_far.small;
       size = so_far.size;
     }))
   where
-    is_full_here : is_full (cells_in from) y ≡ true
+    is_full_here : is_full (cells_of_bits from) y ≡ true
     is_full_here = is_full_row from y small ∙ eq-eqb _ _ full
 
 -- any other row is copied
 pub copied_row : (from rows written : List ℕ) (kept more y next : ℕ) → next ≡ y + 1 → written ≡ set rows kept (get_or from y 0) → more ≡ kept + 1 →
     y < length from → get_or from y 0 < 1024 → get_or from y 0 ≢ 1023 → IsCopied from rows kept y → IsCopied from written more next
-unfolding cells_in
+unfolding cells_of_bits
 copied_row from rows written kept more y next next_is written_is more_is within small other so_far =
     subst₃ (IsCopied from) (sym written_is) (sym more_is) (sym next_is) (subst (IsCopied from (set rows kept (get_or from y 0)) (kept + 1)) {x = suc y} (omega arith) (record {
-      counted = omega (arith, so_far.counted, full_below-other (cells_in from) y stays);
+      counted = omega (arith, so_far.counted, full_below-other (cells_of_bits from) y stays);
       cells = fun_ext (λ x. fun_ext (λ z. cell x z));
       small = in_columns-set rows kept (get_or from y 0) so_far.small small;
       size = length-set rows kept (get_or from y 0) ∙ so_far.size;
     }))
   where
-    stays : is_full (cells_in from) y ≡ false
+    stays : is_full (cells_of_bits from) y ≡ false
     stays = is_full_row from y small ∙ ne_eqb _ _ other
 
-    cell : (x z : ℕ) → cells_in (set rows kept (get_or from y 0)) x z ≡ without_full_rows (cells_in from) (suc y) x z
+    cell : (x z : ℕ) → cells_of_bits (set rows kept (get_or from y 0)) x z ≡ without_full_rows (cells_of_bits from) (suc y) x z
     cell x z = elim (cases_eq z kept) [
       | inl same ↦
           ap (λ k. has_bit (get_or (set rows kept (get_or from y 0)) k 0) x) same
           ∙ ap (λ row. has_bit row x) (get_or-set_same rows kept (get_or from y 0) 0 (omega (arith, so_far.counted, so_far.size)))
-          ∙ sym (row_left (cells_in from) y kept x stays so_far.counted)
-          ∙ ap (without_full_rows (cells_in from) (suc y) x) (sym same)
+          ∙ sym (row_left (cells_of_bits from) y kept x stays so_far.counted)
+          ∙ ap (without_full_rows (cells_of_bits from) (suc y) x) (sym same)
       | inr elsewhere ↦
           ap (λ row. has_bit row x) (get_or-set_other rows kept z (get_or from y 0) 0 elsewhere)
           ∙ ap (λ (F : Field). F x z) so_far.cells
-          ∙ sym (rows_left (cells_in from) y x z (λ e. elsewhere (omega (arith, e, so_far.counted))))
+          ∙ sym (rows_left (cells_of_bits from) y x z (λ e. elsewhere (omega (arith, e, so_far.counted))))
     ]

@@ -8,8 +8,8 @@ unfoldable pub has_bit : ℕ → ℕ → Bool
 has_bit n k = bit_at n k == 1
 
 -- the cells of rows of bits, the lowest row first
-unfoldable pub cells_in : List ℕ → Field
-cells_in rows x y = has_bit (slice_index rows y) x
+unfoldable pub cells_of_bits : List ℕ → Field
+cells_of_bits rows x y = has_bit (slice_index rows y) x
 
 -- how many rows a board may have: 8, 16, 24 or 32
 abbrev pub is_lane_count : ℕ → Bool

@@ -1,7 +1,8 @@
--- The definitions that the contracts of this crate cite.
+-- What a reader must believe
 pub mod Field
 pub mod FullRows
 pub mod CellCount
 pub mod RemovalLaws
-pub mod Lanes
 pub mod Board
+-- What serves proofs alone
+pub mod Lanes

@@ -22,4 +22,5 @@ FullHasTen = (F : Field) (y : ℕ) → (is_full F y ≡ true) ↔ (row_count F y
 
 -- each row that goes takes ten cells with it, and no other cell is lost
 abbrev pub TakesTenEach : Type 0
-TakesTenEach = (F : Field) (height : ℕ) → cell_count (without_full_rows F height) height + 10 * full_below F height ≡ cell_count F height
+TakesTenEach = (F : Field) (height : ℕ) → cell_count (without_full_rows F height) height + 10 * full_below F height
+    ≡ cell_count F height

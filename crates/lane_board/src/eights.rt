@@ -1,5 +1,5 @@
 // Rows taken eight at a time, one to each lane of a vector.
-ghost use Rattle.std.specs.Prelude.{◌≡◌, ℕ, pos, negsuc, ◌≤ℤ◌, map, ◌+◌, ◌*◌, ◌/◌, ◌%◌, ◌^◌, ◌<◌, ◌≤◌, ◌↔◌, length, slice_index, IsTrue, ◌==◌, bit_and, bit_or, bit_xor, count_ones, sum_by};
+ghost use Rattle.std.specs.Prelude.{◌≡◌, ℕ, pos, negsuc, ◌≤ℤ◌, map, ◌+◌, ◌*◌, ◌/◌, ◌%◌, ◌^◌, ◌<◌, ◌≤◌, ◌↔◌, length, slice_index, IsTrue, ◌==◌, ◌++◌, bit_and, bit_or, bit_xor, count_ones, sum_by};
 ghost use Rattle.std.specs.Simd.Lanes.{chunk, put_chunk, zip2};
 ghost use Rattle.lane_board.specs.Lanes.{has_bit, moved_row};
 
@@ -168,14 +168,24 @@ pub(crate) fn moved_columns(lanes: u16x8, dx: i8) -> u16x8
     moved_right(lanes, right)
 }
 
-/// The rows one above eight rows, of which the last is the first of the next eight.
+/// Eight of sixteen rows, from place `from` on.
 #[inline(always)]
-pub(crate) fn next_row(lanes: u16x8, next: u16x8) -> u16x8
-    requires eight { length lanes ≡ 8 }
-    requires next_eight { length next ≡ 8 }
-    ensures lanes { (k : ℕ) → k < 7 → slice_index result k ≡ slice_index lanes (k + 1) }
-    ensures last { slice_index result 7 ≡ slice_index next 0 }
+pub(crate) fn eight_from(low: u16x8, high: u16x8, from: u8) -> u16x8
+    requires low { length low ≡ 8 }
+    requires high { length high ≡ 8 }
+    requires from { from ≤ 8 }
+    ensures lanes { (k : ℕ) → k < 8 → slice_index result k ≡ slice_index (low ++ high) (from + k) }
     ensures eight { length result ≡ 8 }
 {
-    lanes.shuffle(next, [1, 2, 3, 4, 5, 6, 7, 8])
+    match from {
+        0 => low,
+        1 => low.shuffle(high, [1, 2, 3, 4, 5, 6, 7, 8]),
+        2 => low.shuffle(high, [2, 3, 4, 5, 6, 7, 8, 9]),
+        3 => low.shuffle(high, [3, 4, 5, 6, 7, 8, 9, 10]),
+        4 => low.shuffle(high, [4, 5, 6, 7, 8, 9, 10, 11]),
+        5 => low.shuffle(high, [5, 6, 7, 8, 9, 10, 11, 12]),
+        6 => low.shuffle(high, [6, 7, 8, 9, 10, 11, 12, 13]),
+        7 => low.shuffle(high, [7, 8, 9, 10, 11, 12, 13, 14]),
+        _ => high,
+    }
 }

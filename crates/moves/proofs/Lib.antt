@@ -1,8 +1,10 @@
 -- Lemmas on keys, steps, rests and places.
-pub mod WalkLemmas
-pub mod StateLemmas
-pub mod StepLemmas
-pub mod TurnLemmas
-pub mod RestLemmas
-pub mod PlaceTest
-mod Examples
+mod WalkLemmas
+mod RestTest
+mod StateLemmas
+mod StepLemmas
+mod TurnLemmas
+mod RestLemmas
+mod PlaceTest
+mod Worked
+pub mod CallerLemmas

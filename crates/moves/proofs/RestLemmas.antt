@@ -7,9 +7,9 @@ use Rattle.srs.specs.declared.piece.Piece.{Piece}
 use Rattle.srs.specs.declared.rotation.Rotation.{Rotation}
 use Rattle.srs.specs.declared.placement.Placement.{Placement}
 use Rattle.srs.specs.Cells.{Cell}
-use Rattle.srs.proofs.CanonicalLemmas.{LiesAt}
+use Rattle.srs.proofs.CallerLemmas.{LiesAt}
 use Rattle.well.specs.Free.{is_free_at, is_free}
-use Rattle.well.proofs.FreeLemmas.{free_pivot}
+use Rattle.well.proofs.CallerLemmas.{free_pivot}
 use Rattle.moves.specs.Step.{state_at}
 use Rattle.moves.specs.Rest.{lowered, IsRest, rest_from, rest_of}
 use Rattle.moves.proofs.WalkLemmas.{some_same}

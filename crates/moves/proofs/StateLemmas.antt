@@ -4,8 +4,7 @@ use Rattle.std.proofs.lemmas.Bool.{ltb-true}
 use Rattle.srs.specs.declared.rotation.Rotation.{Rotation}
 use Rattle.srs.specs.declared.placement.Placement.{Placement}
 use Rattle.srs.specs.Rotation.{rotation_place}
-use Rattle.srs.proofs.CodeLemmas.{rotation_place-injective}
-use Rattle.srs.proofs.ShapeLemmas.{each_rotation}
+use Rattle.srs.proofs.CallerLemmas.{rotation_place-injective, each_rotation}
 use Rattle.moves.specs.States.{IsPivot, state_code}
 
 rotation_place-small : (r : Rotation) → rotation_place r < 4

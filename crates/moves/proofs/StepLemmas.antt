@@ -8,7 +8,7 @@ use Rattle.srs.specs.declared.placement.Placement.{Placement}
 use Rattle.srs.specs.Cells.{Cell}
 use Rattle.srs.specs.Kick.{Table}
 use Rattle.well.specs.Free.{is_free_at, is_free}
-use Rattle.well.proofs.FreeLemmas.{free_pivot_inside}
+use Rattle.well.proofs.CallerLemmas.{free_pivot_inside}
 use Rattle.moves.specs.declared.key.Key.{Key}
 use Rattle.moves.specs.declared.key.Key.TheVariants.{Left, Right, Down, Clockwise, Anti}
 use Rattle.moves.specs.Step.{state_at, first_free, shifted, turned, step_of}

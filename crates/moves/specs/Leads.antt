@@ -22,5 +22,5 @@ abbrev pub pressed : Table → Field → Option Placement → Key → Option Pla
 pressed table F reached key = option_and_then (λ state. step_of table F state key) reached
 
 -- the state to which the keys lead, or nothing
-unfoldable pub leads : Table → Field → Piece → List Key → Option Placement
-leads table F piece keys = fold (pressed table F) (spawned F piece) keys
+unfoldable pub state_after : Table → Field → Piece → List Key → Option Placement
+state_after table F piece keys = fold (pressed table F) (spawned F piece) keys

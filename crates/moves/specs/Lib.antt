@@ -1,9 +1,10 @@
--- The definitions that the contracts of this crate cite.
+-- What a reader must believe
 pub mod Keys
-pub mod States
 pub mod Step
 pub mod Leads
 pub mod Rest
 pub mod Place
+-- What serves proofs alone
+pub mod States
 pub mod Walk
 pub mod PlaceTest

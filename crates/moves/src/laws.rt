@@ -8,7 +8,7 @@ ghost use Rattle.well.specs.Free.{is_free};
 ghost use Rattle.moves.specs.declared.key.DropMode.{DropMode};
 ghost use Rattle.moves.specs.declared.key.Key.{Key};
 ghost use Rattle.moves.specs.Keys.{all_keys};
-ghost use Rattle.moves.specs.Leads.{leads};
+ghost use Rattle.moves.specs.Leads.{state_after};
 ghost use Rattle.moves.specs.Place.{IsPlace};
 ghost use Rattle.moves.specs.PlaceTest.{is_place};
 ghost use Rattle.moves.specs.Rest.{IsRest, rest_of};
@@ -23,23 +23,29 @@ pub fn all_keys_are_listed()
 
 /// A key leads from any state to free states of its piece only.
 pub fn steps_stay_free()
-    ensures free { (table : Table) (F : Field) (state : Placement) (key : Key) (next : Placement) → step_of table F state key ≡ Some next → IsTrue (is_free F next) }
-    ensures piece { (table : Table) (F : Field) (state : Placement) (key : Key) (next : Placement) → step_of table F state key ≡ Some next → next.piece ≡ state.piece }
+    ensures free { (table : Table) (F : Field) (state : Placement) (key : Key) (next : Placement) →
+        step_of table F state key ≡ Some next → IsTrue (is_free F next) }
+    ensures piece { (table : Table) (F : Field) (state : Placement) (key : Key) (next : Placement) →
+        step_of table F state key ≡ Some next → next.piece ≡ state.piece }
 {}
 
 /// Keys lead from the spawn to free states of its piece only.
 pub fn keys_stay_free()
-    ensures free { (table : Table) (F : Field) (piece : Piece) (keys : List Key) (state : Placement) → leads table F piece keys ≡ Some state → IsTrue (is_free F state) }
-    ensures piece { (table : Table) (F : Field) (piece : Piece) (keys : List Key) (state : Placement) → leads table F piece keys ≡ Some state → state.piece ≡ piece }
+    ensures free { (table : Table) (F : Field) (piece : Piece) (keys : List Key) (state : Placement) →
+        state_after table F piece keys ≡ Some state → IsTrue (is_free F state) }
+    ensures piece { (table : Table) (F : Field) (piece : Piece) (keys : List Key) (state : Placement) →
+        state_after table F piece keys ≡ Some state → state.piece ≡ piece }
 {}
 
 /// A free state has one rest, the one that `rest_of` names.
 pub fn free_states_have_one_rest()
     ensures one { (F : Field) (state : Placement) → IsTrue (is_free F state) → IsRest F state (rest_of F state) }
-    ensures no_other { (F : Field) (state rest : Placement) → IsTrue (is_free F state) → IsRest F state rest → rest ≡ rest_of F state }
+    ensures no_other { (F : Field) (state rest : Placement) → IsTrue (is_free F state) → IsRest F state rest →
+        rest ≡ rest_of F state }
 {}
 
 /// `is_place` decides which placements legal keys reach.
 pub fn places_are_decided()
-    ensures { (table : Table) (F : Field) (mode : DropMode) (placement : Placement) → (is_place table F mode placement ≡ true) ↔ IsPlace table F mode placement }
+    ensures { (table : Table) (F : Field) (mode : DropMode) (placement : Placement) →
+        (is_place table F mode placement ≡ true) ↔ IsPlace table F mode placement }
 {}

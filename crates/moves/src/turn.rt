@@ -67,7 +67,8 @@ fn turned(well: &Well, rules: &Rules, state: &Placement, to: Rotation) -> Option
 fn free_at(well: &Well, state: &Placement, rotation: Rotation, change: Offset) -> Option<Placement>
     requires free { IsTrue (is_free (filled well.now) state.now) }
     requires short { IsShort change }
-    ensures { result ≡ first_free (filled well.now) state.now.piece rotation (moved (pivot_of state.now) (pair_of change) ∷ []) }
+    ensures { result ≡ first_free (filled well.now) state.now.piece rotation
+        (moved (pivot_of state.now) (pair_of change) ∷ []) }
 {
     let x = state.x as i8 + change.dx;
     let y = state.y as i8 + change.dy;

@@ -9,8 +9,8 @@ use Rattle.std.proofs.lemmas.Grind.{get_or_default_zero}
 use Rattle.std.proofs.lemmas.Option.{none-some, option_and_then_some, same_Some}
 use Rattle.std.proofs.lemmas.Bool.{cases_Bool, and_parts, not-true}
 use Rattle.std.proofs.lemmas.List.Sums.{AllPass-from_list_all}
-use Rattle.page_list.specs.Cells.{cut_at}
-use Rattle.page_list.specs.Reading.{are_fields, divided, four_in, is_field}
+use Rattle.page_list.specs.CellsReading.{cut_at}
+use Rattle.page_list.specs.LineReading.{are_fields, divided, four_in, is_field}
 use Rattle.page_list.specs.Divided.{Four, IsField, IsDivided}
 
 place : (byte : ℕ) (front behind : List ℕ) → All (λ c. (c == byte) ≡ false) front → position_or_len (λ c. c == byte) (front ++ byte ∷ behind) ≡ length front

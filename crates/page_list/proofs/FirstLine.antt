@@ -6,9 +6,9 @@ use Rattle.std.proofs.lemmas.Bool.{cases_Bool, and_parts, and_from}
 use Rattle.std.proofs.lemmas.List.{take_at, drop_all}
 use Rattle.std.proofs.lemmas.List.Elements.{All-nil, All-cons, All-append, All-take}
 use Rattle.std.proofs.lemmas.List.Sums.{fails_before_first}
-use Rattle.page_list.specs.Cells.{cut_at}
-use Rattle.page_list.specs.List.{without_return, first_line}
-use Rattle.page_list.specs.LineForm.{HasNoNewline, EndsWithoutReturn, IsFirstLine, newline, return_newline, unended}
+use Rattle.page_list.specs.CellsReading.{cut_at}
+use Rattle.page_list.specs.ListReading.{without_return, first_line}
+use Rattle.page_list.specs.LineSpelling.{HasNoNewline, EndsWithoutReturn, IsFirstLine, newline, return_newline, unended}
 use Rattle.page_list.proofs.CutLaws.{cut_front, cut_is}
 
 -- ---- the `\r` at the end of a line

@@ -1,28 +1,29 @@
--- Lemmas of the rows of a page.
-pub mod RowLemmas
+-- Lemmas on lines of pages and their fields.
+mod RowLemmas
 -- Lemmas of rows that are read.
-pub mod ReadLemmas
+mod ReadLemmas
 -- Lemmas of cells that are written.
-pub mod PutLemmas
+mod PutLemmas
 -- Lemmas of lists of lines.
-pub mod ListLemmas
+mod ListLemmas
 -- Laws of texts that are cut.
-pub mod CutLaws
+mod CutLaws
 -- Laws of the cells field.
-pub mod CellsSpelled
+mod CellsReadAsSpelled
 -- Laws of the other fields.
-pub mod FieldsSpelled
+mod FieldsReadAsSpelled
 -- Laws of a line.
-pub mod LineSpelled
+mod LineReadAsSpelled
 -- Laws of the first line.
-pub mod FirstLine
+mod FirstLine
 -- Laws of texts of lines.
-pub mod PagesSpelled
+mod PagesReadAsSpelled
 -- Laws of the bytes of fields.
-pub mod Marks
+mod Marks
 -- Laws of printed lines.
-pub mod PrintedLines
+mod PrintedIsSpelled
 -- Laws of the cells that are spelled.
-pub mod SpelledCells
+mod SpelledCells
 -- Worked texts.
 mod Worked
+pub mod CallerLemmas

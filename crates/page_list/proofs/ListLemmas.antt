@@ -9,9 +9,10 @@ use Rattle.pc_outside.specs.declared.answers.Refused.{Refused}
 use Rattle.pc_outside.specs.declared.answers.Refused.TheVariants as refused
 use Rattle.fumen_pages.specs.declared.page.Page.{Page}
 use Rattle.page_list.specs.declared.fault.ListFault.{ListFault}
-use Rattle.page_list.specs.Cells.{cut_at}
-use Rattle.page_list.specs.List.{without_return, whole_lines, lines_of, first_line, page_at, pages_from}
-use Rattle.page_list.specs.Reading.{Gives, ◌>>=◌}
+use Rattle.page_list.specs.CellsReading.{cut_at}
+use Rattle.page_list.specs.ListReading.{without_return, whole_lines, lines_of, first_line, numbered_page, pages_from}
+use Rattle.fumen_digits.specs.Reading.{◌>>=◌}
+use Rattle.fumen_digits.specs.Answers.{Gives}
 
 abbrev is_newline : ℕ → Bool
 is_newline byte = byte == 10
@@ -63,19 +64,19 @@ behind-more : (done : List Page) (page : Page) (read : Result (List Page) ListFa
 behind-more done page (Ok pages) = ap Ok (sym (append_assoc done (page ∷ []) pages))
 behind-more done page (Err fault) = refl
 
-step : (done : List Page) (number : ℕ) (line : List ℕ) (lines : List (List ℕ)) (page : Page) → page_at number line ≡ Ok page
+step : (done : List Page) (number : ℕ) (line : List ℕ) (lines : List (List ℕ)) (page : Page) → numbered_page number line ≡ Ok page
     → behind done (pages_from number (line ∷ lines)) ≡ behind (done ++ page ∷ []) (pages_from (number + 1) lines)
 unfolding pages_from
 step done number line lines page is = rw (is) (behind-more done page (pages_from (number + 1) lines))
 
-stop : (done : List Page) (number : ℕ) (line : List ℕ) (lines : List (List ℕ)) (fault : ListFault) → page_at number line ≡ Err fault
+stop : (done : List Page) (number : ℕ) (line : List ℕ) (lines : List (List ℕ)) (fault : ListFault) → numbered_page number line ≡ Err fault
     → behind done (pages_from number (line ∷ lines)) ≡ Err fault
 unfolding pages_from
 stop done number line lines fault is = rw (is) refl
 
 -- one more page is read
 pub page_read : (done : List Page) (number next : ℕ) (text line rest : List ℕ) (page : Page) (all : Result (List Page) ListFault) → 0 < length text → first_line text ≡ (line, rest)
-    → page_at number line ≡ Ok page → next ≡ number + 1 → behind done (pages_from number (lines_of text)) ≡ all → behind (done ++ page ∷ []) (pages_from next (lines_of rest)) ≡ all
+    → numbered_page number line ≡ Ok page → next ≡ number + 1 → behind done (pages_from number (lines_of text)) ≡ all → behind (done ++ page ∷ []) (pages_from next (lines_of rest)) ≡ all
 page_read done number next text line rest page all some cut is following so_far =
     let lines = lines-more text some ∙ ap (λ (l : List ℕ × List ℕ). l.0 ∷ lines_of l.1) cut in
     ap (λ n. behind (done ++ page ∷ []) (pages_from n (lines_of rest))) following
@@ -83,15 +84,15 @@ page_read done number next text line rest page all some cut is following so_far 
 
 -- a line has a fault
 pub page_missing : (done : List Page) (number : ℕ) (text line rest : List ℕ) (fault : ListFault) (all : Result (List Page) ListFault) → 0 < length text → first_line text ≡ (line, rest)
-    → page_at number line ≡ Err fault → behind done (pages_from number (lines_of text)) ≡ all → all ≡ Err fault
+    → numbered_page number line ≡ Err fault → behind done (pages_from number (lines_of text)) ≡ all → all ≡ Err fault
 page_missing done number text line rest fault all some cut is so_far =
     let lines = lines-more text some ∙ ap (λ (l : List ℕ × List ℕ). l.0 ∷ lines_of l.1) cut in
     sym so_far ∙ ap (λ (l : List (List ℕ)). behind done (pages_from number l)) lines ∙ stop done number line (lines_of rest) fault is
 
 -- a line is refused
 pub page_refused : {X : Type 0} (view : X → List Page) (refusal : Refused ListFault) (done : List Page) (number : ℕ) (text line rest : List ℕ) (all : Result (List Page) ListFault)
-    → 0 < length text → first_line text ≡ (line, rest) → Gives {X = Page} {Y = Page} (λ page. page) (Err refusal) (page_at number line)
-    → behind done (pages_from number (lines_of text)) ≡ all → Gives view (Err refusal) all
+    → 0 < length text → first_line text ≡ (line, rest) → Gives {X = Page} {Y = Page} (λ page. page) (λ fault. fault) (Err refusal) (numbered_page number line)
+    → behind done (pages_from number (lines_of text)) ≡ all → Gives view (λ fault. fault) (Err refusal) all
 page_refused view (refused.Fault fault) done number text line rest all some cut given so_far = page_missing done number text line rest fault all some cut given so_far
 page_refused view refused.NoMemory done number text line rest all some cut given so_far = tt
 

@@ -9,17 +9,17 @@ use Rattle.std.proofs.lemmas.List.Sums.{AllPass-from_list_all}
 use Rattle.srs.specs.declared.placement.Placement.{Placement}
 use Rattle.srs.specs.Piece.{piece_letter}
 use Rattle.srs.specs.Rotation.{rotation_letter}
-use Rattle.srs.proofs.ShapeLemmas.{each_state}
+use Rattle.srs.proofs.CallerLemmas.{each_state}
 use Rattle.placement_form.specs.Form.{placement_form}
-use Rattle.fumen_comment.proofs.EscapeLaws.{IsMark}
+use Rattle.fumen_comment.proofs.CallerLemmas.{IsMark}
 use Rattle.fumen_pages.specs.declared.page.Page.{Page}
 use Rattle.page_list.specs.Divided.{IsField}
-use Rattle.page_list.specs.Fields.{is_mark}
+use Rattle.page_list.specs.FieldsReading.{is_mark}
 use Rattle.page_list.specs.Letters.{colour_letter, letters_of}
-use Rattle.page_list.specs.Line.{flag_form}
-use Rattle.page_list.specs.LineForm.{SpellsGarbage, left_out, written, SpellsCells, SpellsOperation, SpellsFlags, SpellsComment}
-use Rattle.page_list.proofs.CellsSpelled.{letters_all, rows_all}
-use Rattle.page_list.proofs.FieldsSpelled.{mark_is}
+use Rattle.page_list.specs.PrintedLine.{flag_form}
+use Rattle.page_list.specs.LineSpelling.{SpellsGarbage, left_out, written, SpellsLineCells, SpellsLineOperation, SpellsLineFlags, SpellsLineComment}
+use Rattle.page_list.proofs.CellsReadAsSpelled.{letters_all, rows_all}
+use Rattle.page_list.proofs.FieldsReadAsSpelled.{mark_is}
 
 -- some bytes, each such a character
 pub record HasMarks (text : List ℕ) : Type 0 where
@@ -39,7 +39,7 @@ garbage_marks : (text garbage : List ℕ) → SpellsGarbage text garbage → All
 garbage_marks text garbage left_out = All-nil IsMark
 garbage_marks text garbage (written {row = row} is) = letters_all IsMark letter_mark row is.colours
 
-pub cells_marks : (text cells : List ℕ) → SpellsCells text cells → HasMarks text
+pub cells_marks : (text cells : List ℕ) → SpellsLineCells text cells → HasMarks text
 cells_marks text cells s =
     let rows = join_with_byte 47 (map letters_of s.rows) in
     subst HasMarks (sym s.spelled) (record {
@@ -74,7 +74,7 @@ placement_marks placement column row =
     comma : All IsMark (44 ∷ [])
     comma = All-cons IsMark 44 [] (mark_is 44 refl) (All-nil IsMark)
 
-pub operation_marks : (text : List ℕ) (operation : Option Placement) → SpellsOperation text operation → HasMarks text
+pub operation_marks : (text : List ℕ) (operation : Option Placement) → SpellsLineOperation text operation → HasMarks text
 operation_marks text None s = subst HasMarks (sym s) dash
 operation_marks text (Some placement) s = subst HasMarks (sym s.written) (placement_marks placement s.column s.row)
 
@@ -88,7 +88,7 @@ four_marks : (a b c d : ℕ) → IsMark a → IsMark b → IsMark c → IsMark d
 four_marks a b c d first second third fourth =
     All-cons IsMark a (b ∷ c ∷ d ∷ []) first (All-cons IsMark b (c ∷ d ∷ []) second (All-cons IsMark c (d ∷ []) third (All-cons IsMark d [] fourth (All-nil IsMark))))
 
-pub flags_marks : (text : List ℕ) (page : Page) → SpellsFlags text page → HasMarks text
+pub flags_marks : (text : List ℕ) (page : Page) → SpellsLineFlags text page → HasMarks text
 flags_marks text page s =
     subst HasMarks (sym s) (record {
       some = omega arith;
@@ -98,6 +98,6 @@ flags_marks text page s =
 
 -- ---- comments
 
-pub comment_marks : (text : List ℕ) (comment : Option (List ℕ)) → SpellsComment text comment → HasMarks text
+pub comment_marks : (text : List ℕ) (comment : Option (List ℕ)) → SpellsLineComment text comment → HasMarks text
 comment_marks text None s = subst HasMarks (sym s) dash
 comment_marks text (Some units) s = subst HasMarks (sym s.spelled) (record { some = omega arith; marks = All-cons IsMark 35 s.escaped (mark_is 35 refl) s.marks })

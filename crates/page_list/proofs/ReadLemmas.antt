@@ -1,7 +1,7 @@
 -- Rows that are read letter by letter.
 use Rattle.std.proofs.Common.{◌≡◌, ℕ, ◌+◌, ◌<◌, ◌≤◌, ◌==◌, true, false, List, [], ◌∷◌, ◌++◌, length, drop, get_or, Option, Some, None, refl, ap, sym, ◌∙◌, append_assoc, append-nil}
 use Rattle.std.proofs.lemmas.List.{at_drop_more, at_drop_all}
-use Rattle.page_list.specs.Cells.{colour_in, rows_at, with_front}
+use Rattle.page_list.specs.CellsReading.{colour_in, rows_at, with_front}
 
 -- the rows from a place on, and the letter there
 at : (front text : List ℕ) (place column : ℕ) → place < length text

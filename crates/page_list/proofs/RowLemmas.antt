@@ -5,7 +5,7 @@ use Rattle.std.proofs.lemmas.List.{drop-drop}
 use Rattle.std.proofs.lemmas.Bool.{cases_lt, lt-ltb}
 use Rattle.fumen_pages.specs.Next.{rows_in}
 use Rattle.page_list.specs.Letters.{is_blank, shown_rows}
-use Rattle.page_list.specs.Line.{divided_row}
+use Rattle.page_list.specs.PrintedLine.{divided_row}
 
 -- the rows from this one on, counted from the top
 unfoldable pub rows_left : List ℕ → ℕ → List (List ℕ)

@@ -5,9 +5,9 @@ use Rattle.std.proofs.lemmas.List.Elements.{All-nil, All-cons, All-head, All-tai
 use Rattle.fumen_digits.specs.declared.dialect.Dialect.TheVariants.{V115}
 use Rattle.fumen_pages.specs.declared.page.Page.{Page}
 use Rattle.fumen_pages.specs.Cells.{IsColour, AreCells}
-use Rattle.fumen_pages.proofs.RowLaws.{flat}
-use Rattle.page_list.specs.LineForm.{IsRow, SpellsGarbage, left_out, written, SpellsCells, SpellsFirst, none, more, SpellsPages}
-use Rattle.page_list.proofs.CellsSpelled.{length_of_rows}
+use Rattle.fumen_pages.proofs.CallerLemmas.{flat}
+use Rattle.page_list.specs.LineSpelling.{IsRow, SpellsGarbage, left_out, written, SpellsLineCells, SpellsFirst, none, more, SpellsPages}
+use Rattle.page_list.proofs.CellsReadAsSpelled.{length_of_rows}
 
 garbage_row : (text garbage : List ℕ) → SpellsGarbage text garbage → IsRow garbage
 garbage_row text garbage left_out = record { size = refl; colours = All-replicate IsColour 10 0 (omega arith) }
@@ -17,7 +17,7 @@ flat_colours : (rows : List (List ℕ)) → All IsRow rows → All IsColour (fla
 flat_colours [] each = All-nil IsColour
 flat_colours (row ∷ rows) each = All-append IsColour row (flat rows) (All-head IsRow row rows each).colours (flat_colours rows (All-tail IsRow row rows each))
 
-spelled_cells : (text cells : List ℕ) → SpellsCells text cells → AreCells V115 cells
+spelled_cells : (text cells : List ℕ) → SpellsLineCells text cells → AreCells V115 cells
 spelled_cells text cells s =
     let above = replicate (230 - 10 * length s.rows) 0 in
     let row = garbage_row s.garbage_text s.garbage s.garbage_spelled in

@@ -1,9 +1,10 @@
--- What the contracts of this crate, and of those above it, say of pages as text.
-pub mod Cells
-pub mod Divided
-pub mod Fields
+-- What a reader must believe
 pub mod Letters
-pub mod Line
-pub mod LineForm
-pub mod List
-pub mod Reading
+pub mod PrintedLine
+pub mod Divided
+pub mod LineSpelling
+-- What serves proofs alone
+pub mod CellsReading
+pub mod FieldsReading
+pub mod ListReading
+pub mod LineReading

@@ -1,11 +1,11 @@
 // The first field of a page's line: the cells.
 ghost use Rattle.std.specs.Prelude.{◌≡◌, ◌+◌, ◌<◌, ◌≤◌, ◌*◌, ◌==◌, ◌++◌, drop, position, take, None, Some, length, MatchOption, IfSome};
 ghost use Rattle.arrayvec.specs.ArrayVec.{array_vec_len};
-ghost use Rattle.page_list.specs.Cells.{cells_in, cells_of, colour_in, cut_at, garbage_colours, rows_at, rows_colours};
+ghost use Rattle.page_list.specs.CellsReading.{cells_in, cells_with_rows, colour_in, cut_at, garbage_colours, rows_at, rows_colours};
 
 use arrayvec::ArrayVec;
 
-// The colour of a letter, as `letters::colour_letter` writes it.
+/// The colour of a letter, as `letters::colour_letter` writes it.
 fn colour_in(letter: u8) -> Option<u8>
     ensures value { result ≡ colour_in letter }
     ensures small { IfSome result (λ colour. colour ≤ 8) }
@@ -24,7 +24,7 @@ fn colour_in(letter: u8) -> Option<u8>
     }
 }
 
-// The place of the first such byte.
+/// The place of the first such byte.
 fn place_of(byte: u8, text: &[u8]) -> Option<usize>
     ensures place { result ≡ position (λ letter. letter == byte) text.now }
     ensures within { IfSome result (λ place. place < length text.now) }
@@ -33,18 +33,20 @@ fn place_of(byte: u8, text: &[u8]) -> Option<usize>
 }
 
 /// The text before the first such byte, and the text behind it. `None` exactly where the byte isn't in the text.
-#[tactic(auto, unfolding(crate::specs::Cells::cut_at))]
+#[tactic(auto, unfolding(crate::specs::CellsReading::cut_at))]
 pub fn cut_at(byte: u8, text: &[u8]) -> Option<(&[u8], &[u8])>
-    ensures { MatchOption result (cut_at byte text.now ≡ None) (λ cut. cut_at byte text.now ≡ Some (cut.0.now, cut.1.now)) }
+    ensures { MatchOption result (cut_at byte text.now ≡ None)
+        (λ cut. cut_at byte text.now ≡ Some (cut.0.now, cut.1.now)) }
 {
     let at = place_of(byte, text)?;
     Some((&text[..at], &text[at + 1..]))
 }
 
-// The colours of rows of ten letters, with a `/` between each two.
+/// The colours of rows of ten letters, with a `/` between each two.
 fn rows_at(text: &[u8]) -> Option<ArrayVec<u8, 230>>
     requires { length text.now ≤ 252 }
-    ensures value { MatchOption result (rows_at 0 text.now ≡ None) (λ colours. rows_at 0 text.now ≡ Some colours.items) }
+    ensures value { MatchOption result (rows_at 0 text.now ≡ None)
+        (λ colours. rows_at 0 text.now ≡ Some colours.items) }
     ensures size { IfSome result (λ colours. 11 * array_vec_len colours ≡ 10 * length text.now + 10) }
 {
     let mut colours = ArrayVec::new();
@@ -63,10 +65,11 @@ fn rows_at(text: &[u8]) -> Option<ArrayVec<u8, 230>>
     if column == 10 { Some(colours) } else { None }
 }
 
-// The colours of up to 23 rows.
-#[tactic(auto, unfolding(crate::specs::Cells::rows_colours))]
+/// The colours of up to 23 rows.
+#[tactic(auto, unfolding(crate::specs::CellsReading::rows_colours))]
 fn rows_colours(text: &[u8]) -> Option<ArrayVec<u8, 230>>
-    ensures { MatchOption result (rows_colours text.now ≡ None) (λ colours. rows_colours text.now ≡ Some colours.items) }
+    ensures { MatchOption result (rows_colours text.now ≡ None)
+        (λ colours. rows_colours text.now ≡ Some colours.items) }
 {
     if text.is_empty() {
         return Some(ArrayVec::new());
@@ -77,8 +80,8 @@ fn rows_colours(text: &[u8]) -> Option<ArrayVec<u8, 230>>
     rows_at(text)
 }
 
-// The colours of the garbage row, which may be left out.
-#[tactic(auto, unfolding(crate::specs::Cells::garbage_colours))]
+/// The colours of the garbage row, which may be left out.
+#[tactic(auto, unfolding(crate::specs::CellsReading::garbage_colours))]
 fn garbage_colours(text: &[u8]) -> Option<[u8; 10]>
     ensures { result ≡ garbage_colours text.now }
 {
@@ -94,7 +97,7 @@ fn garbage_colours(text: &[u8]) -> Option<[u8; 10]>
     Some(garbage)
 }
 
-// Some cells are written over those from a place on.
+/// Some cells are written over those from a place on.
 fn put(cells: &mut [u8; 240], place: usize, part: &[u8])
     requires { place + length part.now ≤ 240 }
     ensures { cells.new ≡ take place cells.old ++ (part.now ++ drop (place + length part.now) cells.old) }
@@ -102,10 +105,10 @@ fn put(cells: &mut [u8; 240], place: usize, part: &[u8])
     cells[place..place + part.len()].copy_from_slice(part);
 }
 
-// The 240 cells: these rows with empty ones above, and the garbage row.
+/// The 240 cells: these rows with empty ones above, and the garbage row.
 fn cells_of(rows: &[u8], garbage: &[u8; 10]) -> [u8; 240]
     requires { length rows.now ≤ 230 }
-    ensures { result ≡ cells_of rows.now garbage.now }
+    ensures { result ≡ cells_with_rows rows.now garbage.now }
 {
     let mut cells = [0; 240];
     put(&mut cells, 230, garbage);
@@ -115,7 +118,7 @@ fn cells_of(rows: &[u8], garbage: &[u8; 10]) -> [u8; 240]
 
 /// The cells: rows of ten letters, divided by `/`, up to 23 of them down to row 0, then a bar, and the garbage row,
 /// which may be left out. `None` exactly where the text isn't of this form.
-#[tactic(auto, unfolding(crate::specs::Cells::cells_in))]
+#[tactic(auto, unfolding(crate::specs::CellsReading::cells_in))]
 pub fn cells_in(text: &[u8]) -> Option<[u8; 240]>
     ensures { result ≡ cells_in text.now }
 {

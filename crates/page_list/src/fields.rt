@@ -3,8 +3,8 @@ ghost use Rattle.std.specs.Prelude.{◌≡◌};
 ghost use Rattle.std.specs.List.{list_all};
 ghost use Rattle.std.specs.Option.{ok_or};
 ghost use Rattle.page_list.specs.declared.fault.ListKind.TheVariants.{BadComment};
-ghost use Rattle.page_list.specs.Fields.{comment_in, flag_in, flags_in, is_dash, is_mark, operation_in};
-ghost use Rattle.page_list.specs.Reading.{Gives};
+ghost use Rattle.page_list.specs.FieldsReading.{comment_in, flag_in, flags_in, is_dash, is_mark, operation_in};
+ghost use Rattle.fumen_digits.specs.Answers.{Gives};
 
 use crate::fault::ListKind;
 use fumen_comment::{Comment, unescape};
@@ -26,7 +26,7 @@ pub struct Flags {
     pub lock: bool,
 }
 
-// Whether a flag is set: its letter, or `-`.
+/// Whether a flag is set: its letter, or `-`.
 fn flag_in(letter: u8, text: u8) -> Option<bool>
     ensures { result ≡ flag_in letter text }
 {
@@ -41,7 +41,7 @@ fn flag_in(letter: u8, text: u8) -> Option<bool>
 
 /// The four flags `r`, `m`, `c` and `l`, each of them `-` where it isn't set. `None` exactly where the text isn't of
 /// this form.
-#[tactic(auto, unfolding(crate::specs::Fields::flags_in))]
+#[tactic(auto, unfolding(crate::specs::FieldsReading::flags_in))]
 pub fn flags_in(text: &[u8]) -> Option<Flags>
     ensures { result ≡ flags_in text.now }
 {
@@ -57,7 +57,7 @@ pub fn flags_in(text: &[u8]) -> Option<Flags>
 }
 
 /// Whether the text is `-`.
-#[tactic(auto, unfolding(crate::specs::Fields::is_dash))]
+#[tactic(auto, unfolding(crate::specs::FieldsReading::is_dash))]
 pub fn is_dash(text: &[u8]) -> bool
     ensures { result ≡ is_dash text.now }
 {
@@ -66,7 +66,7 @@ pub fn is_dash(text: &[u8]) -> bool
 
 /// The operation: `-` where there is none, or the letters of piece and rotation, `:`, the column, `,` and the row, as
 /// `T0:4,0`. The row is 0 to 22; the placement need not be inside. `None` exactly where the text isn't of this form.
-#[tactic(auto, unfolding(crate::specs::Fields::operation_in))]
+#[tactic(auto, unfolding(crate::specs::FieldsReading::operation_in))]
 pub fn operation_in(text: &[u8]) -> Option<Option<Placement>>
     ensures { result ≡ operation_in text.now }
 {
@@ -76,7 +76,7 @@ pub fn operation_in(text: &[u8]) -> Option<Option<Placement>>
     Some(Some(read_placement(text)?))
 }
 
-// Whether a comment may have the byte: from `!` to `~`.
+/// Whether a comment may have the byte: from `!` to `~`.
 fn is_mark(letter: u8) -> bool
     ensures { result ≡ is_mark letter }
 {
@@ -91,9 +91,9 @@ fn all_marks(text: &[u8]) -> bool
 
 /// The comment: none where the text is `-`, or else what stands behind the `#`, unescaped. `BadComment` exactly where
 /// the text is neither `-` nor `#` and bytes from `!` to `~`.
-#[tactic(auto, unfolding(crate::specs::Fields::comment_in, crate::specs::Fields::units_in))]
+#[tactic(auto, unfolding(crate::specs::FieldsReading::comment_in, crate::specs::FieldsReading::units_in))]
 pub fn comment_in(alloc: Global, text: &[u8]) -> Result<Option<Comment>, Refused<ListKind>>
-    ensures { Gives (λ comment. comment) result (ok_or (comment_in text.now) BadComment) }
+    ensures { Gives (λ comment. comment) (λ fault. fault) result (ok_or (comment_in text.now) BadComment) }
 {
     if is_dash(text) {
         return Ok(None);

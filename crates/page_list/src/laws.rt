@@ -1,16 +1,16 @@
 // Laws of the definitions: functions with an empty body, whose contract is the law.
-ghost use Rattle.std.specs.Prelude.{◌≡◌, ◌≤◌, ◌<◌, ◌^◌, ◌↔◌, ◌⊎◌, ℕ, List, length, All, Ok, Err};
+ghost use Rattle.std.specs.Prelude.{◌≡◌, ◌≤◌, ◌↔◌, ◌⊎◌, ℕ, List, length, All, Ok, Err};
 ghost use Rattle.std.specs.List.{flat_map};
-ghost use Rattle.std.specs.Option.{ForSome};
+ghost use Rattle.fumen_comment.specs.Escape.{HasUnits};
 ghost use Rattle.fumen_digits.specs.declared.dialect.Dialect.{Dialect};
 ghost use Rattle.fumen_digits.specs.declared.dialect.Dialect.TheVariants.{V115};
 ghost use Rattle.fumen_pages.specs.Cells.{AreCells};
 ghost use Rattle.fumen_pages.specs.Sound.{IsSound};
 ghost use Rattle.fumen_pages.specs.declared.page.Page.{Page};
 ghost use Rattle.page_list.specs.declared.fault.ListFault.{ListFault};
-ghost use Rattle.page_list.specs.Line.{page_form};
-ghost use Rattle.page_list.specs.LineForm.{IsListFault, Spelled, SpellsPages};
-ghost use Rattle.page_list.specs.List.{pages_in};
+ghost use Rattle.page_list.specs.PrintedLine.{page_form};
+ghost use Rattle.page_list.specs.LineSpelling.{IsListFault, Spelled, SpellsPages};
+ghost use Rattle.page_list.specs.ListReading.{pages_in};
 
 /// A text is read as pages exactly where it spells them, and is refused with a fault exactly where it has this fault.
 pub fn texts_are_read_as_they_spell()
@@ -21,19 +21,23 @@ pub fn texts_are_read_as_they_spell()
 /// Each text spells one list of pages, or else has one fault.
 pub fn a_text_spells_pages_or_has_a_fault()
     ensures either { (text : List ℕ) → Spelled SpellsPages text ⊎ Spelled IsListFault text }
-    ensures not_both { (text : List ℕ) (pages : List Page) (fault : ListFault) → SpellsPages text pages → IsListFault text fault → ⊥ }
-    ensures one_list { (text : List ℕ) (one other : List Page) → SpellsPages text one → SpellsPages text other → one ≡ other }
-    ensures one_fault { (text : List ℕ) (one other : ListFault) → IsListFault text one → IsListFault text other → one ≡ other }
+    ensures not_both { (text : List ℕ) (pages : List Page) (fault : ListFault) → SpellsPages text pages →
+        IsListFault text fault → ⊥ }
+    ensures one_list { (text : List ℕ) (one other : List Page) → SpellsPages text one → SpellsPages text other →
+        one ≡ other }
+    ensures one_fault { (text : List ℕ) (one other : ListFault) → IsListFault text one → IsListFault text other →
+        one ≡ other }
 {}
 
 /// The lines that `print_page` writes, one after the other, spell their pages: up to 10,000 pages of a dialect, with
 /// comments of units of 16 bits.
 pub fn printed_lines_spell_their_pages()
     ensures { (dialect : Dialect) (pages : List Page) → length pages ≤ 10000 → All (IsSound dialect) pages →
-        All (λ page. ForSome page.comment (λ units. All (λ unit. unit < 2 ^ 16) units)) pages → SpellsPages (flat_map page_form pages) pages }
+        All (λ page. HasUnits page.comment) pages → SpellsPages (flat_map page_form pages) pages }
 {}
 
 /// Each page that a text spells has 240 cells, each of a colour.
 pub fn spelled_pages_have_cells()
-    ensures { (text : List ℕ) (pages : List Page) → SpellsPages text pages → All (λ page. AreCells V115 page.cells) pages }
+    ensures { (text : List ℕ) (pages : List Page) → SpellsPages text pages →
+        All (λ page. AreCells V115 page.cells) pages }
 {}

@@ -3,7 +3,7 @@ ghost use Rattle.std.specs.Prelude.{◌≡◌, ◌++◌, ◌<◌, All, IfOk, OnO
 ghost use Rattle.std.specs.List.{join_with_byte};
 ghost use Rattle.fumen_pages.specs.Cells.{IsColour};
 ghost use Rattle.page_list.specs.Letters.{shown_rows};
-ghost use Rattle.page_list.specs.Line.{comment_form, divided_row, flag_form, flags_form, operation_form, page_form, rows_form};
+ghost use Rattle.page_list.specs.PrintedLine.{comment_form, divided_row, flag_form, flags_form, operation_form, page_form, rows_form};
 
 use crate::letters::{first_shown, is_blank, letters_of, row};
 use fumen_comment::escape;
@@ -19,7 +19,7 @@ use std::alloc::Global;
 /// The cells are rows from the highest one with a coloured cell down to row 0, divided by `/`, then a bar and the
 /// garbage row, where it isn't empty. The operation and the comment are `-` where there is none. The flags are `r`
 /// for rise, `m` for mirror, `c` for colour and `l` for lock. The comment is escaped as ECMAScript's `escape` does.
-#[tactic(auto, unfolding(crate::specs::Line::page_form))]
+#[tactic(auto, unfolding(crate::specs::PrintedLine::page_form))]
 pub fn print_page(alloc: Global, page: &Page) -> Result<Vec<u8>, NoMemory>
     requires { All IsColour page.now.cells }
     ensures { IfOk result (λ line. line.items ≡ page_form page.now) }
@@ -36,8 +36,8 @@ pub fn print_page(alloc: Global, page: &Page) -> Result<Vec<u8>, NoMemory>
     Ok(line)
 }
 
-// The rows, the bar, and the garbage row.
-#[tactic(auto, unfolding(crate::specs::Line::rows_form))]
+/// The rows, the bar, and the garbage row.
+#[tactic(auto, unfolding(crate::specs::PrintedLine::rows_form))]
 fn push_rows(line: &mut Vec<u8>, letters: &[u8; 240]) -> Result<(), NoMemory>
     ensures { OnOk result (line.new.items ≡ line.old.items ++ rows_form letters.now) }
 {
@@ -50,7 +50,7 @@ fn push_rows(line: &mut Vec<u8>, letters: &[u8; 240]) -> Result<(), NoMemory>
     Ok(())
 }
 
-// The rows from the highest one that isn't blank down, divided by `/`.
+/// The rows from the highest one that isn't blank down, divided by `/`.
 #[tactic(auto, unfolding(crate::specs::Letters::shown_rows))]
 fn push_shown(line: &mut Vec<u8>, letters: &[u8; 240]) -> Result<(), NoMemory>
     ensures { OnOk result (line.new.items ≡ line.old.items ++ join_with_byte 47 (shown_rows letters.now)) }
@@ -61,7 +61,7 @@ fn push_shown(line: &mut Vec<u8>, letters: &[u8; 240]) -> Result<(), NoMemory>
     Ok(())
 }
 
-// A row, and a `/` where another one follows it.
+/// A row, and a `/` where another one follows it.
 fn push_row(line: &mut Vec<u8>, letters: &[u8; 240], index: usize) -> Result<(), NoMemory>
     requires { index < 23 }
     ensures { OnOk result (line.new.items ≡ line.old.items ++ divided_row letters.now index) }
@@ -83,7 +83,7 @@ fn push_operation(line: &mut Vec<u8>, operation: Option<Placement>) -> Result<()
     Ok(())
 }
 
-// The letter of a flag, or `-`.
+/// The letter of a flag, or `-`.
 fn flag(letter: u8, is_set: bool) -> u8
     ensures { result ≡ flag_form letter is_set }
 {

@@ -2,9 +2,9 @@
 ghost use Rattle.std.specs.Prelude.{◌≡◌, ◌≤◌, IfOk, List, Ok, Err};
 ghost use Rattle.fumen_pages.specs.declared.page.Page.{Page};
 ghost use Rattle.page_list.specs.declared.fault.ListFault.{ListFault};
-ghost use Rattle.page_list.specs.LineForm.{IsListFault, SpellsPages};
-ghost use Rattle.page_list.specs.List.{first_line, page_at, pages_in, without_return};
-ghost use Rattle.page_list.specs.Reading.{Gives};
+ghost use Rattle.page_list.specs.LineSpelling.{IsListFault, SpellsPages};
+ghost use Rattle.page_list.specs.ListReading.{first_line, numbered_page, pages_in, without_return};
+ghost use Rattle.fumen_digits.specs.Answers.{Gives};
 
 use crate::cells::cut_at;
 use crate::fault::{ListFault, ListKind};
@@ -13,8 +13,8 @@ use fumen_pages::Page;
 use pc_outside::Refused;
 use std::alloc::Global;
 
-// A line without the `\r` at its end.
-#[tactic(auto, unfolding(crate::specs::List::without_return))]
+/// A line without the `\r` at its end.
+#[tactic(auto, unfolding(crate::specs::ListReading::without_return))]
 fn without_return(line: &[u8]) -> &[u8]
     ensures { result.now ≡ without_return line.now }
 {
@@ -25,8 +25,8 @@ fn without_return(line: &[u8]) -> &[u8]
     }
 }
 
-// The first line, and the text behind it.
-#[tactic(auto, unfolding(crate::specs::List::first_line))]
+/// The first line, and the text behind it.
+#[tactic(auto, unfolding(crate::specs::ListReading::first_line))]
 fn first_line(text: &[u8]) -> (&[u8], &[u8])
     ensures { first_line text.now ≡ (result.0.now, result.1.now) }
 {
@@ -36,10 +36,10 @@ fn first_line(text: &[u8]) -> (&[u8], &[u8])
     }
 }
 
-// The page of the line of this number, counted from 1.
-#[tactic(auto, unfolding(crate::specs::List::page_at))]
+/// The page of the line of this number, counted from 1.
+#[tactic(auto, unfolding(crate::specs::ListReading::numbered_page))]
 fn page_at(alloc: Global, number: u32, line: &[u8]) -> Result<Page, Refused<ListFault>>
-    ensures exact { Gives (λ page. page) result (page_at number line.now) }
+    ensures exact { Gives (λ page. page) (λ fault. fault) result (numbered_page number line.now) }
     ensures few { IfOk result (λ _. number ≤ 10000) }
 {
     if number > 10_000 {
@@ -61,22 +61,24 @@ fn page_at(alloc: Global, number: u32, line: &[u8]) -> Result<Page, Refused<List
 /// at the top, up to 23 rows in all, and an empty garbage row may be written out.
 pub fn parse(alloc: Global, text: &[u8]) -> Result<Vec<Page>, Refused<ListFault>>
     // What reading line by line gives.
-    ensures exact { Gives (λ pages. pages.items) result (pages_in text.now) }
+    ensures exact { Gives (λ pages. pages.items) (λ fault. fault) result (pages_in text.now) }
 
     // The text spells the pages that are answered, and those that it spells are answered, unless memory runs out.
     ensures found { IfOk result (λ pages. SpellsPages text.now pages.items) }
-    ensures only { (pages : List Page) → SpellsPages text.now pages → Gives (λ pages. pages.items) result (Ok pages) }
+    ensures only { (pages : List Page) → SpellsPages text.now pages →
+        Gives (λ pages. pages.items) (λ fault. fault) result (Ok pages) }
 
     // The same of the fault.
     ensures fault { (f : ListFault) → result ≡ Err (Refused.Fault f) → IsListFault text.now f }
-    ensures fault_only { (f : ListFault) → IsListFault text.now f → Gives (λ pages. pages.items) result (Err f) }
+    ensures fault_only { (f : ListFault) → IsListFault text.now f →
+        Gives (λ pages. pages.items) (λ fault. fault) result (Err f) }
 {
     read_pages(alloc, text)
 }
 
-// The pages of the lines, one after the other.
+/// The pages of the lines, one after the other.
 fn read_pages(alloc: Global, text: &[u8]) -> Result<Vec<Page>, Refused<ListFault>>
-    ensures { Gives (λ pages. pages.items) result (pages_in text.now) }
+    ensures { Gives (λ pages. pages.items) (λ fault. fault) result (pages_in text.now) }
 {
     let mut pages = Vec::new(alloc);
     let mut rest = text;

@@ -1,7 +1,8 @@
 // Reading a line.
 ghost use Rattle.std.specs.Prelude.{◌≡◌, ◌==◌, not, None, Some, MatchOption};
 ghost use Rattle.std.specs.List.{list_all};
-ghost use Rattle.page_list.specs.Reading.{Gives, divided, four_in, is_field, line_in};
+ghost use Rattle.page_list.specs.LineReading.{divided, four_in, is_field, line_in};
+ghost use Rattle.fumen_digits.specs.Answers.{Gives};
 
 use crate::cells::{cells_in, cut_at};
 use crate::fault::ListKind;
@@ -10,7 +11,7 @@ use fumen_pages::Page;
 use pc_outside::Refused;
 use std::alloc::Global;
 
-// The four fields of a line.
+/// The four fields of a line.
 #[derive(Clone, Copy)]
 struct Four<'a> {
     cells: &'a [u8],
@@ -31,9 +32,15 @@ fn is_field(text: &[u8]) -> bool
     !text.is_empty() && is_blank_free(text)
 }
 
-// The fields that the first three blanks divide.
+/// The fields that the first three blanks divide.
 fn divided(line: &[u8]) -> Option<Four<'_>>
-    ensures { MatchOption result (divided line.now ≡ None) (λ four. divided line.now ≡ Some (record { cells = four.cells.now; operation = four.operation.now; flags = four.flags.now; comment = four.comment.now })) }
+    ensures { MatchOption result (divided line.now ≡ None)
+        (λ four. divided line.now ≡ Some (record {
+          cells = four.cells.now;
+          operation = four.operation.now;
+          flags = four.flags.now;
+          comment = four.comment.now;
+        })) }
 {
     let (cells, behind) = cut_at(b' ', line)?;
     let (operation, behind) = cut_at(b' ', behind)?;
@@ -46,10 +53,16 @@ fn divided(line: &[u8]) -> Option<Four<'_>>
     })
 }
 
-// Exactly four fields, divided by single blanks.
-#[tactic(auto, unfolding(crate::specs::Reading::four_in))]
+/// Exactly four fields, divided by single blanks.
+#[tactic(auto, unfolding(crate::specs::LineReading::four_in))]
 fn four_in(line: &[u8]) -> Option<Four<'_>>
-    ensures { MatchOption result (four_in line.now ≡ None) (λ four. four_in line.now ≡ Some (record { cells = four.cells.now; operation = four.operation.now; flags = four.flags.now; comment = four.comment.now })) }
+    ensures { MatchOption result (four_in line.now ≡ None)
+        (λ four. four_in line.now ≡ Some (record {
+          cells = four.cells.now;
+          operation = four.operation.now;
+          flags = four.flags.now;
+          comment = four.comment.now;
+        })) }
 {
     let four = divided(line)?;
     if is_field(four.cells)
@@ -64,9 +77,9 @@ fn four_in(line: &[u8]) -> Option<Four<'_>>
 }
 
 /// The page of a line without its newline, or the line's first fault.
-#[tactic(auto, unfolding(crate::specs::Reading::line_in))]
+#[tactic(auto, unfolding(crate::specs::LineReading::line_in))]
 pub(crate) fn read_line(alloc: Global, line: &[u8]) -> Result<Page, Refused<ListKind>>
-    ensures { Gives (λ page. page) result (line_in line.now) }
+    ensures { Gives (λ page. page) (λ fault. fault) result (line_in line.now) }
 {
     let Some(four) = four_in(line) else {
         return Err(Refused::Fault(ListKind::BadLine));

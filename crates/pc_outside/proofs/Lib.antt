@@ -1,3 +1,3 @@
 -- Lemmas of this crate, and worked cases of its definitions.
-pub mod Moving
+mod Moving
 mod Worked

@@ -1,10 +1,11 @@
--- What the contracts of this crate, and of those above it, say of counts, reads and writes.
-pub mod Counted
-pub mod CountLaws
+-- What a reader must believe
 pub mod Counts
-pub mod MemorySink
-pub mod MemorySource
-pub mod ReadLaws
+pub mod Counted
 pub mod Reads
-pub mod WriteLaws
 pub mod Writes
+pub mod MemorySource
+pub mod MemorySink
+-- What serves proofs alone
+pub mod CountLaws
+pub mod ReadLaws
+pub mod WriteLaws

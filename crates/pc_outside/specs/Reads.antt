@@ -7,7 +7,8 @@ use Rattle.std.specs.Io.KnownBytes.{Consumes}
 pub record Takes (old new : Option (List ℕ)) (bytes : List ℕ) : Type 0 where
   pub consumed : Consumes old new bytes
 
--- n bytes moved from the front of what was left into the front of the buffer; into a buffer that has room none move only at the end
+-- n bytes moved from the front of what was left into the front of the buffer; into a buffer that has room none move
+-- only at the end
 pub record Moves (old new : Option (List ℕ)) (before after : List ℕ) (n : ℕ) : Type 0 where
   pub within : n ≤ length before
   pub taken : Takes old new (take n after)

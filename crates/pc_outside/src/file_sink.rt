@@ -36,7 +36,7 @@ impl<W: Write> FileSink<W> {
     }
 }
 
-// Writes some of these bytes, at least one, and says how many.
+/// Writes some of these bytes, at least one, and says how many.
 fn write_some<W: Write>(writer: &mut W, bytes: &[u8]) -> Result<usize, Failed>
     requires { 0 < length bytes.now }
     ensures some { IfOk result (λ n. (0 < n) × (n ≤ length bytes.now)) }
@@ -50,7 +50,7 @@ fn write_some<W: Write>(writer: &mut W, bytes: &[u8]) -> Result<usize, Failed>
     }
 }
 
-// Writes all of these bytes, up to the first fault.
+/// Writes all of these bytes, up to the first fault.
 fn write_whole<W: Write>(writer: &mut W, bytes: &[u8]) -> Result<(), Failed>
     ensures passed { WritesAll (W.contents writer.old) (W.contents writer.new) result bytes.now }
     ensures idle { bytes.now ≡ [] → IsOk result × (writer.new ≡ writer.old) }
@@ -92,7 +92,7 @@ mod tests {
     use super::*;
     use std::io::{self, ErrorKind};
 
-    // Takes two bytes a call, but nothing in its fourth call, and is interrupted in its sixth.
+    /// Takes two bytes a call, but nothing in its fourth call, and is interrupted in its sixth.
     #[derive(Drop)]
     struct Writer {
         calls: u8,

@@ -69,7 +69,7 @@ mod tests {
     use super::*;
     use std::io::{self, ErrorKind};
 
-    // Gives "ab", is interrupted, gives "c", and is at its end.
+    /// Gives "ab", is interrupted, gives "c", and is at its end.
     #[derive(Drop)]
     struct Reader {
         calls: u8,

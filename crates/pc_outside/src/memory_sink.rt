@@ -67,7 +67,7 @@ impl MemorySink {
         &self.content
     }
 
-    // Appends the first so many of these bytes, as far as they fit, and fails.
+    /// Appends the first so many of these bytes, as far as they fit, and fails.
     #[tactic(auto, using(crate::specs::WriteLaws::front_taken))]
     fn fail_after(&mut self, bytes: &[u8], most: usize) -> Result<(), Failed>
         requires { most ≤ length bytes.now }

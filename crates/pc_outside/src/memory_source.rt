@@ -66,7 +66,7 @@ impl MemorySource {
     }
 }
 
-// Moves the front of these bytes into the front of the buffer, at most so many.
+/// Moves the front of these bytes into the front of the buffer, at most so many.
 #[tactic(auto, using(crate::proofs::Moving::moves_front))]
 fn move_front(left: &[u8], buf: &mut [u8], most: usize) -> usize
     requires { 1 ≤ most }

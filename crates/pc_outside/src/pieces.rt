@@ -7,7 +7,8 @@ use crate::{Failed, Sink};
 
 /// Writes the pieces one after the other, up to the first write that fails.
 pub fn write_pieces<O: Sink>(out: &mut O, pieces: &[&[u8]]) -> Result<(), Failed>
-    ensures written { WritesAll (O.written out.old) (O.written out.new) result (flat_map (λ piece. piece.now) pieces.now) }
+    ensures written { WritesAll (O.written out.old) (O.written out.new) result
+        (flat_map (λ piece. piece.now) pieces.now) }
     ensures cause { HasCause (O.faults out.old) (O.faults out.new) result }
 {
     for piece in pieces {

@@ -1,3 +1,4 @@
--- Lemmas of this crate.
-pub mod Digits
-pub mod ReadLaws
+-- Lemmas on the text of a placement.
+mod Digits
+mod ReadAsWritten
+pub mod CallerLemmas

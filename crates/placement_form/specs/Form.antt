@@ -7,7 +7,8 @@ use Rattle.srs.specs.Rotation.{rotation_letter}
 -- piece letter, rotation letter, a colon, the column, a comma and the row, as `T0:4,0`
 unfoldable pub placement_form : Placement → List ℕ
 placement_form placement =
-    (piece_letter placement.piece ∷ rotation_letter placement.rotation ∷ 58 ∷ []) ++ decimal placement.x ++ 44 ∷ [] ++ decimal placement.y
+    (piece_letter placement.piece ∷ rotation_letter placement.rotation ∷ 58 ∷ []) ++ decimal placement.x ++ 44 ∷ []
+    ++ decimal placement.y
 
 -- a text is what is written of a placement in a column from 0 to 9 and a row from 0 to 22
 pub record IsPlacementText (text : List ℕ) (placement : Placement) : Type 0 where

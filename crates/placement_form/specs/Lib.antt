@@ -1,3 +1,4 @@
--- What the contracts of this crate, and of those above it, say of texts of placements.
+-- What a reader must believe
 pub mod Form
+-- What serves proofs alone
 pub mod Reading

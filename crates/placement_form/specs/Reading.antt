@@ -29,6 +29,7 @@ unfoldable pub placement_in : List ℕ → Option Placement
 placement_in (piece ∷ rotation ∷ colon ∷ column ∷ comma ∷ row) =
     if colon == 58 && comma == 44
     then option_and_then (λ p. option_and_then (λ r. option_and_then (λ x. option_and_then (λ y.
-    Some (record { piece = p; rotation = r; x = x; y = y })) (row_in row)) (digit_in column)) (rotation_with_letter rotation)) (capital_piece piece)
+    Some (record { piece = p; rotation = r; x = x; y = y }))
+    (row_in row)) (digit_in column)) (rotation_with_letter rotation)) (capital_piece piece)
     else None
 placement_in other = None

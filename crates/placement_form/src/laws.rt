@@ -4,10 +4,13 @@ ghost use Rattle.srs.specs.declared.placement.Placement.{Placement};
 ghost use Rattle.placement_form.specs.Form.{IsPlacementText};
 ghost use Rattle.placement_form.specs.Reading.{placement_in};
 
-/// A text is read as a placement exactly where it is the text of this placement, and as none exactly where it is the text
-/// of none. So it is the text of one placement at most.
+/// A text is read as a placement exactly where it is the text of this placement, and as none exactly where it is the
+/// text of none. So it is the text of one placement at most.
 pub fn texts_are_read_as_written()
-    ensures read { (text : List ℕ) (placement : Placement) → (placement_in text ≡ Some placement) ↔ IsPlacementText text placement }
-    ensures none { (text : List ℕ) → (placement_in text ≡ None) ↔ ((placement : Placement) → IsPlacementText text placement → ⊥) }
-    ensures one { (text : List ℕ) (one other : Placement) → IsPlacementText text one → IsPlacementText text other → one ≡ other }
+    ensures read { (text : List ℕ) (placement : Placement) →
+        (placement_in text ≡ Some placement) ↔ IsPlacementText text placement }
+    ensures none { (text : List ℕ) → (placement_in text ≡ None)
+        ↔ ((placement : Placement) → IsPlacementText text placement → ⊥) }
+    ensures one { (text : List ℕ) (one other : Placement) → IsPlacementText text one → IsPlacementText text other →
+        one ≡ other }
 {}

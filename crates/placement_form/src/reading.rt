@@ -25,8 +25,8 @@ pub fn digit_in(letter: u8) -> Option<u8>
     }
 }
 
-/// The row, up to 22, that a digit of tens and one of ones make. `None` exactly where the tens are 0 or the row is above
-/// 22.
+/// The row, up to 22, that a digit of tens and one of ones make. `None` exactly where the tens are 0 or the row is
+/// above 22.
 pub fn two_digit_row(tens: u8, ones: u8) -> Option<u8>
     ensures { result ≡ two_digit_row tens ones }
 {
@@ -38,7 +38,7 @@ pub fn two_digit_row(tens: u8, ones: u8) -> Option<u8>
     }
 }
 
-// A row from 0 to 22, without a zero in front.
+/// A row from 0 to 22, without a zero in front.
 #[tactic(auto, unfolding(crate::specs::Reading::row_in))]
 fn row_in(text: &[u8]) -> Option<u8>
     ensures { result ≡ row_in text.now }
@@ -50,8 +50,8 @@ fn row_in(text: &[u8]) -> Option<u8>
     }
 }
 
-/// The placement whose text this is, in a column from 0 to 9 and a row from 0 to 22; it need not be inside. `None` exactly
-/// where the text is that of no such placement.
+/// The placement whose text this is, in a column from 0 to 9 and a row from 0 to 22; it need not be inside. `None`
+/// exactly where the text is that of no such placement.
 #[tactic(auto, unfolding(crate::specs::Reading::placement_in))]
 pub fn read_placement(text: &[u8]) -> Option<Placement>
     ensures { result ≡ placement_in text.now }

@@ -20,7 +20,7 @@ fn push(text: &mut PlacementText, bytes: &[u8])
     text.try_extend_from_slice(bytes).unwrap()
 }
 
-// The letters of the piece and the rotation, and the colon after them.
+/// The letters of the piece and the rotation, and the colon after them.
 fn letters(placement: &Placement) -> PlacementText
     ensures items { result.items ≡ piece_letter placement.now.piece ∷ rotation_letter placement.now.rotation ∷ 58 ∷ [] }
     ensures len { array_vec_len result ≡ 3 }

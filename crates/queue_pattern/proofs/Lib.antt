@@ -1,18 +1,19 @@
 -- Lemmas on sets, choices, queues and the grammar.
-pub mod ReadStep
-pub mod ReadBrackets
-pub mod ReadElement
-pub mod SetLemmas
-pub mod UniformLemmas
-pub mod ChoiceLemmas
-pub mod QueueLemmas
-pub mod FallingLemmas
-pub mod BuilderLemmas
-pub mod ParseLemmas
-pub mod LimitLemmas
-pub mod Standing
-pub mod PatternFacts
-pub mod SingleLemmas
-pub mod RisingQueues
-pub mod SpellingLemmas
-pub mod SpelledLemmas
+mod ReadStep
+mod ReadBrackets
+mod ReadElement
+mod SetLemmas
+mod UniformLemmas
+mod ChoiceLemmas
+mod QueueLemmas
+mod FallingLemmas
+mod BuilderLemmas
+mod ParseLemmas
+mod LimitLemmas
+mod Standing
+mod PatternFacts
+mod SingleLemmas
+mod RisingQueues
+mod ReadIsSpelled
+mod SpelledIsRead
+pub mod CallerLemmas

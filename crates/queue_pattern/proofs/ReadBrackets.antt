@@ -10,10 +10,10 @@ use Rattle.srs.specs.Piece.{piece_with_letter}
 use Rattle.queue_pattern.specs.declared.fault.PatternFault.TheVariants.{RepeatedPiece}
 use Rattle.queue_pattern.specs.declared.fault.PatternFault.{PatternFault}
 use Rattle.queue_pattern.specs.Reading.{IsNextSet}
-use Rattle.queue_pattern.specs.Grammar.{Position, Elements, opened, closed, listing, read_at, bracketed, listing_step, opened_step, listed_step, set_of}
+use Rattle.queue_pattern.specs.Grammar.{TextPosition, Elements, opened, closed, listing, read_at, bracketed, listing_step, opened_step, listed_step, set_of}
 use Rattle.queue_pattern.proofs.ReadStep.{read_step, read_end, within_text}
 
-listing_closes : (start : ℕ) (except : Bool) (listed place : ℕ) → listed ≢ 0 → (rest : Position → Elements)
+listing_closes : (start : ℕ) (except : Bool) (listed place : ℕ) → listed ≢ 0 → (rest : TextPosition → Elements)
     → listing_step start except listed place 93 rest ≡ rest (closed start (bracketed except listed))
 listing_closes start except listed place some rest = grind (arith, nat_tests)
 
@@ -21,10 +21,10 @@ listing_closes start except listed place some rest = grind (arith, nat_tests)
 pub read_close : (text : List ℕ) (start : ℕ) (except : Bool) (listed place : ℕ) → place < length text → get_or text place 0 ≡ 93 → listed ≢ 0
     → read_at text (listing start except listed) place ≡ read_at text (closed start (bracketed except listed)) (place + 1)
 read_close text start except listed place within byte some =
-    let rest : Position → Elements = λ next. read_at text next (place + 1) in
+    let rest : TextPosition → Elements = λ next. read_at text next (place + 1) in
     read_step text (listing start except listed) place within ∙ rw byte (listing_closes start except listed place some rest)
 
-listing_goes_on : (start : ℕ) (except : Bool) (listed place byte : ℕ) → (byte ≢ 93) ⊎ (listed ≡ 0) → (rest : Position → Elements)
+listing_goes_on : (start : ℕ) (except : Bool) (listed place byte : ℕ) → (byte ≢ 93) ⊎ (listed ≡ 0) → (rest : TextPosition → Elements)
     → listing_step start except listed place byte rest ≡ listed_step start except listed place (piece_with_letter byte) rest
 listing_goes_on start except listed place byte (inl other) rest = grind (arith, nat_tests)
 listing_goes_on start except listed place byte (inr none) rest = grind (arith, nat_tests)
@@ -34,17 +34,17 @@ pub read_listed : (text : List ℕ) (start : ℕ) (except : Bool) (listed place 
     → (get_or text place 0 ≢ 93) ⊎ (listed ≡ 0) → letter ≡ piece_with_letter (get_or text place 0)
     → read_at text (listing start except listed) place ≡ listed_step start except listed place letter (λ next. read_at text next (place + 1))
 read_listed text start except listed place letter within other is =
-    let rest : Position → Elements = λ next. read_at text next (place + 1) in
+    let rest : TextPosition → Elements = λ next. read_at text next (place + 1) in
     read_step text (listing start except listed) place within
     ∙ listing_goes_on start except listed place (get_or text place 0) other rest
     ∙ ap (λ l. listed_step start except listed place l rest) (sym is)
 
 -- what a letter between brackets does: it is refused, or joins the listed pieces
-pub repeated : (start : ℕ) (except : Bool) (listed place : ℕ) (piece : Piece) (rest : Position → Elements)
+pub repeated : (start : ℕ) (except : Bool) (listed place : ℕ) (piece : Piece) (rest : TextPosition → Elements)
     → true ≡ is_in piece listed → listed_step start except listed place (Some piece) rest ≡ Err (RepeatedPiece place)
 repeated start except listed place piece rest is = rw (sym is) refl
 
-pub joined : (start : ℕ) (except : Bool) (listed place : ℕ) (piece : Piece) (rest : Position → Elements)
+pub joined : (start : ℕ) (except : Bool) (listed place : ℕ) (piece : Piece) (rest : TextPosition → Elements)
     → false ≡ is_in piece listed
     → listed_step start except listed place (Some piece) rest ≡ rest (listing start except (bit_or listed (set_of piece)))
 joined start except listed place piece rest is = rw (sym is) refl
@@ -63,7 +63,7 @@ pub with_one-within : (listed : ℕ) (piece : Piece) → listed < 128 → bit_or
 with_one-within listed piece within = or_lt 7 listed (set_of piece) within (set_of-within piece)
 
 -- a set that is read from one position is read from another that goes on with it
-pub set_from : (text : List ℕ) (from to : Position) (start place after : ℕ) (read : Result (ℕ × ℕ) PatternFault) → place ≤ after
+pub set_from : (text : List ℕ) (from to : TextPosition) (start place after : ℕ) (read : Result (ℕ × ℕ) PatternFault) → place ≤ after
     → read_at text from place ≡ read_at text to after → IsNextSet text to start after read → IsNextSet text from start place read
 set_from text from to start place after (Ok found) le same next = (same ∙ next.0, next.1, omega arith, next.3)
 set_from text from to start place after (Err fault) le same next = same ∙ next
@@ -74,14 +74,14 @@ pub open_except : (text : List ℕ) (start : ℕ) → get_or text (start + 1) 0 
 open_except text start byte =
     read_step text (opened start) (start + 1) (within_text text (start + 1) 94 byte (omega arith)) ∙ rw byte (ap (read_at text (listing start true 0)) (omega arith))
 
-opens : (start place byte : ℕ) → byte ≢ 94 → (rest : Position → Elements) → opened_step start place byte rest ≡ listing_step start false 0 place byte rest
+opens : (start place byte : ℕ) → byte ≢ 94 → (rest : TextPosition → Elements) → opened_step start place byte rest ≡ listing_step start false 0 place byte rest
 opens start place byte other rest = grind (arith, nat_tests)
 
 pub open_listing : (text : List ℕ) (start : ℕ) → start < length text → get_or text (start + 1) 0 ≢ 94
     → read_at text (opened start) (start + 1) ≡ read_at text (listing start false 0) (start + 1)
 open_listing text start within other = elim (cases_lt (start + 1) (length text)) [
   | inl inside ↦
-      let rest : Position → Elements = λ next. read_at text next (start + 1 + 1) in
+      let rest : TextPosition → Elements = λ next. read_at text next (start + 1 + 1) in
       read_step text (opened start) (start + 1) inside ∙ opens start (start + 1) (get_or text (start + 1) 0) other rest
       ∙ sym (read_step text (listing start false 0) (start + 1) inside)
   | inr past ↦ let at_end : length text ≡ start + 1 = omega arith in

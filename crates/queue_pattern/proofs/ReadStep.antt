@@ -6,16 +6,16 @@ use Rattle.std.proofs.lemmas.Bool.{cases_lt}
 use Rattle.std.proofs.lemmas.List.{get_or_past}
 use Rattle.queue_pattern.specs.declared.fault.PatternFault.TheVariants.{Unexpected}
 use Rattle.queue_pattern.specs.Queues.{pieces_in}
-use Rattle.queue_pattern.specs.Grammar.{Position, Elements, outside, closed, choosing, step, end, elements_from, read_at, choice, before, closed_step, choosing_step, outside_step}
+use Rattle.queue_pattern.specs.Grammar.{TextPosition, Elements, outside, closed, choosing, position_step, end, elements_from, read_at, choice, before, closed_step, choosing_step, outside_step}
 
 -- a byte is left: what it does, and then what the text goes on with from the next place
-pub read_step : (text : List ℕ) (position : Position) (place : ℕ) → place < length text
-    → read_at text position place ≡ step position place (get_or text place 0) (λ next. read_at text next (place + 1))
+pub read_step : (text : List ℕ) (position : TextPosition) (place : ℕ) → place < length text
+    → read_at text position place ≡ position_step position place (get_or text place 0) (λ next. read_at text next (place + 1))
 unfolding elements_from
 read_step text position place within = rw (drop-cons text place 0, add-one) refl
 
 -- no byte is left
-pub read_end : (text : List ℕ) (position : Position) → read_at text position (length text) ≡ end position (length text)
+pub read_end : (text : List ℕ) (position : TextPosition) → read_at text position (length text) ≡ end position (length text)
 unfolding elements_from
 read_end text position = rw drop-length refl
 
@@ -37,7 +37,7 @@ pub choosing_digit : (text : List ℕ) (start set place digit : ℕ) → get_or 
 choosing_digit text start set place digit byte low high =
     read_step text (choosing start set) place (within_text text place digit byte (omega arith)) ∙ rw byte (grind (arith, nat_tests))
 
-not_a_digit : (start set place digit : ℕ) → (digit < 49) ⊎ (57 < digit) → (rest : Position → Elements)
+not_a_digit : (start set place digit : ℕ) → (digit < 49) ⊎ (57 < digit) → (rest : TextPosition → Elements)
     → choosing_step start set place digit rest ≡ Err (Unexpected place)
 not_a_digit start set place digit (inl below) rest = grind (arith, nat_tests)
 not_a_digit start set place digit (inr above) rest = grind (arith, nat_tests)
@@ -50,7 +50,7 @@ choosing_other text start set place digit within byte other = elim (cases_lt pla
       subst (λ k. read_at text (choosing start set) k ≡ Err (Unexpected k)) at_end (read_end text (choosing start set))
 ]
 
-no_mark : (start set place mark : ℕ) → mark ≢ 33 → mark ≢ 112 → mark ≢ 80 → (rest : Position → Elements)
+no_mark : (start set place mark : ℕ) → mark ≢ 33 → mark ≢ 112 → mark ≢ 80 → (rest : TextPosition → Elements)
     → closed_step start set place mark rest ≡ before (choice start set 1) (outside_step place mark rest)
 no_mark start set place mark bang small capital rest = grind (arith, nat_tests)
 
@@ -58,7 +58,7 @@ pub closed_other : (text : List ℕ) (start set place mark : ℕ) → place ≤ 
     → read_at text (closed start set) place ≡ before (choice start set 1) (read_at text outside place)
 closed_other text start set place mark within byte bang small capital = elim (cases_lt place (length text)) [
   | inl inside ↦
-      let rest : Position → Elements = λ next. read_at text next (place + 1) in
+      let rest : TextPosition → Elements = λ next. read_at text next (place + 1) in
       let here : read_at text outside place ≡ outside_step place mark rest = rw byte at (read_step text outside place inside) in
       read_step text (closed start set) place inside ∙ rw byte (no_mark start set place mark bang small capital rest)
       ∙ ap (before (choice start set 1)) (sym here)

@@ -8,7 +8,7 @@ use Rattle.srs.specs.declared.piece.Piece.{Piece}
 use Rattle.srs.specs.declared.piece.Piece.TheVariants.{I}
 use Rattle.srs.specs.Piece.{all_pieces, piece_code}
 use Rattle.queue_pattern.specs.Queues.{is_in, pieces_in, others}
-use Rattle.srs.proofs.ShapeLemmas.{each_piece}
+use Rattle.srs.proofs.CallerLemmas.{each_piece}
 use Rattle.queue_pattern.specs.Grammar.{set_of}
 use Rattle.queue_pattern.specs.Sound.{is_sound}
 

@@ -3,7 +3,7 @@ use Rattle.std.proofs.Common.{◌≡◌, ◌≤◌, ◌==◌, List, [], ◌∷�
 use Rattle.std.proofs.lemmas.Bool.Decides.{nat_tests}
 use Rattle.std.proofs.lemmas.List.Sums.{sum_by-cons}
 use Rattle.srs.specs.declared.piece.Piece.{Piece}
-use Rattle.srs.proofs.ShapeLemmas.{each_piece}
+use Rattle.srs.proofs.CallerLemmas.{each_piece}
 use Rattle.queue_pattern.specs.declared.element.Element.{Element}
 use Rattle.queue_pattern.specs.Grammar.{limited, set_of}
 use Rattle.queue_pattern.specs.Queues.{pieces_in, falling_factor, queue_len, queue_count}

@@ -1,9 +1,10 @@
--- The definitions that the contracts of this crate cite.
+-- What a reader must believe
 pub mod Queues
 pub mod Order
+pub mod Spelling
 pub mod Grammar
-pub mod Reading
+pub mod Pattern
+-- What serves proofs alone
 pub mod Sound
 pub mod Builder
-pub mod Pattern
-pub mod Spelling
+pub mod Reading

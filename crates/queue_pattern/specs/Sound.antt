@@ -5,4 +5,5 @@ use Rattle.queue_pattern.specs.Queues.{pieces_in}
 
 -- some pieces are chosen of a set of the seven, and no more than it has
 unfoldable pub is_sound : Element → Bool
-is_sound element = nat_lt element.set 128 && (nat_lt 0 element.chosen && nat_le element.chosen (length (pieces_in element.set)))
+is_sound element =
+    nat_lt element.set 128 && (nat_lt 0 element.chosen && nat_le element.chosen (length (pieces_in element.set)))

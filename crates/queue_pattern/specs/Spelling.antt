@@ -10,13 +10,16 @@ use Rattle.queue_pattern.specs.Grammar.{set_of, all_set, is_gap}
 abbrev pub SpellsLetters : ℕ → List ℕ → ℕ → Type 0
 SpellsLetters so_far [] set = so_far ≡ set
 SpellsLetters so_far (byte ∷ bytes) set =
-    (piece : Piece) × (piece_with_letter byte ≡ Some piece) × (is_in piece so_far ≡ false) × SpellsLetters (bit_or so_far (set_of piece)) bytes set
+    (piece : Piece) × (piece_with_letter byte ≡ Some piece) × (is_in piece so_far ≡ false)
+    × SpellsLetters (bit_or so_far (set_of piece)) bytes set
 
 -- `*` for all pieces; one or more letters between brackets, for theirs; or after `^` for all others
 pub data SpellsSet : List ℕ → ℕ → Type 0 where
   all : SpellsSet (42 ∷ []) all_set
-  these : {letters : List ℕ} {set : ℕ} → letters ≢ [] → SpellsLetters 0 letters set → SpellsSet (91 ∷ letters ++ 93 ∷ []) set
-  others : {letters : List ℕ} (set : ℕ) → letters ≢ [] → SpellsLetters 0 letters set → SpellsSet (91 ∷ 94 ∷ letters ++ 93 ∷ []) (all_set - set)
+  these : {letters : List ℕ} {set : ℕ} → letters ≢ [] → SpellsLetters 0 letters set
+      → SpellsSet (91 ∷ letters ++ 93 ∷ []) set
+  others : {letters : List ℕ} (set : ℕ) → letters ≢ [] → SpellsLetters 0 letters set
+      → SpellsSet (91 ∷ 94 ∷ letters ++ 93 ∷ []) (all_set - set)
 
 -- how many pieces are chosen of a set of so many: nothing for one, `p` or `P` and a digit from 1 to 9, or `!` for all
 pub data SpellsChosen : ℕ → List ℕ → ℕ → Type 0 where
@@ -26,12 +29,16 @@ pub data SpellsChosen : ℕ → List ℕ → ℕ → Type 0 where
 
 -- a letter, or a choice of some pieces of a set that is not empty, and no more than it has
 pub data SpellsElement : List ℕ → Element → Type 0 where
-  letter : {byte : ℕ} {piece : Piece} → piece_with_letter byte ≡ Some piece → SpellsElement (byte ∷ []) (record { set = set_of piece; chosen = 1 })
+  letter : {byte : ℕ} {piece : Piece} → piece_with_letter byte ≡ Some piece
+      → SpellsElement (byte ∷ []) (record { set = set_of piece; chosen = 1 })
   chosen : {front back : List ℕ} {set n : ℕ} → SpellsSet front set → SpellsChosen (length (pieces_in set)) back n
-      → 0 < length (pieces_in set) → n ≤ length (pieces_in set) → SpellsElement (front ++ back) (record { set = set; chosen = n })
+      → 0 < length (pieces_in set) → n ≤ length (pieces_in set)
+      → SpellsElement (front ++ back) (record { set = set; chosen = n })
 
 -- elements one after the other, with blanks and commas before, between and after them
 pub data SpellsElements : List ℕ → List Element → Type 0 where
   none : SpellsElements [] []
-  gap : {byte : ℕ} {text : List ℕ} {elements : List Element} → is_gap byte ≡ true → SpellsElements text elements → SpellsElements (byte ∷ text) elements
-  element : {front rest : List ℕ} {first : Element} {elements : List Element} → SpellsElement front first → SpellsElements rest elements → SpellsElements (front ++ rest) (first ∷ elements)
+  gap : {byte : ℕ} {text : List ℕ} {elements : List Element} → is_gap byte ≡ true → SpellsElements text elements
+      → SpellsElements (byte ∷ text) elements
+  element : {front rest : List ℕ} {first : Element} {elements : List Element} → SpellsElement front first
+      → SpellsElements rest elements → SpellsElements (front ++ rest) (first ∷ elements)

@@ -12,7 +12,8 @@ pub const MOST_PIECES: u8 = 22;
 /// The queues that a pattern may have.
 pub const MOST_QUEUES: u32 = 10_000_000;
 
-/// The first 22 elements that were read, and how many pieces and queues all of them make, up to one more than is allowed.
+/// The first 22 elements that were read, and how many pieces and queues all of them make, up to one more than is
+/// allowed.
 #[derive(Clone, Copy)]
 pub struct Builder {
     pub elements: [Element; 22],

@@ -17,7 +17,8 @@ pub fn queues_are_counted()
 /// The list of queues rises in the order of queues, so no two of them are equal.
 pub fn queues_rise()
     ensures rising { (elements : List Element) → IsStrictlySortedBy queue_cmp (queues elements) }
-    ensures distinct { (elements : List Element) (i j : ℕ) → i < j → j < length (queues elements) → slice_get (queues elements) i ≢ slice_get (queues elements) j }
+    ensures distinct { (elements : List Element) (i j : ℕ) → i < j → j < length (queues elements) →
+        slice_get (queues elements) i ≢ slice_get (queues elements) j }
 {}
 
 /// A pattern has a queue, and its queues have at most 22 pieces.
@@ -28,5 +29,6 @@ pub fn patterns_are_within_limits()
 
 /// A text is read as these elements exactly where it spells them.
 pub fn texts_are_read_as_they_spell()
-    ensures { (text : List ℕ) (elements : List Element) → (Grammar.elements text ≡ Ok elements) ↔ SpellsElements text elements }
+    ensures { (text : List ℕ) (elements : List Element) →
+        (Grammar.elements text ≡ Ok elements) ↔ SpellsElements text elements }
 {}

@@ -75,8 +75,10 @@ impl Pattern {
     /// The pattern of a builder, where its elements are within the limits.
     fn within_limits(builder: Builder) -> Result<Pattern, PatternFault>
         requires { (elements : List Element) × Holds builder elements }
-        ensures pattern { (elements : List Element) → Holds builder elements → IfOk result (λ pattern. limited (Ok elements) ≡ Ok (elements_of pattern)) }
-        ensures fault { (elements : List Element) → Holds builder elements → IfErr result (λ fault. limited (Ok elements) ≡ Err fault) }
+        ensures pattern { (elements : List Element) → Holds builder elements →
+            IfOk result (λ pattern. limited (Ok elements) ≡ Ok (elements_of pattern)) }
+        ensures fault { (elements : List Element) → Holds builder elements →
+            IfErr result (λ fault. limited (Ok elements) ≡ Err fault) }
     {
         if builder.pieces > MOST_PIECES {
             return Err(PatternFault::PatternTooLong);

@@ -9,11 +9,11 @@ use Rattle.srs.specs.declared.placement.Placement.{Placement}
 use Rattle.srs.specs.Piece.{piece_code}
 use Rattle.srs.specs.Rotation.{rotation_place}
 use Rattle.srs.specs.Cells.{Cell, moved, shape, cells_at, cells_of, pivot_of, in_well, is_inside_of}
-use Rattle.srs.specs.SameCells.{has_cell, SameCells, HasSameCells}
+use Rattle.srs.specs.SameCells.{is_among, SameCells, HasSameCells}
 use Rattle.srs.specs.Canonical.{IsCanonical, is_canonical, rotation_count, canonical_rotation, canonical_move}
-use Rattle.srs.proofs.CellLemmas.{apart_differ, has_cell-all, moved-origin, origin, map-moved-moved, same_cells-moved, same_cells-sym, still_same}
+use Rattle.srs.proofs.CellLemmas.{apart_differ, is_among-all, moved-origin, origin, map-moved-moved, same_cells-moved, same_cells-sym, still_same}
 use Rattle.srs.proofs.CodeLemmas.{piece_code-injective, rotation_place-injective}
-use Rattle.srs.proofs.ListLemmas.{and_first, and_second}
+use Rattle.lists.proofs.CallerLemmas.{and_first, and_second}
 use Rattle.srs.proofs.ShapeLemmas.{canonical_earlier, canonical_move_in_shape, canonical_rotation_own, canonical_shape, kinds_apart, pivot_in_shape, rotations_apart, shape_still}
 
 -- the canonical rotation, with its pivot moved, has the same cells
@@ -82,9 +82,9 @@ canonical_unique s t first second same =
     equal_parts s t p r x y = λ i. record { piece = p i; rotation = r i; x = x i; y = y i }
 
 -- each cell of a placement that is inside lies in the well
-pub inside_cell : (s : Placement) (move : Cell) → is_inside_of s ≡ true → has_cell (shape s.piece s.rotation) move ≡ true → in_well (moved (pivot_of s) move) ≡ true
+pub inside_cell : (s : Placement) (move : Cell) → is_inside_of s ≡ true → is_among (shape s.piece s.rotation) move ≡ true → in_well (moved (pivot_of s) move) ≡ true
 inside_cell s move inside has =
-    has_cell-all (λ x. in_well (moved (pivot_of s) x)) (shape s.piece s.rotation) move
+    is_among-all (λ x. in_well (moved (pivot_of s) x)) (shape s.piece s.rotation) move
     (sym (list_all-map in_well (moved (pivot_of s)) (shape s.piece s.rotation)) ∙ inside) has
 
 -- where a cell of the well lies

@@ -8,8 +8,8 @@ use Rattle.std.specs.Cmp.Lexicographic.{pointwise_decides}
 use Rattle.std.proofs.lemmas.Bool.{cases_Bool}
 use Rattle.std.proofs.lemmas.Int.{ints}
 use Rattle.srs.specs.Cells.{Cell, moved}
-use Rattle.srs.specs.SameCells.{cell_eq, cells_eq, has_cell, SameCells, is_same_cells}
-use Rattle.srs.proofs.ListLemmas.{and_first, and_second, and_both, or_right}
+use Rattle.srs.specs.SameCells.{cell_eq, cells_eq, is_among, SameCells, is_same_cells}
+use Rattle.lists.proofs.CallerLemmas.{and_first, and_second, and_both, or_right}
 
 -- the test of cells decides whether they are equal
 pub cell_eq-decides : (c d : Cell) → Decides (cell_eq c d) (c ≡ d)
@@ -54,50 +54,50 @@ int_eq-moved c x d =
     let forth : c +ℤ x ≡ d → x ≡ d -ℤ c = λ e. omega (arith, ints) in
     one_answer _ _ (signed_Decides (c +ℤ x) d) (λ e. back (there.0 e), λ e. there.1 (forth e))
 
-pub has_cell-moved : (c : Cell) (cells : List Cell) (d : Cell) → has_cell (map (moved c) cells) d ≡ has_cell cells (less d c)
-unfolding has_cell moved less
-has_cell-moved c [] d = refl
-has_cell-moved c (x ∷ xs) d = λ i. (int_eq-moved c.0 x.0 d.0 i && int_eq-moved c.1 x.1 d.1 i) || has_cell-moved c xs d i
+pub is_among-moved : (c : Cell) (cells : List Cell) (d : Cell) → is_among (map (moved c) cells) d ≡ is_among cells (less d c)
+unfolding is_among moved less
+is_among-moved c [] d = refl
+is_among-moved c (x ∷ xs) d = λ i. (int_eq-moved c.0 x.0 d.0 i && int_eq-moved c.1 x.1 d.1 i) || is_among-moved c xs d i
 
 -- what holds of all cells of a list holds of a cell that it has
-pub has_cell-all : (test : Cell → Bool) (cells : List Cell) (cell : Cell) → list_all test cells ≡ true → has_cell cells cell ≡ true → test cell ≡ true
-unfolding has_cell
-has_cell-all test [] cell all has = cc
-has_cell-all test (x ∷ xs) cell all has = elim (cases_Bool (cell_eq x cell)) [
+pub is_among-all : (test : Cell → Bool) (cells : List Cell) (cell : Cell) → list_all test cells ≡ true → is_among cells cell ≡ true → test cell ≡ true
+unfolding is_among
+is_among-all test [] cell all has = cc
+is_among-all test (x ∷ xs) cell all has = elim (cases_Bool (cell_eq x cell)) [
   | inl same ↦ subst (λ c. test c ≡ true) ((cell_eq-decides x cell).0 same) (and_first (test x) (list_all test xs) all)
-  | inr other ↦ has_cell-all test xs cell (and_second (test x) (list_all test xs) all) (subst (λ b. (b || has_cell xs cell) ≡ true) other has)
+  | inr other ↦ is_among-all test xs cell (and_second (test x) (list_all test xs) all) (subst (λ b. (b || is_among xs cell) ≡ true) other has)
 ]
 
 -- a list has its own cells
-pub has_cell-head : (x : Cell) (xs : List Cell) → has_cell (x ∷ xs) x ≡ true
-unfolding has_cell
-has_cell-head x xs = ap (λ b. b || has_cell xs x) ((cell_eq-decides x x).1 refl)
+pub has_cell-head : (x : Cell) (xs : List Cell) → is_among (x ∷ xs) x ≡ true
+unfolding is_among
+has_cell-head x xs = ap (λ b. b || is_among xs x) ((cell_eq-decides x x).1 refl)
 
-has_cell-tail : (x : Cell) (xs : List Cell) (c : Cell) → has_cell xs c ≡ true → has_cell (x ∷ xs) c ≡ true
-unfolding has_cell
-has_cell-tail x xs c has = or_right (cell_eq x c) (has_cell xs c) has
+has_cell-tail : (x : Cell) (xs : List Cell) (c : Cell) → is_among xs c ≡ true → is_among (x ∷ xs) c ≡ true
+unfolding is_among
+has_cell-tail x xs c has = or_right (cell_eq x c) (is_among xs c) has
 
 -- what holds of each cell that a list has holds of all
-pub list_all-from_has_cell : (test : Cell → Bool) (xs : List Cell) → ((x : Cell) → has_cell xs x ≡ true → test x ≡ true) → list_all test xs ≡ true
-list_all-from_has_cell test [] each = refl
-list_all-from_has_cell test (x ∷ xs) each =
-    and_both (test x) (list_all test xs) (each x (has_cell-head x xs)) (list_all-from_has_cell test xs (λ c has. each c (has_cell-tail x xs c has)))
+pub list_all-from_is_among : (test : Cell → Bool) (xs : List Cell) → ((x : Cell) → is_among xs x ≡ true → test x ≡ true) → list_all test xs ≡ true
+list_all-from_is_among test [] each = refl
+list_all-from_is_among test (x ∷ xs) each =
+    and_both (test x) (list_all test xs) (each x (has_cell-head x xs)) (list_all-from_is_among test xs (λ c has. each c (has_cell-tail x xs c has)))
 
 -- the cells of one list are cells of another, and the other way round
-pub same_cells-from : (xs ys : List Cell) → list_all (has_cell ys) xs ≡ true → list_all (has_cell xs) ys ≡ true → SameCells xs ys
+pub same_cells-from : (xs ys : List Cell) → list_all (is_among ys) xs ≡ true → list_all (is_among xs) ys ≡ true → SameCells xs ys
 same_cells-from xs ys there back = record {
-  same = λ c. both_ways (has_cell xs c) (has_cell ys c) (has_cell-all (has_cell ys) xs c there) (has_cell-all (has_cell xs) ys c back);
+  same = λ c. both_ways (is_among xs c) (is_among ys c) (is_among-all (is_among ys) xs c there) (is_among-all (is_among xs) ys c back);
 }
 
 -- the test of sets decides whether they are the same
 pub is_same_cells-decides : (xs ys : List Cell) → Decides (is_same_cells xs ys) (SameCells xs ys)
 is_same_cells-decides xs ys =
-    let there = list_all (has_cell ys) xs in
-    let back = list_all (has_cell xs) ys in (
+    let there = list_all (is_among ys) xs in
+    let back = list_all (is_among xs) ys in (
       λ e. same_cells-from xs ys (and_first there back e) (and_second there back e),
       λ h. and_both there back
-          (list_all-from_has_cell (has_cell ys) xs (λ c has. sym (h.same c) ∙ has))
-          (list_all-from_has_cell (has_cell xs) ys (λ c has. h.same c ∙ has)),
+          (list_all-from_is_among (is_among ys) xs (λ c has. sym (h.same c) ∙ has))
+          (list_all-from_is_among (is_among xs) ys (λ c has. h.same c ∙ has)),
     )
 
 pub same_cells-sym : {xs ys : List Cell} → SameCells xs ys → SameCells ys xs
@@ -108,11 +108,11 @@ same_cells-trans h k = record { same = λ c. h.same c ∙ k.same c }
 
 -- sets that are the same stay so where both are moved
 pub same_cells-moved : (c : Cell) (xs ys : List Cell) → SameCells xs ys → SameCells (map (moved c) xs) (map (moved c) ys)
-same_cells-moved c xs ys h = record { same = λ d. has_cell-moved c xs d ∙ h.same (less d c) ∙ sym (has_cell-moved c ys d) }
+same_cells-moved c xs ys h = record { same = λ d. is_among-moved c xs d ∙ h.same (less d c) ∙ sym (is_among-moved c ys d) }
 
 -- the move takes each cell of one list to a cell of the other
 unfoldable pub fits : List Cell → List Cell → Cell → Bool
-fits xs ys move = list_all (λ x. has_cell ys (moved move x)) xs
+fits xs ys move = list_all (λ x. is_among ys (moved move x)) xs
 
 less-moved : (c x : Cell) → less (moved c x) c ≡ x
 unfolding moved less
@@ -131,15 +131,15 @@ less-moved-other c d x =
 -- where two moved sets are the same, what lies between the two moves takes the one set into the other
 pub fits-between : (xs ys : List Cell) (c d : Cell) → SameCells (map (moved c) xs) (map (moved d) ys) → fits xs ys (less c d) ≡ true
 unfolding fits
-fits-between xs ys c d same = list_all-from_has_cell (λ x. has_cell ys (moved (less c d) x)) xs each
+fits-between xs ys c d same = list_all-from_is_among (λ x. is_among ys (moved (less c d) x)) xs each
   where
-    each : (x : Cell) → has_cell xs x ≡ true → has_cell ys (moved (less c d) x) ≡ true
+    each : (x : Cell) → is_among xs x ≡ true → is_among ys (moved (less c d) x) ≡ true
     each x has =
-        ap (has_cell ys) (sym (less-moved-other c d x))
-        ∙ sym (has_cell-moved d ys (moved c x))
+        ap (is_among ys) (sym (less-moved-other c d x))
+        ∙ sym (is_among-moved d ys (moved c x))
         ∙ sym (same.same (moved c x))
-        ∙ has_cell-moved c xs (moved c x)
-        ∙ ap (has_cell xs) (less-moved c x)
+        ∙ is_among-moved c xs (moved c x)
+        ∙ ap (is_among xs) (less-moved c x)
         ∙ has
 
 -- no move to a cell of the second list takes the first list into it
@@ -162,27 +162,27 @@ moved-origin c =
     λ i. (x i, y i)
 
 -- where two moved sets are the same and the first has the origin, what lies between the moves is a cell of the second
-pub between_in : (xs ys : List Cell) (c d : Cell) → has_cell xs origin ≡ true → SameCells (map (moved c) xs) (map (moved d) ys) → has_cell ys (less c d) ≡ true
+pub between_in : (xs ys : List Cell) (c d : Cell) → is_among xs origin ≡ true → SameCells (map (moved c) xs) (map (moved d) ys) → is_among ys (less c d) ≡ true
 unfolding fits
 between_in xs ys c d has same =
-    ap (has_cell ys) (sym (moved-origin (less c d)))
-    ∙ has_cell-all (λ x. has_cell ys (moved (less c d) x)) xs origin (fits-between xs ys c d same) has
+    ap (is_among ys) (sym (moved-origin (less c d)))
+    ∙ is_among-all (λ x. is_among ys (moved (less c d) x)) xs origin (fits-between xs ys c d same) has
 
-pub apart_differ : (xs ys : List Cell) (c d : Cell) → has_cell xs origin ≡ true → is_apart xs ys ≡ true → SameCells (map (moved c) xs) (map (moved d) ys) → ⊥
+pub apart_differ : (xs ys : List Cell) (c d : Cell) → is_among xs origin ≡ true → is_apart xs ys ≡ true → SameCells (map (moved c) xs) (map (moved d) ys) → ⊥
 unfolding is_apart
 apart_differ xs ys c d has apart same =
     not_both (fits xs ys (less c d)) (fits-between xs ys c d same)
-    (has_cell-all (λ move. not (fits xs ys move)) ys (less c d) apart (between_in xs ys c d has same))
+    (is_among-all (λ move. not (fits xs ys move)) ys (less c d) apart (between_in xs ys c d has same))
 
 -- only the move that moves nothing takes the list into itself
 unfoldable pub is_still : List Cell → Bool
 is_still xs = list_all (λ move. not (fits xs xs move) || cell_eq move origin) xs
 
 -- moved to two places it has the same cells only where the places are one
-pub still_same : (xs : List Cell) (c d : Cell) → has_cell xs origin ≡ true → is_still xs ≡ true → SameCells (map (moved c) xs) (map (moved d) xs) → c ≡ d
+pub still_same : (xs : List Cell) (c d : Cell) → is_among xs origin ≡ true → is_still xs ≡ true → SameCells (map (moved c) xs) (map (moved d) xs) → c ≡ d
 unfolding is_still
 still_same xs c d has still same =
     let fit = fits-between xs xs c d same in
-    let test = has_cell-all (λ move. not (fits xs xs move) || cell_eq move origin) xs (less c d) still (between_in xs xs c d has same) in
+    let test = is_among-all (λ move. not (fits xs xs move) || cell_eq move origin) xs (less c d) still (between_in xs xs c d has same) in
     let none : cell_eq (less c d) origin ≡ true = subst (λ b. (not b || cell_eq (less c d) origin) ≡ true) fit test in
     sym (moved-less c d) ∙ ap (moved d) ((cell_eq-decides (less c d) origin).0 none) ∙ moved-origin d

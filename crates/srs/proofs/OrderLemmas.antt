@@ -1,11 +1,12 @@
 -- The orders of placements and of sequences: both are total, and equal only of equal things.
-use Rattle.std.proofs.Common.{◌≡◌, ◌↔◌, ℕ, ◌<◌, List, [], ◌∷◌, ◌++◌, refl, sym, ap, subst, ◌∙◌, lt-ltb}
+use Rattle.std.proofs.Common.{◌≡◌, ◌↔◌, ◌<◌, List, [], ◌∷◌, ◌++◌, refl, sym, ap, subst, ◌∙◌}
 use Rattle.std.specs.Ordering.{ordering_then, nat_cmp}
 use Rattle.std.specs.Cmp.{IsTotalOrder, nat_cmp_total, on_total, then_total, tied_itself}
 use Rattle.std.specs.Cmp.Lexicographic.{lists_total}
 use Rattle.std.specs.FinMap.{IsAntisymmetric, nat_cmp-IsAntisymmetric, slice_cmp-IsAntisymmetric}
 use Rattle.std.specs.declared.cmp.Ordering.{Ordering}
 use Rattle.std.specs.declared.cmp.Ordering.TheVariants.{Less, Equal, Greater}
+use Rattle.lists.proofs.CallerLemmas.{below_is_less}
 use Rattle.srs.specs.declared.placement.Placement.{Placement}
 use Rattle.srs.specs.Piece.{piece_code}
 use Rattle.srs.specs.Rotation.{rotation_place}
@@ -61,9 +62,6 @@ sequence_cmp-antisymmetric = slice_cmp-IsAntisymmetric placement_cmp-antisymmetr
 
 pub sequence_cmp-equal : (s t : List Placement) → (sequence_cmp s t ≡ Equal) ↔ (s ≡ t)
 sequence_cmp-equal s t = (sequence_cmp-antisymmetric s t, λ e. ap (sequence_cmp s) (sym e) ∙ tied_itself sequence_cmp-total s)
-
-pub below_is_less : (m n : ℕ) → m < n → nat_cmp m n ≡ Less
-below_is_less m n below = rw (lt-ltb m n below) refl
 
 -- the piece is what is compared first
 pub placement_cmp-piece : (s t : Placement) → piece_code s.piece < piece_code t.piece → placement_cmp s t ≡ Less

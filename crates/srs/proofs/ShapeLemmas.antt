@@ -11,10 +11,10 @@ use Rattle.srs.specs.declared.placement.Placement.{Placement}
 use Rattle.srs.specs.Piece.{all_pieces, piece_code}
 use Rattle.srs.specs.Rotation.{all_rotations, rotation_place}
 use Rattle.srs.specs.Cells.{Cell, moved, shape, cells_of, pivot_of, is_near}
-use Rattle.srs.specs.SameCells.{has_cell, SameCells}
+use Rattle.srs.specs.SameCells.{is_among, SameCells}
 use Rattle.srs.specs.Canonical.{canonical_rotation, canonical_move, rotation_count}
 use Rattle.srs.proofs.CellLemmas.{origin, fits, is_apart, is_still, same_cells-from}
-use Rattle.srs.proofs.ListLemmas.{and_both, list_all_each}
+use Rattle.lists.proofs.CallerLemmas.{and_both, list_all_each}
 
 or_false : (a b : Bool) → a ≡ false → (a || b) ≡ true → b ≡ true
 or_false a b e h = subst (λ x. (x || b) ≡ true) e h
@@ -48,40 +48,40 @@ pub cells_length : (placement : Placement) → length (cells_of placement) ≡ 4
 cells_length q = length-map (shape q.piece q.rotation) (moved (pivot_of q)) ∙ shape_length q.piece q.rotation
 
 -- the pivot is a cell
-pub pivot_in_shape : (piece : Piece) (rotation : Rotation) → has_cell (shape piece rotation) origin ≡ true
-unfolding has_cell origin
-pivot_in_shape = each_state (λ p r. has_cell (shape p r) origin) refl
+pub pivot_in_shape : (piece : Piece) (rotation : Rotation) → is_among (shape piece rotation) origin ≡ true
+unfolding is_among origin
+pivot_in_shape = each_state (λ p r. is_among (shape p r) origin) refl
 
 -- the pivot of the canonical placement is a cell
-pub canonical_move_in_shape : (piece : Piece) (rotation : Rotation) → has_cell (shape piece rotation) (canonical_move piece rotation) ≡ true
-unfolding has_cell
-canonical_move_in_shape = each_state (λ p r. has_cell (shape p r) (canonical_move p r)) refl
+pub canonical_move_in_shape : (piece : Piece) (rotation : Rotation) → is_among (shape piece rotation) (canonical_move piece rotation) ≡ true
+unfolding is_among
+canonical_move_in_shape = each_state (λ p r. is_among (shape p r) (canonical_move p r)) refl
 
 pub canonical_move_near : (piece : Piece) (rotation : Rotation) → is_near (canonical_move piece rotation) ≡ true
 canonical_move_near = each_state (λ p r. is_near (canonical_move p r)) refl
 
 -- the shape of the canonical rotation, moved, has the same cells
 pub canonical_shape : (piece : Piece) (rotation : Rotation) → SameCells (map (moved (canonical_move piece rotation)) (shape piece (canonical_rotation piece rotation))) (shape piece rotation)
-unfolding has_cell moved
+unfolding is_among moved
 canonical_shape p r = same_cells-from _ _ (each_state there refl p r) (each_state back refl p r)
   where
     found : Piece → Rotation → List Cell
     found p r = map (moved (canonical_move p r)) (shape p (canonical_rotation p r))
 
     there : Piece → Rotation → Bool
-    there p r = list_all (has_cell (shape p r)) (found p r)
+    there p r = list_all (is_among (shape p r)) (found p r)
 
     back : Piece → Rotation → Bool
-    back p r = list_all (has_cell (found p r)) (shape p r)
+    back p r = list_all (is_among (found p r)) (shape p r)
 
 -- no two kinds of piece have a shape in common, wherever they are
 pub kinds_apart : (p : Piece) (r : Rotation) (q : Piece) (s : Rotation) → (piece_code p == piece_code q) ≡ false → is_apart (shape p r) (shape q s) ≡ true
-unfolding has_cell moved fits is_apart
+unfolding is_among moved fits is_apart
 kinds_apart p r q s other = or_false _ _ other (each_state (λ q s. piece_code p == piece_code q || is_apart (shape p r) (shape q s)) (each_state (λ p r. list_all (λ q. list_all (λ s. piece_code p == piece_code q || is_apart (shape p r) (shape q s)) all_rotations) all_pieces) refl p r) q s)
 
 -- the rotations that a piece has cells of its own in are apart from each earlier one
 pub rotations_apart : (p : Piece) (r s : Rotation) → nat_lt (rotation_place s) (rotation_count p) ≡ true → nat_lt (rotation_place r) (rotation_place s) ≡ true → is_apart (shape p r) (shape p s) ≡ true
-unfolding has_cell moved fits is_apart
+unfolding is_among moved fits is_apart
 rotations_apart p r s own earlier = both_so _ _ _ own earlier (each_rotation (λ s. test p r s) (each_state (λ p r. list_all (test p r) all_rotations) refl p r) s)
   where
     test : Piece → Rotation → Rotation → Bool
@@ -91,7 +91,7 @@ rotations_apart p r s own earlier = both_so _ _ _ own earlier (each_rotation (λ
     both_so a b c e f h = subst (λ x. (not x || c) ≡ true) (and_both a b e f) h
 
 pub shape_still : (p : Piece) (r : Rotation) → is_still (shape p r) ≡ true
-unfolding has_cell moved fits is_still origin
+unfolding is_among moved fits is_still origin
 shape_still = each_state (λ p r. is_still (shape p r)) refl
 
 -- a rotation has cells of its own, or the canonical one is earlier

@@ -11,7 +11,8 @@ use Rattle.srs.specs.SameCells.{SameCells}
 
 -- no other rotation, earlier in the order 0, R, 2, L, has the same cells, wherever its pivot is
 pub record IsCanonical (placement : Placement) : Type 0 where
-  pub earliest : (rotation : Rotation) (pivot : Cell) → rotation_place rotation < rotation_place placement.rotation → SameCells (cells_at placement.piece rotation pivot) (cells_of placement) → ⊥
+  pub earliest : (rotation : Rotation) (pivot : Cell) → rotation_place rotation < rotation_place placement.rotation
+      → SameCells (cells_at placement.piece rotation pivot) (cells_of placement) → ⊥
 
 -- how many rotations of a piece have cells of their own: the first so many in the order
 abbrev pub rotation_count : Piece → ℕ

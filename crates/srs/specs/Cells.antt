@@ -1,4 +1,5 @@
--- The cells of a piece in a rotation: the pivot moved by the four offsets of its shape, as the Super Rotation System has them.
+-- The cells of a piece in a rotation: the pivot moved by the four offsets of its shape, as the Super Rotation System
+-- has them.
 use Rattle.std.specs.Prelude.{ℕ, Bool, false, ◌&&◌, ℤ, pos, ◌+ℤ◌, neg_ℤ, int_le, nat_le, map, List, [], ◌∷◌}
 use Rattle.std.specs.List.{list_all}
 use Rattle.srs.specs.declared.piece.Piece.{Piece}
@@ -47,8 +48,8 @@ shape S Reverse = (pos 1, pos 0) ∷ (pos 0, pos 0) ∷ (pos 0, minus 1) ∷ (mi
 shape S Left = (pos 0, minus 1) ∷ (pos 0, pos 0) ∷ (minus 1, pos 0) ∷ (minus 1, pos 1) ∷ []
 
 -- a quarter turn clockwise about the pivot
-abbrev pub turned : Cell → Cell
-turned offset = (offset.1, neg_ℤ offset.0)
+abbrev pub turned_clockwise : Cell → Cell
+turned_clockwise offset = (offset.1, neg_ℤ offset.0)
 
 -- a cell moved by a number of columns and rows
 unfoldable pub moved : Cell → Cell → Cell

@@ -23,7 +23,8 @@ srs_table I Reverse = (minus 1, pos 1) ∷ (pos 1, pos 1) ∷ (minus 2, pos 1) �
 srs_table I Left = (pos 0, pos 1) ∷ (pos 0, pos 1) ∷ (pos 0, pos 1) ∷ (pos 0, minus 1) ∷ (pos 0, pos 2) ∷ []
 srs_table O Spawn = (pos 0, pos 0) ∷ (pos 0, pos 0) ∷ (pos 0, pos 0) ∷ (pos 0, pos 0) ∷ (pos 0, pos 0) ∷ []
 srs_table O Right = (pos 0, minus 1) ∷ (pos 0, minus 1) ∷ (pos 0, minus 1) ∷ (pos 0, minus 1) ∷ (pos 0, minus 1) ∷ []
-srs_table O Reverse = (minus 1, minus 1) ∷ (minus 1, minus 1) ∷ (minus 1, minus 1) ∷ (minus 1, minus 1) ∷ (minus 1, minus 1) ∷ []
+srs_table O Reverse =
+    (minus 1, minus 1) ∷ (minus 1, minus 1) ∷ (minus 1, minus 1) ∷ (minus 1, minus 1) ∷ (minus 1, minus 1) ∷ []
 srs_table O Left = (minus 1, pos 0) ∷ (minus 1, pos 0) ∷ (minus 1, pos 0) ∷ (minus 1, pos 0) ∷ (minus 1, pos 0) ∷ []
 srs_table _ Spawn = (pos 0, pos 0) ∷ (pos 0, pos 0) ∷ (pos 0, pos 0) ∷ (pos 0, pos 0) ∷ (pos 0, pos 0) ∷ []
 srs_table _ Right = (pos 0, pos 0) ∷ (pos 1, pos 0) ∷ (pos 1, minus 1) ∷ (pos 0, pos 2) ∷ (pos 1, pos 2) ∷ []
@@ -65,7 +66,8 @@ pair_of offset = (offset.dx, offset.dy)
 
 -- at most three columns and three rows
 abbrev pub is_small_move : Cell → Bool
-is_small_move move = int_le (minus 3) move.0 && int_le move.0 (pos 3) && int_le (minus 3) move.1 && int_le move.1 (pos 3)
+is_small_move move =
+    int_le (minus 3) move.0 && int_le move.0 (pos 3) && int_le (minus 3) move.1 && int_le move.1 (pos 3)
 
 -- the same of an offset
 abbrev pub is_small : Offset → Bool

@@ -1,4 +1,4 @@
--- Definitions that the contracts cite: pieces, rotations, cells, kicks, canonical placements, orders and rising lists.
+-- What a reader must believe
 pub mod Piece
 pub mod Rotation
 pub mod Cells
@@ -7,5 +7,5 @@ pub mod Canonical
 pub mod Order
 pub mod Kick
 pub mod Rules
-pub mod Rising
+-- What serves proofs alone
 pub mod Placements

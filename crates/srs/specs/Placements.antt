@@ -13,10 +13,12 @@ pub record IsCanonicalInside (piece : Piece) (placement : Placement) : Type 0 wh
   pub canonical : IsCanonical placement
   pub inside : IsTrue (is_inside_of placement)
 
--- the placements of a piece with the pivot in the well: by rotation, then from the lowest row up, then from left to right
+-- the placements of a piece with the pivot in the well: by rotation, then from the lowest row up, then from left to
+-- right
 abbrev pub placements_by_pivot : Piece → List Placement
 placements_by_pivot piece =
-    flat_map (λ rotation. flat_map (λ y. map (λ x. record { piece = piece; rotation = rotation; x = x; y = y }) (range_with_len 0 10)) (range_with_len 0 23)) all_rotations
+    flat_map (λ rotation. flat_map (λ y. map (λ x. record { piece = piece; rotation = rotation; x = x; y = y })
+    (range_with_len 0 10)) (range_with_len 0 23)) all_rotations
 
 abbrev pub is_canonical_inside : Placement → Bool
 is_canonical_inside placement = is_canonical placement && is_inside_of placement

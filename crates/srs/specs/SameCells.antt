@@ -15,16 +15,16 @@ abbrev pub cells_eq : List Cell → List Cell → Bool
 cells_eq = pointwise cell_eq
 
 -- whether the cell is among these
-unfoldable pub has_cell : List Cell → Cell → Bool
-has_cell cells cell = list_any (λ c. cell_eq c cell) cells
+unfoldable pub is_among : List Cell → Cell → Bool
+is_among cells cell = list_any (λ c. cell_eq c cell) cells
 
 -- as sets they are the same
 pub record SameCells (xs ys : List Cell) : Type 0 where
-  pub same : (cell : Cell) → has_cell xs cell ≡ has_cell ys cell
+  pub same : (cell : Cell) → is_among xs cell ≡ is_among ys cell
 
 -- the test of `SameCells`
 abbrev pub is_same_cells : List Cell → List Cell → Bool
-is_same_cells xs ys = list_all (has_cell ys) xs && list_all (has_cell xs) ys
+is_same_cells xs ys = list_all (is_among ys) xs && list_all (is_among xs) ys
 
 -- two placements have the same cells
 abbrev pub HasSameCells : Placement → Placement → Type 0

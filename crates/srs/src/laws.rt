@@ -4,11 +4,11 @@ ghost use Rattle.std.specs.Cmp.{IsTotalOrder};
 ghost use Rattle.srs.specs.declared.placement.Placement.{Placement};
 ghost use Rattle.srs.specs.Piece.{all_pieces, piece_code, piece_letter, piece_with_code, piece_with_letter};
 ghost use Rattle.srs.specs.Rotation.{all_rotations, rotation_letter, rotation_with_letter, clockwise_of, anticlockwise_of};
-ghost use Rattle.srs.specs.Cells.{shape, turned};
+ghost use Rattle.srs.specs.Cells.{shape, turned_clockwise};
 ghost use Rattle.srs.specs.SameCells.{HasSameCells};
 ghost use Rattle.srs.specs.Canonical.{IsCanonical, is_canonical};
 ghost use Rattle.srs.specs.Order.{placement_cmp, sequence_cmp};
-ghost use Rattle.srs.specs.Rising.{IsRisingListOf};
+ghost use Rattle.lists.specs.Rising.{IsRisingListOf};
 ghost use Rattle.srs.specs.Placements.{IsCanonicalInside, placements_of};
 ghost use Rattle.srs.specs.Kick.{IsSmallTable};
 ghost use Rattle.srs.specs.Rules.{table_of};
@@ -39,7 +39,8 @@ pub fn turns_undo_each_other()
 
 /// The shapes of a piece follow each other by quarter turns about the pivot.
 pub fn shapes_turn()
-    ensures { (piece : Piece) (rotation : Rotation) → shape piece (clockwise_of rotation) ≡ map turned (shape piece rotation) }
+    ensures { (piece : Piece) (rotation : Rotation) →
+        shape piece (clockwise_of rotation) ≡ map turned_clockwise (shape piece rotation) }
 {}
 
 /// The order of placements is total, and Equal only of equal placements.

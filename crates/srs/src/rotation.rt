@@ -2,7 +2,8 @@
 ghost use Rattle.std.specs.Prelude.{◌≡◌};
 ghost use Rattle.srs.specs.Rotation.{rotation_place, rotation_letter, rotation_with_letter, clockwise_of, anticlockwise_of};
 
-/// A rotation of a piece: as it appears, and turned from there by a quarter clockwise, by a half, and by a quarter anticlockwise.
+/// A rotation of a piece: as it appears, and turned from there by a quarter clockwise, by a half, and by a quarter
+/// anticlockwise.
 #[derive(Clone, Copy, Debug, Default, PartialEq, Eq, Hash)]
 pub enum Rotation {
     #[default]

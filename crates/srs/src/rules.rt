@@ -25,7 +25,8 @@ struct Turns {
     left: Tests,
 }
 
-/// A table of offsets: five for each piece and rotation, for the tests 1 to 5 of a turn. Each is at most three columns and three rows.
+/// A table of offsets: five for each piece and rotation, for the tests 1 to 5 of a turn. Each is at most three columns
+/// and three rows.
 #[derive(Clone, Copy, Debug, PartialEq, Eq)]
 pub struct Rules {
     i: Turns,

@@ -15,7 +15,8 @@ pub fn canonical(placement: &Placement) -> Placement
     requires { IsTrue (is_inside_of placement.now) }
     ensures piece { result.piece ≡ placement.now.piece }
     ensures rotation { result.rotation ≡ canonical_rotation placement.now.piece placement.now.rotation }
-    ensures pivot { pivot_of result ≡ moved (pivot_of placement.now) (canonical_move placement.now.piece placement.now.rotation) }
+    ensures pivot { pivot_of result ≡ moved (pivot_of placement.now)
+        (canonical_move placement.now.piece placement.now.rotation) }
     ensures cells { HasSameCells result placement.now }
     ensures canonical { IsCanonical result }
 {
@@ -27,7 +28,8 @@ fn moved_pivot(placement: &Placement) -> Placement
     requires { IsTrue (is_inside_of placement.now) }
     ensures piece { result.piece ≡ placement.now.piece }
     ensures rotation { result.rotation ≡ canonical_rotation placement.now.piece placement.now.rotation }
-    ensures pivot { pivot_of result ≡ moved (pivot_of placement.now) (canonical_move placement.now.piece placement.now.rotation) }
+    ensures pivot { pivot_of result ≡ moved (pivot_of placement.now)
+        (canonical_move placement.now.piece placement.now.rotation) }
 {
     let (rotation, change) = earliest(placement.piece, placement.rotation);
     let (x, y) = cell_at((placement.x as i8, placement.y as i8), change);

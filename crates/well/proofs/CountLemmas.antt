@@ -8,9 +8,7 @@ use Rattle.std.proofs.lemmas.Nat.Bits.{bit_at-trailing_zeros}
 use Rattle.lane_board.specs.Field.{Field}
 use Rattle.lane_board.specs.FullRows.{columns, is_full}
 use Rattle.lane_board.specs.Lanes.{has_bit}
-use Rattle.lane_board.proofs.BoardFields.{true_from_bit, false_from_bit}
-use Rattle.lane_board.proofs.RowBits.{has_bit-zero}
-use Rattle.lane_board.proofs.RowTables.{column_is}
+use Rattle.lane_board.proofs.CallerLemmas.{true_from_bit, false_from_bit, has_bit-zero, column_is}
 use Rattle.well.specs.Counts.{is_filled_row, lowest_full, lowest_filled_from}
 
 first_in_range : (p : ℕ → Bool) (n from at : ℕ) → from ≤ at → at < from + n → p at ≡ true → ((k : ℕ) → from ≤ k → k < at → p k ≡ false) → find p (range_with_len from n) ≡ Some at

@@ -8,10 +8,8 @@ use Rattle.srs.specs.declared.piece.Piece.{Piece}
 use Rattle.srs.specs.declared.rotation.Rotation.{Rotation}
 use Rattle.srs.specs.declared.placement.Placement.{Placement}
 use Rattle.srs.specs.Cells.{Cell, shape, cells_at, in_well, is_inside_of}
-use Rattle.srs.specs.SameCells.{has_cell}
-use Rattle.srs.proofs.CellLemmas.{less, origin, has_cell-moved, has_cell-all}
-use Rattle.srs.proofs.ShapeLemmas.{pivot_in_shape}
-use Rattle.srs.proofs.CanonicalLemmas.{LiesAt, in_well-place, PivotInside, pivot_inside}
+use Rattle.srs.specs.SameCells.{is_among}
+use Rattle.srs.proofs.CallerLemmas.{less, origin, is_among-moved, is_among-all, pivot_in_shape, LiesAt, in_well-place, PivotInside, pivot_inside}
 use Rattle.well.specs.Free.{is_open, is_free_at, is_free}
 
 -- an open cell lies in the well
@@ -41,14 +39,14 @@ less_self c =
     λ i. (x i, y i)
 
 -- the pivot is one of the cells
-pub has_pivot : (piece : Piece) (rotation : Rotation) (pivot : Cell) → has_cell (cells_at piece rotation pivot) pivot ≡ true
+pub has_pivot : (piece : Piece) (rotation : Rotation) (pivot : Cell) → is_among (cells_at piece rotation pivot) pivot ≡ true
 has_pivot piece rotation pivot =
-    has_cell-moved pivot (shape piece rotation) pivot ∙ ap (has_cell (shape piece rotation)) (less_self pivot) ∙ pivot_in_shape piece rotation
+    is_among-moved pivot (shape piece rotation) pivot ∙ ap (is_among (shape piece rotation)) (less_self pivot) ∙ pivot_in_shape piece rotation
 
 -- so the pivot of a free piece is open, and lies in the well
 pub free_pivot_open : (F : Field) (piece : Piece) (rotation : Rotation) (pivot : Cell) → is_free_at F piece rotation pivot ≡ true → is_open F pivot ≡ true
 unfolding is_free_at
-free_pivot_open F piece rotation pivot free = has_cell-all (is_open F) (cells_at piece rotation pivot) pivot free (has_pivot piece rotation pivot)
+free_pivot_open F piece rotation pivot free = is_among-all (is_open F) (cells_at piece rotation pivot) pivot free (has_pivot piece rotation pivot)
 
 pub free_pivot : (F : Field) (piece : Piece) (rotation : Rotation) (pivot : Cell) → is_free_at F piece rotation pivot ≡ true → LiesAt pivot
 free_pivot F piece rotation pivot free = in_well-place pivot (open_in_well F pivot (free_pivot_open F piece rotation pivot free))

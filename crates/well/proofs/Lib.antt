@@ -1,7 +1,8 @@
 -- Lemmas on free placements, locking, counts and rows text.
-pub mod FreeLemmas
-pub mod WellFields
-pub mod LockLemmas
-pub mod CountLemmas
-pub mod RowsLemmas
-mod Examples
+mod FreeLemmas
+mod WellFields
+mod LockLemmas
+mod CountLemmas
+mod RowsLemmas
+mod Worked
+pub mod CallerLemmas

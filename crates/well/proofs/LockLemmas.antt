@@ -9,17 +9,13 @@ use Rattle.std.proofs.lemmas.Int.{ints}
 use Rattle.lane_board.specs.Field.{Field, with_cell}
 use Rattle.lane_board.specs.FullRows.{full_below, without_full_rows}
 use Rattle.lane_board.specs.CellCount.{cell_count}
-use Rattle.lane_board.proofs.CellCounts.{takes_ten_each}
-use Rattle.lane_board.proofs.CellTests.{or_none}
-use Rattle.lane_board.proofs.CountWith.{cell_count-with}
-use Rattle.lane_board.proofs.Removal.{left_below, without_full_rows-empty, full_below-empty, full_below-le}
+use Rattle.lane_board.proofs.CallerLemmas.{takes_ten_each, or_none, cell_count-with, left_below, without_full_rows-empty, full_below-empty, full_below-le}
 use Rattle.srs.specs.declared.piece.Piece.{Piece}
 use Rattle.srs.specs.declared.rotation.Rotation.{Rotation}
 use Rattle.srs.specs.declared.placement.Placement.{Placement}
 use Rattle.srs.specs.Cells.{Cell, moved, shape, cells_of, in_well, pivot_of}
-use Rattle.srs.specs.SameCells.{cell_eq, has_cell}
-use Rattle.srs.proofs.CellLemmas.{cell_eq-decides, has_cell-all}
-use Rattle.srs.proofs.ShapeLemmas.{each_state, cells_length}
+use Rattle.srs.specs.SameCells.{cell_eq, is_among}
+use Rattle.srs.proofs.CallerLemmas.{cell_eq-decides, is_among-all, each_state, cells_length}
 use Rattle.well.specs.Free.{is_open, is_free_at, is_free}
 use Rattle.well.specs.Lock.{with_place, together, locked, rows_removed}
 use Rattle.well.specs.LockLaws.{AddsFourCells, LiesBelow, is_below, StaysBelow, RemovesBelow}
@@ -48,19 +44,19 @@ placed F column row = fun_ext (λ x. fun_ext (λ y. ap (λ b. F x y || b) (same 
 
 -- the field and the cells of a list
 unfoldable added : Field → List Cell → Field
-added F cells x y = F x y || has_cell cells (pos x, pos y)
+added F cells x y = F x y || is_among cells (pos x, pos y)
 
 or_assoc : (a b c : Bool) → (a || (b || c)) ≡ ((a || b) || c)
 or_assoc true b c = refl
 or_assoc false b c = refl
 
 added-nil : (F : Field) → added F [] ≡ F
-unfolding added has_cell
+unfolding added is_among
 added-nil F = fun_ext (λ x. fun_ext (λ y. or_none (F x y) false refl))
 
 added-cons : (F : Field) (cell : Cell) (cells : List Cell) → added F (cell ∷ cells) ≡ added (with_place F cell) cells
-unfolding added has_cell with_place
-added-cons F cell cells = fun_ext (λ x. fun_ext (λ y. or_assoc (F x y) (cell_eq cell (pos x, pos y)) (has_cell cells (pos x, pos y))))
+unfolding added is_among with_place
+added-cons F cell cells = fun_ext (λ x. fun_ext (λ y. or_assoc (F x y) (cell_eq cell (pos x, pos y)) (is_among cells (pos x, pos y))))
 
 -- four cells are added one after another
 added_four : (F : Field) (cells : List Cell) (d : Cell) → length cells ≡ 4 →
@@ -174,9 +170,9 @@ full_above G height (suc k) none =
     ap (full_below G) size ∙ full_below-empty G (height + k) (λ x. none x (height + k) (omega arith)) ∙ full_above G height k none
 
 -- a cell of the placement is not in row `height` or above
-below_cell : (q : Placement) (height x y : ℕ) → is_below height q ≡ true → height ≤ y → has_cell (cells_of q) (pos x, pos y) ≡ false
+below_cell : (q : Placement) (height x y : ℕ) → is_below height q ≡ true → height ≤ y → is_among (cells_of q) (pos x, pos y) ≡ false
 below_cell q height x y below above =
-    false_from_ne_true _ (λ has. omega (arith, ints, ltb-true y height (has_cell-all (λ cell. int_lt cell.1 (pos height)) (cells_of q) (pos x, pos y) below has)))
+    false_from_ne_true _ (λ has. omega (arith, ints, ltb-true y height (is_among-all (λ cell. int_lt cell.1 (pos height)) (cells_of q) (pos x, pos y) below has)))
 
 together_below : (F : Field) (q : Placement) (height : ℕ) → LiesBelow F height → is_below height q ≡ true → (x y : ℕ) → height ≤ y → together F q x y ≡ false
 unfolding together

@@ -7,9 +7,9 @@ use Rattle.std.proofs.lemmas.Bool.{cases_Bool, cases_order, cond-true, cond-fals
 use Rattle.std.proofs.lemmas.List.{reverse-append, length-reverse, get_or_append_left, get_or_push, get_or_past, length_push, take_more, drop_more, take_all, drop_all}
 use Rattle.std.proofs.lemmas.List.Splits.{length-slice_split, slice_split-cons_yes, slice_split-cons_no}
 use Rattle.lane_board.specs.Field.{Field, empty_field, with_cell}
-use Rattle.lane_board.proofs.CellTests.{or_none}
+use Rattle.lane_board.proofs.CallerLemmas.{or_none}
 use Rattle.well.specs.declared.rows.RowsFault.{RowsFault}
-use Rattle.well.specs.Rows.{is_slash, is_filled_char, fault_at, fault_at_end, fault_from, rows_fault, written_cells}
+use Rattle.well.specs.Rows.{is_slash, is_filled_char, fault_at_byte, fault_at_end, fault_from, rows_fault, written_cells}
 use Rattle.well.specs.RowsReading.{raised}
 
 -- the rows of a text, the last first
@@ -183,7 +183,7 @@ starts (x ∷ xs) row n F some cells first none = record {
   due = λ i. fault_from (first i) (none i) 0 (x ∷ xs);
 }
 
-due_more : (row n place byte row' n' : ℕ) (rest : List ℕ) → fault_at row n place byte ≡ None → row' ≡ cond (is_slash byte) (row + 1) row → n' ≡ cond (is_slash byte) 0 (n + 1) →
+due_more : (row n place byte row' n' : ℕ) (rest : List ℕ) → fault_at_byte row n place byte ≡ None → row' ≡ cond (is_slash byte) (row + 1) row → n' ≡ cond (is_slash byte) 0 (n + 1) →
     fault_from row n place (byte ∷ rest) ≡ fault_from row' n' (place + 1) rest
 unfolding fault_from
 due_more row n place byte row' n' rest none next characters =
@@ -193,7 +193,7 @@ due_more row n place byte row' n' rest none next characters =
       | inr other ↦ cond-false _ (fault_from (row + 1) 0 (place + 1) rest) _ other ∙ sym (λ i. fault_from ((next ∙ cond-false _ (row + 1) row other) i) ((characters ∙ cond-false _ 0 (n + 1) other) i) (place + 1) rest)
     ]
 
-pub goes_on : (text : List ℕ) (i row n byte row' n' : ℕ) (F G : Field) → i < length text → byte ≡ get_or text i 0 → Progress text i row n F → fault_at row n i byte ≡ None →
+pub goes_on : (text : List ℕ) (i row n byte row' n' : ℕ) (F G : Field) → i < length text → byte ≡ get_or text i 0 → Progress text i row n F → fault_at_byte row n i byte ≡ None →
     row' ≡ cond (is_slash byte) (row + 1) row → n' ≡ cond (is_slash byte) 0 (n + 1) → G ≡ cond (is_slash byte) (raised F) (cond (is_filled_char byte) (with_cell F n 0) F) → Progress text (i + 1) row' n' G
 goes_on text i row n byte row' n' F G within at progress none next characters cells = record {
   read = subst (λ front. HasRead front n' G) (ap (λ b. take i text ++ b ∷ []) at ∙ sym (take_more text i 0 within)) (has_read_more (take i text) n byte n' F G progress.read characters cells);
@@ -201,7 +201,7 @@ goes_on text i row n byte row' n' F G within at progress none next characters ce
       ∙ ap (λ b. fault_from row n i (b ∷ drop (i + 1) text)) at ∙ sym (ap (fault_from row n i) (drop_more text i 0 within)) ∙ progress.due;
 }
 
-pub faults : (text : List ℕ) (i row n byte : ℕ) (F : Field) (fault : RowsFault) → i < length text → byte ≡ get_or text i 0 → Progress text i row n F → fault_at row n i byte ≡ Some fault → rows_fault text ≡ Some fault
+pub faults : (text : List ℕ) (i row n byte : ℕ) (F : Field) (fault : RowsFault) → i < length text → byte ≡ get_or text i 0 → Progress text i row n F → fault_at_byte row n i byte ≡ Some fault → rows_fault text ≡ Some fault
 unfolding fault_from
 faults text i row n byte F fault within at progress due =
     sym progress.due ∙ ap (fault_from row n i) (drop_more text i 0 within ∙ ap (λ b. b ∷ drop (i + 1) text) (sym at))

@@ -6,9 +6,7 @@ use Rattle.std.proofs.lemmas.Int.{ints}
 use Rattle.lane_board.specs.Field.{Field, with_cell, moved_within, rows_below, has_cell, intersection}
 use Rattle.lane_board.specs.FullRows.{full_below, without_full_rows}
 use Rattle.lane_board.specs.CellCount.{cell_count}
-use Rattle.lane_board.proofs.BoardFields.{field_of-within}
-use Rattle.lane_board.proofs.CellCounts.{cell_count-same, cell_count-above}
-use Rattle.lane_board.proofs.Removal.{left_below, without_full_rows-empty, full_below-empty}
+use Rattle.lane_board.proofs.CallerLemmas.{field_of-within, cell_count-same, cell_count-above, left_below, without_full_rows-empty, full_below-empty}
 use Rattle.well.specs.declared.well.Well.{Well}
 use Rattle.well.specs.RowsReading.{raised}
 use Rattle.well.specs.Well.{filled}

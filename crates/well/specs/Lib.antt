@@ -1,8 +1,9 @@
--- The definitions that the contracts of this crate cite.
+-- What a reader must believe
 pub mod Free
 pub mod Lock
 pub mod LockLaws
 pub mod Rows
-pub mod RowsReading
 pub mod Counts
 pub mod Well
+-- What serves proofs alone
+pub mod RowsReading

@@ -4,7 +4,7 @@ use Rattle.lane_board.specs.Field.{Field}
 use Rattle.lane_board.specs.FullRows.{full_below, without_full_rows}
 use Rattle.srs.specs.declared.placement.Placement.{Placement}
 use Rattle.srs.specs.Cells.{Cell, cells_of}
-use Rattle.srs.specs.SameCells.{cell_eq, has_cell}
+use Rattle.srs.specs.SameCells.{cell_eq, is_among}
 
 -- the field and one cell
 unfoldable pub with_place : Field → Cell → Field
@@ -12,7 +12,7 @@ with_place F cell x y = F x y || cell_eq cell (pos x, pos y)
 
 -- the field and the cells of the placement
 unfoldable pub together : Field → Placement → Field
-together F placement x y = F x y || has_cell (cells_of placement) (pos x, pos y)
+together F placement x y = F x y || is_among (cells_of placement) (pos x, pos y)
 
 -- the field that is left, and how many rows go
 unfoldable pub locked : Field → Placement → Field

@@ -19,8 +19,8 @@ abbrev pub is_slash : ℕ → Bool
 is_slash byte = byte == 47
 
 -- the fault at a byte that follows so many characters of a row, where rows are counted from 1 and places from 0
-abbrev pub fault_at : ℕ → ℕ → ℕ → ℕ → Option RowsFault
-fault_at row characters place byte =
+abbrev pub fault_at_byte : ℕ → ℕ → ℕ → ℕ → Option RowsFault
+fault_at_byte row characters place byte =
     if is_slash byte then
     (if characters == 10 then (if row == 23 then Some TooManyRows else None) else Some (BadRowLength row))
     else (if is_empty_char byte || is_filled_char byte then
@@ -34,8 +34,9 @@ fault_at_end row characters = if characters == 10 then None else Some (BadRowLen
 -- the first fault in what follows the first characters of a row
 unfoldable pub fault_from : ℕ → ℕ → ℕ → List ℕ → Option RowsFault
 fault_from row characters place [] = fault_at_end row characters
-fault_from row characters place (byte ∷ bytes) = option_or (fault_at row characters place byte)
-    (if is_slash byte then fault_from (row + 1) 0 (place + 1) bytes else fault_from row (characters + 1) (place + 1) bytes)
+fault_from row characters place (byte ∷ bytes) = option_or (fault_at_byte row characters place byte)
+    (if is_slash byte then fault_from (row + 1) 0 (place + 1) bytes else fault_from row (characters + 1)
+    (place + 1) bytes)
 
 -- the first fault of a text, which has no rows where it is empty
 unfoldable pub rows_fault : List ℕ → Option RowsFault

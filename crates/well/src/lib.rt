@@ -1,9 +1,7 @@
 // The well: a field of ten columns and 23 rows in which pieces are placed.
 #![tactic(auto)]
 
-mod counts;
 pub mod laws;
-mod lock;
 mod reader;
 mod rows;
 mod well;

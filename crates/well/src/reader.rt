@@ -7,8 +7,8 @@ use crate::rows::RowsFault;
 use crate::well::Well;
 use srs::Piece;
 
-/// What was read of a rows text so far: its cells, of which those of the row that is being read lie in row 0, the number of
-/// that row, counted from 1, and how many of its characters were read.
+/// What was read of a rows text so far: its cells, of which those of the row that is being read lie in row 0, the
+/// number of that row, counted from 1, and how many of its characters were read.
 #[derive(Clone, Copy)]
 pub(crate) struct RowsReader {
     pub(crate) well: Well,
@@ -23,7 +23,7 @@ pub(crate) struct RowsReader {
 impl RowsReader {
     ghost use Rattle.std.specs.Prelude.{◌+◌, ◌<◌, ◌==◌, if◌then◌else◌, MatchOption, IfOk, IfErr, Some, None};
     ghost use Rattle.lane_board.specs.Field.{empty_field, with_cell};
-    ghost use Rattle.well.specs.Rows.{fault_at, fault_at_end};
+    ghost use Rattle.well.specs.Rows.{fault_at_byte, fault_at_end};
     ghost use Rattle.well.specs.RowsReading.{GoesOn, raised};
 
     /// Nothing is read.
@@ -42,8 +42,8 @@ impl RowsReader {
     /// One more byte is read, which stands at this place of the text. A refusal is the fault at this byte.
     pub(crate) fn read(&self, place: usize, byte: u8) -> Result<RowsReader, RowsFault>
         ensures next { IfOk result (λ next. GoesOn self.now byte next) }
-        ensures form { IfOk result (λ _. fault_at self.now.row self.now.characters place byte ≡ None) }
-        ensures fault { IfErr result (λ fault. fault_at self.now.row self.now.characters place byte ≡ Some fault) }
+        ensures form { IfOk result (λ _. fault_at_byte self.now.row self.now.characters place byte ≡ None) }
+        ensures fault { IfErr result (λ fault. fault_at_byte self.now.row self.now.characters place byte ≡ Some fault) }
     {
         if let Some(fault) = self.fault_at(place, byte) {
             return Err(fault);
@@ -68,7 +68,7 @@ impl RowsReader {
 
     /// The fault at a byte, which stands at this place of the text.
     fn fault_at(&self, place: usize, byte: u8) -> Option<RowsFault>
-        ensures { result ≡ fault_at self.now.row self.now.characters place byte }
+        ensures { result ≡ fault_at_byte self.now.row self.now.characters place byte }
     {
         if byte == b'/' {
             if self.characters != 10 {
@@ -101,7 +101,8 @@ impl RowsReader {
         requires { self.now.characters < 10 }
         ensures row { result.row ≡ self.now.row }
         ensures characters { result.characters ≡ self.now.characters + 1 }
-        ensures cells { filled result.well ≡ (if is_filled_char byte then with_cell (filled self.now.well) self.now.characters 0 else filled self.now.well) }
+        ensures cells { filled result.well ≡ (if is_filled_char byte then with_cell
+            (filled self.now.well) self.now.characters 0 else filled self.now.well) }
     {
         let well = if is_filled(byte) {
             self.well.with(self.characters, 0)

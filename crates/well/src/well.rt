@@ -1,8 +1,11 @@
-// The well and its cells.
+// The well: its cells, the text it is read from, what is free in it, what locking leaves, and its counts.
 ghost use Rattle.std.specs.Prelude.{◌≡◌, ℕ, false};
 ghost use Rattle.lane_board.specs.Board.{field_of};
 
+use crate::reader::RowsReader;
+use crate::rows::RowsFault;
 use lane_board::LaneBoard;
+use srs::{Placement, cells};
 
 /// A set of filled cells in columns 0 to 9 and rows 0 to 22.
 #[derive(Clone, Copy)]
@@ -12,10 +15,16 @@ pub struct Well {
 }
 
 impl Well {
-    ghost use Rattle.std.specs.Prelude.{◌≤◌, ◌<◌};
+    ghost use Rattle.std.specs.Prelude.{◌≤◌, ◌<◌, IsTrue, MatchOption, IfOk, IfErr, Some, None};
     ghost use Rattle.lane_board.specs.Field.{Field, empty_field, with_cell};
     ghost use Rattle.well.specs.RowsReading.{raised};
     ghost use Rattle.well.specs.Well.{filled};
+    ghost use Rattle.well.specs.Counts.{empties_below, is_filled_row, lowest_full, lowest_filled_from};
+    ghost use Rattle.lane_board.specs.FullRows.{full_below, without_full_rows};
+    ghost use Rattle.srs.specs.Cells.{in_well};
+    ghost use Rattle.well.specs.Free.{is_open, is_free};
+    ghost use Rattle.well.specs.Lock.{with_place, together, locked, rows_removed};
+    ghost use Rattle.well.specs.Rows.{rows_fault, written_cells};
 
     /// The well with no cell.
     pub fn empty() -> Well
@@ -61,5 +70,124 @@ impl Well {
         ensures { field_of result ≡ filled self.now }
     {
         self.board
+    }
+
+    /// The well of a rows text: rows from the top one down to row 0, divided by `/`, each of ten characters. `_` and
+    /// `.` are empty, `X` and the letters of the pieces are filled, in either case. The empty text has no rows, and
+    /// rows that are not written are empty. A refusal is the first fault from the left.
+    pub fn from_rows(text: &[u8]) -> Result<Well, RowsFault>
+        ensures cells { IfOk result (λ well. filled well ≡ written_cells text.now) }
+        ensures form { IfOk result (λ _. rows_fault text.now ≡ None) }
+        ensures fault { IfErr result (λ fault. rows_fault text.now ≡ Some fault) }
+    {
+        if text.is_empty() {
+            return Ok(Well::empty());
+        }
+        let mut reader = RowsReader::start();
+        for (place, byte) in text.iter().enumerate() {
+            reader = reader.read(place, *byte)?;
+        }
+        reader.finish()
+    }
+
+    /// Whether the placement lies inside the well and on no filled cell.
+    #[tactic(auto, unfolding(crate::specs::Free::is_free_at))]
+    pub fn is_free(&self, placement: &Placement) -> bool
+        requires x { placement.now.x ≤ 31 }
+        requires y { placement.now.y ≤ 31 }
+        ensures { result ≡ is_free (filled self.now) placement.now }
+    {
+        cells(placement).iter().all(|cell| self.is_open(*cell))
+    }
+
+    /// The well in which the placement's cells are filled and full rows are removed, and how many rows went.
+    pub fn lock(&self, placement: &Placement) -> (Well, u8)
+        requires { IsTrue (is_free (filled self.now) placement.now) }
+        ensures field { filled result.0 ≡ locked (filled self.now) placement.now }
+        ensures removed { result.1 ≡ rows_removed (filled self.now) placement.now }
+    {
+        self.with_placement(placement).without_full_rows()
+    }
+
+    /// Whether a cell, as column and row, is a cell of the well that is not filled.
+    fn is_open(&self, cell: (i8, i8)) -> bool
+        ensures { result ≡ is_open (filled self.now) cell }
+    {
+        let (x, y) = cell;
+        if x < 0 || 9 < x || y < 0 || 22 < y {
+            return false;
+        }
+        !self.cell(x as u8, y as u8)
+    }
+
+    /// The well with the placement's cells filled.
+    fn with_placement(&self, placement: &Placement) -> Well
+        requires { IsTrue (is_free (filled self.now) placement.now) }
+        ensures { filled result ≡ together (filled self.now) placement.now }
+    {
+        let [a, b, c, d] = cells(placement);
+        self.with_place(a).with_place(b).with_place(c).with_place(d)
+    }
+
+    /// The well with a cell, as column and row, filled.
+    fn with_place(&self, cell: (i8, i8)) -> Well
+        requires { IsTrue (in_well cell) }
+        ensures { filled result ≡ with_place (filled self.now) cell }
+    {
+        let (x, y) = cell;
+        self.with(x as u8, y as u8)
+    }
+
+    /// The well without its full rows, every other cell lowered by the full rows below it; and how many rows went.
+    fn without_full_rows(&self) -> (Well, u8)
+        ensures field { filled result.0 ≡ without_full_rows (filled self.now) 23 }
+        ensures removed { result.1 ≡ full_below (filled self.now) 23 }
+    {
+        let removed = self.board.full_rows().count_ones();
+        let well = Well {
+            board: self.board.without_full_rows(),
+        };
+        (well, removed as u8)
+    }
+
+    /// How many cells of rows 0 to `height - 1` are empty.
+    pub fn empties_below(&self, height: u8) -> u8
+        requires { height ≤ 23 }
+        ensures { result ≡ empties_below (filled self.now) height }
+    {
+        let cells = self.board.and(&LaneBoard::rows_below(height)).count();
+        10 * height - cells as u8
+    }
+
+    /// The lowest full row. `None` exactly where no row is full.
+    pub fn lowest_full(&self) -> Option<u8>
+        ensures { result ≡ lowest_full (filled self.now) }
+    {
+        let full = self.board.full_rows();
+        if full == 0 {
+            return None;
+        }
+        Some(full.trailing_zeros() as u8)
+    }
+
+    /// The lowest row at or above the height that has a filled cell. `None` exactly where there is none.
+    pub fn lowest_filled_from(&self, height: u8) -> Option<u8>
+        requires { height ≤ 23 }
+        ensures { result ≡ lowest_filled_from (filled self.now) height }
+    {
+        for y in height..23 {
+            if self.is_filled_row(y) {
+                return Some(y);
+            }
+        }
+        None
+    }
+
+    /// Whether a row has a filled cell.
+    fn is_filled_row(&self, y: u8) -> bool
+        requires { y ≤ 22 }
+        ensures { result ≡ is_filled_row (filled self.now) y }
+    {
+        self.board.row(y) != 0
     }
 }

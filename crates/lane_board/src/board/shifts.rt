@@ -1,11 +1,12 @@
 // A board moved by columns and rows.
-ghost use Rattle.std.specs.Prelude.{◌≡◌, ℕ, ◌+◌, ◌%◌, ◌<◌, ◌≤◌, pos, negsuc, ◌-ℤ◌, ◌≤ℤ◌, slice_index};
+ghost use Rattle.std.specs.Prelude.{◌≡◌, ℕ, ◌+◌, ◌%◌, ◌<◌, ◌≤◌, pos, negsuc, ◌-ℤ◌, ◌≤ℤ◌, slice_index, length};
 ghost use Rattle.lane_board.specs.Board.{field_of};
 ghost use Rattle.lane_board.specs.Field.{moved_within};
 ghost use Rattle.lane_board.specs.Lanes.{moved_row, row_at};
 
 use super::LaneBoard;
-use crate::eights::{load, load_or_none, moved_columns, next_row, store};
+use crate::eights::{eight_from, load, load_or_none, moved_columns, store};
+use std::simd::prelude::*;
 
 impl<const N: usize> LaneBoard<N> {
     /// Each cell moved `dx` columns to the right and `dy` rows up, by nine at most either way. A cell that leaves the
@@ -40,29 +41,64 @@ fn moved_rows<const N: usize>(rows: &[u16; N], dx: i8, dy: i8) -> [u16; N]
     requires up { dy ≤ℤ pos 9 }
     ensures { (y : ℕ) → y < N → slice_index result y ≡ moved_row dx (row_at rows.now (pos y -ℤ dy)) }
 {
-    if dy == -1 {
-        return lowered(rows, dx);
+    if dy == -9 || dy == 9 {
+        let framed = framed(rows, dx);
+        let from = FURTHEST as i8 - dy;
+        return window(&framed, from as usize);
     }
-    let framed = framed(rows, dx);
-    let from = FURTHEST as i8 - dy;
-    window(&framed, from as usize)
+    near_rows(rows, dx, dy)
 }
 
-/// The rows moved `dx` columns to the right and one row down.
+/// The same by eight rows at most.
 #[inline(always)]
-fn lowered<const N: usize>(rows: &[u16; N], dx: i8) -> [u16; N]
+fn near_rows<const N: usize>(rows: &[u16; N], dx: i8, dy: i8) -> [u16; N]
     requires eights { N % 8 ≡ 0 }
+    requires few { N ≤ 32 }
     requires left { negsuc 8 ≤ℤ dx }
     requires right { dx ≤ℤ pos 9 }
-    ensures { (y : ℕ) → y < N → slice_index result y ≡ moved_row dx (slice_index rows.now (y + 1)) }
+    requires down { negsuc 7 ≤ℤ dy }
+    requires up { dy ≤ℤ pos 8 }
+    ensures { (y : ℕ) → y < N → slice_index result y ≡ moved_row dx (row_at rows.now (pos y -ℤ dy)) }
 {
-    let mut lower = [0; N];
+    let mut moved = [0; N];
     for eight in 0..N / 8 {
         let at = 8 * eight;
-        let above = next_row(load(rows, at), load_or_none(rows, at + 8));
-        store(&mut lower, at, moved_columns(above, dx));
+        store(&mut moved, at, moved_columns(eight_below(rows, at, dy), dx));
     }
-    lower
+    moved
+}
+
+/// The eight rows that lie `dy` rows below those from row `at` on; rows that the board doesn't have are empty.
+#[inline(always)]
+fn eight_below(rows: &[u16], at: usize, dy: i8) -> u16x8
+    requires in_eights { length rows.now % 8 ≡ 0 }
+    requires at_eight { at % 8 ≡ 0 }
+    requires within { at + 8 ≤ length rows.now }
+    requires few { length rows.now ≤ 32 }
+    requires down { negsuc 7 ≤ℤ dy }
+    requires up { dy ≤ℤ pos 8 }
+    ensures lanes { (k : ℕ) → k < 8 → slice_index result k ≡ row_at rows.now (pos (at + k) -ℤ dy) }
+    ensures eight { length result ≡ 8 }
+{
+    let lanes = load(rows, at);
+    if dy < 0 {
+        return eight_from(lanes, load_or_none(rows, at + 8), (0 - dy) as u8);
+    }
+    eight_from(load_before(rows, at), lanes, (8 - dy) as u8)
+}
+
+/// The eight rows before row `at`, or eight empty rows before the first.
+#[inline(always)]
+fn load_before(rows: &[u16], at: usize) -> u16x8
+    requires at_eight { at % 8 ≡ 0 }
+    requires within { at + 8 ≤ length rows.now }
+    ensures lanes { (k : ℕ) → k < 8 → slice_index result k ≡ row_at rows.now (pos (at + k) -ℤ pos 8) }
+    ensures eight { length result ≡ 8 }
+{
+    if at == 0 {
+        return u16x8::splat(0);
+    }
+    load(rows, at - 8)
 }
 
 /// The rows moved `dx` columns to the right, in a frame of empty rows: nine below them, and no less above.

@@ -1,8 +1,9 @@
 -- The comment that stands there and the first fault there, from what reading gives.
 use Rattle.std.proofs.Common.{ℕ, ◌≤◌, List, length, Ok, Err}
-use Rattle.fumen_digits.proofs.Answered.{gives_found, gives_fault, gives_same}
-use Rattle.fumen_comment.specs.Reading.{CommentStands, comment_at, comment_fault}
-use Rattle.fumen_comment.proofs.PartLaws.{comment_from_read, read_from_comment, comment_fault_from_read, read_from_comment_fault}
+use Rattle.fumen_digits.proofs.CallerLemmas.{gives_found, gives_fault, gives_same}
+use Rattle.fumen_comment.specs.Reading.{comment_at}
+use Rattle.fumen_comment.specs.Faults.{CommentStands, comment_fault}
+use Rattle.fumen_comment.proofs.CommentReadAsSpelled.{comment_from_read, read_from_comment, comment_fault_from_read, read_from_comment_fault}
 use Rattle.fumen_comment.proofs.part.read_comment.Goals as goal
 
 abbrev pair : List ℕ × ℕ → List ℕ × ℕ

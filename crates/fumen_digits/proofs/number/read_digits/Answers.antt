@@ -1,7 +1,7 @@
 -- One more digit is read, or one is missing; and what it adds fits.
 use Rattle.std.proofs.Common.{arith}
 use Rattle.std.proofs.lemmas.Result.{err_from_is_err_and}
-use Rattle.fumen_digits.specs.Reading.{digit_fault}
+use Rattle.fumen_digits.specs.Fault.{digit_fault}
 use Rattle.fumen_digits.proofs.ReadLoop.{fits, goes_on, stops, is_read}
 use Rattle.fumen_digits.proofs.number.read_digits.Goals as goal
 

@@ -4,9 +4,11 @@ use Rattle.std.specs.Prelude.{IfOk}
 use Rattle.std.proofs.lemmas.Result.{IfOk-weaker}
 use Rattle.fumen_digits.specs.Number.{NumberStands}
 use Rattle.fumen_digits.specs.declared.number.DigitFault.{DigitFault}
-use Rattle.fumen_digits.specs.Reading.{Reads, digit_fault, number_at}
+use Rattle.fumen_digits.specs.Reading.{number_at}
+use Rattle.fumen_digits.specs.Fault.{digit_fault}
+use Rattle.fumen_digits.specs.Answers.{Reads}
 use Rattle.fumen_digits.proofs.Answered.{reads_ok, reads_err, ok_from_read, err_from_read, same_digit_fault}
-use Rattle.fumen_digits.proofs.Readings.{stands_from_read, read_from_stands, number_fault_from_read, read_from_number_fault}
+use Rattle.fumen_digits.proofs.NumberReadAsSpelled.{stands_from_read, read_from_stands, number_fault_from_read, read_from_number_fault}
 use Rattle.fumen_digits.proofs.number.read_number.Goals as goal
 
 stands : (ds : List ℕ) (place count : ℕ) (r : Result ℕ DigitFault) → place ≤ length ds → Reads (λ (k : ℕ). k) digit_fault r (number_at ds place count) → IfOk r (λ n. NumberStands ds place count n)

@@ -1,7 +1,7 @@
 -- The two sums do not leave a byte.
 use Rattle.srs.specs.Cells.{moved}
-use Rattle.srs.proofs.NumberLemmas.{near_within}
-use Rattle.fumen_pages.proofs.ActionLaws.{forth_in_byte}
+use Rattle.srs.proofs.CallerLemmas.{near_within}
+use Rattle.fumen_pages.proofs.ActionReadAsSpelled.{forth_in_byte}
 use Rattle.fumen_pages.proofs.action.moved.Goals as goal
 
 pub returns : goal.returns

@@ -1,6 +1,6 @@
 -- The action that a number says, and why it says none.
 use Rattle.std.proofs.Common.{sym, ◌∙◌}
-use Rattle.fumen_pages.proofs.ActionLaws.{says_from_read, read_from_says, large_from_read, read_from_large, outside_from_read, read_from_outside}
+use Rattle.fumen_pages.proofs.ActionReadAsSpelled.{says_from_read, read_from_says, large_from_read, read_from_large, outside_from_read, read_from_outside}
 use Rattle.fumen_pages.proofs.action.read_action.Goals as goal
 
 pub returns-clause-found : goal.returns-clause-found

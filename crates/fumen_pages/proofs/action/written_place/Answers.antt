@@ -2,11 +2,11 @@
 use Rattle.std.proofs.Common.{◌≡◌, true, sym, ap, subst, ◌∙◌, arith}
 use Rattle.std.proofs.lemmas.Int.{ints}
 use Rattle.srs.specs.Cells.{Cell}
-use Rattle.srs.proofs.CanonicalLemmas.{pivot_inside}
+use Rattle.srs.proofs.CallerLemmas.{pivot_inside}
 use Rattle.fumen_pages.specs.Action.{in_rows}
-use Rattle.fumen_pages.specs.Written.{place_of}
+use Rattle.fumen_pages.specs.Cells.{place_of}
 use Rattle.fumen_pages.proofs.InsideLaws.{inside_well}
-use Rattle.fumen_pages.proofs.ActionWritten.{written_in_rows, written_there}
+use Rattle.fumen_pages.proofs.WrittenActionIsSpelled.{written_in_rows, written_there}
 use Rattle.fumen_pages.proofs.action.written_place.Goals as goal
 
 pub overflow_cast-pivot : goal.overflow_cast-pivot

@@ -1,7 +1,7 @@
 -- One more row is cleared, and then all are.
 use Rattle.std.proofs.Common.{List, ℕ, ◌+◌, sym, ap, ◌∙◌, subst, arith}
 use Rattle.fumen_pages.specs.Cells.{missing_count}
-use Rattle.fumen_pages.specs.Next.{is_full}
+use Rattle.fumen_pages.specs.Next.{is_full_page_row}
 use Rattle.fumen_pages.proofs.RowLaws.{IsDone}
 use Rattle.fumen_pages.proofs.NextLaws.{cleared_starts, cleared_kept, cleared_gone, cleared_all, cleared_so_far, looked_at}
 use Rattle.fumen_pages.proofs.next.clear.Goals as goal
@@ -20,10 +20,10 @@ loop-i-preserved c =
     elim c.if-is_full.branch [
       | then-is_full w ↦
           let row = looked_at dialect old page i _ _ (cleared_so_far dialect old i) c.told-page (omega arith) (omega arith) (omega arith) c.loop-i.invariant in
-          subst done (sym w.page-is) (cleared_gone dialect old page w.lower.new.rows i _ _ c.told-page (omega arith) (omega arith) (omega arith) (sym (w.if-is_full.ensures ∙ ap is_full row)) w.lower.ensures c.loop-i.invariant)
+          subst done (sym w.page-is) (cleared_gone dialect old page w.lower.new.rows i _ _ c.told-page (omega arith) (omega arith) (omega arith) (sym (w.if-is_full.ensures ∙ ap is_full_page_row row)) w.lower.ensures c.loop-i.invariant)
       | else-is_full w ↦
           let row = looked_at dialect old page i _ _ (cleared_so_far dialect old i) c.told-page (omega arith) (omega arith) (omega arith) c.loop-i.invariant in
-          subst done (sym w.page-is) (cleared_kept dialect old page i c.told-page (omega arith) (sym (w.if-is_full.ensures ∙ ap is_full row)) c.loop-i.invariant)
+          subst done (sym w.page-is) (cleared_kept dialect old page i c.told-page (omega arith) (sym (w.if-is_full.ensures ∙ ap is_full_page_row row)) c.loop-i.invariant)
     ]
 
 pub returns-clause-rows : goal.returns-clause-rows

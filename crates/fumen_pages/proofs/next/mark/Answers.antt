@@ -1,6 +1,6 @@
 -- Four cells are written one after another.
 use Rattle.std.proofs.Common.{arith}
-use Rattle.srs.proofs.CanonicalLemmas.{pivot_inside}
+use Rattle.srs.proofs.CallerLemmas.{pivot_inside}
 use Rattle.fumen_pages.proofs.NextLaws.{marked_four}
 use Rattle.fumen_pages.proofs.next.mark.Goals as goal
 

@@ -2,14 +2,15 @@
 use Rattle.std.proofs.Common.{◌≡◌, ℕ, ◌≤◌, length, Result, Ok, Err, ap, ◌∙◌}
 use Rattle.std.specs.Prelude.{IfOk}
 use Rattle.std.proofs.lemmas.Result.{IfOk-weaker}
-use Rattle.fumen_digits.specs.Reading.{Reads}
-use Rattle.fumen_digits.proofs.Answered.{reads_ok, reads_err, ok_from_read, err_from_read}
+use Rattle.fumen_digits.specs.Answers.{Reads}
+use Rattle.fumen_digits.proofs.CallerLemmas.{reads_ok, reads_err, ok_from_read, err_from_read}
 use Rattle.fumen_pages.specs.declared.record.CellsRead.{CellsRead}
 use Rattle.fumen_pages.specs.declared.record.CellsFault.{CellsFault}
 use Rattle.fumen_pages.specs.declared.record.CellsFault.TheVariants as bad
 use Rattle.fumen_pages.specs.Cells.{AreCells}
-use Rattle.fumen_pages.specs.Reading.{cells_fault, record_at}
-use Rattle.fumen_pages.proofs.CellsLaws.{RecordRead, read_from_ok, record_from_read, read_from_record, record_fault_from_read, read_from_record_fault}
+use Rattle.fumen_pages.specs.Reading.{record_at}
+use Rattle.fumen_pages.specs.Faults.{cells_fault}
+use Rattle.fumen_pages.proofs.RecordReadAsSpelled.{RecordRead, read_from_ok, record_from_read, read_from_record, record_fault_from_read, read_from_record_fault}
 use Rattle.fumen_pages.proofs.record.read_cells.Goals as goal
 
 abbrev view : CellsRead → CellsRead

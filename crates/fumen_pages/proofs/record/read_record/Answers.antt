@@ -1,7 +1,7 @@
 -- One more run is read, or has a fault; and then all are read.
 use Rattle.std.proofs.Common.{◌∙◌, arith}
 use Rattle.std.proofs.lemmas.Result.{err_from_is_err_and}
-use Rattle.fumen_pages.specs.Reading.{cells_fault}
+use Rattle.fumen_pages.specs.Faults.{cells_fault}
 use Rattle.fumen_pages.proofs.RecordLoop.{read_starts, read_more, read_stops, read_ends, same_front}
 use Rattle.fumen_pages.proofs.record.read_record.Goals as goal
 

@@ -2,11 +2,12 @@
 use Rattle.std.proofs.Common.{◌≡◌, ℕ, ◌≤◌, length, Ok, Err}
 use Rattle.std.specs.Prelude.{IsTrue}
 use Rattle.std.specs.Option.{ForSome}
-use Rattle.fumen_digits.proofs.Answered.{gives_found, gives_fault, gives_same}
+use Rattle.fumen_digits.proofs.CallerLemmas.{gives_found, gives_fault, gives_same}
 use Rattle.fumen_pages.specs.declared.page.Page.{Page}
 use Rattle.fumen_pages.specs.Action.{is_inside_in}
-use Rattle.fumen_pages.specs.Reading.{TailStands, page_at, tail_fault}
-use Rattle.fumen_pages.proofs.TailLaws.{page_from_read, read_from_page, tail_fault_from_read, read_from_tail_fault}
+use Rattle.fumen_pages.specs.Reading.{page_at}
+use Rattle.fumen_pages.specs.Faults.{TailStands, tail_fault}
+use Rattle.fumen_pages.proofs.PageReadAsSpelled.{page_from_read, read_from_page, tail_fault_from_read, read_from_tail_fault}
 use Rattle.fumen_pages.proofs.tail.read_page.Goals as goal
 
 abbrev pair : Page × ℕ → Page × ℕ

@@ -1,7 +1,7 @@
 -- One more page is fit, or has the first fault; and then all are fit.
 use Rattle.std.proofs.Common.{arith}
 use Rattle.std.proofs.lemmas.Result.{err_from_is_err_and}
-use Rattle.fumen_text.proofs.EncodeLaws.{check_starts, check_more, check_stops, check_ends}
+use Rattle.fumen_text.proofs.WrittenIsRead.{check_starts, check_more, check_stops, check_ends}
 use Rattle.fumen_text.proofs.checks.check_pages.Goals as goal
 
 pub returns-in_err-check_page-clause-fault : goal.returns-in_err-check_page-clause-fault

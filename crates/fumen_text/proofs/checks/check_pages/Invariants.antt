@@ -1,5 +1,5 @@
 -- The pages so far are fit, and the first fault of all is that of what is left.
-use Rattle.fumen_text.proofs.EncodeLaws.{IsCheckedSoFar}
+use Rattle.fumen_text.proofs.WrittenIsRead.{IsCheckedSoFar}
 use Rattle.fumen_text.proofs.checks.check_pages.Given as goal
 
 abbrev pub invariant-loop-i : goal.invariant-loop-i

@@ -1,11 +1,12 @@
 -- The pages that a text reads as, and its first fault, from what reading gives.
 use Rattle.std.proofs.Common.{List, Vec, Global, Ok, Err}
 use Rattle.fumen_digits.specs.declared.dialect.Dialect.{Dialect}
-use Rattle.fumen_digits.proofs.Answered.{gives_found, gives_fault, gives_same}
+use Rattle.fumen_digits.proofs.CallerLemmas.{gives_found, gives_fault, gives_same}
 use Rattle.fumen_pages.specs.declared.page.Page.{Page}
 use Rattle.fumen_text.specs.Texts.{ReadsAs}
-use Rattle.fumen_text.specs.Reading.{fumen_fault, text_pages}
-use Rattle.fumen_text.proofs.TextLaws.{text_from_read, read_from_text, text_fault_from_read, read_from_text_fault}
+use Rattle.fumen_text.specs.Reading.{text_pages}
+use Rattle.fumen_text.specs.Faults.{fumen_fault}
+use Rattle.fumen_text.proofs.TextReadAsSpelled.{text_from_read, read_from_text, text_fault_from_read, read_from_text_fault}
 use Rattle.fumen_text.proofs.text.decode.Goals as goal
 
 abbrev seen : Dialect × Vec Page Global → Dialect × List Page

@@ -1,7 +1,7 @@
 -- What was written reads as the pages.
 use Rattle.std.proofs.Common.{ℕ, List, ap, ◌∙◌}
 use Rattle.fumen_digits.specs.Framing.{broken}
-use Rattle.fumen_text.proofs.EncodeLaws.{text_reads}
+use Rattle.fumen_text.proofs.WrittenIsRead.{text_reads}
 use Rattle.fumen_text.proofs.written.encode.Goals as goal
 
 pub returns-clause-reads : goal.returns-clause-reads

@@ -1,11 +1,11 @@
 -- The canonical placements of a state and of its rest are turned alike and stand in one column.
 use Rattle.std.proofs.Common.{ap, arith}
 use Rattle.srs.specs.Rotation.{rotation_place}
-use Rattle.srs.proofs.CodeLemmas.{rotation_place-injective}
+use Rattle.srs.proofs.CallerLemmas.{rotation_place-injective}
 use Rattle.well.specs.Well.{filled}
-use Rattle.well.proofs.FreeLemmas.{free_inside}
+use Rattle.well.proofs.CallerLemmas.{free_inside}
 use Rattle.moves.specs.Rest.{rest_of}
-use Rattle.moves.proofs.RestLemmas.{rest_of-only, rest_of-is}
+use Rattle.moves.proofs.CallerLemmas.{rest_of-only, rest_of-is}
 use Rattle.key_path.proofs.AimLemmas.{rest_below, elsewhere, by_rows}
 use Rattle.key_path.proofs.aim.rests_on.Goals as goal
 use Rattle.key_path.proofs.aim.rests_on.Goals.{then-place-via-then-place, then-place-via-else-place+then-above-aim}

@@ -2,9 +2,9 @@
 use Rattle.std.proofs.Common.{sym, ap, ◌∙◌}
 use Rattle.std.specs.Bool.{then_some}
 use Rattle.well.specs.Well.{filled}
-use Rattle.well.proofs.FreeLemmas.{free_pivot_inside}
+use Rattle.well.proofs.CallerLemmas.{free_pivot_inside}
 use Rattle.srs.specs.Rules.{table_of}
-use Rattle.moves.proofs.StepLemmas.{step_of-free}
+use Rattle.moves.proofs.CallerLemmas.{step_of-free}
 use Rattle.key_path.proofs.NewStates.{new_not_allowed, new_no_move, new_move}
 use Rattle.key_path.proofs.finder.new_state.Goals as goal
 

@@ -1,5 +1,5 @@
 -- The laws are lemmas.
-use Rattle.moves.proofs.PlaceTest.{leads-free}
+use Rattle.moves.proofs.RestTest.{leads-free}
 use Rattle.moves.proofs.laws.keys_stay_free.Goals as goal
 
 pub returns-clause-free : goal.returns-clause-free

@@ -1,7 +1,7 @@
 -- While the state a row lower is free, the two have the same rest.
 use Rattle.std.proofs.Common.{◌≡◌, suc, ◌-◌, subst, sym, ◌∙◌, arith}
 use Rattle.well.specs.Well.{filled}
-use Rattle.well.proofs.FreeLemmas.{free_pivot_inside}
+use Rattle.well.proofs.CallerLemmas.{free_pivot_inside}
 use Rattle.moves.specs.Rest.{IsRest}
 use Rattle.moves.proofs.RestLemmas.{rest_of-is, rests_in_row_0, rests_blocked, falls_further}
 use Rattle.moves.proofs.rest.fall.Goals as goal

@@ -3,7 +3,7 @@ use Rattle.std.proofs.Common.{◌≡◌, pos, ◌+ℤ◌, nat_abs, to_z, of_z, w
 use Rattle.std.proofs.lemmas.Int.{ints}
 use Rattle.srs.specs.Cells.{moved}
 use Rattle.well.specs.Well.{filled}
-use Rattle.well.proofs.FreeLemmas.{free_pivot_inside}
+use Rattle.well.proofs.CallerLemmas.{free_pivot_inside}
 use Rattle.moves.proofs.TurnLemmas.{none_outside, some_inside}
 use Rattle.moves.proofs.turn.free_at.Goals as goal
 use Rattle.moves.proofs.turn.free_at.Goals.{then-x-lt0-via-then-x-lt0, then-x-lt0-via-else-x-lt0+then-y-lt0}

@@ -3,7 +3,7 @@ use Rattle.std.proofs.Common.{sym, ap, ◌∙◌, arith}
 use Rattle.srs.specs.Cells.{moved, pivot_of}
 use Rattle.srs.specs.Kick.{kick_in}
 use Rattle.srs.specs.Rules.{table_of}
-use Rattle.srs.proofs.TableLemmas.{table_of-small}
+use Rattle.srs.proofs.CallerLemmas.{table_of-small}
 use Rattle.well.specs.Well.{filled}
 use Rattle.moves.specs.Step.{first_free, turned}
 use Rattle.moves.proofs.TurnLemmas.{kick_is_short, all_pivots, no_pivots, test_fails, test_holds}

@@ -1,6 +1,6 @@
 -- A letter or a `/` is read, or is missing, or the text ends.
 use Rattle.std.proofs.Common.{◌≡◌, ◌∙◌, sym, ap, arith, length, length-append, [], ◌∷◌, eq-eqb, ne_eqb}
-use Rattle.page_list.specs.Cells.{rows_at}
+use Rattle.page_list.specs.CellsReading.{rows_at}
 use Rattle.page_list.proofs.ReadLemmas.{slash_read, slash_missing, letter_read, letter_missing, end_read, end_missing}
 use Rattle.page_list.proofs.cells.rows_at.Goals as goal
 use Rattle.page_list.proofs.cells.rows_at.Goals.{then-column-eq10+else-text-place-ne47, else-column-eq10+in_ok-colour_in}

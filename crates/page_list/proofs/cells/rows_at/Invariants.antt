@@ -1,6 +1,6 @@
 -- The colours so far stand in front of those that are left.
 use Rattle.std.proofs.Common.{◌≡◌, ◌+◌, ◌*◌, ◌≤◌, length, drop}
-use Rattle.page_list.specs.Cells.{rows_at, with_front}
+use Rattle.page_list.specs.CellsReading.{rows_at, with_front}
 use Rattle.page_list.proofs.cells.rows_at.Given as goal
 
 abbrev pub invariant-loop-place : goal.invariant-loop-place

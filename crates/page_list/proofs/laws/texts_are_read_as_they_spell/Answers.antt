@@ -1,5 +1,5 @@
 -- The line form and the reading agree.
-use Rattle.page_list.proofs.PagesSpelled.{pages_spelled, spelled_pages_read, fault_spelled, spelled_fault_read}
+use Rattle.page_list.proofs.PagesReadAsSpelled.{pages_spelled, spelled_pages_read, fault_spelled, spelled_fault_read}
 use Rattle.page_list.proofs.laws.texts_are_read_as_they_spell.Goals as goal
 
 pub returns : goal.returns

@@ -1,7 +1,7 @@
 -- One row more is written, and then all are.
 use Rattle.std.proofs.Common.{◌≡◌, ◌+◌, ◌++◌, ◌∙◌, sym, ap, append_assoc, append-nil, arith}
 use Rattle.std.specs.List.{join_with_byte}
-use Rattle.page_list.specs.Line.{divided_row}
+use Rattle.page_list.specs.PrintedLine.{divided_row}
 use Rattle.page_list.proofs.RowLemmas.{rows_left, rows_left-end, joined-more, shown-left}
 use Rattle.page_list.proofs.line.push_shown.Goals as goal
 

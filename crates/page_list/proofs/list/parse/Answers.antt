@@ -5,17 +5,17 @@ use Rattle.pc_outside.specs.declared.answers.Refused.{Refused}
 use Rattle.pc_outside.specs.declared.answers.Refused.TheVariants as refused
 use Rattle.fumen_pages.specs.declared.page.Page.{Page}
 use Rattle.page_list.specs.declared.fault.ListFault.{ListFault}
-use Rattle.page_list.specs.Reading.{Gives}
-use Rattle.page_list.specs.List.{pages_in}
-use Rattle.page_list.specs.LineForm.{SpellsPages}
-use Rattle.page_list.proofs.PagesSpelled.{pages_spelled, spelled_pages_read, fault_spelled, spelled_fault_read}
+use Rattle.fumen_digits.specs.Answers.{Gives}
+use Rattle.page_list.specs.ListReading.{pages_in}
+use Rattle.page_list.specs.LineSpelling.{SpellsPages}
+use Rattle.page_list.proofs.PagesReadAsSpelled.{pages_spelled, spelled_pages_read, fault_spelled, spelled_fault_read}
 use Rattle.page_list.proofs.list.parse.Goals as goal
 
 abbrev Answer : Type 0
 Answer = Result (Vec Page Global) (Refused ListFault)
 
 abbrev Given : Answer → Result (List Page) ListFault → Type 0
-Given answer read = Gives (λ (pages : Vec Page Global). pages.items) answer read
+Given answer read = Gives (λ (pages : Vec Page Global). pages.items) (λ fault. fault) answer read
 
 found : (answer : Answer) (read : Result (List Page) ListFault) (P : List Page → Type 0) → ((pages : List Page) → read ≡ Ok pages → P pages) → Given answer read → IfOk answer (λ pages. P pages.items)
 found (Ok pages) read P spells given = spells pages.items given

@@ -3,7 +3,7 @@ use Rattle.std.proofs.Common.{◌+◌, ◌∙◌, ◌<◌, ◌++◌, sym, ap, ar
 use Rattle.std.proofs.lemmas.List.{nil_from_length}
 use Rattle.std.proofs.lemmas.Result.{err_from_is_err_and}
 use Rattle.fumen_pages.specs.declared.page.Page.{Page}
-use Rattle.page_list.specs.List.{lines_of, page_at, pages_from, pages_in}
+use Rattle.page_list.specs.ListReading.{lines_of, numbered_page, pages_from, pages_in}
 use Rattle.page_list.proofs.ListLemmas.{behind, behind_shorter, page_read, page_refused, pages_read}
 use Rattle.page_list.proofs.list.read_pages.Goals as goal
 
@@ -24,7 +24,7 @@ loop-rest-preserved c =
     let some : 0 < length c.loop-rest.rest.now = grind (arith, c.is_empty.ensures, c.loop-rest-test.true) in
     rw (c.in_ok-push.ensures.items) (
       page_read c.loop-rest.pages.items (length c.loop-rest.pages.items + 1) (length (c.loop-rest.pages.items ++ c.in_ok-page.page ∷ []) + 1) c.loop-rest.rest.now c.first_line.result.0.now c.first_line.result.1.now c.in_ok-page.page (pages_in c.args.text.now) some c.first_line.ensures
-          (ap (λ n. page_at (n + 1) c.first_line.result.0.now) (sym (c.len.ensures ∙ c.loop-rest.pages.ok.0)) ∙ c.in_ok-page.ensures.exact) (omega (arith, length-append c.loop-rest.pages.items (c.in_ok-page.page ∷ []))) c.loop-rest.invariant.0,
+          (ap (λ n. numbered_page (n + 1) c.first_line.result.0.now) (sym (c.len.ensures ∙ c.loop-rest.pages.ok.0)) ∙ c.in_ok-page.ensures.exact) (omega (arith, length-append c.loop-rest.pages.items (c.in_ok-page.page ∷ []))) c.loop-rest.invariant.0,
       omega (arith, length-append c.loop-rest.pages.items (c.in_ok-page.page ∷ []), c.in_ok-page.ensures.few),
     )
 

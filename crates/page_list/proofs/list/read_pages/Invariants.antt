@@ -1,6 +1,6 @@
 -- The pages so far stand in front of those that are left.
 use Rattle.std.proofs.Common.{◌≡◌, ◌+◌, ◌≤◌, length}
-use Rattle.page_list.specs.List.{lines_of, pages_from, pages_in}
+use Rattle.page_list.specs.ListReading.{lines_of, pages_from, pages_in}
 use Rattle.page_list.proofs.ListLemmas.{behind}
 use Rattle.page_list.proofs.list.read_pages.Given as goal
 

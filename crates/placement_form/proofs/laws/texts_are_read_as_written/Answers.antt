@@ -1,5 +1,5 @@
 -- The form and the reading agree.
-use Rattle.placement_form.proofs.ReadLaws.{read_as_written, none_where_unwritten, one_written}
+use Rattle.placement_form.proofs.ReadAsWritten.{read_as_written, none_where_unwritten, one_written}
 use Rattle.placement_form.proofs.laws.texts_are_read_as_written.Goals as goal
 
 pub returns-clause-read : goal.returns-clause-read

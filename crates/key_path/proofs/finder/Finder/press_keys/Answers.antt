@@ -7,7 +7,7 @@ use Rattle.well.specs.Well.{filled}
 use Rattle.key_path.specs.Marks.{new_state}
 use Rattle.key_path.specs.Search.{IsTrying}
 use Rattle.key_path.proofs.WordLemmas.{key_at, key_place-at}
-use Rattle.moves.proofs.StepLemmas.{pivot_of_free}
+use Rattle.moves.proofs.CallerLemmas.{pivot_of_free}
 use Rattle.key_path.proofs.FindLemmas.{pushed, new_free, new_counts, finding_next, trying_free, trying_same, trying_new, new_fits, new_reached}
 use Rattle.key_path.proofs.finder.Finder.press_keys.Goals as goal
 

@@ -6,8 +6,8 @@ use Rattle.srs.specs.Rules.{table_of}
 use Rattle.well.specs.Well.{filled}
 use Rattle.circular_buffer.specs.Buffer.{Buffer}
 use Rattle.key_path.specs.declared.marks.Mark.TheVariants.{Start}
-use Rattle.key_path.specs.KeyWord.{IsKeyWord}
-use Rattle.key_path.specs.Marks.{marked}
+use Rattle.key_path.specs.LeastKeyWord.{IsLeastKeyWord}
+use Rattle.key_path.specs.Marks.{with_mark}
 use Rattle.key_path.specs.Search.{IsReached}
 use Rattle.key_path.proofs.FindLemmas.{pushed, finding_first, trying_first, none_found}
 use Rattle.key_path.proofs.finder.Finder.word_from.Goals as goal
@@ -17,7 +17,7 @@ loop-state-init c =
     let cleared : c.clear.new.self.items ≡ [] = ap (λ (b : Buffer Placement). b.items) c.clear.ensures in
     let room : c.clear.new.self.capacity ≡ 920 = ap (λ (b : Buffer Placement). b.capacity) c.clear.ensures ∙ c.args.self.now.room in
     finding_first (table_of c.args.rules.now) (filled c.args.well.now) c.args.drop_mode c.args.aim.now c.set.new.self.marks c.push_back.new.self.items c.requires.free c.requires.elsewhere
-    (c.set.ensures ∙ (λ i. marked (c.new-marks.ensures i) (c.spawn-start.ensures i) Start))
+    (c.set.ensures ∙ (λ i. with_mark (c.new-marks.ensures i) (c.spawn-start.ensures i) Start))
     (pushed c.clear.new.self c.push_back.new.self c.spawn-start.result c.push_back.ensures.items (omega (arith, room, length-append c.clear.new.self.items (c.spawn-start.result ∷ []), ap (λ (xs : List Placement). length xs) cleared))
     ∙ (λ i. cleared i ++ c.spawn-start.ensures i ∷ []))
 
@@ -29,7 +29,7 @@ press_keys-reached-requires-clause-trying c =
 pub returns-in-Some-reached : goal.returns-in-Some-reached
 returns-in-Some-reached c =
     let reached : IsReached (table_of c.args.rules.now) (filled c.args.well.now) c.args.drop_mode c.args.aim.now c.press_keys-reached.new.marks.marks c.in-Some-reached.reached = c.in-Some-reached.ensures.1 in
-    subst (λ word. IsKeyWord (table_of c.args.rules.now) (filled c.args.well.now) c.args.drop_mode c.args.aim.now (Some word)) (sym (c.word_to.ensures reached.traced)) (reached.least reached.traced)
+    subst (λ word. IsLeastKeyWord (table_of c.args.rules.now) (filled c.args.well.now) c.args.drop_mode c.args.aim.now (Some word)) (sym (c.word_to.ensures reached.traced)) (reached.least reached.traced)
 
 pub returns : goal.returns
 returns c =

@@ -1,4 +1,4 @@
--- The keys so far, and those by which the marks lead back from here, are those of the word.
+-- The keys so far, and those by which the marks lead back from here, are those of the key word.
 use Rattle.std.proofs.Common.{◌-◌, length}
 use Rattle.moves.specs.States.{IsPivot}
 use Rattle.key_path.specs.Marks.{Traced}

@@ -2,7 +2,7 @@
 use Rattle.std.proofs.Common.{◌+◌, ◌*◌, ◌≤◌, length, ap, ◌∙◌, arith}
 use Rattle.lane_board.specs.Board.{field_of}
 use Rattle.lane_board.specs.CellCount.{cell_count}
-use Rattle.lane_board.specs.Lanes.{cells_in}
+use Rattle.lane_board.specs.Lanes.{cells_of_bits}
 use Rattle.lane_board.proofs.BoardCounts.{cell_count-eight}
 use Rattle.lane_board.proofs.BoardRows.{in_eights, few_rows}
 use Rattle.lane_board.proofs.CellCounts.{cell_count-le}
@@ -19,7 +19,7 @@ overflow_add-cells g c =
     let few = few_rows g.row.N b.lane_count in
     let within : at + 8 ≤ length b.rows = omega (arith, b.size) in
     let more = cell_count-eight b.rows at b.in_columns within in
-    omega (arith, c.count_in-cells.ensures, cell_count-le (cells_in b.rows) (at + 8), b.size)
+    omega (arith, c.count_in-cells.ensures, cell_count-le (cells_of_bits b.rows) (at + 8), b.size)
 
 pub loop-eight-preserved : goal.loop-eight-preserved
 loop-eight-preserved g c =
@@ -27,11 +27,11 @@ loop-eight-preserved g c =
     let at = 8 * c.loop-eight.eight in
     let within : at + 8 ≤ length b.rows = omega (arith, b.size) in
     let more = cell_count-eight b.rows at b.in_columns within in
-    omega (arith, c.count_in-cells.ensures, ap (cell_count (cells_in b.rows)) {x = 8 * (c.loop-eight.eight + 1)} {y = at + 8} (omega arith))
+    omega (arith, c.count_in-cells.ensures, ap (cell_count (cells_of_bits b.rows)) {x = 8 * (c.loop-eight.eight + 1)} {y = at + 8} (omega arith))
 
 pub returns : goal.returns
 unfolding field_of
 returns g c =
     let b = c.args.self.now in
     let eights = in_eights g.row.N b.lane_count in
-    c.loop-eight.invariant ∙ ap (cell_count (cells_in b.rows)) (omega arith)
+    c.loop-eight.invariant ∙ ap (cell_count (cells_of_bits b.rows)) (omega arith)

@@ -2,7 +2,7 @@
 use Rattle.std.proofs.Common.{ℕ, Bool, refl, sym, ap, ◌∙◌, arith}
 use Rattle.lane_board.specs.Board.{field_of}
 use Rattle.lane_board.specs.FullRows.{without_full_rows}
-use Rattle.lane_board.specs.Lanes.{has_bit, cells_in}
+use Rattle.lane_board.specs.Lanes.{has_bit, cells_of_bits}
 use Rattle.lane_board.proofs.BoardRows.{cell_within}
 use Rattle.lane_board.proofs.Removal.{without_full_rows-none}
 use Rattle.lane_board.proofs.RowBits.{has_bit-zero}
@@ -15,7 +15,7 @@ unfolding field_of
 returns-then-full_rows-eq0 g c =
     let b = c.args.self.now in
     let none = λ (y : ℕ). sym (ap (λ (full : ℕ → Bool). full y) c.full_rows.ensures.rows) ∙ ap (λ mask. has_bit mask y) c.if-full_rows-eq0.true ∙ has_bit-zero y in
-    without_full_rows-none (cells_in b.rows) g.row.N (λ x y filled. (cell_within g.row.N b.rows x y b.size b.in_columns filled).1) none
+    without_full_rows-none (cells_of_bits b.rows) g.row.N (λ x y filled. (cell_within g.row.N b.rows x y b.size b.in_columns filled).1) none
 
 pub loop-y-init : goal.loop-y-init
 loop-y-init g c = copied_none c.args.self.now.rows g.row.N c.args.self.now.size
@@ -36,4 +36,4 @@ invariant_of-result-clause-size g c = c.loop-y.invariant.size ∙ c.args.self.no
 
 pub returns : goal.returns
 unfolding field_of
-returns g c = c.loop-y.invariant.cells ∙ ap (without_full_rows (cells_in c.args.self.now.rows)) (omega arith)
+returns g c = c.loop-y.invariant.cells ∙ ap (without_full_rows (cells_of_bits c.args.self.now.rows)) (omega arith)

@@ -2,7 +2,7 @@
 use Rattle.std.proofs.Common.{◌≡◌, ap, ◌∙◌, arith}
 use Rattle.lane_board.specs.Field.{intersection}
 use Rattle.lane_board.specs.CellCount.{cell_count}
-use Rattle.lane_board.proofs.CellCounts.{cell_count-le}
+use Rattle.lane_board.proofs.CallerLemmas.{cell_count-le}
 use Rattle.well.specs.Well.{filled}
 use Rattle.well.proofs.WellFields.{filled-within, counted_below}
 use Rattle.well.proofs.well.Well.empties_below.Goals as goal

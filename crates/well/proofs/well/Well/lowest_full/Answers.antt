@@ -1,7 +1,7 @@
 -- The lowest set bit of the mask is the lowest full row.
 use Rattle.std.proofs.Common.{◌≡◌, ℕ, ◌<◌, true, sym, arith, rules}
 use Rattle.lane_board.specs.FullRows.{is_full}
-use Rattle.lane_board.proofs.FullCells.{cell_from_full}
+use Rattle.lane_board.proofs.CallerLemmas.{cell_from_full}
 use Rattle.well.specs.declared.well.Well.{Well}
 use Rattle.well.specs.Well.{filled}
 use Rattle.well.proofs.WellFields.{filled-within}

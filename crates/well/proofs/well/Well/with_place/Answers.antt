@@ -4,7 +4,7 @@ use Rattle.std.proofs.lemmas.Int.{ints}
 use mir.Syntax.{w8}
 use mir.Val.{to_z, of_z}
 use Rattle.srs.specs.Cells.{Cell}
-use Rattle.srs.proofs.CanonicalLemmas.{in_well-place}
+use Rattle.srs.proofs.CallerLemmas.{in_well-place}
 use Rattle.well.specs.Lock.{with_place}
 use Rattle.well.specs.Well.{filled}
 use Rattle.well.proofs.LockLemmas.{placed}

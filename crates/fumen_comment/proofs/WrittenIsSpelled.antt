@@ -1,0 +1,114 @@
+-- What is written for a text spells it.
+use Rattle.std.proofs.Common.{◌≡◌, ℕ, zero, suc, ◌+◌, ◌-◌, ◌*◌, ◌/◌, ◌%◌, ◌^◌, ◌<◌, ◌≤◌, min, true, ltb, List, [], ◌∷◌, ◌++◌, length, take, drop, All, Ok, refl, sym, ap, subst, ◌∙◌, arith}
+use Rattle.std.specs.List.{flat_map, list_all, AllByRecursion}
+use Rattle.std.proofs.Math.Nat.{pow-succ', pow-le-pow_right}
+use Rattle.std.proofs.lemmas.Bool.{lt-ltb, and_from}
+use Rattle.std.proofs.lemmas.List.{take_min, length-take, length-drop, take-append-drop, nil_from_length}
+use Rattle.std.proofs.lemmas.List.Elements.{recursion_from_All, All-take, All-drop}
+use Rattle.fumen_digits.specs.Digit.{AreDigits}
+use Rattle.fumen_digits.proofs.CallerLemmas.{AreDigits-append, AreDigits-flat_map, AreDigits-digits}
+use Rattle.fumen_digits.specs.Number.{digits, Stands}
+use Rattle.fumen_comment.specs.Escape.{IsPrintable}
+use Rattle.fumen_comment.specs.Unescape.{unescaped}
+use Rattle.fumen_comment.specs.Part.{packed, unpacked, group_count, groups_of, comment_digits, is_group, AreGroups, SpellsText, SpellsComment}
+use Rattle.fumen_comment.specs.Reading.{comment_at}
+use Rattle.fumen_comment.proofs.Packing.{length-unpacked}
+use Rattle.fumen_comment.proofs.Groups.{characters_of, characters_of-is}
+use Rattle.fumen_comment.proofs.CommentReadAsSpelled.{read_from_comment}
+
+-- ---- one group
+
+-- packed characters are unpacked again
+unpacked-packed : (count : ℕ) (text : List ℕ) → length text ≤ count → AllByRecursion IsPrintable text → take (length text) (unpacked count (packed text)) ≡ text
+unfolding packed unpacked
+unpacked-packed count [] le each = refl
+unpacked-packed zero (c ∷ text) le each = absurd (omega arith)
+unpacked-packed (suc count) (c ∷ text) le each =
+    let rest = packed text in
+    let range = each.0 in
+    let low : (c - 32 + 96 * rest) % 96 + 32 ≡ c = omega arith in
+    let high : (c - 32 + 96 * rest) / 96 ≡ rest = omega arith in
+    rw (low, high) (ap (λ (x : List ℕ). c ∷ x) (unpacked-packed count text (omega arith) each.1))
+
+packed_below : (text : List ℕ) → AllByRecursion IsPrintable text → packed text < 96 ^ length text
+unfolding packed
+packed_below [] each = omega arith
+packed_below (c ∷ text) each =
+    let rest = packed_below text each.1 in
+    let range = each.0 in
+    let power : 96 ^ suc (length text) ≡ 96 * 96 ^ length text = pow-succ' 96 (length text) in
+    omega arith
+
+all_small : (text : List ℕ) → AllByRecursion IsPrintable text → list_all (λ c. ltb c 127) text ≡ true
+all_small [] each = refl
+all_small (c ∷ text) each = and_from (ltb c 127) (list_all (λ k. ltb k 127) text) (lt-ltb c 127 (omega (arith, each.0.1))) (all_small text each.1)
+
+-- the characters of the next group are the next characters
+next_group : (text : List ℕ) → All IsPrintable text → take (length text) (unpacked 4 (packed (take 4 text))) ≡ take 4 text
+next_group text each =
+    let front = take 4 text in
+    let group = unpacked 4 (packed front) in
+    let len : length front ≡ min 4 (length text) = length-take 4 text in
+    let four : length group ≡ 4 = length-unpacked 4 (packed front) in
+    let same : min (length text) (length group) ≡ length front = omega arith in
+    sym (take_min (length text) group) ∙ (ap (λ (n : ℕ). take n group) same ∙ unpacked-packed 4 front (omega arith) (recursion_from_All IsPrintable front (All-take IsPrintable 4 text each)))
+
+group_is_good : (text : List ℕ) → All IsPrintable text → is_group (length text) (packed (take 4 text)) ≡ true
+unfolding is_group
+group_is_good text each =
+    let front = take 4 text in
+    let printable = recursion_from_All IsPrintable front (All-take IsPrintable 4 text each) in
+    let len : length front ≡ min 4 (length text) = length-take 4 text in
+    let positive : 0 < 96 = omega arith in
+    let most : length front ≤ 4 = omega arith in
+    let power : 96 ^ length front ≤ 96 ^ 4 = pow-le-pow_right positive most in
+    let below = packed_below front printable in
+    let fits : packed front < 96 ^ 4 = omega arith in
+    and_from (ltb (packed front) (96 ^ 4)) (list_all (λ c. ltb c 127) (take (length text) (unpacked 4 (packed front)))) (lt-ltb (packed front) (96 ^ 4) fits) (ap (λ (x : List ℕ). list_all (λ c. ltb c 127) x) (next_group text each) ∙ all_small front printable)
+
+-- ---- all groups
+
+groups_good : (count : ℕ) (text : List ℕ) → All IsPrintable text → AreGroups (length text) (groups_of count text)
+unfolding groups_of
+groups_good zero text each = tt
+groups_good (suc count) text each =
+    (group_is_good text each, subst (λ (n : ℕ). AreGroups n (groups_of count (drop 4 text))) (length-drop 4 text) (groups_good count (drop 4 text) (All-drop IsPrintable 4 text each)))
+
+groups_count : (count : ℕ) (text : List ℕ) → length (groups_of count text) ≡ count
+unfolding groups_of
+groups_count zero text = refl
+groups_count (suc count) text = ap suc (groups_count count (drop 4 text))
+
+groups_hold : (count : ℕ) (text : List ℕ) → length text ≤ 4 * count → All IsPrintable text → characters_of (length text) (groups_of count text) ≡ text
+unfolding groups_of
+groups_hold zero text le each = sym (nil_from_length text (omega arith))
+groups_hold (suc count) text le each =
+    let len = length-drop 4 text in
+    let others : characters_of (length text - 4) (groups_of count (drop 4 text)) ≡ drop 4 text = ap (λ (n : ℕ). characters_of n (groups_of count (drop 4 text))) (sym len) ∙ groups_hold count (drop 4 text) (omega arith) (All-drop IsPrintable 4 text each) in
+    ap (λ (x : List ℕ). x ++ characters_of (length text - 4) (groups_of count (drop 4 text))) (next_group text each) ∙ (ap (λ (x : List ℕ). take 4 text ++ x) others ∙ take-append-drop 4 text)
+
+pub written_spells : (text : List ℕ) → length text ≤ 4095 → All IsPrintable text → SpellsText text (comment_digits text)
+unfolding comment_digits
+written_spells text short printable =
+    let count = group_count (length text) in
+    record {
+      short = omega (arith, short);
+      groups = groups_of count text;
+      least = groups_count count text;
+      each = groups_good count text printable;
+      characters = sym (groups_hold count text (omega arith) printable) ∙ characters_of-is (length text) (groups_of count text);
+      spelled = refl;
+    }
+
+pub written_comment : (text : List ℕ) → length text ≤ 4095 → All IsPrintable text → SpellsComment (unescaped text) (comment_digits text)
+written_comment text short printable = record { text = text; spells = written_spells text short printable; means = refl }
+
+pub written_read : (ds : List ℕ) (place : ℕ) (text : List ℕ) (end : ℕ) → length text ≤ 4095 → All IsPrintable text → Stands ds place (comment_digits text) end → comment_at ds place ≡ Ok (unescaped text, end)
+written_read ds place text end short printable s =
+    read_from_comment ds place (unescaped text) end (record { text = comment_digits text; stands = s; spells = written_comment text short printable })
+
+pub written_digits : (text : List ℕ) → AreDigits (comment_digits text)
+unfolding comment_digits
+written_digits text =
+    let groups = groups_of (group_count (length text)) text in
+    AreDigits-append (digits 2 (length text)) (flat_map (digits 5) groups) (AreDigits-digits 2 (length text)) (AreDigits-flat_map (digits 5) (AreDigits-digits 5) groups)

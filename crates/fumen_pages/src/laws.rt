@@ -1,0 +1,40 @@
+// Laws of the definitions: functions with an empty body, whose contract is the law.
+ghost use Rattle.std.specs.Prelude.{◌≡◌, ℕ, List, Bool, Ok};
+ghost use Rattle.fumen_digits.specs.declared.dialect.Dialect.{Dialect};
+ghost use Rattle.fumen_digits.specs.Digit.{AreDigits};
+ghost use Rattle.fumen_digits.specs.Number.{Stands};
+ghost use Rattle.fumen_pages.specs.Cells.{AreCells, shown};
+ghost use Rattle.fumen_pages.specs.Record.{CutsOther, unchanged};
+ghost use Rattle.fumen_pages.specs.Written.{AreApart, longest, written_record, number_of};
+ghost use Rattle.fumen_pages.specs.Reading.{record_at, action_in};
+ghost use Rattle.fumen_pages.specs.declared.page.Page.{Page};
+ghost use Rattle.fumen_pages.specs.Action.{SaysAction};
+ghost use Rattle.fumen_pages.specs.Sound.{IsSound, action_of};
+
+/// What is written is read again: the record of some cells has only digits, and cuts them, by runs that
+/// can't be longer; it is the run that changes no cell exactly where none changes, and is read as the new
+/// cells wherever it stands.
+pub fn write_cells_undone()
+    ensures digits { (dialect : Dialect) (old new : List ℕ) → AreDigits (written_record dialect old new) }
+    ensures same { (dialect : Dialect) (old : List ℕ) → AreCells dialect old →
+        written_record dialect old old ≡ unchanged dialect }
+    ensures other { (dialect : Dialect) (old new : List ℕ) → AreCells dialect old → AreCells dialect new →
+        (new ≡ old → ⊥) →
+        CutsOther dialect old new (written_record dialect old new) }
+    ensures longest { (dialect : Dialect) (old new : List ℕ) → AreCells dialect old → AreCells dialect new →
+        AreApart (longest (shown dialect old) (shown dialect new)) }
+    ensures read { (dialect : Dialect) (ds old new : List ℕ) (place end : ℕ) → AreCells dialect old →
+        AreCells dialect new →
+        Stands ds place (written_record dialect old new) end →
+        (same : Bool) × (record_at dialect ds place old
+        ≡ Ok (record { cells = new; place = end; unchanged = same })) }
+{}
+
+/// What is written is read again: the number of a sound page's action says its operation, its flags and
+/// whether it has a comment, and is read as these.
+pub fn action_number_undone()
+    ensures says { (dialect : Dialect) (page : Page) → IsSound dialect page →
+        SaysAction dialect (number_of dialect page) (action_of page) }
+    ensures read { (dialect : Dialect) (page : Page) → IsSound dialect page →
+        action_in dialect (number_of dialect page) ≡ Ok (action_of page) }
+{}

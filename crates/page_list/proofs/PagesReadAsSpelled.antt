@@ -1,0 +1,282 @@
+-- Texts of many lines and the function that reads them agree, in the pages that are read and in the first fault.
+use Rattle.std.proofs.Common.{◌≡◌, ℕ, suc, ◌+◌, ◌<◌, ◌≤◌, nat_lt, List, [], ◌∷◌, length, Result, Ok, Err, refl, ap, sym, subst, ◌∙◌, ◌⊎◌, inl, inr, ltb-true, ltb-false, lt-ltb, le-ltb, append-nil, arith}
+use Rattle.std.proofs.lemmas.Bool.{cases_Bool}
+use Rattle.fumen_pages.specs.declared.page.Page.{Page}
+use Rattle.page_list.specs.declared.fault.ListFault.{ListFault}
+use Rattle.page_list.specs.declared.fault.ListKind.{ListKind}
+use Rattle.page_list.specs.declared.fault.ListKind.TheVariants.{TooManyPages}
+use Rattle.page_list.specs.ListReading.{lines_of, first_line, numbered, numbered_page, pages_from, pages_in}
+use Rattle.page_list.specs.LineReading.{line_in}
+use Rattle.fumen_digits.specs.Reading.{◌>>=◌}
+use Rattle.page_list.specs.LineSpelling.{SpellsPage, IsFirstLine, SpellsFirst, none, more, SpellsPages, IsFaultBehind, IsListFault, Spelled}
+use Rattle.page_list.proofs.ListLemmas.{behind, from_start, lines-more, none-left}
+use Rattle.page_list.proofs.LineReadAsSpelled.{line_spelled, spelled_line_read, line_fault, faulty_line_read}
+use Rattle.page_list.proofs.FirstLine.{first_line_read, first_line_some, first_line_is}
+
+abbrev Read : Type 0
+Read = Result (List Page) ListFault
+
+-- ---- one line
+
+abbrev fault_at : ℕ → ListKind → ListFault
+fault_at number kind = record { line = number; kind = kind }
+
+fault_is : (number : ℕ) (kind : ListKind) (fault : ListFault) → fault.line ≡ number → fault.kind ≡ kind → fault_at number kind ≡ fault
+fault_is number kind fault line is = ap (λ n. fault_at n kind) (sym line) ∙ ap (λ k. fault_at fault.line k) (sym is)
+
+same_page : (one other : Page) → ◌≡◌ {A = Result Page ListFault} (Ok one) (Ok other) → one ≡ other
+same_page one other e = cc
+
+same_fault : (one other : ListFault) → ◌≡◌ {A = Result Page ListFault} (Err one) (Err other) → one ≡ other
+same_fault one other e = cc
+
+numbered_ok : (number : ℕ) (read : Result Page ListKind) (page : Page) → numbered number read ≡ Ok page → read ≡ Ok page
+numbered_ok number (Ok one) page is = ap Ok (same_page one page is)
+numbered_ok number (Err kind) page is = cc
+
+-- the fault of a line
+record IsNumbered (number : ℕ) (read : Result Page ListKind) (fault : ListFault) : Type 0 where
+  kind : ListKind
+  is : read ≡ Err kind
+  made : fault_at number kind ≡ fault
+
+numbered_err : (number : ℕ) (read : Result Page ListKind) (fault : ListFault) → numbered number read ≡ Err fault → IsNumbered number read fault
+numbered_err number (Ok page) fault is = cc
+numbered_err number (Err kind) fault is = record { kind = kind; is = refl; made = same_fault (fault_at number kind) fault is }
+
+-- a page that was read as the line of a number
+record IsPageOf (number : ℕ) (line : List ℕ) (page : Page) : Type 0 where
+  few : number ≤ 10000
+  spelled : SpellsPage line page
+
+page_is : (number : ℕ) (line : List ℕ) (page : Page) → numbered_page number line ≡ Ok page → IsPageOf number line page
+unfolding numbered_page
+page_is number line page is = elim (cases_Bool (nat_lt 10000 number)) [
+  | inl past ↦ no_page (rw past at is)
+  | inr few ↦ record { few = ltb-false 10000 number few; spelled = line_spelled line page (numbered_ok number (line_in line) page (rw few at is)) }
+] where
+  no_page : {fault : ListFault} → ◌≡◌ {A = Result Page ListFault} (Err fault) (Ok page) → IsPageOf number line page
+  no_page e = cc
+
+page_read : (number : ℕ) (line : List ℕ) (page : Page) → number ≤ 10000 → SpellsPage line page → numbered_page number line ≡ Ok page
+unfolding numbered_page
+page_read number line page few s = rw (le-ltb 10000 number few, spelled_line_read line page s) refl
+
+-- the fault of a line behind so many pages
+record IsFaultOf (count : ℕ) (line : List ℕ) (fault : ListFault) : Type 0 where
+  number : fault.line ≡ count + 1
+  kind : IsFaultBehind count line fault.kind
+
+faulty : (count : ℕ) (line : List ℕ) (fault : ListFault) → count ≤ 10000 → numbered_page (count + 1) line ≡ Err fault → IsFaultOf count line fault
+unfolding numbered_page
+faulty count line fault most is = elim (cases_Bool (nat_lt 10000 (count + 1))) [
+  | inl past ↦
+      let last : count ≡ 10000 = omega (arith, most, ltb-true 10000 (count + 1) past) in
+      subst (IsFaultOf count line) (same_fault (fault_at (count + 1) TooManyPages) fault (rw past at is)) (record { number = refl; kind = inl (last, refl) })
+  | inr few ↦
+      let less : count < 10000 = omega (arith, ltb-false 10000 (count + 1) few) in
+      let one = numbered_err (count + 1) (line_in line) fault (rw few at is) in
+      subst (IsFaultOf count line) one.made (record { number = refl; kind = inr (less, line_fault line one.kind one.is) })
+]
+
+fault_read : (count : ℕ) (line : List ℕ) (fault : ListFault) → fault.line ≡ count + 1 → IsFaultBehind count line fault.kind → numbered_page (count + 1) line ≡ Err fault
+unfolding numbered_page
+fault_read count line fault number (inl last) =
+    rw (lt-ltb 10000 (count + 1) (omega (arith, last.0))) (ap (λ (f : ListFault). Err f) (fault_is (count + 1) TooManyPages fault number last.1))
+fault_read count line fault number (inr less) =
+    rw (le-ltb 10000 (count + 1) (omega (arith, less.0)), faulty_line_read line fault.kind less.1) (ap (λ (f : ListFault). Err f) (fault_is (count + 1) fault.kind fault number refl))
+
+-- ---- many lines
+
+-- the lines of a text with a first line
+record HasFirst (text line : List ℕ) (lines : List (List ℕ)) : Type 0 where
+  behind : List ℕ
+  first : IsFirstLine text line behind
+  later : lines_of behind ≡ lines
+
+no_lines : (text : List ℕ) → lines_of text ≡ [] → text ≡ []
+no_lines [] is = refl
+no_lines (byte ∷ text) is = no_cons (first_line (byte ∷ text)).0 (lines_of (first_line (byte ∷ text)).1) (sym (lines-more (byte ∷ text) (omega arith)) ∙ is)
+  where
+    no_cons : (line : List ℕ) (lines : List (List ℕ)) → line ∷ lines ≡ [] → byte ∷ text ≡ []
+    no_cons line lines e = cc
+
+has_first : (text line : List ℕ) (lines : List (List ℕ)) → lines_of text ≡ line ∷ lines → HasFirst text line lines
+has_first [] line lines is = no_line (sym none-left ∙ is)
+  where
+    no_line : ◌≡◌ {A = List (List ℕ)} [] (line ∷ lines) → HasFirst [] line lines
+    no_line e = cc
+has_first (byte ∷ text) line lines is =
+    let whole = byte ∷ text in
+    let some : 0 < length whole = omega arith in
+    let same = parts (first_line whole).0 line (lines_of (first_line whole).1) lines (sym (lines-more whole some) ∙ is) in
+    record { behind = (first_line whole).1; first = subst (λ l. IsFirstLine whole l (first_line whole).1) same.0 (first_line_is whole some); later = same.1 }
+  where
+    parts : (one other : List ℕ) (ones others : List (List ℕ)) → one ∷ ones ≡ other ∷ others → (one ≡ other) × (ones ≡ others)
+    parts one other ones others e = (cc, cc)
+
+lines_at : (text line behind : List ℕ) → IsFirstLine text line behind → lines_of text ≡ line ∷ lines_of behind
+lines_at text line behind first =
+    lines-more text (first_line_some text line behind first) ∙ ap (λ (l : List ℕ × List ℕ). l.0 ∷ lines_of l.1) (first_line_read text line behind first)
+
+-- a page that was read, and what is read behind it
+record Taken {A : Type 0} (read : Result A ListFault) (next : A → Read) (answer : Read) : Type 0 where
+  value : A
+  is : read ≡ Ok value
+  gives : next value ≡ answer
+
+taken : {A : Type 0} (read : Result A ListFault) (next : A → Read) (pages : List Page) → (read >>= next) ≡ Ok pages → Taken read next (Ok pages)
+taken (Ok value) next pages is = record { value = value; is = refl; gives = is }
+taken (Err fault) next pages is = cc
+
+stops : {A : Type 0} (read : Result A ListFault) (next : A → Read) (fault : ListFault) → (read >>= next) ≡ Err fault → (read ≡ Err fault) ⊎ Taken read next (Err fault)
+stops (Ok value) next fault is = inr (record { value = value; is = refl; gives = is })
+stops (Err one) next fault is = inl (ap (λ (f : ListFault). Err f) (same one fault is))
+  where
+    same : (one other : ListFault) → ◌≡◌ {A = Read} (Err one) (Err other) → one ≡ other
+    same one other e = cc
+
+same_pages : (one other : List Page) → ◌≡◌ {A = Read} (Ok one) (Ok other) → one ≡ other
+same_pages one other e = cc
+
+-- the pages that lines were read as
+record AreSpelled (count : ℕ) (text : List ℕ) (pages : List Page) : Type 0 where
+  most : count + length pages ≤ 10000
+  spelled : SpellsFirst text pages []
+
+spelled_from : (lines : List (List ℕ)) (count : ℕ) (text : List ℕ) (pages : List Page) → count ≤ 10000 → lines_of text ≡ lines → pages_from (count + 1) lines ≡ Ok pages → AreSpelled count text pages
+unfolding pages_from
+spelled_from [] count text pages most whole is =
+    subst (AreSpelled count text) (same_pages [] pages is) (subst (λ t. AreSpelled count t []) (sym (no_lines text whole)) (record { most = omega (arith, most); spelled = none }))
+spelled_from (line ∷ lines) count text pages most whole is =
+    let page = taken (numbered_page (count + 1) line) _ pages is in
+    let one = page_is (count + 1) line page.value page.is in
+    let others = taken (pages_from (count + 1 + 1) lines) _ pages page.gives in
+    let first = has_first text line lines whole in
+    let rest = spelled_from lines (count + 1) first.behind others.value one.few first.later others.is in
+    subst (AreSpelled count text) (same_pages (page.value ∷ others.value) pages others.gives) (record { most = omega (arith, rest.most); spelled = more first.first one.spelled rest.spelled })
+
+-- a fault that lines were read with
+record HasFault (count : ℕ) (text : List ℕ) (fault : ListFault) : Type 0 where
+  pages : List Page
+  rest : List ℕ
+  before : SpellsFirst text pages rest
+  line : List ℕ
+  behind : List ℕ
+  first : IsFirstLine rest line behind
+  is : IsFaultOf (count + length pages) line fault
+
+fault_from : (lines : List (List ℕ)) (count : ℕ) (text : List ℕ) (fault : ListFault) → count ≤ 10000 → lines_of text ≡ lines → pages_from (count + 1) lines ≡ Err fault → HasFault count text fault
+unfolding pages_from
+fault_from [] count text fault most whole is = cc
+fault_from (line ∷ lines) count text fault most whole is =
+    let first = has_first text line lines whole in
+    elim (stops (numbered_page (count + 1) line) _ fault is) [
+      | inl failed ↦ record { pages = []; rest = text; before = none; line = line; behind = first.behind; first = first.first; is = subst (λ n. IsFaultOf n line fault) (none_so_far count) (faulty count line fault most failed) }
+      | inr page ↦
+          let one = page_is (count + 1) line page.value page.is in
+          elim (stops (pages_from (count + 1 + 1) lines) _ fault page.gives) [
+            | inl failed ↦
+                let later = fault_from lines (count + 1) first.behind fault one.few first.later failed in
+                record {
+                  pages = page.value ∷ later.pages;
+                  rest = later.rest;
+                  before = more first.first one.spelled later.before;
+                  line = later.line;
+                  behind = later.behind;
+                  first = later.first;
+                  is = subst (λ n. IsFaultOf n later.line fault) (next count (length later.pages)) later.is;
+                }
+            | inr others ↦ no_fault (others.gives)
+          ]
+    ]
+  where
+    none_so_far : (count : ℕ) → count ≡ count + 0
+    none_so_far count = omega arith
+
+    next : (count size : ℕ) → count + 1 + size ≡ count + suc size
+    next count size = omega arith
+
+    no_fault : {pages : List Page} → ◌≡◌ {A = Read} (Ok pages) (Err fault) → HasFault count text fault
+    no_fault e = cc
+
+-- ---- lines that are spelled are read
+
+in_front : (page : Page) (pages : List Page) (read : Read) → (behind pages read >>= (λ others. Ok (page ∷ others))) ≡ behind (page ∷ pages) read
+in_front page pages (Ok others) = refl
+in_front page pages (Err fault) = refl
+
+-- pages are read up to what stands behind them
+read_on : (text rest : List ℕ) (pages : List Page) (count : ℕ) → SpellsFirst text pages rest → count + length pages ≤ 10000
+    → pages_from (count + 1) (lines_of text) ≡ behind pages (pages_from (count + length pages + 1) (lines_of rest))
+unfolding pages_from
+read_on text rest [] count none few =
+    let size : count + 1 ≡ count + 0 + 1 = omega arith in
+    ap (λ n. pages_from n (lines_of text)) size ∙ sym (from_start (pages_from (count + 0 + 1) (lines_of text)))
+read_on text rest (page ∷ pages) count (more {line = line} {behind = later} first s others) few =
+    let size : count + 1 + length pages + 1 ≡ count + suc (length pages) + 1 = omega arith in
+    let lines = ap (pages_from (count + 1)) (lines_at text line later first) in
+    let one = page_read (count + 1) line page (omega (arith, few)) s in
+    lines ∙ rw one (ap (λ (r : Read). r >>= (λ others. Ok (page ∷ others))) (read_on later rest pages (count + 1) others (omega (arith, few)))
+    ∙ in_front page pages (pages_from (count + 1 + length pages + 1) (lines_of rest)) ∙ ap (λ n. behind (page ∷ pages) (pages_from n (lines_of rest))) size)
+
+-- ---- the laws
+
+from_zero : (n : ℕ) → 0 + n ≡ n
+from_zero n = omega arith
+
+pub pages_spelled : (text : List ℕ) (pages : List Page) → pages_in text ≡ Ok pages → SpellsPages text pages
+pages_spelled text pages is =
+    let all = spelled_from (lines_of text) 0 text pages (omega arith) refl is in
+    record { most = omega (arith, all.most); spelled = all.spelled }
+
+pub spelled_pages_read : (text : List ℕ) (pages : List Page) → SpellsPages text pages → pages_in text ≡ Ok pages
+unfolding pages_from
+spelled_pages_read text pages s =
+    read_on text [] pages 0 s.spelled (omega (arith, s.most)) ∙ ap (λ (lines : List (List ℕ)). behind pages (pages_from (0 + length pages + 1) lines)) none-left ∙ ap (λ (l : List Page). Ok l) (append-nil pages)
+
+pub fault_spelled : (text : List ℕ) (fault : ListFault) → pages_in text ≡ Err fault → IsListFault text fault
+fault_spelled text fault is =
+    let all = fault_from (lines_of text) 0 text fault (omega arith) refl is in
+    let one = subst (λ n. IsFaultOf n all.line fault) (from_zero (length all.pages)) all.is in
+    record { pages = all.pages; rest = all.rest; before = all.before; line = all.line; behind = all.behind; first = all.first; number = one.number; kind = one.kind }
+
+pub spelled_fault_read : (text : List ℕ) (fault : ListFault) → IsListFault text fault → pages_in text ≡ Err fault
+unfolding pages_from
+spelled_fault_read text fault f =
+    let few : length f.pages ≤ 10000 = most (length f.pages) f.line fault.kind f.kind in
+    let failed = ap (λ n. numbered_page (n + 1) f.line) (from_zero (length f.pages)) ∙ fault_read (length f.pages) f.line fault f.number f.kind in
+    read_on text f.rest f.pages 0 f.before (omega (arith, few))
+    ∙ ap (λ (lines : List (List ℕ)). behind f.pages (pages_from (0 + length f.pages + 1) lines)) (lines_at f.rest f.line f.behind f.first)
+    ∙ rw failed refl
+  where
+    most : (count : ℕ) (line : List ℕ) (kind : ListKind) → IsFaultBehind count line kind → count ≤ 10000
+    most count line kind (inl last) = omega (arith, last.0)
+    most count line kind (inr less) = omega (arith, less.0)
+
+-- ---- one answer
+
+ok_or_err : (read : Read) → ((pages : List Page) × (read ≡ Ok pages)) ⊎ ((fault : ListFault) × (read ≡ Err fault))
+ok_or_err (Ok pages) = inl (pages, refl)
+ok_or_err (Err fault) = inr (fault, refl)
+
+pub either : (text : List ℕ) → Spelled SpellsPages text ⊎ Spelled IsListFault text
+either text = elim (ok_or_err (pages_in text)) [
+  | inl read ↦ inl (read.0, pages_spelled text read.0 read.1)
+  | inr failed ↦ inr (failed.0, fault_spelled text failed.0 failed.1)
+]
+
+pub not_both : (text : List ℕ) (pages : List Page) (fault : ListFault) → SpellsPages text pages → IsListFault text fault → ⊥
+not_both text pages fault s f = no_read (sym (spelled_pages_read text pages s) ∙ spelled_fault_read text fault f)
+  where
+    no_read : ◌≡◌ {A = Read} (Ok pages) (Err fault) → ⊥
+    no_read e = cc
+
+pub one_page_list : (text : List ℕ) (one other : List Page) → SpellsPages text one → SpellsPages text other → one ≡ other
+one_page_list text one other s t = same_pages one other (sym (spelled_pages_read text one s) ∙ spelled_pages_read text other t)
+
+pub one_fault : (text : List ℕ) (one other : ListFault) → IsListFault text one → IsListFault text other → one ≡ other
+one_fault text one other f g = same_err one other (sym (spelled_fault_read text one f) ∙ spelled_fault_read text other g)
+  where
+    same_err : (one other : ListFault) → ◌≡◌ {A = Read} (Err one) (Err other) → one ≡ other
+    same_err one other e = cc
