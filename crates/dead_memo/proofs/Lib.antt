@@ -1,0 +1,5 @@
+-- Lemmas on keys and on the order of use.
+mod PackedBits
+mod UseLemmas
+mod KeyLemmas
+mod MemoLemmas

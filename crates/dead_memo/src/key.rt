@@ -1,0 +1,43 @@
+// The key of a question: its cells as one number, its rows and its supply.
+ghost use Rattle.std.specs.Prelude.{◌≡◌, ◌≤◌};
+ghost use Rattle.well.specs.Well.{filled};
+ghost use Rattle.dead_memo.specs.Question.{question};
+ghost use Rattle.dead_memo.specs.Keys.{cells_in_bits, question_of};
+ghost use Rattle.lane_board.specs.Field.{intersection, rows_below};
+
+use well::Well;
+
+/// The cells below the rows left, ten bits for each row from the lowest up; the rows left; and the supply.
+#[derive(Clone, Copy, PartialEq, Eq, Hash)]
+pub struct Key {
+    cells: u128,
+    rows_left: u8,
+    supply: [u8; 7],
+}
+
+impl Key {
+    /// The key of a question.
+    pub(crate) fn new(well: &Well, rows_left: u8, supply: &[u8; 7]) -> Key
+        requires { rows_left ≤ 8 }
+        ensures { question_of result ≡ question (filled well.now) rows_left supply.now }
+    {
+        Key {
+            cells: cells_below(well, rows_left),
+            rows_left,
+            supply: *supply,
+        }
+    }
+}
+
+/// The cells of rows 0 to `rows_left - 1`: bit `10 * y + x` for the cell in column x and row y.
+pub fn cells_below(well: &Well, rows_left: u8) -> u128
+    requires { rows_left ≤ 8 }
+    ensures { cells_in_bits result ≡ intersection (filled well.now) (rows_below rows_left) }
+{
+    let board = well.board();
+    let mut cells = 0;
+    for y in (0..rows_left).rev() {
+        cells = cells * 1024 + u128::from(board.row(y));
+    }
+    cells
+}

@@ -1,0 +1,13 @@
+-- The lemmas of this crate.
+mod SpanBits
+mod EmptiesLemmas
+mod SupplyLemmas
+mod StackLemmas
+mod ChosenLemmas
+mod FormLemmas
+mod FillLemmas
+mod SearchLemmas
+mod PlacedCells
+mod SameTilings
+mod HasTilingLemmas
+pub mod CallerLemmas

@@ -1,0 +1,6 @@
+-- By the number of pieces left.
+use Rattle.packing.proofs.HasTilingLemmas.{tiling_decided}
+use Rattle.packing.proofs.laws.tilings_are_decided.Goals as goal
+
+pub returns : goal.returns
+returns c = tiling_decided

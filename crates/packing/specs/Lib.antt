@@ -1,0 +1,6 @@
+-- What a reader must believe
+pub mod Empties
+-- What serves proofs alone
+pub mod Spans
+pub mod Stacks
+pub mod HasTiling

@@ -1,0 +1,60 @@
+// Questions that were decided: a set of cells and a supply, with the answer.
+ghost use Rattle.std.specs.Prelude.{◌≡◌, ◌<◌};
+ghost use Rattle.prune.specs.Tiling.{supply_in};
+ghost use Rattle.packing.specs.Empties.{all_but, empty_cells};
+ghost use Rattle.packing.specs.HasTiling.{has_tiling};
+
+use crate::empties::Empties;
+
+/// Whether a set of cells has a tiling by a supply. What is kept is true by itself.
+#[derive(Clone, Copy)]
+pub(crate) struct Decided {
+    cells: Empties,
+    supply: [u8; 7],
+    answer: bool,
+    ghost holds: { answer ≡ has_tiling (all_but (empty_cells cells)) 8 (supply_in supply) },
+}
+
+impl Decided {
+    ghost use Rattle.std.specs.Prelude.{◌↔◌, IsTrue, IfSome};
+    ghost use Rattle.prune.specs.Tiling.{Tiling};
+
+    /// A question with its answer.
+    pub(crate) fn new(cells: Empties, supply: [u8; 7], answer: bool) -> Decided
+        requires { IsTrue answer ↔ Tiling (all_but (empty_cells cells)) 8 (supply_in supply) }
+    {
+        Decided {
+            cells,
+            supply,
+            answer,
+        }
+    }
+
+    /// The empty set, which needs no piece.
+    pub(crate) fn nothing() -> Decided {
+        Decided::new(Empties::empty(), [0; 7], true)
+    }
+
+    /// The answer, where this is the question.
+    pub(crate) fn answer_to(&self, cells: &Empties, supply: &[u8; 7]) -> Option<bool>
+        ensures { IfSome result
+            (λ answer. IsTrue answer ↔ Tiling (all_but (empty_cells cells.now)) 8 (supply_in supply.now)) }
+    {
+        if self.cells.is_equal(cells) && self.supply == *supply {
+            return Some(self.answer);
+        }
+        None
+    }
+}
+
+/// The place of a question among so many.
+pub(crate) fn place_of(cells: &Empties, supply: &[u8; 7], count: usize) -> usize
+    requires { 0 < count }
+    ensures { result < count }
+{
+    let [i, l, o, z, t, j, s] = *supply;
+    let word = u64::from_le_bytes([i, l, o, z, t, j, s, 0]);
+    let mixed = (cells.mixed() ^ word.rotate_left(29)).wrapping_mul(0x9e37_79b9_7f4a_7c15);
+    let hash = (mixed ^ mixed >> 32 ^ word).wrapping_mul(0xd6e8_feb8_6659_fd93);
+    (hash >> 32) as usize & (count - 1)
+}

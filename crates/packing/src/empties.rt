@@ -1,0 +1,93 @@
+// A set of empty cells.
+ghost use Rattle.std.specs.Prelude.{◌≡◌, ℕ, ◌<◌, ◌^◌};
+
+use crate::span::Span;
+use well::Well;
+
+/// A set of cells in columns 0 to 9 and rows 0 to 7, of which it is asked whether pieces can fill them.
+#[derive(Clone, Copy)]
+pub struct Empties {
+    /// Bit `8 * column + row` is set exactly where the set has the cell.
+    cells: u128,
+    ghost in_columns: { cells < 2 ^ 80 },
+}
+
+impl Empties {
+    ghost use Rattle.std.specs.Prelude.{◌≤◌, IsTrue, MatchOption};
+    ghost use Rattle.lane_board.specs.Field.{empty_field, difference, rows_below};
+    ghost use Rattle.lane_board.specs.Lanes.{has_bit};
+    ghost use Rattle.well.specs.Well.{filled};
+    ghost use Rattle.packing.specs.Empties.{empty_cells};
+    ghost use Rattle.packing.specs.Spans.{has_span, without_span, IsEmpty, IsFirst};
+
+    /// The empty set.
+    pub(crate) fn empty() -> Empties
+        ensures { empty_cells result ≡ empty_field }
+    {
+        Empties { cells: 0 }
+    }
+
+    /// The cells of rows 0 to `rows - 1` that are empty in a well.
+    pub fn below(well: &Well, rows: u8) -> Empties
+        requires { rows ≤ 8 }
+        ensures { empty_cells result ≡ difference (rows_below rows) (filled well.now) }
+    {
+        let mut cells = 0;
+        for x in 0..10 {
+            for y in 0..rows {
+                if !well.cell(x, y) {
+                    cells |= 1u128 << (8 * x + y);
+                }
+            }
+        }
+        Empties { cells }
+    }
+
+    /// Whether the sets have the same cells.
+    pub(crate) fn is_equal(&self, other: &Empties) -> bool
+        ensures { IsTrue result → empty_cells self.now ≡ empty_cells other.now }
+    {
+        self.cells == other.cells
+    }
+
+    /// A number that tells most sets apart.
+    pub(crate) fn mixed(&self) -> u64 {
+        let low = (self.cells & 0xffff_ffff_ffff_ffff) as u64;
+        let high = (self.cells >> 64) as u64;
+        low ^ high.wrapping_mul(0x9e37_79b9_7f4a_7c15)
+    }
+
+    /// The lowest cell of the leftmost column that has cells, as column and row. `None` exactly where there is no cell.
+    pub(crate) fn first(&self) -> Option<(u8, u8)>
+        ensures { MatchOption result (IsEmpty (empty_cells self.now))
+            (λ cell. IsFirst (empty_cells self.now) cell.0 cell.1) }
+    {
+        if self.cells == 0 {
+            return None;
+        }
+        let place = self.cells.trailing_zeros() as u8;
+        Some((place / 8, place % 8))
+    }
+
+    /// The rows in which the set has all cells of a span whose first column is `x`: bit `y` stands for row `y`.
+    #[inline(always)]
+    pub(crate) fn rows_with(&self, x: u8, span: Span) -> u8
+        requires { x ≤ 9 }
+        ensures { (y : ℕ) → y < 8 → has_bit result y ≡ has_span (empty_cells self.now) x span y }
+    {
+        (span.starts(self.cells >> (8 * x)) & 255) as u8
+    }
+
+    /// The set without the cells of a span in a row.
+    #[inline(always)]
+    pub(crate) fn without_span(&self, x: u8, span: Span, y: u8) -> Empties
+        requires column { x ≤ 9 }
+        requires row { y ≤ 7 }
+        ensures { empty_cells result ≡ without_span (empty_cells self.now) x span y }
+    {
+        let taken = self.cells & span.cells() << (8 * x + y);
+        Empties {
+            cells: self.cells ^ taken,
+        }
+    }
+}

@@ -1,0 +1,19 @@
+// Whether the empty cells of the lowest rows can be divided into generalized pieces.
+#![tactic(auto)]
+
+mod decided;
+mod empties;
+pub mod laws;
+mod placed;
+mod search;
+mod span;
+mod store;
+mod supply;
+mod wells;
+
+pub use empties::Empties;
+pub use store::TilingStore;
+pub use wells::tiles;
+
+#[cfg(test)]
+mod tests;

@@ -1,0 +1,35 @@
+// A store of decided questions.
+ghost use Rattle.std.specs.Prelude.{◌↔◌, IsTrue};
+ghost use Rattle.prune.specs.Tiling.{supply_in, Tiling};
+ghost use Rattle.packing.specs.Empties.{all_but, empty_cells};
+
+use crate::decided::Decided;
+use crate::empties::Empties;
+use pc_outside::NoMemory;
+use std::alloc::Global;
+
+/// The number of questions that a store keeps.
+const PLACES: usize = 8192;
+
+/// Keeps the answers to questions that were asked of it, each in one place. A later one takes the place of an earlier
+/// one.
+#[derive(Drop)]
+pub struct TilingStore {
+    decided: Vec<Decided>,
+}
+
+impl TilingStore {
+    /// A store that has decided nothing yet. `NoMemory` where its memory is refused.
+    pub fn new(alloc: Global) -> Result<TilingStore, NoMemory> {
+        let decided = vec![in alloc; Decided::nothing(); PLACES]?;
+        Ok(TilingStore { decided })
+    }
+
+    /// Whether the cells are the disjoint union of generalized pieces, with at most as many of each kind as the supply
+    /// has, whose entries stand in the order of piece codes. What was decided before is not searched again.
+    pub fn has_tiling(&mut self, cells: &Empties, supply: &[u8; 7]) -> bool
+        ensures { IsTrue result ↔ Tiling (all_but (empty_cells cells.now)) 8 (supply_in supply.now) }
+    {
+        cells.decide(supply, &mut self.decided)
+    }
+}

@@ -1,0 +1,12 @@
+-- Lemmas on tilings.
+mod CellCounts
+mod EmptyCells
+mod PartLemmas
+mod RowMaps
+mod RowOrigins
+mod PartsOfTilings
+mod PlacedLemmas
+mod ColumnCounts
+mod RefusalLemmas
+mod RunLemmas
+pub mod CallerLemmas

@@ -1,0 +1,184 @@
+-- A tiling with one part more or fewer, and the test of rows that rise.
+use Rattle.std.proofs.Common.{◌≡◌, ℕ, suc, ◌+◌, ◌-◌, ◌<◌, ◌≤◌, Bool, true, false, not, cond, ◌&&◌, ◌||◌, ◌==◌, List, [], ◌∷◌, ℤ, pos, negsuc, nat_lt, refl, sym, ap, ◌∙◌, inl, inr, arith}
+use Rattle.std.specs.Prelude.{◌↔◌, All, int_lt}
+use Rattle.std.specs.List.{list_all}
+use Rattle.std.proofs.lemmas.Bool.{cases_Bool, cond-true, cond-false, true_from_ne_false, and_right, false≢true, ltb-true, eq-eqb, not_from_true}
+use Rattle.std.proofs.lemmas.List.Elements.{All-cons, All-head, All-tail}
+use Rattle.std.proofs.lemmas.List.Sums.{sum_by-cons}
+use Rattle.srs.specs.declared.piece.Piece.{Piece}
+use Rattle.srs.specs.Piece.{piece_code}
+use Rattle.srs.specs.Cells.{Cell}
+use Rattle.srs.specs.SameCells.{is_among}
+use Rattle.srs.proofs.CallerLemmas.{is_among-all, list_all-from_is_among}
+use Rattle.lane_board.specs.Field.{Field, intersection, rows_below}
+use Rattle.prune.specs.Tiling.{Part, IsGeneralized, is_empty_below, covers, parts_of, Tiling, Supply}
+use Rattle.prune.specs.Laws.{with_one}
+use Rattle.prune.specs.OnePart.{with_cells, less_one}
+use Rattle.prune.proofs.CellCounts.{count_in, count_in-some, count_in-none}
+use Rattle.prune.proofs.PartLemmas.{covers-cons, part_once}
+
+-- what is empty once some cells are filled
+pub is_empty-with_cells : (F : Field) (cells : List Cell) (rows : ℕ) (cell : Cell) → is_empty_below (with_cells F cells) rows cell ≡ (is_empty_below F rows cell && not (is_among cells cell))
+unfolding is_empty_below with_cells
+is_empty-with_cells F cells rows (pos x, pos y) = apart (rows_below rows x y) (F x y) (is_among cells (pos x, pos y))
+  where
+    apart : (a b c : Bool) → (a && not (b || c)) ≡ ((a && not b) && not c)
+    apart false b c = refl
+    apart true false c = refl
+    apart true true c = refl
+is_empty-with_cells F cells rows (pos x, negsuc y) = refl
+is_empty-with_cells F cells rows (negsuc x, pos y) = refl
+is_empty-with_cells F cells rows (negsuc x, negsuc y) = refl
+
+and_true : (a : Bool) → (a && true) ≡ a
+and_true true = refl
+and_true false = refl
+
+-- how many parts of a kind there are with one part more
+pub parts_of-cons : (part : Part) (parts : List Part) (piece : Piece) → parts_of (part ∷ parts) piece ≡ cond (piece_code part.piece == piece_code piece) 1 0 + parts_of parts piece
+parts_of-cons part parts piece = sum_by-cons (λ part. cond (piece_code part.piece == piece_code piece) 1 0) part parts
+
+-- a generalized piece on empty cells and a tiling of what it leaves are a tiling with one more piece
+pub with_part : (F : Field) (rows : ℕ) (part : Part) (supply : Supply) → IsGeneralized part → list_all (is_empty_below F rows) part.cells ≡ true →
+    Tiling (with_cells F part.cells) rows supply → Tiling F rows (with_one supply part.piece)
+unfolding with_one
+with_part F rows part supply is empty t = record {
+  parts = part ∷ t.parts;
+  generalized = All-cons IsGeneralized part t.parts is t.generalized;
+  covered = λ cell. covers-cons part t.parts cell ∙ covered cell (t.covered cell ∙ ap (λ b. cond b 1 0) (is_empty-with_cells F part.cells rows cell));
+  supplied = λ piece. supplied piece (t.supplied piece);
+}
+  where
+    covered : (cell : Cell) → covers t.parts cell ≡ cond (is_empty_below F rows cell && not (is_among part.cells cell)) 1 0 → count_in part.cells cell + covers t.parts cell ≡ cond (is_empty_below F rows cell) 1 0
+    covered cell rest = elim (cases_Bool (is_among part.cells cell)) [
+      | inl has ↦
+          let here : is_empty_below F rows cell ≡ true = is_among-all (is_empty_below F rows) part.cells cell empty has in
+          omega (arith, part_once part is cell, count_in-some part.cells cell has, rest, cond-false {A = ℕ} _ 1 0 (and_right (is_empty_below F rows cell) _ (not_from_true _ has)), cond-true {A = ℕ} (is_empty_below F rows cell) 1 0 here)
+      | inr none ↦
+          let same : (is_empty_below F rows cell && not (is_among part.cells cell)) ≡ is_empty_below F rows cell = ap (λ b. is_empty_below F rows cell && not b) none ∙ and_true (is_empty_below F rows cell) in
+          omega (arith, count_in-none part.cells cell none, rest ∙ ap (λ b. cond b 1 0) same)
+    ]
+
+    supplied : (piece : Piece) → parts_of t.parts piece ≤ supply piece → parts_of (part ∷ t.parts) piece ≤ cond (piece_code part.piece == piece_code piece) (suc (supply piece)) (supply piece)
+    supplied piece enough = elim (cases_Bool (piece_code part.piece == piece_code piece)) [
+      | inl same ↦ omega (arith, parts_of-cons part t.parts piece, cond-true {A = ℕ} _ 1 0 same, cond-true {A = ℕ} _ (suc (supply piece)) (supply piece) same, enough)
+      | inr other ↦ omega (arith, parts_of-cons part t.parts piece, cond-false {A = ℕ} _ 1 0 other, cond-false {A = ℕ} _ (suc (supply piece)) (supply piece) other, enough)
+    ]
+
+-- a part that has the cell, and the other parts
+record Split (parts : List Part) (cell : Cell) : Type 0 where
+  pub part : Part
+  pub rest : List Part
+  pub has : is_among part.cells cell ≡ true
+  pub generalized : All IsGeneralized parts → IsGeneralized part × All IsGeneralized rest
+  pub covered : (c : Cell) → covers parts c ≡ count_in part.cells c + covers rest c
+  pub counted : (piece : Piece) → parts_of parts piece ≡ cond (piece_code part.piece == piece_code piece) 1 0 + parts_of rest piece
+
+split : (parts : List Part) (cell : Cell) → 1 ≤ covers parts cell → Split parts cell
+unfolding covers
+split [] cell some = absurd (omega arith)
+split (part ∷ parts) cell some = elim (cases_Bool (is_among part.cells cell)) [
+  | inl has ↦ record {
+    part = part;
+    rest = parts;
+    has = has;
+    generalized = λ all. (All-head IsGeneralized part parts all, All-tail IsGeneralized part parts all);
+    covered = λ c. covers-cons part parts c;
+    counted = λ piece. parts_of-cons part parts piece;
+  }
+  | inr none ↦
+      let old = split parts cell (omega (arith, some, covers-cons part parts cell, count_in-none part.cells cell none)) in
+      record {
+        part = old.part;
+        rest = part ∷ old.rest;
+        has = old.has;
+        generalized = λ all. let below = old.generalized (All-tail IsGeneralized part parts all) in (below.0, All-cons IsGeneralized part old.rest (All-head IsGeneralized part parts all) below.1);
+        covered = λ c. omega (arith, covers-cons part parts c, covers-cons part old.rest c, old.covered c);
+        counted = λ piece. omega (arith, parts_of-cons part parts piece, parts_of-cons part old.rest piece, old.counted piece);
+      }
+]
+
+-- the part of a tiling that has a cell, and the tiling that is left without it
+pub record TakenPart (F : Field) (rows : ℕ) (supply : Supply) (cell : Cell) : Type 0 where
+  pub part : Part
+  pub generalized : IsGeneralized part
+  pub has : is_among part.cells cell ≡ true
+  pub empty : list_all (is_empty_below F rows) part.cells ≡ true
+  pub some : 1 ≤ supply part.piece
+  pub rest : Tiling (with_cells F part.cells) rows (less_one supply part.piece)
+
+-- each empty cell stands in a part, and without it there is a tiling of what it leaves with one piece fewer
+pub taken_part : (F : Field) (rows : ℕ) (supply : Supply) (cell : Cell) → is_empty_below F rows cell ≡ true → Tiling F rows supply → TakenPart F rows supply cell
+unfolding less_one
+taken_part F rows supply cell here t = taken (split t.parts cell (omega (arith, t.covered cell, cond-true {A = ℕ} _ 1 0 here)))
+  where
+    taken : Split t.parts cell → TakenPart F rows supply cell
+    taken s = record {
+      part = s.part;
+      generalized = (s.generalized t.generalized).0;
+      has = s.has;
+      empty = list_all-from_is_among (is_empty_below F rows) s.part.cells empty;
+      some = omega (arith, s.counted s.part.piece, t.supplied s.part.piece, cond-true {A = ℕ} _ 1 0 (eq-eqb (piece_code s.part.piece) (piece_code s.part.piece) refl));
+      rest = record {
+        parts = s.rest;
+        generalized = (s.generalized t.generalized).1;
+        covered = λ c. covered c ∙ ap (λ b. cond b 1 0) (sym (is_empty-with_cells F s.part.cells rows c));
+        supplied = λ piece. supplied piece (t.supplied piece);
+      };
+    }
+      where
+        empty : (c : Cell) → is_among s.part.cells c ≡ true → is_empty_below F rows c ≡ true
+        empty c has = true_from_ne_false _ (λ filled. omega (arith, s.covered c, count_in-some s.part.cells c has, t.covered c, cond-false {A = ℕ} _ 1 0 filled))
+
+        covered : (c : Cell) → covers s.rest c ≡ cond (is_empty_below F rows c && not (is_among s.part.cells c)) 1 0
+        covered c = elim (cases_Bool (is_among s.part.cells c)) [
+          | inl has ↦ omega (arith, s.covered c, count_in-some s.part.cells c has, t.covered c, cond-true {A = ℕ} _ 1 0 (empty c has), cond-false {A = ℕ} _ 1 0 (and_right (is_empty_below F rows c) _ (not_from_true _ has)))
+          | inr none ↦
+              let same : (is_empty_below F rows c && not (is_among s.part.cells c)) ≡ is_empty_below F rows c = ap (λ b. is_empty_below F rows c && not b) none ∙ and_true (is_empty_below F rows c) in
+              let there : covers s.rest c ≡ covers t.parts c = omega (arith, s.covered c, count_in-none s.part.cells c none) in
+              there ∙ t.covered c ∙ ap (λ b. cond b 1 0) (sym same)
+        ]
+
+        supplied : (piece : Piece) → parts_of t.parts piece ≤ supply piece → parts_of s.rest piece ≤ cond (piece_code s.part.piece == piece_code piece) (supply piece - 1) (supply piece)
+        supplied piece enough = elim (cases_Bool (piece_code s.part.piece == piece_code piece)) [
+          | inl same ↦ omega (arith, s.counted piece, cond-true {A = ℕ} _ 1 0 same, cond-true {A = ℕ} _ (supply piece - 1) (supply piece) same, enough)
+          | inr other ↦ omega (arith, s.counted piece, cond-false {A = ℕ} _ 1 0 other, cond-false {A = ℕ} _ (supply piece - 1) (supply piece) other, enough)
+        ]
+
+-- rows rise where the test of each two cells of a list says so
+abbrev pub rises : (ℤ → ℕ) → List Cell → Bool
+rises row cells = list_all (λ c. list_all (λ d. not (int_lt c.1 d.1) || nat_lt (row c.1) (row d.1)) cells) cells
+
+pub rising-from_test : (row : ℤ → ℕ) (cells : List Cell) → rises row cells ≡ true →
+    (c d : Cell) → is_among cells c ≡ true → is_among cells d ≡ true → int_lt c.1 d.1 ≡ true → row c.1 < row d.1
+rising-from_test row cells all c d has_c has_d lower =
+    ltb-true (row c.1) (row d.1) (implied (int_lt c.1 d.1) _ lower (is_among-all (λ d. not (int_lt c.1 d.1) || nat_lt (row c.1) (row d.1)) cells d (is_among-all (λ c. list_all (λ d. not (int_lt c.1 d.1) || nat_lt (row c.1) (row d.1)) cells) cells c all has_c) has_d))
+  where
+    implied : (a b : Bool) → a ≡ true → (not a || b) ≡ true → b ≡ true
+    implied true b holds h = h
+    implied false b holds h = absurd (false≢true holds)
+
+-- fields with the same empty cells below a row have the same tilings there
+pub same_tiling : (F G : Field) (rows : ℕ) (supply : Supply) → ((cell : Cell) → is_empty_below F rows cell ≡ is_empty_below G rows cell) → Tiling F rows supply → Tiling G rows supply
+same_tiling F G rows supply same t = record {
+  parts = t.parts;
+  generalized = t.generalized;
+  covered = λ cell. t.covered cell ∙ ap (λ b. cond b 1 0) (same cell);
+  supplied = t.supplied;
+}
+
+is_empty-below : (F : Field) (rows : ℕ) (cell : Cell) → is_empty_below F rows cell ≡ is_empty_below (intersection F (rows_below rows)) rows cell
+unfolding is_empty_below intersection
+is_empty-below F rows (pos x, pos y) = same (rows_below rows x y) (F x y)
+  where
+    same : (a b : Bool) → (a && not b) ≡ (a && not (b && a))
+    same true true = refl
+    same true false = refl
+    same false b = refl
+is_empty-below F rows (pos x, negsuc y) = refl
+is_empty-below F rows (negsuc x, pos y) = refl
+is_empty-below F rows (negsuc x, negsuc y) = refl
+
+-- cells at or above the rows don't count
+pub tiling_below : (F : Field) (rows : ℕ) (supply : Supply) → Tiling F rows supply ↔ Tiling (intersection F (rows_below rows)) rows supply
+tiling_below F rows supply = (same_tiling F (intersection F (rows_below rows)) rows supply (is_empty-below F rows), same_tiling (intersection F (rows_below rows)) F rows supply (λ cell. sym (is_empty-below F rows cell)))

@@ -1,0 +1,135 @@
+-- A placement is a generalized piece: what one of them, and a run of them, does to tilings.
+use Rattle.std.proofs.Common.{◌≡◌, ℕ, suc, ◌-◌, ◌<◌, ◌≤◌, Bool, true, false, not, ◌==◌, List, [], ◌∷◌, map, ℤ, pos, negsuc, nat_abs, ◌+ℤ◌, ◌<ℤ◌, nat_le, refl, sym, ap, subst, ◌∙◌, inl, inr, arith}
+use Rattle.std.specs.Prelude.{int_lt}
+use Rattle.std.specs.List.{list_all}
+use Rattle.std.proofs.lemmas.Bool.{cases_Bool, cond-true, cond-false, false_from_ne_true, and_parts, or_from, false≢true, ltb-true, leb-true, not-true}
+use Rattle.std.proofs.lemmas.Int.{ints}
+use Rattle.srs.specs.declared.piece.Piece.{Piece}
+use Rattle.srs.specs.declared.placement.Placement.{Placement}
+use Rattle.srs.specs.Piece.{piece_code}
+use Rattle.srs.specs.Cells.{Cell, shape, moved, cells_of, pivot_of, in_well, is_inside_of}
+use Rattle.srs.specs.SameCells.{is_among}
+use Rattle.srs.proofs.CallerLemmas.{is_among-all, list_all-from_is_among, in_well-place, inside_cell}
+use Rattle.lane_board.specs.Field.{Field}
+use Rattle.well.specs.Free.{is_open, is_free_at, is_free}
+use Rattle.well.specs.Lock.{together, locked, rows_removed}
+use Rattle.well.specs.LockLaws.{LiesBelow, is_below}
+use Rattle.well.proofs.CallerLemmas.{free_inside, stays_below}
+use Rattle.prune.specs.Tiling.{Part, sent, IsGeneralized, is_empty_below, covers, Tiling, Supply}
+use Rattle.prune.specs.Laws.{with_one, OnePlacement, FullRowsMayStand, MorePieces, pieces_in, ClearedIsTiled}
+use Rattle.prune.specs.OnePart.{with_cells}
+use Rattle.prune.proofs.CellCounts.{count-yes, count-no}
+use Rattle.prune.proofs.EmptyCells.{is_empty_at, none_below}
+use Rattle.prune.proofs.RowOrigins.{standing}
+use Rattle.prune.proofs.PartsOfTilings.{with_part}
+
+-- two functions that agree on the cells of a list
+map-agree : (f g : Cell → Cell) (ok : Cell → Bool) (cells : List Cell) → list_all ok cells ≡ true → ((c : Cell) → ok c ≡ true → f c ≡ g c) → map f cells ≡ map g cells
+map-agree f g ok [] all agree = refl
+map-agree f g ok (c ∷ cs) all agree =
+    let parts = and_parts (ok c) (list_all ok cs) all in
+    λ i. agree c parts.0 i ∷ map-agree f g ok cs parts.1 agree i
+
+abbrev placed : Placement → Part
+placed q = record { piece = q.piece; cells = cells_of q }
+
+-- the row of the field in which a row of the shape lies
+row_of : Placement → ℤ → ℕ
+row_of q z = nat_abs (pos q.y +ℤ z)
+
+module _ (q : Placement) (inside : is_inside_of q ≡ true) where
+  at : (c : Cell) → is_among (shape q.piece q.rotation) c ≡ true → pos q.y +ℤ c.1 ≡ pos (row_of q c.1)
+  unfolding moved row_of
+  at c has =
+      let lies = in_well-place _ (inside_cell q c inside has) in
+      let row : pos q.y +ℤ c.1 ≡ pos lies.y = ap (λ (c : Cell). c.1) lies.is in
+      row ∙ ap pos (sym (ap nat_abs row))
+
+  same_cell : (c : Cell) → is_among (shape q.piece q.rotation) c ≡ true → moved (pivot_of q) c ≡ sent (pos q.x) (row_of q) c
+  unfolding moved sent
+  same_cell c has =
+      let x : pos q.x +ℤ c.0 ≡ c.0 +ℤ pos q.x = omega (arith, ints) in
+      λ i. (x i, at c has i)
+
+  rise : (a b : ℤ) → int_lt a b ≡ true → pos q.y +ℤ a ≡ pos (row_of q a) → pos q.y +ℤ b ≡ pos (row_of q b) → row_of q a < row_of q b
+  rise a b lower at_a at_b = let order = below_of a b lower in omega (arith, ints)
+    where
+      below_of : (a b : ℤ) → int_lt a b ≡ true → a <ℤ b
+      below_of (pos a) (pos b) lower = omega (arith, ints, ltb-true a b lower)
+      below_of (pos a) (negsuc b) lower = absurd (false≢true lower)
+      below_of (negsuc a) (pos b) lower = omega (arith, ints)
+      below_of (negsuc a) (negsuc b) lower = omega (arith, ints, ltb-true b a lower)
+
+  placed_generalized : IsGeneralized (placed q)
+  placed_generalized = record {
+    rotation = q.rotation;
+    move = pos q.x;
+    row = row_of q;
+    rising = λ c d has_c has_d lower. rise c.1 d.1 lower (at c has_c) (at d has_d);
+    cells = map-agree (moved (pivot_of q)) (sent (pos q.x) (row_of q)) (is_among (shape q.piece q.rotation)) (shape q.piece q.rotation) (list_all-from_is_among (is_among (shape q.piece q.rotation)) (shape q.piece q.rotation) (λ c has. has)) same_cell;
+  }
+
+-- the cells of a free placement below a row are empty ones
+open_below : (F : Field) (rows : ℕ) (cell : Cell) → is_open F cell ≡ true → int_lt cell.1 (pos rows) ≡ true → is_empty_below F rows cell ≡ true
+unfolding is_open
+open_below F rows (pos x, pos y) opened below =
+    let parts = and_parts (in_well (pos x, pos y)) (not (F x y)) opened in
+    let within = and_parts (nat_le x 9) (nat_le y 22) parts.0 in
+    is_empty_at F rows x y (omega (arith, leb-true x 9 within.0)) (ltb-true y rows below) (not-true (F x y) parts.1)
+open_below F rows (pos x, negsuc y) opened below = absurd (false≢true opened)
+open_below F rows (negsuc x, pos y) opened below = absurd (false≢true opened)
+open_below F rows (negsuc x, negsuc y) opened below = absurd (false≢true opened)
+
+placed_empty : (F : Field) (rows : ℕ) (q : Placement) → is_free F q ≡ true → is_below rows q ≡ true → list_all (is_empty_below F rows) (cells_of q) ≡ true
+unfolding is_free_at
+placed_empty F rows q free below = list_all-from_is_among (is_empty_below F rows) (cells_of q) (λ c has.
+    open_below F rows c (is_among-all (is_open F) (cells_of q) c free has) (is_among-all (λ cell. int_lt cell.1 (pos rows)) (cells_of q) c below has))
+
+together_is : (F : Field) (q : Placement) → together F q ≡ with_cells F (cells_of q)
+unfolding together with_cells
+together_is F q = refl
+
+-- no cell stands above the height once the placement is there
+together_below : (F : Field) (q : Placement) (height : ℕ) → LiesBelow F height → is_below height q ≡ true → (x y : ℕ) → height ≤ y → together F q x y ≡ false
+unfolding together
+together_below F q height below placed x y above = or_from _ _ (below.none x y above) (false_from_ne_true _ (λ has.
+    omega (arith, ltb-true y height (is_among-all (λ cell. int_lt cell.1 (pos height)) (cells_of q) (pos x, pos y) placed has))))
+
+pub full_rows_may_stand : FullRowsMayStand
+unfolding locked rows_removed
+full_rows_may_stand F q height supply within below free placed = standing (together F q) height within (together_below F q height below placed) supply
+
+pub one_placement : OnePlacement
+one_placement F q height supply within below free placed_below t =
+    with_part F height (placed q) supply (placed_generalized q (free_inside F q free)) (placed_empty F height q free placed_below)
+    (subst (λ G. Tiling G height supply) (together_is F q) ((full_rows_may_stand F q height supply within below free placed_below).1 t))
+
+pub more_pieces : MorePieces
+more_pieces F rows supply more enough t = record {
+  parts = t.parts;
+  generalized = t.generalized;
+  covered = t.covered;
+  supplied = λ piece. omega (arith, t.supplied piece, enough piece);
+}
+
+no_rows : (F : Field) (rows : ℕ) (supply : Supply) → rows ≡ 0 → Tiling F rows supply
+unfolding covers
+no_rows F rows supply none = record {
+  parts = [];
+  generalized = λ k d below. absurd (omega arith);
+  covered = λ cell. sym (cond-false {A = ℕ} (is_empty_below F rows cell) 1 0 (none_below F rows cell none));
+  supplied = λ piece. omega arith;
+}
+
+one_more : (q : Placement) (rest : List Placement) (piece : Piece) → with_one (pieces_in rest) q.piece piece ≤ pieces_in (q ∷ rest) piece
+unfolding with_one pieces_in
+one_more q rest piece = elim (cases_Bool (piece_code q.piece == piece_code piece)) [
+  | inl same ↦ omega (arith, count-yes (λ q. piece_code q.piece == piece_code piece) q rest same, cond-true {A = ℕ} _ (suc (pieces_in rest piece)) (pieces_in rest piece) same)
+  | inr other ↦ omega (arith, count-no (λ q. piece_code q.piece == piece_code piece) q rest other, cond-false {A = ℕ} _ (suc (pieces_in rest piece)) (pieces_in rest piece) other)
+]
+
+pub cleared_is_tiled : ClearedIsTiled
+cleared_is_tiled F rows [] within below none = no_rows F rows (pieces_in []) none
+cleared_is_tiled F rows (q ∷ rest) within below clears =
+    let after = cleared_is_tiled (locked F q) (rows - rows_removed F q) rest (omega arith) (record { none = λ x y above. stays_below F q rows within below clears.1 x y (omega arith) }) clears.2 in
+    more_pieces F rows (with_one (pieces_in rest) q.piece) (pieces_in (q ∷ rest)) (one_more q rest) (one_placement F q rows (pieces_in rest) within below clears.0 clears.1 after)

@@ -1,0 +1,22 @@
+// Laws of tilings: functions without a body to speak of, whose contract is the law.
+ghost use Rattle.prune.specs.Laws.{OnePlacement, FullRowsMayStand, MorePieces, ClearedIsTiled};
+
+/// Where what a placement leaves has a tiling, the field before it has one with one more piece of its kind.
+pub fn placement_is_one_part()
+    ensures { OnePlacement }
+{}
+
+/// The empty cells that a placement leaves have a tiling before its full rows are removed exactly where they have one after.
+pub fn full_rows_may_stand()
+    ensures { FullRowsMayStand }
+{}
+
+/// A tiling stays one where there are more pieces.
+pub fn more_pieces_may_be_left()
+    ensures { MorePieces }
+{}
+
+/// Where a run of placements clears all rows, the empty cells before it have a tiling with its pieces.
+pub fn cleared_rows_are_tiled()
+    ensures { ClearedIsTiled }
+{}

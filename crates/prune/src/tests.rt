@@ -1,0 +1,17 @@
+// The three counts at small fields.
+use crate::cheap_no;
+use well::Well;
+
+/// Seven of each kind.
+const AMPLE: [u8; 7] = [7; 7];
+
+#[test]
+fn counts_refuse(rt: HostRuntime) {
+    let uneven = Well::from_rows(b"XXXXX_____").expect(&rt, "a rows text");
+    assert!(rt; cheap_no(&uneven, 1, &AMPLE));
+    let runs = Well::from_rows(b"__XXXX__XX").expect(&rt, "a rows text");
+    assert!(rt; cheap_no(&runs, 1, &AMPLE));
+    let line = Well::from_rows(b"XXXXXX____").expect(&rt, "a rows text");
+    assert!(rt; !cheap_no(&line, 1, &[1, 0, 0, 0, 0, 0, 0]));
+    assert!(rt; cheap_no(&line, 1, &[0; 7]));
+}
