@@ -8,8 +8,7 @@ use Rattle.std.proofs.lemmas.List.Sums.{sum_by-cons}
 use Rattle.lane_board.specs.Field.{Field}
 use Rattle.lane_board.specs.FullRows.{columns, is_full}
 use Rattle.lane_board.specs.CellCount.{row_count, cell_count}
-use Rattle.lane_board.proofs.CellTests.{same_from_both}
-use Rattle.lane_board.proofs.FullCells.{cell_from_full}
+use Rattle.lane_board.proofs.CallerLemmas.{same_from_both, cell_from_full}
 
 -- the field has its cells in columns 0 to 9 and rows 0 to n - 1
 pub record LiesWithin (F : Field) (n : ℕ) : Type 0 where

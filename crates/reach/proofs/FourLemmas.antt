@@ -6,8 +6,7 @@ use Rattle.srs.specs.declared.rotation.Rotation.{Rotation}
 use Rattle.srs.specs.declared.placement.Placement.{Placement}
 use Rattle.srs.specs.Cells.{Cell, moved, pivot_of, is_inside_of}
 use Rattle.srs.specs.Canonical.{canonical_move}
-use Rattle.srs.proofs.NumberLemmas.{near_within}
-use Rattle.srs.proofs.ShapeLemmas.{each_state, canonical_move_near}
+use Rattle.srs.proofs.CallerLemmas.{near_within, each_state, canonical_move_near}
 use Rattle.reach.proofs.StateSets.{state_of}
 
 pub inside_at_four : (piece : Piece) (r : Rotation) → is_inside_of (state_of piece r 4 4) ≡ true

@@ -17,8 +17,8 @@ use Rattle.moves.specs.declared.key.DropMode.{DropMode}
 use Rattle.moves.specs.Keys.{allows}
 use Rattle.moves.specs.Step.{state_at, first_free, shifted, turned, step_of}
 use Rattle.moves.specs.Walk.{led}
-use Rattle.moves.specs.Leads.{spawn_of, spawned, leads}
-use Rattle.moves.proofs.WalkLemmas.{some_same, not_some, led_none}
+use Rattle.moves.specs.Leads.{spawn_of, spawned, state_after}
+use Rattle.moves.proofs.CallerLemmas.{some_same, not_some, led_none}
 use Rattle.reach.specs.States.{States, has_state, has_pivot}
 use Rattle.reach.specs.Folded.{no_states}
 use Rattle.reach.specs.Started.{started}
@@ -99,10 +99,10 @@ module _ (table : Table) (F : Field) (mode : DropMode) (piece : Piece) (free : S
   pub record KeysLead (s : Placement) : Type 0 where
     pub keys : List Key
     pub allowed : All (λ key. IsTrue (allows mode key)) keys
-    pub reached : leads table F piece keys ≡ Some s
+    pub reached : state_after table F piece keys ≡ Some s
 
   pub reached_by_keys : (s : Placement) → IsReached ground (started free) s → KeysLead s
-  unfolding leads
+  unfolding state_after
   reached_by_keys s way = record {
     keys = way.keys;
     allowed = way.allowed;
@@ -112,8 +112,8 @@ module _ (table : Table) (F : Field) (mode : DropMode) (piece : Piece) (free : S
   }
 
   -- and where keys lead is reached
-  pub keys_reach : (s : Placement) (keys : List Key) → All (λ key. IsTrue (allows mode key)) keys → leads table F piece keys ≡ Some s → IsReached ground (started free) s
-  unfolding leads
+  pub keys_reach : (s : Placement) (keys : List Key) → All (λ key. IsTrue (allows mode key)) keys → state_after table F piece keys ≡ Some s → IsReached ground (started free) s
+  unfolding state_after
   keys_reach s keys allowed e = from_start (spawned F piece) refl e
     where
       from_start : (start : Option Placement) → spawned F piece ≡ start → led (step_of table F) start keys ≡ Some s → IsReached ground (started free) s

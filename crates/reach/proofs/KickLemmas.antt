@@ -5,7 +5,8 @@ use Rattle.srs.specs.declared.piece.Piece.{Piece}
 use Rattle.srs.specs.declared.rotation.Rotation.{Rotation}
 use Rattle.srs.specs.Cells.{Cell}
 use Rattle.srs.specs.Kick.{Table, kick_in}
-use Rattle.reach.specs.Kicks.{kicks_of, taken, left_by, turned_from}
+use Rattle.sky.specs.Kicks.{kicks_of}
+use Rattle.reach.specs.Kicks.{taken, left_by, turned_from}
 
 -- the tests that are left begin with the one that is due
 pub kicks_from : (table : Table) (piece : Piece) (from to : Rotation) (test : ℕ) → 1 ≤ test → test ≤ 5 → drop (test - 1) (kicks_of table piece from to) ≡ kick_in table piece from to test ∷ drop test (kicks_of table piece from to)

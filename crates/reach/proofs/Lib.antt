@@ -1,19 +1,35 @@
 -- The lemmas of this crate.
-pub mod FieldLemmas
-pub mod MovedCells
-pub mod StateSets
-pub mod ReachedLemmas
-pub mod TurnLemmas
-pub mod SpreadLemmas
-pub mod SettleLemmas
-pub mod FloodLemmas
-pub mod KickLemmas
-pub mod RestLemmas
-pub mod OffsetLemmas
-pub mod OpenedLemmas
-pub mod StartLemmas
-pub mod FourLemmas
-pub mod KeyLemmas
-pub mod FoldLemmas
-pub mod PlaceLemmas
-pub mod ScanLemmas
+mod FieldLemmas
+mod MovedCells
+mod StateSets
+mod ReachedLemmas
+mod TurnLemmas
+mod SpreadLemmas
+mod SettleLemmas
+mod FloodLemmas
+mod KickLemmas
+mod RestLemmas
+mod OffsetLemmas
+mod OpenedLemmas
+mod StartLemmas
+mod FourLemmas
+mod KeyLemmas
+mod FoldLemmas
+mod PlaceLemmas
+mod ScanLemmas
+mod SkyBoards
+mod LaneTurns
+mod LaneClosed
+mod ClassLemmas
+mod LaneMaps
+mod LanePlaceLemmas
+mod LowLemmas
+mod WordLemmas
+mod NumberLemmas
+mod PlaceNumbers
+mod TakeLemmas
+mod LaneTests
+mod LaneSound
+mod SoftLemmas
+mod SoftPlaces
+pub mod CallerLemmas

@@ -4,14 +4,14 @@ use Rattle.std.specs.Prelude.{neg_ℤ}
 use Rattle.std.specs.List.{list_all}
 use Rattle.std.proofs.lemmas.Bool.{and_parts, and_from, lt-ltb, ltb-true, leb-true, le-leb, false≢true, false_from_ne_true}
 use Rattle.lane_board.specs.Field.{Field, has_cell, difference, intersection, rows_below}
-use Rattle.lane_board.proofs.CellTests.{same_from_both}
+use Rattle.lane_board.proofs.CallerLemmas.{same_from_both}
 use Rattle.srs.specs.declared.piece.Piece.{Piece}
 use Rattle.srs.specs.declared.rotation.Rotation.{Rotation}
 use Rattle.srs.specs.declared.rotation.Rotation.TheVariants.{Spawn, Right, Reverse, Left}
 use Rattle.srs.specs.Cells.{Cell, moved, shape, in_well}
-use Rattle.srs.proofs.CanonicalLemmas.{LiesAt}
+use Rattle.srs.proofs.CallerLemmas.{LiesAt}
 use Rattle.well.specs.Free.{is_open, is_free_at}
-use Rattle.well.proofs.FreeLemmas.{free_pivot, free_pivot_open}
+use Rattle.well.proofs.CallerLemmas.{free_pivot, free_pivot_open}
 use Rattle.reach.specs.States.{States, has_pivot}
 use Rattle.reach.specs.Opened.{opened, opened_at, IsFreeMap}
 use Rattle.reach.proofs.MovedCells.{moved_from, moved_to, moved_back, moved_forth, same_column, same_row}

@@ -8,17 +8,15 @@ use Rattle.srs.specs.Cells.{moved, pivot_of}
 use Rattle.srs.specs.Canonical.{IsCanonical, canonical_rotation, canonical_move}
 use Rattle.srs.specs.SameCells.{HasSameCells}
 use Rattle.srs.specs.Kick.{Table}
-use Rattle.srs.proofs.CanonicalLemmas.{canonical_pivot, canonical_unique, found_cells, found_canonical, LiesAt}
-use Rattle.srs.proofs.CellLemmas.{same_cells-sym, same_cells-trans}
+use Rattle.srs.proofs.CallerLemmas.{canonical_pivot, canonical_unique, found_cells, found_canonical, LiesAt, same_cells-sym, same_cells-trans}
 use Rattle.well.specs.Free.{is_free_at, is_free}
-use Rattle.well.proofs.FreeLemmas.{free_inside}
+use Rattle.well.proofs.CallerLemmas.{free_inside}
 use Rattle.moves.specs.declared.key.Key.{Key}
 use Rattle.moves.specs.declared.key.DropMode.{DropMode}
-use Rattle.moves.specs.Leads.{leads}
+use Rattle.moves.specs.Leads.{state_after}
 use Rattle.moves.specs.Rest.{IsRest, rest_from}
 use Rattle.moves.specs.Place.{IsPlace}
-use Rattle.moves.proofs.PlaceTest.{leads-free}
-use Rattle.moves.proofs.RestLemmas.{rest_of-is, rest_of-only}
+use Rattle.moves.proofs.CallerLemmas.{leads-free, rest_of-is, rest_of-only}
 use Rattle.reach.specs.States.{States, has_state, has_pivot}
 use Rattle.reach.specs.Started.{started}
 use Rattle.reach.specs.Folded.{folded}
@@ -38,7 +36,7 @@ module _ (table : Table) (F : Field) (mode : DropMode) (piece : Piece) (free rea
   free_exact r x y = is.exact r (pos x, pos y)
 
   -- keys lead to free states of the piece
-  keys_free : (s : Placement) (keys : List Key) → leads table F piece keys ≡ Some s → (s.piece ≡ piece) × (is_free F s ≡ true)
+  keys_free : (s : Placement) (keys : List Key) → state_after table F piece keys ≡ Some s → (s.piece ≡ piece) × (is_free F s ≡ true)
   keys_free s keys e = let there = leads-free table F piece keys s e in (there.kind, there.free)
 
   reached_free : (r : Rotation) → IsWithin (reached r) (free r)
@@ -67,7 +65,7 @@ module _ (table : Table) (F : Field) (mode : DropMode) (piece : Piece) (free rea
             led_to = record {
               allowed = way.allowed;
               state = s;
-              reached = subst (λ p. leads table F p way.keys ≡ Some s) (sym kind) way.reached;
+              reached = subst (λ p. state_after table F p way.keys ≡ Some s) (sym kind) way.reached;
               rest = rest;
               rests = subst (IsRest F s) rests (rest_of-is F s s_free);
               same_cells = same_cells-sym (found_cells q rest kind turn pivot);
@@ -95,7 +93,7 @@ module _ (table : Table) (F : Field) (mode : DropMode) (piece : Piece) (free rea
   place_to q kind place =
       let led = place.led_to in
       let s = led.state in
-      let keys_lead = subst (λ p. leads table F p place.keys ≡ Some s) kind led.reached in
+      let keys_lead = subst (λ p. state_after table F p place.keys ≡ Some s) kind led.reached in
       let s_free = keys_free s place.keys keys_lead in
       let s_reached = (flood.exact s s_free.0).1 (keys_reach table F mode piece free is s place.keys led.allowed keys_lead) in
       let rest_is : led.rest ≡ rest_from F piece s.rotation s.x s.y = rest_of-only F s led.rest s_free.1 led.rests ∙ ap (λ (p : Piece). rest_from F p s.rotation s.x s.y) s_free.0 in

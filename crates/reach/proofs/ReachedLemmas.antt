@@ -16,7 +16,7 @@ use Rattle.moves.specs.declared.key.Key.TheVariants.{Left, Right, Down, Clockwis
 use Rattle.moves.specs.Keys.{allows}
 use Rattle.moves.specs.Step.{state_at}
 use Rattle.moves.specs.Walk.{led}
-use Rattle.moves.proofs.WalkLemmas.{some_same, not_some, led_none}
+use Rattle.moves.proofs.CallerLemmas.{some_same, not_some, led_none}
 use Rattle.reach.specs.States.{States, has_state, has_pivot, states_with}
 use Rattle.reach.specs.Flood.{Ground, IsReached, AreReached, IsCovered, first_in, shifted_in, turned_in, step_in}
 use Rattle.reach.proofs.StateSets.{state_of, ChangedIn, with_cases, pivot_at, PivotAt}

@@ -1,27 +1,29 @@
 -- The order of placements is that of their numbers, and a scan begins where the numbers do.
-use Rattle.std.proofs.Common.{◌≡◌, ℕ, ◌+◌, ◌<◌, ◌≤◌, true, ◌==◌, cond, Option, Some, None, refl, sym, ap, subst, ◌∙◌, inl, inr, ◌⊎◌, arith}
+use Rattle.std.proofs.Common.{◌≡◌, ◌↔◌, ℕ, ◌+◌, ◌<◌, ◌≤◌, true, ◌==◌, ◌&&◌, cond, Option, Some, None, refl, sym, ap, subst, ◌∙◌, inl, inr, ◌⊎◌, arith}
 use Rattle.std.specs.Prelude.{IsTrue, IfSome}
 use Rattle.std.specs.Ordering.{ordering_then, nat_cmp}
 use Rattle.std.specs.declared.cmp.Ordering.{Ordering}
 use Rattle.std.specs.declared.cmp.Ordering.TheVariants.{Less, Equal, Greater}
-use Rattle.std.proofs.lemmas.Bool.{cases_order, cases_lt, cond-true, cond-false, le-ltb, eq-eqb, ne_eqb, eqb-true, and_parts, and_from}
+use Rattle.std.proofs.lemmas.Bool.{cases_order, cond-true, cond-false, le-ltb, eq-eqb, ne_eqb, eqb-true, and_parts, and_from}
 use Rattle.lane_board.specs.Field.{Field}
 use Rattle.srs.specs.declared.piece.Piece.{Piece}
-use Rattle.srs.specs.declared.rotation.Rotation.{Rotation}
 use Rattle.srs.specs.declared.placement.Placement.{Placement}
 use Rattle.srs.specs.Piece.{piece_code}
 use Rattle.srs.specs.Rotation.{rotation_place}
+use Rattle.srs.specs.Kick.{Table}
 use Rattle.srs.specs.Order.{placement_cmp}
-use Rattle.srs.specs.Rising.{is_before, IsNextAbove}
-use Rattle.srs.proofs.CodeLemmas.{piece_code-injective, rotation_place-injective}
-use Rattle.srs.proofs.OrderLemmas.{below_is_less}
-use Rattle.srs.proofs.RisingLemmas.{is_before-decides}
+use Rattle.moves.specs.declared.key.DropMode.{DropMode}
+use Rattle.moves.specs.Place.{IsPlace}
+use Rattle.lists.specs.Rising.{is_before, IsNextAbove}
+use Rattle.srs.proofs.CallerLemmas.{piece_code-injective}
+use Rattle.lists.proofs.CallerLemmas.{below_is_less, is_before-decides}
 use Rattle.reach.specs.declared.held.Places.{Places}
 use Rattle.reach.specs.Places.{holds, piece_of}
-use Rattle.reach.specs.Scan.{cell_number, place_number, state_number, NoCell, IsFirstCell, IsFirstState, IsStateFrom}
-use Rattle.reach.specs.States.{States, has_state, states_of}
-use Rattle.reach.proofs.FieldLemmas.{LiesWithin}
-use Rattle.reach.proofs.StateSets.{state_of, states_within}
+use Rattle.reach.specs.PlaceSets.{ArePlaces}
+use Rattle.reach.specs.Numbers.{states_in}
+use Rattle.reach.specs.Scan.{state_number, IsStateFrom}
+use Rattle.reach.specs.States.{States, has_state}
+use Rattle.reach.proofs.PlaceNumbers.{number-within}
 
 same_is_equal : (m n : ℕ) → m ≡ n → nat_cmp m n ≡ Equal
 same_is_equal m n e = cond-false _ Less (cond (m == n) Equal Greater) (le-ltb m n (omega arith)) ∙ cond-true _ Equal Greater (eq-eqb m n e)
@@ -90,46 +92,24 @@ less_number s t p q kind less =
     by_rotation (inr (inl below)) = inl below
     by_rotation (inr (inr above)) = absurd (omega (arith, less, above, q.column, q.row))
 
--- where the scan of one rotation begins
-pub record BeginsAt (place first y x : ℕ) (start : ℕ × ℕ) : Type 0 where
-  pub within : first ≤ place
-  pub first_part : place ≡ first → start ≡ (y, x)
-  pub later_part : first < place → start ≡ (0, 0)
-
-pub start_covers : (place first y x : ℕ) (start : ℕ × ℕ) → BeginsAt place first y x start → (a b : ℕ) → place_number first y x ≤ place_number place b a → cell_number start.1 start.0 ≤ cell_number a b
-start_covers place first y x start at a b after = elim (cases_lt first place) [
-  | inl later ↦ let e = at.later_part later in let p : start.0 ≡ 0 = ap (λ (c : ℕ × ℕ). c.0) e in let q : start.1 ≡ 0 = ap (λ (c : ℕ × ℕ). c.1) e in omega arith
-  | inr none ↦
-      let same : place ≡ first = omega (arith, at.within, none) in
-      let e = at.first_part same in let p : start.0 ≡ y = ap (λ (c : ℕ × ℕ). c.0) e in let q : start.1 ≡ x = ap (λ (c : ℕ × ℕ). c.1) e in omega arith
-]
-
-pub start_after : (place first y x : ℕ) (start : ℕ × ℕ) → y < 256 → x ≤ 256 → BeginsAt place first y x start → (a b : ℕ) → cell_number start.1 start.0 ≤ cell_number a b → place_number first y x ≤ place_number place b a
-start_after place first y x start row column at a b after = elim (cases_lt first place) [
-  | inl later ↦ omega arith
-  | inr none ↦
-      let same : place ≡ first = omega (arith, at.within, none) in
-      let e = at.first_part same in let p : start.0 ≡ y = ap (λ (c : ℕ × ℕ). c.0) e in let q : start.1 ≡ x = ap (λ (c : ℕ × ℕ). c.1) e in omega arith
-]
-
 -- what the places hold
 module _ (places : Places) where
-  pub holds-parts : (q : Placement) → IsTrue (holds places q) → (q.piece ≡ places.piece) × (has_state (states_of places.held) q ≡ true)
+  pub holds-parts : (q : Placement) → IsTrue (holds places q) → (q.piece ≡ places.piece) × (has_state (states_in places.numbers) q ≡ true)
   unfolding holds
   holds-parts q held =
       let parts = and_parts (piece_code q.piece == piece_code places.piece) _ held in
       (piece_code-injective q.piece places.piece (eqb-true _ _ parts.0), parts.1)
 
-  pub holds-from : (q : Placement) → q.piece ≡ places.piece → has_state (states_of places.held) q ≡ true → IsTrue (holds places q)
+  pub holds-from : (q : Placement) → q.piece ≡ places.piece → has_state (states_in places.numbers) q ≡ true → IsTrue (holds places q)
   unfolding holds
   holds-from q kind held = and_from _ _ (eq-eqb _ _ (ap (λ (p : Piece). piece_code p) kind)) held
 
-  held_byte : (q : Placement) → has_state (states_of places.held) q ≡ true → IsByte q
+  held_byte : (q : Placement) → has_state (states_in places.numbers) q ≡ true → IsByte q
   unfolding has_state
-  held_byte q held = let inside = (states_within places.held q.rotation).inside q.x q.y held in record { column = omega (arith, inside.0); row = omega (arith, inside.1) }
+  held_byte q held = let inside = number-within places.numbers q.rotation q.x q.y held in record { column = omega (arith, inside.0); row = omega (arith, inside.1) }
 
   -- the least of all
-  pub next_of_all : (result : Option Placement) → IsStateFrom (states_of places.held) places.piece 0 result → IsNextAbove placement_cmp (λ q. IsTrue (holds places q)) None result
+  pub next_of_all : (result : Option Placement) → IsStateFrom (states_in places.numbers) places.piece 0 result → IsNextAbove placement_cmp (λ q. IsTrue (holds places q)) None result
   next_of_all None is = record { none = λ q held above. is.none q (omega arith) (holds-parts q held).1 }
   next_of_all (Some s) is = record {
     member = holds-from s is.kind is.held;
@@ -140,11 +120,11 @@ module _ (places : Places) where
         omega (arith, fewer, is.first q (omega arith) parts.1);
   }
 
-  after : (bound q : Placement) → IsByte bound → bound.piece ≡ places.piece → q.piece ≡ places.piece → has_state (states_of places.held) q ≡ true → IsTrue (is_before placement_cmp bound q) → state_number bound + 1 ≤ state_number q
+  after : (bound q : Placement) → IsByte bound → bound.piece ≡ places.piece → q.piece ≡ places.piece → has_state (states_in places.numbers) q ≡ true → IsTrue (is_before placement_cmp bound q) → state_number bound + 1 ≤ state_number q
   after bound q byte kind kind_q held above = omega (arith, number_less bound q byte (held_byte q held) (kind ∙ sym kind_q) ((is_before-decides placement_cmp bound q).0 above))
 
   -- the least above a bound
-  pub next_above : (bound : Placement) (result : Option Placement) → IsByte bound → bound.piece ≡ places.piece → IsStateFrom (states_of places.held) places.piece (state_number bound + 1) result → IsNextAbove placement_cmp (λ q. IsTrue (holds places q)) (Some bound) result
+  pub next_above : (bound : Placement) (result : Option Placement) → IsByte bound → bound.piece ≡ places.piece → IsStateFrom (states_in places.numbers) places.piece (state_number bound + 1) result → IsNextAbove placement_cmp (λ q. IsTrue (holds places q)) (Some bound) result
   next_above bound None byte kind is = record {
     none = λ q held above.
         let parts = holds-parts q held in
@@ -159,56 +139,25 @@ module _ (places : Places) where
         omega (arith, fewer, is.first q (after bound q byte kind parts.0 parts.1 above) parts.1);
   }
 
--- the scan of one rotation: the states of the rotation at a place, from the start on
-module _ (S : States) (lies : (r : Rotation) → LiesWithin (S r) 24) (piece : Piece) (first y x place : ℕ) (r : Rotation) (turn : rotation_place r ≡ place) (start : ℕ × ℕ) (begins : BeginsAt place first y x start) (F : Field) (is : F ≡ S r)
-    (before : (other : Placement) → place_number first y x ≤ state_number other → rotation_place other.rotation < place → has_state S other ≡ true → ⊥) where
-  in_board : (other : Placement) → rotation_place other.rotation ≡ place → has_state S other ≡ true → F other.x other.y ≡ true
-  unfolding has_state
-  in_board other same held = ap (λ (G : Field). G other.x other.y) is ∙ subst (λ r. S r other.x other.y ≡ true) (rotation_place-injective other.rotation r (same ∙ sym turn)) held
-
-  covers : (other : Placement) → rotation_place other.rotation ≡ place → place_number first y x ≤ state_number other → cell_number start.1 start.0 ≤ cell_number other.x other.y
-  covers other same after = start_covers place first y x start begins other.x other.y (subst (λ n. place_number first y x ≤ place_number n other.y other.x) same after)
-
-  -- it has none
-  pub none_in : NoCell F (cell_number start.1 start.0) → (other : Placement) → place_number first y x ≤ state_number other → rotation_place other.rotation < place + 1 → has_state S other ≡ true → ⊥
-  none_in none other after within held = elim (cases_lt (rotation_place other.rotation) place) [
-    | inl earlier ↦ before other after earlier held
-    | inr here ↦
-        let same : rotation_place other.rotation ≡ place = omega (arith, here, within) in
-        none.none other.x other.y (covers other same after) (in_board other same held)
-  ]
-
-  -- it has one, and the first of them is the first of all
-  pub found_in : (a b : ℕ) → y < 256 → x ≤ 256 → IsFirstCell F (cell_number start.1 start.0) a b → IsFirstState S piece (place_number first y x) (state_of piece r a b)
-  unfolding has_state
-  found_in a b row column found =
-      let held : S r a b ≡ true = sym (ap (λ (G : Field). G a b) is) ∙ found.filled in
-      let inside = (lies r).inside a b held in
-      let after = start_after place first y x start row column begins a b found.after in
-      record {
-        kind = refl;
-        held = held;
-        after = omega (arith, after, turn);
-        first = λ other from here. elim (cases_order (rotation_place other.rotation) place) [
-          | inl same ↦ omega (arith, same, turn, found.first other.x other.y (covers other same from) (in_board other same here))
-          | inr apart ↦ elim apart [
-            | inl earlier ↦ absurd (before other from earlier here)
-            | inr later ↦ omega (arith, later, turn, inside.0, inside.1)
-          ]
-        ];
-      }
-
 -- the same, with the bound and the number given by equations
-pub next_of_all_by : (places : Places) (bound result : Option Placement) → bound ≡ None → IsStateFrom (states_of places.held) places.piece 0 result → IsNextAbove placement_cmp (λ q. IsTrue (holds places q)) bound result
+pub next_of_all_by : (places : Places) (bound result : Option Placement) → bound ≡ None → IsStateFrom (states_in places.numbers) places.piece 0 result → IsNextAbove placement_cmp (λ q. IsTrue (holds places q)) bound result
 next_of_all_by places bound result e is = subst (λ (bound : Option Placement). IsNextAbove placement_cmp (λ q. IsTrue (holds places q)) bound result) (sym e) (next_of_all places result is)
 
-pub next_above_by : (places : Places) (bound : Option Placement) (last : Placement) (n : ℕ) (result : Option Placement) → bound ≡ Some last → IfSome bound (λ q. q.piece ≡ piece_of places) → IsByte last → n ≡ state_number last + 1 → IsStateFrom (states_of places.held) places.piece n result → IsNextAbove placement_cmp (λ q. IsTrue (holds places q)) bound result
+pub next_above_by : (places : Places) (bound : Option Placement) (last : Placement) (n : ℕ) (result : Option Placement) → bound ≡ Some last → IfSome bound (λ q. q.piece ≡ piece_of places) → IsByte last → n ≡ state_number last + 1 → IsStateFrom (states_in places.numbers) places.piece n result → IsNextAbove placement_cmp (λ q. IsTrue (holds places q)) bound result
 unfolding piece_of
 next_above_by places bound last n result e kind byte number is =
     subst (λ (bound : Option Placement). IsNextAbove placement_cmp (λ q. IsTrue (holds places q)) bound result) (sym e)
-    (next_above places last result byte (subst (λ (bound : Option Placement). IfSome bound (λ q. q.piece ≡ piece_of places)) e kind) (subst (λ n. IsStateFrom (states_of places.held) places.piece n result) number is))
+    (next_above places last result byte (subst (λ (bound : Option Placement). IfSome bound (λ q. q.piece ≡ piece_of places)) e kind) (subst (λ n. IsStateFrom (states_in places.numbers) places.piece n result) number is))
 
 -- what is held is of the piece
 pub holds-piece : (places : Places) (q : Placement) → IsTrue (holds places q) → q.piece ≡ piece_of places
 unfolding piece_of
 holds-piece places q held = (holds-parts places q held).0
+
+-- the places of a set that has them
+pub places_held : (table : Table) (F : Field) (mode : DropMode) (piece : Piece) (S : States) (places : Places) → ((q : Placement) → holds places q ≡ (piece_code q.piece == piece_code piece && has_state S q)) →
+    ArePlaces table F mode piece S → (q : Placement) → IsTrue (holds places q) ↔ ((q.piece ≡ piece) × IsPlace table F mode q)
+places_held table F mode piece S places is are q = (
+  λ held. let parts = and_parts (piece_code q.piece == piece_code piece) _ (sym (is q) ∙ held) in let kind = piece_code-injective q.piece piece (eqb-true _ _ parts.0) in (kind, (are.exact q kind).0 parts.1),
+  λ place. is q ∙ and_from _ _ (eq-eqb _ _ (ap (λ (p : Piece). piece_code p) place.0)) ((are.exact q place.0).1 place.1),
+)

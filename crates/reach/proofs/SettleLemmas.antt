@@ -18,7 +18,8 @@ use Rattle.moves.specs.Keys.{allows}
 use Rattle.reach.specs.declared.spread.Shifts.{Shifts}
 use Rattle.reach.specs.States.{States, has_state, states_with}
 use Rattle.reach.specs.Shifts.{IsSpread, shifts_in}
-use Rattle.reach.specs.Kicks.{kicks_of, turned_from}
+use Rattle.sky.specs.Kicks.{kicks_of}
+use Rattle.reach.specs.Kicks.{turned_from}
 use Rattle.reach.specs.Flood.{Ground, Includes, IsReached, AreReached, IsSettled, turned_in, step_in}
 use Rattle.reach.proofs.FieldLemmas.{LiesWithin}
 use Rattle.reach.proofs.StateSets.{state_of, with_here, with_other, includes_with, includes_trans}

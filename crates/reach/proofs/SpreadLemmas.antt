@@ -4,7 +4,7 @@ use Rattle.std.specs.Prelude.{IsTrue}
 use Rattle.std.proofs.lemmas.Bool.{cases_Bool, and_parts, and_from, or_cases, or_left, or_right, cases_lt, cond-true, cond-false, false≢true}
 use Rattle.lane_board.specs.Field.{Field, intersection, union, moved_within}
 use Rattle.lane_board.specs.CellCount.{cell_count}
-use Rattle.lane_board.proofs.CellCounts.{cell_count-le}
+use Rattle.lane_board.proofs.CallerLemmas.{cell_count-le}
 use Rattle.srs.specs.declared.piece.Piece.{Piece}
 use Rattle.srs.specs.declared.rotation.Rotation.{Rotation}
 use Rattle.srs.specs.declared.placement.Placement.{Placement}
@@ -16,7 +16,7 @@ use Rattle.moves.specs.declared.key.DropMode.{DropMode}
 use Rattle.moves.specs.declared.key.DropMode.TheVariants.{Soft, Hard}
 use Rattle.moves.specs.Keys.{allows}
 use Rattle.moves.specs.Step.{state_at}
-use Rattle.moves.proofs.WalkLemmas.{some_same, not_some}
+use Rattle.moves.proofs.CallerLemmas.{some_same, not_some}
 use Rattle.reach.specs.declared.spread.Shifts.{Shifts}
 use Rattle.reach.specs.States.{States, has_pivot}
 use Rattle.reach.specs.Shifts.{sideways, lower, neighbours, widened, widened_by, IsSpread, shifts_in}

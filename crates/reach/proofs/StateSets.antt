@@ -3,14 +3,14 @@ use Rattle.std.proofs.Common.{◌≡◌, ℕ, true, false, ◌==◌, pos, negsuc
 use Rattle.std.proofs.Math.Path.{fun_ext}
 use Rattle.std.proofs.lemmas.Bool.{cond-true, cond-false, cases_Bool, eqb-true, false≢true}
 use Rattle.lane_board.specs.Field.{Field, has_cell}
-use Rattle.lane_board.proofs.BoardFields.{field_of-within}
+use Rattle.lane_board.proofs.CallerLemmas.{field_of-within}
 use Rattle.srs.specs.declared.piece.Piece.{Piece}
 use Rattle.srs.specs.declared.rotation.Rotation.{Rotation}
 use Rattle.srs.specs.declared.rotation.Rotation.TheVariants.{Spawn, Right, Reverse, Left}
 use Rattle.srs.specs.declared.placement.Placement.{Placement}
 use Rattle.srs.specs.Cells.{Cell}
 use Rattle.srs.specs.Rotation.{rotation_place}
-use Rattle.srs.proofs.CodeLemmas.{rotation_place-injective}
+use Rattle.srs.proofs.CallerLemmas.{rotation_place-injective}
 use Rattle.reach.specs.declared.pivots.Pivots.{Pivots}
 use Rattle.reach.specs.States.{States, has_state, has_pivot, states_with, states_of}
 use Rattle.reach.specs.Flood.{Includes}

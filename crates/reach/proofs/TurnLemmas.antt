@@ -8,7 +8,7 @@ use Rattle.srs.specs.declared.rotation.Rotation.{Rotation}
 use Rattle.srs.specs.declared.placement.Placement.{Placement}
 use Rattle.srs.specs.Cells.{Cell, moved}
 use Rattle.moves.specs.Step.{state_at}
-use Rattle.moves.proofs.WalkLemmas.{some_same, not_some}
+use Rattle.moves.proofs.CallerLemmas.{some_same, not_some}
 use Rattle.reach.specs.States.{States, has_pivot}
 use Rattle.reach.specs.Flood.{first_in}
 use Rattle.reach.specs.Kicks.{taken, left_by, turned_from}

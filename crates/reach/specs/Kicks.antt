@@ -1,19 +1,11 @@
 -- How a set of pivots turns: each pivot goes to where the first test that succeeds takes it.
-use Rattle.std.specs.Prelude.{ℕ, neg_ℤ, List, [], ◌∷◌, map}
+use Rattle.std.specs.Prelude.{ℕ, neg_ℤ, List, [], ◌∷◌}
 use Rattle.lane_board.specs.Field.{Field, intersection, union, difference, moved_within}
-use Rattle.srs.specs.declared.piece.Piece.{Piece}
-use Rattle.srs.specs.declared.rotation.Rotation.{Rotation}
 use Rattle.srs.specs.Cells.{Cell}
-use Rattle.srs.specs.Kick.{Table, kick_in}
-use Rattle.moves.specs.Step.{tests}
 
 -- the move back
 abbrev pub reversed : Cell → Cell
 reversed move = (neg_ℤ move.0, neg_ℤ move.1)
-
--- by how much the tests of a turn move a pivot
-abbrev pub kicks_of : Table → Piece → Rotation → Rotation → List Cell
-kicks_of table piece from to = map (kick_in table piece from to) tests
 
 -- the free pivots that one test takes these pivots to
 unfoldable pub taken : Field → ℕ → Cell → Field → Field

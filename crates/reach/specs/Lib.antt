@@ -1,4 +1,6 @@
--- The definitions that the contracts of this crate cite.
+-- What a reader must believe: which placements the places hold.
+pub mod Places
+-- What serves proofs alone: sets of states as boards, and floods.
 pub mod States
 pub mod Shifts
 pub mod Kicks
@@ -8,4 +10,15 @@ pub mod Rested
 pub mod Folded
 pub mod Started
 pub mod Scan
-pub mod Places
+pub mod SkyBoard
+pub mod LaneTurns
+pub mod LaneFlood
+pub mod LaneShapes
+pub mod LaneMap
+pub mod LanePlaces
+pub mod PlaceSets
+pub mod Numbers
+pub mod FourRows
+pub mod Tops
+pub mod LaneTests
+pub mod SoftLanes

@@ -4,7 +4,8 @@ use Rattle.srs.specs.declared.placement.Placement.{Placement}
 use Rattle.srs.specs.declared.piece.Piece.{Piece}
 use Rattle.srs.specs.Piece.{piece_code}
 use Rattle.reach.specs.declared.held.Places.{Places}
-use Rattle.reach.specs.States.{states_of, has_state}
+use Rattle.reach.specs.Numbers.{states_in}
+use Rattle.reach.specs.States.{has_state}
 
 -- the piece whose placements they are
 unfoldable pub piece_of : Places → Piece
@@ -12,4 +13,4 @@ piece_of places = places.piece
 
 -- whether the places hold a placement
 unfoldable pub holds : Places → Placement → Bool
-holds places placement = piece_code placement.piece == piece_code places.piece && has_state (states_of places.held) placement
+holds places placement = piece_code placement.piece == piece_code places.piece && has_state (states_in places.numbers) placement

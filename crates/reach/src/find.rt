@@ -1,23 +1,20 @@
 // The placements that legal keys reach.
-ghost use Rattle.std.specs.Prelude.{◌≡◌, ◌+◌, ◌↔◌, IsTrue};
+ghost use Rattle.std.specs.Prelude.{◌≡◌, ℕ, ◌+◌, ◌≤◌, ◌↔◌, IsTrue};
 ghost use Rattle.srs.specs.declared.placement.Placement.{Placement};
+ghost use Rattle.srs.specs.Kick.{srs_table};
 ghost use Rattle.srs.specs.Rules.{table_of};
 ghost use Rattle.well.specs.Well.{filled};
 ghost use Rattle.moves.specs.Place.{IsPlace};
+ghost use Rattle.sky.specs.Sky.{IsClearFrom};
+ghost use Rattle.sky.specs.Window.{IsWindowPlace};
 ghost use Rattle.reach.specs.Places.{holds, piece_of};
-ghost use Rattle.reach.specs.Started.{started};
-ghost use Rattle.reach.specs.States.{states_of};
 
-use crate::flood::flood;
-use crate::fold::folded;
-use crate::free::free_states;
 use crate::held::Places;
-use crate::pivots::Pivots;
-use crate::rest::resting;
+use crate::low::{is_clear_from, low_places};
 use crate::steps::Steps;
-use lane_board::LaneBoard;
+use crate::whole::whole_places;
 use moves::DropMode;
-use srs::{Piece, Rotation, Rules};
+use srs::{Piece, Rules};
 use std::sync::ledger::Ledger;
 use well::Well;
 
@@ -34,18 +31,36 @@ pub fn places<L: Ledger>(
     ensures held { (q : Placement) → (IsTrue (holds result q)) ↔ ((q.piece ≡ piece) × IsPlace (table_of rules.now) (filled well.now) drop_mode q) }
     ensures counted { steps.new ≡ steps.old + 1 }
 {
+    if rules.is_srs() && is_low(well) {
+        return window_places(well, piece, drop_mode, steps);
+    }
     steps.tick();
-    let free = free_states(&well.board(), piece);
-    let reached = flood(&free, rules, piece, drop_mode, &started(&free));
-    let held = folded(piece, &resting(&free, &reached));
-    Places { piece, held }
+    let held = whole_places(&well.board(), rules, piece, drop_mode);
+    Places::of_states(piece, &held)
 }
 
-#[tactic(auto, unfolding(crate::specs::Started::started, crate::specs::States::states_of))]
-/// The state in which a piece appears, in rotation 0 with its pivot in column 4 and row 20, where it is free.
-fn started(free: &Pivots<24>) -> Pivots<24>
-    ensures { states_of result ≡ started (states_of free.now) }
+/// Whether no cell lies at or above row 8, as `window_places` requires.
+pub fn is_low(well: &Well) -> bool
+    ensures { IsTrue result ↔ IsClearFrom 8 (filled well.now) }
 {
-    let appearing = LaneBoard::empty().with(4, 20).and(&free.spawn);
-    Pivots::empty().with(Rotation::Spawn, &appearing)
+    is_clear_from(&well.board(), 8)
+}
+
+/// The same placements by the Super Rotation System, where no cell lies at or above row 8: those to which allowed keys
+/// lead within rows 0 to 15 from two to four rows above all cells. Adds one step.
+pub fn window_places<L: Ledger>(
+    well: &Well,
+    piece: Piece,
+    drop_mode: DropMode,
+    steps: &mut Steps<L>,
+) -> Places
+    requires { IsClearFrom 8 (filled well.now) }
+    ensures piece { piece_of result ≡ piece }
+    ensures held { (q : Placement) → (IsTrue (holds result q)) ↔ ((q.piece ≡ piece) × IsPlace srs_table (filled well.now) drop_mode q) }
+    ensures window { (r : ℕ) (q : Placement) → IsClearFrom r (filled well.now) → r ≤ 8 → (IsTrue (holds result q)) ↔ ((q.piece ≡ piece) × IsWindowPlace (filled well.now) r drop_mode q) }
+    ensures counted { steps.new ≡ steps.old + 1 }
+{
+    steps.tick();
+    let held = low_places(&well.board(), piece, drop_mode);
+    Places::of_states(piece, &held)
 }

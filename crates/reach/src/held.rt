@@ -1,23 +1,37 @@
 // The placements that a flood holds.
 ghost use Rattle.std.specs.Prelude.{◌≡◌};
 
+use crate::numbers::Numbers;
 use crate::pivots::Pivots;
-use crate::scan::first_state;
+use crate::scan::{first_state, state_with};
+use crate::tops::rows_left;
 use srs::{Piece, Placement};
 
 /// The canonical placements of one piece that a flood reached.
 #[derive(Clone, Copy)]
 pub struct Places {
-    pub(crate) piece: Piece,
-    pub(crate) held: Pivots<24>,
+    piece: Piece,
+    numbers: Numbers,
 }
 
 impl Places {
-    ghost use Rattle.std.specs.Prelude.{IsTrue, IfSome};
+    ghost use Rattle.std.specs.Prelude.{◌↔◌, ◌≢◌, ◌==◌, ◌&&◌, IsTrue, IfSome, Some, None};
     ghost use Rattle.std.specs.Option.{option_copied};
     ghost use Rattle.srs.specs.Order.{placement_cmp};
-    ghost use Rattle.srs.specs.Rising.{IsNextAbove};
+    ghost use Rattle.srs.specs.Piece.{piece_code};
+    ghost use Rattle.lists.specs.Rising.{IsNextAbove};
+    ghost use Rattle.well.specs.LockLaws.{is_below};
     ghost use Rattle.reach.specs.Places.{holds, piece_of};
+    ghost use Rattle.reach.specs.States.{has_state, states_of};
+
+    /// The placements of a piece with these pivots.
+    pub(crate) fn of_states(piece: Piece, states: &Pivots<24>) -> Places
+        ensures piece { piece_of result ≡ piece }
+        ensures held { (q : Placement) → holds result q ≡ (piece_code q.piece == piece_code piece && has_state (states_of states.now) q) }
+    {
+        let numbers = Numbers::of_states(states);
+        Places { piece, numbers }
+    }
 
     /// The least held placement above the bound, or the least of all. `None` exactly where there is none.
     pub fn next_after(&self, bound: Option<&Placement>) -> Option<Placement>
@@ -25,14 +39,38 @@ impl Places {
         ensures { IsNextAbove placement_cmp (λ q. IsTrue (holds self.now q)) (option_copied bound.entry) result }
     {
         match bound {
-            None => first_state(&self.held, self.piece, 0, 0, 0),
+            None => first_state(&self.numbers, self.piece, 0, 0, 0),
             Some(last) => first_state(
-                &self.held,
+                &self.numbers,
                 self.piece,
                 last.rotation.place(),
                 last.y,
                 u16::from(last.x) + 1,
             ),
+        }
+    }
+
+    /// Takes out the least placement. `None` exactly where none is held.
+    pub fn take_least(&mut self) -> Option<Placement>
+        ensures piece { piece_of self.new ≡ piece_of self.old }
+        ensures least { IsNextAbove placement_cmp (λ q. IsTrue (holds self.old q)) None result }
+        ensures rest { (q : Placement) → IsTrue (holds self.new q) ↔ (IsTrue (holds self.old q) × (result ≢ Some q)) }
+    {
+        match self.numbers.take_first() {
+            None => None,
+            Some(number) => Some(state_with(self.piece, number)),
+        }
+    }
+
+    /// Those of the placements whose cells all lie in rows below the given one.
+    pub fn below(&self, rows: u8) -> Places
+        ensures piece { piece_of result ≡ piece_of self.now }
+        ensures held { (q : Placement) → IsTrue (holds result q) ↔ (IsTrue (holds self.now q) × IsTrue (is_below rows q)) }
+    {
+        let numbers = self.numbers.in_rows_below(rows_left(self.piece, rows));
+        Places {
+            piece: self.piece,
+            numbers,
         }
     }
 }

@@ -5,15 +5,26 @@ mod find;
 mod flood;
 mod fold;
 mod free;
+mod hard;
 mod held;
+mod lane_kicks;
+mod lane_map;
+mod lane_shapes;
+mod lane_turn;
+mod low;
+mod numbers;
 mod pivots;
 mod rest;
 mod scan;
+mod soft;
 mod spread;
 mod steps;
+mod tops;
 mod turn;
+mod whole;
+mod words;
 
-pub use find::places;
+pub use find::{is_low, places, window_places};
 pub use held::Places;
 pub use steps::Steps;
 

@@ -1,42 +1,64 @@
-// The first pivot and the first state from a place on, by rotation, then row, then column.
-ghost use Rattle.std.specs.Prelude.{◌≡◌, ◌<◌, ◌≤◌};
-ghost use Rattle.lane_board.specs.Board.{field_of};
+// The first state from a place on, by rotation, then row, then column, in a set of numbers.
+ghost use Rattle.std.specs.Prelude.{◌≡◌, ℕ, ◌<◌, ◌≤◌, ◌↔◌, ◌/◌, ◌%◌};
 ghost use Rattle.srs.specs.Rotation.{rotation_place};
-ghost use Rattle.reach.specs.Scan.{IsColumnFrom, cell_number, IsCellFrom, place_number, IsStateFrom};
-ghost use Rattle.reach.specs.States.{states_of};
+ghost use Rattle.reach.specs.Numbers.{number_at, states_in};
+ghost use Rattle.reach.specs.Scan.{place_number, IsStateFrom};
 
-use crate::pivots::Pivots;
-use lane_board::LaneBoard;
+use crate::numbers::Numbers;
 use srs::{Piece, Placement, Rotation};
 
 /// The first state from a place on.
 pub(crate) fn first_state(
-    states: &Pivots<24>,
+    numbers: &Numbers,
     piece: Piece,
     first: u8,
     y: u8,
     x: u16,
 ) -> Option<Placement>
-    requires { x ≤ 256 }
-    ensures { IsStateFrom (states_of states.now) piece (place_number first y x) result }
+    requires rotation { first < 4 }
+    requires column { x ≤ 256 }
+    ensures { IsStateFrom (states_in numbers.now) piece (place_number first y x) result }
 {
-    for place in first..4 {
-        let rotation = rotation_at(place);
-        let (from_y, from_x) = start_in(place, first, y, x);
-        if let Some((x, y)) = first_cell(states.board(rotation), from_y, from_x) {
-            return Some(Placement {
-                piece,
-                rotation,
-                x,
-                y,
-            });
-        }
+    match numbers.first_from(number_from(first, y, x)) {
+        None => None,
+        Some(number) => Some(state_with(piece, number)),
     }
-    None
+}
+
+/// The number from which on the numbers of the states from a place on are.
+fn number_from(first: u8, y: u8, x: u16) -> u16
+    requires rotation { first < 4 }
+    requires column { x ≤ 256 }
+    ensures small { result ≤ 1536 }
+    ensures start { (place b a : ℕ) → b < 24 → a < 16 → (place_number first y x ≤ place_number place b a) ↔ (result ≤ number_at place b a) }
+{
+    let place = u16::from(first);
+    if y >= 24 {
+        return 384 * (place + 1);
+    }
+    384 * place + 16 * u16::from(y) + x.min(16)
+}
+
+/// The state with a number.
+#[inline(always)]
+pub(crate) fn state_with(piece: Piece, number: u16) -> Placement
+    requires { number < 1536 }
+    ensures piece { result.piece ≡ piece }
+    ensures rotation { rotation_place result.rotation ≡ number / 384 }
+    ensures row { result.y ≡ number % 384 / 16 }
+    ensures column { result.x ≡ number % 16 }
+{
+    Placement {
+        piece,
+        rotation: rotation_at((number / 384) as u8),
+        x: (number % 16) as u8,
+        y: (number % 384 / 16) as u8,
+    }
 }
 
 /// The rotation at a place in the order 0, R, 2, L.
-fn rotation_at(place: u8) -> Rotation
+#[inline(always)]
+pub(crate) fn rotation_at(place: u8) -> Rotation
     requires { place < 4 }
     ensures { rotation_place result ≡ place }
 {
@@ -46,46 +68,4 @@ fn rotation_at(place: u8) -> Rotation
         2 => Rotation::Reverse,
         _ => Rotation::Left,
     }
-}
-
-/// The row and column to begin from: these in the first part, and row and column 0 in later ones.
-fn start_in(part: u8, first: u8, y: u8, x: u16) -> (u8, u16)
-    ensures first { part ≡ first → result ≡ (y, x) }
-    ensures later { first < part → result ≡ (0, 0) }
-{
-    if part == first { (y, x) } else { (0, 0) }
-}
-
-/// The first cell from a row and a column in it on.
-fn first_cell(board: &LaneBoard<24>, first: u8, x: u16) -> Option<(u8, u8)>
-    requires { x ≤ 256 }
-    ensures { IsCellFrom (field_of board.now) (cell_number x first) result }
-{
-    for y in first..24 {
-        let (_, from) = start_in(y, first, 0, x);
-        if let Some(column) = first_column(board, y, from) {
-            return Some((column, y));
-        }
-    }
-    None
-}
-
-/// The first column of a row with a cell, from a column on.
-fn first_column(board: &LaneBoard<24>, y: u8, from: u16) -> Option<u8>
-    requires row { y < 24 }
-    requires column { from ≤ 256 }
-    ensures { IsColumnFrom (field_of board.now) y from result }
-{
-    if from > 9 {
-        return None;
-    }
-    if board.row(y) == 0 {
-        return None;
-    }
-    for x in from as u8..10 {
-        if board.get(x, y) {
-            return Some(x);
-        }
-    }
-    None
 }

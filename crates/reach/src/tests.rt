@@ -1,7 +1,6 @@
 // Floods of the empty well, and of one in which the spawn is not free.
 ghost use Rattle.std.specs.Prelude.{◌≡◌, ◌<◌};
 ghost use Rattle.reach.specs.Places.{piece_of};
-ghost use Rattle.reach.specs.Places.{piece_of};
 
 use crate::{Places, Steps, places};
 use moves::DropMode;
@@ -73,4 +72,30 @@ fn none_where_the_spawn_is_not_free(rt: HostRuntime) {
     let well = Well::empty().with(4, 20);
     let held = held::<Brand>(Blank::new(1), &well, Piece::T, DropMode::Soft);
     assert_eq!(rt; held.next_after(None), None);
+}
+
+fn taken(held: Places) -> u8 {
+    let mut held = held;
+    for number in 0..255 {
+        if held.take_least().is_none() {
+            return number;
+        }
+    }
+    255
+}
+
+#[test]
+fn the_least_is_taken_until_none_is_left(rt: HostRuntime) {
+    let held = held::<Brand>(Blank::new(1), &Well::empty(), Piece::T, DropMode::Soft);
+    assert_eq!(rt; taken(held), 34);
+    assert_eq!(rt; taken(held.below(2)), 16);
+}
+
+#[test]
+fn a_low_field_and_one_with_a_cell_far_above(rt: HostRuntime) {
+    let well = Well::empty().with(0, 0).with(2, 1).with(3, 7);
+    let high = well.with(0, 22);
+    let low_held = held::<Brand>(Blank::new(1), &well, Piece::J, DropMode::Soft);
+    let high_held = held::<Brand>(Blank::new(1), &high, Piece::J, DropMode::Soft);
+    assert_eq!(rt; taken(low_held), taken(high_held));
 }

@@ -6,7 +6,8 @@ ghost use Rattle.srs.specs.Kick.{pair_of};
 ghost use Rattle.srs.specs.Rotation.{clockwise_of, anticlockwise_of};
 ghost use Rattle.srs.specs.Rules.{table_of};
 ghost use Rattle.moves.specs.Step.{IsShort};
-ghost use Rattle.reach.specs.Kicks.{reversed, kicks_of, taken, left_by, turned_from};
+ghost use Rattle.sky.specs.Kicks.{kicks_of};
+ghost use Rattle.reach.specs.Kicks.{reversed, taken, left_by, turned_from};
 
 use lane_board::LaneBoard;
 use srs::{Offset, Piece, Rotation, Rules, kick};

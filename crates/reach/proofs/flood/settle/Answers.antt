@@ -1,7 +1,7 @@
 -- The rotation is settled.
 use Rattle.std.proofs.Common.{ap, ◌∙◌}
 use Rattle.lane_board.specs.Board.{field_of}
-use Rattle.lane_board.proofs.BoardFields.{field_of-within}
+use Rattle.lane_board.proofs.CallerLemmas.{field_of-within}
 use Rattle.srs.specs.Rules.{table_of}
 use Rattle.srs.specs.declared.rotation.Rotation.{Rotation}
 use Rattle.reach.specs.States.{states_of}

@@ -1,10 +1,9 @@
 -- The canonical pivot is near.
 use Rattle.std.proofs.Common.{◌≡◌, true, sym, subst, arith}
 use Rattle.std.proofs.lemmas.Int.{ints}
-use Rattle.lane_board.proofs.BoardRows.{few_rows}
+use Rattle.lane_board.proofs.CallerLemmas.{few_rows}
 use Rattle.srs.specs.Cells.{Cell, is_near}
-use Rattle.srs.proofs.NumberLemmas.{near_within}
-use Rattle.srs.proofs.ShapeLemmas.{canonical_move_near}
+use Rattle.srs.proofs.CallerLemmas.{near_within, canonical_move_near}
 use Rattle.reach.proofs.fold.folded_with.Goals as goal
 
 pub moved-moved-requires : goal.moved-moved-requires

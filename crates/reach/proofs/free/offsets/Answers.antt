@@ -2,7 +2,7 @@
 use Rattle.std.proofs.Common.{◌≡◌, true, sym, subst, ◌∙◌, List}
 use Rattle.std.specs.List.{list_all}
 use Rattle.srs.specs.Cells.{Cell, shape, is_near}
-use Rattle.srs.proofs.ShapeLemmas.{shape_near}
+use Rattle.srs.proofs.CallerLemmas.{shape_near}
 use Rattle.reach.proofs.OffsetLemmas.{at_nothing}
 use Rattle.reach.proofs.free.offsets.Goals as goal
 

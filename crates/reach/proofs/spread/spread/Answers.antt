@@ -2,7 +2,7 @@
 use Rattle.std.proofs.Common.{suc, refl, sym, ap, ◌∙◌}
 use Rattle.std.proofs.lemmas.Bool.{both_ways}
 use Rattle.lane_board.specs.Board.{field_of}
-use Rattle.lane_board.proofs.BoardFields.{field_of-within}
+use Rattle.lane_board.proofs.CallerLemmas.{field_of-within}
 use Rattle.reach.specs.Shifts.{widened, widened_by}
 use Rattle.reach.proofs.SpreadLemmas.{widened-fewer}
 use Rattle.reach.proofs.spread.spread.Goals as goal

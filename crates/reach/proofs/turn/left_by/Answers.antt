@@ -1,7 +1,7 @@
 -- The move back is as near.
 use Rattle.std.proofs.Common.{arith}
 use Rattle.std.proofs.lemmas.Int.{ints}
-use Rattle.lane_board.proofs.BoardRows.{few_rows}
+use Rattle.lane_board.proofs.CallerLemmas.{few_rows}
 use Rattle.reach.proofs.turn.left_by.Goals as goal
 
 pub moved-requires : goal.moved-requires

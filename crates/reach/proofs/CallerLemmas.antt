@@ -1,0 +1,2 @@
+-- Lemmas that the crates above cite.
+pub use Rattle.reach.proofs.ScanLemmas.{holds-piece}

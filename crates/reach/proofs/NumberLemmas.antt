@@ -1,0 +1,181 @@
+-- The numbers of a set, word by word.
+use Rattle.std.proofs.Common.{◌≡◌, ℕ, ◌+◌, ◌-◌, ◌*◌, ◌/◌, ◌%◌, ◌<◌, ◌≤◌, Bool, true, false, not, ◌&&◌, ◌==◌, nat_lt, nat_le, List, length, set, get_or, Some, refl, sym, ap, subst, ◌∙◌, inl, inr, arith, get_or-set_other, get_or-set_same, ◌≢◌}
+use Rattle.std.proofs.Math.Path.{fun_ext}
+use Rattle.std.proofs.lemmas.Bool.{cases_lt, cases_eq, and_parts, and_from, leb-true, le-leb, lt-ltb, ltb-true, eq-eqb, ne_eqb, both_ways}
+use Rattle.lane_board.specs.Lanes.{has_bit}
+use Rattle.lane_board.proofs.CallerLemmas.{same_from_both, has_bit-zero}
+use Rattle.srs.specs.declared.rotation.Rotation.{Rotation}
+use Rattle.srs.specs.Rotation.{rotation_place}
+use Rattle.reach.specs.declared.numbers.Numbers.{Numbers}
+use Rattle.reach.specs.FourRows.{IsFourRows}
+use Rattle.reach.specs.Numbers.{has_number, number_at, is_number, states_in, IsFirstNumber, NoNumber}
+use Rattle.reach.specs.States.{States}
+use Rattle.reach.proofs.FieldLemmas.{LiesWithin}
+
+-- the number of a word's bit
+pub has_number-at : (numbers : Numbers) (w k : ℕ) → k < 64 → has_number numbers (64 * w + k) ≡ has_bit (get_or numbers.words w 0) k
+unfolding has_number
+has_number-at numbers w k within =
+    let p : (64 * w + k) / 64 ≡ w = omega arith in
+    let q : (64 * w + k) % 64 ≡ k = omega arith in
+    λ i. has_bit (get_or numbers.words (p i) 0) (q i)
+
+pub has_number-in : (numbers : Numbers) (n : ℕ) → has_number numbers n ≡ has_bit (get_or numbers.words (n / 64) 0) (n % 64)
+unfolding has_number
+has_number-in numbers n = refl
+
+-- the bits of one word from a number on
+pub record IsWordFrom (numbers : Numbers) (from at word : ℕ) : Type 0 where
+  pub bits : (k : ℕ) → k < 64 → has_bit word k ≡ (nat_le (from - 64 * at) k && has_bit (get_or numbers.words at 0) k)
+
+module _ (numbers : Numbers) (from at word : ℕ) (is : IsWordFrom numbers from at word) (before : (m : ℕ) → from ≤ m → m < 64 * at → has_number numbers m ≡ true → ⊥) where
+  in_word : (m : ℕ) → from ≤ m → m / 64 ≡ at → has_number numbers m ≡ true → has_bit word (m % 64) ≡ true
+  in_word m after here has =
+      is.bits (m % 64) (omega arith)
+      ∙ and_from _ _ (le-leb (from - 64 * at) (m % 64) (omega arith))
+      (ap (λ w. has_bit (get_or numbers.words w 0) (m % 64)) (sym here) ∙ sym (has_number-in numbers m) ∙ has)
+
+  pub none_more : word ≡ 0 → (m : ℕ) → from ≤ m → m < 64 * (at + 1) → has_number numbers m ≡ true → ⊥
+  none_more none m after within has = elim (cases_lt m (64 * at)) [
+    | inl old ↦ before m after old has
+    | inr new ↦ both_ways _ (has_bit-zero (m % 64)) (ap (λ w. has_bit w (m % 64)) (sym none) ∙ in_word m after (omega arith) has)
+  ]
+
+  pub first_in : (bit : ℕ) → at < 24 → bit < 64 → has_bit word bit ≡ true → ((k : ℕ) → k < 64 → has_bit word k ≡ true → bit ≤ k) → IsFirstNumber numbers from (64 * at + bit)
+  first_in bit small within has least =
+      let parts = and_parts (nat_le (from - 64 * at) bit) (has_bit (get_or numbers.words at 0) bit) (sym (is.bits bit within) ∙ has) in
+      let after = leb-true (from - 64 * at) bit parts.0 in
+      record {
+        has = has_number-at numbers at bit within ∙ parts.1;
+        small = omega arith;
+        after = omega (arith, after);
+        first = λ m few from_there has_m. elim (cases_lt m (64 * at)) [
+          | inl old ↦ absurd (before m from_there old has_m)
+          | inr new ↦ elim (cases_lt m (64 * (at + 1))) [
+            | inl here ↦ omega (arith, least (m % 64) (omega arith) (in_word m from_there (omega arith) has_m))
+            | inr later ↦ omega arith
+          ]
+        ];
+      }
+
+-- the least number of all is in the first word that has a bit
+module _ (numbers : Numbers) (at : ℕ) (before : (w : ℕ) → w < at → get_or numbers.words w 0 ≡ 0) where
+  none_before_word : (m : ℕ) → 0 ≤ m → m < 64 * at → has_number numbers m ≡ true → ⊥
+  none_before_word m after within has =
+      both_ways _ (has_bit-zero (m % 64)) (ap (λ w. has_bit w (m % 64)) (sym (before (m / 64) (omega arith))) ∙ sym (has_number-in numbers m) ∙ has)
+
+  whole_word : IsWordFrom numbers 0 at (get_or numbers.words at 0)
+  whole_word = record { bits = λ k within. ap (λ b. b && has_bit (get_or numbers.words at 0) k) {x = true} (sym (le-leb (0 - 64 * at) k (omega arith))) }
+
+  pub first_of_all : (bit : ℕ) → at < 24 → bit < 64 → has_bit (get_or numbers.words at 0) bit ≡ true → ((k : ℕ) → k < 64 → has_bit (get_or numbers.words at 0) k ≡ true → bit ≤ k) → IsFirstNumber numbers 0 (64 * at + bit)
+  first_of_all = first_in numbers 0 at (get_or numbers.words at 0) whole_word none_before_word
+
+  pub none_at_all : 24 ≤ at → NoNumber numbers 0
+  none_at_all all = record { none = λ m small after has. none_before_word m after (omega arith) has }
+
+  pub words_before : get_or numbers.words at 0 ≡ 0 → (w : ℕ) → w < at + 1 → get_or numbers.words w 0 ≡ 0
+  words_before none w within = elim (cases_lt w at) [
+    | inl old ↦ before w old
+    | inr new ↦ let same : at ≡ w = omega arith in ap (λ w. get_or numbers.words w 0) (sym same) ∙ none
+  ]
+
+-- a set whose word was changed at one bit
+pub without_number : (old new : Numbers) (at bit word : ℕ) → length old.words ≡ 24 → at < 24 → bit < 64 → new.words ≡ set old.words at word → ((k : ℕ) → k < 64 → has_bit word k ≡ (has_bit (get_or old.words at 0) k && not (k == bit))) →
+    (n : ℕ) → n < 1536 → has_number new n ≡ (has_number old n && not (is_number (Some (64 * at + bit)) n))
+unfolding has_number
+without_number old new at bit word size small within is bits n few = elim (cases_eq (n / 64) at) [
+  | inl here ↦
+      let in_bounds : at < length old.words = omega arith in
+      let changed : get_or new.words (n / 64) 0 ≡ word = ap (λ (ws : List ℕ). get_or ws (n / 64) 0) is ∙ ap (λ w. get_or (set old.words at word) w 0) here ∙ rw get_or-set_same in
+      let old_word : get_or old.words at 0 ≡ get_or old.words (n / 64) 0 = ap (λ w. get_or old.words w 0) (sym here) in
+      ap (λ w. has_bit w (n % 64)) changed ∙ bits (n % 64) (omega arith) ∙ (λ i. has_bit (old_word i) (n % 64) && not (same_test here i))
+  | inr other ↦
+      let apart : n / 64 ≢ at = other in
+      let kept : get_or new.words (n / 64) 0 ≡ get_or old.words (n / 64) 0 = ap (λ (ws : List ℕ). get_or ws (n / 64) 0) is ∙ rw get_or-set_other in
+      ap (λ w. has_bit w (n % 64)) kept ∙ and_all _ ∙ ap (λ b. has_bit (get_or old.words (n / 64) 0) (n % 64) && not b) (sym (ne_eqb (64 * at + bit) n (λ e. other (omega arith))))
+]
+  where
+    and_all : (b : Bool) → b ≡ (b && true)
+    and_all true = refl
+    and_all false = refl
+
+    same_test : n / 64 ≡ at → (n % 64 == bit) ≡ (64 * at + bit == n)
+    same_test here = elim (cases_eq (n % 64) bit) [
+      | inl same ↦ eq-eqb _ _ same ∙ sym (eq-eqb _ _ (omega arith))
+      | inr apart ↦ ne_eqb _ _ apart ∙ sym (ne_eqb _ _ (λ e. apart (omega arith)))
+    ]
+
+pub words_before-set : (old : List ℕ) (at word : ℕ) → ((w : ℕ) → w < at → get_or old w 0 ≡ 0) → (w : ℕ) → w < at → get_or (set old at word) w 0 ≡ 0
+words_before-set old at word before w below = let apart : w ≢ at = omega arith in rw get_or-set_other (before w below)
+
+-- words that have the rows of the boards
+pub states_by : (numbers : Numbers) (S : States) → ((r : Rotation) → LiesWithin (S r) 24) → ((w : ℕ) → w < 24 → (r : Rotation) → rotation_place r ≡ w / 6 → IsFourRows (S r) (4 * (w % 6)) (get_or numbers.words w 0)) → ((r : Rotation) → rotation_place r < 4) → states_in numbers ≡ S
+unfolding states_in has_number
+states_by numbers S lies rows few = fun_ext (λ r. fun_ext (λ x. fun_ext (λ y. same r x y)))
+  where
+    at : (r : Rotation) (x y : ℕ) → x < 16 → y < 24 → has_bit (get_or numbers.words (number_at (rotation_place r) y x / 64) 0) (number_at (rotation_place r) y x % 64) ≡ S r x y
+    at r x y column row =
+        let n = number_at (rotation_place r) y x in
+        let place = few r in
+        let w : n / 64 < 24 = omega arith in
+        let turn : rotation_place r ≡ n / 64 / 6 = omega arith in
+        let p : n % 64 % 16 ≡ x = omega arith in
+        let q : 4 * (n / 64 % 6) + n % 64 / 16 ≡ y = omega arith in
+        (rows (n / 64) w r turn).bits (n % 64) (omega arith) ∙ (λ i. S r (p i) (q i))
+
+    same : (r : Rotation) (x y : ℕ) → states_in numbers r x y ≡ S r x y
+    same r x y = same_from_both _ _ there back
+      where
+        there : states_in numbers r x y ≡ true → S r x y ≡ true
+        there held =
+            let parts = and_parts (nat_lt x 16 && nat_lt y 24) _ held in
+            let sides = and_parts (nat_lt x 16) (nat_lt y 24) parts.0 in
+            sym (at r x y (ltb-true x 16 sides.0) (ltb-true y 24 sides.1)) ∙ parts.1
+
+        back : S r x y ≡ true → states_in numbers r x y ≡ true
+        back held =
+            let place = (lies r).inside x y held in
+            let column : x < 16 = omega (arith, place.0) in
+            and_from _ _ (and_from _ _ (lt-ltb x 16 column) (lt-ltb y 24 place.1)) (at r x y column place.1 ∙ held)
+
+pub rows_more : (S : States) (words : List ℕ) (at word : ℕ) → length words ≡ 24 → at < 24 → ((w : ℕ) → w < at → (r : Rotation) → rotation_place r ≡ w / 6 → IsFourRows (S r) (4 * (w % 6)) (get_or words w 0)) →
+    ((r : Rotation) → rotation_place r ≡ at / 6 → IsFourRows (S r) (4 * (at % 6)) word) → (w : ℕ) → w < at + 1 → (r : Rotation) → rotation_place r ≡ w / 6 → IsFourRows (S r) (4 * (w % 6)) (get_or (set words at word) w 0)
+rows_more S words at word size small before here w within r turn = elim (cases_lt w at) [
+  | inl old ↦ let apart : w ≢ at = omega arith in rw get_or-set_other (before w old r turn)
+  | inr new ↦
+      let same : w ≡ at = omega arith in
+      let in_bounds : at < length words = omega arith in
+      subst (λ w. rotation_place r ≡ w / 6 → IsFourRows (S r) (4 * (w % 6)) (get_or (set words at word) w 0)) (sym same) (λ turn. rw get_or-set_same (here r turn)) turn
+]
+
+-- the bits of some rows of each rotation
+pub record KeepsRows (old : Numbers) (rows words : List ℕ) (count : ℕ) : Type 0 where
+  pub bits : (w k : ℕ) → w < count → k < 64 → has_bit (get_or words w 0) k ≡ (has_bit (get_or old.words w 0) k && nat_lt k (16 * (get_or rows (w / 6) 0 - 4 * (w % 6))))
+
+pub keeps_rows : (old new : Numbers) (rows : List ℕ) → KeepsRows old rows new.words 24 → (place y x : ℕ) → place < 4 → y < 24 → x < 16 → has_number new (number_at place y x) ≡ (has_number old (number_at place y x) && nat_lt y (get_or rows place 0))
+unfolding has_number
+keeps_rows old new rows keeps place y x few row column =
+    let n = number_at place y x in
+    let turn : n / 64 / 6 ≡ place = omega arith in
+    let rest : n / 64 % 6 ≡ y / 4 = omega arith in
+    let bit : n % 64 ≡ 16 * (y % 4) + x = omega arith in
+    keeps.bits (n / 64) (n % 64) (omega arith) (omega arith)
+    ∙ ap (λ b. has_bit (get_or old.words (n / 64) 0) (n % 64) && b) ((λ i. nat_lt (bit i) (16 * (get_or rows (turn i) 0 - 4 * rest i))) ∙ same (get_or rows place 0))
+  where
+    same : (left : ℕ) → nat_lt (16 * (y % 4) + x) (16 * (left - 4 * (y / 4))) ≡ nat_lt y left
+    same left = same_from_both _ _
+        (λ is. let less = ltb-true _ _ is in lt-ltb y left (omega (arith, less)))
+        (λ is. let less = ltb-true _ _ is in lt-ltb _ _ (omega (arith, less)))
+
+pub keeps_more : (old : Numbers) (rows words : List ℕ) (at word : ℕ) → length words ≡ 24 → at < 24 → KeepsRows old rows words at →
+    ((k : ℕ) → k < 64 → has_bit word k ≡ (has_bit (get_or old.words at 0) k && nat_lt k (16 * (get_or rows (at / 6) 0 - 4 * (at % 6))))) → KeepsRows old rows (set words at word) (at + 1)
+keeps_more old rows words at word size small keeps here = record { bits = bits }
+  where
+    bits : (w k : ℕ) → w < at + 1 → k < 64 → has_bit (get_or (set words at word) w 0) k ≡ (has_bit (get_or old.words w 0) k && nat_lt k (16 * (get_or rows (w / 6) 0 - 4 * (w % 6))))
+    bits w k within small_k = elim (cases_lt w at) [
+      | inl before ↦ let apart : w ≢ at = omega arith in rw get_or-set_other (keeps.bits w k before small_k)
+      | inr new ↦
+          let same : w ≡ at = omega arith in
+          let in_bounds : at < length words = omega arith in
+          subst (λ w. has_bit (get_or (set words at word) w 0) k ≡ (has_bit (get_or old.words w 0) k && nat_lt k (16 * (get_or rows (w / 6) 0 - 4 * (w % 6))))) (sym same) (rw get_or-set_same (here k small_k))
+    ]

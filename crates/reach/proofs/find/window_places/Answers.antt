@@ -1,0 +1,25 @@
+-- What is held are the places, which are those of the window.
+use Rattle.std.proofs.Common.{sym, subst}
+use Rattle.lane_board.specs.Field.{Field}
+use Rattle.srs.specs.Kick.{srs_table}
+use Rattle.well.specs.Well.{filled}
+use Rattle.sky.specs.Sky.{IsClearFrom}
+use Rattle.sky.proofs.CallerLemmas.{window}
+use Rattle.reach.specs.PlaceSets.{ArePlaces}
+use Rattle.reach.specs.States.{states_of}
+use Rattle.reach.proofs.ScanLemmas.{places_held}
+use Rattle.reach.proofs.find.window_places.Goals as goal
+
+pub low_places-held-requires : goal.low_places-held-requires
+low_places-held-requires g c = subst (IsClearFrom 8) (sym c.board.ensures) c.requires
+
+pub returns-clause-held : goal.returns-clause-held
+returns-clause-held g c =
+    places_held srs_table (filled c.args.well.now) c.args.drop_mode c.args.piece (states_of c.low_places-held.result) c.of_states.result c.of_states.ensures.held
+    (subst (λ (F : Field). ArePlaces srs_table F c.args.drop_mode c.args.piece (states_of c.low_places-held.result)) c.board.ensures c.low_places-held.ensures)
+
+pub returns-clause-window : goal.returns-clause-window
+returns-clause-window g c = λ r q clear low.
+    let held = returns-clause-held g c q in
+    let law = window (filled c.args.well.now) r c.args.drop_mode q clear low in
+    (λ is. let parts = held.0 is in (parts.0, law.1 parts.1), λ place. held.1 (place.0, law.0 place.1))

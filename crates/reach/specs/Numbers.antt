@@ -1,0 +1,37 @@
+-- A set of numbers below 1,536, one bit each; the number of a state, which rises with the order of states.
+use Rattle.std.specs.Prelude.{◌≡◌, ℕ, ◌+◌, ◌*◌, ◌/◌, ◌%◌, ◌<◌, ◌≤◌, Bool, true, false, ◌&&◌, ◌==◌, nat_lt, slice_index, Option, Some, None}
+use Rattle.lane_board.specs.Lanes.{has_bit}
+use Rattle.srs.specs.Rotation.{rotation_place}
+use Rattle.reach.specs.declared.numbers.Numbers.{Numbers}
+use Rattle.reach.specs.States.{States}
+
+-- whether the set has a number
+unfoldable pub has_number : Numbers → ℕ → Bool
+has_number numbers n = has_bit (slice_index numbers.words (n / 64)) (n % 64)
+
+-- the number of a state, by the place of its rotation: 24 rows for each rotation, 16 numbers for each row
+abbrev pub number_at : ℕ → ℕ → ℕ → ℕ
+number_at place y x = place * 384 + (y * 16 + x)
+
+-- the states whose numbers the set has
+unfoldable pub states_in : Numbers → States
+states_in numbers rotation x y = nat_lt x 16 && nat_lt y 24 && has_number numbers (number_at (rotation_place rotation) y x)
+
+-- the one number that is named, if there is one
+abbrev pub is_number : Option ℕ → ℕ → Bool
+is_number None n = false
+is_number (Some m) n = m == n
+
+pub record IsFirstNumber (numbers : Numbers) (from n : ℕ) : Type 0 where
+  pub has : has_number numbers n ≡ true
+  pub small : n < 1536
+  pub after : from ≤ n
+  pub first : (m : ℕ) → m < 1536 → from ≤ m → has_number numbers m ≡ true → n ≤ m
+
+pub record NoNumber (numbers : Numbers) (from : ℕ) : Type 0 where
+  pub none : (m : ℕ) → m < 1536 → from ≤ m → has_number numbers m ≡ true → ⊥
+
+-- the least number of the set from one on, or nothing where there is none
+abbrev pub IsNumberFrom : Numbers → ℕ → Option ℕ → Type 0
+IsNumberFrom numbers from None = NoNumber numbers from
+IsNumberFrom numbers from (Some n) = IsFirstNumber numbers from n

@@ -1,0 +1,57 @@
+// Places in fields of few rows, under the Super Rotation System: a board of eight or sixteen lanes is enough.
+ghost use Rattle.std.specs.Prelude.{◌≡◌, ◌≤◌, ◌↔◌, IsTrue};
+ghost use Rattle.lane_board.specs.Board.{field_of};
+ghost use Rattle.srs.specs.Kick.{srs_table};
+ghost use Rattle.moves.specs.declared.key.DropMode.{DropMode};
+ghost use Rattle.sky.specs.Sky.{IsClearFrom};
+ghost use Rattle.reach.specs.PlaceSets.{ArePlaces};
+ghost use Rattle.reach.specs.States.{states_of};
+
+use crate::hard::hard_places;
+use crate::pivots::Pivots;
+use crate::soft::soft_places;
+use lane_board::LaneBoard;
+use moves::DropMode;
+use srs::Piece;
+
+/// The places of a piece, where no cell lies at or above row 8.
+pub(crate) fn low_places(filled: &LaneBoard<24>, piece: Piece, drop_mode: DropMode) -> Pivots<24>
+    requires { IsClearFrom 8 (field_of filled.now) }
+    ensures { ArePlaces srs_table (field_of filled.now) drop_mode piece (states_of result) }
+{
+    match drop_mode {
+        DropMode::Soft => low_soft_places(filled, piece),
+        DropMode::Hard => low_hard_places(filled, piece),
+    }
+}
+
+/// The places of a soft drop.
+fn low_soft_places(filled: &LaneBoard<24>, piece: Piece) -> Pivots<24>
+    requires { IsClearFrom 8 (field_of filled.now) }
+    ensures { ArePlaces srs_table (field_of filled.now) DropMode.Soft piece (states_of result) }
+{
+    if is_clear_from(filled, 6) {
+        return soft_places(&filled.resized::<8>(), piece);
+    }
+    soft_places(&filled.resized::<16>(), piece)
+}
+
+/// The places of a hard drop.
+fn low_hard_places(filled: &LaneBoard<24>, piece: Piece) -> Pivots<24>
+    requires { IsClearFrom 8 (field_of filled.now) }
+    ensures { ArePlaces srs_table (field_of filled.now) DropMode.Hard piece (states_of result) }
+{
+    if is_clear_from(filled, 6) {
+        return hard_places(&filled.resized::<8>(), piece);
+    }
+    hard_places(&filled.resized::<16>(), piece)
+}
+
+/// Whether no cell lies in a row or above.
+#[inline(always)]
+pub(crate) fn is_clear_from(filled: &LaneBoard<24>, row: u8) -> bool
+    requires { row ≤ 24 }
+    ensures { IsTrue result ↔ IsClearFrom row (field_of filled.now) }
+{
+    filled.minus(&LaneBoard::rows_below(row)).is_empty()
+}

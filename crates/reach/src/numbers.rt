@@ -1,0 +1,81 @@
+// Sets of small numbers, as bits.
+ghost use Rattle.std.specs.Prelude.{◌≡◌, ℕ, ◌<◌, length, slice_index};
+
+use crate::pivots::Pivots;
+use crate::scan::rotation_at;
+use crate::words::{bits_from, four_rows, in_low_rows, lowest_bit, without_bit};
+
+/// How many words of 64 bits a set has.
+const WORDS: usize = 24;
+
+/// A set of numbers below 1,536: bit `k` of word `w` is for the number `64 w + k`.
+#[derive(Clone, Copy)]
+pub(crate) struct Numbers {
+    words: [u64; WORDS],
+    first: usize,
+    ghost size: { length words ≡ 24 },
+    ghost none_before: { (w : ℕ) → w < first → slice_index words w ≡ 0 },
+}
+
+impl Numbers {
+    ghost use Rattle.std.specs.Prelude.{◌≤◌, nat_lt, ◌&&◌, not};
+    ghost use Rattle.reach.specs.Numbers.{has_number, number_at, is_number, states_in, IsNumberFrom};
+    ghost use Rattle.reach.specs.States.{states_of};
+
+    /// The numbers of the states.
+    pub(crate) fn of_states(states: &Pivots<24>) -> Numbers
+        ensures { states_in result ≡ states_of states.now }
+    {
+        let mut words = [0; WORDS];
+        for at in 0..WORDS {
+            let board = states.board(rotation_at((at / 6) as u8));
+            words[at] = four_rows(board, 4 * (at % 6) as u8);
+        }
+        Numbers { words, first: 0 }
+    }
+
+    /// The least number of the set from one on. `None` exactly where there is none.
+    pub(crate) fn first_from(&self, from: u16) -> Option<u16>
+        requires { from ≤ 1536 }
+        ensures { IsNumberFrom self.now from result }
+    {
+        for at in usize::from(from / 64)..WORDS {
+            let before = 64 * at as u16;
+            let word = bits_from(self.words[at], from.saturating_sub(before));
+            if word != 0 {
+                return Some(before + lowest_bit(word));
+            }
+        }
+        None
+    }
+
+    /// Takes the least number out of the set. `None` exactly where the set has none.
+    pub(crate) fn take_first(&mut self) -> Option<u16>
+        ensures first { IsNumberFrom self.old 0 result }
+        ensures rest { (n : ℕ) → n < 1536 → has_number self.new n ≡ (has_number self.old n && not (is_number result n)) }
+    {
+        for at in self.first..WORDS {
+            let word = self.words[at];
+            if word != 0 {
+                let bit = lowest_bit(word);
+                self.words[at] = without_bit(word, bit);
+                self.first = at;
+                return Some(64 * at as u16 + bit);
+            }
+        }
+        None
+    }
+
+    /// The numbers of states in a row below the given one of their rotation.
+    pub(crate) fn in_rows_below(&self, rows: [u8; 4]) -> Numbers
+        requires { length rows ≡ 4 }
+        ensures { (place y x : ℕ) → place < 4 → y < 24 → x < 16 → has_number result (number_at place y x) ≡ (has_number self.now (number_at place y x) && nat_lt y (slice_index rows place)) }
+    {
+        let mut words = [0; WORDS];
+        for at in 0..WORDS {
+            let left = rows[at / 6].saturating_sub(4 * (at % 6) as u8);
+            words[at] = in_low_rows(self.words[at], left);
+        }
+        Numbers { words, first: 0 }
+    }
+}

@@ -1,0 +1,204 @@
+// The places of a soft drop in a field of few rows.
+ghost use Rattle.std.specs.Prelude.{◌≡◌, ◌-◌, ◌≤◌, IsTrue};
+ghost use Rattle.lane_board.specs.Board.{field_of};
+ghost use Rattle.srs.specs.Kick.{srs_table};
+ghost use Rattle.moves.specs.declared.key.DropMode.{DropMode};
+ghost use Rattle.sky.specs.Sky.{IsClearFrom};
+ghost use Rattle.reach.specs.PlaceSets.{ArePlaces};
+ghost use Rattle.reach.specs.SoftLanes.{free_boards, skies, with_rotation, places_of, rests_in, lacking, soft_board};
+ghost use Rattle.reach.specs.SoftLanes.{HaveAllRests, AreSpread, IsTurnedInto, IsRound, IsSoftFlood};
+ghost use Rattle.reach.specs.States.{states_of};
+
+use crate::hard::{has_own_cells, raised};
+use crate::lane_map::{free_lanes, resting_lanes, sky_board};
+use crate::lane_turn::{arrivals, canonical_of};
+use crate::pivots::Pivots;
+use crate::spread::{Shifts, spread};
+use lane_board::LaneBoard;
+use moves::DropMode;
+use srs::{Piece, Rotation};
+
+/// The canonical placements with the cells of resting states to which keys lead, where two lanes lie above all cells.
+pub(crate) fn soft_places<const N: usize>(filled: &LaneBoard<N>, piece: Piece) -> Pivots<24>
+    requires clear { IsClearFrom (N - 2) (field_of filled.now) }
+    requires few { N ≤ 16 }
+    ensures { ArePlaces srs_table (field_of filled.now) DropMode.Soft piece (states_of result) }
+{
+    let free = free_boards(filled, piece);
+    let reached = flood(piece, &free);
+    Pivots {
+        spawn: soft_board(piece, Rotation::Spawn, &free, &reached),
+        right: soft_board(piece, Rotation::Right, &free, &reached),
+        reverse: soft_board(piece, Rotation::Reverse, &free, &reached),
+        left: soft_board(piece, Rotation::Left, &free, &reached),
+    }
+}
+
+/// The free places of each rotation, on the board of the canonical one.
+fn free_boards<const N: usize>(filled: &LaneBoard<N>, piece: Piece) -> Pivots<N>
+    ensures { states_of result ≡ free_boards piece N (field_of filled.now) }
+{
+    Pivots {
+        spawn: free_lanes(filled, piece, canonical_of(piece, Rotation::Spawn)),
+        right: free_lanes(filled, piece, canonical_of(piece, Rotation::Right)),
+        reverse: free_lanes(filled, piece, canonical_of(piece, Rotation::Reverse)),
+        left: free_lanes(filled, piece, canonical_of(piece, Rotation::Left)),
+    }
+}
+
+/// The places that single moves and turns reach from the sky, or enough of them to hold all rests.
+fn flood<const N: usize>(piece: Piece, free: &Pivots<N>) -> Pivots<N>
+    ensures { IsSoftFlood piece N (states_of free.now) (states_of result) }
+{
+    let mut reached = spread_all(free, &skies(piece, free));
+    'rounds: loop {
+        if has_all_rests(piece, free, &reached) {
+            return reached;
+        }
+        let next = round(piece, free, &reached);
+        match next.difference(&reached) {
+            None => return reached,
+            Some(_) => reached = next,
+        }
+    }
+}
+
+/// The sky of each rotation.
+fn skies<const N: usize>(piece: Piece, free: &Pivots<N>) -> Pivots<N>
+    ensures { states_of result ≡ skies piece N (states_of free.now) }
+{
+    Pivots {
+        spawn: sky_board(piece, canonical_of(piece, Rotation::Spawn), &free.spawn),
+        right: sky_board(piece, canonical_of(piece, Rotation::Right), &free.right),
+        reverse: sky_board(piece, canonical_of(piece, Rotation::Reverse), &free.reverse),
+        left: sky_board(piece, canonical_of(piece, Rotation::Left), &free.left),
+    }
+}
+
+/// The places of each rotation with all that single moves reach from them.
+fn spread_all<const N: usize>(free: &Pivots<N>, places: &Pivots<N>) -> Pivots<N>
+    ensures { AreSpread N (states_of free.now) (states_of places.now) (states_of result) }
+{
+    Pivots {
+        spawn: spread(&free.spawn, Shifts::All, &places.spawn),
+        right: spread(&free.right, Shifts::All, &places.right),
+        reverse: spread(&free.reverse, Shifts::All, &places.reverse),
+        left: spread(&free.left, Shifts::All, &places.left),
+    }
+}
+
+/// Turns into each rotation, one after the other.
+fn round<const N: usize>(piece: Piece, free: &Pivots<N>, places: &Pivots<N>) -> Pivots<N>
+    ensures { IsRound piece N (states_of free.now) (states_of places.now) (states_of result) }
+{
+    let one = turned_into(piece, Rotation::Spawn, free, places);
+    let two = turned_into(piece, Rotation::Right, free, &one);
+    let three = turned_into(piece, Rotation::Reverse, free, &two);
+    turned_into(piece, Rotation::Left, free, &three)
+}
+
+/// The places with those that both turns into a rotation lead to, and all that single moves reach from there.
+#[inline(always)]
+fn turned_into<const N: usize>(
+    piece: Piece,
+    to: Rotation,
+    free: &Pivots<N>,
+    places: &Pivots<N>,
+) -> Pivots<N>
+    ensures { IsTurnedInto piece N (states_of free.now) to (states_of places.now) (states_of result) }
+{
+    let there = free.board(to);
+    let before = to.anticlockwise();
+    let after = to.clockwise();
+    let clockwise = arrivals(piece, before, to, there, places.board(before));
+    let anticlockwise = arrivals(piece, after, to, there, places.board(after));
+    let wide = places.board(to).or(&clockwise.or(&anticlockwise));
+    places.with(to, &spread(there, Shifts::All, &wide))
+}
+
+/// Whether the places hold all resting states.
+fn has_all_rests<const N: usize>(piece: Piece, free: &Pivots<N>, places: &Pivots<N>) -> bool
+    ensures { IsTrue result → HaveAllRests piece N (states_of free.now) (states_of places.now) }
+{
+    lacks(piece, Rotation::Spawn, free, places)
+        .or(&lacks(piece, Rotation::Right, free, places))
+        .or(&lacks(piece, Rotation::Reverse, free, places))
+        .or(&lacks(piece, Rotation::Left, free, places))
+        .is_empty()
+}
+
+/// The rests of a canonical rotation that the places lack.
+#[tactic(auto, unfolding(crate::specs::SoftLanes::lacking))]
+#[inline(always)]
+fn lacks<const N: usize>(
+    piece: Piece,
+    rotation: Rotation,
+    free: &Pivots<N>,
+    places: &Pivots<N>,
+) -> LaneBoard<N>
+    ensures { field_of result ≡ lacking piece N (states_of free.now) (states_of places.now) rotation }
+{
+    if !has_own_cells(piece, rotation) {
+        return LaneBoard::empty();
+    }
+    rests_in(free, rotation).minus(&places_of(piece, places, rotation))
+}
+
+/// All free places of a rotation at which a state rests.
+#[tactic(auto, unfolding(crate::specs::SoftLanes::rests_in))]
+#[inline(always)]
+fn rests_in<const N: usize>(free: &Pivots<N>, rotation: Rotation) -> LaneBoard<N>
+    ensures { field_of result ≡ rests_in N (states_of free.now) rotation }
+{
+    let board = free.board(rotation);
+    resting_lanes(board, board)
+}
+
+/// The places of all rotations with the given canonical one.
+#[tactic(auto, unfolding(crate::specs::SoftLanes::places_of))]
+#[inline(always)]
+fn places_of<const N: usize>(piece: Piece, places: &Pivots<N>, canonical: Rotation) -> LaneBoard<N>
+    ensures { field_of result ≡ places_of piece (states_of places.now) canonical }
+{
+    let none = LaneBoard::empty();
+    let one = with_rotation(piece, places, canonical, Rotation::Spawn, &none);
+    let two = with_rotation(piece, places, canonical, Rotation::Right, &one);
+    let three = with_rotation(piece, places, canonical, Rotation::Reverse, &two);
+    with_rotation(piece, places, canonical, Rotation::Left, &three)
+}
+
+/// The board with the places of a rotation, where its canonical one is the given one.
+#[tactic(auto, unfolding(crate::specs::SoftLanes::with_rotation))]
+#[inline(always)]
+fn with_rotation<const N: usize>(
+    piece: Piece,
+    places: &Pivots<N>,
+    canonical: Rotation,
+    rotation: Rotation,
+    board: &LaneBoard<N>,
+) -> LaneBoard<N>
+    ensures { field_of result ≡ with_rotation piece (states_of places.now) canonical rotation (field_of board.now) }
+{
+    if canonical_of(piece, rotation).place() != canonical.place() {
+        return *board;
+    }
+    board.or(places.board(rotation))
+}
+
+/// The canonical placements in a rotation that rest at one of the places.
+#[tactic(auto, unfolding(crate::specs::SoftLanes::soft_board))]
+#[inline(always)]
+fn soft_board<const N: usize>(
+    piece: Piece,
+    rotation: Rotation,
+    free: &Pivots<N>,
+    places: &Pivots<N>,
+) -> LaneBoard<24>
+    ensures { field_of result ≡ soft_board piece N (states_of free.now) (states_of places.now) rotation }
+{
+    if !has_own_cells(piece, rotation) {
+        return LaneBoard::empty();
+    }
+    let rests = rests_in(free, rotation).and(&places_of(piece, places, rotation));
+    raised(piece, rotation, &rests)
+}

@@ -1,0 +1,39 @@
+// Places in any field and by any table of offsets: a flood of the whole well.
+ghost use Rattle.std.specs.Prelude.{◌≡◌};
+ghost use Rattle.lane_board.specs.Board.{field_of};
+ghost use Rattle.srs.specs.Rules.{table_of};
+ghost use Rattle.reach.specs.PlaceSets.{ArePlaces};
+ghost use Rattle.reach.specs.Started.{started};
+ghost use Rattle.reach.specs.States.{states_of};
+
+use crate::flood::flood;
+use crate::fold::folded;
+use crate::free::free_states;
+use crate::pivots::Pivots;
+use crate::rest::resting;
+use lane_board::LaneBoard;
+use moves::DropMode;
+use srs::{Piece, Rotation, Rules};
+
+/// The places of a piece.
+pub(crate) fn whole_places(
+    filled: &LaneBoard<24>,
+    rules: &Rules,
+    piece: Piece,
+    drop_mode: DropMode,
+) -> Pivots<24>
+    ensures { ArePlaces (table_of rules.now) (field_of filled.now) drop_mode piece (states_of result) }
+{
+    let free = free_states(filled, piece);
+    let reached = flood(&free, rules, piece, drop_mode, &started(&free));
+    folded(piece, &resting(&free, &reached))
+}
+
+#[tactic(auto, unfolding(crate::specs::Started::started, crate::specs::States::states_of))]
+/// The state in which a piece appears, in rotation 0 with its pivot in column 4 and row 20, where it is free.
+fn started(free: &Pivots<24>) -> Pivots<24>
+    ensures { states_of result ≡ started (states_of free.now) }
+{
+    let appearing = LaneBoard::empty().with(4, 20).and(&free.spawn);
+    Pivots::empty().with(Rotation::Spawn, &appearing)
+}

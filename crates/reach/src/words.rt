@@ -1,0 +1,59 @@
+// The bits of words of 64 bits.
+ghost use Rattle.std.specs.Prelude.{◌≡◌, ℕ, ◌*◌, ◌+◌, ◌<◌, ◌≤◌, nat_le, nat_lt, ◌&&◌, ◌==◌, not, true};
+ghost use Rattle.lane_board.specs.Board.{field_of};
+ghost use Rattle.lane_board.specs.Lanes.{has_bit};
+ghost use Rattle.reach.specs.FourRows.{IsFourRows};
+
+use lane_board::LaneBoard;
+
+/// Four rows of a board from one on, sixteen bits for each.
+#[inline(always)]
+pub(crate) fn four_rows(board: &LaneBoard<24>, row: u8) -> u64
+    requires { row + 4 ≤ 24 }
+    ensures { IsFourRows (field_of board.now) row result }
+{
+    u64::from(board.row(row))
+        | u64::from(board.row(row + 1)) << 16
+        | u64::from(board.row(row + 2)) << 32
+        | u64::from(board.row(row + 3)) << 48
+}
+
+/// The bits of a word from one on.
+#[inline(always)]
+pub(crate) fn bits_from(word: u64, low: u16) -> u64
+    requires { low < 64 }
+    ensures { (k : ℕ) → k < 64 → has_bit result k ≡ (nat_le low k && has_bit word k) }
+{
+    word >> low << low
+}
+
+/// The place of the lowest bit.
+#[inline(always)]
+pub(crate) fn lowest_bit(word: u64) -> u16
+    requires { 0 < word }
+    ensures below { result < 64 }
+    ensures has { has_bit word result ≡ true }
+    ensures first { (k : ℕ) → k < 64 → has_bit word k ≡ true → result ≤ k }
+{
+    word.trailing_zeros() as u16
+}
+
+/// The word without a bit.
+#[inline(always)]
+pub(crate) fn without_bit(word: u64, bit: u16) -> u64
+    requires { bit < 64 }
+    ensures { (k : ℕ) → k < 64 → has_bit result k ≡ (has_bit word k && not (k == bit)) }
+{
+    word & !(1u64 << bit)
+}
+
+/// The bits of the first so many of the four rows of a word.
+#[inline(always)]
+pub(crate) fn in_low_rows(word: u64, rows: u8) -> u64
+    ensures { (k : ℕ) → k < 64 → has_bit result k ≡ (has_bit word k && nat_lt k (16 * rows)) }
+{
+    if rows >= 4 {
+        return word;
+    }
+    word & ((1 << (16 * rows)) - 1)
+}

@@ -1,0 +1,142 @@
+-- Each state under an open sky is reached: at the spawn's height by turns and moves sideways, and from there down.
+use Rattle.std.proofs.Common.{◌≡◌, ℕ, zero, suc, ◌+◌, ◌-◌, ◌<◌, ◌≤◌, true, not, ◌||◌, ◌==◌, ℤ, pos, ◌+ℤ◌, ◌-ℤ◌, ◌≤ℤ◌, Option, Some, None, [], ◌∷◌, ◌++◌, refl, sym, ap, subst, ◌∙◌, arith}
+use Rattle.std.specs.Prelude.{int_le, option_and_then}
+use Rattle.std.proofs.lemmas.Int.{ints}
+use Rattle.std.proofs.lemmas.Bool.{and_parts, cond-true, false≢true, eqb-true}
+use Rattle.std.proofs.lemmas.List.Folds.{list_all-map}
+use Rattle.std.proofs.lemmas.List.Sums.{fold-append}
+use Rattle.lane_board.specs.Field.{Field}
+use Rattle.srs.specs.declared.piece.Piece.{Piece}
+use Rattle.srs.specs.declared.rotation.Rotation.{Rotation}
+use Rattle.srs.specs.declared.rotation.Rotation.TheVariants as Turn
+use Rattle.srs.specs.declared.placement.Placement.{Placement}
+use Rattle.srs.specs.Cells.{Cell, minus, moved, shape, cells_of, pivot_of}
+use Rattle.srs.specs.SameCells.{is_among}
+use Rattle.srs.specs.Kick.{Table, srs_table}
+use Rattle.srs.specs.Rotation.{rotation_place}
+use Rattle.srs.proofs.CallerLemmas.{less, is_among-moved, is_among-all, list_all-from_is_among, each_piece, rotation_place-injective, in_well-place, inside_cell, pivot_inside}
+use Rattle.std.specs.Cmp.{signed_Decides}
+use Rattle.std.specs.Ordering.{int_eq}
+use Rattle.well.specs.Free.{is_open, is_free_at, is_free}
+use Rattle.well.proofs.CallerLemmas.{open_at}
+use Rattle.moves.specs.declared.key.Key.{Key}
+use Rattle.moves.specs.declared.key.Key.TheVariants.{Down}
+use Rattle.moves.specs.Step.{state_at, first_free, shifted, step_of}
+use Rattle.moves.specs.Leads.{spawn_of, spawned, state_after}
+use Rattle.moves.specs.Walk.{led}
+use Rattle.sky.specs.Height.{rise, upright, fits_column}
+use Rattle.sky.specs.Band.{Spot, open_led, path, is_spot, repeated}
+use Rattle.sky.specs.Sky.{IsClearFrom, IsUnderSky, IsLedTo}
+use Rattle.sky.proofs.TableFacts.{is_level, shape_level, paths_lead}
+use Rattle.sky.proofs.OpenLemmas.{yes, IsOpenHeight, open_height, open_free, free_fits, open_leads}
+
+state_of : Piece → Rotation → ℕ → ℕ → Placement
+state_of piece rotation x y = record { piece = piece; rotation = rotation; x = x; y = y }
+
+-- the path leads where the piece fits
+path_is : (piece : Piece) (rotation : Rotation) (x : ℕ) → x < 10 → fits_column piece rotation (pos x) ≡ true → open_led piece (Some (Turn.Spawn, 4)) (path piece rotation x) ≡ Some (rotation, x)
+path_is piece rotation x within fits = from (open_led piece (Some (Turn.Spawn, 4)) (path piece rotation x)) refl (subst (λ b. (not b || is_spot rotation x (open_led piece (Some (Turn.Spawn, 4)) (path piece rotation x))) ≡ true) fits (paths_lead piece rotation x within))
+  where
+    from : (o : Option Spot) → open_led piece (Some (Turn.Spawn, 4)) (path piece rotation x) ≡ o → is_spot rotation x o ≡ true → o ≡ Some (rotation, x)
+    from None e there = absurd (false≢true there)
+    from (Some spot) e there =
+        let parts = and_parts (rotation_place spot.0 == rotation_place rotation) (spot.1 == x) there in
+        let turn = rotation_place-injective spot.0 rotation (eqb-true _ _ parts.0) in
+        let at = eqb-true spot.1 x parts.1 in
+        λ i. Some (turn i, at i)
+
+pub rise_spawn : (piece : Piece) → rise piece Turn.Spawn ≡ pos 0
+rise_spawn piece = (signed_Decides (rise piece Turn.Spawn) (pos 0)).0 (each_piece (λ p. int_eq (rise p Turn.Spawn) (pos 0)) refl piece)
+
+pub spawn_fits : (piece : Piece) → fits_column piece Turn.Spawn (pos 4) ≡ true
+spawn_fits = each_piece (λ p. fits_column p Turn.Spawn (pos 4)) refl
+
+-- at the spawn's height each rotation and column that fits is reached with keys
+pub record IsHigh (F : Field) (piece : Piece) (rotation : Rotation) (x : ℕ) : Type 0 where
+  pub row : ℕ
+  pub height : pos row +ℤ rise piece rotation ≡ pos 20
+  pub leads_there : state_after srs_table F piece (path piece rotation x) ≡ Some (record { piece = piece; rotation = rotation; x = x; y = row })
+
+pub high : (F : Field) (r : ℕ) → IsClearFrom r F → r ≤ 18 → (piece : Piece) (rotation : Rotation) (x : ℕ) → x < 10 → fits_column piece rotation (pos x) ≡ true → IsHigh F piece rotation x
+unfolding spawned state_after
+high F r clear low piece rotation x within fits =
+    let room : IsOpenHeight piece r 20 = open_height piece r 20 (omega arith) (omega arith) in
+    let start : pos 20 +ℤ rise piece Turn.Spawn ≡ pos 20 = ap (λ (z : ℤ). pos 20 +ℤ z) (rise_spawn piece) in
+    let spawn_free : is_free F (spawn_of piece) ≡ true = open_free F r clear 20 piece room Turn.Spawn (pos 4, pos 20) start (spawn_fits piece) in
+    let goes = open_leads F r clear 20 piece room (path piece rotation x) Turn.Spawn 4 20 (rotation, x) start (path_is piece rotation x within fits) in
+    record {
+      row = goes.row;
+      height = goes.height;
+      leads_there = ap (λ (o : Option Placement). led (step_of srs_table F) o (path piece rotation x)) (cond-true _ (Some (spawn_of piece)) None spawn_free) ∙ goes.is;
+    }
+
+-- a piece that is free at each row on the way falls
+module _ (table : Table) (F : Field) (piece : Piece) (rotation : Rotation) (x : ℕ) where
+  abbrev pub at_row : ℕ → Placement
+  at_row y = record { piece = piece; rotation = rotation; x = x; y = y }
+
+  pub down_step : (y : ℕ) → is_free_at F piece rotation (pos x, pos y) ≡ true → step_of table F (at_row (suc y)) Down ≡ Some (at_row y)
+  unfolding shifted first_free moved
+  down_step y free =
+      let column : pos x +ℤ pos 0 ≡ pos x = omega (arith, ints) in
+      let row : pos (suc y) +ℤ minus 1 ≡ pos y = omega (arith, ints) in
+      let same : ◌≡◌ {A = Cell} (pos x +ℤ pos 0, pos (suc y) +ℤ minus 1) (pos x, pos y) = λ i. (column i, row i) in
+      ap (λ (c : Cell). first_free F piece rotation (c ∷ [])) same ∙ cond-true _ (state_at piece rotation (pos x, pos y)) None free
+
+  pub falls : (y k : ℕ) → ((j : ℕ) → j ≤ k → is_free_at F piece rotation (pos x, pos (y + j)) ≡ true) →
+      led (step_of table F) (Some (at_row (y + k))) (repeated Down k) ≡ Some (at_row y)
+  falls y zero free = let same : y + 0 ≡ y = omega arith in ap (λ (y : ℕ). Some (at_row y)) same
+  falls y (suc k) free =
+      let same : y + suc k ≡ suc (y + k) = omega arith in
+      ap (λ (y : ℕ). led (step_of table F) (step_of table F (at_row y) Down) (repeated Down k)) same
+      ∙ ap (λ (o : Option Placement). led (step_of table F) o (repeated Down k)) (down_step (y + k) (free k (omega arith)))
+      ∙ falls y k (λ j within. free j (omega arith))
+
+pub less-moved : (c x : Cell) → less (moved c x) c ≡ x
+unfolding moved less
+less-moved c x =
+    let a : (c.0 +ℤ x.0) -ℤ c.0 ≡ x.0 = omega (arith, ints) in
+    let b : (c.1 +ℤ x.1) -ℤ c.1 ≡ x.1 = omega (arith, ints) in
+    λ i. (a i, b i)
+
+-- a state under the sky is free, and so is what lies above it, up to the spawn's height
+module _ (F : Field) (s : Placement) (sky : IsUnderSky F s) where
+  above_open : (j : ℕ) → (upright s +ℤ pos j) ≤ℤ pos 20 → (c : Cell) → is_among (shape s.piece s.rotation) c ≡ true → is_open F (moved (pos s.x, pos (s.y + j)) c) ≡ true
+  unfolding moved is_level
+  above_open j low c has =
+      let lies = in_well-place (moved (pivot_of s) c) (inside_cell s c sky.inside has) in
+      let is_cell = is_among-moved (pivot_of s) (shape s.piece s.rotation) (moved (pivot_of s) c) ∙ ap (is_among (shape s.piece s.rotation)) (less-moved (pivot_of s) c) ∙ has in
+      let clear = sky.clear lies.x lies.y (lies.y + j) (subst (λ (d : Cell). is_among (cells_of s) d ≡ true) lies.is is_cell) (omega arith) in
+      let rows = and_parts (int_le (minus 2) (c.1 -ℤ rise s.piece s.rotation)) (int_le (c.1 -ℤ rise s.piece s.rotation) (pos 1)) (is_among-all (is_level s.piece s.rotation) (shape s.piece s.rotation) c (shape_level s.piece s.rotation) has) in
+      let up = yes (c.1 -ℤ rise s.piece s.rotation) (pos 1) rows.1 in
+      let column : pos s.x +ℤ c.0 ≡ pos lies.x = ap (λ (c : Cell). c.0) lies.is in
+      let row : pos s.y +ℤ c.1 ≡ pos lies.y = ap (λ (c : Cell). c.1) lies.is in
+      let higher : pos (s.y + j) +ℤ c.1 ≡ pos (lies.y + j) = omega (arith, ints) in
+      let top : lies.y + j ≤ 22 = omega (arith, ints) in
+      sym (open_at F (moved (pos s.x, pos (s.y + j)) c) lies.x (lies.y + j) (λ i. (column i, higher i)) lies.in_columns top) ∙ ap not clear
+
+  pub sky_free : (j : ℕ) → (upright s +ℤ pos j) ≤ℤ pos 20 → is_free_at F s.piece s.rotation (pos s.x, pos (s.y + j)) ≡ true
+  unfolding is_free_at
+  sky_free j low =
+      list_all-map (is_open F) (moved (pos s.x, pos (s.y + j))) (shape s.piece s.rotation)
+      ∙ list_all-from_is_among (λ c. is_open F (moved (pos s.x, pos (s.y + j)) c)) (shape s.piece s.rotation) (above_open j low)
+
+pub sky_is_reached : (F : Field) (r : ℕ) (s : Placement) → IsClearFrom r F → r ≤ 18 → IsUnderSky F s → upright s ≤ℤ pos 20 → IsLedTo F s
+unfolding state_after
+sky_is_reached F r s clear low sky under =
+    let here : (upright s +ℤ pos 0) ≤ℤ pos 20 = omega (arith, ints) in
+    let fits = free_fits F s.piece s.rotation (pos s.x, pos (s.y + 0)) (sky_free F s sky 0 here) in
+    let pivot = pivot_inside s sky.inside in
+    let above = high F r clear low s.piece s.rotation s.x (omega (arith, pivot.in_columns)) fits in
+    let height = above.height in
+    let k = above.row - s.y in
+    let row : above.row ≡ s.y + k = omega (arith, ints) in
+    let fall = falls srs_table F s.piece s.rotation s.x s.y k (λ j within. sky_free F s sky j (omega (arith, ints))) in
+    record {
+      keys = path s.piece s.rotation s.x ++ repeated Down k;
+      leads_there =
+          fold-append (λ (reached : Option Placement) (key : Key). option_and_then (λ s. step_of srs_table F s key) reached) (spawned F s.piece) (path s.piece s.rotation s.x) (repeated Down k)
+          ∙ ap (λ (o : Option Placement). led (step_of srs_table F) o (repeated Down k)) above.leads_there
+          ∙ ap (λ (y : ℕ). led (step_of srs_table F) (Some (record { piece = s.piece; rotation = s.rotation; x = s.x; y = y })) (repeated Down k)) row
+          ∙ fall;
+    }
