@@ -7,18 +7,16 @@ use Rattle.std.proofs.lemmas.Bool.{agree_below_at, eqb-true, and_parts, and_from
 use Rattle.srs.specs.declared.piece.Piece.{Piece}
 use Rattle.srs.specs.declared.piece.Piece.TheVariants.{I, L, O, Z, T, J, S}
 use Rattle.srs.specs.Piece.{all_pieces, piece_code}
-use Rattle.srs.proofs.ShapeLemmas.{each_piece}
-use Rattle.srs.proofs.MemberLemmas.{Contains-cases, Contains-none, Contains-filter, Contains-from_filter, Contains-flat_map, Contains-from_flat_map, Contains-map, Contains-from_map}
+use Rattle.srs.proofs.CallerLemmas.{each_piece}
+use Rattle.lists.proofs.CallerLemmas.{Contains-cases, Contains-none, Contains-filter, Contains-from_filter, Contains-flat_map, Contains-from_flat_map, Contains-map, Contains-from_map}
 use Rattle.queue_pattern.specs.declared.element.Element.{Element}
 use Rattle.queue_pattern.specs.Grammar.{set_of}
 use Rattle.queue_pattern.specs.Queues.{is_in, pieces_in, others, tails, falling_factor, queue_count}
-use Rattle.queue_pattern.proofs.ChoiceLemmas.{IsSet, pieces_in-set, filter-set, others-set, length-others}
-use Rattle.queue_pattern.proofs.FallingLemmas.{falling_factor-more}
-use Rattle.queue_pattern.proofs.QueueLemmas.{tails-more, length-tails}
+use Rattle.queue_pattern.proofs.CallerLemmas.{IsSet, pieces_in-set, filter-set, others-set, length-others, falling_factor-more, tails-more, length-tails}
 use Rattle.hold_queue.specs.declared.family.Draw.{Draw}
 use Rattle.hold_queue.specs.declared.family.Family.{Family}
 use Rattle.hold_queue.specs.Family.{has_set, with_piece, any_below, after_draw, IsDrawn}
-use Rattle.hold_queue.specs.States.{in_progress, undrawn, rests, IsRest, IsRoomy}
+use Rattle.hold_queue.specs.States.{in_progress, undrawn, rests, IsRemainder, IsRoomy}
 use Rattle.hold_queue.proofs.DrawLemmas.{any_below-from, any_below-to, not_true}
 use Rattle.hold_queue.proofs.RestLemmas.{stands, rests-done, set_after}
 
@@ -241,10 +239,10 @@ tails-some pieces n later piece set among some =
 -- the queues after a draw are those before it that begin with the piece, without it
 pub rest-on : (elements : List Element) (drawn next : ℕ) (piece : Piece) (before after : Family) → IsDrawn (in_progress elements drawn) piece before after
     → ((set : ℕ) → set < 128 → has_set before set ≡ true → next ≡ drawn + 1)
-    → (queue : List Piece) → IsRest elements drawn before (piece ∷ queue) → IsRest elements next after queue
+    → (queue : List Piece) → IsRemainder elements drawn before (piece ∷ queue) → IsRemainder elements next after queue
 rest-on elements drawn next piece before after is_drawn counts queue rest = go (in_progress elements drawn) refl
   where
-    go : (o : Option Draw) → in_progress elements drawn ≡ o → IsRest elements next after queue
+    go : (o : Option Draw) → in_progress elements drawn ≡ o → IsRemainder elements next after queue
     go None is = absurd (no_more (Contains-cases [] [] (piece ∷ queue) (subst (λ qs. Contains qs (piece ∷ queue)) (rests-done elements drawn rest.drawn_set is) rest.there)))
       where
         no_list : [] ≡ piece ∷ queue → ⊥
@@ -268,7 +266,7 @@ rest-on elements drawn next piece before after is_drawn counts queue rest = go (
 
 pub rest-back : (elements : List Element) (drawn next : ℕ) (piece : Piece) (before after : Family) → IsDrawn (in_progress elements drawn) piece before after
     → ((set : ℕ) → set < 128 → has_set before set ≡ true → next ≡ drawn + 1)
-    → (queue : List Piece) → IsRest elements next after queue → IsRest elements drawn before (piece ∷ queue)
+    → (queue : List Piece) → IsRemainder elements next after queue → IsRemainder elements drawn before (piece ∷ queue)
 rest-back elements drawn next piece before after is_drawn counts queue rest =
     let m = moves-back (in_progress elements drawn) piece before after is_drawn rest.drawn_set rest.within rest.has in
     let at = stands elements drawn m.from m.is in

@@ -1,4 +1,4 @@
--- The bits of a family's words.
+-- The bits of a family's two numbers.
 use Rattle.std.proofs.Common.{◌≡◌, ℕ, ◌+◌, ◌-◌, ◌*◌, ◌/◌, ◌%◌, ◌^◌, ◌<◌, ◌≤◌, lit<, min, max, Bool, true, false, ◌&&◌, ◌||◌, ◌==◌, eqb, eq-eqb, nat_eq, IsTrue, ◌↔◌, nat_lt, nat_le, bit_and, bit_or, refl, ap, ◌∙◌, sym, subst, inl, inr, arith, List, [], ◌∷◌, get_or}
 use Rattle.std.specs.Int.{bit_at}
 use Rattle.std.proofs.lemmas.Bool.{agree_below_at, cases_Bool, cases_lt, eqb-true, lt-ltb, le-ltb}
@@ -23,7 +23,7 @@ min_of_bits p q small_p small_q = grind (arith, nat_tests)
 word_or : (a b k : ℕ) → (bit_at (bit_or a b) k == 1) ≡ ((bit_at a k == 1) || (bit_at b k == 1))
 word_or a b k = ap (λ n. n == 1) (bit_at_or a b k) ∙ max_of_bits (bit_at a k) (bit_at b k) (bit_at-lt a k) (bit_at-lt b k)
 
--- a set without S is in the low word, one with S in the high word
+-- a set without S is in the low number, one with S in the high number
 pub has_set-low : (family : Family) (set : ℕ) → set < 64 → has_set family set ≡ (bit_at family.low set == 1)
 unfolding has_set
 has_set-low family set below = rw (lt-ltb set 64 below) refl
@@ -55,14 +55,14 @@ has_set-empty set = elim (cases_lt set 64) [
 not_one : (n : ℕ) → n < 2 → (n == 1) ≡ false → n ≡ 0
 not_one n small other = grind (arith, nat_tests)
 
--- a word without a bit is 0
+-- a number without a bit is 0
 pub word_none : (word : ℕ) → word < 2 ^ 64 → (IsTrue (nat_eq word 0)) ↔ ((place : ℕ) → place < 64 → (bit_at word place == 1) ≡ false)
 word_none word small = (λ none place within. ap (λ w. bit_at w place == 1) (eqb-true word 0 none) ∙ no_bit place, λ none. eq-eqb word 0 (empty none))
   where
     empty : ((place : ℕ) → place < 64 → (bit_at word place == 1) ≡ false) → word ≡ 0
     empty none = same_from_bits_below 64 word 0 small (lit< tt) (λ k within. not_one (bit_at word k) (bit_at-lt word k) (none k within) ∙ sym (bit_at-zero k))
 
--- a family without a set has words without a bit
+-- a family without a set has numbers without a bit
 pub family_none : (family : Family) → ((place : ℕ) → place < 64 → (bit_at family.low place == 1) ≡ false) → ((place : ℕ) → place < 64 → (bit_at family.high place == 1) ≡ false)
     → (set : ℕ) → set < 128 → has_set family set ≡ false
 family_none family low high set within = elim (cases_lt set 64) [
@@ -85,7 +85,7 @@ has_set-one set within = agree_below_at (has_set (made 1 0)) (λ n. n == 0) 128 
 bit_at-mod : (n k : ℕ) → k < 64 → bit_at (n % 2 ^ 64) k ≡ bit_at n k
 bit_at-mod n k within = sym (bit_at_cat_low (n / 2 ^ 64) 64 (n % 2 ^ 64) k within) ∙ ap (λ m. bit_at m k) (omega arith)
 
--- the bits of a word that a mask lets through, moved up
+-- the bits of a number that a mask lets through, moved up
 shifted : (word mask by k place : ℕ) → place < 64 → (by ≤ place → bit_at mask (place - by) ≡ bit_at place k) → (place < by → bit_at place k ≡ 0)
     → (bit_at (bit_and word mask * 2 ^ by % 2 ^ 64) place == 1) ≡ ((bit_at place k == 1) && (bit_at word (place - by) == 1))
 shifted word mask by k place within there none = elim (cases_lt place by) [

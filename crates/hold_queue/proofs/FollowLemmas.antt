@@ -5,14 +5,13 @@ use Rattle.std.proofs.lemmas.Bool.{agree_below_at, cases_Bool, and_parts, and_fr
 use Rattle.std.proofs.lemmas.List.Folds.{list_any_at}
 use Rattle.srs.specs.declared.piece.Piece.{Piece}
 use Rattle.srs.specs.Piece.{all_pieces, piece_code}
-use Rattle.srs.proofs.CodeLemmas.{piece_code-injective}
-use Rattle.srs.proofs.ShapeLemmas.{each_piece}
+use Rattle.srs.proofs.CallerLemmas.{piece_code-injective, each_piece}
 use Rattle.queue_pattern.specs.declared.element.Element.{Element}
 use Rattle.queue_pattern.specs.Queues.{queues}
 use Rattle.hold_queue.specs.declared.hold.Hold.{Hold}
 use Rattle.hold_queue.specs.Family.{has_set, any_below}
 use Rattle.hold_queue.specs.Permits.{Permits, some_permits}
-use Rattle.hold_queue.specs.States.{rests, count_held, held_code, drawn_by, family_at, any_held, states_permit, IsRest, IsNextFamily, Follows}
+use Rattle.hold_queue.specs.States.{rests, count_held, held_code, drawn_by, family_at, any_held, states_permit, IsRemainder, IsNextFamily, AreStatesAfter}
 use Rattle.hold_queue.proofs.DrawLemmas.{or_cases, or_left, or_right, any_below-from, any_below-to}
 use Rattle.hold_queue.proofs.DrawnRests.{Contains-piece}
 use Rattle.hold_queue.proofs.PermitsTest.{some_permits-decides}
@@ -45,7 +44,7 @@ any_held-to test (Some piece) passes =
 pub record StatePermits (elements : List Element) (hold : Hold) (start : Option Piece) (states : List ℕ) (played : ℕ) (pieces : List Piece) : Type 0 where
   pub held : Option Piece
   pub queue : List Piece
-  pub rest : IsRest elements (drawn_by start played held) (family_at states held) queue
+  pub rest : IsRemainder elements (drawn_by start played held) (family_at states held) queue
   pub permitted : Permits hold queue held pieces
 
 pub states_permit-from : (elements : List Element) (hold : Hold) (start : Option Piece) (states : List ℕ) (played : ℕ) (pieces : List Piece)
@@ -92,8 +91,8 @@ states_permit-next elements hold start states next played piece steps pieces =
     }))
 
 pub follows-next : (elements : List Element) (hold : Hold) (start : Option Piece) (states next : List ℕ) (played : List Piece) (piece : Piece)
-    → Follows elements hold start states played → ((held : Option Piece) → IsNextFamily elements hold start states (length played) piece held (family_at next held))
-    → Follows elements hold start next (played ++ piece ∷ [])
+    → AreStatesAfter elements hold start states played → ((held : Option Piece) → IsNextFamily elements hold start states (length played) piece held (family_at next held))
+    → AreStatesAfter elements hold start next (played ++ piece ∷ [])
 follows-next elements hold start states next played piece so_far steps = record {
   permits_same = λ pieces.
       ap (λ ps. some_permits hold (queues elements) start ps) (append_assoc played (piece ∷ []) pieces)
@@ -170,7 +169,7 @@ unfolding has_set family_at
 first-there None = refl
 first-there (Some piece) = each_piece (λ p. has_set (family_at (first_states (Some p)) (Some p)) 0) refl piece
 
-pub follows-start : (elements : List Element) (hold : Hold) (start : Option Piece) → 0 < length (queues elements) → Follows elements hold start (first_states start) []
+pub follows-start : (elements : List Element) (hold : Hold) (start : Option Piece) → 0 < length (queues elements) → AreStatesAfter elements hold start (first_states start) []
 follows-start elements hold start some = record {
   permits_same = λ pieces. same_tests
       (λ h. let is = (some_permits-decides hold (queues elements) start pieces).0 h in
@@ -200,7 +199,7 @@ follows-start elements hold start some = record {
 
 -- whether the states after a piece are any says whether the piece may be played
 pub may_play-is : (elements : List Element) (hold : Hold) (start : Option Piece) (states next : List ℕ) (played : List Piece) (piece : Piece)
-    → Follows elements hold start states played → ((held : Option Piece) → IsNextFamily elements hold start states (length played) piece held (family_at next held))
+    → AreStatesAfter elements hold start states played → ((held : Option Piece) → IsNextFamily elements hold start states (length played) piece held (family_at next held))
     → (empty : Bool) → IsTrue empty ↔ ((held : Option Piece) (set : ℕ) → set < 128 → has_set (family_at next held) set ≡ false)
     → not empty ≡ some_permits hold (queues elements) start (played ++ piece ∷ [])
 may_play-is elements hold start states next played piece so_far steps empty decides = go empty refl

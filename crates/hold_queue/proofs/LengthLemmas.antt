@@ -2,12 +2,12 @@
 use Rattle.std.proofs.Common.{◌≡◌, ℕ, zero, suc, ◌+◌, ◌≤◌, Option, List, [], ◌∷◌, ◌++◌, length, length-append, map, Contains, ap, ◌∙◌, sym, arith, inl, inr}
 use Rattle.std.proofs.lemmas.List.Sums.{sum_by-cons}
 use Rattle.srs.specs.declared.piece.Piece.{Piece}
-use Rattle.srs.proofs.MemberLemmas.{Contains-none, Contains-cases, Contains-from_flat_map, Contains-from_map}
+use Rattle.lists.proofs.CallerLemmas.{Contains-none, Contains-cases, Contains-from_flat_map, Contains-from_map}
 use Rattle.queue_pattern.specs.declared.element.Element.{Element}
 use Rattle.queue_pattern.specs.Queues.{pieces_in, others, choices, queues, queue_len}
 use Rattle.hold_queue.specs.declared.hold.Hold.{Hold}
 use Rattle.hold_queue.specs.Permits.{Way, plain, exchange, first_hold, last, Permits}
-use Rattle.hold_queue.specs.QueueSet.{Line, LinePermits}
+use Rattle.hold_queue.specs.QueueSet.{QueuesInPlay, QueuesPermit}
 use Rattle.hold_queue.specs.States.{count_held}
 
 choice-length : (n : ℕ) (pieces choice : List Piece) → Contains (choices pieces n) choice → length choice ≡ n
@@ -51,5 +51,5 @@ permits-length hold [] queue held permitted = omega arith
 permits-length hold (piece ∷ pieces) queue held permitted =
     omega (arith, way-length permitted.2, permits-length hold pieces permitted.0 permitted.1 permitted.3)
 
-pub line-length : (line : Line) (pieces : List Piece) → LinePermits line pieces → length pieces ≤ queue_len line.elements + count_held line.held
+pub line-length : (line : QueuesInPlay) (pieces : List Piece) → QueuesPermit line pieces → length pieces ≤ queue_len line.elements + count_held line.held
 line-length line pieces permitted = omega (arith, permits-length line.hold pieces permitted.0 line.held permitted.2, queue-length line.elements permitted.0 permitted.1)

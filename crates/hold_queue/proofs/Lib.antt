@@ -1,12 +1,15 @@
 -- Lemmas on what queues permit, and on the states of a queue set.
-pub mod PermitsTest
-pub mod FamilyBits
-pub mod DrawLemmas
-pub mod InProgress
-pub mod RestLemmas
-pub mod DrawnRests
-pub mod StepLemmas
-pub mod SetFacts
-pub mod FollowLemmas
-pub mod LengthLemmas
-pub mod SupplyLemmas
+mod PermitsTest
+mod FamilyBits
+mod DrawLemmas
+mod InProgress
+mod RestLemmas
+mod DrawnRests
+mod StepLemmas
+mod SetFacts
+mod FollowLemmas
+mod LengthLemmas
+mod SupplyLemmas
+mod AtHandLemmas
+mod CutLemmas
+pub mod CallerLemmas

@@ -4,11 +4,11 @@ use Rattle.std.proofs.lemmas.Bool.{and_parts, and_from}
 use Rattle.std.proofs.lemmas.List.Folds.{Any-from_list_any, list_any-from_Any}
 use Rattle.std.proofs.lemmas.Bool.Decides.{nat_tests}
 use Rattle.srs.specs.declared.piece.Piece.{Piece}
-use Rattle.srs.proofs.CodeLemmas.{piece_code-injective}
+use Rattle.srs.proofs.CallerLemmas.{piece_code-injective}
 use Rattle.hold_queue.specs.declared.hold.Hold.{Hold}
 use Rattle.hold_queue.specs.declared.hold.Hold.TheVariants.{Allowed, Avoided}
-use Rattle.hold_queue.specs.Permits.{Way, plain, exchange, first_hold, last, Permits, SomePermits, permits, some_permits, same_piece, takes_first, takes_held}
-use Rattle.hold_queue.specs.QueueSet.{Line, LinePermits, line_permits}
+use Rattle.hold_queue.specs.Permits.{Way, plain, exchange, first_hold, last, Permits, SomePermits, permits, some_permits, same_piece, plays_first, plays_held}
+use Rattle.hold_queue.specs.QueueSet.{QueuesInPlay, QueuesPermit, queues_permit}
 
 pub same_piece-is : (p q : Piece) → same_piece p q ≡ true → p ≡ q
 same_piece-is p q same = piece_code-injective p q (grind (arith, nat_tests))
@@ -33,7 +33,7 @@ abbrev SomeWay : Hold → List Piece → Option Piece → Piece → (List Piece 
 SomeWay hold queue held piece goes_on = (rest : List Piece) × (after : Option Piece) × Way hold queue held piece rest after × (goes_on rest after ≡ true)
 
 first_way : (hold : Hold) (queue : List Piece) (held : Option Piece) (piece : Piece) (goes_on : List Piece → Option Piece → Bool)
-    → takes_first queue piece (λ rest. goes_on rest held) ≡ true → SomeWay hold queue held piece goes_on
+    → plays_first queue piece (λ rest. goes_on rest held) ≡ true → SomeWay hold queue held piece goes_on
 first_way hold [] held piece goes_on taken = cc
 first_way hold (first ∷ queue) held piece goes_on taken =
     let parts = and_parts (same_piece first piece) (goes_on queue held) taken in
@@ -41,7 +41,7 @@ first_way hold (first ∷ queue) held piece goes_on taken =
     (queue, held, way, parts.1)
 
 held_way : (hold : Hold) (queue : List Piece) (held : Option Piece) (piece : Piece) (goes_on : List Piece → Option Piece → Bool)
-    → takes_held hold queue held piece goes_on ≡ true → SomeWay hold queue held piece goes_on
+    → plays_held hold queue held piece goes_on ≡ true → SomeWay hold queue held piece goes_on
 held_way Avoided queue held piece goes_on taken = cc
 held_way Allowed [] None piece goes_on taken = cc
 held_way Allowed [] (Some kept) piece goes_on taken =
@@ -60,17 +60,17 @@ held_way Allowed (first ∷ second ∷ queue) None piece goes_on taken =
 
 way_taken : {hold : Hold} {queue : List Piece} {held : Option Piece} {piece : Piece} {rest : List Piece} {after : Option Piece} (goes_on : List Piece → Option Piece → Bool)
     → Way hold queue held piece rest after → goes_on rest after ≡ true
-    → (takes_first queue piece (λ r. goes_on r held) || takes_held hold queue held piece goes_on) ≡ true
+    → (plays_first queue piece (λ r. goes_on r held) || plays_held hold queue held piece goes_on) ≡ true
 way_taken goes_on (plain {piece = piece} {queue = queue} {held = held}) on = or_left (same_piece piece piece && goes_on queue held) _ (and_from _ _ (same_piece-itself piece) on)
-way_taken goes_on (exchange {first = first} {queue = queue} {piece = piece}) on = or_right (takes_first (first ∷ queue) piece (λ r. goes_on r (Some piece))) _ (and_from _ _ (same_piece-itself piece) on)
-way_taken goes_on (first_hold {first = first} {piece = piece} {queue = queue}) on = or_right (takes_first (first ∷ piece ∷ queue) piece (λ r. goes_on r None)) _ (and_from _ _ (same_piece-itself piece) on)
-way_taken goes_on (last {piece = piece}) on = or_right (takes_first [] piece (λ r. goes_on r (Some piece))) _ (and_from _ _ (same_piece-itself piece) on)
+way_taken goes_on (exchange {first = first} {queue = queue} {piece = piece}) on = or_right (plays_first (first ∷ queue) piece (λ r. goes_on r (Some piece))) _ (and_from _ _ (same_piece-itself piece) on)
+way_taken goes_on (first_hold {first = first} {piece = piece} {queue = queue}) on = or_right (plays_first (first ∷ piece ∷ queue) piece (λ r. goes_on r None)) _ (and_from _ _ (same_piece-itself piece) on)
+way_taken goes_on (last {piece = piece}) on = or_right (plays_first [] piece (λ r. goes_on r (Some piece))) _ (and_from _ _ (same_piece-itself piece) on)
 
 permits-from : (hold : Hold) (pieces : List Piece) (queue : List Piece) (held : Option Piece) → permits hold queue held pieces ≡ true → Permits hold queue held pieces
 unfolding permits
 permits-from hold [] queue held h = tt
 permits-from hold (piece ∷ pieces) queue held h =
-    elim (or_cases (takes_first queue piece (λ rest. permits hold rest held pieces)) (takes_held hold queue held piece (λ rest after. permits hold rest after pieces)) h) [
+    elim (or_cases (plays_first queue piece (λ rest. permits hold rest held pieces)) (plays_held hold queue held piece (λ rest after. permits hold rest after pieces)) h) [
       | inl first ↦ let way = first_way hold queue held piece (λ rest after. permits hold rest after pieces) first in
           (way.0, way.1, way.2, permits-from hold pieces way.0 way.1 way.3)
       | inr kept ↦ let way = held_way hold queue held piece (λ rest after. permits hold rest after pieces) kept in
@@ -94,5 +94,5 @@ some_permits-decides hold queues held pieces =
       (λ some. list_any-from_Any test queues (some.1.0, some.0, some.1.1, some.1.2, permits-to hold pieces some.0 held some.2)),
     )
 
-pub line_permits-decides : (line : Line) (pieces : List Piece) → (line_permits line pieces ≡ true) ↔ LinePermits line pieces
-line_permits-decides line pieces = some_permits-decides line.hold _ line.held pieces
+pub queues_permit-decides : (line : QueuesInPlay) (pieces : List Piece) → (queues_permit line pieces ≡ true) ↔ QueuesPermit line pieces
+queues_permit-decides line pieces = some_permits-decides line.hold _ line.held pieces

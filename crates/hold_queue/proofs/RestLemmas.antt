@@ -5,12 +5,11 @@ use Rattle.std.proofs.lemmas.Bool.{agree_below_at, cases_lt, lt-ltb, le-ltb, eq-
 use Rattle.std.proofs.lemmas.Nat.Bits.{bit_at-zero}
 use Rattle.srs.specs.declared.piece.Piece.{Piece}
 use Rattle.srs.specs.Piece.{all_pieces, piece_code}
-use Rattle.srs.proofs.ShapeLemmas.{each_piece}
+use Rattle.srs.proofs.CallerLemmas.{each_piece}
 use Rattle.queue_pattern.specs.declared.element.Element.{Element}
 use Rattle.queue_pattern.specs.Grammar.{set_of}
 use Rattle.queue_pattern.specs.Queues.{is_in, pieces_in, others, queues, tails}
-use Rattle.queue_pattern.proofs.QueueLemmas.{tails-none, queues-tails, queues-none}
-use Rattle.queue_pattern.proofs.SetLemmas.{filter_twice, same, same_true}
+use Rattle.queue_pattern.proofs.CallerLemmas.{tails-none, queues-tails, queues-none, filter_twice, same, same_true}
 use Rattle.hold_queue.specs.declared.family.Draw.{Draw}
 use Rattle.hold_queue.specs.States.{in_progress, undrawn, rests}
 

@@ -1,15 +1,14 @@
 -- What holds of each queue set.
-use Rattle.std.proofs.Common.{◌≡◌, ℕ, ◌<◌, ◌≤◌, ◌+◌, length, length-append, take, List, [], ◌∷◌, ◌++◌, Bool, false, not, IsTrue, ◌↔◌, subst, sym, ap, arith, ◌∙◌, Option, Some, None, add-one}
-use Rattle.std.proofs.Common.{set as list_set}
+use Rattle.std.proofs.Common.{◌≡◌, ℕ, ◌<◌, ◌≤◌, ◌+◌, length, length-append, take, List, [], ◌∷◌, ◌++◌, Bool, false, not, IsTrue, ◌↔◌, subst, sym, ap, arith, ◌∙◌, Option, Some, None, add-one, set as list_set}
 use Rattle.std.proofs.Math.Seq.{take-suc-set}
 use Rattle.std.proofs.lemmas.List.{length-take}
 use Rattle.srs.specs.declared.piece.Piece.{Piece}
 use Rattle.queue_pattern.specs.Pattern.{elements_of}
-use Rattle.queue_pattern.proofs.PatternFacts.{pattern-short}
+use Rattle.queue_pattern.proofs.CallerLemmas.{pattern-short}
 use Rattle.hold_queue.specs.declared.set.QueueSet.{QueueSet}
 use Rattle.hold_queue.specs.Family.{has_set}
-use Rattle.hold_queue.specs.QueueSet.{line_of, LinePermits, line_permits}
-use Rattle.hold_queue.specs.States.{Follows, IsNextFamily, family_at, count_held}
+use Rattle.hold_queue.specs.QueueSet.{queues_in_play, QueuesPermit, queues_permit}
+use Rattle.hold_queue.specs.States.{AreStatesAfter, IsNextFamily, family_at, count_held}
 use Rattle.hold_queue.proofs.FollowLemmas.{may_play-is, follows-next}
 use Rattle.hold_queue.proofs.LengthLemmas.{permits-length, queue-length}
 use Rattle.hold_queue.proofs.StepLemmas.{Stands}
@@ -27,16 +26,16 @@ set-stands set = subst (λ n. Stands (elements_of set.pattern) set.held set.stat
 pub set-may_play : (set : QueueSet) (piece : Piece) (next : List ℕ)
     → ((held : Option Piece) → IsNextFamily (elements_of set.pattern) set.hold set.held set.states set.number piece held (family_at next held))
     → (empty : Bool) → IsTrue empty ↔ ((held : Option Piece) (drawn_set : ℕ) → drawn_set < 128 → has_set (family_at next held) drawn_set ≡ false)
-    → not empty ≡ line_permits (line_of set) ((line_of set).played ++ piece ∷ [])
-unfolding line_of
+    → not empty ≡ queues_permit (queues_in_play set) ((queues_in_play set).played ++ piece ∷ [])
+unfolding queues_in_play
 set-may_play set piece next steps empty decides =
     may_play-is (elements_of set.pattern) set.hold set.held set.states next (take set.number set.played) piece set.follows
     (λ held. subst (λ n. IsNextFamily (elements_of set.pattern) set.hold set.held set.states n piece held (family_at next held)) (sym (played-length set)) (steps held))
     empty decides
 
 -- there is room for one more piece where it is permitted
-pub set-room : (set : QueueSet) (piece : Piece) → LinePermits (line_of set) ((line_of set).played ++ piece ∷ []) → set.number < 23
-unfolding line_of
+pub set-room : (set : QueueSet) (piece : Piece) → QueuesPermit (queues_in_play set) ((queues_in_play set).played ++ piece ∷ []) → set.number < 23
+unfolding queues_in_play
 set-room set piece permitted =
     omega (
       arith,
@@ -58,8 +57,8 @@ played-more set piece room = ap (λ n. take n (list_set set.played set.number pi
 -- the states after one more piece stand for the longer list
 pub set-follows : (set : QueueSet) (piece : Piece) (next : List ℕ) → set.number < 23
     → ((held : Option Piece) → IsNextFamily (elements_of set.pattern) set.hold set.held set.states set.number piece held (family_at next held))
-    → Follows (elements_of set.pattern) set.hold set.held next (take (set.number + 1) (list_set set.played set.number piece))
+    → AreStatesAfter (elements_of set.pattern) set.hold set.held next (take (set.number + 1) (list_set set.played set.number piece))
 set-follows set piece next room steps =
-    subst (Follows (elements_of set.pattern) set.hold set.held next) (sym (played-more set piece room))
+    subst (AreStatesAfter (elements_of set.pattern) set.hold set.held next) (sym (played-more set piece room))
     (follows-next (elements_of set.pattern) set.hold set.held set.states next (take set.number set.played) piece set.follows
     (λ held. subst (λ n. IsNextFamily (elements_of set.pattern) set.hold set.held set.states n piece held (family_at next held)) (sym (played-length set)) (steps held)))

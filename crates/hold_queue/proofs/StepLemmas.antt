@@ -2,7 +2,7 @@
 use Rattle.std.proofs.Common.{◌≡◌, ℕ, ◌+◌, ◌<◌, ◌≤◌, true, ◌||◌, Option, Some, None, List, [], ◌∷◌, Contains, refl, ap, ◌∙◌, sym, subst, inl, inr, ◌⊎◌, arith}
 use Rattle.srs.specs.declared.piece.Piece.{Piece}
 use Rattle.srs.specs.declared.piece.Piece.TheVariants.{I, L, O, Z, T, J, S}
-use Rattle.srs.proofs.MemberLemmas.{some_same, Contains-cases, Contains-none}
+use Rattle.lists.proofs.CallerLemmas.{some_same, Contains-cases, Contains-none}
 use Rattle.queue_pattern.specs.declared.element.Element.{Element}
 use Rattle.hold_queue.specs.declared.family.Draw.{Draw}
 use Rattle.hold_queue.specs.declared.family.Family.{Family}
@@ -10,7 +10,7 @@ use Rattle.hold_queue.specs.declared.hold.Hold.{Hold}
 use Rattle.hold_queue.specs.declared.hold.Hold.TheVariants.{Allowed, Avoided}
 use Rattle.hold_queue.specs.Family.{has_set, IsDrawn}
 use Rattle.hold_queue.specs.Permits.{Way, plain, exchange, first_hold, last}
-use Rattle.hold_queue.specs.States.{in_progress, rests, count_held, drawn_by, family_at, IsRest, IsRoomy, CameBy, IsNextFamily}
+use Rattle.hold_queue.specs.States.{in_progress, rests, count_held, drawn_by, family_at, IsRemainder, IsRoomy, CameBy, IsNextFamily}
 use Rattle.hold_queue.proofs.DrawLemmas.{or_cases, or_left, or_right}
 use Rattle.hold_queue.proofs.RestLemmas.{stands, rests-done}
 use Rattle.hold_queue.proofs.DrawnRests.{moves-back, rest-on, rest-back, roomy-on, begins-none}
@@ -20,16 +20,16 @@ pub record IsUnion (f g both : Family) : Type 0 where
   pub each : (set : ℕ) → set < 128 → has_set both set ≡ (has_set f set || has_set g set)
 
 union-from : {elements : List Element} {drawn : ℕ} {queue : List Piece} (f g both : Family) → IsUnion f g both
-    → IsRest elements drawn both queue → IsRest elements drawn f queue ⊎ IsRest elements drawn g queue
+    → IsRemainder elements drawn both queue → IsRemainder elements drawn f queue ⊎ IsRemainder elements drawn g queue
 union-from f g both union rest = elim (or_cases (has_set f rest.drawn_set) (has_set g rest.drawn_set) (sym (union.each rest.drawn_set rest.within) ∙ rest.has)) [
   | inl one ↦ inl (record { drawn_set = rest.drawn_set; within = rest.within; has = one; there = rest.there })
   | inr two ↦ inr (record { drawn_set = rest.drawn_set; within = rest.within; has = two; there = rest.there })
 ]
 
-union-left : {elements : List Element} {drawn : ℕ} {queue : List Piece} (f g both : Family) → IsUnion f g both → IsRest elements drawn f queue → IsRest elements drawn both queue
+union-left : {elements : List Element} {drawn : ℕ} {queue : List Piece} (f g both : Family) → IsUnion f g both → IsRemainder elements drawn f queue → IsRemainder elements drawn both queue
 union-left f g both union rest = record { drawn_set = rest.drawn_set; within = rest.within; has = union.each rest.drawn_set rest.within ∙ or_left _ _ rest.has; there = rest.there }
 
-union-right : {elements : List Element} {drawn : ℕ} {queue : List Piece} (f g both : Family) → IsUnion f g both → IsRest elements drawn g queue → IsRest elements drawn both queue
+union-right : {elements : List Element} {drawn : ℕ} {queue : List Piece} (f g both : Family) → IsUnion f g both → IsRemainder elements drawn g queue → IsRemainder elements drawn both queue
 union-right f g both union rest = record { drawn_set = rest.drawn_set; within = rest.within; has = union.each rest.drawn_set rest.within ∙ or_right _ _ rest.has; there = rest.there }
 
 union-cases : (f g both : Family) → IsUnion f g both → (set : ℕ) → set < 128 → has_set both set ≡ true → (has_set f set ≡ true) ⊎ (has_set g set ≡ true)
@@ -92,12 +92,12 @@ module _ (elements : List Element) (start : Option Piece) (states : List ℕ) (p
       same_way avoided last = cc
 
       goes : (queue : List Piece) (held_before : Option Piece) (before : List Piece) → Way Avoided before held_before piece queue held
-          → IsRest elements (drawn_by start played held_before) (family_at states held_before) before → IsRest elements (drawn_by start (played + 1) held) after queue
+          → IsRemainder elements (drawn_by start played held_before) (family_at states held_before) before → IsRemainder elements (drawn_by start (played + 1) held) after queue
       goes queue held_before before way rest =
           let same = same_way refl way in
           rest-on elements (drawn_by start played held) (drawn_by start (played + 1) held) piece (family_at states held) after drawn (counts_same held) queue
-          (subst (λ q. IsRest elements (drawn_by start played held) (family_at states held) q) same.0
-          (subst (λ h. IsRest elements (drawn_by start played h) (family_at states h) before) same.1 rest))
+          (subst (λ q. IsRemainder elements (drawn_by start played held) (family_at states held) q) same.0
+          (subst (λ h. IsRemainder elements (drawn_by start played h) (family_at states h) before) same.1 rest))
 
   -- the ways that leave nothing held
   NoneWay : List Piece → Option Piece → Piece → List Piece → Type 0
@@ -129,14 +129,14 @@ module _ (elements : List Element) (start : Option Piece) (states : List ℕ) (p
   }
     where
       goes : (queue : List Piece) (held_before : Option Piece) (before : List Piece) → NoneWay before held_before piece queue
-          → IsRest elements (drawn_by start played held_before) (family_at states held_before) before → IsRest elements (drawn_by start (played + 1) None) after queue
+          → IsRemainder elements (drawn_by start played held_before) (family_at states held_before) before → IsRemainder elements (drawn_by start (played + 1) None) after queue
       goes queue held_before before (inl same) rest =
           rest-on elements (drawn_by start played None) (drawn_by start (played + 1) None) piece (family_at states None) after drawn (counts_same None) queue
-          (subst (λ q. IsRest elements (drawn_by start played None) (family_at states None) q) same.0
-          (subst (λ h. IsRest elements (drawn_by start played h) (family_at states h) before) same.1 rest))
+          (subst (λ q. IsRemainder elements (drawn_by start played None) (family_at states None) q) same.0
+          (subst (λ h. IsRemainder elements (drawn_by start played h) (family_at states h) before) same.1 rest))
       goes queue held_before before (inr same) rest =
-          let held_rest = subst (λ h. IsRest elements (drawn_by start played h) (family_at states h) before) same.1 rest in
-          let ended = subst (λ q. IsRest elements (drawn_by start played (Some piece)) (family_at states (Some piece)) q) same.0 held_rest in
+          let held_rest = subst (λ h. IsRemainder elements (drawn_by start played h) (family_at states h) before) same.1 rest in
+          let ended = subst (λ q. IsRemainder elements (drawn_by start played (Some piece)) (family_at states (Some piece)) q) same.0 held_rest in
           let at = stands elements (drawn_by start played (Some piece)) draw is in
           absurd (begins-none _ at.more at.later (subst (λ qs. Contains qs []) (at.now ended.drawn_set) ended.there))
 
@@ -175,30 +175,30 @@ module _ (elements : List Element) (start : Option Piece) (states : List ℕ) (p
         | inr there ↦ absurd (Contains-none queue there)
       ]
 
-      came_last : (queue : List Piece) → IsRest elements (drawn_by start (played + 1) None) (family_at states (Some piece)) queue → CameBy elements Allowed start states played piece None queue
+      came_last : (queue : List Piece) → IsRemainder elements (drawn_by start (played + 1) None) (family_at states (Some piece)) queue → CameBy elements Allowed start states played piece None queue
       came_last queue rest =
-          let here = subst (λ n. IsRest elements n (family_at states (Some piece)) queue) same_number rest in
+          let here = subst (λ n. IsRemainder elements n (family_at states (Some piece)) queue) same_number rest in
           let empty = only here.drawn_set queue here.there in
           subst (λ q. CameBy elements Allowed start states played piece None q) empty (record {
             held_before = Some piece;
             queue_before = [];
             way = last;
-            rest = subst (λ q. IsRest elements (drawn_by start played (Some piece)) (family_at states (Some piece)) q) (sym empty) here;
+            rest = subst (λ q. IsRemainder elements (drawn_by start played (Some piece)) (family_at states (Some piece)) q) (sym empty) here;
           })
 
       goes : (queue : List Piece) (held_before : Option Piece) (before : List Piece) → NoneWay before held_before piece queue
-          → IsRest elements (drawn_by start played held_before) (family_at states held_before) before → IsRest elements (drawn_by start (played + 1) None) both queue
+          → IsRemainder elements (drawn_by start played held_before) (family_at states held_before) before → IsRemainder elements (drawn_by start (played + 1) None) both queue
       goes queue held_before before (inl same) rest =
           union-left drawn_on (family_at states (Some piece)) both union
           (rest-on elements (drawn_by start played None) (drawn_by start (played + 1) None) piece (family_at states None) drawn_on drawn (counts_same None) queue
-          (subst (λ q. IsRest elements (drawn_by start played None) (family_at states None) q) same.0
-          (subst (λ h. IsRest elements (drawn_by start played h) (family_at states h) before) same.1 rest)))
+          (subst (λ q. IsRemainder elements (drawn_by start played None) (family_at states None) q) same.0
+          (subst (λ h. IsRemainder elements (drawn_by start played h) (family_at states h) before) same.1 rest)))
       goes queue held_before before (inr same) rest =
-          let held_rest = subst (λ h. IsRest elements (drawn_by start played h) (family_at states h) before) same.1 rest in
-          let ended = subst (λ q. IsRest elements (drawn_by start played (Some piece)) (family_at states (Some piece)) q) same.0 held_rest in
-          subst (λ q. IsRest elements (drawn_by start (played + 1) None) both q) (sym same.2)
+          let held_rest = subst (λ h. IsRemainder elements (drawn_by start played h) (family_at states h) before) same.1 rest in
+          let ended = subst (λ q. IsRemainder elements (drawn_by start played (Some piece)) (family_at states (Some piece)) q) same.0 held_rest in
+          subst (λ q. IsRemainder elements (drawn_by start (played + 1) None) both q) (sym same.2)
           (union-right drawn_on (family_at states (Some piece)) both union
-          (subst (λ n. IsRest elements n (family_at states (Some piece)) []) (sym same_number) ended))
+          (subst (λ n. IsRemainder elements n (family_at states (Some piece)) []) (sym same_number) ended))
 
   -- the ways that leave a piece held
   SomeWay : Hold → List Piece → Option Piece → Piece → List Piece → Piece → Type 0
@@ -277,13 +277,13 @@ module _ (elements : List Element) (start : Option Piece) (states : List ℕ) (p
           omega (arith, so_far.drawn_fits None m.drawn_set m.within m.has)
 
       at : (held_before held : Option Piece) (before queue : List Piece) → before ≡ queue → held_before ≡ held
-          → IsRest elements (drawn_by start played held_before) (family_at states held_before) before → IsRest elements (drawn_by start played held) (family_at states held) queue
+          → IsRemainder elements (drawn_by start played held_before) (family_at states held_before) before → IsRemainder elements (drawn_by start played held) (family_at states held) queue
       at held_before held before queue same_queue same_held rest =
-          subst (λ q. IsRest elements (drawn_by start played held) (family_at states held) q) same_queue
-          (subst (λ h. IsRest elements (drawn_by start played h) (family_at states h) before) same_held rest)
+          subst (λ q. IsRemainder elements (drawn_by start played held) (family_at states held) q) same_queue
+          (subst (λ h. IsRemainder elements (drawn_by start played h) (family_at states h) before) same_held rest)
 
       goes : (queue : List Piece) (held_before : Option Piece) (before : List Piece) → SomeWay Allowed before held_before piece queue first
-          → IsRest elements (drawn_by start played held_before) (family_at states held_before) before → IsRest elements (drawn_by start (played + 1) (Some first)) all queue
+          → IsRemainder elements (drawn_by start played held_before) (family_at states held_before) before → IsRemainder elements (drawn_by start (played + 1) (Some first)) all queue
       goes queue held_before before (inl same) rest =
           union-left two held_first all union_all (union-left kept exchanged two union_two
           (rest-on elements (drawn_by start played (Some first)) now piece (family_at states (Some first)) kept drawn_kept (counts_same (Some first)) queue
@@ -298,14 +298,14 @@ module _ (elements : List Element) (start : Option Piece) (states : List ℕ) (p
           (rest-on elements (drawn_by start played None) middle first (family_at states None) after_first drawn_first (counts_first first) (piece ∷ queue)
           (at held_before None before (first ∷ piece ∷ queue) same.0 same.1 rest)))
 
--- a draw that a call made, in the words of the states
+-- a draw that a call made, in the numbers of the states
 pub drawn_by_draw : {draw place : Option Draw} {piece : Piece} {before after : Family} → IsDrawn draw piece before after → draw ≡ place → IsDrawn place piece before after
 drawn_by_draw {piece = piece} {before = before} {after = after} drawn is = subst (λ d. IsDrawn d piece before after) is drawn
 
 pub drawn_at : {draw place : Option Draw} {piece : Piece} {family before after : Family} → IsDrawn draw piece family after → draw ≡ place → family ≡ before → IsDrawn place piece before after
 drawn_at {place = place} {piece = piece} {after = after} drawn is same = subst (λ f. IsDrawn place piece f after) same (drawn_by_draw drawn is)
 
--- the families of eight pairs of words
+-- the families of eight pairs of numbers
 pub each_held : (P : Option Piece → Family → Type 0) (none i l o z t j s : Family)
     → P None none → P (Some I) i → P (Some L) l → P (Some O) o → P (Some Z) z → P (Some T) t → P (Some J) j → P (Some S) s → (held : Option Piece)
     → P held (family_at (none.low ∷ none.high ∷ i.low ∷ i.high ∷ l.low ∷ l.high ∷ o.low ∷ o.high ∷ z.low ∷ z.high ∷ t.low ∷ t.high ∷ j.low ∷ j.high ∷ s.low ∷ s.high ∷ []) held)

@@ -7,13 +7,13 @@ use Rattle.std.proofs.lemmas.Option.{get_or_from_slice_get, slice_get_within}
 use Rattle.std.proofs.lemmas.List.Sums.{sum_by-cons, sum_by-append}
 use Rattle.srs.specs.declared.piece.Piece.{Piece}
 use Rattle.srs.specs.Piece.{all_pieces, piece_code}
-use Rattle.srs.proofs.CodeLemmas.{piece_code-injective}
-use Rattle.srs.proofs.MemberLemmas.{Contains-none, Contains-cases, Contains-from_filter, Contains-from_flat_map, Contains-from_map}
+use Rattle.srs.proofs.CallerLemmas.{piece_code-injective}
+use Rattle.lists.proofs.CallerLemmas.{Contains-none, Contains-cases, Contains-from_filter, Contains-from_flat_map, Contains-from_map}
 use Rattle.queue_pattern.specs.declared.element.Element.{Element}
 use Rattle.queue_pattern.specs.Queues.{pieces_in, others, choices, queues}
 use Rattle.hold_queue.specs.declared.hold.Hold.{Hold}
 use Rattle.hold_queue.specs.Permits.{Way, plain, exchange, first_hold, last, Permits}
-use Rattle.hold_queue.specs.QueueSet.{Line, LinePermits}
+use Rattle.hold_queue.specs.QueueSet.{QueuesInPlay, QueuesPermit}
 use Rattle.hold_queue.specs.Supply.{from_hold, supply_of}
 
 abbrev is : Piece → Piece → Bool
@@ -129,7 +129,7 @@ count-le : {X : Type 0} (test : X → Bool) (xs : List X) → count_by test xs �
 count-le test [] = omega arith
 count-le test (x ∷ xs) = omega (arith, count-cons test x xs, one_if-le (test x), count-le test xs)
 
-pub supply-enough : (line : Line) (more : List Piece) (piece : Piece) → LinePermits line (line.played ++ more) → count_by (is piece) more ≤ supply_of line (length more) piece
+pub supply-enough : (line : QueuesInPlay) (more : List Piece) (piece : Piece) → QueuesPermit line (line.played ++ more) → count_by (is piece) more ≤ supply_of line (length more) piece
 supply-enough line more piece permitted =
     omega (
       arith,

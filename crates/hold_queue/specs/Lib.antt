@@ -1,6 +1,8 @@
--- The definitions that the contracts of this crate cite.
+-- What a reader must believe
 pub mod Permits
 pub mod QueueSet
 pub mod Supply
+pub mod AtHand
+-- What serves proofs alone
 pub mod Family
 pub mod States

@@ -9,9 +9,12 @@ use Rattle.hold_queue.specs.declared.hold.Hold.TheVariants.{Allowed, Avoided}
 -- The four ways to get the next piece from a queue and a held piece, if any; then the piece that is played, the queue
 -- that is left, and what is held afterwards.
 pub data Way : Hold → List Piece → Option Piece → Piece → List Piece → Option Piece → Type 0 where
-  plain : {hold : Hold} {piece : Piece} {queue : List Piece} {held : Option Piece} → Way hold (piece ∷ queue) held piece queue held
-  exchange : {first : Piece} {queue : List Piece} {piece : Piece} → Way Allowed (first ∷ queue) (Some piece) piece queue (Some first)
-  first_hold : {first : Piece} {piece : Piece} {queue : List Piece} → Way Allowed (first ∷ piece ∷ queue) None piece queue (Some first)
+  plain : {hold : Hold} {piece : Piece} {queue : List Piece} {held : Option Piece}
+      → Way hold (piece ∷ queue) held piece queue held
+  exchange : {first : Piece} {queue : List Piece} {piece : Piece}
+      → Way Allowed (first ∷ queue) (Some piece) piece queue (Some first)
+  first_hold : {first : Piece} {piece : Piece} {queue : List Piece}
+      → Way Allowed (first ∷ piece ∷ queue) None piece queue (Some first)
   last : {piece : Piece} → Way Allowed [] (Some piece) piece [] None
 
 -- some choice of ways plays these pieces, one after the other, from a queue and a held piece; pieces may be left over
@@ -29,26 +32,26 @@ abbrev pub same_piece : Piece → Piece → Bool
 same_piece p q = piece_code p == piece_code q
 
 -- by the first piece of the queue, or by the second with the first held, or by the held piece
-abbrev pub takes_second : List Piece → Piece → (List Piece → Bool) → Bool
-takes_second [] piece goes_on = false
-takes_second (second ∷ queue) piece goes_on = same_piece second piece && goes_on queue
+abbrev pub plays_second : List Piece → Piece → (List Piece → Bool) → Bool
+plays_second [] piece goes_on = false
+plays_second (second ∷ queue) piece goes_on = same_piece second piece && goes_on queue
 
-abbrev pub takes_held : Hold → List Piece → Option Piece → Piece → (List Piece → Option Piece → Bool) → Bool
-takes_held Avoided queue held piece goes_on = false
-takes_held Allowed [] None piece goes_on = false
-takes_held Allowed [] (Some kept) piece goes_on = same_piece kept piece && goes_on [] None
-takes_held Allowed (first ∷ queue) (Some kept) piece goes_on = same_piece kept piece && goes_on queue (Some first)
-takes_held Allowed (first ∷ queue) None piece goes_on = takes_second queue piece (λ rest. goes_on rest (Some first))
+abbrev pub plays_held : Hold → List Piece → Option Piece → Piece → (List Piece → Option Piece → Bool) → Bool
+plays_held Avoided queue held piece goes_on = false
+plays_held Allowed [] None piece goes_on = false
+plays_held Allowed [] (Some kept) piece goes_on = same_piece kept piece && goes_on [] None
+plays_held Allowed (first ∷ queue) (Some kept) piece goes_on = same_piece kept piece && goes_on queue (Some first)
+plays_held Allowed (first ∷ queue) None piece goes_on = plays_second queue piece (λ rest. goes_on rest (Some first))
 
-abbrev pub takes_first : List Piece → Piece → (List Piece → Bool) → Bool
-takes_first [] piece goes_on = false
-takes_first (first ∷ queue) piece goes_on = same_piece first piece && goes_on queue
+abbrev pub plays_first : List Piece → Piece → (List Piece → Bool) → Bool
+plays_first [] piece goes_on = false
+plays_first (first ∷ queue) piece goes_on = same_piece first piece && goes_on queue
 
 unfoldable pub permits : Hold → List Piece → Option Piece → List Piece → Bool
 permits hold queue held [] = true
 permits hold queue held (piece ∷ pieces) =
-    takes_first queue piece (λ rest. permits hold rest held pieces)
-    || takes_held hold queue held piece (λ rest after. permits hold rest after pieces)
+    plays_first queue piece (λ rest. permits hold rest held pieces)
+    || plays_held hold queue held piece (λ rest after. permits hold rest after pieces)
 
 -- the test of `SomePermits`
 abbrev pub some_permits : Hold → List (List Piece) → Option Piece → List Piece → Bool

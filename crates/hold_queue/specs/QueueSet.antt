@@ -9,7 +9,7 @@ use Rattle.hold_queue.specs.declared.hold.Hold.{Hold}
 use Rattle.hold_queue.specs.declared.set.QueueSet.{QueueSet}
 use Rattle.hold_queue.specs.Permits.{SomePermits, some_permits}
 
-pub record Line : Type 0 where
+pub record QueuesInPlay : Type 0 where
   pub elements : List Element
   pub hold : Hold
   pub held : Option Piece
@@ -19,13 +19,14 @@ pub record Line : Type 0 where
 abbrev pub singles : List Piece → List Element
 singles queue = map (λ piece. record { set = set_of piece; chosen = 1 }) queue
 
-unfoldable pub line_of : QueueSet → Line
-line_of set = record { elements = elements_of set.pattern; hold = set.hold; held = set.held; played = take set.number set.played }
+unfoldable pub queues_in_play : QueueSet → QueuesInPlay
+queues_in_play set =
+    record { elements = elements_of set.pattern; hold = set.hold; held = set.held; played = take set.number set.played }
 
 -- one of the queues permits these pieces from the start
-abbrev pub LinePermits : Line → List Piece → Type 0
-LinePermits line pieces = SomePermits line.hold (queues line.elements) line.held pieces
+abbrev pub QueuesPermit : QueuesInPlay → List Piece → Type 0
+QueuesPermit line pieces = SomePermits line.hold (queues line.elements) line.held pieces
 
--- the test of `LinePermits`
-abbrev pub line_permits : Line → List Piece → Bool
-line_permits line pieces = some_permits line.hold (queues line.elements) line.held pieces
+-- the test of `QueuesPermit`
+abbrev pub queues_permit : QueuesInPlay → List Piece → Bool
+queues_permit line pieces = some_permits line.hold (queues line.elements) line.held pieces

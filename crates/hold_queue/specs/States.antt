@@ -34,7 +34,8 @@ abbrev pub count_held : Option Piece → ℕ
 count_held None = 0
 count_held (Some piece) = 1
 
--- how many pieces are drawn from the queue after so many are played: each was played, or is held and was not at the start
+-- how many pieces are drawn from the queue after so many are played: each was played, or is held and was not at the
+-- start
 abbrev pub drawn_by : Option Piece → ℕ → Option Piece → ℕ
 drawn_by start played held = played + count_held held - count_held start
 
@@ -45,14 +46,15 @@ held_code (Some piece) = piece_code piece
 
 -- the family of drawn sets that go with what is held
 unfoldable pub family_at : List ℕ → Option Piece → Family
-family_at states held = record { low = slice_index states (2 * held_code held); high = slice_index states (2 * held_code held + 1) }
+family_at states held =
+    record { low = slice_index states (2 * held_code held); high = slice_index states (2 * held_code held + 1) }
 
 -- whether nothing or some piece passes a test
 abbrev pub any_held : (Option Piece → Bool) → Bool
 any_held test = test None || list_any (λ piece. test (Some piece)) all_pieces
 
 -- one of the queues that may follow from a set of a family
-pub record IsRest (elements : List Element) (drawn : ℕ) (family : Family) (queue : List Piece) : Type 0 where
+pub record IsRemainder (elements : List Element) (drawn : ℕ) (family : Family) (queue : List Piece) : Type 0 where
   pub drawn_set : ℕ
   pub within : drawn_set < 128
   pub has : has_set family drawn_set ≡ true
@@ -63,16 +65,20 @@ pub record IsRoomy (elements : List Element) (drawn : ℕ) (family : Family) : T
   pub each : (set : ℕ) → set < 128 → has_set family set ≡ true → 0 < length (rests elements drawn set)
 
 -- a way to play a piece that leaves this queue and held piece, from one of the queues that may follow in some state
-pub record CameBy (elements : List Element) (hold : Hold) (start : Option Piece) (states : List ℕ) (played : ℕ) (piece : Piece) (held : Option Piece) (queue : List Piece) : Type 0 where
+pub record CameBy (elements : List Element) (hold : Hold) (start : Option Piece) (states : List ℕ) (played : ℕ)
+    (piece : Piece) (held : Option Piece) (queue : List Piece) : Type 0 where
   pub held_before : Option Piece
   pub queue_before : List Piece
   pub way : Way hold queue_before held_before piece queue held
-  pub rest : IsRest elements (drawn_by start played held_before) (family_at states held_before) queue_before
+  pub rest : IsRemainder elements (drawn_by start played held_before) (family_at states held_before) queue_before
 
 -- the family that goes with what is held after one more piece is played
-pub record IsNextFamily (elements : List Element) (hold : Hold) (start : Option Piece) (states : List ℕ) (played : ℕ) (piece : Piece) (held : Option Piece) (family : Family) : Type 0 where
-  pub came : (queue : List Piece) → IsRest elements (drawn_by start (played + 1) held) family queue → CameBy elements hold start states played piece held queue
-  pub goes : (queue : List Piece) → CameBy elements hold start states played piece held queue → IsRest elements (drawn_by start (played + 1) held) family queue
+pub record IsNextFamily (elements : List Element) (hold : Hold) (start : Option Piece) (states : List ℕ)
+    (played : ℕ) (piece : Piece) (held : Option Piece) (family : Family) : Type 0 where
+  pub came : (queue : List Piece) → IsRemainder elements (drawn_by start (played + 1) held) family queue
+      → CameBy elements hold start states played piece held queue
+  pub goes : (queue : List Piece) → CameBy elements hold start states played piece held queue
+      → IsRemainder elements (drawn_by start (played + 1) held) family queue
   pub roomy : IsRoomy elements (drawn_by start (played + 1) held) family
   pub drawn_fits : (set : ℕ) → set < 128 → has_set family set ≡ true → count_held start ≤ played + 1 + count_held held
 
@@ -83,9 +89,11 @@ states_permit elements hold start states played pieces =
     && some_permits hold (rests elements (drawn_by start played held) set) held pieces) 128)
 
 -- the states are those after these played pieces
-pub record Follows (elements : List Element) (hold : Hold) (start : Option Piece) (states : List ℕ) (played : List Piece) : Type 0 where
+pub record AreStatesAfter (elements : List Element) (hold : Hold) (start : Option Piece) (states : List ℕ)
+    (played : List Piece) : Type 0 where
   pub permits_same : (pieces : List Piece)
-      → some_permits hold (queues elements) start (played ++ pieces) ≡ states_permit elements hold start states (length played) pieces
+      → some_permits hold (queues elements) start (played ++ pieces)
+      ≡ states_permit elements hold start states (length played) pieces
   pub some : (held : Option Piece) (set : ℕ) → set < 128 → has_set (family_at states held) set ≡ true
       → 0 < length (rests elements (drawn_by start (length played) held) set)
   pub drawn_fits : (held : Option Piece) (set : ℕ) → set < 128 → has_set (family_at states held) set ≡ true

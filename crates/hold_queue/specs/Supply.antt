@@ -5,7 +5,7 @@ use Rattle.srs.specs.declared.piece.Piece.{Piece}
 use Rattle.srs.specs.Piece.{all_pieces, piece_code}
 use Rattle.hold_queue.specs.declared.hold.Hold.{Hold}
 use Rattle.hold_queue.specs.declared.hold.Hold.TheVariants.{Allowed}
-use Rattle.hold_queue.specs.QueueSet.{Line}
+use Rattle.hold_queue.specs.QueueSet.{QueuesInPlay}
 
 -- one where hold is allowed and this piece is held at the start
 abbrev pub from_hold : Hold → Option Piece → Piece → ℕ
@@ -14,11 +14,12 @@ from_hold _ _ piece = 0
 
 -- the smaller of the pieces left to play and of the elements whose set has this piece, with one that is held at the
 -- start, less those that were played
-abbrev pub supply_of : Line → ℕ → Piece → ℕ
+abbrev pub supply_of : QueuesInPlay → ℕ → Piece → ℕ
 supply_of line left piece =
-    min left (count_by (λ element. bit_at element.set (piece_code piece - 1) == 1) line.elements + from_hold line.hold line.held piece
+    min left (count_by (λ element. bit_at element.set (piece_code piece - 1) == 1) line.elements
+    + from_hold line.hold line.held piece
     - count_by (λ played. piece_code played == piece_code piece) line.played)
 
 -- the entries in the order of codes
-abbrev pub supplies : Line → ℕ → List ℕ
+abbrev pub supplies : QueuesInPlay → ℕ → List ℕ
 supplies line left = map (supply_of line left) all_pieces

@@ -9,8 +9,8 @@ ghost use Rattle.hold_queue.specs.States;
 use queue_pattern::{Element, Pattern};
 use srs::Piece;
 
-/// A family of sets of pieces, one bit for each of the 128 sets: the low word has those without S, the high word those
-/// with it. In the number of a set bit `c - 1` stands for the piece with code `c`.
+/// A family of sets of pieces, one bit for each of the 128 sets: the low number has those without S, the high number
+/// those with it. In the number of a set bit `c - 1` stands for the piece with code `c`.
 #[derive(Clone, Copy)]
 pub struct Family {
     pub low: u64,
@@ -50,11 +50,11 @@ pub fn in_progress(pattern: &Pattern, drawn: u8) -> Option<Draw>
     None
 }
 
-/// Whether no bit of a word is set.
-fn has_none(word: u64) -> bool
-    ensures { IsTrue result ↔ ((place : ℕ) → place < 64 → (bit_at word place == 1) ≡ false) }
+/// Whether no bit of a number is set.
+fn has_none(bits: u64) -> bool
+    ensures { IsTrue result ↔ ((place : ℕ) → place < 64 → (bit_at bits place == 1) ≡ false) }
 {
-    word == 0
+    bits == 0
 }
 
 impl Family {

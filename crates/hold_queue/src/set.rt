@@ -2,7 +2,7 @@
 ghost use Rattle.std.specs.Prelude.{◌≡◌, ℕ, ◌*◌, ◌≤◌, ◌<◌, ◌↔◌, IsTrue, length, take, Option, Some, None, false};
 ghost use Rattle.srs.specs.declared.piece.Piece.{Piece};
 ghost use Rattle.queue_pattern.specs.Pattern.{elements_of};
-ghost use Rattle.hold_queue.specs.States.{Follows};
+ghost use Rattle.hold_queue.specs.States.{AreStatesAfter};
 ghost use Rattle.hold_queue.specs.Family.{has_set};
 ghost use Rattle.hold_queue.specs.States;
 
@@ -13,7 +13,8 @@ use queue_pattern::{Pattern, Queue};
 use srs::Piece;
 
 /// The queues of a pattern, a hold rule, a piece held at the start or none, and the pieces that were played since. The
-/// states are the families of drawn sets: two words for each piece that may be held, by its code, and for none.
+/// states are the families of drawn sets: two numbers of 64 bits for each piece that may be held, by its code, and for
+/// none.
 #[derive(Clone, Copy)]
 pub struct QueueSet {
     pattern: Pattern,
@@ -24,7 +25,7 @@ pub struct QueueSet {
     states: [u64; 16],
     ghost room: { length played ≡ 23 },
     ghost within: { number ≤ 23 },
-    ghost follows: { Follows (elements_of pattern) hold held states (take number played) },
+    ghost follows: { AreStatesAfter (elements_of pattern) hold held states (take number played) },
 }
 
 /// What the next piece is drawn from where nothing is held, and where a piece is held.
@@ -34,7 +35,7 @@ struct Draws {
     holding: Option<Draw>,
 }
 
-/// Where the two words for what is held stand among the states.
+/// Where the two numbers for what is held stand among the states.
 fn place_of(held: Option<Piece>) -> usize
     ensures value { result ≡ 2 * States.held_code held }
     ensures within { result ≤ 14 }
@@ -58,7 +59,8 @@ fn family_at(states: &[u64; 16], held: Option<Piece>) -> Family
 
 /// Whether there is no state.
 fn is_empty(states: &[u64; 16]) -> bool
-    ensures { IsTrue result ↔ ((held : Option Piece) (set : ℕ) → set < 128 → has_set (States.family_at states.now held) set ≡ false) }
+    ensures { IsTrue result ↔ ((held : Option Piece) (set : ℕ) → set < 128 →
+        has_set (States.family_at states.now held) set ≡ false) }
 {
     if !family_at(states, None).is_empty() {
         return false;
@@ -73,13 +75,14 @@ fn is_empty(states: &[u64; 16]) -> bool
 
 impl QueueSet {
     ghost use Rattle.std.specs.Prelude.{◌+◌, List, [], ◌∷◌, ◌++◌};
-    ghost use Rattle.hold_queue.specs.QueueSet.{Line, line_of, singles, LinePermits, line_permits};
+    ghost use Rattle.hold_queue.specs.QueueSet.{QueuesInPlay, queues_in_play, singles, QueuesPermit, queues_permit};
     ghost use Rattle.hold_queue.specs.States.{drawn_by, in_progress, IsNextFamily, family_at};
     ghost use Rattle.hold_queue.specs.Supply.{supplies, supply_of};
 
     /// The queues of a pattern, with nothing played.
     pub fn start(pattern: &Pattern, hold: Hold, held: Option<Piece>) -> QueueSet
-        ensures { line_of result ≡ record { elements = elements_of pattern.now; hold = hold; held = held; played = [] } }
+        ensures { queues_in_play result
+            ≡ record { elements = elements_of pattern.now; hold = hold; held = held; played = [] } }
     {
         let mut states = [0; 16];
         states[place_of(held)] = 1;
@@ -95,15 +98,18 @@ impl QueueSet {
 
     /// One queue, with nothing played.
     pub fn start_one(queue: &Queue, hold: Hold, held: Option<Piece>) -> QueueSet
-        ensures { line_of result ≡ record { elements = singles queue.now.items; hold = hold; held = held; played = [] } }
+        ensures { queues_in_play result
+            ≡ record { elements = singles queue.now.items; hold = hold; held = held; played = [] } }
     {
         QueueSet::start(&Pattern::from_queue(queue), hold, held)
     }
 
     /// What the next piece is drawn from.
     fn draws(&self) -> Draws
-        ensures empty_handed { result.empty_handed ≡ in_progress (elements_of self.now.pattern) (drawn_by self.now.held self.now.number None) }
-        ensures holding { (piece : Piece) → result.holding ≡ in_progress (elements_of self.now.pattern) (drawn_by self.now.held self.now.number (Some piece)) }
+        ensures empty_handed { result.empty_handed ≡ in_progress (elements_of self.now.pattern)
+            (drawn_by self.now.held self.now.number None) }
+        ensures holding { (piece : Piece) → result.holding
+            ≡ in_progress (elements_of self.now.pattern) (drawn_by self.now.held self.now.number (Some piece)) }
     {
         let at_start = u8::from(self.held.is_some());
         let empty_handed = in_progress(&self.pattern, self.number.saturating_sub(at_start));
@@ -117,9 +123,12 @@ impl QueueSet {
     /// The drawn sets after one more piece where nothing is held then: it was drawn, or it was held and the queue is
     /// used up.
     fn next_empty_handed(&self, draws: Draws, piece: Piece) -> Family
-        requires empty_handed { draws.empty_handed ≡ in_progress (elements_of self.now.pattern) (drawn_by self.now.held self.now.number None) }
-        requires holding { (piece : Piece) → draws.holding ≡ in_progress (elements_of self.now.pattern) (drawn_by self.now.held self.now.number (Some piece)) }
-        ensures { IsNextFamily (elements_of self.now.pattern) self.now.hold self.now.held self.now.states self.now.number piece None result }
+        requires empty_handed { draws.empty_handed ≡ in_progress (elements_of self.now.pattern)
+            (drawn_by self.now.held self.now.number None) }
+        requires holding { (piece : Piece) → draws.holding
+            ≡ in_progress (elements_of self.now.pattern) (drawn_by self.now.held self.now.number (Some piece)) }
+        ensures { IsNextFamily (elements_of self.now.pattern) self.now.hold self.now.held self.now.states
+            self.now.number piece None result }
     {
         let plain = family_at(&self.states, None).draw(draws.empty_handed, piece);
         if let Hold::Avoided = self.hold {
@@ -131,12 +140,15 @@ impl QueueSet {
         plain.or(family_at(&self.states, Some(piece)))
     }
 
-    /// The drawn sets after one more piece where `first` is held then: it stays held, or it is drawn and takes the place
-    /// of the piece, or it is drawn before the piece.
+    /// The drawn sets after one more piece where `first` is held then: it stays held, or it is drawn and takes the
+    /// place of the piece, or it is drawn before the piece.
     fn next_holding(&self, draws: Draws, piece: Piece, first: Piece) -> Family
-        requires empty_handed { draws.empty_handed ≡ in_progress (elements_of self.now.pattern) (drawn_by self.now.held self.now.number None) }
-        requires holding { (piece : Piece) → draws.holding ≡ in_progress (elements_of self.now.pattern) (drawn_by self.now.held self.now.number (Some piece)) }
-        ensures { IsNextFamily (elements_of self.now.pattern) self.now.hold self.now.held self.now.states self.now.number piece (Some first) result }
+        requires empty_handed { draws.empty_handed ≡ in_progress (elements_of self.now.pattern)
+            (drawn_by self.now.held self.now.number None) }
+        requires holding { (piece : Piece) → draws.holding
+            ≡ in_progress (elements_of self.now.pattern) (drawn_by self.now.held self.now.number (Some piece)) }
+        ensures { IsNextFamily (elements_of self.now.pattern) self.now.hold self.now.held self.now.states
+            self.now.number piece (Some first) result }
     {
         let plain = family_at(&self.states, Some(first)).draw(draws.holding, piece);
         if let Hold::Avoided = self.hold {
@@ -150,7 +162,9 @@ impl QueueSet {
 
     /// The states after one more piece.
     fn next(&self, piece: Piece) -> [u64; 16]
-        ensures { (held : Option Piece) → IsNextFamily (elements_of self.now.pattern) self.now.hold self.now.held self.now.states self.now.number piece held (family_at result held) }
+        ensures { (held : Option Piece) →
+            IsNextFamily (elements_of self.now.pattern) self.now.hold self.now.held self.now.states
+            self.now.number piece held (family_at result held) }
     {
         let draws = self.draws();
         let empty_handed = self.next_empty_handed(draws, piece);
@@ -183,16 +197,19 @@ impl QueueSet {
 
     /// Whether some queue permits the pieces played so far followed by this one.
     pub fn may_play(&self, piece: Piece) -> bool
-        ensures permitted { IsTrue result ↔ LinePermits (line_of self.now) ((line_of self.now).played ++ piece ∷ []) }
-        ensures value { result ≡ line_permits (line_of self.now) ((line_of self.now).played ++ piece ∷ []) }
+        ensures permitted { IsTrue result ↔ QueuesPermit (queues_in_play self.now)
+            ((queues_in_play self.now).played ++ piece ∷ []) }
+        ensures value { result ≡ queues_permit (queues_in_play self.now)
+            ((queues_in_play self.now).played ++ piece ∷ []) }
     {
         !is_empty(&self.next(piece))
     }
 
     /// The queues after one more piece.
     pub fn after(&self, piece: Piece) -> QueueSet
-        requires { LinePermits (line_of self.now) ((line_of self.now).played ++ piece ∷ []) }
-        ensures { line_of result ≡ record (line_of self.now) { played = (line_of self.now).played ++ piece ∷ [] } }
+        requires { QueuesPermit (queues_in_play self.now) ((queues_in_play self.now).played ++ piece ∷ []) }
+        ensures { queues_in_play result
+            ≡ record (queues_in_play self.now) { played = (queues_in_play self.now).played ++ piece ∷ [] } }
     {
         let mut played = self.played;
         played[self.number as usize] = piece;
@@ -206,10 +223,11 @@ impl QueueSet {
         }
     }
 
-    /// For each kind, in the order of codes, a number that no permitted list of `left` further pieces exceeds: the smaller
-    /// of `left` and the elements that have the kind, with a piece that is held at the start, less those played.
+    /// For each kind, in the order of codes, a number that no permitted list of `left` further pieces exceeds: the
+    /// smaller of `left` and the elements that have the kind, with a piece that is held at the start, less those
+    /// played.
     pub fn supply(&self, left: u8) -> [u8; 7]
-        ensures { result ≡ supplies (line_of self.now) left }
+        ensures { result ≡ supplies (queues_in_play self.now) left }
     {
         [
             self.supply_of(Piece::I, left),
@@ -222,10 +240,10 @@ impl QueueSet {
         ]
     }
 
-    #[tactic(auto, unfolding(crate::specs::QueueSet::line_of))]
+    #[tactic(auto, unfolding(crate::specs::QueueSet::queues_in_play))]
     /// The supply of one kind.
     fn supply_of(&self, piece: Piece, left: u8) -> u8
-        ensures { result ≡ supply_of (line_of self.now) left piece }
+        ensures { result ≡ supply_of (queues_in_play self.now) left piece }
     {
         let at_hand = elements_with(&self.pattern, piece) + from_hold(self.hold, self.held, piece);
         let played = count_played(&self.played[..self.number as usize], piece);

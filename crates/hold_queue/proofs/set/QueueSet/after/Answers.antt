@@ -2,7 +2,7 @@
 use Rattle.std.proofs.Common.{◌∙◌, ap, length-set, arith, List}
 use Rattle.srs.specs.declared.piece.Piece.{Piece}
 use Rattle.queue_pattern.specs.Pattern.{elements_of}
-use Rattle.hold_queue.specs.QueueSet.{line_of}
+use Rattle.hold_queue.specs.QueueSet.{queues_in_play}
 use Rattle.hold_queue.proofs.SetFacts.{set-room, set-follows, played-more}
 use Rattle.hold_queue.proofs.set.QueueSet.after.Goals as goal
 
@@ -17,7 +17,7 @@ invariant_of-result c = record {
 }
 
 pub returns : goal.returns
-unfolding line_of
+unfolding queues_in_play
 returns c =
     let set = c.args.self.now in
     ap (λ (played : List Piece). record { elements = elements_of set.pattern; hold = set.hold; held = set.held; played = played })

@@ -1,10 +1,9 @@
 -- The goals of `QueueSet::start` that need lemmas.
-use Rattle.std.proofs.Common.{sym, subst, refl, arith, [], ◌∷◌}
-use Rattle.std.proofs.Common.{set as list_set}
+use Rattle.std.proofs.Common.{sym, subst, refl, arith, [], ◌∷◌, set as list_set}
 use Rattle.queue_pattern.specs.Pattern.{elements_of}
-use Rattle.queue_pattern.proofs.PatternFacts.{pattern-some}
-use Rattle.hold_queue.specs.QueueSet.{line_of}
-use Rattle.hold_queue.specs.States.{Follows}
+use Rattle.queue_pattern.proofs.CallerLemmas.{pattern-some}
+use Rattle.hold_queue.specs.QueueSet.{queues_in_play}
+use Rattle.hold_queue.specs.States.{AreStatesAfter}
 use Rattle.hold_queue.proofs.FollowLemmas.{follows-start}
 use Rattle.hold_queue.proofs.set.QueueSet.start.Goals as goal
 
@@ -12,11 +11,11 @@ pub invariant_of-result : goal.invariant_of-result
 invariant_of-result c = record {
   room = refl;
   within = omega arith;
-  follows = subst (λ place. Follows (elements_of c.args.pattern.now) c.args.hold c.args.held
+  follows = subst (λ place. AreStatesAfter (elements_of c.args.pattern.now) c.args.hold c.args.held
       (list_set (0 ∷ 0 ∷ 0 ∷ 0 ∷ 0 ∷ 0 ∷ 0 ∷ 0 ∷ 0 ∷ 0 ∷ 0 ∷ 0 ∷ 0 ∷ 0 ∷ 0 ∷ 0 ∷ []) place 1) []) (sym c.place_of.ensures.value)
       (follows-start (elements_of c.args.pattern.now) c.args.hold c.args.held (pattern-some c.args.pattern.now));
 }
 
 pub returns : goal.returns
-unfolding line_of
+unfolding queues_in_play
 returns c = refl

@@ -1,0 +1,64 @@
+-- What a queue permits is what is taken from the pieces at hand.
+use Rattle.std.proofs.Common.{◌≡◌, ◌↔◌, Bool, true, false, List, [], ◌∷◌, Option, Some, None, refl, subst}
+use Rattle.srs.specs.declared.piece.Piece.{Piece}
+use Rattle.hold_queue.specs.declared.hold.Hold.{Hold}
+use Rattle.hold_queue.specs.declared.hold.Hold.TheVariants.{Allowed, Avoided}
+use Rattle.hold_queue.specs.Permits.{Way, plain, exchange, first_hold, last, Permits, permits}
+use Rattle.hold_queue.proofs.PermitsTest.{permits-decides}
+use Rattle.hold_queue.specs.AtHand.{at_hand, Take, take_first, take_second, Takes}
+
+-- each way takes one of the pieces at hand, and leaves those at hand of what it leaves
+take-of_plain : (hold : Hold) (piece : Piece) (queue : List Piece) (held : Option Piece) → Take hold (at_hand hold held (piece ∷ queue)) piece (at_hand hold held queue)
+take-of_plain Avoided piece queue held = take_first
+take-of_plain Allowed piece queue None = take_first
+take-of_plain Allowed piece queue (Some kept) = take_second
+
+take-of_way : {hold : Hold} {queue : List Piece} {held : Option Piece} {piece : Piece} {rest : List Piece} {after : Option Piece}
+    → Way hold queue held piece rest after → Take hold (at_hand hold held queue) piece (at_hand hold after rest)
+take-of_way (plain {hold = hold} {piece = piece} {queue = queue} {held = held}) = take-of_plain hold piece queue held
+take-of_way exchange = take_first
+take-of_way first_hold = take_second
+take-of_way last = take_first
+
+pub takes-of_permits : (hold : Hold) (queue : List Piece) (held : Option Piece) (pieces : List Piece) → Permits hold queue held pieces → Takes hold (at_hand hold held queue) pieces
+takes-of_permits hold queue held [] permitted = tt
+takes-of_permits hold queue held (piece ∷ pieces) permitted =
+    (at_hand hold permitted.1 permitted.0, take-of_way permitted.2, takes-of_permits hold permitted.0 permitted.1 pieces permitted.3)
+
+-- a way that leaves these pieces at hand
+abbrev WayTo : Hold → List Piece → Option Piece → Piece → List Piece → Type 0
+WayTo hold queue held piece hand = (rest : List Piece) × (after : Option Piece) × Way hold queue held piece rest after × (hand ≡ at_hand hold after rest)
+
+way-of_take : (hold : Hold) (queue : List Piece) (held : Option Piece) (piece : Piece) (hand : List Piece)
+    → Take hold (at_hand hold held queue) piece hand → WayTo hold queue held piece hand
+way-of_take Avoided [] held piece hand taken = elim taken [ ]
+way-of_take Avoided (first ∷ queue) held piece hand take_first = (queue, held, plain, refl)
+way-of_take Allowed [] None piece hand taken = elim taken [ ]
+way-of_take Allowed [] (Some kept) piece hand take_first = ([], None, last, refl)
+way-of_take Allowed (first ∷ queue) None piece hand take_first = (queue, None, plain, refl)
+way-of_take Allowed (first ∷ second ∷ queue) None piece hand take_second = (queue, Some first, first_hold, refl)
+way-of_take Allowed (first ∷ queue) (Some kept) piece hand take_first = (queue, Some first, exchange, refl)
+way-of_take Allowed (first ∷ queue) (Some kept) piece hand take_second = (queue, Some kept, plain, refl)
+
+pub permits-of_takes : (hold : Hold) (queue : List Piece) (held : Option Piece) (pieces : List Piece) → Takes hold (at_hand hold held queue) pieces → Permits hold queue held pieces
+permits-of_takes hold queue held [] taken = tt
+permits-of_takes hold queue held (piece ∷ pieces) taken =
+    let way = way-of_take hold queue held piece taken.0 taken.1 in
+    (way.0, way.1, way.2, permits-of_takes hold way.0 way.1 pieces (subst (λ hand. Takes hold hand pieces) way.3 taken.2))
+
+pub permits-is_takes : (hold : Hold) (queue : List Piece) (held : Option Piece) (pieces : List Piece) → Permits hold queue held pieces ↔ Takes hold (at_hand hold held queue) pieces
+permits-is_takes hold queue held pieces = (takes-of_permits hold queue held pieces, permits-of_takes hold queue held pieces)
+
+same_answers : (a b : Bool) → (a ≡ true → b ≡ true) → (b ≡ true → a ≡ true) → a ≡ b
+same_answers true b to from = cc (to refl)
+same_answers false true to from = cc (from refl)
+same_answers false false to from = refl
+
+-- a held piece is like a first piece of the queue
+pub permits-held : (piece : Piece) (queue pieces : List Piece) → permits Allowed (piece ∷ queue) None pieces ≡ permits Allowed queue (Some piece) pieces
+permits-held piece queue pieces =
+    let front = permits-decides Allowed (piece ∷ queue) None pieces in
+    let held = permits-decides Allowed queue (Some piece) pieces in
+    same_answers _ _
+    (λ h. held.1 (permits-of_takes Allowed queue (Some piece) pieces (takes-of_permits Allowed (piece ∷ queue) None pieces (front.0 h))))
+    (λ h. front.1 (permits-of_takes Allowed (piece ∷ queue) None pieces (takes-of_permits Allowed queue (Some piece) pieces (held.0 h))))
