@@ -8,12 +8,11 @@ use Rattle.srs.specs.declared.piece.Piece.{Piece}
 use Rattle.srs.specs.declared.placement.Placement.{Placement}
 use Rattle.srs.specs.Piece.{all_pieces, piece_code}
 use Rattle.srs.specs.Order.{placement_cmp}
-use Rattle.srs.specs.Rising.{is_above}
-use Rattle.srs.proofs.ListLemmas.{and_first, and_second}
-use Rattle.srs.proofs.MemberLemmas.{Contains-cases, Contains-none, filter-false, filter-true}
+use Rattle.lists.specs.Rising.{is_above}
+use Rattle.lists.proofs.CallerLemmas.{and_first, and_second, Contains-cases, Contains-none, filter-false, filter-true}
 use Rattle.std.specs.Ordering.{is_lt}
 use Rattle.std.specs.Cmp.{tied_itself}
-use Rattle.srs.proofs.OrderLemmas.{placement_cmp-total}
+use Rattle.srs.proofs.CallerLemmas.{placement_cmp-total}
 use Rattle.moves.specs.PlaceTest.{is_place}
 use Rattle.well.specs.LockLaws.{is_below}
 use Rattle.enumerate.specs.Position.{Position, after_of, may_play, places_at, is_live}

@@ -9,21 +9,20 @@ use Rattle.lane_board.specs.CellCount.{cell_count}
 use Rattle.srs.specs.declared.piece.Piece.{Piece}
 use Rattle.srs.specs.declared.placement.Placement.{Placement}
 use Rattle.srs.specs.Kick.{Table}
-use Rattle.srs.proofs.MemberLemmas.{Contains-cases, Contains-none, Contains-range, find-false, find-true}
+use Rattle.lists.proofs.CallerLemmas.{Contains-cases, Contains-none, Contains-range, find-false, find-true}
 use Rattle.well.specs.declared.well.Well.{Well}
 use Rattle.well.specs.Well.{filled}
 use Rattle.well.specs.Free.{is_free}
 use Rattle.well.specs.Lock.{locked, rows_removed}
 use Rattle.well.specs.LockLaws.{LiesBelow, is_below}
 use Rattle.well.specs.Counts.{is_filled_row, lowest_filled_from, rows}
-use Rattle.well.proofs.LockLemmas.{adds_four_cells, removes_below, stays_below}
-use Rattle.well.proofs.WellFields.{filled-within}
+use Rattle.well.proofs.CallerLemmas.{adds_four_cells, removes_below, stays_below, filled-within}
 use Rattle.moves.specs.declared.key.DropMode.{DropMode}
 use Rattle.moves.specs.Place.{IsPlace}
 use Rattle.moves.specs.PlaceTest.{is_place}
-use Rattle.moves.proofs.PlaceTest.{is_place-decides}
-use Rattle.hold_queue.specs.QueueSet.{Line, LinePermits, line_permits}
-use Rattle.hold_queue.proofs.PermitsTest.{line_permits-decides}
+use Rattle.moves.proofs.CallerLemmas.{is_place-decides}
+use Rattle.hold_queue.specs.QueueSet.{QueuesInPlay, QueuesPermit, queues_permit}
+use Rattle.hold_queue.proofs.CallerLemmas.{queues_permit-decides}
 
 -- a field of the well has no cell in a row or above
 pub record IsLow (F : Field) (rows : ℕ) : Type 0 where
@@ -33,8 +32,8 @@ pub record IsLow (F : Field) (rows : ℕ) : Type 0 where
 pub place-decides : (table : Table) (F : Field) (mode : DropMode) (q : Placement) → (is_place table F mode q ≡ true) ↔ IsPlace table F mode q
 place-decides table F mode q = is_place-decides table F mode q
 
-pub permits-decides : (line : Line) (pieces : List Piece) → (line_permits line pieces ≡ true) ↔ LinePermits line pieces
-permits-decides line pieces = line_permits-decides line pieces
+pub permits-decides : (line : QueuesInPlay) (pieces : List Piece) → (queues_permit line pieces ≡ true) ↔ QueuesPermit line pieces
+permits-decides line pieces = queues_permit-decides line pieces
 
 -- ---- where the lowest row with a cell is not found
 

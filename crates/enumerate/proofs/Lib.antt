@@ -1,21 +1,24 @@
 -- Lemmas on the search: the laws of the game that it needs, the solutions of a position, and the events of a walk.
-pub mod Game
-pub mod Tests
-pub mod Solutions
-pub mod PermitLaws
-pub mod PlaceLaws
-pub mod Members
-pub mod Walks
-pub mod Resumed
-pub mod Sought
-pub mod FloodCounts
-pub mod Pairs
-pub mod TurnLemmas
-pub mod Stacks
-pub mod SkipLemmas
-pub mod SeekLemmas
-pub mod SearchLemmas
-pub mod NeededCount
-pub mod SearchLists
-pub mod SearchFacts
-pub mod ListLaws
+mod Game
+mod Tests
+mod Solutions
+mod PermitLaws
+mod PlaceLaws
+mod TilingLaws
+mod Counting
+mod Members
+mod Walks
+mod Resumed
+mod Sought
+mod FloodCounts
+mod Pairs
+mod TurnLemmas
+mod Stacks
+mod SkipLemmas
+mod SeekLemmas
+mod SearchLemmas
+mod NeededCount
+mod SearchLists
+mod SearchFacts
+mod ListLaws
+pub mod CallerLemmas

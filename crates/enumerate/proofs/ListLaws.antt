@@ -8,10 +8,9 @@ use Rattle.std.specs.declared.cmp.Ordering.TheVariants.{Less, Equal}
 use Rattle.srs.specs.declared.piece.Piece.{Piece}
 use Rattle.srs.specs.declared.placement.Placement.{Placement}
 use Rattle.srs.specs.Order.{sequence_cmp}
-use Rattle.srs.specs.Rising.{is_above, IsLeastAbove, NoneAbove}
-use Rattle.srs.proofs.MemberLemmas.{Contains-cases, Contains-here, Contains-none, filter-each, filter-false}
-use Rattle.srs.proofs.OrderLemmas.{sequence_cmp-total}
-use Rattle.srs.proofs.RisingLemmas.{IsRisingListOf-filter, IsRisingListOf-unique, rising-first, rising-rest}
+use Rattle.lists.specs.Rising.{is_above, IsLeastAbove, NoneAbove}
+use Rattle.lists.proofs.CallerLemmas.{Contains-cases, Contains-here, Contains-none, filter-each, filter-false, IsRisingListOf-filter, IsRisingListOf-unique, rising-first, rising-rest}
+use Rattle.srs.proofs.CallerLemmas.{sequence_cmp-total}
 use Rattle.enumerate.specs.declared.problem.Problem.{Problem}
 use Rattle.enumerate.specs.Search.{View, IsList, IsSolutionAbove, Resumes}
 use Rattle.enumerate.specs.Solution.{IsSolution}

@@ -8,37 +8,38 @@ use Rattle.srs.specs.declared.piece.Piece.{Piece}
 use Rattle.srs.specs.declared.piece.Piece.TheVariants.{I, L, O, Z, T, J, S}
 use Rattle.srs.specs.declared.placement.Placement.{Placement}
 use Rattle.srs.specs.Piece.{all_pieces}
-use Rattle.srs.proofs.MemberLemmas.{Contains-cases, Contains-flat_map, Contains-from_flat_map, Contains-here, Contains-none}
+use Rattle.lists.proofs.CallerLemmas.{Contains-cases, Contains-flat_map, Contains-from_flat_map, Contains-here, Contains-none}
 use Rattle.moves.specs.Place.{IsPlace}
-use Rattle.hold_queue.specs.QueueSet.{LinePermits}
+use Rattle.hold_queue.specs.QueueSet.{QueuesPermit}
 use Rattle.enumerate.specs.Plays.{Plays}
 use Rattle.well.specs.LockLaws.{is_below}
 use Rattle.enumerate.specs.Solution.{pieces_of}
-use Rattle.enumerate.specs.Position.{Position, after_of, may_play, is_live}
+use Rattle.enumerate.specs.Position.{Position, after_of, can_be_tiled, may_play, is_live}
 use Rattle.enumerate.proofs.Game.{IsLow, locked-low, permits-decides, place-decides}
 use Rattle.enumerate.proofs.PermitLaws.{line_permits-front}
 use Rattle.enumerate.proofs.PlaceLaws.{lockable-listed, place-free, place-lockable}
 use Rattle.enumerate.proofs.Solutions.{in_kind, of_kind, sols, to_kind, to_place}
 use Rattle.enumerate.proofs.Tests.{by_test}
+use Rattle.enumerate.proofs.TilingLaws.{played-tiled}
 
 -- with so many placements, a sequence plays to the end, and some queue permits its pieces after those that were played
 pub record IsSolved (left : ℕ) (n : Position) (s : List Placement) : Type 0 where
   pub long : length s ≡ left
   pub plays : Plays n.table n.mode n.field n.rows s
-  pub permitted : LinePermits n.line (n.line.played ++ pieces_of s)
+  pub permitted : QueuesPermit n.line (n.line.played ++ pieces_of s)
 
-pub may_play-permits : (n : Position) (piece : Piece) → may_play n.line piece ≡ true → LinePermits n.line (n.line.played ++ piece ∷ [])
+pub may_play-permits : (n : Position) (piece : Piece) → may_play n.line piece ≡ true → QueuesPermit n.line (n.line.played ++ piece ∷ [])
 unfolding may_play
 may_play-permits n piece played = (permits-decides n.line (n.line.played ++ piece ∷ [])).0 played
 
-pub permits-may_play : (n : Position) (piece : Piece) → LinePermits n.line (n.line.played ++ piece ∷ []) → may_play n.line piece ≡ true
+pub permits-may_play : (n : Position) (piece : Piece) → QueuesPermit n.line (n.line.played ++ piece ∷ []) → may_play n.line piece ≡ true
 unfolding may_play
 permits-may_play n piece permitted = (permits-decides n.line (n.line.played ++ piece ∷ [])).1 permitted
 
--- a position that is not worth a look has no solution
-live-where_solved : (left : ℕ) (n : Position) (s : List Placement) → IsSolved (suc left) n s → is_live left n ≡ true
+-- a position without a tiling has no solution
+live-where_solved : (left : ℕ) (n : Position) (s : List Placement) → IsLow n.field n.rows → IsSolved (suc left) n s → is_live left n ≡ true
 unfolding is_live
-live-where_solved left n s solved = refl
+live-where_solved left n s low solved = subst (λ k. can_be_tiled k n ≡ true) solved.long (played-tiled n s low solved.plays solved.permitted)
 
 pub in_all_pieces : (piece : Piece) → Contains all_pieces piece
 in_all_pieces I = (0, omega arith, refl)
@@ -53,11 +54,11 @@ pub low-after : (n : Position) (q : Placement) → IsLow n.field n.rows → is_b
 unfolding after_of
 low-after n q low below place = locked-low n.field n.rows q low below (place-free n.table n.field n.mode q place)
 
-solved-nil : (n : Position) → IsLow n.field n.rows → (n.rows ≡ 0 → LinePermits n.line n.line.played) → n.rows ≡ 0 → IsSolved 0 n []
+solved-nil : (n : Position) → IsLow n.field n.rows → (n.rows ≡ 0 → QueuesPermit n.line n.line.played) → n.rows ≡ 0 → IsSolved 0 n []
 solved-nil n low permitted none = record {
   long = refl;
   plays = (none, λ x y. low.none x y (omega arith));
-  permitted = subst (LinePermits n.line) (sym (append-nil n.line.played)) (permitted none);
+  permitted = subst (QueuesPermit n.line) (sym (append-nil n.line.played)) (permitted none);
 }
 
 solved-cons : (left : ℕ) (n : Position) (q : Placement) (s : List Placement) → IsPlace n.table n.field n.mode q → is_below n.rows q ≡ true → IsSolved left (after_of n q) s → IsSolved (suc left) n (q ∷ s)
@@ -65,14 +66,14 @@ unfolding after_of
 solved-cons left n q s place below solved = record {
   long = omega (arith, solved.long);
   plays = (place, below, solved.plays);
-  permitted = subst (LinePermits n.line) (append_assoc n.line.played (q.piece ∷ []) (pieces_of s)) solved.permitted;
+  permitted = subst (QueuesPermit n.line) (append_assoc n.line.played (q.piece ∷ []) (pieces_of s)) solved.permitted;
 }
 
-permitted-after : (n : Position) (piece : Piece) (q : Placement) → q.piece ≡ piece → may_play n.line piece ≡ true → LinePermits (after_of n q).line (after_of n q).line.played
+permitted-after : (n : Position) (piece : Piece) (q : Placement) → q.piece ≡ piece → may_play n.line piece ≡ true → QueuesPermit (after_of n q).line (after_of n q).line.played
 unfolding after_of
-permitted-after n piece q kind played = subst (λ p. LinePermits n.line (n.line.played ++ p ∷ [])) (sym kind) (may_play-permits n piece played)
+permitted-after n piece q kind played = subst (λ p. QueuesPermit n.line (n.line.played ++ p ∷ [])) (sym kind) (may_play-permits n piece played)
 
-pub sound : (left : ℕ) (n : Position) → IsLow n.field n.rows → (n.rows ≡ 0 → LinePermits n.line n.line.played) → (s : List Placement) → Contains (sols left n) s → IsSolved left n s
+pub sound : (left : ℕ) (n : Position) → IsLow n.field n.rows → (n.rows ≡ 0 → QueuesPermit n.line n.line.played) → (s : List Placement) → Contains (sols left n) s → IsSolved left n s
 unfolding sols
 sound zero n low permitted s =
     by_test (λ l. Contains l s → IsSolved 0 n s) (n.rows == 0) ([] ∷ []) []
@@ -94,21 +95,21 @@ sound (suc left) n low permitted s =
     (λ _. permitted-after n found.0 first.first first.listed.kind first.played) rest.rest rest.among)))
     (λ _ among. absurd (Contains-none s among))
 
-pub complete : (left : ℕ) (n : Position) (s : List Placement) → IsSolved left n s → Contains (sols left n) s
+pub complete : (left : ℕ) (n : Position) (s : List Placement) → IsLow n.field n.rows → IsSolved left n s → Contains (sols left n) s
 unfolding sols after_of
-complete zero n [] solved =
+complete zero n [] low solved =
     let P : Bool → Type 0 = λ b. Contains {X = List Placement} (if b then [] ∷ [] else []) [] in
     subst P (sym (eq-eqb n.rows 0 solved.plays.0)) (Contains-here {A = List Placement} [] [])
-complete zero n (q ∷ s) solved = absurd (omega (arith, solved.long))
-complete (suc left) n [] solved = absurd (omega (arith, solved.long))
-complete (suc left) n (q ∷ s) solved =
+complete zero n (q ∷ s) low solved = absurd (omega (arith, solved.long))
+complete (suc left) n [] low solved = absurd (omega (arith, solved.long))
+complete (suc left) n (q ∷ s) low solved =
     let place : IsPlace n.table n.field n.mode q = solved.plays.0 in
-    let permitted : LinePermits n.line ((n.line.played ++ q.piece ∷ []) ++ pieces_of s) = subst (LinePermits n.line) (sym (append_assoc n.line.played (q.piece ∷ []) (pieces_of s))) solved.permitted in
+    let permitted : QueuesPermit n.line ((n.line.played ++ q.piece ∷ []) ++ pieces_of s) = subst (QueuesPermit n.line) (sym (append_assoc n.line.played (q.piece ∷ []) (pieces_of s))) solved.permitted in
     let rest : IsSolved left (after_of n q) s = record { long = omega (arith, solved.long); plays = solved.plays.2; permitted = permitted } in
-    subst (λ b. Contains (if b then flat_map (of_kind (sols left) n) all_pieces else []) (q ∷ s)) (sym (live-where_solved left n (q ∷ s) solved))
+    subst (λ b. Contains (if b then flat_map (of_kind (sols left) n) all_pieces else []) (q ∷ s)) (sym (live-where_solved left n (q ∷ s) low solved))
     (Contains-flat_map (of_kind (sols left) n) all_pieces q.piece (q ∷ s) (in_all_pieces q.piece)
     (to_kind (sols left) n q (q ∷ s)
     (permits-may_play n q.piece (line_permits-front n.line (n.line.played ++ q.piece ∷ []) (pieces_of s) permitted))
     (lockable-listed n.field q.piece q (place-lockable n.table n.field n.mode q.piece q refl place))
     ((place-decides n.table n.field n.mode q).1 place)
-    (to_place (sols left) n q s solved.plays.1 (complete left (after_of n q) s rest))))
+    (to_place (sols left) n q s solved.plays.1 (complete left (after_of n q) s (low-after n q low solved.plays.1 place) rest))))

@@ -1,5 +1,5 @@
 -- Each sequence that clears the field of a fit problem has as many placements as are needed.
-use Rattle.std.proofs.Common.{◌≡◌, ℕ, zero, suc, ◌+◌, ◌-◌, ◌*◌, ◌≤◌, Bool, false, List, [], ◌∷◌, length, refl, ap, ◌∙◌, inl, inr, arith}
+use Rattle.std.proofs.Common.{◌≡◌, ℕ, zero, suc, ◌+◌, ◌-◌, ◌*◌, ◌%◌, ◌≤◌, Bool, false, List, [], ◌∷◌, length, refl, ap, ◌∙◌, inl, inr, arith}
 use Rattle.std.proofs.lemmas.Bool.{cases_lt}
 use Rattle.lane_board.specs.Field.{Field}
 use Rattle.lane_board.specs.CellCount.{cell_count, row_count}
@@ -11,7 +11,7 @@ use Rattle.well.specs.Lock.{locked, rows_removed}
 use Rattle.moves.specs.declared.key.DropMode.{DropMode}
 use Rattle.enumerate.specs.declared.problem.Problem.{Problem}
 use Rattle.enumerate.specs.Plays.{Plays}
-use Rattle.enumerate.specs.Problem.{IsFit, needed_of}
+use Rattle.enumerate.specs.Problem.{IsFit, empties_of, needed_of}
 use Rattle.enumerate.proofs.Game.{IsLow, filled-low, locked-count, locked-low, removed-within}
 use Rattle.enumerate.proofs.PlaceLaws.{place-free}
 
@@ -44,12 +44,19 @@ plays-count table mode F rows (q ∷ s) low plays =
     let rest = plays-count table mode (locked F q) (rows - rows_removed F q) s (locked-low F rows q low plays.1 free) plays.2 in
     omega (arith, rest, locked-count F q free, removed-within F rows q low plays.1)
 
-pub long-needed : (problem : Problem) → IsFit problem → (s : List Placement) → Plays (table_of problem.rules) problem.drop_mode (filled problem.well) problem.height s → length s ≡ needed_of problem
-long-needed problem fit s plays =
+empties-filled : (problem : Problem) → IsFit problem → (s : List Placement) → Plays (table_of problem.rules) problem.drop_mode (filled problem.well) problem.height s → empties_of problem ≡ 4 * length s
+empties-filled problem fit s plays =
     let low = filled-low problem.well problem.height (omega (arith, fit.low)) fit.below in
     let whole = plays-count (table_of problem.rules) problem.drop_mode (filled problem.well) problem.height s low plays in
     let same = count-low (filled problem.well) problem.height 23 low.none (omega (arith, fit.low)) in
     omega (arith, whole, same)
+
+pub long-needed : (problem : Problem) → IsFit problem → (s : List Placement) → Plays (table_of problem.rules) problem.drop_mode (filled problem.well) problem.height s → length s ≡ needed_of problem
+long-needed problem fit s plays = omega (arith, empties-filled problem fit s plays)
+
+-- so the empty cells are a multiple of four
+pub needed-exact : (problem : Problem) → IsFit problem → (s : List Placement) → Plays (table_of problem.rules) problem.drop_mode (filled problem.well) problem.height s → empties_of problem % 4 ≡ 0
+needed-exact problem fit s plays = omega (arith, empties-filled problem fit s plays)
 
 pub needed-few : (problem : Problem) → IsFit problem → needed_of problem ≤ 20
 needed-few problem fit = omega (arith, fit.low)

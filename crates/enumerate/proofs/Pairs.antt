@@ -1,63 +1,68 @@
 -- The floods of a whole walk are the pairs of a live prefix and a kind that may come next.
-use Rattle.std.proofs.Common.{◌≡◌, ℕ, zero, suc, ◌+◌, Bool, true, false, ◌&&◌, List, [], ◌∷◌, ◌++◌, refl, sym, ap, subst, ◌∙◌, inl, inr, arith, append_assoc}
+use Rattle.std.proofs.Common.{◌≡◌, ℕ, zero, suc, ◌+◌, Bool, true, false, ◌&&◌, List, [], ◌∷◌, ◌++◌, length, refl, sym, ap, subst, ◌∙◌, inl, inr, arith, append_assoc}
 use Rattle.std.specs.Prelude.{Contains, filter, ◌==◌, if◌then◌else◌, sum_by}
 use Rattle.std.specs.List.{flat_map}
 use Rattle.std.specs.Bool.{one_answer}
 use Rattle.std.proofs.lemmas.Bool.{cases_Bool}
-use Rattle.std.proofs.lemmas.List.{map-append}
+use Rattle.std.proofs.lemmas.List.{append-nil, map-append}
 use Rattle.std.proofs.lemmas.List.Sums.{sum_by-cons}
 use Rattle.srs.specs.declared.piece.Piece.{Piece}
 use Rattle.srs.specs.declared.placement.Placement.{Placement}
 use Rattle.srs.specs.Piece.{all_pieces}
 use Rattle.srs.specs.Placements.{placements_of}
-use Rattle.srs.proofs.ListLemmas.{and_both}
-use Rattle.srs.proofs.MemberLemmas.{Contains-here, Contains-there, filter-false, filter-true}
-use Rattle.srs.proofs.PlacementLemmas.{placements_of-list}
+use Rattle.lists.proofs.CallerLemmas.{and_both, Contains-here, Contains-there, filter-false, filter-true}
+use Rattle.srs.proofs.CallerLemmas.{placements_of-list}
 use Rattle.moves.specs.PlaceTest.{is_place}
-use Rattle.hold_queue.specs.QueueSet.{Line, LinePermits, line_permits}
+use Rattle.hold_queue.specs.QueueSet.{QueuesInPlay, QueuesPermit, queues_permit}
 use Rattle.well.specs.LockLaws.{is_below}
 use Rattle.enumerate.specs.Solution.{pieces_of}
-use Rattle.enumerate.specs.Position.{Position, after_of, may_play, places_at, is_live}
-use Rattle.enumerate.specs.Events.{Tick, Flood, Found, floods, entered, tried, enter, begun}
-use Rattle.enumerate.specs.Work.{can_stand, is_live_prefix, work_from}
+use Rattle.enumerate.specs.Position.{Position, after_of, can_be_tiled, may_play, places_at, is_live}
+use Rattle.enumerate.specs.Events.{Tick, Flood, Found, floods, entered, tried, level, enter, begun}
+use Rattle.enumerate.specs.Work.{can_stand, can_be_played, stays_tiled, is_live_prefix, work_from}
 use Rattle.enumerate.proofs.FloodCounts.{floods-flat_map, floods-level}
 use Rattle.enumerate.proofs.Game.{permits-decides}
 use Rattle.enumerate.proofs.PermitLaws.{line_permits-front}
 use Rattle.enumerate.proofs.Tests.{if_false, if_true}
 
 -- the played pieces of a line have no part in what it permits
-line_permits-played : (line : Line) (played pieces : List Piece) → line_permits (record line { played = played }) pieces ≡ line_permits line pieces
+line_permits-played : (line : QueuesInPlay) (played pieces : List Piece) → queues_permit (record line { played = played }) pieces ≡ queues_permit line pieces
 line_permits-played line played pieces =
-    one_answer (line_permits (record line { played = played }) pieces) (line_permits line pieces) (permits-decides (record line { played = played }) pieces) (permits-decides line pieces)
+    one_answer (queues_permit (record line { played = played }) pieces) (queues_permit line pieces) (permits-decides (record line { played = played }) pieces) (permits-decides line pieces)
 
--- the position after a prefix
-pub record IsAt (root : Position) (prefix : List Placement) (n : Position) : Type 0 where
+-- the position after a prefix, with so many placements to come and tilings before each placement of the prefix
+pub record IsAt (left : ℕ) (root : Position) (prefix : List Placement) (n : Position) : Type 0 where
   pub stands : (s : List Placement) → can_stand root.table root.mode root.field root.rows (prefix ++ s) ≡ can_stand n.table n.mode n.field n.rows s
-  pub permits : (pieces : List Piece) → line_permits root.line (pieces_of prefix ++ pieces) ≡ line_permits n.line (n.line.played ++ pieces)
+  pub permits : (pieces : List Piece) → queues_permit root.line (pieces_of prefix ++ pieces) ≡ queues_permit n.line (n.line.played ++ pieces)
+  pub tiled : (k : ℕ) (s : List Placement) → k + length s ≡ left → stays_tiled k root (prefix ++ s) ≡ stays_tiled k n s
 
-module _ (root : Position) (prefix : List Placement) (n : Position) (at : IsAt root prefix n) where
-  IsAt-next : (q : Placement) → is_place n.table n.field n.mode q ≡ true → is_below n.rows q ≡ true → IsAt root (prefix ++ q ∷ []) (after_of n q)
-  unfolding after_of can_stand
-  IsAt-next q placed below = record {
-    stands = λ s.
-        ap (can_stand root.table root.mode root.field root.rows) (append_assoc prefix (q ∷ []) s)
-        ∙ at.stands (q ∷ s)
-        ∙ ap (λ b. b && can_stand n.table n.mode (after_of n q).field (after_of n q).rows s) (and_both (is_place n.table n.field n.mode q) (is_below n.rows q) placed below);
-    permits = λ pieces.
-        ap (λ l. line_permits root.line (l ++ pieces)) (map-append (λ p. p.piece) prefix (q ∷ []))
-        ∙ ap (line_permits root.line) (append_assoc (pieces_of prefix) (q.piece ∷ []) pieces)
-        ∙ at.permits (q.piece ∷ pieces)
-        ∙ ap (line_permits n.line) (sym (append_assoc n.line.played (q.piece ∷ []) pieces))
-        ∙ sym (line_permits-played n.line (n.line.played ++ q.piece ∷ []) ((n.line.played ++ q.piece ∷ []) ++ pieces));
-  }
+IsAt-next : (left : ℕ) (root : Position) (prefix : List Placement) (n : Position) → IsAt (suc left) root prefix n → can_be_tiled (suc left) n ≡ true →
+    (q : Placement) → is_place n.table n.field n.mode q ≡ true → is_below n.rows q ≡ true → IsAt left root (prefix ++ q ∷ []) (after_of n q)
+unfolding after_of can_stand stays_tiled
+IsAt-next left root prefix n at alive q placed below = record {
+  stands = λ s.
+      ap (can_stand root.table root.mode root.field root.rows) (append_assoc prefix (q ∷ []) s)
+      ∙ at.stands (q ∷ s)
+      ∙ ap (λ b. b && can_stand n.table n.mode (after_of n q).field (after_of n q).rows s) (and_both (is_place n.table n.field n.mode q) (is_below n.rows q) placed below);
+  permits = λ pieces.
+      ap (λ l. queues_permit root.line (l ++ pieces)) (map-append (λ p. p.piece) prefix (q ∷ []))
+      ∙ ap (queues_permit root.line) (append_assoc (pieces_of prefix) (q.piece ∷ []) pieces)
+      ∙ at.permits (q.piece ∷ pieces)
+      ∙ ap (queues_permit n.line) (sym (append_assoc n.line.played (q.piece ∷ []) pieces))
+      ∙ sym (line_permits-played n.line (n.line.played ++ q.piece ∷ []) ((n.line.played ++ q.piece ∷ []) ++ pieces));
+  tiled = λ k s all.
+      let whole : k + length (q ∷ s) ≡ suc left = omega (arith, all) in
+      ap (stays_tiled k root) (append_assoc prefix (q ∷ []) s) ∙ at.tiled k (q ∷ s) whole
+      ∙ ap (λ b. b && stays_tiled k (after_of n q) s) (ap (λ k. can_be_tiled k n) whole ∙ alive);
+}
 
-  -- one more placement is live where it may be played, is a place and lies below
-  live-next : (q : Placement) → is_live_prefix root (prefix ++ q ∷ []) ≡ (may_play n.line q.piece && (is_place n.table n.field n.mode q && is_below n.rows q))
-  unfolding is_live_prefix can_stand may_play
-  live-next q = (λ i. permitted i && stands i)
+module _ (left : ℕ) (root : Position) (prefix : List Placement) (n : Position) (at : IsAt left root prefix n) where
+  -- one more placement can be played where it may be played, is a place and lies below
+  played-next : (q : Placement) → can_be_played root (prefix ++ q ∷ []) ≡ (may_play n.line q.piece && (is_place n.table n.field n.mode q && is_below n.rows q))
+  unfolding can_be_played can_stand may_play
+  played-next q = (λ i. permitted i && stands i)
     where
-      permitted : line_permits root.line (pieces_of (prefix ++ q ∷ [])) ≡ line_permits n.line (n.line.played ++ q.piece ∷ [])
-      permitted = ap (line_permits root.line) (map-append (λ p. p.piece) prefix (q ∷ [])) ∙ at.permits (q.piece ∷ [])
+      permitted : queues_permit root.line (pieces_of (prefix ++ q ∷ [])) ≡ queues_permit n.line (n.line.played ++ q.piece ∷ [])
+      permitted = ap (queues_permit root.line) (map-append (λ p. p.piece) prefix (q ∷ [])) ∙ at.permits (q.piece ∷ [])
 
       and_true : (b : Bool) → (b && true) ≡ b
       and_true true = refl
@@ -66,10 +71,18 @@ module _ (root : Position) (prefix : List Placement) (n : Position) (at : IsAt r
       stands : can_stand root.table root.mode root.field root.rows (prefix ++ q ∷ []) ≡ (is_place n.table n.field n.mode q && is_below n.rows q)
       stands = at.stands (q ∷ []) ∙ and_true (is_place n.table n.field n.mode q && is_below n.rows q)
 
-work-dead : (left : ℕ) (root : Position) (prefix : List Placement) → is_live_prefix root prefix ≡ false → work_from left root prefix ≡ 0
-unfolding work_from
-work-dead zero root prefix dead = refl
-work-dead (suc left) root prefix dead = if_false (is_live_prefix root prefix) _ 0 dead
+and_none : (a b : Bool) → b ≡ false → (a && b) ≡ false
+and_none true b e = e
+and_none false b e = refl
+
+and_none_first : (a b : Bool) → a ≡ false → (a && b) ≡ false
+and_none_first true b e = cc
+and_none_first false b e = refl
+
+work-unplayed : (left : ℕ) (root : Position) (prefix : List Placement) → can_be_played root prefix ≡ false → work_from left root prefix ≡ 0
+unfolding work_from is_live_prefix
+work-unplayed zero root prefix unplayed = refl
+work-unplayed (suc left) root prefix unplayed = if_false (is_live_prefix (suc left) root prefix) _ 0 (and_none_first (can_be_played root prefix) (stays_tiled (suc left) root prefix) unplayed)
 
 sum_by-same : {A : Type 0} (f g : A → ℕ) (xs : List A) → ((x : A) → Contains xs x → f x ≡ g x) → sum_by f xs ≡ sum_by g xs
 sum_by-same f g [] each = refl
@@ -87,78 +100,83 @@ sum_by-filtered test f g (x ∷ xs) kept dropped =
       | inr e ↦ let none = dropped x (Contains-here x xs) e in let cut = ap (sum_by f) (filter-false test x xs e) in omega (arith, none, cut, rest, sum_by-cons g x xs)
     ]
 
-and_none : (a b : Bool) → b ≡ false → (a && b) ≡ false
-and_none true b e = e
-and_none false b e = refl
-
-and_none_first : (a b : Bool) → a ≡ false → (a && b) ≡ false
-and_none_first true b e = cc
-and_none_first false b e = refl
-
 leaf-floods : (b : Bool) (prefix : List Placement) → floods ((if b then Found prefix else Tick) ∷ []) ≡ 0
 unfolding floods
 leaf-floods true prefix = refl
 leaf-floods false prefix = refl
 
 -- what a place adds, and what a kind adds
-place-floods : (left : ℕ) (root : Position) (prefix : List Placement) (n : Position) (at : IsAt root prefix n)
-    (below : (prefix : List Placement) (n : Position) → IsAt root prefix n → is_live_prefix root prefix ≡ true → floods (enter left prefix n) ≡ work_from left root prefix)
+place-floods : (left : ℕ) (root : Position) (prefix : List Placement) (n : Position) (at : IsAt (suc left) root prefix n) (alive : can_be_tiled (suc left) n ≡ true)
+    (below : (prefix : List Placement) (n : Position) → IsAt left root prefix n → can_be_played root prefix ≡ true → floods (enter left prefix n) ≡ work_from left root prefix)
     (q : Placement) → may_play n.line q.piece ≡ true → is_place n.table n.field n.mode q ≡ true → floods (entered (enter left) prefix n q) ≡ work_from left root (prefix ++ q ∷ [])
 unfolding entered floods
-place-floods left root prefix n at below q played placed = elim (cases_Bool (is_below n.rows q)) [
+place-floods left root prefix n at alive below q played placed = elim (cases_Bool (is_below n.rows q)) [
   | inl e ↦
       ap floods (if_true (is_below n.rows q) (enter left (prefix ++ q ∷ []) (after_of n q)) (Tick ∷ []) e)
-      ∙ below (prefix ++ q ∷ []) (after_of n q) (IsAt-next root prefix n at q placed e)
-      (live-next root prefix n at q ∙ and_both (may_play n.line q.piece) (is_place n.table n.field n.mode q && is_below n.rows q) played (and_both (is_place n.table n.field n.mode q) (is_below n.rows q) placed e))
+      ∙ below (prefix ++ q ∷ []) (after_of n q) (IsAt-next left root prefix n at alive q placed e)
+      (played-next (suc left) root prefix n at q ∙ and_both (may_play n.line q.piece) (is_place n.table n.field n.mode q && is_below n.rows q) played (and_both (is_place n.table n.field n.mode q) (is_below n.rows q) placed e))
   | inr e ↦
       ap floods (if_false (is_below n.rows q) (enter left (prefix ++ q ∷ []) (after_of n q)) (Tick ∷ []) e)
-      ∙ sym (work-dead left root (prefix ++ q ∷ []) (live-next root prefix n at q ∙ and_none (may_play n.line q.piece) _ (and_none (is_place n.table n.field n.mode q) (is_below n.rows q) e)))
+      ∙ sym (work-unplayed left root (prefix ++ q ∷ []) (played-next (suc left) root prefix n at q ∙ and_none (may_play n.line q.piece) _ (and_none (is_place n.table n.field n.mode q) (is_below n.rows q) e)))
 ]
 
-kind-floods : (left : ℕ) (root : Position) (prefix : List Placement) (n : Position) (at : IsAt root prefix n)
-    (below : (prefix : List Placement) (n : Position) → IsAt root prefix n → is_live_prefix root prefix ≡ true → floods (enter left prefix n) ≡ work_from left root prefix)
-    (c : Piece) → floods (tried (enter left) prefix n c) ≡ (if line_permits root.line (pieces_of prefix ++ c ∷ []) then 1 + sum_by (λ q. work_from left root (prefix ++ q ∷ [])) (placements_of c) else 0)
+kind-floods : (left : ℕ) (root : Position) (prefix : List Placement) (n : Position) (at : IsAt (suc left) root prefix n) (alive : can_be_tiled (suc left) n ≡ true)
+    (below : (prefix : List Placement) (n : Position) → IsAt left root prefix n → can_be_played root prefix ≡ true → floods (enter left prefix n) ≡ work_from left root prefix)
+    (c : Piece) → floods (tried (enter left) prefix n c) ≡ (if queues_permit root.line (pieces_of prefix ++ c ∷ []) then 1 + sum_by (λ q. work_from left root (prefix ++ q ∷ [])) (placements_of c) else 0)
 unfolding tried floods may_play places_at
-kind-floods left root prefix n at below c = elim (cases_Bool (may_play n.line c)) [
+kind-floods left root prefix n at alive below c = elim (cases_Bool (may_play n.line c)) [
   | inl e ↦
       ap floods (if_true (may_play n.line c) (Flood ∷ flat_map (entered (enter left) prefix n) (places_at n c)) (Tick ∷ []) e)
       ∙ ap (λ k. k + 1) (floods-flat_map (entered (enter left) prefix n) (places_at n c)
       ∙ sum_by-filtered (is_place n.table n.field n.mode) (λ q. floods (entered (enter left) prefix n q)) (λ q. work_from left root (prefix ++ q ∷ [])) (placements_of c)
-      (λ q among placed. place-floods left root prefix n at below q (subst (λ p. may_play n.line p ≡ true) (sym (((placements_of-list c).members q).0 among).kind) e) placed)
-      (λ q among not_placed. work-dead left root (prefix ++ q ∷ []) (live-next root prefix n at q ∙ and_none (may_play n.line q.piece) _ (and_none_first (is_place n.table n.field n.mode q) (is_below n.rows q) not_placed))))
+      (λ q among placed. place-floods left root prefix n at alive below q (subst (λ p. may_play n.line p ≡ true) (sym (((placements_of-list c).members q).0 among).kind) e) placed)
+      (λ q among not_placed. work-unplayed left root (prefix ++ q ∷ []) (played-next (suc left) root prefix n at q ∙ and_none (may_play n.line q.piece) _ (and_none_first (is_place n.table n.field n.mode q) (is_below n.rows q) not_placed))))
       ∙ one_more (sum_by (λ q. work_from left root (prefix ++ q ∷ [])) (placements_of c))
-      ∙ sym (if_true (line_permits root.line (pieces_of prefix ++ c ∷ [])) _ 0 (at.permits (c ∷ []) ∙ e))
+      ∙ sym (if_true (queues_permit root.line (pieces_of prefix ++ c ∷ [])) _ 0 (at.permits (c ∷ []) ∙ e))
   | inr e ↦
       ap floods (if_false (may_play n.line c) (Flood ∷ flat_map (entered (enter left) prefix n) (places_at n c)) (Tick ∷ []) e)
-      ∙ sym (if_false (line_permits root.line (pieces_of prefix ++ c ∷ [])) _ 0 (at.permits (c ∷ []) ∙ e))
+      ∙ sym (if_false (queues_permit root.line (pieces_of prefix ++ c ∷ [])) _ 0 (at.permits (c ∷ []) ∙ e))
 ]
   where
     one_more : (k : ℕ) → k + 1 ≡ 1 + k
     one_more k = omega arith
 
-pub floods-enter : (left : ℕ) (root : Position) (prefix : List Placement) (n : Position) → IsAt root prefix n → is_live_prefix root prefix ≡ true → floods (enter left prefix n) ≡ work_from left root prefix
+-- a prefix that can be played is live where the position after it has a tiling
+live-prefix : (left : ℕ) (root : Position) (prefix : List Placement) (n : Position) → IsAt left root prefix n → can_be_played root prefix ≡ true → is_live_prefix left root prefix ≡ can_be_tiled left n
+unfolding is_live_prefix stays_tiled
+live-prefix left root prefix n at played =
+    ap (λ b. b && stays_tiled left root prefix) played ∙ ap (stays_tiled left root) (sym (append-nil prefix)) ∙ at.tiled left [] (omega arith)
+
+pub floods-enter : (left : ℕ) (root : Position) (prefix : List Placement) (n : Position) → IsAt left root prefix n → can_be_played root prefix ≡ true → floods (enter left prefix n) ≡ work_from left root prefix
 unfolding enter work_from floods is_live
-floods-enter zero root prefix n at live = leaf-floods (n.rows == 0) prefix
-floods-enter (suc left) root prefix n at live =
-    floods-level (enter left) prefix n all_pieces
-    ∙ sum_by-same (λ c. floods (tried (enter left) prefix n c)) (λ c. if line_permits root.line (pieces_of prefix ++ c ∷ []) then 1 + sum_by (λ q. work_from left root (prefix ++ q ∷ [])) (placements_of c) else 0) all_pieces
-    (λ c _. kind-floods left root prefix n at (floods-enter left root) c)
-    ∙ sym (if_true (is_live_prefix root prefix) _ 0 live)
+floods-enter zero root prefix n at played = leaf-floods (n.rows == 0) prefix
+floods-enter (suc left) root prefix n at played = elim (cases_Bool (can_be_tiled (suc left) n)) [
+  | inl alive ↦
+      ap floods (if_true (can_be_tiled (suc left) n) (level (enter left) prefix n all_pieces) [] alive)
+      ∙ floods-level (enter left) prefix n all_pieces
+      ∙ sum_by-same (λ c. floods (tried (enter left) prefix n c)) (λ c. if queues_permit root.line (pieces_of prefix ++ c ∷ []) then 1 + sum_by (λ q. work_from left root (prefix ++ q ∷ [])) (placements_of c) else 0) all_pieces
+      (λ c _. kind-floods left root prefix n at alive (floods-enter left root) c)
+      ∙ sym (if_true (is_live_prefix (suc left) root prefix) _ 0 (live-prefix (suc left) root prefix n at played ∙ alive))
+  | inr dead ↦
+      ap floods (if_false (can_be_tiled (suc left) n) (level (enter left) prefix n all_pieces) [] dead)
+      ∙ sym (if_false (is_live_prefix (suc left) root prefix) _ 0 (live-prefix (suc left) root prefix n at played ∙ dead))
+]
 
 -- at the start
-root-at : (root : Position) → root.line.played ≡ [] → IsAt root [] root
-root-at root none = record {
+root-at : (left : ℕ) (root : Position) → root.line.played ≡ [] → IsAt left root [] root
+root-at left root none = record {
   stands = λ s. refl;
-  permits = λ pieces. ap (λ l. line_permits root.line (l ++ pieces)) (sym none);
+  permits = λ pieces. ap (λ l. queues_permit root.line (l ++ pieces)) (sym none);
+  tiled = λ k s all. refl;
 }
 
-root-dead : (root : Position) → root.line.played ≡ [] → is_live_prefix root [] ≡ false → (c : Piece) → may_play root.line c ≡ false
-unfolding is_live_prefix can_stand may_play
-root-dead root none dead c = elim (cases_Bool (line_permits root.line (root.line.played ++ c ∷ []))) [
+root-dead : (root : Position) → root.line.played ≡ [] → can_be_played root [] ≡ false → (c : Piece) → may_play root.line c ≡ false
+unfolding can_be_played can_stand may_play
+root-dead root none dead c = elim (cases_Bool (queues_permit root.line (root.line.played ++ c ∷ []))) [
   | inl e ↦
-      let permitted : LinePermits root.line ([] ++ c ∷ []) = subst (λ l. LinePermits root.line (l ++ c ∷ [])) none ((permits-decides root.line (root.line.played ++ c ∷ [])).0 e) in
-      let start : line_permits root.line [] ≡ true = (permits-decides root.line []).1 (line_permits-front root.line [] (c ∷ []) permitted) in
-      let live : (line_permits root.line [] && true) ≡ true = and_both (line_permits root.line []) true start refl in
+      let permitted : QueuesPermit root.line ([] ++ c ∷ []) = subst (λ l. QueuesPermit root.line (l ++ c ∷ [])) none ((permits-decides root.line (root.line.played ++ c ∷ [])).0 e) in
+      let start : queues_permit root.line [] ≡ true = (permits-decides root.line []).1 (line_permits-front root.line [] (c ∷ []) permitted) in
+      let live : (queues_permit root.line [] && true) ≡ true = and_both (queues_permit root.line []) true start refl in
       cc
   | inr e ↦ e
 ]
@@ -168,16 +186,18 @@ unfolding tried floods
 none_tried left root c e = ap floods (if_false (may_play root.line c) _ (Tick ∷ []) e)
 
 pub floods-begun : (left : ℕ) (root : Position) → root.line.played ≡ [] → floods (begun left root) ≡ work_from left root []
-unfolding begun enter floods is_live work_from
-floods-begun zero root none = refl
-floods-begun (suc left) root none = elim (cases_Bool (is_live_prefix root [])) [
-  | inl live ↦ floods-enter (suc left) root [] root (root-at root none) live
-  | inr dead ↦
-      floods-level (enter left) [] root all_pieces
-      ∙ sum_by-same (λ c. floods (tried (enter left) [] root c)) (λ c. 0) all_pieces (λ c _. none_tried left root c (root-dead root none dead c))
-      ∙ no_sum
-      ∙ sym (if_false (is_live_prefix root []) _ 0 dead)
+unfolding begun enter floods is_live
+floods-begun zero root none = unfold work_from in refl
+floods-begun (suc left) root none = elim (cases_Bool (can_be_played root [])) [
+  | inl played ↦ floods-enter (suc left) root [] root (root-at (suc left) root none) played
+  | inr unplayed ↦ nothing (can_be_tiled (suc left) root) (floods-level (enter left) [] root all_pieces
+      ∙ sum_by-same (λ c. floods (tried (enter left) [] root c)) (λ c. 0) all_pieces (λ c _. none_tried left root c (root-dead root none unplayed c))
+      ∙ no_sum) ∙ sym (work-unplayed (suc left) root [] unplayed)
 ]
   where
     no_sum : sum_by (λ c. 0) all_pieces ≡ 0
     no_sum = refl
+
+    nothing : (b : Bool) → floods (level (enter left) [] root all_pieces) ≡ 0 → floods (if b then level (enter left) [] root all_pieces else []) ≡ 0
+    nothing true none = none
+    nothing false none = refl

@@ -8,14 +8,14 @@ use Rattle.queue_pattern.specs.Grammar.{set_of}
 use Rattle.queue_pattern.specs.Queues.{pieces_in, choices, queues}
 use Rattle.hold_queue.specs.declared.hold.Hold.{Hold}
 use Rattle.hold_queue.specs.Permits.{Permits}
-use Rattle.hold_queue.specs.QueueSet.{Line, LinePermits, singles}
+use Rattle.hold_queue.specs.QueueSet.{QueuesInPlay, QueuesPermit, singles}
 
 permits-front : (hold : Hold) (queue : List Piece) (held : Option Piece) (front rest : List Piece) → Permits hold queue held (front ++ rest) → Permits hold queue held front
 permits-front hold queue held [] rest permitted = tt
 permits-front hold queue held (piece ∷ front) rest permitted =
     (permitted.0, permitted.1, permitted.2, permits-front hold permitted.0 permitted.1 front rest permitted.3)
 
-pub line_permits-front : (line : Line) (front rest : List Piece) → LinePermits line (front ++ rest) → LinePermits line front
+pub line_permits-front : (line : QueuesInPlay) (front rest : List Piece) → QueuesPermit line (front ++ rest) → QueuesPermit line front
 line_permits-front line front rest permitted = (permitted.0, permitted.1, permits-front line.hold permitted.0 line.held front rest permitted.2)
 
 pieces_in-single : (piece : Piece) → pieces_in (set_of piece) ≡ piece ∷ []

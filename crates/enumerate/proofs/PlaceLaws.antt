@@ -11,10 +11,8 @@ use Rattle.srs.specs.Cells.{Cell, cells_of, in_well, is_inside_of}
 use Rattle.srs.specs.SameCells.{HasSameCells}
 use Rattle.srs.specs.Canonical.{is_canonical}
 use Rattle.srs.specs.Placements.{IsCanonicalInside, is_canonical_inside}
-use Rattle.srs.proofs.CanonicalLemmas.{is_canonical-from, IsCanonical-from_test}
-use Rattle.srs.proofs.CellLemmas.{has_cell-all, list_all-from_has_cell}
-use Rattle.srs.proofs.CodeLemmas.{piece_code-injective}
-use Rattle.srs.proofs.ListLemmas.{and_both, and_first, and_second}
+use Rattle.srs.proofs.CallerLemmas.{is_canonical-from, IsCanonical-from_test, is_among-all, list_all-from_is_among, piece_code-injective}
+use Rattle.lists.proofs.CallerLemmas.{and_both, and_first, and_second}
 use Rattle.std.proofs.lemmas.Bool.{eqb-true}
 use Rattle.well.specs.Free.{is_open, is_free_at, is_free}
 use Rattle.moves.specs.declared.key.DropMode.{DropMode}
@@ -39,11 +37,11 @@ free_at F piece rotation (x, y) s e free = cc
 free-same : (F : Field) (s q : Placement) → HasSameCells s q → is_free F s ≡ true → is_free F q ≡ true
 unfolding is_free_at
 free-same F s q same free =
-    list_all-from_has_cell (is_open F) (cells_of q) (λ cell among. has_cell-all (is_open F) (cells_of s) cell free (same.same cell ∙ among))
+    list_all-from_is_among (is_open F) (cells_of q) (λ cell among. is_among-all (is_open F) (cells_of s) cell free (same.same cell ∙ among))
 
 pub free-inside : (F : Field) (q : Placement) → is_free F q ≡ true → is_inside_of q ≡ true
 unfolding is_free_at
-free-inside F q free = list_all-from_has_cell in_well (cells_of q) (λ cell among. is_open-inside F cell (has_cell-all (is_open F) (cells_of q) cell free among))
+free-inside F q free = list_all-from_is_among in_well (cells_of q) (λ cell among. is_open-inside F cell (is_among-all (is_open F) (cells_of q) cell free among))
 
 pub place-free : (table : Table) (F : Field) (mode : DropMode) (q : Placement) → IsPlace table F mode q → is_free F q ≡ true
 place-free table F mode q place =

@@ -7,11 +7,11 @@ use Rattle.srs.specs.declared.piece.Piece.{Piece}
 use Rattle.srs.specs.declared.placement.Placement.{Placement}
 use Rattle.srs.specs.Kick.{Table}
 use Rattle.srs.specs.Rules.{table_of}
-use Rattle.srs.proofs.ListLemmas.{and_both, and_second}
+use Rattle.lists.proofs.CallerLemmas.{and_both, and_second}
 use Rattle.well.specs.Well.{filled}
 use Rattle.moves.specs.declared.key.DropMode.{DropMode}
 use Rattle.hold_queue.specs.declared.set.QueueSet.{QueueSet}
-use Rattle.hold_queue.specs.QueueSet.{line_of}
+use Rattle.hold_queue.specs.QueueSet.{queues_in_play}
 use Rattle.enumerate.specs.declared.problem.Problem.{Problem}
 use Rattle.enumerate.specs.declared.frame.Frame.{Frame}
 use Rattle.enumerate.specs.Problem.{needed_of}
@@ -25,8 +25,8 @@ use Rattle.enumerate.proofs.SeekLemmas.{fresh-events}
 use Rattle.enumerate.proofs.SkipLemmas.{skips-same}
 use Rattle.enumerate.proofs.Tests.{if_false}
 
-pub first-position : (problem : Problem) (queue : Option (List Piece)) (queues : QueueSet) → line_of queues ≡ line_at problem queue →
-    ◌≡◌ {A = Position} (record { table = table_of problem.rules; mode = problem.drop_mode; field = filled problem.well; rows = problem.height; line = line_of queues }) (root_of problem queue)
+pub first-position : (problem : Problem) (queue : Option (List Piece)) (queues : QueueSet) → queues_in_play queues ≡ line_at problem queue →
+    ◌≡◌ {A = Position} (record { table = table_of problem.rules; mode = problem.drop_mode; field = filled problem.well; rows = problem.height; line = queues_in_play queues }) (root_of problem queue)
 unfolding root_of
 first-position problem queue queues e = λ i. record { table = table_of problem.rules; mode = problem.drop_mode; field = filled problem.well; rows = problem.height; line = e i }
 

@@ -5,12 +5,11 @@ use Rattle.std.proofs.lemmas.Bool.{cases_Bool}
 use Rattle.srs.specs.declared.piece.Piece.{Piece}
 use Rattle.srs.specs.declared.placement.Placement.{Placement}
 use Rattle.srs.specs.Order.{sequence_cmp}
-use Rattle.srs.specs.Rising.{is_above, IsRisingListOf}
-use Rattle.srs.proofs.MemberLemmas.{filter-each, filter-false, filter-true, find-false, find-true}
-use Rattle.srs.proofs.OrderLemmas.{sequence_cmp-total}
-use Rattle.srs.proofs.RisingLemmas.{filter_above-next, IsRisingListOf-filter}
+use Rattle.lists.specs.Rising.{is_above, IsRisingListOf}
+use Rattle.lists.proofs.CallerLemmas.{filter-each, filter-false, filter-true, find-false, find-true, filter_above-next, IsRisingListOf-filter}
+use Rattle.srs.proofs.CallerLemmas.{sequence_cmp-total}
 use Rattle.hold_queue.specs.Permits.{SomePermits}
-use Rattle.hold_queue.specs.QueueSet.{LinePermits}
+use Rattle.hold_queue.specs.QueueSet.{QueuesPermit}
 use Rattle.enumerate.specs.declared.problem.Problem.{Problem}
 use Rattle.enumerate.specs.Problem.{IsFit, needed_of}
 use Rattle.enumerate.specs.Solution.{IsSolution, pieces_of, queues_that_count}
@@ -89,7 +88,7 @@ module _ (problem : Problem) (fit : IsFit problem) (queue : Option (List Piece))
     permitted = permitted queue solved.permitted;
   }
     where
-      permitted : (queue : Option (List Piece)) → LinePermits (line_at problem queue) ((line_at problem queue).played ++ pieces_of s) → SomePermits problem.hold (queues_that_count problem queue) problem.held (pieces_of s)
+      permitted : (queue : Option (List Piece)) → QueuesPermit (line_at problem queue) ((line_at problem queue).played ++ pieces_of s) → SomePermits problem.hold (queues_that_count problem queue) problem.held (pieces_of s)
       permitted None line = line
       permitted (Some q) line = subst (λ l. SomePermits problem.hold l problem.held (pieces_of s)) (queues-singles q) line
 
@@ -101,7 +100,7 @@ module _ (problem : Problem) (fit : IsFit problem) (queue : Option (List Piece))
     permitted = permitted queue solution.permitted;
   }
     where
-      permitted : (queue : Option (List Piece)) → SomePermits problem.hold (queues_that_count problem queue) problem.held (pieces_of s) → LinePermits (line_at problem queue) ((line_at problem queue).played ++ pieces_of s)
+      permitted : (queue : Option (List Piece)) → SomePermits problem.hold (queues_that_count problem queue) problem.held (pieces_of s) → QueuesPermit (line_at problem queue) ((line_at problem queue).played ++ pieces_of s)
       permitted None line = line
       permitted (Some q) line = subst (λ l. SomePermits problem.hold l problem.held (pieces_of s)) (sym (queues-singles q)) line
 
@@ -115,7 +114,7 @@ module _ (problem : Problem) (fit : IsFit problem) (queue : Option (List Piece))
     rising = sols-rising (needed_of problem) (root_of problem queue);
     members = λ s. (
       λ among. to-solution s (sound (needed_of problem) (root_of problem queue) root-low (λ none. absurd (no-rows none)) s among),
-      λ solution. complete (needed_of problem) (root_of problem queue) s (from-solution s solution),
+      λ solution. complete (needed_of problem) (root_of problem queue) s root-low (from-solution s solution),
     );
   }
 

@@ -13,16 +13,14 @@ use Rattle.srs.specs.Kick.{Table}
 use Rattle.srs.specs.Piece.{all_pieces, piece_code}
 use Rattle.srs.specs.Order.{placement_cmp}
 use Rattle.srs.specs.Placements.{placements_of}
-use Rattle.srs.specs.Rising.{is_above}
-use Rattle.srs.proofs.MemberLemmas.{Contains-cases, Contains-there}
-use Rattle.srs.proofs.OrderLemmas.{placement_cmp-total}
-use Rattle.srs.proofs.PlacementLemmas.{placements_of-list}
-use Rattle.srs.proofs.RisingLemmas.{rising-first, rising-none}
+use Rattle.lists.specs.Rising.{is_above}
+use Rattle.lists.proofs.CallerLemmas.{Contains-cases, Contains-there, rising-first, rising-none}
+use Rattle.srs.proofs.CallerLemmas.{placement_cmp-total, placements_of-list}
 use Rattle.moves.specs.declared.key.DropMode.{DropMode}
 use Rattle.moves.specs.PlaceTest.{is_place}
 use Rattle.reach.specs.declared.held.Places.{Places}
 use Rattle.reach.specs.Places.{holds, piece_of}
-use Rattle.hold_queue.specs.QueueSet.{line_of}
+use Rattle.hold_queue.specs.QueueSet.{queues_in_play}
 use Rattle.enumerate.specs.declared.frame.Frame.{Frame}
 use Rattle.enumerate.specs.declared.turn.Turn.{Turn}
 use Rattle.enumerate.specs.declared.turn.Turn.TheVariants.{Passed, Flooded, Entered, Full, Over}
@@ -102,12 +100,12 @@ module _ (table : Table) (mode : DropMode) (old new : Frame) (same : SamePositio
   rest-same prefix = λ i. level (enter (same.left i)) prefix (same-position table mode old new same i) (drop (tried i) all_pieces)
 
   -- a kind that may not be played
-  pub passes-kind : may_play (line_of old.queues) q.piece ≡ false → places_left new.places new.entered ≡ [] → (prefix given : List Placement) →
+  pub passes-kind : may_play (queues_in_play old.queues) q.piece ≡ false → places_left new.places new.entered ≡ [] → (prefix given : List Placement) →
       sought (suc old.left) prefix here (q ∷ given) ≡ events_of table mode prefix new
   unfolding sought events_of position_of
   passes-kind not_played none prefix given =
       if_true (is_live old.left here) _ [] live
-      ∙ ap (λ l. l ++ rest prefix) (if_false (may_play (line_of old.queues) q.piece) _ [] not_played)
+      ∙ ap (λ l. l ++ rest prefix) (if_false (may_play (queues_in_play old.queues) q.piece) _ [] not_played)
       ∙ sym (rest-same prefix)
       ∙ ap (λ l. flat_map (entered (enter new.left) prefix (position_of table mode new)) l ++ level (enter new.left) prefix (position_of table mode new) (drop new.tried all_pieces)) (sym none)
 
@@ -115,12 +113,12 @@ module _ (table : Table) (mode : DropMode) (old new : Frame) (same : SamePositio
   abbrev first : List Placement → List Placement → List Event
   first prefix given = if is_place table here.field mode q && is_below old.rows q then sought old.left (prefix ++ q ∷ []) (after_of here q) given else []
 
-  module _ (played : may_play (line_of old.queues) q.piece ≡ true) (left : places_left new.places new.entered ≡ filter (is_above placement_cmp (Some q)) (places_at here q.piece)) where
+  module _ (played : may_play (queues_in_play old.queues) q.piece ≡ true) (left : places_left new.places new.entered ≡ filter (is_above placement_cmp (Some q)) (places_at here q.piece)) where
     pub floods-kind : (prefix given : List Placement) → sought (suc old.left) prefix here (q ∷ given) ≡ Flood ∷ (first prefix given ++ events_of table mode prefix new)
     unfolding sought events_of position_of
     floods-kind prefix given =
         if_true (is_live old.left here) _ [] live
-        ∙ ap (λ l. l ++ rest prefix) (if_true (may_play (line_of old.queues) q.piece) _ [] played)
+        ∙ ap (λ l. l ++ rest prefix) (if_true (may_play (queues_in_play old.queues) q.piece) _ [] played)
         ∙ ap (λ l. Flood ∷ l)
         (append_assoc (first prefix given) (flat_map (entered (enter old.left) prefix here) (filter (is_above placement_cmp (Some q)) (places_at here q.piece))) (rest prefix)
         ∙ ap (λ l. first prefix given ++ l) (sym (λ i. flat_map (entered (enter (same.left i)) prefix (same-position table mode old new same i)) (left i) ++ rest-same prefix i)))

@@ -1,7 +1,6 @@
 -- Turns of frames, from the first position to the deepest.
-use Rattle.std.proofs.Common.{◌≡◌, ℕ, suc, ◌+◌, ◌<◌, ◌≤◌, Bool, true, false, List, [], ◌∷◌, ◌++◌, length, refl, sym, ap, subst, ◌∙◌, arith, append_assoc, length-append}
+use Rattle.std.proofs.Common.{◌≡◌, ℕ, suc, ◌+◌, ◌<◌, ◌≤◌, Bool, true, false, List, [], ◌∷◌, ◌++◌, length, refl, sym, ap, subst, ◌∙◌, arith, append_assoc, length-append, get_or, set, take, length-take, length-set}
 use Rattle.std.specs.Prelude.{nat_le, ◌-◌}
-use Rattle.std.proofs.Common.{get_or, set, take, length-take, length-set}
 use Rattle.std.proofs.Math.Seq.{take-suc, take-suc-set}
 use Rattle.std.specs.List.{flat_map}
 use Rattle.std.proofs.lemmas.Bool.{leb-true, le-leb}
@@ -9,7 +8,7 @@ use Rattle.std.proofs.lemmas.List.{append-nil, take-set, take_more_set}
 use Rattle.std.proofs.lemmas.Grind.{flat_map-append}
 use Rattle.srs.specs.declared.placement.Placement.{Placement}
 use Rattle.srs.specs.Kick.{Table}
-use Rattle.srs.proofs.ListLemmas.{and_both, and_first, and_second}
+use Rattle.lists.proofs.CallerLemmas.{and_both, and_first, and_second}
 use Rattle.moves.specs.declared.key.DropMode.{DropMode}
 use Rattle.enumerate.specs.declared.frame.Frame.{Frame}
 use Rattle.enumerate.specs.Events.{Event, Tick, Flood, Found, found, floods}
@@ -156,6 +155,11 @@ pub finds-more : (first old new : List (List Placement)) (path : List Placement)
 finds-more first old new path true true same finds e f = same ∙ finds
 finds-more first old new path true false same finds e f = cc
 finds-more first old new path false some same finds e f = cc
+
+-- where nothing is found what is to be found stays
+pub finds-none : (old new : List (List Placement)) (path : List Placement) (solved : Bool) → solved ≡ false → Finds old new path solved → old ≡ new
+finds-none old new path true e finds = cc
+finds-none old new path false e finds = finds
 
 -- one more frame on the path
 pub path-more : (frames : List Frame) (i : ℕ) (frame : Frame) → i < length frames → frame ≡ get_or frames i frame → path_of (take (i + 1) frames) ≡ path_of (take i frames) ++ step_of frame

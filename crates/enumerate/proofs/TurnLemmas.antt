@@ -12,11 +12,9 @@ use Rattle.srs.specs.Kick.{Table}
 use Rattle.srs.specs.Piece.{all_pieces}
 use Rattle.srs.specs.Order.{placement_cmp}
 use Rattle.srs.specs.Placements.{placements_of}
-use Rattle.srs.specs.Rising.{is_above, IsNextAbove, IsRisingListOf}
-use Rattle.srs.proofs.MemberLemmas.{Contains-filter, Contains-from_filter, Contains-here, Contains-there, filter-false, filter-true}
-use Rattle.srs.proofs.OrderLemmas.{placement_cmp-antisymmetric, placement_cmp-total}
-use Rattle.srs.proofs.PlacementLemmas.{placements_of-list}
-use Rattle.srs.proofs.RisingLemmas.{find-next_of, filter_above-next, filter_above-none, IsNextAbove-unique}
+use Rattle.lists.specs.Rising.{is_above, IsNextAbove, IsRisingListOf}
+use Rattle.lists.proofs.CallerLemmas.{Contains-filter, Contains-from_filter, Contains-here, Contains-there, filter-false, filter-true, find-next_of, filter_above-next, filter_above-none, IsNextAbove-unique}
+use Rattle.srs.proofs.CallerLemmas.{placement_cmp-antisymmetric, placement_cmp-total, placements_of-list}
 use Rattle.std.proofs.lemmas.List.Kept.{IsStrictlySortedBy-filter}
 use Rattle.well.specs.Well.{filled}
 use Rattle.well.specs.Lock.{locked, rows_removed}
@@ -25,7 +23,7 @@ use Rattle.moves.specs.Place.{IsPlace}
 use Rattle.moves.specs.PlaceTest.{is_place}
 use Rattle.reach.specs.declared.held.Places.{Places}
 use Rattle.reach.specs.Places.{holds, piece_of}
-use Rattle.hold_queue.specs.QueueSet.{Line, LinePermits, line_of, line_permits}
+use Rattle.hold_queue.specs.QueueSet.{QueuesInPlay, QueuesPermit, queues_in_play, queues_permit}
 use Rattle.enumerate.specs.declared.frame.Frame.{Frame}
 use Rattle.well.specs.LockLaws.{is_below}
 use Rattle.enumerate.specs.Position.{Position, after_of, may_play, places_at, is_live}
@@ -68,7 +66,7 @@ filter-same a b (x ∷ xs) each =
 abbrev pub Lockable : Field → Places → Type 0
 Lockable F places = (q : Placement) → holds places q ≡ true → may_lock F (piece_of places) q ≡ true
 
-module _ (F : Field) (line : Line) (places : Places) (lockable : Lockable F places) (permitted : may_play line (piece_of places) ≡ true) where
+module _ (F : Field) (line : QueuesInPlay) (places : Places) (lockable : Lockable F places) (permitted : may_play line (piece_of places) ≡ true) where
   abbrev held : List Placement
   held = filter (holds places) (placements_of (piece_of places))
 
@@ -161,7 +159,7 @@ module _ (frame : Frame) (q : Placement) (below : is_below frame.rows q ≡ true
 
   -- the frame after a placement stands for the position there
   module _ (child : Frame) (field : filled child.well ≡ locked (filled frame.well) q) (rows : child.rows ≡ frame.rows - rows_removed (filled frame.well) q)
-      (line : line_of child.queues ≡ record (line_of frame.queues) { played = (line_of frame.queues).played ++ q.piece ∷ [] }) where
+      (line : queues_in_play child.queues ≡ record (queues_in_play frame.queues) { played = (queues_in_play frame.queues).played ++ q.piece ∷ [] }) where
     child-position : (table : Table) (mode : DropMode) → position_of table mode child ≡ after_of (position_of table mode frame) q
     unfolding position_of after_of
     child-position table mode = λ i. record { table = table; mode = mode; field = field i; rows = rows i; line = line i }
@@ -216,9 +214,9 @@ unfolding level
 level-nil walk prefix n = refl
 
 -- the queues answer whether a kind may be played
-pub may_play-answer : (line : Line) (c : Piece) (r : Bool) → ((r ≡ true) ↔ LinePermits line (line.played ++ c ∷ [])) → may_play line c ≡ r
+pub may_play-answer : (line : QueuesInPlay) (c : Piece) (r : Bool) → ((r ≡ true) ↔ QueuesPermit line (line.played ++ c ∷ [])) → may_play line c ≡ r
 unfolding may_play
-may_play-answer line c r answer = one_answer {P = LinePermits line (line.played ++ c ∷ [])} (line_permits line (line.played ++ c ∷ [])) r (permits-decides line (line.played ++ c ∷ [])) answer
+may_play-answer line c r answer = one_answer {P = QueuesPermit line (line.played ++ c ∷ [])} (queues_permit line (line.played ++ c ∷ [])) r (permits-decides line (line.played ++ c ∷ [])) answer
 
 pub goes-over : (table : Table) (mode : DropMode) (frame : Frame) → places_left frame.places frame.entered ≡ [] → drop frame.tried all_pieces ≡ [] → GoesAs table mode frame (λ prefix. Tick ∷ [])
 goes-over table mode frame none last = record {
@@ -231,7 +229,7 @@ goes-over table mode frame none last = record {
 -- two frames at one position
 pub same-position : (table : Table) (mode : DropMode) (old new : Frame) → SamePosition old new → position_of table mode new ≡ position_of table mode old
 unfolding position_of
-same-position table mode old new same = λ i. record { table = table; mode = mode; field = filled (same.well i); rows = same.rows i; line = line_of (same.queues i) }
+same-position table mode old new same = λ i. record { table = table; mode = mode; field = filled (same.well i); rows = same.rows i; line = queues_in_play (same.queues i) }
 
 module _ (table : Table) (mode : DropMode) (old new : Frame) (same : SamePosition old new) (c : Piece)
     (none : places_left old.places old.entered ≡ []) (next : drop old.tried all_pieces ≡ c ∷ drop new.tried all_pieces) where
@@ -245,22 +243,22 @@ module _ (table : Table) (mode : DropMode) (old new : Frame) (same : SamePositio
   rest-same : (prefix : List Placement) → level (enter new.left) prefix (position_of table mode new) (drop new.tried all_pieces) ≡ level (enter old.left) prefix (position_of table mode old) (drop new.tried all_pieces)
   rest-same prefix = λ i. level (enter (same.left i)) prefix (same-position table mode old new same i) (drop new.tried all_pieces)
 
-  pub goes-past_kind : may_play (line_of old.queues) c ≡ false → places_left new.places new.entered ≡ [] → GoesAs table mode old (λ prefix. Tick ∷ events_of table mode prefix new)
+  pub goes-past_kind : may_play (queues_in_play old.queues) c ≡ false → places_left new.places new.entered ≡ [] → GoesAs table mode old (λ prefix. Tick ∷ events_of table mode prefix new)
   unfolding tried position_of
   goes-past_kind not_played none_new = record {
     same = λ prefix.
         begins prefix
-        ∙ ap (λ l. l ++ level (enter old.left) prefix (position_of table mode old) (drop new.tried all_pieces)) (if_false (may_play (line_of old.queues) c) _ (Tick ∷ []) not_played)
+        ∙ ap (λ l. l ++ level (enter old.left) prefix (position_of table mode old) (drop new.tried all_pieces)) (if_false (may_play (queues_in_play old.queues) c) _ (Tick ∷ []) not_played)
         ∙ ap (λ l. Tick ∷ l) (sym (events-shape table mode new prefix none_new ∙ rest-same prefix));
   }
 
-  pub goes-flooded : may_play (line_of old.queues) c ≡ true → places_left new.places new.entered ≡ places_at (position_of table mode old) c → GoesAs table mode old (λ prefix. Flood ∷ events_of table mode prefix new)
+  pub goes-flooded : may_play (queues_in_play old.queues) c ≡ true → places_left new.places new.entered ≡ places_at (position_of table mode old) c → GoesAs table mode old (λ prefix. Flood ∷ events_of table mode prefix new)
   unfolding tried position_of events_of
   goes-flooded played places = record {
     same = λ prefix.
         begins prefix
         ∙ ap (λ l. l ++ level (enter old.left) prefix (position_of table mode old) (drop new.tried all_pieces))
-        (if_true (may_play (line_of old.queues) c) (Flood ∷ flat_map (entered (enter old.left) prefix (position_of table mode old)) (places_at (position_of table mode old) c)) (Tick ∷ []) played)
+        (if_true (may_play (queues_in_play old.queues) c) (Flood ∷ flat_map (entered (enter old.left) prefix (position_of table mode old)) (places_at (position_of table mode old) c)) (Tick ∷ []) played)
         ∙ ap (λ l. Flood ∷ l)
         (sym ((λ i. flat_map (entered (enter (same.left i)) prefix (same-position table mode old new same i)) (places i)
         ++ level (enter (same.left i)) prefix (same-position table mode old new same i) (drop new.tried all_pieces))));
@@ -292,7 +290,7 @@ module _ (table : Table) (mode : DropMode) (old new : Frame) (same : SamePositio
       step-is : step_of new ≡ q ∷ []
       step-is = ap option_to_list step
 
-pub line-permits : (line : Line) (c : Piece) → may_play line c ≡ true → LinePermits line (line.played ++ c ∷ [])
+pub line-permits : (line : QueuesInPlay) (c : Piece) → may_play line c ≡ true → QueuesPermit line (line.played ++ c ∷ [])
 unfolding may_play
 line-permits line c played = (permits-decides line (line.played ++ c ∷ [])).0 played
 

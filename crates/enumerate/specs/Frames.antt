@@ -7,12 +7,12 @@ use Rattle.srs.specs.Kick.{Table}
 use Rattle.srs.specs.Piece.{all_pieces}
 use Rattle.srs.specs.Order.{placement_cmp}
 use Rattle.srs.specs.Placements.{placements_of}
-use Rattle.srs.specs.Rising.{is_above}
+use Rattle.lists.specs.Rising.{is_above}
 use Rattle.well.specs.Well.{filled}
 use Rattle.moves.specs.declared.key.DropMode.{DropMode}
 use Rattle.reach.specs.declared.held.Places.{Places}
 use Rattle.reach.specs.Places.{holds, piece_of}
-use Rattle.hold_queue.specs.QueueSet.{line_of}
+use Rattle.hold_queue.specs.QueueSet.{queues_in_play}
 use Rattle.enumerate.specs.declared.frame.Frame.{Frame}
 use Rattle.enumerate.specs.Position.{Position}
 use Rattle.enumerate.specs.Events.{Event, entered, level, enter}
@@ -23,7 +23,7 @@ position_of table mode frame = record {
   mode = mode;
   field = filled frame.well;
   rows = frame.rows;
-  line = line_of frame.queues;
+  line = queues_in_play frame.queues;
 }
 
 -- the held placements above the one that was entered last

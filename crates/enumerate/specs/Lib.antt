@@ -6,6 +6,7 @@ pub mod Search
 pub mod Position
 pub mod Events
 pub mod Work
+pub mod Counted
 pub mod Standing
 pub mod Frames
 pub mod Turns

@@ -1,5 +1,5 @@
 -- Positions of a search: the rules, a field, the rows that are left, and the queues with the pieces that were played.
-use Rattle.std.specs.Prelude.{ℕ, ◌-◌, Bool, true, Option, Some, None, List, [], ◌∷◌, ◌++◌, filter}
+use Rattle.std.specs.Prelude.{ℕ, suc, ◌-◌, Bool, Option, Some, None, List, [], ◌∷◌, ◌++◌, filter}
 use Rattle.lane_board.specs.Field.{Field}
 use Rattle.srs.specs.declared.piece.Piece.{Piece}
 use Rattle.srs.specs.declared.placement.Placement.{Placement}
@@ -11,7 +11,9 @@ use Rattle.well.specs.Lock.{locked, rows_removed}
 use Rattle.moves.specs.declared.key.DropMode.{DropMode}
 use Rattle.moves.specs.PlaceTest.{is_place}
 use Rattle.queue_pattern.specs.Pattern.{elements_of}
-use Rattle.hold_queue.specs.QueueSet.{Line, line_permits, singles}
+use Rattle.hold_queue.specs.QueueSet.{QueuesInPlay, queues_permit, singles}
+use Rattle.hold_queue.specs.Supply.{supply_of}
+use Rattle.packing.specs.HasTiling.{has_tiling}
 use Rattle.enumerate.specs.declared.problem.Problem.{Problem}
 
 pub record Position : Type 0 where
@@ -19,7 +21,7 @@ pub record Position : Type 0 where
   pub mode : DropMode
   pub field : Field
   pub rows : ℕ
-  pub line : Line
+  pub line : QueuesInPlay
 
 -- the position after one more placement
 unfoldable pub after_of : Position → Placement → Position
@@ -32,19 +34,23 @@ after_of n q = record {
 }
 
 -- some queue permits the played pieces and then this one
-unfoldable pub may_play : Line → Piece → Bool
-may_play line piece = line_permits line (line.played ++ piece ∷ [])
+unfoldable pub may_play : QueuesInPlay → Piece → Bool
+may_play line piece = queues_permit line (line.played ++ piece ∷ [])
 
 -- the placements of a piece that legal keys reach, in order
 unfoldable pub places_at : Position → Piece → List Placement
 places_at n piece = filter (is_place n.table n.field n.mode) (placements_of piece)
 
--- whether a position with so many placements to come is worth a look: for now each is
+-- the empty cells of the rows left have a tiling by what may still be played, with so many placements to come
+unfoldable pub can_be_tiled : ℕ → Position → Bool
+can_be_tiled left n = has_tiling n.field n.rows (supply_of n.line left)
+
+-- whether a position is worth a look, with so many placements to come after the next one
 unfoldable pub is_live : ℕ → Position → Bool
-is_live left n = true
+is_live left n = can_be_tiled (suc left) n
 
 -- the queues that count, with nothing played: one of them alone, or all of the pattern
-abbrev pub line_at : Problem → Option (List Piece) → Line
+abbrev pub line_at : Problem → Option (List Piece) → QueuesInPlay
 line_at problem None = record { elements = elements_of problem.pattern; hold = problem.hold; held = problem.held; played = [] }
 line_at problem (Some queue) = record { elements = singles queue; hold = problem.hold; held = problem.held; played = [] }
 

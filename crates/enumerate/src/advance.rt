@@ -1,11 +1,13 @@
 // Frames go on to the next solution.
 ghost use Rattle.std.specs.Prelude.{◌≡◌, ℕ, ◌+◌, ◌<◌, ◌≤◌, Bool, true, IsTrue, MatchOption, [], ◌∷◌, length, nat_lt, take};
 ghost use Rattle.srs.specs.Rules.{table_of};
+ghost use Rattle.enumerate.specs.Counted.{CountsUp};
 ghost use Rattle.enumerate.specs.Events.{found, floods};
 ghost use Rattle.enumerate.specs.Frames.{has_room, path_of, stacked};
 ghost use Rattle.enumerate.specs.Walks.{Finds, IsTurn};
 
 use crate::frame::Frame;
+use crate::notes::Notes;
 use crate::search::Sequence;
 use crate::turn::Turn;
 use moves::DropMode;
@@ -33,6 +35,7 @@ fn turn<L: Ledger>(
     depth: usize,
     rules: &Rules,
     drop_mode: DropMode,
+    notes: &mut Notes,
     steps: &mut Steps<L>,
 ) -> (usize, bool)
     requires some { 0 < depth }
@@ -41,10 +44,11 @@ fn turn<L: Ledger>(
     ensures within { result.0 ≤ 20 }
     ensures solved { result.1 ≡ true → 0 < result.0 }
     ensures turn { IsTurn (table_of rules.now) drop_mode (take depth frames.old) (take result.0 frames.new) steps.old steps.new result.1 }
+    ensures noted { CountsUp notes.old.floods notes.new.floods steps.old steps.new }
 {
     let top = depth - 1;
     let frame = &mut frames[top];
-    match frame.turn(rules, drop_mode, steps) {
+    match frame.turn(rules, drop_mode, notes, steps) {
         Turn::Passed => (depth, false),
         Turn::Flooded => (depth, false),
         Turn::Entered(child) => {
@@ -62,6 +66,7 @@ pub fn advance<L: Ledger>(
     depth: usize,
     rules: &Rules,
     drop_mode: DropMode,
+    notes: &mut Notes,
     steps: &mut Steps<L>,
 ) -> usize
     requires within { depth ≤ 20 }
@@ -76,10 +81,11 @@ pub fn advance<L: Ledger>(
         ≡ floods (stacked (table_of rules.now) drop_mode [] (take result frames.new)) + steps.new }
     ensures fewer { floods (stacked (table_of rules.now) drop_mode [] (take result frames.new))
         ≤ floods (stacked (table_of rules.now) drop_mode [] (take depth frames.old)) }
+    ensures noted { CountsUp notes.old.floods notes.new.floods steps.old steps.new }
 {
     let mut depth = depth;
     while depth > 0 {
-        let (next, found) = turn(frames, depth, rules, drop_mode, steps);
+        let (next, found) = turn(frames, depth, rules, drop_mode, notes, steps);
         depth = next;
         if found {
             return depth;

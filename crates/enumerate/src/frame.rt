@@ -1,10 +1,10 @@
 // One level of the search: a position, and which of its next placements are still to be walked.
-ghost use Rattle.std.specs.Prelude.{◌≡◌, ℕ, IsTrue};
+ghost use Rattle.std.specs.Prelude.{◌≡◌, ℕ, ◌≤◌, IsTrue};
 ghost use Rattle.std.specs.Option.{ForSome};
 ghost use Rattle.srs.specs.declared.placement.Placement.{Placement};
 ghost use Rattle.well.specs.Well.{filled};
 ghost use Rattle.reach.specs.Places.{holds, piece_of};
-ghost use Rattle.hold_queue.specs.QueueSet.{line_of};
+ghost use Rattle.hold_queue.specs.QueueSet.{queues_in_play};
 ghost use Rattle.enumerate.specs.Position.{may_play};
 ghost use Rattle.enumerate.specs.Standing.{may_lock};
 
@@ -26,7 +26,9 @@ pub struct Frame {
     pub tried: u8,
     pub places: Option<Places>,
     pub entered: Option<Placement>,
+    ghost low: { rows ≤ 8 },
+    ghost few: { left ≤ 19 },
     ghost lockable: { ForSome places (λ p. (q : Placement) → IsTrue (holds p q) → IsTrue (may_lock (filled well) (piece_of p) q)) },
-    ghost permitted: { ForSome places (λ p. IsTrue (may_play (line_of queues) (piece_of p))) },
+    ghost permitted: { ForSome places (λ p. IsTrue (may_play (queues_in_play queues) (piece_of p))) },
     ghost same_piece: { ForSome places (λ p. ForSome entered (λ q. q.piece ≡ piece_of p)) },
 }

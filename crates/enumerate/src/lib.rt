@@ -5,12 +5,15 @@ mod advance;
 mod count;
 mod frame;
 pub mod laws;
+mod notes;
 mod problem;
 mod search;
 mod seek;
 mod start;
+mod tilings;
 mod turn;
 
 pub use count::needed;
 pub use problem::Problem;
 pub use search::{Search, Sequence};
+pub use turn::lies_below;

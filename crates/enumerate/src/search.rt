@@ -1,14 +1,16 @@
 // The search for solutions.
-ghost use Rattle.std.specs.Prelude.{◌≡◌, ℕ, ◌≤◌, IsTrue, filter, take, None};
+ghost use Rattle.std.specs.Prelude.{◌≡◌, ℕ, ◌-◌, ◌≤◌, IsTrue, filter, take, None};
 ghost use Rattle.srs.specs.Order.{sequence_cmp};
-ghost use Rattle.srs.specs.Rising.{is_above};
+ghost use Rattle.lists.specs.Rising.{is_above};
 ghost use Rattle.enumerate.specs.Problem.{IsFit};
+ghost use Rattle.enumerate.specs.Counted.{as_count};
 ghost use Rattle.enumerate.specs.Events.{found, floods};
 ghost use Rattle.enumerate.specs.Frames.{has_room};
 ghost use Rattle.enumerate.specs.Items.{items_of};
 ghost use Rattle.enumerate.specs.Rest.{rest_from, whole_from};
 
 use crate::frame::Frame;
+use crate::notes::Notes;
 use crate::problem::Problem;
 use arrayvec::ArrayVec;
 use queue_pattern::Queue;
@@ -29,6 +31,7 @@ pub struct Search {
     pub(crate) frames: [Frame; 20],
     /// How many frames are in use.
     pub(crate) depth: usize,
+    pub(crate) notes: Notes,
     ghost fit: { IsFit problem },
     ghost within: { depth ≤ 20 },
     ghost room: { IsTrue (has_room 0 (take depth frames)) },
@@ -36,4 +39,6 @@ pub struct Search {
         ≡ filter (is_above sequence_cmp (items_of bound)) (found (whole_from problem (items_of queue) None)) },
     ghost counted: { floods (rest_from problem (items_of queue) (items_of after) pending (take depth frames))
         ≤ floods (whole_from problem (items_of queue) (items_of after)) },
+    ghost noted: { notes.floods ≡ as_count (floods (whole_from problem (items_of queue) (items_of after))
+        - floods (rest_from problem (items_of queue) (items_of after) pending (take depth frames))) },
 }

@@ -3,6 +3,7 @@ ghost use Rattle.std.specs.Prelude.{◌≡◌, ◌↔◌, ℕ, suc, ◌+◌, ◌
 ghost use Rattle.srs.specs.Rules.{table_of};
 ghost use Rattle.std.specs.Option.{ForSome};
 ghost use Rattle.reach.specs.Places.{piece_of};
+ghost use Rattle.enumerate.specs.Counted.{CountsUp};
 ghost use Rattle.enumerate.specs.Events.{sought};
 ghost use Rattle.enumerate.specs.Frames.{has_room, path_of, places_left, position_of, stacked};
 ghost use Rattle.enumerate.specs.declared.frame.Frame.{Frame};
@@ -10,6 +11,7 @@ ghost use Rattle.enumerate.specs.Turns.{SamePosition};
 ghost use Rattle.enumerate.specs.Seeks.{IsFresh, IsSought, Skips, SkipsTo};
 
 use crate::frame::Frame;
+use crate::notes::Notes;
 use crate::turn::Turn;
 use moves::DropMode;
 use reach::Steps;
@@ -50,11 +52,13 @@ impl Frame {
         target: &Placement,
         rules: &Rules,
         drop_mode: DropMode,
+        notes: &mut Notes,
         steps: &mut Steps<L>,
     ) -> Option<Frame>
         requires { IsFresh (table_of rules.now) drop_mode self.old }
         ensures skips { Skips (table_of rules.now) drop_mode self.old self.new target.now result steps.old steps.new }
         ensures same { SamePosition self.old self.new }
+        ensures noted { CountsUp notes.old.floods notes.new.floods steps.old steps.new }
     {
         self.tried = target.piece.code();
         self.places = None;
@@ -62,13 +66,13 @@ impl Frame {
         if !self.queues.may_play(target.piece) {
             return None;
         }
-        self.flood(target.piece, rules, drop_mode, steps);
+        self.flood(target.piece, rules, drop_mode, &mut notes.floods, steps);
         let reached = self.reaches(target);
         self.entered = Some(*target);
         if !reached {
             return None;
         }
-        match self.enter(target) {
+        match self.enter(target, &mut notes.tilings) {
             Turn::Entered(child) => Some(child),
             _ => None,
         }
@@ -83,15 +87,17 @@ fn skip_at<L: Ledger>(
     target: &Placement,
     rules: &Rules,
     drop_mode: DropMode,
+    notes: &mut Notes,
     steps: &mut Steps<L>,
 ) -> bool
     requires within { top < 20 }
     requires room { IsTrue (has_room 0 (take (top + 1) frames.old)) }
     requires fresh { (d : Frame) → IsFresh (table_of rules.now) drop_mode (slice_index_or frames.old top d) }
-    ensures { IsSought (table_of rules.now) drop_mode frames.old frames.new top target.now result steps.old steps.new }
+    ensures sought { IsSought (table_of rules.now) drop_mode frames.old frames.new top target.now result steps.old steps.new }
+    ensures noted { CountsUp notes.old.floods notes.new.floods steps.old steps.new }
 {
     let frame = &mut frames[top];
-    match frame.skip(target, rules, drop_mode, steps) {
+    match frame.skip(target, rules, drop_mode, notes, steps) {
         None => false,
         Some(child) => {
             frames[top + 1] = child;
@@ -106,6 +112,7 @@ pub fn seek<L: Ledger>(
     given: &[Placement],
     rules: &Rules,
     drop_mode: DropMode,
+    notes: &mut Notes,
     steps: &mut Steps<L>,
 ) -> usize
     requires room { IsTrue (has_room 0 (take (0 + 1) frames.old)) }
@@ -115,10 +122,11 @@ pub fn seek<L: Ledger>(
     ensures skips { (d : Frame) → SkipsTo
         (sought (suc (slice_index_or frames.old 0 d).left) [] (position_of (table_of rules.now) drop_mode (slice_index_or frames.old 0 d)) given.now)
         (stacked (table_of rules.now) drop_mode [] (take result frames.new)) steps.old steps.new }
+    ensures noted { CountsUp notes.old.floods notes.new.floods steps.old steps.new }
 {
     let mut top = 0;
     for target in given {
-        if !skip_at(frames, top, target, rules, drop_mode, steps) {
+        if !skip_at(frames, top, target, rules, drop_mode, notes, steps) {
             return top + 1;
         }
         top += 1;

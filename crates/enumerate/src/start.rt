@@ -3,7 +3,7 @@ ghost use Rattle.std.specs.Prelude.{◌≡◌, ℕ, ◌+◌, ◌-◌, ◌≤◌,
 ghost use Rattle.std.specs.Option.{ForSome};
 ghost use Rattle.srs.specs.Rules.{table_of};
 ghost use Rattle.srs.specs.Order.{sequence_cmp};
-ghost use Rattle.srs.specs.Rising.{IsNextAbove};
+ghost use Rattle.lists.specs.Rising.{IsNextAbove};
 ghost use Rattle.enumerate.specs.Solution.{IsSolution};
 ghost use Rattle.srs.specs.Kick.{Table};
 ghost use Rattle.moves.specs.declared.key.DropMode.{DropMode};
@@ -11,6 +11,7 @@ ghost use Rattle.queue_pattern.specs.Queues.{queues};
 ghost use Rattle.queue_pattern.specs.Pattern.{elements_of};
 ghost use Rattle.enumerate.specs.Problem.{IsFit, needed_of};
 ghost use Rattle.enumerate.specs.Position.{is_live, root_of};
+ghost use Rattle.enumerate.specs.Counted.{as_count, CountsUp};
 ghost use Rattle.enumerate.specs.Events.{found, floods};
 ghost use Rattle.enumerate.specs.Frames.{has_room, path_of, position_of, stacked};
 ghost use Rattle.enumerate.specs.Items.{items_of};
@@ -18,15 +19,18 @@ ghost use Rattle.enumerate.specs.Rest.{rest_from, whole_from};
 ghost use Rattle.enumerate.specs.Walks.{Finds};
 ghost use Rattle.enumerate.specs.Seeks.{SkipsTo};
 ghost use Rattle.enumerate.specs.Search.{View, IsList};
+ghost use Rattle.dead_memo.specs.Memo.{kept};
 ghost use Rattle.enumerate.specs.Work.{pairs};
 ghost use Rattle.enumerate.specs.ViewOf.{view_of, solutions, work, after_given};
 
 use crate::advance::{advance, path};
 use crate::count::needed;
 use crate::frame::Frame;
+use crate::notes::Notes;
 use crate::problem::Problem;
 use crate::search::{Search, Sequence};
 use crate::seek::seek;
+use crate::tilings::Tilings;
 use hold_queue::QueueSet;
 use pc_outside::NoMemory;
 use queue_pattern::Queue;
@@ -78,11 +82,11 @@ fn first_frame(problem: &Problem, queue: &Option<Queue>) -> Frame
 }
 
 /// Whether a search has a first frame: where some placement is needed, and the position is worth a look.
-fn has_frame(problem: &Problem, first: &Frame) -> bool
+fn has_frame(problem: &Problem, first: &Frame, tilings: &mut Tilings) -> bool
     requires { IsFit problem.now }
     ensures { (table : Table) (mode : DropMode) → result ≡ (nat_lt 0 (needed_of problem.now) && is_live first.now.left (position_of table mode first.now)) }
 {
-    needed(problem) > 0 && first.is_live()
+    needed(problem) > 0 && first.is_live(tilings)
 }
 
 /// Goes from where a search stands to its next solution: how many frames are in use then, which is 0 where no solution is
@@ -94,6 +98,7 @@ fn go_on<L: Ledger>(
     pending: bool,
     frames: &mut [Frame; 20],
     depth: usize,
+    notes: &mut Notes,
     steps: &mut Steps<L>,
 ) -> usize
     requires fit { IsFit problem.now }
@@ -109,12 +114,20 @@ fn go_on<L: Ledger>(
         ≡ floods (stacked (table_of problem.now.rules) problem.now.drop_mode [] (take result frames.new)) + steps.new }
     ensures fewer { floods (stacked (table_of problem.now.rules) problem.now.drop_mode [] (take result frames.new))
         ≤ floods (rest_from problem.now (items_of queue.now) (items_of after.now) pending (take depth frames.old)) }
+    ensures noted { CountsUp notes.old.floods notes.new.floods steps.old steps.new }
 {
     let mut depth = depth;
     if pending {
-        depth = begin(problem, queue, after, frames, steps);
+        depth = begin(problem, queue, after, frames, notes, steps);
     }
-    advance(frames, depth, &problem.rules, problem.drop_mode, steps)
+    advance(
+        frames,
+        depth,
+        &problem.rules,
+        problem.drop_mode,
+        notes,
+        steps,
+    )
 }
 
 /// Puts the first frame where there is one, and goes to the place of a given sequence: how many frames are in use then.
@@ -123,6 +136,7 @@ fn begin<L: Ledger>(
     queue: &Option<Queue>,
     after: &Option<Sequence>,
     frames: &mut [Frame; 20],
+    notes: &mut Notes,
     steps: &mut Steps<L>,
 ) -> usize
     requires { IsFit problem.now }
@@ -131,9 +145,10 @@ fn begin<L: Ledger>(
     ensures skips { SkipsTo
         (whole_from problem.now (items_of queue.now) (items_of after.now))
         (stacked (table_of problem.now.rules) problem.now.drop_mode [] (take result frames.new)) steps.old steps.new }
+    ensures noted { CountsUp notes.old.floods notes.new.floods steps.old steps.new }
 {
     let first = first_frame(problem, queue);
-    if !has_frame(problem, &first) {
+    if !has_frame(problem, &first, &mut notes.tilings) {
         return 0;
     }
     frames[0] = first;
@@ -144,6 +159,7 @@ fn begin<L: Ledger>(
             given.as_slice(),
             &problem.rules,
             problem.drop_mode,
+            notes,
             steps,
         ),
     }
@@ -151,8 +167,9 @@ fn begin<L: Ledger>(
 
 impl Search {
     /// A search that has yet to go to its start.
-    fn new(problem: Problem, queue: Option<Queue>, after: Option<Sequence>) -> Search
-        requires { IsFit problem }
+    fn new(notes: Notes, problem: Problem, queue: Option<Queue>, after: Option<Sequence>) -> Search
+        requires fit { IsFit problem }
+        requires none { notes.floods ≡ 0 }
         ensures view { view_of result ≡ record { problem = problem; queue = items_of queue; bound = items_of after } }
         ensures after { after_given result ≡ items_of after }
         ensures work { work result ≡ 0 }
@@ -167,10 +184,11 @@ impl Search {
             pending: true,
             frames: [first; 20],
             depth: 0,
+            notes,
         }
     }
 
-    /// A search of all queues, for the solutions after a sequence where one is given. It takes no memory yet.
+    /// A search of all queues, for the solutions after a sequence where one is given. `NoMemory` where its memory is refused.
     pub fn start(
         alloc: Global,
         problem: Problem,
@@ -183,11 +201,11 @@ impl Search {
         ensures after { IfOk result (λ search. after_given search ≡ items_of after) }
         ensures work { IfOk result (λ search. work search ≡ 0) }
     {
-        let _ = alloc;
-        Ok(Search::new(problem, None, after))
+        let notes = Notes::new(alloc)?;
+        Ok(Search::new(notes, problem, None, after))
     }
 
-    /// A search of one of the pattern's queues alone. It takes no memory yet.
+    /// A search of one of the pattern's queues alone. `NoMemory` where its memory is refused.
     pub fn start_one(alloc: Global, problem: Problem, queue: &Queue) -> Result<Search, NoMemory>
         requires fit { IsFit problem }
         requires listed { Contains (queues (elements_of problem.pattern)) queue.now.items }
@@ -196,11 +214,25 @@ impl Search {
         ensures after { IfOk result (λ search. after_given search ≡ None) }
         ensures work { IfOk result (λ search. work search ≡ 0) }
     {
-        let _ = alloc;
+        let notes = Notes::new(alloc)?;
         match Queue::try_from(queue.as_slice()) {
-            Ok(copy) => Ok(Search::new(problem, Some(copy), None)),
+            Ok(copy) => Ok(Search::new(notes, problem, Some(copy), None)),
             Err(_) => unreachable!(),
         }
+    }
+
+    /// How many floods this search has made, or u64's greatest value where there were more.
+    pub fn floods(&self) -> u64
+        ensures { result ≡ as_count (work self.now) }
+    {
+        self.notes.floods
+    }
+
+    /// How many boards this search keeps that were found to have no tiling.
+    pub fn dead_boards(&self) -> usize
+        ensures { result ≡ length (kept self.now.notes.tilings.dead) }
+    {
+        self.notes.tilings.dead.len()
     }
 
     /// The least solution after the bound, which becomes the bound; or `None` where there is none, and the bound stays.
@@ -224,6 +256,7 @@ impl Search {
             self.pending,
             &mut self.frames,
             self.depth,
+            &mut self.notes,
             steps,
         );
         self.pending = false;

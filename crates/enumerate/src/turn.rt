@@ -1,5 +1,5 @@
 // One turn of the search at a frame.
-ghost use Rattle.std.specs.Prelude.{◌≡◌, ℕ, ◌+◌, IsTrue, MatchOption, Some, None, [], ◌∷◌, drop};
+ghost use Rattle.std.specs.Prelude.{◌≡◌, ℕ, ◌+◌, ◌≤◌, IsTrue, MatchOption, Some, None, [], ◌∷◌, drop};
 ghost use Rattle.std.specs.Option.{ForSome};
 ghost use Rattle.srs.specs.Cells.{is_inside_of};
 ghost use Rattle.srs.specs.Piece.{all_pieces};
@@ -8,14 +8,17 @@ ghost use Rattle.srs.specs.Kick.{Table};
 ghost use Rattle.well.specs.Well.{filled};
 ghost use Rattle.moves.specs.declared.key.DropMode.{DropMode};
 ghost use Rattle.reach.specs.Places.{piece_of};
-ghost use Rattle.hold_queue.specs.QueueSet.{line_of};
+ghost use Rattle.hold_queue.specs.QueueSet.{queues_in_play};
 ghost use Rattle.well.specs.LockLaws.{is_below};
 ghost use Rattle.enumerate.specs.Position.{may_play, is_live, places_at};
 ghost use Rattle.enumerate.specs.Standing.{may_lock};
+ghost use Rattle.enumerate.specs.Counted.{CountsUp};
 ghost use Rattle.enumerate.specs.Frames.{position_of, places_left};
 ghost use Rattle.enumerate.specs.Turns.{Enters, Turns, SamePosition};
 
 use crate::frame::Frame;
+use crate::notes::Notes;
+use crate::tilings::Tilings;
 use moves::DropMode;
 use reach::{Steps, places};
 use srs::{Piece, Placement, Rules, cells};
@@ -59,11 +62,12 @@ fn kind_at(index: u8) -> Option<Piece>
 }
 
 impl Frame {
-    /// Whether the position is worth a look. For now each is.
-    pub fn is_live(&self) -> bool
+    /// Whether the empty cells of the rows left have a tiling by what may still be played.
+    pub fn is_live(&self, tilings: &mut Tilings) -> bool
         ensures { (table : Table) (mode : DropMode) → result ≡ is_live self.now.left (position_of table mode self.now) }
     {
-        true
+        let supply = self.queues.supply(self.left + 1);
+        tilings.has_tiling(&self.well, self.rows, &supply)
     }
 
     /// The next placement to be entered.
@@ -72,7 +76,7 @@ impl Frame {
             (places_left self.now.places self.now.entered ≡ [])
             (λ q. (places_left self.now.places self.now.entered ≡ q ∷ places_left self.now.places (Some q))
             × IsTrue (may_lock (filled self.now.well) q.piece q)
-            × IsTrue (may_play (line_of self.now.queues) q.piece)) }
+            × IsTrue (may_play (queues_in_play self.now.queues) q.piece)) }
     {
         match &self.places {
             None => None,
@@ -81,9 +85,9 @@ impl Frame {
     }
 
     /// Enters a placement.
-    pub fn enter(&self, placement: &Placement) -> Turn
+    pub fn enter(&self, placement: &Placement, tilings: &mut Tilings) -> Turn
         requires lockable { IsTrue (may_lock (filled self.now.well) placement.now.piece placement.now) }
-        requires permitted { IsTrue (may_play (line_of self.now.queues) placement.now.piece) }
+        requires permitted { IsTrue (may_play (queues_in_play self.now.queues) placement.now.piece) }
         ensures { Enters self.now placement.now result }
     {
         if !lies_below(placement, self.rows) {
@@ -103,7 +107,7 @@ impl Frame {
             places: None,
             entered: None,
         };
-        if child.is_live() {
+        if child.is_live(tilings) {
             Turn::Entered(child)
         } else {
             Turn::Passed
@@ -116,18 +120,21 @@ impl Frame {
         piece: Piece,
         rules: &Rules,
         drop_mode: DropMode,
+        floods: &mut u64,
         steps: &mut Steps<L>,
     )
-        requires { IsTrue (may_play (line_of self.old.queues) piece) }
+        requires { IsTrue (may_play (queues_in_play self.old.queues) piece) }
         ensures places { places_left self.new.places self.new.entered ≡ places_at (position_of (table_of rules.now) drop_mode self.old) piece }
         ensures piece { ForSome self.new.places (λ p. piece_of p ≡ piece) }
         ensures same { SamePosition self.old self.new }
         ensures tried { self.new.tried ≡ self.old.tried }
         ensures entered { self.new.entered ≡ None }
         ensures counted { steps.new ≡ steps.old + 1 }
+        ensures noted { CountsUp floods.old floods.new steps.old steps.new }
     {
         self.places = Some(places(&self.well, rules, piece, drop_mode, steps));
         self.entered = None;
+        *floods = floods.saturating_add(1);
     }
 
     /// Tries the next kind.
@@ -135,11 +142,13 @@ impl Frame {
         &mut self,
         rules: &Rules,
         drop_mode: DropMode,
+        floods: &mut u64,
         steps: &mut Steps<L>,
     ) -> Turn
         requires { places_left self.old.places self.old.entered ≡ [] }
         ensures turn { Turns (table_of rules.now) drop_mode self.old self.new result steps.old steps.new }
         ensures same { SamePosition self.old self.new }
+        ensures noted { CountsUp floods.old floods.new steps.old steps.new }
     {
         let piece = match kind_at(self.tried) {
             None => return Turn::Over,
@@ -149,7 +158,7 @@ impl Frame {
         if !self.queues.may_play(piece) {
             return Turn::Passed;
         }
-        self.flood(piece, rules, drop_mode, steps);
+        self.flood(piece, rules, drop_mode, floods, steps);
         Turn::Flooded
     }
 
@@ -158,16 +167,18 @@ impl Frame {
         &mut self,
         rules: &Rules,
         drop_mode: DropMode,
+        notes: &mut Notes,
         steps: &mut Steps<L>,
     ) -> Turn
         ensures turn { Turns (table_of rules.now) drop_mode self.old self.new result steps.old steps.new }
         ensures same { SamePosition self.old self.new }
+        ensures noted { CountsUp notes.old.floods notes.new.floods steps.old steps.new }
     {
         match self.upcoming() {
-            None => self.try_kind(rules, drop_mode, steps),
+            None => self.try_kind(rules, drop_mode, &mut notes.floods, steps),
             Some(placement) => {
                 self.entered = Some(placement);
-                self.enter(&placement)
+                self.enter(&placement, &mut notes.tilings)
             }
         }
     }

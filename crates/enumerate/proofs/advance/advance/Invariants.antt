@@ -1,6 +1,7 @@
 -- The turns so far found nothing, and each made the events to come fewer.
 use Rattle.std.proofs.Common.{◌≡◌, ◌+◌, ◌≤◌, IsTrue, [], take, length}
 use Rattle.srs.specs.Rules.{table_of}
+use Rattle.enumerate.specs.Counted.{CountsUp}
 use Rattle.enumerate.specs.Events.{found, floods}
 use Rattle.enumerate.specs.Frames.{has_room, stacked}
 use Rattle.enumerate.proofs.advance.advance.Given as goal
@@ -12,6 +13,7 @@ invariant-loop-depth g l = record {
   same : found (stacked (table_of l.rules) l.drop_mode [] (take l.initial.depth l.initial.frames)) ≡ found (stacked (table_of l.rules) l.drop_mode [] (take l.depth l.frames));
   counted : floods (stacked (table_of l.rules) l.drop_mode [] (take l.initial.depth l.initial.frames)) + l.initial.steps ≡ floods (stacked (table_of l.rules) l.drop_mode [] (take l.depth l.frames)) + l.steps;
   fewer : floods (stacked (table_of l.rules) l.drop_mode [] (take l.depth l.frames)) ≤ floods (stacked (table_of l.rules) l.drop_mode [] (take l.initial.depth l.initial.frames));
+  noted : CountsUp l.initial.notes.floods l.notes.floods l.initial.steps l.steps;
 }
 
 abbrev pub decreases-loop-depth : goal.decreases-loop-depth

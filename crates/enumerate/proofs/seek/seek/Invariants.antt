@@ -3,6 +3,7 @@ use Rattle.std.proofs.Common.{◌≡◌, ◌+◌, ◌<◌, IsTrue, [], suc, drop
 use Rattle.std.specs.Prelude.{slice_index_or}
 use Rattle.srs.specs.Rules.{table_of}
 use Rattle.enumerate.specs.declared.frame.Frame.{Frame}
+use Rattle.enumerate.specs.Counted.{CountsUp}
 use Rattle.enumerate.specs.Events.{sought}
 use Rattle.enumerate.specs.Frames.{has_room, position_of}
 use Rattle.enumerate.specs.Seeks.{IsFresh, SkipsTo, sought_at}
@@ -18,4 +19,5 @@ invariant-loop-target g l = record {
   skips : (d : Frame) → SkipsTo
       (sought (suc (slice_index_or l.initial.frames 0 d).left) [] (position_of (table_of l.rules) l.drop_mode (slice_index_or l.initial.frames 0 d)) l.given)
       (sought_at (table_of l.rules) l.drop_mode l.frames l.top (drop l.target-index l.given) d) l.initial.steps l.steps;
+  noted : CountsUp l.initial.notes.floods l.notes.floods l.initial.steps l.steps;
 }

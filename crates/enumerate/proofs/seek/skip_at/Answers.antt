@@ -7,8 +7,8 @@ use Rattle.enumerate.proofs.seek.skip_at.Goals as goal
 pub skip-requires : goal.skip-requires
 skip-requires g c = c.requires.fresh c.index-frames-top.result
 
-pub returns-in-None : goal.returns-in-None
-returns-in-None g c =
+pub returns-in-None-clause-sought : goal.returns-in-None-clause-sought
+returns-in-None-clause-sought g c =
     there (table_of c.args.rules.now) c.args.drop_mode c.args.frames.now c.args.top c.index-frames-top.result c.skip.new.self (omega arith) c.requires.room c.in-None.ensures.same c.args.steps.now c.skip.new.steps c.args.target.now c.in-None.ensures.skips
 
 pub listed-in-Some : goal.listed-in-Some
@@ -19,7 +19,7 @@ listed-in-Some g c =
 pub bounds-frames-top-in-Some : goal.bounds-frames-top-in-Some
 bounds-frames-top-in-Some g c = deeper-within (table_of c.args.rules.now) c.args.drop_mode c.args.frames.now c.args.top c.index-frames-top.result c.skip.new.self (omega arith) c.requires.room c.in-Some.ensures.same c.args.steps.now c.skip.new.steps c.args.target.now c.in-Some.child c.in-Some.ensures.skips.2 (omega arith)
 
-pub returns-in-Some : goal.returns-in-Some
-returns-in-Some g c =
+pub returns-in-Some-clause-sought : goal.returns-in-Some-clause-sought
+returns-in-Some-clause-sought g c =
     deeper (table_of c.args.rules.now) c.args.drop_mode c.args.frames.now c.args.top c.index-frames-top.result c.skip.new.self (omega arith) c.requires.room c.in-Some.ensures.same c.args.steps.now c.skip.new.steps c.args.target.now
     c.in-Some.child c.in-Some.ensures.skips.2 (omega arith) c.in-Some.ensures.skips.1 c.in-Some.ensures.skips.0

@@ -6,6 +6,7 @@ use Rattle.enumerate.specs.Rest.{whole_from}
 use Rattle.enumerate.specs.Seeks.{IsFresh}
 use Rattle.enumerate.proofs.NeededCount.{needed-few}
 use Rattle.enumerate.proofs.SearchLemmas.{first-fresh, first-read, first-room, first-skips, nothing-room, nothing-skips, sought-skips, whole-first, whole-nothing, whole-sought}
+use Rattle.enumerate.proofs.Counting.{counts-none}
 use Rattle.enumerate.proofs.start.begin.Goals as goal
 
 pub returns-then-not-has_frame-clause-room : goal.returns-then-not-has_frame-clause-room
@@ -39,3 +40,9 @@ returns-in-Some-clause-skips g c =
     sought-skips (table_of c.args.problem.now.rules) c.args.problem.now.drop_mode c.args.frames.now c.first_frame-first.result c.in-Some.given.items c.as_slice.result.now _ _ c.args.steps.now c.seek.new.steps (omega (arith, c.told-frames)) c.as_slice.ensures.value
     (ap (λ a. whole_from c.args.problem.now (items_of c.args.queue.now) (items_of a)) c.in-Some.is
     ∙ whole-sought c.args.problem.now (items_of c.args.queue.now) c.first_frame-first.result c.first_frame-first.ensures.position c.first_frame-first.ensures.left (sym (c.has_frame.ensures (table_of c.args.problem.now.rules) c.args.problem.now.drop_mode) ∙ c.if-not-has_frame.false) c.in-Some.given.items) c.seek.ensures.skips
+
+pub returns-then-not-has_frame-clause-noted : goal.returns-then-not-has_frame-clause-noted
+returns-then-not-has_frame-clause-noted g c = counts-none c.args.notes.now.floods c.args.steps.now
+
+pub returns-in-None-clause-noted : goal.returns-in-None-clause-noted
+returns-in-None-clause-noted g c = counts-none c.args.notes.now.floods c.args.steps.now

@@ -6,6 +6,7 @@ use Rattle.enumerate.specs.Frames.{stacked}
 use Rattle.enumerate.specs.Rest.{rest_from}
 use Rattle.enumerate.specs.Seeks.{SkipsTo}
 use Rattle.enumerate.proofs.SearchLemmas.{finds-same, moved-skips, pending-skips, standing-skips}
+use Rattle.enumerate.proofs.Counting.{counts-none, counts-then}
 use Rattle.enumerate.proofs.start.go_on.Given.{Over}
 use Rattle.enumerate.proofs.start.go_on.Goals as goal
 use Rattle.enumerate.proofs.start.go_on.Goals.{After-advance, then-pending, else-pending}
@@ -30,3 +31,9 @@ returns-clause-counted g c = let skips = passed g c in skips.counted ∙ c.advan
 
 pub returns-clause-fewer : goal.returns-clause-fewer
 returns-clause-fewer g c = let skips = passed g c in omega (arith, skips.fewer, c.advance.ensures.fewer)
+
+pub returns-clause-noted : goal.returns-clause-noted
+returns-clause-noted g c = counts-then c.args.notes.now.floods c.if-pending.notes.floods c.advance.new.notes.floods c.args.steps.now c.if-pending.steps c.advance.new.steps (elim c.if-pending.branch [
+  | then-pending w ↦ rw (w.notes-is, w.steps-is) w.begin-depth.ensures.noted
+  | else-pending w ↦ rw (w.notes-is, w.steps-is) (counts-none c.args.notes.now.floods c.args.steps.now)
+]) c.advance.ensures.noted

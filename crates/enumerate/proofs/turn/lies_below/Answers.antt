@@ -1,6 +1,6 @@
 -- A placement inside the well has its pivot there.
 use Rattle.std.proofs.Common.{arith}
-use Rattle.srs.proofs.CanonicalLemmas.{pivot_inside}
+use Rattle.srs.proofs.CallerLemmas.{pivot_inside}
 use Rattle.enumerate.proofs.turn.lies_below.Goals as goal
 
 pub cells-requires-clause-column : goal.cells-requires-clause-column

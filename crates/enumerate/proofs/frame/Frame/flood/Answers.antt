@@ -2,21 +2,24 @@
 use Rattle.std.proofs.Common.{◌≡◌, refl, sym, subst}
 use Rattle.std.specs.Prelude.{true}
 use Rattle.srs.specs.Rules.{table_of}
-use Rattle.srs.proofs.MemberLemmas.{some_same}
+use Rattle.lists.proofs.CallerLemmas.{some_same}
 use Rattle.well.specs.Well.{filled}
 use Rattle.reach.specs.Places.{piece_of}
-use Rattle.hold_queue.specs.QueueSet.{line_of}
+use Rattle.hold_queue.specs.QueueSet.{queues_in_play}
 use Rattle.enumerate.specs.Frames.{position_of}
 use Rattle.enumerate.specs.Position.{may_play}
 use Rattle.enumerate.proofs.TurnLemmas.{Lockable, flooded-lockable, flooded-places}
+use Rattle.enumerate.proofs.Counting.{counts-one}
 use Rattle.enumerate.proofs.frame.Frame.flood.Goals as goal
 
 pub invariant_of-self : goal.invariant_of-self
 invariant_of-self g c = record {
+  low = c.args.self.now.low;
+  few = c.args.self.now.few;
   lockable = λ x is. subst (λ p. Lockable (filled c.args.self.now.well) p) (some_same is)
       (flooded-lockable (table_of c.args.rules.now) (filled c.args.self.now.well) c.args.drop_mode c.args.piece c.places.result c.places.ensures.piece c.places.ensures.held);
-  permitted = λ x is. subst (λ p. may_play (line_of c.args.self.now.queues) (piece_of p) ≡ true) (some_same is)
-      (subst (λ p. may_play (line_of c.args.self.now.queues) p ≡ true) (sym c.places.ensures.piece) c.requires);
+  permitted = λ x is. subst (λ p. may_play (queues_in_play c.args.self.now.queues) (piece_of p) ≡ true) (some_same is)
+      (subst (λ p. may_play (queues_in_play c.args.self.now.queues) p ≡ true) (sym c.places.ensures.piece) c.requires);
   same_piece = λ x is q none. cc;
 }
 
@@ -28,3 +31,6 @@ returns-clause-places g c =
 
 pub returns-clause-piece : goal.returns-clause-piece
 returns-clause-piece g c = λ x is. subst (λ p. piece_of p ≡ c.args.piece) (some_same is) c.places.ensures.piece
+
+pub returns-clause-noted : goal.returns-clause-noted
+returns-clause-noted g c = counts-one c.args.floods.now _ c.args.steps.now _ c.saturating_add.ensures c.places.ensures.counted

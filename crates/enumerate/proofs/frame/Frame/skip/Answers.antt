@@ -1,10 +1,10 @@
 -- What comes before the placement is passed by, and what comes first at the placement itself is its frame or nothing.
 use Rattle.std.proofs.Common.{◌≡◌, refl, sym, subst, ◌∙◌, true}
 use Rattle.srs.specs.Rules.{table_of}
-use Rattle.srs.proofs.MemberLemmas.{some_same}
+use Rattle.lists.proofs.CallerLemmas.{some_same}
 use Rattle.well.specs.Well.{filled}
 use Rattle.moves.specs.PlaceTest.{is_place}
-use Rattle.hold_queue.specs.QueueSet.{line_of}
+use Rattle.hold_queue.specs.QueueSet.{queues_in_play}
 use Rattle.reach.specs.Places.{piece_of}
 use Rattle.enumerate.specs.Frames.{places_left, position_of}
 use Rattle.enumerate.specs.Position.{may_play}
@@ -12,6 +12,7 @@ use Rattle.enumerate.proofs.Game.{place-decides}
 use Rattle.enumerate.proofs.PlaceLaws.{place-lockable}
 use Rattle.enumerate.proofs.SkipLemmas.{dead-result, held-place, left-above, passes-kind, skips-dead, skips-entered, skips-same, skips-unplaced, unheld-place}
 use Rattle.enumerate.proofs.TurnLemmas.{may_play-answer}
+use Rattle.enumerate.proofs.Counting.{counts-none}
 use Rattle.enumerate.proofs.frame.Frame.skip.Goals as goal
 
 pub returns-then-not-may_play-clause-skips : goal.returns-then-not-may_play-clause-skips
@@ -19,13 +20,15 @@ unfolding places_left
 returns-then-not-may_play-clause-skips g c = λ prefix given.
     skips-same _ _ c.args.steps.now
     (passes-kind (table_of c.args.rules.now) c.args.drop_mode c.args.self.now _ record { well = refl; rows = refl; queues = refl; left = refl } c.args.target.now c.requires.live c.code-self.ensures
-    (may_play-answer (line_of c.args.self.now.queues) c.args.target.now.piece c.may_play.result c.may_play.ensures.permitted ∙ c.if-not-may_play.true) refl prefix given)
+    (may_play-answer (queues_in_play c.args.self.now.queues) c.args.target.now.piece c.may_play.result c.may_play.ensures.permitted ∙ c.if-not-may_play.true) refl prefix given)
 
 pub flood-requires : goal.flood-requires
-flood-requires g c = may_play-answer (line_of c.args.self.now.queues) c.args.target.now.piece c.may_play.result c.may_play.ensures.permitted ∙ c.if-not-may_play.false
+flood-requires g c = may_play-answer (queues_in_play c.args.self.now.queues) c.args.target.now.piece c.may_play.result c.may_play.ensures.permitted ∙ c.if-not-may_play.false
 
 pub invariant_of-self-2 : goal.invariant_of-self-2
 invariant_of-self-2 g c = record {
+  low = c.flood.new.self.low;
+  few = c.flood.new.self.few;
   lockable = c.flood.new.self.lockable;
   permitted = c.flood.new.self.permitted;
   same_piece = λ places is q is_q. subst (λ q. q.piece ≡ piece_of places) (some_same is_q) (sym (c.flood.ensures.piece places is));
@@ -34,7 +37,7 @@ invariant_of-self-2 g c = record {
 pub returns-then-not-reached-clause-skips : goal.returns-then-not-reached-clause-skips
 unfolding position_of
 returns-then-not-reached-clause-skips g c =
-    let played = may_play-answer (line_of c.args.self.now.queues) c.args.target.now.piece c.may_play.result c.may_play.ensures.permitted ∙ c.if-not-may_play.false in
+    let played = may_play-answer (queues_in_play c.args.self.now.queues) c.args.target.now.piece c.may_play.result c.may_play.ensures.permitted ∙ c.if-not-may_play.false in
     skips-unplaced (table_of c.args.rules.now) c.args.drop_mode c.args.self.now _
     record { well = c.flood.ensures.same.well; rows = c.flood.ensures.same.rows; queues = c.flood.ensures.same.queues; left = c.flood.ensures.same.left } c.args.target.now c.requires.live
     (c.flood.ensures.tried ∙ c.code-self.ensures) played
@@ -52,13 +55,13 @@ enter-requires-clause-lockable g c =
 
 pub enter-requires-clause-permitted : goal.enter-requires-clause-permitted
 enter-requires-clause-permitted g c =
-    subst (λ s. may_play (line_of s) c.args.target.now.piece ≡ true) (sym c.flood.ensures.same.queues)
-    (may_play-answer (line_of c.args.self.now.queues) c.args.target.now.piece c.may_play.result c.may_play.ensures.permitted ∙ c.if-not-may_play.false)
+    subst (λ s. may_play (queues_in_play s) c.args.target.now.piece ≡ true) (sym c.flood.ensures.same.queues)
+    (may_play-answer (queues_in_play c.args.self.now.queues) c.args.target.now.piece c.may_play.result c.may_play.ensures.permitted ∙ c.if-not-may_play.false)
 
 pub returns-in-Entered-clause-skips : goal.returns-in-Entered-clause-skips
 unfolding position_of
 returns-in-Entered-clause-skips g c =
-    let played = may_play-answer (line_of c.args.self.now.queues) c.args.target.now.piece c.may_play.result c.may_play.ensures.permitted ∙ c.if-not-may_play.false in
+    let played = may_play-answer (queues_in_play c.args.self.now.queues) c.args.target.now.piece c.may_play.result c.may_play.ensures.permitted ∙ c.if-not-may_play.false in
     let placed = held-place (position_of (table_of c.args.rules.now) c.args.drop_mode c.args.self.now) c.args.target.now _ c.flood.ensures.places c.reaches-reached.result c.reaches-reached.ensures c.if-not-reached.false in (
       skips-entered (table_of c.args.rules.now) c.args.drop_mode c.args.self.now _
           record { well = c.flood.ensures.same.well; rows = c.flood.ensures.same.rows; queues = c.flood.ensures.same.queues; left = c.flood.ensures.same.left } c.args.target.now c.requires.live
@@ -72,7 +75,7 @@ returns-in-Entered-clause-skips g c =
 pub returns-in_default : goal.returns-in_default
 unfolding position_of
 returns-in_default g c =
-    let played = may_play-answer (line_of c.args.self.now.queues) c.args.target.now.piece c.may_play.result c.may_play.ensures.permitted ∙ c.if-not-may_play.false in
+    let played = may_play-answer (queues_in_play c.args.self.now.queues) c.args.target.now.piece c.may_play.result c.may_play.ensures.permitted ∙ c.if-not-may_play.false in
     record {
       skips = skips-dead (table_of c.args.rules.now) c.args.drop_mode c.args.self.now _
           record { well = c.flood.ensures.same.well; rows = c.flood.ensures.same.rows; queues = c.flood.ensures.same.queues; left = c.flood.ensures.same.left } c.args.target.now c.requires.live
@@ -83,4 +86,8 @@ returns-in_default g c =
           record { well = c.flood.ensures.same.well; rows = c.flood.ensures.same.rows; queues = c.flood.ensures.same.queues; left = c.flood.ensures.same.left } c.args.target.now c.enter.result c.enter.ensures c.in_default.not-Entered
           (is_place (table_of c.args.rules.now) (filled c.args.self.now.well) c.args.drop_mode c.args.target.now));
       same = record { well = c.flood.ensures.same.well; rows = c.flood.ensures.same.rows; queues = c.flood.ensures.same.queues; left = c.flood.ensures.same.left };
+      noted = c.flood.ensures.noted;
     }
+
+pub returns-then-not-may_play-clause-noted : goal.returns-then-not-may_play-clause-noted
+returns-then-not-may_play-clause-noted g c = counts-none c.args.notes.now.floods c.args.steps.now

@@ -5,6 +5,7 @@ use Rattle.srs.specs.Piece.{all_pieces}
 use Rattle.srs.specs.Rules.{table_of}
 use Rattle.enumerate.specs.Position.{places_at}
 use Rattle.enumerate.proofs.TurnLemmas.{goes-over, goes-past_kind, goes-flooded, may_play-answer, record-same, same-position}
+use Rattle.enumerate.proofs.Counting.{counts-none}
 use Rattle.enumerate.proofs.frame.Frame.try_kind.Goals as goal
 
 pub returns-in-None-clause-turn : goal.returns-in-None-clause-turn
@@ -29,3 +30,9 @@ returns-clause-turn g c =
           (c.flood.ensures.places ∙ ap (λ n. places_at n c.in-Some.piece) (same-position (table_of c.args.rules.now) c.args.drop_mode c.args.self.now _ record { well = refl; rows = refl; queues = refl; left = refl })),
       c.flood.ensures.counted,
     )
+
+pub returns-in-None-clause-noted : goal.returns-in-None-clause-noted
+returns-in-None-clause-noted g c = counts-none c.args.floods.now c.args.steps.now
+
+pub returns-then-not-may_play-clause-noted : goal.returns-then-not-may_play-clause-noted
+returns-then-not-may_play-clause-noted g c = counts-none c.args.floods.now c.args.steps.now

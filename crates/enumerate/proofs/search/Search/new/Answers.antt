@@ -2,7 +2,7 @@
 use Rattle.std.proofs.Common.{refl, sym, ap, ◌∙◌, arith}
 use Rattle.std.specs.Prelude.{None, filter}
 use Rattle.srs.specs.Order.{sequence_cmp}
-use Rattle.srs.specs.Rising.{is_above}
+use Rattle.lists.specs.Rising.{is_above}
 use Rattle.enumerate.specs.Events.{found}
 use Rattle.enumerate.specs.Items.{items_of}
 use Rattle.enumerate.specs.Rest.{rest_from, whole_from}
@@ -14,12 +14,13 @@ use Rattle.enumerate.proofs.search.Search.new.Goals as goal
 pub invariant_of-result : goal.invariant_of-result
 unfolding rest_from
 invariant_of-result c = record {
-  fit = c.requires;
+  fit = c.requires.fit;
   within = omega arith;
   room = nothing-room;
   listed = listed-start c.args.problem (items_of c.args.queue) (items_of c.args.after)
       ∙ ap (λ b. filter (is_above sequence_cmp b) (found (whole_from c.args.problem (items_of c.args.queue) None))) (sym c.copied_if_any-bound.ensures);
   counted = omega arith;
+  noted = omega (arith, c.requires.none);
 }
 
 pub returns-clause-view : goal.returns-clause-view

@@ -2,7 +2,7 @@
 use Rattle.std.proofs.Common.{◌≡◌, [], ◌∷◌, take, refl, sym, ap, subst, ◌∙◌, arith}
 use Rattle.std.specs.Prelude.{None, Some, filter}
 use Rattle.srs.specs.Order.{sequence_cmp}
-use Rattle.srs.specs.Rising.{is_above}
+use Rattle.lists.specs.Rising.{is_above}
 use Rattle.srs.specs.Rules.{table_of}
 use Rattle.enumerate.specs.Events.{found, floods}
 use Rattle.enumerate.specs.Frames.{stacked}
@@ -24,6 +24,7 @@ invariant_of-self g c = record {
   room = c.go_on-self.ensures.room;
   listed = sym (none-found _ _ _ c.go_on-self.result c.if-self-eq0.true c.go_on-self.ensures.found) ∙ c.args.self.now.listed;
   counted = omega (arith, c.go_on-self.ensures.fewer, c.args.self.now.counted);
+  noted = let n = c.go_on-self.ensures.noted.counts _ c.args.self.now.noted in omega (arith, n, c.go_on-self.ensures.noted.rose, c.go_on-self.ensures.counted, c.go_on-self.ensures.fewer, c.args.self.now.counted);
 }
 
 pub returns-then-self-eq0-clause-list : goal.returns-then-self-eq0-clause-list
@@ -68,6 +69,7 @@ invariant_of-self-2 g c =
           listed-next c.args.self.now.problem c.args.self.now.fit (items_of c.args.self.now.queue) (items_of c.args.self.now.bound) _ _ (sym first ∙ c.args.self.now.listed)
           ∙ ap (λ p. filter (is_above sequence_cmp (Some p)) (found (whole_from c.args.self.now.problem (items_of c.args.self.now.queue) None))) (sym (c.copied.ensures ∙ c.path-sequence.ensures));
       counted = omega (arith, c.go_on-self.ensures.fewer, c.args.self.now.counted);
+      noted = let n = c.go_on-self.ensures.noted.counts _ c.args.self.now.noted in omega (arith, n, c.go_on-self.ensures.noted.rose, c.go_on-self.ensures.counted, c.go_on-self.ensures.fewer, c.args.self.now.counted);
     }
 
 pub returns-clause-list : goal.returns-clause-list

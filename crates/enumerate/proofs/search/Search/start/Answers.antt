@@ -3,4 +3,4 @@ use Rattle.enumerate.proofs.SearchFacts.{search-list}
 use Rattle.enumerate.proofs.search.Search.start.Goals as goal
 
 pub returns-clause-list : goal.returns-clause-list
-returns-clause-list c = search-list c.new.result
+returns-clause-list c = search-list c.new-2.result

@@ -1,0 +1,54 @@
+// What a search knows of tilings.
+ghost use Rattle.std.specs.Prelude.{◌≡◌, ◌≤◌, [], IfOk};
+ghost use Rattle.well.specs.Well.{filled};
+ghost use Rattle.prune.specs.Tiling.{supply_in};
+ghost use Rattle.packing.specs.HasTiling.{has_tiling};
+ghost use Rattle.dead_memo.specs.Memo.{kept};
+
+use dead_memo::DeadMemo;
+use packing::{Empties, TilingStore};
+use pc_outside::NoMemory;
+use prune::cheap_no;
+use std::alloc::Global;
+use well::Well;
+
+/// How many questions without a tiling a search keeps.
+const DEAD: usize = 65_536;
+
+/// What a search knows of tilings.
+#[derive(Drop)]
+pub struct Tilings {
+    /// What was decided lately.
+    decided: TilingStore,
+    /// What was found to have no tiling.
+    pub dead: DeadMemo,
+}
+
+impl Tilings {
+    /// Nothing is known yet. `NoMemory` where memory is refused.
+    pub fn new(alloc: Global) -> Result<Tilings, NoMemory>
+        ensures { IfOk result (λ tilings. kept tilings.dead ≡ []) }
+    {
+        let decided = TilingStore::new(alloc)?;
+        let dead = DeadMemo::new(alloc, DEAD)?;
+        Ok(Tilings { decided, dead })
+    }
+
+    /// Whether the empty cells below the rows left have a tiling by the supply. What has none is kept where memory allows.
+    pub fn has_tiling(&mut self, well: &Well, rows_left: u8, supply: &[u8; 7]) -> bool
+        requires { rows_left ≤ 8 }
+        ensures { result ≡ has_tiling (filled well.now) rows_left (supply_in supply.now) }
+    {
+        if cheap_no(well, rows_left, supply) || self.dead.is_dead(well, rows_left, supply) {
+            return false;
+        }
+        if self
+            .decided
+            .has_tiling(&Empties::below(well, rows_left), supply)
+        {
+            return true;
+        }
+        let _ = self.dead.note_dead(well, rows_left, supply);
+        false
+    }
+}
