@@ -1,28 +1,12 @@
-// The words of the command line, the faults of what they name, and the run of a command.
+// The top call: the words, the source, and the run of a command.
 #![tactic(auto)]
 
-mod after;
-mod decode;
-mod encode;
-mod fault_line;
-mod faults;
-mod field;
 pub mod laws;
-mod names;
-mod numbers;
-mod page;
-mod path;
-mod placement_text;
-mod question;
-mod settings;
-mod show;
-mod source;
-mod status;
+mod perform;
 mod top;
-mod words;
 
-pub use faults::Fault;
-pub use settings::{FieldSettings, FieldWords, PathSettings, Settings};
-pub use status::Status;
+pub use path_settings::PathSettings;
+pub use pc_faults::{Fault, Status, WordsFault, WordsKind};
+pub use pc_settings::{FieldSettings, FieldWords};
+pub use pc_words::{Settings, read_words};
 pub use top::run;
-pub use words::{WordsFault, WordsKind, read_words};

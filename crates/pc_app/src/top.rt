@@ -1,32 +1,28 @@
 // The top call: from the words to what is written.
-ghost use Rattle.std.specs.Prelude.{◌≡◌, ◌≢◌, ◌+◌, ◌⊎◌, ℕ, List, [], true, None, Some};
+ghost use Rattle.std.specs.Prelude.{◌≡◌, ◌≢◌, ◌⊎◌, ℕ, List, true, false, None, Some, Err};
 ghost use Rattle.pc_outside.specs.Counts.{Rose};
 ghost use Rattle.pc_outside.specs.Writes.{Grows, GrowsByFront};
-ghost use Rattle.pc_app.specs.declared.faults.Fault.{Fault};
-ghost use Rattle.pc_app.specs.declared.status.Status.{Status};
-ghost use Rattle.pc_app.specs.Answers.{AnswersOf, FailedAfterFront, LeavesSource, Refuses, Wrote};
-ghost use Rattle.pc_app.specs.FaultLine.{fault_line};
-ghost use Rattle.pc_app.specs.Faults.{first_fault};
-ghost use Rattle.pc_app.specs.Output.{IsOutput};
-ghost use Rattle.pc_app.specs.Source.{needs_of, reads_source, takes_memory_first, Supplies};
-ghost use Rattle.pc_app.specs.Views.{texts};
+ghost use Rattle.pc_faults.specs.declared.fault.Fault.{Fault};
+ghost use Rattle.pc_faults.specs.declared.status.Status.{Status};
+ghost use Rattle.pc_faults.specs.declared.words_fault.WordsFault.{WordsFault};
+ghost use Rattle.pc_faults.specs.FaultLine.{fault_line};
+ghost use Rattle.pc_source.specs.Answers.{EndsBy, FailedAfterFront, Wrote, sink_change};
+ghost use Rattle.pc_source.specs.Source.{LeavesSource};
+ghost use Rattle.pc_source.specs.Task.{ForBytes, first_fault, reads_source};
+ghost use Rattle.pc_words.specs.Words.{request_in, texts};
+ghost use Rattle.pc_app.specs.Ran.{LeavesSink, Ran};
+ghost use Rattle.pc_app.specs.Tasks.{task_of};
 
-use crate::decode::run_decode;
-use crate::encode::run_encode;
-use crate::fault_line::write_fault;
-use crate::faults::Fault;
-use crate::path::run_path;
-use crate::settings::Settings;
-use crate::show::run_show;
-use crate::status::Status;
-use crate::words::read_words;
+use crate::perform::{perform, reads_source};
+use pc_faults::{Fault, Status, write_fault};
 use pc_outside::{Sink, Source};
+use pc_source::source_bytes;
+use pc_words::read_words;
 use reach::Steps;
 use std::alloc::Global;
 use std::sync::ledger::Ledger;
 
 // The status, before a fault is reported.
-#[tactic(auto, unfolding(crate::specs::Faults::first_fault))]
 fn answer<S: Source, O: Sink, L: Ledger>(
     alloc: Global,
     words: &[String],
@@ -34,28 +30,33 @@ fn answer<S: Source, O: Sink, L: Ledger>(
     out: &mut O,
     steps: &mut Steps<L>,
 ) -> Status
-    ensures answers { (bytes : List ℕ) → Supplies (reads_source (texts words.now)) (S.left source.old) bytes
-        → AnswersOf (needs_of (texts words.now)) (first_fault (texts words.now) bytes) (IsOutput (texts words.now) bytes)
-        (O.written out.old) (O.written out.new) (O.faults out.old) (O.faults out.new)
-        ((out.new ≡ out.old) × (steps.new ≡ steps.old)) result }
-    ensures source_fault { result ≡ Status.SourceFault → Rose (S.faults source.old) (S.faults source.new) × ((out.new ≡ out.old) × (steps.new ≡ steps.old)) }
-    ensures no_memory { takes_memory_first (texts words.now) ≡ true → result ≡ Status.NoMemory → (out.new ≡ out.old) × (steps.new ≡ steps.old) }
-    ensures source { LeavesSource (reads_source (texts words.now)) (S.left source.old) (S.left source.new) (source.new ≡ source.old) result }
+    ensures ran { let task = task_of (texts words.now) in
+        let sink = sink_change (O.written out.old) (O.written out.new) (O.faults out.old) (O.faults out.new) in
+        ForBytes task (S.left source.old)
+        (λ bytes. Ran task bytes sink ((out.new ≡ out.old) × (steps.new ≡ steps.old)) result) }
+    ensures sink { let task = task_of (texts words.now) in
+        let sink = sink_change (O.written out.old) (O.written out.new) (O.faults out.old) (O.faults out.new) in
+        LeavesSink task sink ((out.new ≡ out.old) × (steps.new ≡ steps.old)) result }
+    ensures words_fault { (fault : WordsFault) → result ≡ Status.Input (Fault.Words fault)
+        → request_in (texts words.now) ≡ Err fault }
+    ensures source { LeavesSource (reads_source (task_of (texts words.now)))
+        (S.left source.old) (S.left source.new) (source.new ≡ source.old) result }
+    ensures source_rose { result ≡ Status.SourceFault → Rose (S.faults source.old) (S.faults source.new) }
+    ensures source_kept { result ≢ Status.SourceFault → S.faults source.new ≡ S.faults source.old }
+    ensures steps { (task_of (texts words.now)).searches ≡ false → steps.new ≡ steps.old }
 {
     let settings = match read_words(words) {
         Ok(settings) => settings,
         Err(fault) => return Status::Input(Fault::Words(fault)),
     };
-    match settings {
-        Settings::Path(path) => run_path(alloc, &path, source, out, steps),
-        Settings::Decode => run_decode(alloc, source, out),
-        Settings::Encode { dialect } => run_encode(alloc, source, dialect, out),
-        Settings::Show { page } => run_show(alloc, source, page, out),
+    match source_bytes(alloc, source, reads_source(&settings)) {
+        Ok(bytes) => perform(alloc, &settings, &bytes, out, steps),
+        Err(status) => status,
     }
 }
 
-/// Runs the command that the words name, which do not include the program's name. Answers go to `out`, and the line of a
-/// fault goes to `err`.
+/// Runs the command that the words name, which do not include the program's name. Answers go to `out`, and the line
+/// of a fault goes to `err`.
 pub fn run<S: Source, O: Sink, E: Sink, L: Ledger>(
     alloc: Global,
     words: &[String],
@@ -64,30 +65,49 @@ pub fn run<S: Source, O: Sink, E: Sink, L: Ledger>(
     err: &mut E,
     steps: &mut Steps<L>,
 ) -> Status
-    ensures done { (bytes : List ℕ) → Supplies (reads_source (texts words.now)) (S.left source.old) bytes → result ≡ Status.Done
-        → Wrote (IsOutput (texts words.now) bytes) (O.written out.old) (O.written out.new) }
-    ensures no_fault { (bytes : List ℕ) → Supplies (reads_source (texts words.now)) (S.left source.old) bytes → result ≡ Status.Done
-        → first_fault (texts words.now) bytes ≡ None }
-    ensures front { (bytes : List ℕ) → Supplies (reads_source (texts words.now)) (S.left source.old) bytes
-        → (output : List ℕ) → IsOutput (texts words.now) bytes output → GrowsByFront (O.written out.old) (O.written out.new) output }
-    ensures input { (bytes : List ℕ) → Supplies (reads_source (texts words.now)) (S.left source.old) bytes
-        → (fault : Fault) → result ≡ Status.Input fault → first_fault (texts words.now) bytes ≡ Some fault }
-    ensures fault { (bytes : List ℕ) → Supplies (reads_source (texts words.now)) (S.left source.old) bytes
-        → (fault : Fault) → first_fault (texts words.now) bytes ≡ Some fault → Refuses (needs_of (texts words.now)) fault result }
-    ensures quiet { (bytes : List ℕ) → Supplies (reads_source (texts words.now)) (S.left source.old) bytes
-        → (fault : Fault) → first_fault (texts words.now) bytes ≡ Some fault → (out.new ≡ out.old) × (steps.new ≡ steps.old) }
-    ensures source_fault { result ≡ Status.SourceFault → Rose (S.faults source.old) (S.faults source.new) × ((out.new ≡ out.old) × (steps.new ≡ steps.old)) }
-    ensures sink_fault { (bytes : List ℕ) → Supplies (reads_source (texts words.now)) (S.left source.old) bytes → result ≡ Status.SinkFault
-        → FailedAfterFront (first_fault (texts words.now) bytes) (IsOutput (texts words.now) bytes)
-        (O.written out.old) (O.written out.new) (O.faults out.old) (O.faults out.new) }
-    ensures no_memory { takes_memory_first (texts words.now) ≡ true → result ≡ Status.NoMemory → (out.new ≡ out.old) × (steps.new ≡ steps.old) }
-    ensures complete { (bytes : List ℕ) → Supplies (reads_source (texts words.now)) (S.left source.old) bytes → first_fault (texts words.now) bytes ≡ None
+    ensures done { let task = task_of (texts words.now) in
+        let sink = sink_change (O.written out.old) (O.written out.new) (O.faults out.old) (O.faults out.new) in
+        result ≡ Status.Done → ForBytes task (S.left source.old) (λ bytes. Wrote (task.IsOutput bytes) sink) }
+    ensures no_fault { let task = task_of (texts words.now) in
+        result ≡ Status.Done → ForBytes task (S.left source.old) (λ bytes. first_fault task bytes ≡ None) }
+    ensures front { let task = task_of (texts words.now) in
+        ForBytes task (S.left source.old) (λ bytes. (output : List ℕ) → task.IsOutput bytes output
+        → GrowsByFront (O.written out.old) (O.written out.new) output) }
+    ensures input { let task = task_of (texts words.now) in
+        (fault : Fault) → result ≡ Status.Input fault
+        → ForBytes task (S.left source.old) (λ bytes. first_fault task bytes ≡ Some fault) }
+    ensures words_fault { (fault : WordsFault) → result ≡ Status.Input (Fault.Words fault)
+        → request_in (texts words.now) ≡ Err fault }
+    ensures fault { let task = task_of (texts words.now) in
+        ForBytes task (S.left source.old) (λ bytes. (fault : Fault) → first_fault task bytes ≡ Some fault
+        → EndsBy task.needs fault result) }
+    ensures quiet { let task = task_of (texts words.now) in
+        ForBytes task (S.left source.old) (λ bytes. (fault : Fault) → first_fault task bytes ≡ Some fault
+        → (out.new ≡ out.old) × (steps.new ≡ steps.old)) }
+    ensures input_quiet { (fault : Fault) → result ≡ Status.Input fault
+        → (out.new ≡ out.old) × (steps.new ≡ steps.old) }
+    ensures source_fault { result ≡ Status.SourceFault → Rose (S.faults source.old) (S.faults source.new)
+        × (out.new ≡ out.old) × (steps.new ≡ steps.old) }
+    ensures sink_fault { let task = task_of (texts words.now) in
+        let sink = sink_change (O.written out.old) (O.written out.new) (O.faults out.old) (O.faults out.new) in
+        result ≡ Status.SinkFault → ForBytes task (S.left source.old)
+        (λ bytes. FailedAfterFront (first_fault task bytes) (task.IsOutput bytes) sink) }
+    ensures sink_rose { result ≡ Status.SinkFault → Rose (O.faults out.old) (O.faults out.new) }
+    ensures no_memory { (task_of (texts words.now)).memory_first ≡ true → result ≡ Status.NoMemory
+        → (out.new ≡ out.old) × (steps.new ≡ steps.old) }
+    ensures complete { let task = task_of (texts words.now) in
+        ForBytes task (S.left source.old) (λ bytes. first_fault task bytes ≡ None
         → (Rose (S.faults source.old) (S.faults source.new) → ⊥) → (Rose (O.faults out.old) (O.faults out.new) → ⊥)
-        → (result ≡ Status.Done) ⊎ (result ≡ Status.NoMemory) }
-    ensures source { LeavesSource (reads_source (texts words.now)) (S.left source.old) (S.left source.new) (source.new ≡ source.old) result }
+        → (result ≡ Status.Done) ⊎ (result ≡ Status.NoMemory)) }
+    ensures source { LeavesSource (reads_source (task_of (texts words.now)))
+        (S.left source.old) (S.left source.new) (source.new ≡ source.old) result }
+    ensures source_kept { result ≢ Status.SourceFault → S.faults source.new ≡ S.faults source.old }
+    ensures sink_kept { result ≢ Status.SinkFault → O.faults out.new ≡ O.faults out.old }
+    ensures steps { (task_of (texts words.now)).searches ≡ false → steps.new ≡ steps.old }
     ensures fault_line { (fault : Fault) → result ≡ Status.Input fault
         → GrowsByFront (E.written err.old) (E.written err.new) (fault_line fault) }
-    ensures whole_line { (fault : Fault) → result ≡ Status.Input fault → (Rose (E.faults err.old) (E.faults err.new) → ⊥)
+    ensures whole_line { (fault : Fault) → result ≡ Status.Input fault
+        → (Rose (E.faults err.old) (E.faults err.new) → ⊥)
         → Grows (E.written err.old) (E.written err.new) (fault_line fault) }
     ensures no_line { ((fault : Fault) → result ≢ Status.Input fault) → err.new ≡ err.old }
 {

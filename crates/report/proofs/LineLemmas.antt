@@ -1,5 +1,5 @@
 -- A line placement by placement: without keys the fields do not matter, and with keys each placement is free in its field.
-use Rattle.std.proofs.Common.{◌≡◌, ℕ, ◌+◌, ◌-◌, ◌<◌, ◌≤◌, true, false, List, [], ◌∷◌, ◌++◌, length, drop, get_or, refl, sym, ap, subst, ◌∙◌, append-nil, append_assoc, Option}
+use Rattle.std.proofs.Common.{◌≡◌, ℕ, ◌+◌, ◌-◌, ◌<◌, ◌≤◌, true, false, List, [], ◌∷◌, ◌++◌, length, drop, get_or, refl, sym, ap, subst, ◌∙◌, append_assoc, Option, None}
 use Rattle.std.specs.List.{flat_map}
 use Rattle.std.proofs.lemmas.List.{drop_more, drop_all}
 use Rattle.lane_board.specs.Field.{Field}
@@ -10,44 +10,57 @@ use Rattle.well.specs.Free.{is_free}
 use Rattle.well.specs.Lock.{locked, rows_removed}
 use Rattle.moves.specs.declared.key.DropMode.{DropMode}
 use Rattle.moves.specs.declared.key.Key.{Key}
-use Rattle.key_path.specs.KeyWord.{key_word}
+use Rattle.key_path.specs.LeastKeyWord.{least_key_word}
 use Rattle.enumerate.specs.Plays.{Plays}
-use Rattle.enumerate.proofs.PlaceLaws.{place-free, free-inside}
-use Rattle.placement_form.specs.Form.{placement_form}
-use Rattle.report.specs.Forms.{Follows, keys_form, key_part, placements_form, line_form}
-use Rattle.report.specs.Plain.{next_form, sequence_form}
+use Rattle.enumerate.proofs.CallerLemmas.{place-free, free-inside}
+use Rattle.sequence_text.specs.Written.{keyed_form, sequence_form, without_keys}
+use Rattle.report.specs.Forms.{KeysOf, key_part, keyed, line_form}
 
--- without keys a blank stands before each further placement
-plain_rest : (table : Table) (mode : DropMode) (F : Field) (s : List Placement) → placements_form (key_part false table mode) (32 ∷ []) F s ≡ flat_map next_form s
-unfolding placements_form
-plain_rest table mode F [] = refl
-plain_rest table mode F (q ∷ s) = λ i. (32 ∷ append-nil (placement_form q) i) ++ plain_rest table mode (locked F q) s i
+-- without keys the fields do not matter
+no_keys : (table : Table) (mode : DropMode) (F : Field) (s : List Placement) → keyed (key_part false table mode) F s ≡ without_keys s
+unfolding keyed
+no_keys table mode F [] = refl
+no_keys table mode F (q ∷ s) = ap (λ l. (q, None) ∷ l) (no_keys table mode (locked F q) s)
 
-pub plain_line : (table : Table) (mode : DropMode) (F : Field) (s : List Placement) → line_form (key_part false table mode) F s ≡ sequence_form s ++ 10 ∷ []
-unfolding line_form placements_form
-plain_line table mode F [] = refl
-plain_line table mode F (q ∷ s) = λ i. (append-nil (placement_form q) i ++ plain_rest table mode (locked F q) s i) ++ 10 ∷ []
+pub plain_line : (table : Table) (mode : DropMode) (F : Field) (s : List Placement) → line_form (key_part false table mode) F s ≡ sequence_form (without_keys s) ++ 10 ∷ []
+unfolding line_form
+plain_line table mode F s = ap (λ items. sequence_form items ++ 10 ∷ []) (no_keys table mode F s)
+
+-- placements from a field on, the first one after a divider, and the others after blanks
+unfoldable pub divided : KeysOf → List ℕ → Field → List Placement → List ℕ
+divided keys divider F [] = []
+divided keys divider F (q ∷ s) = (divider ++ keyed_form (q, keys F q)) ++ divided keys (32 ∷ []) (locked F q) s
 
 -- what is left of a line from a placement on
-unfoldable pub line_from : Follows → List ℕ → Field → List Placement → List ℕ
-line_from part divider F s = placements_form part divider F s ++ 10 ∷ []
+unfoldable pub line_from : KeysOf → List ℕ → Field → List Placement → List ℕ
+line_from keys divider F s = divided keys divider F s ++ 10 ∷ []
 
-pub whole_line : (part : Follows) (F : Field) (s : List Placement) → line_form part F s ≡ line_from part [] F s
+rest_divided : (keys : KeysOf) (F : Field) (s : List Placement) → flat_map (λ item. 32 ∷ keyed_form item) (keyed keys F s) ≡ divided keys (32 ∷ []) F s
+unfolding keyed divided
+rest_divided keys F [] = refl
+rest_divided keys F (q ∷ s) = ap (λ l. (32 ∷ keyed_form (q, keys F q)) ++ l) (rest_divided keys (locked F q) s)
+
+all_divided : (keys : KeysOf) (F : Field) (s : List Placement) → sequence_form (keyed keys F s) ≡ divided keys [] F s
+unfolding keyed divided sequence_form
+all_divided keys F [] = refl
+all_divided keys F (q ∷ s) = ap (λ l. keyed_form (q, keys F q) ++ l) (rest_divided keys (locked F q) s)
+
+pub whole_line : (keys : KeysOf) (F : Field) (s : List Placement) → line_form keys F s ≡ line_from keys [] F s
 unfolding line_form line_from
-whole_line part F s = refl
+whole_line keys F s = ap (λ l. l ++ 10 ∷ []) (all_divided keys F s)
 
 -- the next placement, and what is left after it
-pub one_placement : (part : Follows) (divider : List ℕ) (F : Field) (s : List Placement) (i : ℕ) (d : Placement) → i < length s →
-    line_from part divider F (drop i s) ≡ (divider ++ (placement_form (get_or s i d) ++ part F (get_or s i d))) ++ line_from part (32 ∷ []) (locked F (get_or s i d)) (drop (i + 1) s)
-unfolding line_from placements_form
-one_placement part divider F s i d within =
-    ap (λ l. placements_form part divider F l ++ 10 ∷ []) (drop_more s i d within)
-    ∙ append_assoc (divider ++ (placement_form (get_or s i d) ++ part F (get_or s i d))) (placements_form part (32 ∷ []) (locked F (get_or s i d)) (drop (i + 1) s)) (10 ∷ [])
+pub one_placement : (keys : KeysOf) (divider : List ℕ) (F : Field) (s : List Placement) (i : ℕ) (d : Placement) → i < length s →
+    line_from keys divider F (drop i s) ≡ (divider ++ keyed_form (get_or s i d, keys F (get_or s i d))) ++ line_from keys (32 ∷ []) (locked F (get_or s i d)) (drop (i + 1) s)
+unfolding line_from divided
+one_placement keys divider F s i d within =
+    ap (λ l. divided keys divider F l ++ 10 ∷ []) (drop_more s i d within)
+    ∙ append_assoc (divider ++ keyed_form (get_or s i d, keys F (get_or s i d))) (divided keys (32 ∷ []) (locked F (get_or s i d)) (drop (i + 1) s)) (10 ∷ [])
 
 -- and at the end a newline
-pub no_placement : (part : Follows) (divider : List ℕ) (F : Field) (s : List Placement) (i : ℕ) → length s ≤ i → line_from part divider F (drop i s) ≡ 10 ∷ []
-unfolding line_from placements_form
-no_placement part divider F s i past = ap (λ l. placements_form part divider F l ++ 10 ∷ []) (drop_all i s past)
+pub no_placement : (keys : KeysOf) (divider : List ℕ) (F : Field) (s : List Placement) (i : ℕ) → length s ≤ i → line_from keys divider F (drop i s) ≡ 10 ∷ []
+unfolding line_from divided
+no_placement keys divider F s i past = ap (λ l. divided keys divider F l ++ 10 ∷ []) (drop_all i s past)
 
 -- the placements from an index on play in their field
 pub record PlaysOn (table : Table) (mode : DropMode) (F : Field) (s : List Placement) (i : ℕ) : Type 0 where
@@ -68,9 +81,9 @@ plays_next table mode F s i d within on = record { rows = on.rows - rows_removed
 
 -- a text of the next placement with its key word is the next piece of the line
 pub next_piece : (table : Table) (mode : DropMode) (divider : List ℕ) (F after : Field) (s : List Placement) (i : ℕ) (d : Placement) (piece : List ℕ) (word : Option (List Key)) → i < length s →
-    piece ≡ divider ++ (placement_form (get_or s i d) ++ keys_form word) → word ≡ key_word table F mode (get_or s i d) → after ≡ locked F (get_or s i d) →
+    piece ≡ divider ++ keyed_form (get_or s i d, word) → word ≡ least_key_word table F mode (get_or s i d) → after ≡ locked F (get_or s i d) →
     line_from (key_part true table mode) divider F (drop i s) ≡ piece ++ line_from (key_part true table mode) (32 ∷ []) after (drop (i + 1) s)
 next_piece table mode divider F after s i d piece word within text named left =
     one_placement (key_part true table mode) divider F s i d within
-    ∙ (λ k. (divider ++ (placement_form (get_or s i d) ++ keys_form (sym named k))) ++ line_from (key_part true table mode) (32 ∷ []) (sym left k) (drop (i + 1) s))
+    ∙ (λ k. (divider ++ keyed_form (get_or s i d, sym named k)) ++ line_from (key_part true table mode) (32 ∷ []) (sym left k) (drop (i + 1) s))
     ∙ (λ k. sym text k ++ line_from (key_part true table mode) (32 ∷ []) after (drop (i + 1) s))

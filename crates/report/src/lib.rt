@@ -2,9 +2,8 @@
 #![tactic(auto)]
 
 mod line;
-mod page;
 mod tail;
 
 pub use line::write_line;
-pub use page::show_page;
+pub use page_show::show_page;
 pub use tail::{Tail, write_tail};

@@ -1,6 +1,6 @@
 -- Two outputs of the same words are the same.
-use Rattle.pc_app.proofs.Determined.{output_unique}
+use Rattle.pc_app.proofs.Commands.{one_output}
 use Rattle.pc_app.proofs.laws.output_is_determined.Goals as goal
 
 pub returns : goal.returns
-returns c = output_unique
+returns c = one_output

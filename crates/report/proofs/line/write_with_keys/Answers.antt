@@ -23,7 +23,7 @@ loop-placement-init g c = (
       (whole_line (key_part true (table_of c.args.problem.now.rules) c.args.problem.now.drop_mode) (filled c.args.problem.now.well) c.args.placements.now) (begins (g.O.Sink.written c.args.out.now) _),
   record { rows = c.args.problem.now.height; plays = c.requires },
   omega arith,
-  omega arith,
+  refl,
 )
 
 pub find-word-requires : goal.find-word-requires
@@ -34,7 +34,7 @@ returns-in_err-write-clause-written g c =
     let i = c.loop-placement.placement-index in
     let F = filled c.loop-placement.well in
     let next = next_piece (table_of c.args.problem.now.rules) c.args.problem.now.drop_mode c.loop-placement.divider.now F (locked F (get_or c.args.placements.now i default)) c.args.placements.now i default
-    c.as_slice.result.now (option_map (λ word. word.items) c.find-word.result) c.loop-placement-test.true (c.as_slice.ensures.value ∙ c.placement_with_keys.ensures) c.find-word.ensures.named refl in
+    c.as_slice.result.now (option_map (λ word. word.items) c.find-word.result) c.loop-placement-test.true (c.as_slice.ensures.value ∙ c.placement_text.ensures) c.find-word.ensures.named refl in
     at_err c.from_residual.ensures.0 (failed_piece _ c.loop-placement.invariant.0 next c.in_err-write.ensures.written)
 
 pub lock-requires : goal.lock-requires
@@ -47,11 +47,11 @@ loop-placement-preserved g c =
     let i = c.loop-placement.placement-index in
     let F = filled c.loop-placement.well in
     let next = next_piece table mode c.loop-placement.divider.now F (filled c.lock.result.0) c.args.placements.now i default
-    c.as_slice.result.now (option_map (λ word. word.items) c.find-word.result) c.loop-placement-test.true (c.as_slice.ensures.value ∙ c.placement_with_keys.ensures) c.find-word.ensures.named c.lock.ensures.field in (
+    c.as_slice.result.now (option_map (λ word. word.items) c.find-word.result) c.loop-placement-test.true (c.as_slice.ensures.value ∙ c.placement_text.ensures) c.find-word.ensures.named c.lock.ensures.field in (
       after_piece c.loop-placement.invariant.0 next c.in_ok-write.ensures.written,
       subst (λ F. PlaysOn table mode F c.args.placements.now (i + 1)) (sym c.lock.ensures.field) (plays_next table mode F c.args.placements.now i default c.loop-placement-test.true c.loop-placement.invariant.1),
       omega arith,
-      omega (arith, c.loop-placement.invariant.3, c.in_ok-write.ensures.cause.later),
+      c.in_ok-write.ensures.cause.kept ∙ c.loop-placement.invariant.3,
     )
 
 pub returns-clause-written : goal.returns-clause-written

@@ -1,5 +1,5 @@
 -- The placements so far are written, and those that are left play in the field that they leave.
-use Rattle.std.proofs.Common.{◌≤◌, true, length, drop}
+use Rattle.std.proofs.Common.{◌≡◌, ◌≤◌, true, length, drop}
 use Rattle.srs.specs.Rules.{table_of}
 use Rattle.well.specs.Well.{filled}
 use Rattle.pc_outside.specs.Writes.{GrowsUpTo}
@@ -14,4 +14,4 @@ invariant-loop-placement g l =
     (line_from (key_part true (table_of l.problem.rules) l.problem.drop_mode) l.divider (filled l.well) (drop l.placement-index l.placements))
     × PlaysOn (table_of l.problem.rules) l.problem.drop_mode (filled l.well) l.placements l.placement-index
     × (length l.divider ≤ 1)
-    × (g.O.Sink.faults l.initial.out ≤ g.O.Sink.faults l.out)
+    × (g.O.Sink.faults l.out ≡ g.O.Sink.faults l.initial.out)

@@ -1,0 +1,13 @@
+-- The rows so far are written, and the count of faults stayed.
+use Rattle.std.proofs.Common.{◌≡◌, ◌≤◌}
+use Rattle.std.specs.List.{flat_map}
+use Rattle.pc_outside.specs.Writes.{GrowsUpTo}
+use Rattle.page_list.specs.Letters.{shown_rows}
+use Rattle.page_list.proofs.CallerLemmas.{rows_left}
+use Rattle.page_show.specs.Page.{row_line}
+use Rattle.page_show.proofs.page.write_shown.Given as goal
+
+abbrev pub invariant-loop-index : goal.invariant-loop-index
+invariant-loop-index g l =
+    GrowsUpTo (g.O.Sink.written l.initial.out) (g.O.Sink.written l.out) (flat_map row_line (shown_rows l.letters)) (flat_map row_line (rows_left l.letters l.index))
+    × (g.O.Sink.faults l.out ≡ g.O.Sink.faults l.initial.out)

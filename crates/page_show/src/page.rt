@@ -1,0 +1,80 @@
+// A page as it is shown.
+ghost use Rattle.std.specs.Prelude.{◌≡◌, ◌*◌, ◌<◌, take, drop, All, IsTrue};
+ghost use Rattle.std.specs.List.{flat_map};
+ghost use Rattle.std.specs.Option.{ForSome};
+ghost use Rattle.pc_outside.specs.Counts.{HasCause};
+ghost use Rattle.pc_outside.specs.Writes.{WritesAll};
+ghost use Rattle.srs.specs.Cells.{is_inside_of};
+ghost use Rattle.fumen_pages.specs.Cells.{IsColour};
+ghost use Rattle.page_list.specs.Letters.{letters_of, shown_rows};
+ghost use Rattle.page_show.specs.Page.{row_line, rows_lines, shown_page, title_line, with_operation};
+
+use fumen_pages::{Page, mark};
+use itoa::Buffer;
+use page_list::{first_shown, letters_of, row};
+use pc_outside::{Failed, Sink, write_pieces};
+
+/// Writes a page: a line `page 1` with its number, then its rows from the highest one with a coloured cell or a cell of
+/// the operation down to row 0, then the garbage row, each with a newline. A cell is the small letter of the piece
+/// where the operation has it, else the letter of its colour.
+#[tactic(auto, unfolding(crate::specs::Page::shown_page))]
+pub fn show_page<O: Sink>(out: &mut O, number: u32, page: &Page) -> Result<(), Failed>
+    requires colours { All IsColour page.now.cells }
+    requires inside { ForSome page.now.operation (λ placement. IsTrue (is_inside_of placement)) }
+    ensures written { WritesAll (O.written out.old) (O.written out.new) result (shown_page number page.now) }
+    ensures cause { HasCause (O.faults out.old) (O.faults out.new) result }
+{
+    write_title(out, number)?;
+    write_rows(out, &shown_letters(page))
+}
+
+fn write_title<O: Sink>(out: &mut O, number: u32) -> Result<(), Failed>
+    ensures written { WritesAll (O.written out.old) (O.written out.new) result (title_line number) }
+    ensures cause { HasCause (O.faults out.old) (O.faults out.new) result }
+{
+    let mut digits = Buffer::new();
+    write_pieces(out, &[b"page ", digits.format(number).as_bytes(), b"\n"])
+}
+
+// The letters of a page's cells, with those of its operation.
+fn shown_letters(page: &Page) -> [u8; 240]
+    requires colours { All IsColour page.now.cells }
+    requires inside { ForSome page.now.operation (λ placement. IsTrue (is_inside_of placement)) }
+    ensures { result ≡ with_operation page.now.operation (letters_of page.now.cells) }
+{
+    let mut letters = letters_of(&page.cells);
+    if let Some(placement) = &page.operation {
+        mark(&mut letters, placement, placement.piece.letter() + 32);
+    }
+    letters
+}
+
+// The rows from the highest one that isn't blank down to row 0, and the garbage row.
+fn write_rows<O: Sink>(out: &mut O, letters: &[u8; 240]) -> Result<(), Failed>
+    ensures written { WritesAll (O.written out.old) (O.written out.new) result (rows_lines letters.now) }
+    ensures cause { HasCause (O.faults out.old) (O.faults out.new) result }
+{
+    write_shown(out, letters)?;
+    write_row(out, letters, 23)
+}
+
+// The rows from the highest one that isn't blank down to row 0.
+fn write_shown<O: Sink>(out: &mut O, letters: &[u8; 240]) -> Result<(), Failed>
+    ensures written { WritesAll (O.written out.old) (O.written out.new) result
+        (flat_map row_line (shown_rows letters.now)) }
+    ensures cause { HasCause (O.faults out.old) (O.faults out.new) result }
+{
+    for index in first_shown(letters)..23 {
+        write_row(out, letters, index)?;
+    }
+    Ok(())
+}
+
+fn write_row<O: Sink>(out: &mut O, letters: &[u8; 240], index: usize) -> Result<(), Failed>
+    requires { index < 24 }
+    ensures written { WritesAll (O.written out.old) (O.written out.new) result
+        (row_line (take 10 (drop (10 * index) letters.now))) }
+    ensures cause { HasCause (O.faults out.old) (O.faults out.new) result }
+{
+    write_pieces(out, &[row(letters, index), b"\n"])
+}

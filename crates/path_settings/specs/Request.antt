@@ -1,0 +1,10 @@
+-- What the words ask of `path`.
+use Rattle.std.specs.Prelude.{ℕ, Bool, List, Option}
+use Rattle.pc_settings.specs.Request.{FieldRequest}
+
+-- a request about a field, the sequence after which the list begins, how many are listed at most, and whether with keys
+pub record PathRequest : Type 0 where
+  pub common : FieldRequest
+  pub after : Option (List ℕ)
+  pub limit : ℕ
+  pub keys : Bool

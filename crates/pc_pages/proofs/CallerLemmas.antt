@@ -1,0 +1,34 @@
+-- What crates above cite: one output, and no fault that is not found by a command.
+use Rattle.std.proofs.Common.{◌≡◌, ℕ, List, [], Option, Result, Ok, Err, refl}
+use Rattle.fumen_digits.specs.declared.dialect.Dialect.{Dialect}
+use Rattle.fumen_pages.specs.declared.page.Page.{Page}
+use Rattle.fumen_text.specs.Written.{list_encode_fault}
+use Rattle.page_list.specs.declared.fault.ListFault.{ListFault}
+use Rattle.page_list.specs.ListReading.{pages_in}
+use Rattle.pc_faults.specs.declared.fault.Fault.TheVariants as faults
+use Rattle.pc_faults.specs.Inner.{IsInner}
+use Rattle.pc_faults.proofs.CallerLemmas.{inner_first, inner_map}
+use Rattle.pc_pages.specs.Faults.{encode_fault, lines_fault, unwritten_fault}
+use Rattle.pc_pages.specs.Output.{IsDecodeOutput, IsEncodeOutput, IsShowOutput}
+use Rattle.pc_pages.proofs.OneOutput as outputs
+
+pub one_decode_output : (bytes a b : List ℕ) → IsDecodeOutput bytes a → IsDecodeOutput bytes b → a ≡ b
+one_decode_output = outputs.one_decode_output
+
+pub one_encode_output : (dialect : Dialect) (bytes a b : List ℕ) → IsEncodeOutput dialect bytes a → IsEncodeOutput dialect bytes b → a ≡ b
+one_encode_output = outputs.one_encode_output
+
+pub one_show_output : (asked : Option ℕ) (bytes a b : List ℕ) → IsShowOutput asked bytes a → IsShowOutput asked bytes b → a ≡ b
+one_show_output = outputs.one_show_output
+
+inner_lines : (read : Result (List Page) ListFault) → IsInner (lines_fault read)
+inner_lines (Ok pages) = tt
+inner_lines (Err f) = refl
+
+inner_unwritten : (dialect : Dialect) (read : Result (List Page) ListFault) → IsInner (unwritten_fault dialect read)
+inner_unwritten dialect (Ok pages) = inner_map (λ f. faults.Encode f) (list_encode_fault dialect pages) (λ f. refl)
+inner_unwritten dialect (Err f) = tt
+
+pub inner_encode : (dialect : Dialect) (bytes : List ℕ) → IsInner (encode_fault dialect bytes)
+unfolding encode_fault
+inner_encode dialect bytes = inner_first (lines_fault (pages_in bytes)) _ (inner_lines (pages_in bytes)) (inner_first _ [] (inner_unwritten dialect (pages_in bytes)) tt)

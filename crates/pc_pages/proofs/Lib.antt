@@ -1,0 +1,5 @@
+-- Lemmas of this crate.
+pub mod CallerLemmas
+mod EncodeFaults
+mod OneOutput
+mod ShownPages

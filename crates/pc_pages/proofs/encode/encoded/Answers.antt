@@ -1,0 +1,35 @@
+-- The lines are read as pages, and these are written.
+use Rattle.std.proofs.Common.{◌≡◌, ◌∙◌, ℕ, List, Some, None, Option, Err, Vec, Global, ap, sym, subst}
+use Rattle.std.specs.Prelude.{option_map}
+use Rattle.pc_outside.specs.declared.answers.Refused.{Refused}
+use Rattle.pc_outside.specs.declared.answers.Refused.TheVariants as refused
+use Rattle.fumen_digits.specs.declared.dialect.Dialect.{Dialect}
+use Rattle.fumen_pages.specs.declared.page.Page.{Page}
+use Rattle.fumen_text.specs.declared.encode_fault.EncodeFault.{EncodeFault}
+use Rattle.fumen_text.specs.Written.{IsRefusedBy, list_encode_fault}
+use Rattle.page_list.specs.LineSpelling.{SpellsPages}
+use Rattle.pc_faults.specs.declared.fault.Fault.TheVariants.{Encode}
+use Rattle.pc_pages.specs.Faults.{encode_fault}
+use Rattle.pc_pages.proofs.EncodeFaults.{lines_refused, lines_spelled}
+use Rattle.pc_pages.proofs.encode.encoded.Goals as goal
+
+-- the fault of the bytes, by that of the pages
+fault_of : (dialect : Dialect) (bytes : List ℕ) (pages given : List Page) (found : Option EncodeFault) → SpellsPages bytes pages → given ≡ pages → list_encode_fault dialect given ≡ found
+    → encode_fault dialect bytes ≡ option_map (λ fault. Encode fault) found
+fault_of dialect bytes pages given found spelled same is =
+    lines_spelled dialect bytes pages spelled ∙ ap (λ pages. option_map (λ fault. Encode fault) (list_encode_fault dialect pages)) (sym same) ∙ ap (option_map (λ fault. Encode fault)) is
+
+finds_fault : (X : Type 0) (refusal : Refused EncodeFault) (f : EncodeFault) (found : Option EncodeFault) → IsRefusedBy {X = X} (Err refusal) found → refusal ≡ refused.Fault f → found ≡ Some f
+finds_fault X refusal f found finds is = subst (λ r. IsRefusedBy {X = X} (Err r) found) is finds
+
+pub returns-in-Err-clause-refused : goal.returns-in-Err-clause-refused
+returns-in-Err-clause-refused c = lines_refused c.args.dialect c.args.bytes.now c.in-Err.refused c.in-Err.ensures.refused
+
+pub returns-in-Ok-encode-clause-none : goal.returns-in-Ok-encode-clause-none
+returns-in-Ok-encode-clause-none c =
+    fault_of c.args.dialect c.args.bytes.now c.in-Ok.pages.items c.deref.result.now None c.in-Ok.ensures.pages c.deref.ensures.value c.in-Ok-encode.ensures.fault
+
+pub returns-in-Err-Fault-clause-refused : goal.returns-in-Err-Fault-clause-refused
+returns-in-Err-Fault-clause-refused c =
+    let found = finds_fault (Vec ℕ Global) c.in-Err-Fault.field-0 c.in-Err-Fault.fault (list_encode_fault c.args.dialect c.deref.result.now) c.in-Err-Fault.ensures.fault c.in-Err-Fault.field-0-is in
+    fault_of c.args.dialect c.args.bytes.now c.in-Ok.pages.items c.deref.result.now (Some c.in-Err-Fault.fault) c.in-Ok.ensures.pages c.deref.ensures.value found

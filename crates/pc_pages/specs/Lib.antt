@@ -1,0 +1,4 @@
+-- What a reader must believe.
+pub mod Faults
+pub mod Output
+pub mod Tasks

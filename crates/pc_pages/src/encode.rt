@@ -1,0 +1,57 @@
+// The command `encode`: the fumen text of the pages whose lines the source gives.
+ghost use Rattle.std.specs.Prelude.{◌≡◌, ◌++◌, [], ◌∷◌, None, IfOk, IfErr, OnOk};
+ghost use Rattle.page_list.specs.LineSpelling.{SpellsPages};
+ghost use Rattle.page_list.specs.ListReading.{pages_in};
+ghost use Rattle.pc_source.specs.Answers.{Answers, sink_change};
+ghost use Rattle.pc_source.specs.Had.{IsRefusal};
+ghost use Rattle.pc_pages.specs.Faults.{encode_fault, lines_fault};
+ghost use Rattle.pc_pages.specs.Output.{IsEncodeOutput};
+ghost use Rattle.pc_pages.specs.Tasks.{encode_task};
+
+use fumen_digits::Dialect;
+use fumen_pages::Page;
+use fumen_text::encode;
+use page_list::parse;
+use pc_faults::{Fault, Status};
+use pc_outside::{Refused, Sink, write_pieces};
+use std::alloc::Global;
+
+/// Reads the bytes as a list of pages, and writes their fumen text in a dialect, and a newline.
+pub fn run_encode<O: Sink>(alloc: Global, dialect: Dialect, bytes: &[u8], out: &mut O) -> Status
+    ensures { let sink = sink_change (O.written out.old) (O.written out.new) (O.faults out.old) (O.faults out.new) in
+        Answers (encode_task dialect) bytes.now sink (out.new ≡ out.old) result }
+{
+    match encoded(alloc, dialect, bytes) {
+        Ok(text) => Status::after_writes(write_pieces(out, &[&text, b"\n"])),
+        Err(refused) => Status::from(refused),
+    }
+}
+
+// The pages whose lines the bytes are, or the first fault, or that there is no memory.
+fn list_pages(alloc: Global, bytes: &[u8]) -> Result<Vec<Page>, Refused<Fault>>
+    ensures pages { IfOk result (λ pages. SpellsPages bytes.now pages.items) }
+    ensures refused { IfErr result (λ refused. IsRefusal (lines_fault (pages_in bytes.now)) refused) }
+{
+    match parse(alloc, bytes) {
+        Ok(pages) => Ok(pages),
+        Err(Refused::Fault(fault)) => Err(Refused::Fault(Fault::List(fault))),
+        Err(Refused::NoMemory) => Err(Refused::NoMemory),
+    }
+}
+
+// The fumen text of the pages whose lines the bytes are, or the first fault, or that there is no memory.
+fn encoded(alloc: Global, dialect: Dialect, bytes: &[u8]) -> Result<Vec<u8>, Refused<Fault>>
+    ensures text { IfOk result (λ text. IsEncodeOutput dialect bytes.now (text.items ++ 10 ∷ [])) }
+    ensures none { OnOk result (encode_fault dialect bytes.now ≡ None) }
+    ensures refused { IfErr result (λ refused. IsRefusal (encode_fault dialect bytes.now) refused) }
+{
+    let pages = match list_pages(alloc, bytes) {
+        Ok(pages) => pages,
+        Err(refused) => return Err(refused),
+    };
+    match encode(alloc, dialect, &pages) {
+        Ok(text) => Ok(text),
+        Err(Refused::Fault(fault)) => Err(Refused::Fault(Fault::Encode(fault))),
+        Err(Refused::NoMemory) => Err(Refused::NoMemory),
+    }
+}

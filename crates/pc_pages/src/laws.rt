@@ -1,0 +1,63 @@
+// Laws of the definitions: functions with an empty body, whose contract is the law.
+ghost use Rattle.std.specs.Prelude.{◌≡◌, ◌≤◌, ◌<◌, ℕ, List, length, Option, option_map, Some, None};
+ghost use Rattle.fumen_digits.specs.declared.dialect.Dialect.{Dialect};
+ghost use Rattle.fumen_digits.specs.Fault.{Fault as TextFault};
+ghost use Rattle.fumen_pages.specs.declared.page.Page.{Page};
+ghost use Rattle.fumen_text.specs.Faults.{IsTextFault};
+ghost use Rattle.fumen_text.specs.Texts.{ReadsAs};
+ghost use Rattle.fumen_text.specs.Written.{list_encode_fault};
+ghost use Rattle.page_list.specs.declared.fault.ListFault.{ListFault};
+ghost use Rattle.page_list.specs.LineSpelling.{IsListFault, SpellsPages};
+ghost use Rattle.pc_faults.specs.declared.fault.Fault.TheVariants as faults;
+ghost use Rattle.pc_source.specs.Faults.{page_fault};
+ghost use Rattle.pc_source.specs.FumenFaults.{named};
+ghost use Rattle.pc_source.specs.Task.{first_fault, most_bytes};
+ghost use Rattle.pc_pages.specs.Output.{IsDecodeOutput, IsEncodeOutput, IsShowOutput};
+ghost use Rattle.pc_pages.specs.Tasks.{decode_task, encode_task, show_task};
+
+/// What `decode`, `encode` and `show` write is determined by the bytes of the source.
+pub fn outputs_are_determined()
+    ensures decode { (bytes one other : List ℕ) → IsDecodeOutput bytes one → IsDecodeOutput bytes other → one ≡ other }
+    ensures encode { (dialect : Dialect) (bytes one other : List ℕ) → IsEncodeOutput dialect bytes one
+        → IsEncodeOutput dialect bytes other → one ≡ other }
+    ensures show { (asked : Option ℕ) (bytes one other : List ℕ) → IsShowOutput asked bytes one
+        → IsShowOutput asked bytes other → one ≡ other }
+{}
+
+/// The lines that `decode` writes may be given to `encode`: they spell the pages that were decoded.
+pub fn decoded_lines_spell_their_pages()
+    ensures { (bytes output : List ℕ) (decoded : IsDecodeOutput bytes output) → SpellsPages output decoded.pages }
+{}
+
+/// The fault of `encode` is that the source is too long, or else the one fault of its lines, or else that the pages
+/// which it spells can't be written.
+pub fn encode_faults_are_those_of_the_lines()
+    ensures too_long { (dialect : Dialect) (bytes : List ℕ) → most_bytes < length bytes
+        → first_fault (encode_task dialect) bytes ≡ Some faults.SourceTooLong }
+    ensures lines { (dialect : Dialect) (bytes : List ℕ) (fault : ListFault) → length bytes ≤ most_bytes
+        → IsListFault bytes fault
+        → first_fault (encode_task dialect) bytes ≡ Some (faults.List fault) }
+    ensures pages { (dialect : Dialect) (bytes : List ℕ) (pages : List Page) → length bytes ≤ most_bytes
+        → SpellsPages bytes pages
+        → first_fault (encode_task dialect) bytes ≡ option_map (λ fault. faults.Encode fault)
+        (list_encode_fault dialect pages) }
+{}
+
+/// The fault of `decode` is that the source is too long, or else the one fault of its text; that of `show` is this
+/// one, or else that the page which is asked for is none of those that the text reads as.
+pub fn source_faults_are_those_of_the_text()
+    ensures decode_too_long { (bytes : List ℕ) → most_bytes < length bytes
+        → first_fault decode_task bytes ≡ Some faults.SourceTooLong }
+    ensures decode_text { (bytes : List ℕ) (fault : TextFault) → length bytes ≤ most_bytes → IsTextFault bytes fault
+        → first_fault decode_task bytes ≡ Some (faults.Fumen (named fault)) }
+    ensures decode_pages { (bytes : List ℕ) (dialect : Dialect) (pages : List Page) → length bytes ≤ most_bytes
+        → ReadsAs bytes dialect pages → first_fault decode_task bytes ≡ None }
+    ensures show_too_long { (asked : Option ℕ) (bytes : List ℕ) → most_bytes < length bytes
+        → first_fault (show_task asked) bytes ≡ Some faults.SourceTooLong }
+    ensures show_text { (asked : Option ℕ) (bytes : List ℕ) (fault : TextFault) → length bytes ≤ most_bytes
+        → IsTextFault bytes fault
+        → first_fault (show_task asked) bytes ≡ Some (faults.Fumen (named fault)) }
+    ensures show_page { (asked : Option ℕ) (bytes : List ℕ) (dialect : Dialect) (pages : List Page)
+        → length bytes ≤ most_bytes
+        → ReadsAs bytes dialect pages → first_fault (show_task asked) bytes ≡ page_fault asked pages }
+{}

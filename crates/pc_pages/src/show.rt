@@ -1,0 +1,49 @@
+// The command `show`: pages of the fumen text that the source gives, as rows of letters.
+ghost use Rattle.std.specs.Prelude.{◌≡◌, ◌≤◌, All, length};
+ghost use Rattle.std.specs.Option.{ForSome};
+ghost use Rattle.pc_outside.specs.Counts.{HasCause};
+ghost use Rattle.pc_outside.specs.Writes.{WritesAll};
+ghost use Rattle.pc_source.specs.Answers.{Answers, sink_change};
+ghost use Rattle.pc_source.specs.Had.{IsShowable};
+ghost use Rattle.pc_pages.specs.Output.{shown_from};
+ghost use Rattle.pc_pages.specs.Tasks.{show_task};
+
+use fumen_pages::Page;
+use page_show::show_page;
+use pc_faults::Status;
+use pc_outside::{Failed, Sink};
+use pc_source::{page_at, text_pages};
+use std::alloc::Global;
+
+/// Reads the bytes as a fumen text, and writes its pages as they are shown: all, or the one with the number that is
+/// asked for, counted from 1.
+pub fn run_show<O: Sink>(alloc: Global, asked: Option<u32>, bytes: &[u8], out: &mut O) -> Status
+    requires { ForSome asked (λ number. 1 ≤ number) }
+    ensures { let sink = sink_change (O.written out.old) (O.written out.new) (O.faults out.old) (O.faults out.new) in
+        Answers (show_task asked) bytes.now sink (out.new ≡ out.old) result }
+{
+    let pages = match text_pages(alloc, bytes) {
+        Ok(pages) => pages,
+        Err(refused) => return Status::from(refused),
+    };
+    let Some(number) = asked else {
+        return Status::after_writes(show_all(out, &pages));
+    };
+    match page_at(&pages, number) {
+        Ok(page) => Status::after_writes(show_page(out, number, page)),
+        Err(fault) => Status::Input(fault),
+    }
+}
+
+// Writes all pages as they are shown, one after the other, with their numbers from 1.
+fn show_all<O: Sink>(out: &mut O, pages: &[Page]) -> Result<(), Failed>
+    requires showable { All IsShowable pages.now }
+    requires few { length pages.now ≤ 10000 }
+    ensures written { WritesAll (O.written out.old) (O.written out.new) result (shown_from 1 pages.now) }
+    ensures cause { HasCause (O.faults out.old) (O.faults out.new) result }
+{
+    for index in 0..pages.len() {
+        show_page(out, index as u32 + 1, &pages[index])?;
+    }
+    Ok(())
+}

@@ -1,0 +1,7 @@
+-- Lemmas of this crate.
+pub mod CallerLemmas
+mod AfterFaults
+mod OneOutput
+mod PathAnswers
+mod Reports
+mod WrittenText

@@ -1,0 +1,52 @@
+-- What a report writes for a solution spells it.
+use Rattle.std.proofs.Common.{◌≡◌, ℕ, zero, suc, ◌-◌, ◌<◌, ◌≤◌, List, [], ◌∷◌, length, map, Bool, None, All, get_or, refl, ap, subst, ◌∙◌, sym, arith}
+use Rattle.std.proofs.lemmas.List.{length-map}
+use Rattle.srs.specs.declared.placement.Placement.{Placement}
+use Rattle.srs.specs.Kick.{Table}
+use Rattle.srs.specs.Rules.{table_of}
+use Rattle.srs.proofs.CallerLemmas.{pivot_inside}
+use Rattle.lane_board.specs.Field.{Field}
+use Rattle.well.specs.Well.{filled}
+use Rattle.well.specs.Lock.{locked, rows_removed}
+use Rattle.moves.specs.declared.key.DropMode.{DropMode}
+use Rattle.enumerate.specs.declared.problem.Problem.{Problem}
+use Rattle.enumerate.specs.Plays.{Plays}
+use Rattle.enumerate.specs.Problem.{IsFit, needed_of}
+use Rattle.enumerate.specs.Solution.{IsSolution}
+use Rattle.enumerate.proofs.CallerLemmas.{long-needed, place-free, free-inside}
+use Rattle.report.specs.Forms.{KeysOf, key_part, keyed}
+use Rattle.sequence_text.specs.Form.{Spells}
+use Rattle.sequence_text.specs.Written.{Keyed, sequence_form}
+use Rattle.sequence_text.proofs.CallerLemmas.{written_is_spelled}
+
+-- a placement in the well
+abbrev InWell : Keyed → Type 0
+InWell item = (item.0.x ≤ 9) × (item.0.y ≤ 22)
+
+-- the placements of a sequence with keys
+placements_of : (keys : KeysOf) (F : Field) (s : List Placement) → map (λ item. item.0) (keyed keys F s) ≡ s
+unfolding keyed
+placements_of keys F [] = refl
+placements_of keys F (q ∷ s) = ap (λ l. q ∷ l) (placements_of keys (locked F q) s)
+
+more_inside : (item : Keyed) (rest : List Keyed) → InWell item → All InWell rest → All InWell (item ∷ rest)
+more_inside item rest here there zero d within = here
+more_inside item rest here there (suc i) d within = there i d (omega (arith, within))
+
+played_inside : (table : Table) (mode : DropMode) (keys : KeysOf) (s : List Placement) (F : Field) (rows : ℕ) → Plays table mode F rows s → All InWell (keyed keys F s)
+unfolding keyed
+played_inside table mode keys [] F rows plays = λ i d within. absurd (omega (arith, within))
+played_inside table mode keys (q ∷ s) F rows plays =
+    let pivot = pivot_inside q (free-inside F q (place-free table F mode q plays.0)) in
+    more_inside (q, keys F q) (keyed keys (locked F q) s) (pivot.in_columns, pivot.in_rows) (played_inside table mode keys s (locked F q) (rows - rows_removed F q) plays.2)
+
+pub solution_spelled : (problem : Problem) (sequence : List Placement) (keys : Bool) → IsFit problem → IsSolution problem None sequence
+    → Spells (needed_of problem) (sequence_form (keyed (key_part keys (table_of problem.rules) problem.drop_mode) (filled problem.well) sequence)) sequence
+solution_spelled problem sequence keys fit solution =
+    let part = key_part keys (table_of problem.rules) problem.drop_mode in
+    let F = filled problem.well in
+    let items = keyed part F sequence in
+    let same = placements_of part F sequence in
+    let count : length items ≡ needed_of problem = sym (length-map items (λ item. item.0)) ∙ ap length same ∙ long-needed problem fit sequence solution.plays in
+    let written = written_is_spelled items (played_inside (table_of problem.rules) problem.drop_mode part sequence F problem.height solution.plays) in
+    subst (λ n. Spells n (sequence_form items) sequence) count (subst (Spells (length items) (sequence_form items)) same written)

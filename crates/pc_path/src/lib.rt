@@ -1,0 +1,8 @@
+// The command `path`: all solutions of a problem, one line each.
+#![tactic(auto)]
+
+pub mod laws;
+mod listing;
+mod path;
+
+pub use path::run_path;

@@ -1,0 +1,44 @@
+-- The first fault of what is asked about a field.
+use Rattle.std.specs.Prelude.{ℕ, ◌/◌, ◌%◌, ◌&&◌, ◌==◌, nat_lt, if◌then◌else◌, List, [], ◌∷◌, Option, Some, None, option_map, Result, Ok, Err}
+use Rattle.lane_board.specs.Field.{Field}
+use Rattle.well.specs.Counts.{empties_below, lowest_full, lowest_filled_from}
+use Rattle.queue_pattern.specs.declared.element.Element.{Element}
+use Rattle.queue_pattern.specs.declared.fault.PatternFault.{PatternFault}
+use Rattle.queue_pattern.specs.Grammar.{elements, limited}
+use Rattle.queue_pattern.specs.Queues.{queue_len}
+use Rattle.pc_faults.specs.declared.fault.Fault.{Fault}
+use Rattle.pc_faults.specs.declared.fault.Fault.TheVariants as faults
+use Rattle.pc_faults.specs.FirstFault.{first_of_these}
+use Rattle.pc_settings.specs.Request.{FieldRequest}
+
+-- of a field with these cells: a cell at or above the height, a full row
+unfoldable pub rows_fault : Field → ℕ → Option Fault
+rows_fault F height = first_of_these (
+    option_map (λ row. faults.FieldTooHigh row) (lowest_filled_from F height)
+    ∷ option_map (λ row. faults.FullRow row) (lowest_full F)
+    ∷ [])
+
+-- the elements of the pattern that is asked for
+abbrev pub elements_asked : FieldRequest → Result (List Element) PatternFault
+elements_asked request = limited (elements request.patterns)
+
+abbrev pub pattern_fault : Result (List Element) PatternFault → Option Fault
+pattern_fault (Ok elements) = None
+pattern_fault (Err fault) = Some (faults.Pattern fault)
+
+-- where the empty cells below the height are a multiple of four, a quarter of them is needed
+abbrev pub too_few : ℕ → ℕ → Option Fault
+too_few empties have = if empties % 4 == 0 && nat_lt have (empties / 4)
+    then Some (faults.TooFewPieces have (empties / 4)) else None
+
+abbrev pub pieces_fault : ℕ → Result (List Element) PatternFault → Option Fault
+pieces_fault empties (Ok elements) = too_few empties (queue_len elements)
+pieces_fault empties (Err fault) = None
+
+-- of a request about a field with these cells: its rows, the pattern, the number of pieces
+unfoldable pub problem_fault : FieldRequest → Field → Option Fault
+problem_fault request F = first_of_these (
+    rows_fault F request.height
+    ∷ pattern_fault (elements_asked request)
+    ∷ pieces_fault (empties_below F request.height) (elements_asked request)
+    ∷ [])

@@ -1,0 +1,61 @@
+-- The field that is asked about: there is one, and its faults are those of its text.
+use Rattle.std.proofs.Common.{◌≡◌, ℕ, ◌-◌, ◌≤◌, inl, inr, length, arith, List, [], ◌∷◌, Option, Some, None, Result, Ok, Err, refl, ap, sym, subst, ◌∙◌}
+use Rattle.std.specs.Prelude.{slice_get}
+use Rattle.std.proofs.lemmas.Bool.{lt-ltb}
+use Rattle.std.proofs.lemmas.Option.{same_Some, slice_get_cases}
+use Rattle.lane_board.specs.Field.{Field}
+use Rattle.fumen_digits.specs.declared.dialect.Dialect.{Dialect}
+use Rattle.fumen_digits.specs.Fault.{Fault as TextFault}
+use Rattle.fumen_pages.specs.declared.page.Page.{Page}
+use Rattle.fumen_text.specs.Reading.{text_pages}
+use Rattle.fumen_text.proofs.CallerLemmas.{read_from_text, text_from_read, one_list}
+use Rattle.pc_faults.specs.declared.fault.Fault.{Fault}
+use Rattle.pc_faults.specs.declared.fault.Fault.TheVariants.{NoPage}
+use Rattle.pc_faults.proofs.CallerLemmas.{none_first, none_last}
+use Rattle.pc_settings.specs.Request.{FieldText, rows_text, fumen_text}
+use Rattle.pc_source.specs.Faults.{asked_fault, cells_of, cells_read, cells_shown, field_fault, page_fault, pages_fault, text_fault}
+use Rattle.pc_source.specs.FieldText.{page_cells, text_given, IsPageField, IsFumenField, IsFieldOf}
+
+one_page_field : (pages : List Page) (number : ℕ) (F G : Field) → IsPageField pages number F → IsPageField pages number G → F ≡ G
+one_page_field pages number F G one other = one.cells ∙ ap page_cells (same_Some one.page other.page (sym one.there ∙ other.there)) ∙ sym other.cells
+
+one_fumen_field : (text : List ℕ) (number : ℕ) (F G : Field) → IsFumenField text number F → IsFumenField text number G → F ≡ G
+one_fumen_field text number F G one other =
+    let same = (one_list text one.dialect one.pages other.dialect other.pages one.reads other.reads).1 in
+    one_page_field other.pages number F G (subst (λ pages. IsPageField pages number F) same one.field) other.field
+
+-- the words and the source's bytes determine the field
+pub one_field : (field : FieldText) (number : ℕ) (bytes : List ℕ) (F G : Field) → IsFieldOf field number bytes F → IsFieldOf field number bytes G → F ≡ G
+one_field (rows_text text) number bytes F G one other = one ∙ sym other
+one_field (fumen_text word) number bytes F G one other = one_fumen_field (text_given word bytes) number F G one other
+
+-- the cells of the field are those that faults speak of
+pub field_cells : (field : FieldText) (number : ℕ) (bytes : List ℕ) (F : Field) → IsFieldOf field number bytes F → cells_of field number bytes ≡ F
+field_cells (rows_text text) number bytes F is = sym is
+field_cells (fumen_text word) number bytes F is = rw (read_from_text (text_given word bytes) is.dialect is.pages is.reads, is.field.there) (sym is.field.cells)
+
+-- a page that is there is a field
+page_there : (pages : List Page) (number : ℕ) → 1 ≤ number → page_fault (Some number) pages ≡ None → IsPageField pages number (cells_shown (slice_get pages (number - 1)))
+page_there pages number first none = elim (slice_get_cases pages (number - 1)).1 [
+  | inl there ↦ record { page = there.0; there = there.2; cells = ap cells_shown there.2 }
+  | inr past ↦
+      let few = past.0 in
+      let fault : page_fault (Some number) pages ≡ Some (NoPage number (length pages)) = rw (lt-ltb (length pages) number (omega (arith, few, first))) refl in
+      cc
+]
+
+text_there : (text : List ℕ) (number : ℕ) (read : Result (Dialect × List Page) TextFault) → 1 ≤ number → text_pages text ≡ read → pages_fault read ≡ None → asked_fault (Some number) read ≡ None
+    → IsFumenField text number (cells_read number read)
+text_there text number (Ok (dialect, pages)) first is reads none =
+    record { dialect = dialect; pages = pages; reads = text_from_read text (dialect, pages) is; field = page_there pages number first none }
+text_there text number (Err fault) first is reads none = cc
+
+asked_there : (number : ℕ) (text : List ℕ) → 1 ≤ number → text_fault (Some number) text ≡ None → IsFumenField text number (cells_read number (text_pages text))
+unfolding text_fault
+asked_there number text first none =
+    text_there text number (text_pages text) first refl (none_first (pages_fault (text_pages text)) _ none).0 (none_last (pages_fault (text_pages text)) (asked_fault (Some number) (text_pages text)) none)
+
+-- a text with no fault gives a field
+pub field_there : (field : FieldText) (number : ℕ) (bytes : List ℕ) → 1 ≤ number → field_fault field number bytes ≡ None → IsFieldOf field number bytes (cells_of field number bytes)
+field_there (rows_text text) number bytes first none = refl
+field_there (fumen_text word) number bytes first none = asked_there number (text_given word bytes) first none

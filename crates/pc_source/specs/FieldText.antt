@@ -1,0 +1,47 @@
+-- The field that is asked about: rows that a text writes, or a page of a fumen text.
+use Rattle.std.specs.Prelude.{◌≡◌, ℕ, ◌-◌, Bool, not, ◌&&◌, ◌==◌, if◌then◌else◌, List, codes, slice_get, slice_index, Some, pos}
+use Rattle.std.specs.Str.{bytes_eq}
+use Rattle.lane_board.specs.Field.{Field, rows_below}
+use Rattle.well.specs.Rows.{written_cells}
+use Rattle.fumen_digits.specs.declared.dialect.Dialect.{Dialect}
+use Rattle.fumen_pages.specs.declared.page.Page.{Page}
+use Rattle.fumen_pages.specs.Cells.{place_of}
+use Rattle.fumen_digits.specs.declared.dialect.Dialect.TheVariants.{V115}
+use Rattle.fumen_text.specs.Texts.{ReadsAs}
+use Rattle.pc_source.specs.Task.{Needs, nothing, memory, source_bytes}
+use Rattle.pc_settings.specs.Request.{FieldText, rows_text, fumen_text}
+
+-- the word `-` stands for the source's text
+abbrev pub is_of_source : List ℕ → Bool
+is_of_source word = bytes_eq word (codes "-")
+
+-- the text that a word gives, where the source has these bytes
+abbrev pub text_given : List ℕ → List ℕ → List ℕ
+text_given word bytes = if is_of_source word then bytes else word
+
+-- the cells of rows 0 to 22 that aren't empty, of whatever colour; the garbage row is no part of them
+unfoldable pub page_cells : Page → Field
+page_cells page x y = rows_below 23 x y && not (slice_index page.cells (place_of V115 (pos x, pos y)) == 0)
+
+-- the field of the page with this number, counted from 1
+pub record IsPageField (pages : List Page) (number : ℕ) (F : Field) : Type 0 where
+  pub page : Page
+  pub there : slice_get pages (number - 1) ≡ Some page
+  pub cells : F ≡ page_cells page
+
+-- the field of the page with this number of a fumen text
+pub record IsFumenField (text : List ℕ) (number : ℕ) (F : Field) : Type 0 where
+  pub dialect : Dialect
+  pub pages : List Page
+  pub reads : ReadsAs text dialect pages
+  pub field : IsPageField pages number F
+
+-- the field that is asked about, with the number of the page where it is a fumen's, where the source has these bytes
+abbrev pub IsFieldOf : FieldText → ℕ → List ℕ → Field → Type 0
+IsFieldOf (rows_text text) number bytes F = F ≡ written_cells text
+IsFieldOf (fumen_text word) number bytes F = IsFumenField (text_given word bytes) number F
+
+-- what is needed to know the field: a fumen text is read in memory, also where it is the source's
+abbrev pub field_needs : FieldText → Needs
+field_needs (rows_text text) = nothing
+field_needs (fumen_text word) = if is_of_source word then source_bytes else memory

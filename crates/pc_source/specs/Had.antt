@@ -1,0 +1,56 @@
+-- What a call gives, with the fault that does not stand there, and what it is refused by.
+use Rattle.std.specs.Prelude.{◌≡◌, ℕ, List, [], true, false, Bool, IsTrue, All, Option, Some, None, if◌then◌else◌}
+use Rattle.std.specs.Option.{ForSome}
+use Rattle.lane_board.specs.Field.{Field}
+use Rattle.srs.specs.Cells.{is_inside_of}
+use Rattle.pc_outside.specs.declared.answers.Refused.{Refused}
+use Rattle.pc_outside.specs.declared.answers.Refused.TheVariants as refused
+use Rattle.fumen_digits.specs.declared.dialect.Dialect.{Dialect}
+use Rattle.fumen_pages.specs.declared.page.Page.{Page}
+use Rattle.fumen_pages.specs.Cells.{IsColour}
+use Rattle.fumen_text.specs.Texts.{ReadsAs}
+use Rattle.pc_faults.specs.declared.fault.Fault.{Fault}
+use Rattle.pc_faults.specs.declared.fault.Fault.TheVariants.{SourceTooLong}
+use Rattle.pc_faults.specs.declared.status.Status.{Status}
+use Rattle.pc_faults.specs.declared.status.Status.TheVariants.{Done, Input, SourceFault, NoMemory}
+use Rattle.pc_settings.specs.Request.{FieldText, fumen_text, rows_text}
+use Rattle.pc_source.specs.FieldText.{is_of_source, IsPageField, IsFumenField, IsFieldOf}
+use Rattle.pc_source.specs.Faults.{field_fault, page_fault, text_fault}
+use Rattle.pc_source.specs.Task.{Needs, nothing, memory, source_bytes}
+
+-- by this fault, or for want of memory
+abbrev pub IsRefusal : Option Fault → Refused Fault → Type 0
+IsRefusal fault (refused.Fault found) = fault ≡ Some found
+IsRefusal fault refused.NoMemory = Unit {0}
+
+-- the source could not be read to its end
+abbrev pub IsUnread : Status → Type 0
+IsUnread (Input fault) = fault ≡ SourceTooLong
+IsUnread SourceFault = Unit {0}
+IsUnread NoMemory = Unit {0}
+IsUnread other = ⊥
+
+-- the bytes that a run sees of the source were read
+abbrev pub HasBytes : Bool → Option (List ℕ) → List ℕ → Type 0
+HasBytes true left bytes = ForSome left (λ all. bytes ≡ all)
+HasBytes false left bytes = bytes ≡ []
+
+-- a text reads as these pages
+pub record HasText (text : List ℕ) (pages : List Page) : Type 0 where
+  pub dialect : Dialect
+  pub reads : ReadsAs text dialect pages
+
+-- a page whose cells are colours, and whose operation lies in the well
+pub record IsShowable (page : Page) : Type 0 where
+  pub colours : All IsColour page.cells
+  pub inside : ForSome page.operation (λ placement. IsTrue (is_inside_of placement))
+
+-- the field of a page of a fumen text is had: there is no fault
+pub record HasFumenField (text : List ℕ) (number : ℕ) (F : Field) : Type 0 where
+  pub none : text_fault (Some number) text ≡ None
+  pub is : IsFumenField text number F
+
+-- the field is had: its text has no fault
+pub record HasField (field : FieldText) (number : ℕ) (bytes : List ℕ) (F : Field) : Type 0 where
+  pub none : field_fault field number bytes ≡ None
+  pub is : IsFieldOf field number bytes F

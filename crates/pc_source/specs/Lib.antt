@@ -1,0 +1,9 @@
+-- What a reader must believe.
+pub mod Answers
+pub mod Faults
+pub mod FieldText
+pub mod FumenFaults
+pub mod Source
+pub mod Task
+-- What serves proofs alone.
+pub mod Had

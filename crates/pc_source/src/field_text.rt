@@ -1,0 +1,90 @@
+// The field that is asked about: that of a rows text, or of a page of a fumen text.
+ghost use Rattle.std.specs.Prelude.{◌≡◌, ◌≢◌, ◌≤◌, [], Err, Some, IfOk, IfErr};
+ghost use Rattle.well.specs.Well.{filled};
+ghost use Rattle.pc_outside.specs.declared.answers.Refused.{Refused};
+ghost use Rattle.pc_settings.specs.Request.{rows_text};
+ghost use Rattle.pc_settings.specs.Views.{text_view};
+ghost use Rattle.pc_source.specs.Faults.{field_fault, text_fault};
+ghost use Rattle.pc_source.specs.FieldText.{field_needs, text_given};
+ghost use Rattle.pc_source.specs.Had.{HasField, HasFumenField, IsRefusal};
+ghost use Rattle.pc_source.specs.Task.{is_source, nothing};
+
+use crate::page::{field_of, page_at};
+use crate::pages::text_pages;
+use pc_faults::Fault;
+use pc_outside::Refused;
+use pc_settings::FieldWords;
+use std::alloc::Global;
+use well::Well;
+
+/// The field that the words give, where the source has these bytes, or the first fault of its text, or that there is no
+/// memory. Of a fumen text it is the page with this number, counted from 1.
+pub fn field(
+    alloc: Global,
+    words: FieldWords<'_>,
+    number: u32,
+    bytes: &[u8],
+) -> Result<Well, Refused<Fault>>
+    requires { 1 ≤ number }
+    ensures field { IfOk result (λ well. HasField (text_view words.entry) number bytes.now (filled well)) }
+    ensures refused { IfErr result
+        (λ refused. IsRefusal (field_fault (text_view words.entry) number bytes.now) refused) }
+    ensures memory { result ≡ Err Refused.NoMemory → field_needs (text_view words.entry) ≢ nothing }
+{
+    match words {
+        FieldWords::Rows(text) => match rows_field(text) {
+            Ok(well) => Ok(well),
+            Err(fault) => Err(Refused::Fault(fault)),
+        },
+        FieldWords::Tetfu(word) => fumen_field(alloc, text_given(word, bytes), number),
+    }
+}
+
+/// Whether the field is that of the source's text.
+pub fn is_of_source(words: FieldWords<'_>) -> bool
+    ensures { result ≡ is_source (field_needs (text_view words.entry)) }
+{
+    match words {
+        FieldWords::Rows(_) => false,
+        FieldWords::Tetfu(word) => match word {
+            "-" => true,
+            _ => false,
+        },
+    }
+}
+
+fn rows_field(text: &str) -> Result<Well, Fault>
+    ensures field { IfOk result (λ well. HasField (rows_text text.now) 1 [] (filled well)) }
+    ensures fault { IfErr result (λ fault. field_fault (rows_text text.now) 1 [] ≡ Some fault) }
+{
+    match Well::from_rows(text.as_bytes()) {
+        Ok(well) => Ok(well),
+        Err(fault) => Err(Fault::Rows(fault)),
+    }
+}
+
+// The text that a word gives, where the source has these bytes.
+fn text_given<'a>(word: &'a str, bytes: &'a [u8]) -> &'a [u8]
+    ensures { result.now ≡ text_given word.entry.now bytes.entry.now }
+{
+    match word {
+        "-" => bytes,
+        _ => word.as_bytes(),
+    }
+}
+
+// The field of the page with this number of a fumen text.
+fn fumen_field(alloc: Global, text: &[u8], number: u32) -> Result<Well, Refused<Fault>>
+    requires { 1 ≤ number }
+    ensures field { IfOk result (λ well. HasFumenField text.now number (filled well)) }
+    ensures refused { IfErr result (λ refused. IsRefusal (text_fault (Some number) text.now) refused) }
+{
+    let pages = match text_pages(alloc, text) {
+        Ok(pages) => pages,
+        Err(refused) => return Err(refused),
+    };
+    match page_at(&pages, number) {
+        Ok(page) => Ok(field_of(page)),
+        Err(fault) => Err(Refused::Fault(fault)),
+    }
+}

@@ -1,0 +1,13 @@
+// What commands share: the source, the pages of a fumen text, the field, and what a status says.
+#![tactic(auto)]
+
+mod field_text;
+pub mod laws;
+mod page;
+mod pages;
+mod source;
+
+pub use field_text::{field, is_of_source};
+pub use page::page_at;
+pub use pages::text_pages;
+pub use source::source_bytes;

@@ -1,0 +1,44 @@
+-- The commands and their options.
+use Rattle.std.specs.Prelude.{ℕ, List, [], ◌∷◌, codes, Option, Some, None, if◌then◌else◌}
+use Rattle.std.specs.Str.{bytes_eq}
+use Rattle.pc_words.specs.declared.options.Command.{Command}
+use Rattle.pc_words.specs.declared.options.Command.TheVariants as commands
+use Rattle.pc_words.specs.declared.options.CommandOption.{CommandOption}
+use Rattle.pc_words.specs.declared.options.CommandOption.TheVariants.{Rows, Tetfu, Page, ClearLine, Patterns, Hold, Drop, After, Limit, Keys, Dialect}
+
+unfoldable pub command_in : List ℕ → Option Command
+command_in word =
+    if bytes_eq word (codes "path") then Some commands.Path
+    else (if bytes_eq word (codes "decode") then Some commands.Decode
+    else (if bytes_eq word (codes "encode") then Some commands.Encode
+    else (if bytes_eq word (codes "show") then Some commands.Show
+    else None)))
+
+-- the word that names an option
+abbrev pub option_name : CommandOption → List ℕ
+option_name Rows = codes "--rows"
+option_name Tetfu = codes "--tetfu"
+option_name Page = codes "--page"
+option_name ClearLine = codes "--clear-line"
+option_name Patterns = codes "--patterns"
+option_name Hold = codes "--hold"
+option_name Drop = codes "--drop"
+option_name After = codes "--after"
+option_name Limit = codes "--limit"
+option_name Keys = codes "--keys"
+option_name Dialect = codes "--dialect"
+
+abbrev pub options_of : Command → List CommandOption
+options_of commands.Path = Rows ∷ Tetfu ∷ Page ∷ ClearLine ∷ Patterns ∷ Hold ∷ Drop ∷ After ∷ Limit ∷ Keys ∷ []
+options_of commands.Decode = []
+options_of commands.Encode = Dialect ∷ []
+options_of commands.Show = Page ∷ []
+
+-- the one of these options that has this name
+unfoldable pub named_in : List ℕ → List CommandOption → Option CommandOption
+named_in name [] = None
+named_in name (option ∷ rest) = if bytes_eq (option_name option) name then Some option else named_in name rest
+
+-- the option of a command with this name
+abbrev pub option_of : Command → List ℕ → Option CommandOption
+option_of command name = named_in name (options_of command)

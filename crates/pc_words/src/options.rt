@@ -1,0 +1,99 @@
+// The commands and their options.
+ghost use Rattle.std.specs.Prelude.{◌≡◌};
+ghost use Rattle.pc_words.specs.Options.{command_in, option_name, option_of, options_of};
+
+/// A command.
+#[derive(Clone, Copy, Debug, PartialEq, Eq)]
+pub enum Command {
+    Path,
+    Decode,
+    Encode,
+    Show,
+}
+
+/// An option of some command.
+#[derive(Clone, Copy, Debug, PartialEq, Eq)]
+pub enum CommandOption {
+    Rows,
+    Tetfu,
+    Page,
+    ClearLine,
+    Patterns,
+    Hold,
+    Drop,
+    After,
+    Limit,
+    Keys,
+    Dialect,
+}
+
+const PATH: [CommandOption; 10] = [
+    CommandOption::Rows,
+    CommandOption::Tetfu,
+    CommandOption::Page,
+    CommandOption::ClearLine,
+    CommandOption::Patterns,
+    CommandOption::Hold,
+    CommandOption::Drop,
+    CommandOption::After,
+    CommandOption::Limit,
+    CommandOption::Keys,
+];
+
+/// The command with this name.
+#[tactic(auto, unfolding(crate::specs::Options::command_in))]
+pub fn command_named(word: &str) -> Option<Command>
+    ensures { result ≡ command_in word.now }
+{
+    match word {
+        "path" => Some(Command::Path),
+        "decode" => Some(Command::Decode),
+        "encode" => Some(Command::Encode),
+        "show" => Some(Command::Show),
+        _ => None,
+    }
+}
+
+impl CommandOption {
+    /// The word that names the option.
+    pub fn name(self) -> &'static str
+        ensures { result.now ≡ option_name self }
+    {
+        match self {
+            CommandOption::Rows => "--rows",
+            CommandOption::Tetfu => "--tetfu",
+            CommandOption::Page => "--page",
+            CommandOption::ClearLine => "--clear-line",
+            CommandOption::Patterns => "--patterns",
+            CommandOption::Hold => "--hold",
+            CommandOption::Drop => "--drop",
+            CommandOption::After => "--after",
+            CommandOption::Limit => "--limit",
+            CommandOption::Keys => "--keys",
+            CommandOption::Dialect => "--dialect",
+        }
+    }
+}
+
+fn options_of(command: Command) -> &'static [CommandOption]
+    ensures { result.now ≡ options_of command }
+{
+    match command {
+        Command::Path => &PATH,
+        Command::Decode => &[],
+        Command::Encode => &[CommandOption::Dialect],
+        Command::Show => &[CommandOption::Page],
+    }
+}
+
+/// The option of a command with this name.
+pub fn option_of(command: Command, name: &str) -> Option<CommandOption>
+    ensures { result ≡ option_of command name.now }
+{
+    for option in options_of(command) {
+        if option.name() == name {
+            return Some(*option);
+        }
+    }
+    None
+}

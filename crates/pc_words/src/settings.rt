@@ -1,0 +1,132 @@
+// A command with its settings, by the pairs of its words.
+ghost use Rattle.std.specs.Prelude.{◌≡◌, ◌≤◌, ◌<◌, ◌^◌, ◌+◌, length, option_map, IfOk, IfSome};
+ghost use Rattle.std.specs.Option.{option_and_then};
+ghost use Rattle.pc_settings.specs.Request.{IsInRange};
+ghost use Rattle.pc_settings.specs.Views.{field_view, text_view};
+ghost use Rattle.path_settings.specs.Views.{path_view};
+ghost use Rattle.pc_words.specs.Values.{dialect_in, drop_in, height_in, hold_in, limit_in, page_in, yes_in};
+ghost use Rattle.pc_words.specs.Views.{AsksInRange, HasNumber, settings_reading, settings_view};
+ghost use Rattle.pc_words.specs.Words.{field_given, field_request, given_or, path_request, request_of, texts, value_of};
+
+use crate::options::{Command, CommandOption};
+use crate::values::{
+    MOST_SEQUENCES, dialect_in, drop_in, height_in, hold_in, limit_in, page_in, yes_in,
+};
+use crate::words::value_of;
+use fumen_digits::Dialect;
+use hold_queue::Hold;
+use moves::DropMode;
+use path_settings::PathSettings;
+use pc_faults::{WordsFault, WordsKind};
+use pc_settings::{FieldSettings, FieldWords};
+
+/// A command with its settings.
+#[derive(Clone, Copy, Debug, PartialEq, Eq)]
+pub enum Settings<'a> {
+    Path(PathSettings<'a>),
+    Decode,
+    Encode {
+        /// The dialect that is written.
+        dialect: Dialect,
+    },
+    Show {
+        /// The number of the page that is shown, counted from 1, or None for all pages.
+        page: Option<u32>,
+    },
+}
+
+fn page_of(pairs: &[String]) -> Option<u32>
+    ensures value { result ≡ option_and_then page_in (value_of CommandOption.Page (texts pairs.now)) }
+    ensures range { HasNumber result }
+{
+    match value_of(CommandOption::Page, pairs) {
+        Some(text) => page_in(text),
+        None => None,
+    }
+}
+
+fn height_of(pairs: &[String]) -> u8
+    ensures value { result ≡ given_or 4 height_in (value_of CommandOption.ClearLine (texts pairs.now)) }
+    ensures range { (1 ≤ result) × (result ≤ 6) }
+{
+    match value_of(CommandOption::ClearLine, pairs) {
+        Some(text) => height_in(text).unwrap_or(4),
+        None => 4,
+    }
+}
+
+// The field of the pairs, of which one at most gives it.
+fn field_words(pairs: &[String]) -> Option<FieldWords<'_>>
+    ensures { option_map text_view result ≡ field_given
+        (value_of CommandOption.Rows (texts pairs.entry.now)) (value_of CommandOption.Tetfu (texts pairs.entry.now)) }
+{
+    match (
+        value_of(CommandOption::Rows, pairs),
+        value_of(CommandOption::Tetfu, pairs),
+    ) {
+        (Some(rows), _) => Some(FieldWords::Rows(rows)),
+        (None, Some(tetfu)) => Some(FieldWords::Tetfu(tetfu)),
+        (None, None) => None,
+    }
+}
+
+// What is asked about a field, or None where the field or the pattern is absent.
+#[tactic(auto, unfolding(crate::specs::Words::field_request))]
+fn field_settings(pairs: &[String]) -> Option<FieldSettings<'_>>
+    ensures value { option_map field_view result ≡ field_request (texts pairs.entry.now) }
+    ensures range { IfSome result (λ settings. IsInRange (field_view settings)) }
+{
+    Some(FieldSettings {
+        field: field_words(pairs)?,
+        page: page_of(pairs).unwrap_or(1),
+        height: height_of(pairs),
+        patterns: value_of(CommandOption::Patterns, pairs)?,
+        hold: value_of(CommandOption::Hold, pairs)
+            .and_then(hold_in)
+            .unwrap_or(Hold::Allowed),
+        drop_mode: value_of(CommandOption::Drop, pairs)
+            .and_then(drop_in)
+            .unwrap_or(DropMode::Soft),
+    })
+}
+
+fn path_settings<'a>(pairs: &'a [String], common: FieldSettings<'a>) -> PathSettings<'a>
+    ensures { path_view result ≡ path_request (texts pairs.entry.now) (field_view common.entry) }
+{
+    PathSettings {
+        common,
+        after: value_of(CommandOption::After, pairs),
+        limit: value_of(CommandOption::Limit, pairs)
+            .and_then(limit_in)
+            .unwrap_or(MOST_SEQUENCES),
+        keys: value_of(CommandOption::Keys, pairs)
+            .and_then(yes_in)
+            .unwrap_or(false),
+    }
+}
+
+/// The settings of a command, by pairs that have no fault. The field and the pattern are required.
+pub fn settings_of(command: Command, pairs: &[String]) -> Result<Settings<'_>, WordsFault>
+    requires { length pairs.now + 1 < 2 ^ 64 }
+    ensures value { settings_reading result ≡ request_of command (texts pairs.entry.now) }
+    ensures range { IfOk result (λ settings. AsksInRange (settings_view settings)) }
+{
+    match command {
+        Command::Path => match field_settings(pairs) {
+            Some(common) => Ok(Settings::Path(path_settings(pairs, common))),
+            None => Err(WordsFault {
+                kind: WordsKind::MissingOption,
+                index: pairs.len() + 1,
+            }),
+        },
+        Command::Decode => Ok(Settings::Decode),
+        Command::Encode => Ok(Settings::Encode {
+            dialect: value_of(CommandOption::Dialect, pairs)
+                .and_then(dialect_in)
+                .unwrap_or(Dialect::V115),
+        }),
+        Command::Show => Ok(Settings::Show {
+            page: page_of(pairs),
+        }),
+    }
+}

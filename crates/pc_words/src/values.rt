@@ -1,0 +1,111 @@
+// The values that options take, each in its option's list or range.
+ghost use Rattle.std.specs.Prelude.{◌≡◌, ◌≤◌, IfSome};
+ghost use Rattle.pc_words.specs.Values.{dialect_in, drop_in, height_in, hold_in, limit_in, page_in, takes, yes_in};
+
+use crate::numbers::number_in;
+use crate::options::CommandOption;
+use fumen_digits::Dialect;
+use hold_queue::Hold;
+use moves::DropMode;
+
+/// The rows that may be removed, at most.
+const MOST_ROWS: u32 = 6;
+
+/// The number of the last page that a list may have.
+const MOST_PAGES: u32 = 10_000;
+
+/// The sequences that may be written, at most.
+pub const MOST_SEQUENCES: u32 = 1_000_000_000;
+
+/// How many rows are to be removed: 1 to 6.
+pub fn height_in(text: &str) -> Option<u8>
+    ensures value { result ≡ height_in text.now }
+    ensures range { IfSome result (λ height. (1 ≤ height) × (height ≤ 6)) }
+{
+    match number_in(1, MOST_ROWS, text.as_bytes()) {
+        Some(height) => Some(height as u8),
+        None => None,
+    }
+}
+
+/// The number of a page, counted from 1, to 10,000.
+pub fn page_in(text: &str) -> Option<u32>
+    ensures value { result ≡ page_in text.now }
+    ensures range { IfSome result (λ page. 1 ≤ page) }
+{
+    number_in(1, MOST_PAGES, text.as_bytes())
+}
+
+/// How many sequences are written at most: 1 to 1,000,000,000.
+pub fn limit_in(text: &str) -> Option<u32>
+    ensures { result ≡ limit_in text.now }
+{
+    number_in(1, MOST_SEQUENCES, text.as_bytes())
+}
+
+/// Whether pieces may be held: `use` or `avoid`.
+#[tactic(auto, unfolding(crate::specs::Values::hold_in))]
+pub fn hold_in(text: &str) -> Option<Hold>
+    ensures { result ≡ hold_in text.now }
+{
+    match text {
+        "use" => Some(Hold::Allowed),
+        "avoid" => Some(Hold::Avoided),
+        _ => None,
+    }
+}
+
+/// How pieces drop: `soft` or `hard`.
+#[tactic(auto, unfolding(crate::specs::Values::drop_in))]
+pub fn drop_in(text: &str) -> Option<DropMode>
+    ensures { result ≡ drop_in text.now }
+{
+    match text {
+        "soft" => Some(DropMode::Soft),
+        "hard" => Some(DropMode::Hard),
+        _ => None,
+    }
+}
+
+/// Whether something is asked for: `yes` or `no`.
+#[tactic(auto, unfolding(crate::specs::Values::yes_in))]
+pub fn yes_in(text: &str) -> Option<bool>
+    ensures { result ≡ yes_in text.now }
+{
+    match text {
+        "yes" => Some(true),
+        "no" => Some(false),
+        _ => None,
+    }
+}
+
+/// The dialect of a fumen text: `110` or `115`.
+#[tactic(auto, unfolding(crate::specs::Values::dialect_in))]
+pub fn dialect_in(text: &str) -> Option<Dialect>
+    ensures { result ≡ dialect_in text.now }
+{
+    match text {
+        "110" => Some(Dialect::V110),
+        "115" => Some(Dialect::V115),
+        _ => None,
+    }
+}
+
+/// Whether a text is in the list or the range of an option.
+pub fn takes(option: CommandOption, text: &str) -> bool
+    ensures { result ≡ takes option text.now }
+{
+    match option {
+        CommandOption::Rows => true,
+        CommandOption::Tetfu => true,
+        CommandOption::Page => page_in(text).is_some(),
+        CommandOption::ClearLine => height_in(text).is_some(),
+        CommandOption::Patterns => true,
+        CommandOption::Hold => hold_in(text).is_some(),
+        CommandOption::Drop => drop_in(text).is_some(),
+        CommandOption::After => true,
+        CommandOption::Limit => limit_in(text).is_some(),
+        CommandOption::Keys => yes_in(text).is_some(),
+        CommandOption::Dialect => dialect_in(text).is_some(),
+    }
+}

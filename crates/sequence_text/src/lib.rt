@@ -1,0 +1,10 @@
+// The text of a sequence of placements, with keys or without, read and written.
+#![tactic(auto)]
+
+pub mod laws;
+mod reading;
+mod sequence;
+mod writing;
+
+pub use sequence::sequence_in;
+pub use writing::{SequenceText, placement_with_keys, push, sequence_text};

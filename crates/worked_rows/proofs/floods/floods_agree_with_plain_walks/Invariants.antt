@@ -1,5 +1,0 @@
--- Each flood counts its steps under the name that it was given.
-use Rattle.worked_rows.proofs.floods.floods_agree_with_plain_walks.Given as goal
-
-abbrev pub ghosts-agree : goal.ghosts-agree
-ghosts-agree g a = record { name = a.blank.name; parts = a.blank.parts }

@@ -1,6 +1,0 @@
--- What is held is of the piece.
-use Rattle.reach.proofs.ScanLemmas.{holds-piece}
-use Rattle.worked_rows.proofs.floods.held.Goals as goal
-
-pub loop-number-preserved : goal.loop-number-preserved
-loop-number-preserved c = holds-piece c.args.places.now c.in-Some.placement c.in-Some.ensures.member

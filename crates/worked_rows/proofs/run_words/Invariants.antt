@@ -1,5 +1,0 @@
--- The ledger of steps is the one that is made here.
-use Rattle.worked_rows.proofs.run_words.Given as goal
-
-abbrev pub ghosts-counted : goal.ghosts-counted
-ghosts-counted a = record { name = a.blank.name; parts = a.blank.parts }

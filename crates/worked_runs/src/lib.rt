@@ -1,0 +1,92 @@
+// Worked runs of the commands, over sources and sinks in memory.
+#![tactic(auto)]
+
+ghost use Rattle.std.specs.Prelude.{◌≡◌, ◌<◌};
+
+use pc_app::{Status, run};
+use pc_outside::{MemorySink, MemorySource, NoMemory};
+use reach::Steps;
+use std::alloc::Global;
+use std::marker::Brand;
+use std::sync::ledger::{Blank, Ledger};
+
+#[cfg(test)]
+mod asserts;
+#[cfg(test)]
+mod encodes;
+#[cfg(test)]
+mod faults;
+#[cfg(test)]
+mod fields;
+#[cfg(test)]
+mod floods;
+#[cfg(test)]
+mod keys;
+#[cfg(test)]
+mod limits;
+#[cfg(test)]
+mod pages;
+#[cfg(test)]
+mod solutions;
+
+/// How a run ended, and what it wrote.
+#[derive(Drop)]
+pub struct Outcome {
+    pub status: Status,
+    pub out: MemorySink,
+    pub err: MemorySink,
+    /// The source, with the bytes that were not read.
+    pub source: MemorySource,
+}
+
+fn counted<L: Ledger>(
+    alloc: Global,
+    blank: Blank,
+    words: &[String],
+    source: &mut MemorySource,
+    out: &mut MemorySink,
+    err: &mut MemorySink,
+) -> Status
+    requires name { blank.name ≡ L.name }
+    requires parts { blank.parts ≡ L.parts }
+    requires some { 0 < blank.parts }
+{
+    let mut steps = Steps::<L>::new(blank);
+    run(alloc, words, source, out, err, &mut steps)
+}
+
+/// Runs the words over a source, where these writes of the output fail. The words are those of the line, divided by
+/// single blanks, and after them these more, which may have blanks.
+pub fn run_words(
+    alloc: Global,
+    line: &str,
+    more: &[&str],
+    mut source: MemorySource,
+    failing: &[u32],
+) -> Result<Outcome, NoMemory> {
+    let mut words = Vec::new(alloc);
+    if !line.is_empty() {
+        for word in line.split(' ') {
+            words.push(String::from_str(alloc, word)?)?;
+        }
+    }
+    for word in more {
+        words.push(String::from_str(alloc, word)?)?;
+    }
+    let mut out = MemorySink::new(alloc, 1_000_000, Vec::from_slice(alloc, failing)?)?;
+    let mut err = MemorySink::new(alloc, 1_000, Vec::new(alloc))?;
+    let status = counted::<Brand>(
+        alloc,
+        Blank::new(1),
+        &words,
+        &mut source,
+        &mut out,
+        &mut err,
+    );
+    Ok(Outcome {
+        status,
+        out,
+        err,
+        source,
+    })
+}

@@ -1,0 +1,83 @@
+// Long lists: their limit, resuming after a sequence, and writes that fail.
+use crate::asserts::over;
+use crate::run_words;
+use pc_outside::MemorySource;
+use std::process::Abort;
+use std::test::Fail;
+
+const SEVENTH: &str = "O0:0,0 O0:4,0 O0:2,0 O0:6,0 O0:8,0";
+
+fn lines(bytes: &[u8]) -> usize {
+    bytes.iter().filter(|byte| **byte == b'\n').count()
+}
+
+/// Asserts that a run gives so many lines, the first and the last of them.
+fn spans(
+    rt: &(impl AllocGlobal + Abort),
+    line: &str,
+    more: &[&str],
+    number: usize,
+    first: &[u8],
+    last: &[u8],
+) -> Result<(), Fail> {
+    let ended = over(rt, line, more, b"")?;
+    assert_eq!(rt; ended.status.code(), 0);
+    assert_eq!(rt; lines(ended.out.bytes()), number);
+    assert!(rt; ended.out.bytes().starts_with(first));
+    assert!(rt; ended.out.bytes().ends_with(last));
+    Ok(())
+}
+
+#[test]
+fn five_squares(rt: HostRuntime) -> Result<(), Fail> {
+    let first = b"O0:0,0 O0:2,0 O0:4,0 O0:6,0 O0:8,0\n";
+    let written = "path --clear-line 2 --patterns OOOOO --hold avoid --rows __________";
+    spans(&rt, written, &[], 121, first, b"\nend 120\n")?;
+    let line = "path --rows  --clear-line 2 --patterns OOOOO --hold avoid";
+    spans(&rt, line, &[], 121, first, b"\nend 120\n")?;
+    spans(
+        &rt,
+        line,
+        &["--limit", "7"],
+        8,
+        first,
+        b"\nO0:0,0 O0:4,0 O0:2,0 O0:6,0 O0:8,0\nlimit 7\n",
+    )?;
+    spans(
+        &rt,
+        line,
+        &["--after", SEVENTH],
+        114,
+        b"O0:0,0 O0:4,0 O0:2,0 O0:8,0 O0:6,0\n",
+        b"\nend 113\n",
+    )
+}
+
+#[test]
+fn an_earlier_empty_field(rt: HostRuntime) -> Result<(), Fail> {
+    spans(
+        &rt,
+        "path --rows XXXXXX____ --clear-line 3 --patterns IOOOOO --hold avoid",
+        &[],
+        121,
+        b"I0:7,0 O0:0,0 O0:2,0 O0:4,0 O0:6,0 O0:8,0\n",
+        b"\nend 120\n",
+    )
+}
+
+#[test]
+fn a_failed_write_leaves_a_front(rt: HostRuntime) -> Result<(), Fail> {
+    let line = "path --rows XXXXXX____/XXXXXX____ --clear-line 2 --patterns OO";
+    let whole = b"O0:6,0 O0:8,0\nO0:8,0 O0:6,0\nend 2\n";
+    for write in 1..6 {
+        let source = MemorySource::new(Vec::new(rt.alloc()), Vec::new(rt.alloc()));
+        let ended = run_words(rt.alloc(), line, &[], source, &[write])
+            .ok()
+            .ok_or("no memory")?;
+        assert_eq!(rt; ended.status.code(), 4);
+        assert!(rt; whole.as_slice().starts_with(ended.out.bytes()));
+        assert!(rt; ended.out.bytes().len() < whole.len());
+        assert_eq!(rt; ended.err.bytes(), b"".as_slice());
+    }
+    Ok(())
+}
