@@ -1,0 +1,7 @@
+-- The lemmas of this crate.
+pub mod CallerLemmas
+mod HasLemmas
+mod MergeSteps
+mod WithoutSteps
+mod SearchLemmas
+mod SetSteps

@@ -1,0 +1,16 @@
+-- What is left of `percent` once its field is had.
+use Rattle.std.specs.Prelude.{true}
+use Rattle.lane_board.specs.Field.{Field}
+use Rattle.percent_settings.specs.Request.{PercentRequest}
+use Rattle.pc_source.specs.Task.{Task, nothing}
+use Rattle.pc_problem.specs.Faults.{problem_fault}
+use Rattle.pc_percent.specs.Output.{IsAnsweredFor}
+
+abbrev pub asked_task : PercentRequest → Field → Task
+asked_task request F = record {
+  needs = nothing;
+  memory_first = true;
+  searches = true;
+  fault = λ bytes. problem_fault request.common F;
+  IsOutput = λ bytes output. IsAnsweredFor request F output;
+}

@@ -1,0 +1,7 @@
+-- What a reader must believe.
+pub mod Faults
+pub mod Lines
+pub mod Output
+pub mod PercentTask
+-- What serves proofs alone.
+pub mod AskedTask

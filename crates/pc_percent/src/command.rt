@@ -1,0 +1,129 @@
+// The command `percent`: the field, the answers for all queues, and then the lines.
+ghost use Rattle.std.specs.Prelude.{◌≡◌, ◌<◌, ◌≤◌, []};
+ghost use Rattle.well.specs.Well.{filled};
+ghost use Rattle.pc_outside.specs.Counts.{HasCause};
+ghost use Rattle.pc_outside.specs.Writes.{WritesAll};
+ghost use Rattle.queue_pattern.specs.Pattern.{elements_of};
+ghost use Rattle.queue_pattern.specs.Queues.{queues};
+ghost use Rattle.enumerate.specs.Problem.{IsFit};
+ghost use Rattle.percent.specs.Answers.{problem_of};
+ghost use Rattle.percent.specs.GoodHands.{is_good_queue};
+ghost use Rattle.pc_faults.specs.declared.fault.Fault.{Fault};
+ghost use Rattle.pc_faults.specs.declared.status.Status.TheVariants.{Input};
+ghost use Rattle.pc_settings.specs.Request.{IsInRange};
+ghost use Rattle.percent_settings.specs.Views.{percent_view};
+ghost use Rattle.pc_source.specs.Answers.{Answers as AnswersOf, sink_change};
+ghost use Rattle.pc_percent.specs.AskedTask.{asked_task};
+ghost use Rattle.pc_percent.specs.Lines.{failed_lines, numbers_form, percent_form};
+ghost use Rattle.pc_percent.specs.PercentTask.{percent_task};
+
+use crate::lines::{write_failed, write_number};
+use enumerate::Problem;
+use pc_faults::Status;
+use pc_outside::{Failed, Sink};
+use pc_problem::problem_of;
+use pc_source::field;
+use percent::{Answers, rate};
+use percent_settings::PercentSettings;
+use reach::Steps;
+use std::alloc::Global;
+use std::sync::ledger::Ledger;
+use well::Well;
+
+// Writes the lines of the first queues without a perfect clear, at most so many.
+fn write_all_failed<O: Sink>(
+    out: &mut O,
+    problem: &Problem,
+    answers: &Answers,
+    limit: u32,
+) -> Result<(), Failed>
+    requires same { problem_of answers.now ≡ problem.now }
+    requires fit { IsFit problem.now }
+    ensures written { WritesAll (O.written out.old) (O.written out.new) result
+        (failed_lines (is_good_queue problem.now) limit (queues (elements_of problem.now.pattern))) }
+    ensures cause { HasCause (O.faults out.old) (O.faults out.new) result }
+{
+    let mut left = limit;
+    for number in 0..problem.pattern.count() {
+        if left > 0 && !answers.is_good(number) {
+            write_failed(out, &problem.pattern.queue(number))?;
+            left -= 1;
+        }
+    }
+    Ok(())
+}
+
+// Writes how many queues there are, how many of them are good, and the rate.
+fn write_numbers<O: Sink>(out: &mut O, all: u32, good: u32) -> Result<(), Failed>
+    requires some { 0 < all }
+    requires within { good ≤ all }
+    ensures written { WritesAll (O.written out.old) (O.written out.new) result (numbers_form all good) }
+    ensures cause { HasCause (O.faults out.old) (O.faults out.new) result }
+{
+    write_number(out, b"queues ", all)?;
+    write_number(out, b"good ", good)?;
+    write_number(out, b"rate ", rate(good, all))
+}
+
+// Writes what is known of all queues.
+fn write_answers<O: Sink>(
+    out: &mut O,
+    problem: &Problem,
+    answers: &Answers,
+    limit: u32,
+) -> Result<(), Failed>
+    requires same { problem_of answers.now ≡ problem.now }
+    requires fit { IsFit problem.now }
+    ensures written { WritesAll (O.written out.old) (O.written out.new) result
+        (percent_form (is_good_queue problem.now) limit (queues (elements_of problem.now.pattern))) }
+    ensures cause { HasCause (O.faults out.old) (O.faults out.new) result }
+{
+    write_all_failed(out, problem, answers, limit)?;
+    write_numbers(out, problem.pattern.count(), answers.count_good())
+}
+
+/// Writes which queues have a perfect clear of the problem that the settings name, where the source has these bytes.
+/// Where memory is wanted nothing was written, but floods may have been made.
+pub fn run_percent<O: Sink, L: Ledger>(
+    alloc: Global,
+    settings: &PercentSettings<'_>,
+    bytes: &[u8],
+    out: &mut O,
+    steps: &mut Steps<L>,
+) -> Status
+    requires { IsInRange (percent_view settings.now).common }
+    ensures answers { let sink = sink_change (O.written out.old) (O.written out.new)
+        (O.faults out.old) (O.faults out.new) in
+        AnswersOf (percent_task (percent_view settings.now)) bytes.now sink (out.new ≡ out.old) result }
+    ensures steps { (fault : Fault) → result ≡ Input fault → steps.new ≡ steps.old }
+{
+    match field(alloc, settings.common.field, settings.common.page, bytes) {
+        Ok(well) => answer_all(alloc, well, settings, out, steps),
+        Err(refused) => Status::from(refused),
+    }
+}
+
+// Answers for all queues about a field.
+fn answer_all<O: Sink, L: Ledger>(
+    alloc: Global,
+    well: Well,
+    settings: &PercentSettings<'_>,
+    out: &mut O,
+    steps: &mut Steps<L>,
+) -> Status
+    requires { IsInRange (percent_view settings.now).common }
+    ensures answers { let sink = sink_change (O.written out.old) (O.written out.new)
+        (O.faults out.old) (O.faults out.new) in
+        AnswersOf (asked_task (percent_view settings.now) (filled well)) [] sink (out.new ≡ out.old) result }
+    ensures steps { (fault : Fault) → result ≡ Input fault → steps.new ≡ steps.old }
+{
+    let problem = match problem_of(well, &settings.common) {
+        Ok(problem) => problem,
+        Err(fault) => return Status::Input(fault),
+    };
+    let answers = match Answers::new(alloc, &problem, steps) {
+        Ok(answers) => answers,
+        Err(_) => return Status::NoMemory,
+    };
+    Status::after_writes(write_answers(out, &problem, &answers, settings.failed))
+}

@@ -1,0 +1,114 @@
+-- The hands of all queues, and how many of them are good.
+use Rattle.std.proofs.Common.{ℕ, ◌≡◌, ◌+◌, ◌%◌, ◌<◌, ◌≤◌, ◌↔◌, IsTrue, Bool, true, false, ◌&&◌, ◌==◌, List, [], ◌∷◌, ◌++◌, length, take, refl, ap, subst, ◌∙◌, sym, arith, inl, inr}
+use Rattle.std.specs.Prelude.{Some, slice_get, count_by}
+use Rattle.std.proofs.lemmas.Bool.{cases_lt}
+use Rattle.std.proofs.lemmas.Bool.Decides.{nat_tests}
+use Rattle.std.proofs.lemmas.List.{take_all, length-take}
+use Rattle.std.proofs.lemmas.List.Sums.{count_by_more_no, count_by_more_yes, count_by-le-length}
+use Rattle.std.proofs.lemmas.Option.{get_or_from_slice_get}
+use Rattle.srs.specs.declared.piece.Piece.{Piece}
+use Rattle.percent.specs.Good.{Good}
+use Rattle.well.specs.Well.{filled}
+use Rattle.queue_pattern.specs.Pattern.{elements_of}
+use Rattle.queue_pattern.specs.Queues.{queues}
+use Rattle.number_sets.specs.Rising.{has}
+use Rattle.number_sets.proofs.CallerLemmas.{has-none, has-push, has-there}
+use Rattle.enumerate.specs.declared.problem.Problem.{Problem}
+use Rattle.enumerate.specs.Problem.{IsFit, empties_of, needed_of}
+use Rattle.percent.specs.Hands.{hand_of}
+use Rattle.percent.specs.GoodHands.{game_of, hand_at, HasGoodHands, HasHandsBefore, is_good, is_good_queue}
+use Rattle.percent.proofs.TestLemmas.{or_first, or_second}
+use Rattle.percent.proofs.GoodLemmas.{good-decides, uneven-none}
+
+-- the hand of a queue that was read
+pub hand-read : (problem : Problem) (number : ℕ) (queue : List Piece) → slice_get (queues (elements_of problem.pattern)) number ≡ Some queue
+    → hand_of problem.hold problem.held (needed_of problem) queue ≡ hand_at problem number
+unfolding hand_at
+hand-read problem number queue read =
+    ap (hand_of problem.hold problem.held (needed_of problem)) (sym (get_or_from_slice_get (queues (elements_of problem.pattern)) number queue [] read))
+
+pub hands-none : (problem : Problem) (hands : List ℕ) → HasHandsBefore problem hands 0
+hands-none problem hands = record { each = λ k below. absurd (omega arith) }
+
+pub hands-more : (problem : Problem) (hands : List ℕ) (number hand : ℕ) → hand ≡ hand_at problem number → HasHandsBefore problem hands number → HasHandsBefore problem (hands ++ hand ∷ []) (number + 1)
+hands-more problem hands number hand is state = record {
+  each = λ k below. has-push hands hand (hand_at problem k) ∙ elim (cases_lt k number) [
+    | inl before ↦ or_first (has hands (hand_at problem k)) (hand == hand_at problem k) (state.each k before)
+    | inr last ↦
+        let same : k ≡ number = omega arith in
+        let equal : hand ≡ hand_at problem k = is ∙ ap (hand_at problem) (sym same) in
+        let passes : (hand == hand_at problem k) ≡ true = grind (arith, nat_tests) in
+        or_second (has hands (hand_at problem k)) (hand == hand_at problem k) passes
+  ];
+}
+
+pub hands-same : (problem : Problem) (hands others : List ℕ) (number : ℕ) → ((hand : ℕ) → has others hand ≡ has hands hand) → HasHandsBefore problem hands number → HasHandsBefore problem others number
+hands-same problem hands others number same state = record { each = λ k below. same (hand_at problem k) ∙ state.each k below }
+
+-- the good ones of all hands are those of good queues
+pub good-hands : (problem : Problem) (hands good : List ℕ) → HasHandsBefore problem hands (length (queues (elements_of problem.pattern)))
+    → ((hand : ℕ) → has good hand ≡ (has hands hand && is_good (game_of problem) (filled problem.well) problem.height (needed_of problem) hand))
+    → HasGoodHands problem good
+unfolding hand_at is_good_queue
+good-hands problem hands good all good_is = record {
+  each = λ number within.
+      good_is (hand_at problem number)
+      ∙ ap (λ b. b && is_good (game_of problem) (filled problem.well) problem.height (needed_of problem) (hand_at problem number)) (all.each number within);
+}
+
+-- so many of the first queues are good
+pub record Counting (problem : Problem) (number count : ℕ) : Type 0 where
+  pub is : count ≡ count_by (is_good_queue problem) (take number (queues (elements_of problem.pattern)))
+
+pub count-starts : (problem : Problem) → Counting problem 0 0
+count-starts problem = record { is = refl }
+
+pub count-yes : (problem : Problem) (good : List ℕ) (number count : ℕ) → HasGoodHands problem good → number < length (queues (elements_of problem.pattern)) → has good (hand_at problem number) ≡ true
+    → Counting problem number count → Counting problem (number + 1) (count + 1)
+count-yes problem good number count exact within passes state = record {
+  is = ap (λ n. n + 1) state.is ∙ sym (count_by_more_yes (is_good_queue problem) (queues (elements_of problem.pattern)) number [] within (sym (exact.each number within) ∙ passes));
+}
+
+pub count-no : (problem : Problem) (good : List ℕ) (number count : ℕ) → HasGoodHands problem good → number < length (queues (elements_of problem.pattern)) → has good (hand_at problem number) ≡ false
+    → Counting problem number count → Counting problem (number + 1) count
+count-no problem good number count exact within fails state = record {
+  is = state.is ∙ sym (count_by_more_no (is_good_queue problem) (queues (elements_of problem.pattern)) number [] within (sym (exact.each number within) ∙ fails));
+}
+
+pub count-few : (problem : Problem) (number count : ℕ) → Counting problem number count → count ≤ number
+count-few problem number count state =
+    let few = count_by-le-length (is_good_queue problem) (take number (queues (elements_of problem.pattern))) in
+    let short = length-take number (queues (elements_of problem.pattern)) in
+    omega (arith, few, short, state.is)
+
+pub count-ends : (problem : Problem) (number count : ℕ) → length (queues (elements_of problem.pattern)) ≤ number → Counting problem number count → count ≡ count_by (is_good_queue problem) (queues (elements_of problem.pattern))
+count-ends problem number count all state = state.is ∙ ap (count_by (is_good_queue problem)) (take_all number (queues (elements_of problem.pattern)) all)
+
+decided : (problem : Problem) (queue : List Piece) (result : Bool) → IsFit problem → result ≡ is_good_queue problem queue → IsTrue result ↔ Good problem queue
+decided problem queue result fit is = subst (λ b. IsTrue b ↔ Good problem queue) (sym is) (good-decides problem queue fit)
+
+-- the answer for one hand alone is that for its queue
+pub one-answer : (problem : Problem) (queue : List Piece) (hand : ℕ) (good : List ℕ) (result : Bool) → IsFit problem → hand ≡ hand_of problem.hold problem.held (needed_of problem) queue
+    → ((other : ℕ) → has good other ≡ (has (hand ∷ []) other && is_good (game_of problem) (filled problem.well) problem.height (needed_of problem) other))
+    → result ≡ has good hand → IsTrue result ↔ Good problem queue
+unfolding is_good_queue
+one-answer problem queue hand good result fit hand_is good_is result_is =
+    decided problem queue result fit
+    (result_is ∙ good_is hand ∙ ap (λ b. b && is_good (game_of problem) (filled problem.well) problem.height (needed_of problem) hand) (has-there (hand ∷ []) 0 hand (omega arith) refl)
+    ∙ ap (is_good (game_of problem) (filled problem.well) problem.height (needed_of problem)) hand_is)
+
+-- the answer for the hand of a numbered queue is that for the queue
+pub numbered-answer : (problem : Problem) (number : ℕ) (queue : List Piece) (good : List ℕ) (result : Bool) → IsFit problem → HasGoodHands problem good
+    → number < length (queues (elements_of problem.pattern)) → slice_get (queues (elements_of problem.pattern)) number ≡ Some queue
+    → result ≡ has good (hand_at problem number) → IsTrue result ↔ Good problem queue
+numbered-answer problem number queue good result fit exact within read result_is =
+    decided problem queue result fit (result_is ∙ exact.each number within ∙ ap (is_good_queue problem) (get_or_from_slice_get (queues (elements_of problem.pattern)) number queue [] read))
+
+never : (a b : Bool) → b ≡ false → false ≡ (a && b)
+never true b h = sym h
+never false b h = refl
+
+pub uneven-answer : (problem : Problem) (hands : List ℕ) → IsFit problem → (empties_of problem % 4 ≡ 0 → ⊥)
+    → (hand : ℕ) → has [] hand ≡ (has hands hand && is_good (game_of problem) (filled problem.well) problem.height (needed_of problem) hand)
+uneven-answer problem hands fit uneven hand =
+    has-none hand ∙ never (has hands hand) (is_good (game_of problem) (filled problem.well) problem.height (needed_of problem) hand) (uneven-none problem fit uneven (needed_of problem) hand)

@@ -1,0 +1,259 @@
+-- The steps of looking into hands, as facts about what lists have.
+use Rattle.std.proofs.Common.{ℕ, suc, ◌≡◌, ◌+◌, ◌*◌, ◌/◌, ◌%◌, ◌<◌, ◌≤◌, Bool, true, false, not, ◌&&◌, ◌||◌, ◌==◌, List, length, get_or, take, refl, ap, subst, ◌∙◌, sym, arith}
+use Rattle.std.specs.List.{list_any}
+use Rattle.std.specs.Prelude.{Result, Ok, Err, IfOk}
+use Rattle.std.proofs.lemmas.List.{take_all}
+use Rattle.std.proofs.lemmas.List.Folds.{list_any_more}
+use Rattle.std.proofs.lemmas.Bool.{eqb-true}
+use Rattle.lane_board.specs.Field.{Field}
+use Rattle.srs.specs.declared.piece.Piece.{Piece}
+use Rattle.srs.specs.Piece.{all_pieces, piece_code}
+use Rattle.well.specs.Well.{filled}
+use Rattle.hold_queue.specs.declared.hold.Hold.{Hold}
+use Rattle.number_sets.specs.Rising.{IsRising, has}
+use Rattle.percent.specs.declared.game.Game.{Game}
+use Rattle.percent.specs.declared.position.Position.{Position}
+use Rattle.percent.specs.Hands.{is_allowed, takes, with_first, with_second, without_first, without_second}
+use Rattle.percent.specs.GoodHands.{is_good, is_good_after, is_good_at}
+use Rattle.percent.proofs.RestSteps.{first_back, second_back}
+use Rattle.percent.proofs.GoodLemmas.{good-step}
+
+and_same : (a b c : Bool) → (a ≡ true → b ≡ c) → (a && b) ≡ (a && c)
+and_same true b c same = same refl
+and_same false b c same = refl
+
+-- taking so that one test passes, or another that agrees where it is asked
+takes-same : (hold : Hold) (code hand : ℕ) (f g : ℕ → Bool) → (hand % 8 ≡ code → f (without_first hand) ≡ g (without_first hand))
+    → (is_allowed hold ≡ true → hand / 8 % 8 ≡ code → f (without_second hand) ≡ g (without_second hand)) → takes hold code f hand ≡ takes hold code g hand
+unfolding takes
+takes-same hold code hand f g first second =
+    let one = and_same (hand % 8 == code) (f (without_first hand)) (g (without_first hand)) (λ is. first (eqb-true (hand % 8) code is)) in
+    let other = and_same (is_allowed hold) (hand / 8 % 8 == code && f (without_second hand)) (hand / 8 % 8 == code && g (without_second hand))
+    (λ allowed. and_same (hand / 8 % 8 == code) (f (without_second hand)) (g (without_second hand)) (λ is. second allowed (eqb-true (hand / 8 % 8) code is))) in
+    λ i. one i || other i
+
+or_left : (a b : Bool) → a ≡ true → (a || b) ≡ true
+or_left true b h = refl
+or_left false b h = cc
+
+or_right : (a b c : Bool) → b ≡ true → c ≡ true → (a || (b && c)) ≡ true
+or_right true b c h k = refl
+or_right false true c h k = k
+or_right false false c h k = h
+
+-- the rests of a hand that is asked about are asked about, so the answer for them is that for the hand
+answer-taken : (hold : Hold) (code : ℕ) (asked rests good : List ℕ) (after : ℕ → Bool) (hand : ℕ) → has asked hand ≡ true
+    → ((rest : ℕ) → has rests rest ≡ (has asked (with_first code rest) || (is_allowed hold && has asked (with_second code rest))))
+    → ((rest : ℕ) → has good rest ≡ (has rests rest && after rest))
+    → takes hold code (has good) hand ≡ takes hold code after hand
+unfolding without_first without_second
+answer-taken hold code asked rests good after hand there rests_is good_is =
+    takes-same hold code hand (has good) after
+    (λ is.
+    let in_rests : has rests (hand / 8) ≡ true =
+    rests_is (hand / 8) ∙ or_left (has asked (with_first code (hand / 8))) _ (ap (has asked) (first_back code hand is) ∙ there) in
+    good_is (hand / 8) ∙ ap (λ b. b && after (hand / 8)) in_rests)
+    (λ allowed is.
+    let in_rests : has rests (hand / 64 * 8 + hand % 8) ≡ true =
+    rests_is (hand / 64 * 8 + hand % 8) ∙ or_right (has asked (with_first code (hand / 64 * 8 + hand % 8))) (is_allowed hold) (has asked (with_second code (hand / 64 * 8 + hand % 8))) allowed
+    (ap (has asked) (second_back code hand is) ∙ there) in
+    good_is (hand / 64 * 8 + hand % 8) ∙ ap (λ b. b && after (hand / 64 * 8 + hand % 8)) in_rests)
+
+-- ---- one kind after the other
+
+-- the hands for which none of the first i kinds leads to a good rest are still asked about
+pub record Exploring (game now : Game) (F : Field) (rows left : ℕ) (hands asked : List ℕ) (before after : ℕ) (i : ℕ) : Type 0 where
+  pub same : now ≡ game
+  pub rises : IsRising asked
+  pub counted : before ≤ after
+  pub members : (hand : ℕ) → has asked hand
+      ≡ (has hands hand && not (list_any (λ piece. takes game.hold (piece_code piece) (is_good_after game F rows piece left) hand) (take i all_pieces)))
+
+not_none : (a : Bool) → a ≡ (a && not false)
+not_none true = refl
+not_none false = refl
+
+pub explore-starts : (game : Game) (F : Field) (rows left : ℕ) (hands asked : List ℕ) (steps : ℕ) → asked ≡ hands → IsRising hands → Exploring game game F rows left hands asked steps steps 0
+explore-starts game F rows left hands asked steps is up = record {
+  same = refl;
+  rises = rw is up;
+  counted = omega arith;
+  members = λ hand. ap (λ l. has l hand) is ∙ not_none (has hands hand);
+}
+
+ask_less : (w a t u : Bool) → ((w && not a) ≡ true → t ≡ u) → ((w && not a) && not t) ≡ (w && not (a || u))
+ask_less false a t u same = refl
+ask_less true true t u same = refl
+ask_less true false t u same = ap not (same refl)
+
+explore-more : (game now next_game : Game) (F : Field) (rows left : ℕ) (hands asked rests good next : List ℕ) (before middle after i : ℕ) (d : Piece)
+    → Exploring game now F rows left hands asked before middle i → i < length all_pieces
+    → ((rest : ℕ) → has rests rest ≡ (has asked (with_first (piece_code (get_or all_pieces i d)) rest) || (is_allowed now.hold && has asked (with_second (piece_code (get_or all_pieces i d)) rest))))
+    → ((rest : ℕ) → has good rest ≡ (has rests rest && is_good_after now F rows (get_or all_pieces i d) left rest))
+    → next_game ≡ now → middle ≤ after
+    → IsRising next → ((hand : ℕ) → has next hand ≡ (has asked hand && not (takes now.hold (piece_code (get_or all_pieces i d)) (has good) hand)))
+    → Exploring game next_game F rows left hands next before after (i + 1)
+explore-more game now next_game F rows left hands asked rests good next before middle after i d state within rests_is good_is same later rises next_is =
+    record {
+      same = same ∙ state.same;
+      rises = rises;
+      counted = omega (arith, state.counted, later);
+      members = λ hand.
+          let test : Piece → Bool = λ piece. takes game.hold (piece_code piece) (is_good_after game F rows piece left) hand in
+          let taken : has asked hand ≡ true → takes now.hold (piece_code (get_or all_pieces i d)) (has good) hand ≡ test (get_or all_pieces i d) = λ there.
+          answer-taken now.hold (piece_code (get_or all_pieces i d)) asked rests good (is_good_after now F rows (get_or all_pieces i d) left) hand there rests_is good_is
+          ∙ ap (λ (g : Game). takes g.hold (piece_code (get_or all_pieces i d)) (is_good_after g F rows (get_or all_pieces i d) left) hand) state.same in
+          next_is hand ∙ ap (λ b. b && not (takes now.hold (piece_code (get_or all_pieces i d)) (has good) hand)) (state.members hand)
+          ∙ ask_less (has hands hand) (list_any test (take i all_pieces)) (takes now.hold (piece_code (get_or all_pieces i d)) (has good) hand) (test (get_or all_pieces i d)) (λ there. taken (state.members hand ∙ there))
+          ∙ ap (λ b. has hands hand && not b) (sym (list_any_more test all_pieces i d within));
+    }
+
+-- the same where the clauses are over other names of the lists
+pub explore-step : (game now next_game : Game) (F : Field) (rows left : ℕ) (hands asked asked1 asked2 rests rests1 good good1 next : List ℕ) (before middle after i : ℕ) (d : Piece)
+    → Exploring game now F rows left hands asked before middle i → i < length all_pieces
+    → asked1 ≡ asked
+    → ((rest : ℕ) → has rests rest ≡ (has asked1 (with_first (piece_code (get_or all_pieces i d)) rest) || (is_allowed now.hold && has asked1 (with_second (piece_code (get_or all_pieces i d)) rest))))
+    → rests1 ≡ rests
+    → ((rest : ℕ) → has good rest ≡ (has rests1 rest && is_good_after now F rows (get_or all_pieces i d) left rest))
+    → next_game ≡ now → middle ≤ after
+    → IsRising next → asked2 ≡ asked → good1 ≡ good
+    → ((hand : ℕ) → has next hand ≡ (has asked2 hand && not (takes now.hold (piece_code (get_or all_pieces i d)) (has good1) hand)))
+    → Exploring game next_game F rows left hands next before after (i + 1)
+explore-step game now next_game F rows left hands asked asked1 asked2 rests rests1 good good1 next before middle after i d state within e1 rests_is e2 good_is same later rises e3 e4 next_is =
+    explore-more game now next_game F rows left hands asked rests good next before middle after i d state within
+    (subst (λ l. (rest : ℕ) → has rests rest ≡ (has l (with_first (piece_code (get_or all_pieces i d)) rest) || (is_allowed now.hold && has l (with_second (piece_code (get_or all_pieces i d)) rest)))) e1 rests_is)
+    (subst (λ l. (rest : ℕ) → has good rest ≡ (has l rest && is_good_after now F rows (get_or all_pieces i d) left rest)) e2 good_is)
+    same later rises
+    (subst (λ l. (hand : ℕ) → has next hand ≡ (has asked hand && not (takes now.hold (piece_code (get_or all_pieces i d)) (has l) hand))) e4
+    (subst (λ l. (hand : ℕ) → has next hand ≡ (has l hand && not (takes now.hold (piece_code (get_or all_pieces i d)) (has good1) hand))) e3 next_is))
+
+taken_back : (w a : Bool) → (w && not (w && not a)) ≡ (w && a)
+taken_back false a = refl
+taken_back true true = refl
+taken_back true false = refl
+
+pub explore-ends : (game now : Game) (F : Field) (rows left : ℕ) (hands asked found : List ℕ) (before after i : ℕ) → Exploring game now F rows left hands asked before after i → length all_pieces ≤ i
+    → ((hand : ℕ) → has found hand ≡ (has hands hand && not (has asked hand)))
+    → (hand : ℕ) → has found hand ≡ (has hands hand && is_good game F rows (left + 1) hand)
+explore-ends game now F rows left hands asked found before after i state all found_is hand =
+    let test : Piece → Bool = λ piece. takes game.hold (piece_code piece) (is_good_after game F rows piece left) hand in
+    let one : left + 1 ≡ suc left = omega arith in
+    found_is hand ∙ ap (λ b. has hands hand && not b) (state.members hand)
+    ∙ taken_back (has hands hand) (list_any test (take i all_pieces))
+    ∙ ap (λ b. has hands hand && b) (ap (list_any test) (take_all i all_pieces all) ∙ sym (good-step game F rows left hand) ∙ ap (λ n. is_good game F rows n hand) (sym one))
+
+-- ---- one child after the other
+
+-- the rests that are good at none of the first i children are still asked about
+pub record Trying (game now : Game) (left : ℕ) (children : List Position) (rests asked : List ℕ) (before after : ℕ) (i : ℕ) : Type 0 where
+  pub same : now ≡ game
+  pub rises : IsRising asked
+  pub counted : before ≤ after
+  pub members : (rest : ℕ) → has asked rest ≡ (has rests rest && not (is_good_at game (take i children) left rest))
+
+pub try-starts : (game : Game) (left : ℕ) (children : List Position) (rests asked : List ℕ) (before after : ℕ) → asked ≡ rests → IsRising rests → before ≤ after → Trying game game left children rests asked before after 0
+unfolding is_good_at
+try-starts game left children rests asked before after is up more = record {
+  same = refl;
+  rises = rw is up;
+  counted = more;
+  members = λ rest. ap (λ l. has l rest) is ∙ not_none (has rests rest);
+}
+
+and_again : (w a g : Bool) → ((w && not a) && not ((w && not a) && g)) ≡ (w && not (a || g))
+and_again false a g = refl
+and_again true true g = refl
+and_again true false g = refl
+
+pub try-more : (game now next_game : Game) (left : ℕ) (children : List Position) (rests asked good next : List ℕ) (before middle after i : ℕ) (child : Position)
+    → Trying game now left children rests asked before middle i → i < length children → get_or children i child ≡ child
+    → ((rest : ℕ) → has good rest ≡ (has asked rest && is_good now (filled child.well) child.rows left rest))
+    → next_game ≡ now → middle ≤ after
+    → IsRising next → ((rest : ℕ) → has next rest ≡ (has asked rest && not (has good rest)))
+    → Trying game next_game left children rests next before after (i + 1)
+unfolding is_good_at
+try-more game now next_game left children rests asked good next before middle after i child state within at good_is same later rises next_is = record {
+  same = same ∙ state.same;
+  rises = rises;
+  counted = omega (arith, state.counted, later);
+  members = λ rest.
+      let test : Position → Bool = λ p. is_good game (filled p.well) p.rows left rest in
+      let here : is_good now (filled child.well) child.rows left rest ≡ test child = ap (λ (g : Game). is_good g (filled child.well) child.rows left rest) state.same in
+      let more : list_any test (take (i + 1) children) ≡ (list_any test (take i children) || test child) =
+      list_any_more test children i child within ∙ ap (λ p. list_any test (take i children) || test p) at in
+      next_is rest ∙ ap (λ b. has asked rest && not b) (good_is rest ∙ ap (λ b. has asked rest && b) here)
+      ∙ ap (λ b. b && not (b && test child)) (state.members rest)
+      ∙ and_again (has rests rest) (list_any test (take i children)) (test child)
+      ∙ ap (λ b. has rests rest && not b) (sym more);
+}
+
+pub try-step : (game now next_game : Game) (left : ℕ) (children : List Position) (rests asked asked1 asked2 good good1 next : List ℕ) (before middle after i : ℕ) (child : Position)
+    → Trying game now left children rests asked before middle i → i < length children → get_or children i child ≡ child
+    → asked1 ≡ asked
+    → ((rest : ℕ) → has good rest ≡ (has asked1 rest && is_good now (filled child.well) child.rows left rest))
+    → next_game ≡ now → middle ≤ after
+    → IsRising next → asked2 ≡ asked → good1 ≡ good
+    → ((rest : ℕ) → has next rest ≡ (has asked2 rest && not (has good1 rest)))
+    → Trying game next_game left children rests next before after (i + 1)
+try-step game now next_game left children rests asked asked1 asked2 good good1 next before middle after i child state within at e1 good_is same later rises e2 e3 next_is =
+    try-more game now next_game left children rests asked good next before middle after i child state within at
+    (subst (λ l. (rest : ℕ) → has good rest ≡ (has l rest && is_good now (filled child.well) child.rows left rest)) e1 good_is)
+    same later rises
+    (subst (λ l. (rest : ℕ) → has next rest ≡ (has asked rest && not (has l rest))) e3 (subst (λ l. (rest : ℕ) → has next rest ≡ (has l rest && not (has good1 rest))) e2 next_is))
+
+pub try-ends : (game now : Game) (F : Field) (rows : ℕ) (piece : Piece) (left : ℕ) (children : List Position) (rests asked found : List ℕ) (before after i : ℕ)
+    → Trying game now left children rests asked before after i → length children ≤ i
+    → ((left hand : ℕ) → is_good_at game children left hand ≡ is_good_after game F rows piece left hand)
+    → ((rest : ℕ) → has found rest ≡ (has rests rest && not (has asked rest)))
+    → (rest : ℕ) → has found rest ≡ (has rests rest && is_good_after game F rows piece left rest)
+try-ends game now F rows piece left children rests asked found before after i state all children_are found_is rest =
+    found_is rest ∙ ap (λ b. has rests rest && not b) (state.members rest)
+    ∙ taken_back (has rests rest) (is_good_at game (take i children) left rest)
+    ∙ ap (λ b. has rests rest && b) (ap (λ l. is_good_at game l left rest) (take_all i children all) ∙ children_are left rest)
+
+-- ---- the whole answer
+
+pub answer-looked : (known unknown found hands answer : List ℕ) (good : ℕ → Bool)
+    → ((hand : ℕ) → (has known hand || (has unknown hand && good hand)) ≡ (has hands hand && good hand))
+    → ((hand : ℕ) → has found hand ≡ (has unknown hand && good hand))
+    → ((hand : ℕ) → has answer hand ≡ (has known hand || has found hand))
+    → (hand : ℕ) → has answer hand ≡ (has hands hand && good hand)
+answer-looked known unknown found hands answer good whole found_is answer_is hand =
+    answer_is hand ∙ ap (λ b. has known hand || b) (found_is hand) ∙ whole hand
+
+or_none : (a b : Bool) → b ≡ false → a ≡ (a || b)
+or_none true b h = refl
+or_none false b h = sym h
+
+pub answer-known : (known unknown hands : List ℕ) (good : ℕ → Bool)
+    → ((hand : ℕ) → (has known hand || (has unknown hand && good hand)) ≡ (has hands hand && good hand))
+    → ((hand : ℕ) → has unknown hand ≡ false)
+    → (hand : ℕ) → has known hand ≡ (has hands hand && good hand)
+answer-known known unknown hands good whole none hand =
+    or_none (has known hand) (has unknown hand && good hand) (ap (λ b. b && good hand) (none hand)) ∙ whole hand
+
+second_true : (a b c : Bool) → a ≡ (b && c) → a ≡ true → c ≡ true
+second_true a true c is there = sym is ∙ there
+second_true a false c is there = cc
+
+-- what is found is good, and what isn't found isn't
+pub found-good : (found unknown : List ℕ) (good : ℕ → Bool) → ((hand : ℕ) → has found hand ≡ (has unknown hand && good hand)) → (hand : ℕ) → has found hand ≡ true → good hand ≡ true
+found-good found unknown good found_is hand there = second_true (has found hand) (has unknown hand) (good hand) (found_is hand) there
+
+left_over : (f u g m : Bool) → f ≡ (u && g) → m ≡ (u && not f) → m ≡ true → g ≡ false
+left_over f true false m is rest there = refl
+left_over f true true m is rest there = cc
+left_over f false g m is rest there = cc
+
+pub missed-bad : (found unknown missed : List ℕ) (good : ℕ → Bool) → ((hand : ℕ) → has found hand ≡ (has unknown hand && good hand))
+    → ((hand : ℕ) → has missed hand ≡ (has unknown hand && not (has found hand))) → (hand : ℕ) → has missed hand ≡ true → good hand ≡ false
+missed-bad found unknown missed good found_is missed_is hand there = left_over (has found hand) (has unknown hand) (good hand) (has missed hand) (found_is hand) (missed_is hand) there
+
+pub good-ends : (game : Game) (F : Field) (rows left hand : ℕ) → left ≡ 0 → is_good game F rows left hand ≡ (rows == 0)
+unfolding is_good
+good-ends game F rows left hand none = ap (λ n. is_good game F rows n hand) none
+
+-- what holds of each value holds of the value of an answer
+pub ok-map : {T E : Type 0} (r : Result T E) (P Q : T → Type 0) → ((v : T) → P v → Q v) → IfOk r P → IfOk r Q
+ok-map (Ok v) P Q each p = each v p
+ok-map (Err e) P Q each p = p

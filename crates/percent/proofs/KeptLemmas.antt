@@ -1,0 +1,85 @@
+-- A slot stands for a position, and what is kept is true of it.
+use Rattle.std.proofs.Common.{◌≡◌, ℕ, nat_lt, Bool, true, false, ◌&&◌, ◌||◌, not, List, [], refl, sym, ap, ◌∙◌, inl, inr}
+use Rattle.std.proofs.Math.Path.{fun_ext}
+use Rattle.std.proofs.lemmas.Bool.{cases_Bool, cases_lt, and_from, lt-ltb}
+use Rattle.lane_board.specs.Field.{intersection, rows_below}
+use Rattle.well.specs.Well.{filled}
+use Rattle.well.proofs.CallerLemmas.{filled-within}
+use Rattle.number_sets.specs.Rising.{IsRising, has}
+use Rattle.number_sets.proofs.CallerLemmas.{has-none, rising-none}
+use Rattle.dead_memo.specs.Keys.{cells_in_bits}
+use Rattle.percent.specs.declared.game.Game.{Game}
+use Rattle.percent.specs.declared.position.Position.{Position}
+use Rattle.percent.specs.declared.kept.Slot.{Slot}
+use Rattle.percent.specs.GoodHands.{is_good}
+use Rattle.percent.specs.Kept.{IsTrueSlot}
+
+-- the cells below the rows left are all
+all_below : (p : Position) → intersection (filled p.well) (rows_below p.rows) ≡ filled p.well
+unfolding intersection rows_below
+all_below p = fun_ext (λ x. fun_ext (at x))
+  where
+    at : (x y : ℕ) → (filled p.well x y && (nat_lt x 10 && nat_lt y p.rows)) ≡ filled p.well x y
+    at x y = elim (cases_Bool (filled p.well x y)) [
+      | inl has ↦
+          elim (cases_lt y p.rows) [
+            | inl low ↦ and_from _ _ has (and_from _ _ (lt-ltb x 10 (filled-within p.well x y has).0) (lt-ltb y p.rows low)) ∙ sym has
+            | inr high ↦ let none : filled p.well x y ≡ false = p.below.none x y high in cc
+          ]
+      | inr none ↦ rw none refl
+    ]
+
+pub bits-filled : (p : Position) (cells : ℕ) → cells_in_bits cells ≡ intersection (filled p.well) (rows_below p.rows) → cells_in_bits cells ≡ filled p.well
+bits-filled p cells is = is ∙ all_below p
+
+pub empty-slot : (game : Game) (slot : Slot) → slot.found.items ≡ [] → slot.missed.items ≡ [] → IsTrueSlot game slot
+empty-slot game slot found missed = record {
+  found_rises = rw found rising-none;
+  missed_rises = rw missed rising-none;
+  found_true = λ hand there. let none = ap (λ l. has l hand) found ∙ has-none hand in cc;
+  missed_true = λ hand there. let none = ap (λ l. has l hand) missed ∙ has-none hand in cc;
+}
+
+-- a slot with the cells and rows of a position is true of it
+pub slot-found : (game : Game) (slot : Slot) (p : Position) (left : ℕ) → IsTrueSlot game slot → cells_in_bits slot.cells ≡ filled p.well → slot.rows ≡ p.rows → slot.left ≡ left
+    → (hand : ℕ) → has slot.found.items hand ≡ true → is_good game (filled p.well) p.rows left hand ≡ true
+slot-found game slot p left is cells rows same hand there = (λ i. is_good game (sym cells i) (sym rows i) (sym same i) hand) ∙ is.found_true hand there
+
+pub slot-missed : (game : Game) (slot : Slot) (p : Position) (left : ℕ) → IsTrueSlot game slot → cells_in_bits slot.cells ≡ filled p.well → slot.rows ≡ p.rows → slot.left ≡ left
+    → (hand : ℕ) → has slot.missed.items hand ≡ true → is_good game (filled p.well) p.rows left hand ≡ false
+slot-missed game slot p left is cells rows same hand there = (λ i. is_good game (sym cells i) (sym rows i) (sym same i) hand) ∙ is.missed_true hand there
+
+either : (a b g want : Bool) → (a ≡ true → g ≡ want) → (b ≡ true → g ≡ want) → (a || b) ≡ true → g ≡ want
+either true b g want first second there = first refl
+either false b g want first second there = second there
+
+-- what was known and what is new
+pub new-slot : (game : Game) (slot : Slot) (p : Position) (left : ℕ) (found_before found missed_before missed : List ℕ)
+    → cells_in_bits slot.cells ≡ filled p.well → slot.rows ≡ p.rows → slot.left ≡ left
+    → IsRising slot.found.items → ((hand : ℕ) → has slot.found.items hand ≡ (has found_before hand || has found hand))
+    → IsRising slot.missed.items → ((hand : ℕ) → has slot.missed.items hand ≡ (has missed_before hand || has missed hand))
+    → ((hand : ℕ) → has found_before hand ≡ true → is_good game (filled p.well) p.rows left hand ≡ true)
+    → ((hand : ℕ) → has missed_before hand ≡ true → is_good game (filled p.well) p.rows left hand ≡ false)
+    → ((hand : ℕ) → has found hand ≡ true → is_good game (filled p.well) p.rows left hand ≡ true)
+    → ((hand : ℕ) → has missed hand ≡ true → is_good game (filled p.well) p.rows left hand ≡ false)
+    → IsTrueSlot game slot
+new-slot game slot p left found_before found missed_before missed cells rows same found_rises found_is missed_rises missed_is f m g n = record {
+  found_rises = found_rises;
+  missed_rises = missed_rises;
+  found_true = λ hand there. (λ i. is_good game (cells i) (rows i) (same i) hand) ∙ either (has found_before hand) (has found hand) _ true (f hand) (g hand) (sym (found_is hand) ∙ there);
+  missed_true = λ hand there. (λ i. is_good game (cells i) (rows i) (same i) hand) ∙ either (has missed_before hand) (has missed hand) _ false (m hand) (n hand) (sym (missed_is hand) ∙ there);
+}
+
+-- what is known and what is open make the answer
+pub recalled-is : (w f m rest unknown good g : Bool) → (f ≡ true → g ≡ true) → (m ≡ true → g ≡ false)
+    → rest ≡ (w && not m) → unknown ≡ (rest && not f) → good ≡ (rest && not unknown)
+    → (good || (unknown && g)) ≡ (w && g)
+recalled-is w f m rest unknown good g found missed rest_is unknown_is good_is =
+    rw (good_is, unknown_is, rest_is) (by w f m g found missed)
+  where
+    by : (w f m g : Bool) → (f ≡ true → g ≡ true) → (m ≡ true → g ≡ false)
+        → (((w && not m) && not ((w && not m) && not f)) || (((w && not m) && not f) && g)) ≡ (w && g)
+    by false f m g found missed = refl
+    by true f true g found missed = sym (missed refl)
+    by true true false g found missed = sym (found refl)
+    by true false false g found missed = refl

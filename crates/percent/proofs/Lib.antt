@@ -1,0 +1,11 @@
+-- The lemmas of this crate.
+mod TestLemmas
+pub mod CallerLemmas
+mod HandLemmas
+mod GoodLemmas
+mod NumberSteps
+mod RestSteps
+mod KeptLemmas
+mod PlaceLemmas
+mod GoodSteps
+mod AnswerLemmas

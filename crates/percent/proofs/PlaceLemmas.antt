@@ -1,0 +1,142 @@
+-- The places of a piece, one after the other, and the positions after them.
+use Rattle.std.proofs.Common.{◌≡◌, ◌↔◌, ℕ, ◌-◌, Bool, true, false, ◌&&◌, ◌||◌, List, [], ◌∷◌, ◌++◌, IsTrue, refl, sym, ap, ◌∙◌}
+use Rattle.std.specs.Prelude.{Option, Some, None, MatchOption, filter, find}
+use Rattle.std.specs.List.{list_any}
+use Rattle.std.proofs.lemmas.List.Folds.{list_any-append}
+use Rattle.std.proofs.lemmas.List.Kept.{IsStrictlySortedBy-filter}
+use Rattle.lane_board.specs.Field.{Field}
+use Rattle.srs.specs.declared.piece.Piece.{Piece}
+use Rattle.srs.specs.declared.placement.Placement.{Placement}
+use Rattle.srs.specs.Order.{placement_cmp}
+use Rattle.srs.specs.Placements.{IsCanonicalInside, placements_of}
+use Rattle.srs.specs.Rules.{table_of}
+use Rattle.srs.proofs.CallerLemmas.{placement_cmp-antisymmetric, placement_cmp-total, placements_of-list}
+use Rattle.lists.specs.Rising.{is_above, IsNextAbove, IsRisingListOf}
+use Rattle.lists.proofs.CallerLemmas.{Contains-filter, Contains-from_filter, find-next_of, filter_above-next, filter_above-none, IsNextAbove-unique}
+use Rattle.well.specs.Well.{filled}
+use Rattle.well.specs.Free.{is_free}
+use Rattle.well.specs.Lock.{locked, rows_removed}
+use Rattle.well.specs.LockLaws.{is_below}
+use Rattle.moves.specs.Place.{IsPlace}
+use Rattle.moves.specs.PlaceTest.{is_place}
+use Rattle.reach.specs.declared.held.Places.{Places}
+use Rattle.reach.specs.Places.{holds}
+use Rattle.enumerate.proofs.CallerLemmas.{place-decides, place-free, free-inside}
+use Rattle.percent.specs.declared.game.Game.{Game}
+use Rattle.percent.specs.declared.position.Position.{Position}
+use Rattle.percent.specs.GoodHands.{places_of, is_good, is_good_after, is_good_at}
+
+-- those above the last one
+unfoldable pub places_above : Game → Field → Piece → Option Placement → List Placement
+places_above game F piece last = filter (is_above placement_cmp last) (places_of game F piece)
+
+-- the places that a flood holds
+abbrev pub Held : Game → Field → Piece → Places → Type 0
+Held game F piece places = (q : Placement) → (IsTrue (holds places q)) ↔ ((q.piece ≡ piece) × IsPlace (table_of game.rules) F game.drop_mode q)
+
+held-list : (game : Game) (F : Field) (piece : Piece) (places : Places) → Held game F piece places → IsRisingListOf placement_cmp (λ q. IsTrue (holds places q)) (places_of game F piece)
+unfolding places_of
+held-list game F piece places held = record {
+  rising = IsStrictlySortedBy-filter placement_cmp (is_place (table_of game.rules) F game.drop_mode) (placements_of piece) (placements_of-list piece).rising;
+  members = λ q. (
+    λ among.
+        let found = Contains-from_filter (is_place (table_of game.rules) F game.drop_mode) (placements_of piece) q among in
+        (held q).1 ((((placements_of-list piece).members q).0 found.0).kind, (place-decides (table_of game.rules) F game.drop_mode q).0 found.1),
+    λ is.
+        let place = (held q).0 is in
+        let listed : IsCanonicalInside piece q = record { kind = place.0; canonical = place.1.canonical; inside = free-inside F q (place-free (table_of game.rules) F game.drop_mode q place.1) } in
+        Contains-filter (is_place (table_of game.rules) F game.drop_mode) (placements_of piece) q (((placements_of-list piece).members q).1 listed) ((place-decides (table_of game.rules) F game.drop_mode q).1 place.1),
+  );
+}
+
+-- the next held place is the first of those above the last one
+abbrev pub NextPlace : Game → Field → Piece → Option Placement → Option Placement → Type 0
+NextPlace game F piece last next =
+    MatchOption next (places_above game F piece last ≡ [])
+    (λ q. (places_above game F piece last ≡ q ∷ places_above game F piece (Some q)) × (q.piece ≡ piece) × (is_free F q ≡ true))
+
+pub next-place : (game : Game) (F : Field) (piece : Piece) (places : Places) → Held game F piece places → (last next : Option Placement)
+    → IsNextAbove placement_cmp (λ q. IsTrue (holds places q)) last next → NextPlace game F piece last next
+unfolding places_above
+next-place game F piece places held last next is = at next same is
+  where
+    same : find (is_above placement_cmp last) (places_of game F piece) ≡ next
+    same = IsNextAbove-unique placement_cmp placement_cmp-total placement_cmp-antisymmetric (λ q. holds places q ≡ true) last (find (is_above placement_cmp last) (places_of game F piece)) next
+        (find-next_of placement_cmp placement_cmp-total (λ q. holds places q ≡ true) last (places_of game F piece) (held-list game F piece places held)) is
+
+    at : (next : Option Placement) → find (is_above placement_cmp last) (places_of game F piece) ≡ next → IsNextAbove placement_cmp (λ q. IsTrue (holds places q)) last next
+        → MatchOption next (filter (is_above placement_cmp last) (places_of game F piece) ≡ [])
+        (λ q. (filter (is_above placement_cmp last) (places_of game F piece) ≡ q ∷ filter (is_above placement_cmp (Some q)) (places_of game F piece)) × (q.piece ≡ piece) × (is_free F q ≡ true))
+    at None e is = filter_above-none placement_cmp placement_cmp-total last (places_of game F piece) e
+    at (Some q) e is =
+        let place = (held q).0 is.member in (
+          filter_above-next placement_cmp placement_cmp-total last (places_of game F piece) q (held-list game F piece places held).rising e,
+          place.0,
+          place-free (table_of game.rules) F game.drop_mode q place.1,
+        )
+
+-- ---- the positions after the places
+
+-- whether a hand is good after one of these places
+unfoldable pub good_after_some : Game → Field → ℕ → List Placement → ℕ → ℕ → Bool
+good_after_some game F rows qs left hand = list_any (λ q. is_below rows q && is_good game (locked F q) (rows - rows_removed F q) left hand) qs
+
+-- the positions so far and the places above the last one make up all
+pub record Following (game : Game) (F : Field) (rows : ℕ) (piece : Piece) (children : List Position) (last : Option Placement) : Type 0 where
+  pub same : (left hand : ℕ) → (is_good_at game children left hand || good_after_some game F rows (places_above game F piece last) left hand) ≡ is_good_after game F rows piece left hand
+
+all_above : (qs : List Placement) → filter (λ q. true) qs ≡ qs
+all_above [] = refl
+all_above (q ∷ qs) = ap (λ l. q ∷ l) (all_above qs)
+
+pub follow-starts : (game : Game) (F : Field) (rows : ℕ) (piece : Piece) → Following game F rows piece [] None
+unfolding places_above good_after_some is_good_at is_good_after
+follow-starts game F rows piece = record {
+  same = λ left hand. ap (list_any (λ q. is_below rows q && is_good game (locked F q) (rows - rows_removed F q) left hand)) (all_above (places_of game F piece));
+}
+
+or_next : (a t b : Bool) → ((a || t) || b) ≡ (a || (t || b))
+or_next true t b = refl
+or_next false t b = refl
+
+or_false : (a : Bool) → (a || false) ≡ a
+or_false true = refl
+or_false false = refl
+
+pub follow-more : (game : Game) (F : Field) (rows : ℕ) (piece : Piece) (children : List Position) (last : Option Placement) (q : Placement) (child : Position)
+    → Following game F rows piece children last → places_above game F piece last ≡ q ∷ places_above game F piece (Some q)
+    → is_below rows q ≡ true → filled child.well ≡ locked F q → child.rows ≡ rows - rows_removed F q
+    → Following game F rows piece (children ++ child ∷ []) (Some q)
+unfolding good_after_some is_good_at
+follow-more game F rows piece children last q child state first below field left_rows = record {
+  same = λ left hand.
+      let test : Placement → Bool = λ q. is_below rows q && is_good game (locked F q) (rows - rows_removed F q) left hand in
+      let good : Position → Bool = λ p. is_good game (filled p.well) p.rows left hand in
+      let here : good child ≡ test q = (λ i. is_good game (field i) (left_rows i) left hand) ∙ sym (ap (λ b. b && is_good game (locked F q) (rows - rows_removed F q) left hand) below) in
+      ap (λ b. b || list_any test (places_above game F piece (Some q))) (list_any-append good children (child ∷ []) ∙ ap (λ b. list_any good children || b) (or_false (good child) ∙ here))
+      ∙ or_next (list_any good children) (test q) (list_any test (places_above game F piece (Some q)))
+      ∙ ap (λ l. list_any good children || list_any test l) (sym first)
+      ∙ state.same left hand;
+}
+
+pub follow-pass : (game : Game) (F : Field) (rows : ℕ) (piece : Piece) (children : List Position) (last : Option Placement) (q : Placement)
+    → Following game F rows piece children last → places_above game F piece last ≡ q ∷ places_above game F piece (Some q)
+    → is_below rows q ≡ false → Following game F rows piece children (Some q)
+unfolding good_after_some is_good_at
+follow-pass game F rows piece children last q state first above = record {
+  same = λ left hand.
+      let test : Placement → Bool = λ q. is_below rows q && is_good game (locked F q) (rows - rows_removed F q) left hand in
+      let good : Position → Bool = λ p. is_good game (filled p.well) p.rows left hand in
+      let none : test q ≡ false = ap (λ b. b && is_good game (locked F q) (rows - rows_removed F q) left hand) above in
+      ap (λ b. list_any good children || (b || list_any test (places_above game F piece (Some q)))) (sym none)
+      ∙ ap (λ l. list_any good children || list_any test l) (sym first)
+      ∙ state.same left hand;
+}
+
+pub follow-ends : (game : Game) (F : Field) (rows : ℕ) (piece : Piece) (children : List Position) (last : Option Placement)
+    → Following game F rows piece children last → places_above game F piece last ≡ []
+    → (left hand : ℕ) → is_good_at game children left hand ≡ is_good_after game F rows piece left hand
+unfolding good_after_some
+follow-ends game F rows piece children last state none left hand =
+    let test : Placement → Bool = λ q. is_below rows q && is_good game (locked F q) (rows - rows_removed F q) left hand in
+    sym (ap (λ l. is_good_at game children left hand || list_any test l) none ∙ or_false (is_good_at game children left hand)) ∙ state.same left hand

@@ -1,0 +1,21 @@
+use Rattle.std.proofs.Common.{◌+◌, ◌*◌}
+use Rattle.well.specs.Well.{filled}
+use Rattle.percent.proofs.GoodSteps.{Exploring, Trying}
+use Rattle.percent.proofs.answered.+search.Given as goal
+
+abbrev pub decreases-answered : goal.decreases-answered
+decreases-answered g l = 3 * l.left
+
+abbrev pub decreases-explored : goal.decreases-explored
+decreases-explored g l = 3 * l.left + 2
+
+abbrev pub decreases-tried : goal.decreases-tried
+decreases-tried g l = 3 * l.left + 1
+
+abbrev pub invariant-explored-loop-piece : goal.invariant-explored-loop-piece
+invariant-explored-loop-piece g l =
+    Exploring l.fn.kept.game l.kept.game (filled l.position.well) l.position.rows l.left l.hands l.open.items l.fn.steps l.steps l.piece-index
+
+abbrev pub invariant-tried-loop-child : goal.invariant-tried-loop-child
+invariant-tried-loop-child g l =
+    Trying l.fn.kept.game l.kept.game l.left l.child-items l.rests l.open.items l.fn.steps l.steps l.child-index

@@ -1,0 +1,5 @@
+use Rattle.percent.specs.GoodHands.{HasHandsBefore}
+use Rattle.percent.proofs.answers.hands_of.Given as goal
+
+abbrev pub invariant-loop-number : goal.invariant-loop-number
+invariant-loop-number l = HasHandsBefore l.problem l.hands.items l.number

@@ -1,0 +1,48 @@
+-- Nothing is known of a position whose slot is another's.
+use Rattle.std.proofs.Common.{◌≡◌, ℕ, ◌<◌, length, get_or, ap, subst, ◌∙◌, sym, arith}
+use Rattle.std.proofs.lemmas.List.Elements.{All-get_or}
+use Rattle.number_sets.specs.Rising.{IsRising, has}
+use Rattle.number_sets.proofs.CallerLemmas.{has-none}
+use Rattle.dead_memo.specs.Keys.{cells_in_bits}
+use Rattle.percent.specs.declared.kept.Kept.{Kept}
+use Rattle.percent.specs.declared.kept.Slot.{Slot}
+use Rattle.percent.specs.Kept.{IsTrueSlot}
+use Rattle.percent.proofs.KeptLemmas.{bits-filled, slot-found, slot-missed}
+use Rattle.percent.proofs.kept.Kept.known.Goals as goal
+
+slot_at : (kept : Kept) (place : ℕ) (slot : Slot) → place < length kept.slots.items → slot ≡ get_or kept.slots.items place slot → IsTrueSlot kept.game slot
+slot_at kept place slot below is = subst (IsTrueSlot kept.game) (sym is) (All-get_or (IsTrueSlot kept.game) kept.slots.items place slot below kept.are_true)
+
+pub returns-clause-found_true : goal.returns-clause-found_true
+returns-clause-found_true c = λ hand there. let none = has-none hand in cc
+
+pub returns-clause-missed_true : goal.returns-clause-missed_true
+returns-clause-missed_true c = λ hand there. let none = has-none hand in cc
+
+pub returns-then-slot-left-clause-found_rises : goal.returns-then-slot-left-clause-found_rises
+returns-then-slot-left-clause-found_rises c =
+    let kept = c.args.self.now in
+    let slot : IsTrueSlot kept.game c.index-slot.result.now = slot_at kept c.place_of-place.result c.index-slot.result.now (omega (arith, c.if-place-len.true, c.len.ensures)) c.index-slot.ensures in
+    subst IsRising (sym c.as_slice.ensures.value) slot.found_rises
+
+pub returns-then-slot-left-clause-missed_rises : goal.returns-then-slot-left-clause-missed_rises
+returns-then-slot-left-clause-missed_rises c =
+    let kept = c.args.self.now in
+    let slot : IsTrueSlot kept.game c.index-slot.result.now = slot_at kept c.place_of-place.result c.index-slot.result.now (omega (arith, c.if-place-len.true, c.len.ensures)) c.index-slot.ensures in
+    subst IsRising (sym c.as_slice-then-slot-left.ensures.value) slot.missed_rises
+
+pub returns-then-slot-left-clause-found_true : goal.returns-then-slot-left-clause-found_true
+returns-then-slot-left-clause-found_true c = λ hand there.
+    let kept = c.args.self.now in
+    let slot : IsTrueSlot kept.game c.index-slot.result.now = slot_at kept c.place_of-place.result c.index-slot.result.now (omega (arith, c.if-place-len.true, c.len.ensures)) c.index-slot.ensures in
+    slot-found kept.game c.index-slot.result.now c.args.position.now c.args.left slot
+    (ap cells_in_bits c.if-slot-cells.true ∙ bits-filled c.args.position.now c.cells_below-cells.result c.cells_below-cells.ensures) c.if-slot-position.true c.if-slot-left.true hand
+    (sym (ap (λ l. has l hand) c.as_slice.ensures.value) ∙ there)
+
+pub returns-then-slot-left-clause-missed_true : goal.returns-then-slot-left-clause-missed_true
+returns-then-slot-left-clause-missed_true c = λ hand there.
+    let kept = c.args.self.now in
+    let slot : IsTrueSlot kept.game c.index-slot.result.now = slot_at kept c.place_of-place.result c.index-slot.result.now (omega (arith, c.if-place-len.true, c.len.ensures)) c.index-slot.ensures in
+    slot-missed kept.game c.index-slot.result.now c.args.position.now c.args.left slot
+    (ap cells_in_bits c.if-slot-cells.true ∙ bits-filled c.args.position.now c.cells_below-cells.result c.cells_below-cells.ensures) c.if-slot-position.true c.if-slot-left.true hand
+    (sym (ap (λ l. has l hand) c.as_slice-then-slot-left.ensures.value) ∙ there)

@@ -1,0 +1,6 @@
+use Rattle.std.proofs.Common.{All}
+use Rattle.percent.specs.Kept.{IsTrueSlot}
+use Rattle.percent.proofs.kept.Kept.new.Given as goal
+
+abbrev pub invariant-loop : goal.invariant-loop
+invariant-loop l = All (IsTrueSlot l.game) l.slots.items

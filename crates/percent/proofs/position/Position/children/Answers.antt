@@ -1,0 +1,66 @@
+-- The places come in order, and each that lies below the rows left is entered.
+use Rattle.std.proofs.Common.{◌≡◌, [], length, IsTrue, ap, subst, sym, arith}
+use Rattle.std.specs.Prelude.{Option, Some, None}
+use Rattle.lane_board.specs.Field.{Field}
+use Rattle.srs.specs.declared.piece.Piece.{Piece}
+use Rattle.srs.specs.declared.placement.Placement.{Placement}
+use Rattle.srs.specs.Order.{placement_cmp}
+use Rattle.lists.specs.Rising.{IsNextAbove}
+use Rattle.well.specs.Well.{filled}
+use Rattle.reach.specs.declared.held.Places.{Places}
+use Rattle.reach.specs.Places.{holds}
+use Rattle.enumerate.proofs.CallerLemmas.{free-inside}
+use Rattle.percent.specs.declared.game.Game.{Game}
+use Rattle.percent.proofs.PlaceLemmas.{Held, NextPlace, next-place, places_above, follow-starts, follow-more, follow-pass, follow-ends}
+use Rattle.percent.proofs.position.Position.children.Goals as goal
+
+-- what the next placement is, where the bound is that of the loop
+next : (game : Game) (F : Field) (piece : Piece) (places : Places) → Held game F piece places → (last bound result : Option Placement) → bound ≡ last
+    → IsNextAbove placement_cmp (λ q. IsTrue (holds places q)) bound result → NextPlace game F piece last result
+next game F piece places held last bound result same is =
+    next-place game F piece places held last result (subst (λ l. IsNextAbove placement_cmp (λ q. IsTrue (holds places q)) l result) same is)
+
+pub loop-placement-init : goal.loop-placement-init
+loop-placement-init g c = (rw c.new-children.ensures.items (follow-starts c.args.game.now (filled c.args.self.now.well) c.args.self.now.rows c.args.piece), tt)
+
+pub lies_below-requires : goal.lies_below-requires
+lies_below-requires g c =
+    let n = next c.args.game.now (filled c.args.self.now.well) c.args.piece c.places-places.result c.places-places.ensures.held c.loop-placement.last _ (Some c.in-Some.placement) c.as_ref.ensures.value c.in-Some.ensures in
+    free-inside (filled c.args.self.now.well) c.in-Some.placement n.2
+
+pub after-requires-clause-free : goal.after-requires-clause-free
+after-requires-clause-free g c =
+    let n = next c.args.game.now (filled c.args.self.now.well) c.args.piece c.places-places.result c.places-places.ensures.held c.loop-placement.last _ (Some c.in-Some.placement) c.as_ref.ensures.value c.in-Some.ensures in
+    n.2
+
+pub loop-placement-smaller-in_ok-push : goal.loop-placement-smaller-in_ok-push
+loop-placement-smaller-in_ok-push g c =
+    let n = next c.args.game.now (filled c.args.self.now.well) c.args.piece c.places-places.result c.places-places.ensures.held c.loop-placement.last _ (Some c.in-Some.placement) c.as_ref.ensures.value c.in-Some.ensures in
+    omega (arith, ap length n.0)
+
+pub loop-placement-preserved-in_ok-push : goal.loop-placement-preserved-in_ok-push
+loop-placement-preserved-in_ok-push g c =
+    let n = next c.args.game.now (filled c.args.self.now.well) c.args.piece c.places-places.result c.places-places.ensures.held c.loop-placement.last _ (Some c.in-Some.placement) c.as_ref.ensures.value c.in-Some.ensures in (
+      rw c.in_ok-push.ensures.items (follow-more c.args.game.now (filled c.args.self.now.well) c.args.self.now.rows c.args.piece c.loop-placement.children.items c.loop-placement.last c.in-Some.placement c.after.result
+          c.loop-placement.invariant.0 n.0 (sym c.if-lies_below.ensures) c.after.ensures.field c.after.ensures.rows),
+      n.1,
+    )
+
+pub loop-placement-smaller : goal.loop-placement-smaller
+loop-placement-smaller g c =
+    let n = next c.args.game.now (filled c.args.self.now.well) c.args.piece c.places-places.result c.places-places.ensures.held c.loop-placement.last _ (Some c.in-Some.placement) c.as_ref.ensures.value c.in-Some.ensures in
+    omega (arith, ap length n.0)
+
+pub loop-placement-preserved : goal.loop-placement-preserved
+loop-placement-preserved g c =
+    let n = next c.args.game.now (filled c.args.self.now.well) c.args.piece c.places-places.result c.places-places.ensures.held c.loop-placement.last _ (Some c.in-Some.placement) c.as_ref.ensures.value c.in-Some.ensures in (
+      follow-pass c.args.game.now (filled c.args.self.now.well) c.args.self.now.rows c.args.piece c.loop-placement.children.items c.loop-placement.last c.in-Some.placement
+          c.loop-placement.invariant.0 n.0 (sym c.if-lies_below.ensures),
+      n.1,
+    )
+
+pub returns-clause-good : goal.returns-clause-good
+returns-clause-good g c =
+    let none : places_above c.args.game.now (filled c.args.self.now.well) c.args.piece c.loop-placement.last ≡ [] =
+    next c.args.game.now (filled c.args.self.now.well) c.args.piece c.places-places.result c.places-places.ensures.held c.loop-placement.last _ None c.as_ref.ensures.value c.in_default.ensures in
+    follow-ends c.args.game.now (filled c.args.self.now.well) c.args.self.now.rows c.args.piece c.loop-placement.children.items c.loop-placement.last c.loop-placement.invariant.0 none

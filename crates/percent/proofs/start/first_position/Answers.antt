@@ -1,0 +1,12 @@
+-- The cells of a fit problem lie below its height.
+use Rattle.std.proofs.Common.{arith}
+use Rattle.enumerate.proofs.CallerLemmas.{filled-low}
+use Rattle.percent.proofs.start.first_position.Goals as goal
+
+pub invariant_of-result : goal.invariant_of-result
+invariant_of-result c =
+    let fit = c.requires in
+    let low = filled-low c.args.problem.now.well c.args.problem.now.height (omega (arith, fit.low)) fit.below in record {
+      few = fit.low;
+      below = record { none = low.none };
+    }

@@ -1,0 +1,13 @@
+-- The answer for the hand of the queue is that for the queue.
+use Rattle.std.proofs.Common.{ap, ◌∙◌}
+use Rattle.number_sets.specs.Rising.{has}
+use Rattle.percent.specs.Hands.{hand_of}
+use Rattle.percent.proofs.AnswerLemmas.{one-answer}
+use Rattle.percent.proofs.start.solvable.Goals as goal
+
+pub returns-clause-good : goal.returns-clause-good
+returns-clause-good g c =
+    one-answer c.args.problem.now c.args.queue.now.items c.hand_of-hand.result c.in_ok-good.good.items c.holds.result c.requires
+    (c.hand_of-hand.ensures ∙ ap (λ n. hand_of c.args.problem.now.hold c.args.problem.now.held n c.args.queue.now.items) c.needed.ensures)
+    c.in_ok-good.ensures.members
+    (c.holds.ensures ∙ ap (λ l. has l c.hand_of-hand.result) c.as_slice.ensures.value)

@@ -1,0 +1,20 @@
+-- Good queues: those with a perfect clear.
+use Rattle.std.specs.Prelude.{ℕ, ◌*◌, ◌/◌, List}
+use Rattle.srs.specs.declared.piece.Piece.{Piece}
+use Rattle.srs.specs.declared.placement.Placement.{Placement}
+use Rattle.srs.specs.Rules.{table_of}
+use Rattle.well.specs.Well.{filled}
+use Rattle.hold_queue.specs.Permits.{Permits}
+use Rattle.enumerate.specs.declared.problem.Problem.{Problem}
+use Rattle.enumerate.specs.Plays.{Plays}
+use Rattle.enumerate.specs.Solution.{pieces_of}
+
+-- some sequence plays in the problem, and the queue permits its pieces
+pub record Good (problem : Problem) (queue : List Piece) : Type 0 where
+  pub sequence : List Placement
+  pub plays : Plays (table_of problem.rules) problem.drop_mode (filled problem.well) problem.height sequence
+  pub permitted : Permits problem.hold queue problem.held (pieces_of sequence)
+
+-- 10,000 times the good ones divided by all, rounded down
+abbrev pub rate_of : ℕ → ℕ → ℕ
+rate_of good all = 10000 * good / all

@@ -1,0 +1,68 @@
+-- Good hands, piece by piece: whether some way to take a piece and place it leaves a good hand.
+use Rattle.std.specs.Prelude.{◌≡◌, ℕ, zero, suc, ◌-◌, ◌<◌, Bool, true, ◌&&◌, ◌==◌, List, [], filter, length, slice_index_or}
+use Rattle.std.specs.List.{list_any}
+use Rattle.lane_board.specs.Field.{Field}
+use Rattle.srs.specs.declared.piece.Piece.{Piece}
+use Rattle.srs.specs.declared.placement.Placement.{Placement}
+use Rattle.srs.specs.Piece.{all_pieces, piece_code}
+use Rattle.srs.specs.Placements.{placements_of}
+use Rattle.srs.specs.Rules.{table_of}
+use Rattle.well.specs.Well.{filled}
+use Rattle.well.specs.Lock.{locked, rows_removed}
+use Rattle.well.specs.LockLaws.{is_below}
+use Rattle.moves.specs.PlaceTest.{is_place}
+use Rattle.number_sets.specs.Rising.{has}
+use Rattle.queue_pattern.specs.Pattern.{elements_of}
+use Rattle.queue_pattern.specs.Queues.{queues}
+use Rattle.enumerate.specs.declared.problem.Problem.{Problem}
+use Rattle.enumerate.specs.Problem.{needed_of}
+use Rattle.percent.specs.declared.game.Game.{Game}
+use Rattle.percent.specs.declared.position.Position.{Position}
+use Rattle.percent.specs.Hands.{hand_of, takes}
+
+-- the placements of a piece that legal keys reach, in order
+unfoldable pub places_of : Game → Field → Piece → List Placement
+places_of game F piece = filter (is_place (table_of game.rules) F game.drop_mode) (placements_of piece)
+
+-- with so many rows left and so many placements to come
+unfoldable pub is_good : Game → Field → ℕ → ℕ → ℕ → Bool
+is_good game F rows zero hand = rows == 0
+is_good game F rows (suc left) hand =
+    list_any (λ piece. takes game.hold (piece_code piece)
+    (λ rest. list_any (λ q. is_below rows q && is_good game (locked F q) (rows - rows_removed F q) left rest)
+    (places_of game F piece)) hand) all_pieces
+
+-- good after this piece was placed, with so many placements to come then
+unfoldable pub is_good_after : Game → Field → ℕ → Piece → ℕ → ℕ → Bool
+is_good_after game F rows piece left rest =
+    list_any (λ q. is_below rows q && is_good game (locked F q) (rows - rows_removed F q) left rest)
+    (places_of game F piece)
+
+-- good at one of these positions
+unfoldable pub is_good_at : Game → List Position → ℕ → ℕ → Bool
+is_good_at game positions left hand = list_any (λ p. is_good game (filled p.well) p.rows left hand) positions
+
+abbrev pub game_of : Problem → Game
+game_of problem = record { rules = problem.rules; drop_mode = problem.drop_mode; hold = problem.hold }
+
+-- the test of `Good`
+unfoldable pub is_good_queue : Problem → List Piece → Bool
+is_good_queue problem queue =
+    is_good (game_of problem) (filled problem.well) problem.height (needed_of problem)
+    (hand_of problem.hold problem.held (needed_of problem) queue)
+
+-- the hand of the queue with this number
+unfoldable pub hand_at : Problem → ℕ → ℕ
+hand_at problem number =
+    hand_of problem.hold problem.held (needed_of problem)
+    (slice_index_or (queues (elements_of problem.pattern)) number [])
+
+-- these hands have that of each queue before this number
+pub record HasHandsBefore (problem : Problem) (hands : List ℕ) (number : ℕ) : Type 0 where
+  pub each : (k : ℕ) → k < number → has hands (hand_at problem k) ≡ true
+
+-- the hands of good queues are those among these
+pub record HasGoodHands (problem : Problem) (hands : List ℕ) : Type 0 where
+  pub each : (number : ℕ) → number < length (queues (elements_of problem.pattern))
+      → has hands (hand_at problem number)
+      ≡ is_good_queue problem (slice_index_or (queues (elements_of problem.pattern)) number [])

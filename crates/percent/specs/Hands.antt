@@ -1,0 +1,39 @@
+-- Pieces at hand as numbers: each has three bits, its code, and the first piece has the lowest.
+use Rattle.std.specs.Prelude.{ℕ, ◌+◌, ◌*◌, ◌/◌, ◌%◌, Bool, true, false, ◌&&◌, ◌||◌, ◌==◌, Option, List, [], ◌∷◌, take}
+use Rattle.srs.specs.declared.piece.Piece.{Piece}
+use Rattle.srs.specs.Piece.{piece_code}
+use Rattle.hold_queue.specs.declared.hold.Hold.{Hold}
+use Rattle.hold_queue.specs.declared.hold.Hold.TheVariants.{Allowed, Avoided}
+use Rattle.hold_queue.specs.AtHand.{at_hand, taken_from}
+
+unfoldable pub number_of : List Piece → ℕ
+number_of [] = 0
+number_of (piece ∷ pieces) = piece_code piece + 8 * number_of pieces
+
+-- the number of the pieces at hand from which so many are taken
+unfoldable pub hand_of : Hold → Option Piece → ℕ → List Piece → ℕ
+hand_of hold held count queue = number_of (take (taken_from hold count) (at_hand hold held queue))
+
+abbrev pub is_allowed : Hold → Bool
+is_allowed Allowed = true
+is_allowed Avoided = false
+
+-- without the first piece, and without the second
+unfoldable pub without_first : ℕ → ℕ
+without_first hand = hand / 8
+
+unfoldable pub without_second : ℕ → ℕ
+without_second hand = hand / 64 * 8 + hand % 8
+
+-- a piece with this code can be taken so that a test passes of what is left
+unfoldable pub takes : Hold → ℕ → (ℕ → Bool) → ℕ → Bool
+takes hold code goes_on hand =
+    (hand % 8 == code && goes_on (without_first hand))
+    || (is_allowed hold && (hand / 8 % 8 == code && goes_on (without_second hand)))
+
+-- with a first piece more, and with a piece more behind the first
+unfoldable pub with_first : ℕ → ℕ → ℕ
+with_first code rest = rest * 8 + code
+
+unfoldable pub with_second : ℕ → ℕ → ℕ
+with_second code rest = rest / 8 * 64 + (code * 8 + rest % 8)

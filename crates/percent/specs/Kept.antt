@@ -1,0 +1,16 @@
+-- Answers that are kept are true.
+use Rattle.std.specs.Prelude.{◌≡◌, ℕ, true, false}
+use Rattle.number_sets.specs.Rising.{IsRising, has}
+use Rattle.dead_memo.specs.Keys.{cells_in_bits}
+use Rattle.percent.specs.declared.game.Game.{Game}
+use Rattle.percent.specs.declared.kept.Slot.{Slot}
+use Rattle.percent.specs.GoodHands.{is_good}
+
+-- the found hands are good at the slot's position, and the missed ones are not
+pub record IsTrueSlot (game : Game) (slot : Slot) : Type 0 where
+  pub found_rises : IsRising slot.found.items
+  pub missed_rises : IsRising slot.missed.items
+  pub found_true : (hand : ℕ) → has slot.found.items hand ≡ true
+      → is_good game (cells_in_bits slot.cells) slot.rows slot.left hand ≡ true
+  pub missed_true : (hand : ℕ) → has slot.missed.items hand ≡ true
+      → is_good game (cells_in_bits slot.cells) slot.rows slot.left hand ≡ false

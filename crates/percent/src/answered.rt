@@ -1,0 +1,116 @@
+// The hands that are good at a position: by the kept answers, else by going into each position that a piece leads to.
+ghost use Rattle.std.specs.Prelude.{◌≡◌, ℕ, ◌≤◌, ◌+◌, ◌&&◌, ◌==◌, IfOk};
+ghost use Rattle.number_sets.specs.Rising.{IsRising, has};
+ghost use Rattle.well.specs.Well.{filled};
+ghost use Rattle.percent.specs.GoodHands.{is_good, is_good_after};
+
+use crate::hand::{not_leading_to, rests_of};
+use crate::kept::Kept;
+use crate::position::Position;
+use number_sets::{merged, without};
+use pc_outside::NoMemory;
+use reach::Steps;
+use srs::Piece;
+use std::alloc::Global;
+use std::sync::ledger::Ledger;
+
+/// The hands that are good where no placement is to come: all where no row is left.
+fn answered_at_end(alloc: Global, position: &Position, hands: &[u64]) -> Result<Vec<u64>, NoMemory>
+    requires { IsRising hands.now }
+    ensures rises { IfOk result (λ v. IsRising v.items) }
+    ensures members { IfOk result (λ v. (hand : ℕ) →
+        has v.items hand ≡ (has hands.now hand && position.now.rows == 0)) }
+{
+    if position.rows == 0 {
+        return Ok(Vec::from_slice(alloc, hands)?);
+    }
+    Ok(Vec::new(alloc))
+}
+
+/// The hands that are good at a position with so many placements to come.
+#[cycle(search)]
+pub fn answered<L: Ledger>(
+    alloc: Global,
+    kept: &mut Kept,
+    position: &Position,
+    left: u8,
+    hands: &[u64],
+    steps: &mut Steps<L>,
+) -> Result<Vec<u64>, NoMemory>
+    requires rises { IsRising hands.now }
+    ensures rises { IfOk result (λ v. IsRising v.items) }
+    ensures members { IfOk result (λ v. (hand : ℕ) → has v.items hand
+        ≡ (has hands.now hand && is_good kept.old.game (filled position.now.well) position.now.rows left hand)) }
+    ensures game { kept.new.game ≡ kept.old.game }
+    ensures counted { steps.old ≤ steps.new }
+{
+    if left == 0 {
+        return answered_at_end(alloc, position, hands);
+    }
+    let (known, unknown) = kept.recalled(alloc, position, left, hands)?;
+    if unknown.is_empty() {
+        return Ok(known);
+    }
+    let found = explored(alloc, kept, position, left - 1, unknown.as_slice(), steps)?;
+    let missed = without(alloc, unknown.as_slice(), found.as_slice())?;
+    kept.note(alloc, position, left, found.as_slice(), missed.as_slice())?;
+    merged(alloc, known.as_slice(), found.as_slice())
+}
+
+/// The hands that are good at a position with one placement to come and then so many, one piece after the other.
+#[cycle(search)]
+fn explored<L: Ledger>(
+    alloc: Global,
+    kept: &mut Kept,
+    position: &Position,
+    left: u8,
+    hands: &[u64],
+    steps: &mut Steps<L>,
+) -> Result<Vec<u64>, NoMemory>
+    requires rises { IsRising hands.now }
+    ensures rises { IfOk result (λ v. IsRising v.items) }
+    ensures members { IfOk result (λ v. (hand : ℕ) → has v.items hand
+        ≡ (has hands.now hand && is_good kept.old.game (filled position.now.well) position.now.rows (left + 1) hand)) }
+    ensures game { kept.new.game ≡ kept.old.game }
+    ensures counted { steps.old ≤ steps.new }
+{
+    let mut open = Vec::from_slice(alloc, hands)?;
+    for piece in Piece::ALL {
+        let hold = kept.game.hold;
+        let rests = rests_of(alloc, hold, piece, open.as_slice())?;
+        let good = tried(alloc, kept, position, left, piece, rests.as_slice(), steps)?;
+        open = not_leading_to(alloc, hold, piece, open.as_slice(), good.as_slice())?;
+    }
+    without(alloc, hands, open.as_slice())
+}
+
+/// The rests that are good after one of the places of a piece.
+#[cycle(search)]
+fn tried<L: Ledger>(
+    alloc: Global,
+    kept: &mut Kept,
+    position: &Position,
+    left: u8,
+    piece: Piece,
+    rests: &[u64],
+    steps: &mut Steps<L>,
+) -> Result<Vec<u64>, NoMemory>
+    requires rises { IsRising rests.now }
+    ensures rises { IfOk result (λ v. IsRising v.items) }
+    ensures members { IfOk result (λ v. (rest : ℕ) → has v.items rest
+        ≡ (has rests.now rest
+        && is_good_after kept.old.game (filled position.now.well) position.now.rows piece left rest)) }
+    ensures game { kept.new.game ≡ kept.old.game }
+    ensures counted { steps.old ≤ steps.new }
+{
+    if rests.is_empty() {
+        return Ok(Vec::new(alloc));
+    }
+    let children = position.children(alloc, &kept.game, piece, steps)?;
+    let mut open = Vec::from_slice(alloc, rests)?;
+    for child in &children {
+        let good = answered(alloc, kept, child, left, open.as_slice(), steps)?;
+        open = without(alloc, open.as_slice(), good.as_slice())?;
+    }
+    without(alloc, rests, open.as_slice())
+}

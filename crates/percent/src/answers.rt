@@ -1,0 +1,103 @@
+// The answers for all queues of a pattern.
+ghost use Rattle.std.specs.Prelude.{◌≡◌, ℕ, ◌≤◌, IfOk, count_by, length};
+ghost use Rattle.queue_pattern.specs.Pattern.{elements_of};
+ghost use Rattle.queue_pattern.specs.Queues.{queues};
+ghost use Rattle.number_sets.specs.Rising.{IsRising};
+ghost use Rattle.enumerate.specs.Problem.{IsFit};
+ghost use Rattle.percent.specs.GoodHands.{HasGoodHands, HasHandsBefore, is_good_queue};
+
+use crate::start::{good_hands, hand};
+use enumerate::Problem;
+use number_sets::{as_set, holds};
+use pc_outside::NoMemory;
+use reach::Steps;
+use std::alloc::Global;
+use std::sync::ledger::Ledger;
+
+/// The hands of all queues, each once.
+fn hands_of(alloc: Global, problem: &Problem) -> Result<Vec<u64>, NoMemory>
+    requires { IsFit problem.now }
+    ensures rises { IfOk result (λ v. IsRising v.items) }
+    ensures each { IfOk result (λ v.
+        HasHandsBefore problem.now v.items (length (queues (elements_of problem.now.pattern)))) }
+{
+    let count = problem.pattern.count();
+    let mut hands = Vec::with_capacity(alloc, count as usize)?;
+    for number in 0..count {
+        hands.push(hand(problem, number))?;
+    }
+    as_set(alloc, hands)
+}
+
+/// How many queues are good.
+fn count_good(problem: &Problem, good: &[u64]) -> u32
+    requires fit { IsFit problem.now }
+    requires rises { IsRising good.now }
+    requires exact { HasGoodHands problem.now good.now }
+    ensures { result ≡ count_by (is_good_queue problem.now) (queues (elements_of problem.now.pattern)) }
+{
+    let mut count = 0;
+    for number in 0..problem.pattern.count() {
+        if holds(good, hand(problem, number)) {
+            count += 1;
+        }
+    }
+    count
+}
+
+/// Which queues of a problem's pattern are good.
+#[derive(Drop)]
+pub struct Answers {
+    problem: Problem,
+    good: Vec<u64>,
+    count: u32,
+    ghost fit: { IsFit problem },
+    ghost rises: { IsRising good.items },
+    ghost exact: { HasGoodHands problem good.items },
+    ghost counted: { count ≡ count_by (is_good_queue problem) (queues (elements_of problem.pattern)) },
+}
+
+impl Answers {
+    ghost use Rattle.std.specs.Prelude.{◌<◌, ◌↔◌, IsTrue, List, Some, slice_get};
+    ghost use Rattle.srs.specs.declared.piece.Piece.{Piece};
+    ghost use Rattle.percent.specs.Answers.{problem_of};
+    ghost use Rattle.percent.specs.Good.{Good};
+
+    /// The answers for a fit problem. Adds a step for each flood. Want of memory is the only refusal.
+    pub fn new<L: Ledger>(
+        alloc: Global,
+        problem: &Problem,
+        steps: &mut Steps<L>,
+    ) -> Result<Answers, NoMemory>
+        requires { IsFit problem.now }
+        ensures problem { IfOk result (λ answers. problem_of answers ≡ problem.now) }
+        ensures counted { steps.old ≤ steps.new }
+    {
+        let hands = hands_of(alloc, problem)?;
+        let good = good_hands(alloc, problem, hands.as_slice(), steps)?;
+        let count = count_good(problem, good.as_slice());
+        Ok(Answers {
+            problem: *problem,
+            good,
+            count,
+        })
+    }
+
+    /// Whether the queue with this number, from 0, is good.
+    pub fn is_good(&self, number: u32) -> bool
+        requires { number < length (queues (elements_of (problem_of self.now).pattern)) }
+        ensures { (queue : List Piece) →
+            slice_get (queues (elements_of (problem_of self.now).pattern)) number ≡ Some queue →
+            IsTrue result ↔ Good (problem_of self.now) queue }
+    {
+        holds(self.good.as_slice(), hand(&self.problem, number))
+    }
+
+    /// How many queues are good, of all of the pattern: at most 10,000,000.
+    pub fn count_good(&self) -> u32
+        ensures { result ≡ count_by (is_good_queue (problem_of self.now))
+            (queues (elements_of (problem_of self.now).pattern)) }
+    {
+        self.count
+    }
+}

@@ -1,0 +1,150 @@
+// Pieces at hand as numbers: three bits for each, the first piece in the lowest.
+ghost use Rattle.std.specs.Prelude.{◌≡◌, ℕ, ◌≤◌, ◌<◌, ◌+◌, ◌-◌, ◌*◌, ◌/◌, ◌%◌, ◌^◌, ◌==◌, ◌&&◌, ◌||◌, not, length, take, IfOk};
+ghost use Rattle.srs.specs.Piece.{piece_code};
+ghost use Rattle.number_sets.specs.Rising.{IsRising, has};
+ghost use Rattle.percent.specs.Hands.{is_allowed, takes, with_first, with_second};
+ghost use Rattle.percent.specs.Hands;
+
+use hold_queue::Hold;
+use number_sets::{holds, merged};
+use pc_outside::NoMemory;
+use queue_pattern::Queue;
+use srs::Piece;
+use std::alloc::Global;
+
+/// The first so many pieces, or all where there are fewer.
+fn front(pieces: &[Piece], count: usize) -> &[Piece]
+    ensures value { result.now ≡ take count pieces.now }
+    ensures short { length result.now ≤ count }
+{
+    &pieces[..count.min(pieces.len())]
+}
+
+/// The number of at most 21 pieces.
+fn number_of(pieces: &[Piece]) -> u64
+    requires { length pieces.now ≤ 21 }
+    ensures value { result ≡ Hands.number_of pieces.now }
+    ensures below { result < 8 ^ length pieces.now }
+{
+    let mut number = 0;
+    for index in (0..pieces.len()).rev() {
+        number = number * 8 + u64::from(pieces[index].code());
+    }
+    number
+}
+
+/// The number of the pieces at hand from which so many placements take theirs.
+pub fn hand_of(hold: Hold, held: Option<Piece>, placements: u8, queue: &Queue) -> u64
+    requires { placements ≤ 20 }
+    ensures { result ≡ Hands.hand_of hold held placements queue.now.items }
+{
+    let placements = usize::from(placements);
+    let pieces = queue.as_slice();
+    if let Hold::Avoided = hold {
+        return number_of(front(pieces, placements));
+    }
+    match held {
+        None => number_of(front(pieces, placements + 1)),
+        Some(piece) => u64::from(piece.code()) + 8 * number_of(front(pieces, placements)),
+    }
+}
+
+/// The hands that begin with a piece, without it.
+fn without_first(alloc: Global, code: u64, hands: &[u64]) -> Result<Vec<u64>, NoMemory>
+    requires few { code < 8 }
+    requires rises { IsRising hands.now }
+    ensures rises { IfOk result (λ v. IsRising v.items) }
+    ensures members { IfOk result (λ v. (rest : ℕ) → has v.items rest ≡ has hands.now (with_first code rest)) }
+{
+    let mut v = Vec::new(alloc);
+    for hand in hands {
+        if *hand % 8 == code {
+            v.push(*hand / 8)?;
+        }
+    }
+    Ok(v)
+}
+
+/// The hands whose second piece is this one, without it.
+fn without_second(alloc: Global, code: u64, hands: &[u64]) -> Result<Vec<u64>, NoMemory>
+    requires few { code < 8 }
+    requires rises { IsRising hands.now }
+    ensures rises { IfOk result (λ v. IsRising v.items) }
+    ensures members { IfOk result (λ v. (rest : ℕ) → has v.items rest ≡ has hands.now (with_second code rest)) }
+{
+    let mut v = Vec::new(alloc);
+    for hand in hands {
+        if *hand / 8 % 8 == code {
+            v.push(*hand / 64 * 8 + *hand % 8)?;
+        }
+    }
+    Ok(v)
+}
+
+/// What is left of the hands that a piece can be taken from.
+pub fn rests_of(
+    alloc: Global,
+    hold: Hold,
+    piece: Piece,
+    hands: &[u64],
+) -> Result<Vec<u64>, NoMemory>
+    requires { IsRising hands.now }
+    ensures rises { IfOk result (λ v. IsRising v.items) }
+    ensures members { IfOk result (λ v. (rest : ℕ) → has v.items rest
+        ≡ (has hands.now (with_first (piece_code piece) rest)
+        || (is_allowed hold && has hands.now (with_second (piece_code piece) rest)))) }
+{
+    let code = u64::from(piece.code());
+    let first = without_first(alloc, code, hands)?;
+    if let Hold::Avoided = hold {
+        return Ok(first);
+    }
+    let second = without_second(alloc, code, hands)?;
+    merged(alloc, first.as_slice(), second.as_slice())
+}
+
+/// Whether a code is the one that is sought, and a rest is one of these.
+fn is_one_of(rests: &[u64], sought: u64, code: u64, rest: u64) -> bool
+    requires { IsRising rests.now }
+    ensures { result ≡ (code == sought && has rests.now rest) }
+{
+    code == sought && holds(rests, rest)
+}
+
+/// Whether a piece can be taken from a hand so that one of these is left.
+#[tactic(auto, unfolding(crate::specs::Hands::takes, crate::specs::Hands::without_first, crate::specs::Hands::without_second))]
+fn leaves_one_of(hold: Hold, piece: Piece, rests: &[u64], hand: u64) -> bool
+    requires { IsRising rests.now }
+    ensures { result ≡ takes hold (piece_code piece) (has rests.now) hand }
+{
+    let code = u64::from(piece.code());
+    let first = is_one_of(rests, code, hand % 8, hand / 8);
+    let second = is_one_of(rests, code, hand / 8 % 8, hand / 64 * 8 + hand % 8);
+    match hold {
+        Hold::Avoided => first,
+        Hold::Allowed => first || second,
+    }
+}
+
+/// The hands from which a piece can't be taken so that one of these is left.
+pub fn not_leading_to(
+    alloc: Global,
+    hold: Hold,
+    piece: Piece,
+    hands: &[u64],
+    rests: &[u64],
+) -> Result<Vec<u64>, NoMemory>
+    requires hands { IsRising hands.now }
+    requires rests { IsRising rests.now }
+    ensures rises { IfOk result (λ v. IsRising v.items) }
+    ensures members { IfOk result (λ v. (hand : ℕ) → has v.items hand
+        ≡ (has hands.now hand && not (takes hold (piece_code piece) (has rests.now) hand))) }
+{
+    let mut v = Vec::new(alloc);
+    for hand in hands {
+        if !leaves_one_of(hold, piece, rests, *hand) {
+            v.push(*hand)?;
+        }
+    }
+    Ok(v)
+}

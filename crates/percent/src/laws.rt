@@ -1,0 +1,13 @@
+// Laws of the definitions: functions with an empty body, whose contract is the law.
+ghost use Rattle.std.specs.Prelude.{◌↔◌, IsTrue, List};
+ghost use Rattle.srs.specs.declared.piece.Piece.{Piece};
+ghost use Rattle.enumerate.specs.declared.problem.Problem.{Problem};
+ghost use Rattle.enumerate.specs.Problem.{IsFit};
+ghost use Rattle.percent.specs.Good.{Good};
+ghost use Rattle.percent.specs.GoodHands.{is_good_queue};
+
+/// Whether a queue is good is decided by a test.
+pub fn good_is_decided()
+    ensures { (problem : Problem) (queue : List Piece) → IsFit problem →
+        IsTrue (is_good_queue problem queue) ↔ Good problem queue }
+{}

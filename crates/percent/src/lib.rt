@@ -1,0 +1,18 @@
+// How many queues of a pattern have a perfect clear, over all of them at once.
+#![tactic(auto)]
+
+mod answered;
+mod answers;
+mod game;
+mod hand;
+mod kept;
+pub mod laws;
+mod position;
+mod share;
+mod start;
+#[cfg(test)]
+mod tests;
+
+pub use answers::Answers;
+pub use share::rate;
+pub use start::solvable;

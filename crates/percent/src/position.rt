@@ -1,0 +1,68 @@
+// Positions: what was reached after some placements.
+ghost use Rattle.std.specs.Prelude.{◌≤◌};
+ghost use Rattle.well.specs.Well.{filled};
+ghost use Rattle.well.specs.LockLaws.{LiesBelow};
+
+use crate::game::Game;
+use enumerate::lies_below;
+use pc_outside::NoMemory;
+use reach::{Steps, places};
+use srs::{Piece, Placement};
+use std::alloc::Global;
+use std::sync::ledger::Ledger;
+use well::Well;
+
+/// A well and how many of its rows are left to be removed; its cells lie in these rows.
+#[derive(Clone, Copy)]
+pub struct Position {
+    pub well: Well,
+    pub rows: u8,
+    ghost few: { rows ≤ 8 },
+    ghost below: { LiesBelow (filled well) rows },
+}
+
+impl Position {
+    ghost use Rattle.std.specs.Prelude.{◌≡◌, ℕ, ◌+◌, ◌-◌, IsTrue, IfOk};
+    ghost use Rattle.well.specs.Free.{is_free};
+    ghost use Rattle.well.specs.Lock.{locked, rows_removed};
+    ghost use Rattle.well.specs.LockLaws.{is_below};
+    ghost use Rattle.percent.specs.GoodHands.{is_good_after, is_good_at};
+
+    /// The position after a placement below the rows left.
+    fn after(&self, placement: &Placement) -> Position
+        requires free { IsTrue (is_free (filled self.now.well) placement.now) }
+        requires below { IsTrue (is_below self.now.rows placement.now) }
+        ensures field { filled result.well ≡ locked (filled self.now.well) placement.now }
+        ensures rows { result.rows ≡ self.now.rows - rows_removed (filled self.now.well) placement.now }
+    {
+        let (well, removed) = self.well.lock(placement);
+        Position {
+            well,
+            rows: self.rows.saturating_sub(removed),
+        }
+    }
+
+    /// The positions after the places of a piece that lie below the rows left. Adds one step.
+    pub fn children<L: Ledger>(
+        &self,
+        alloc: Global,
+        game: &Game,
+        piece: Piece,
+        steps: &mut Steps<L>,
+    ) -> Result<Vec<Position>, NoMemory>
+        ensures good { IfOk result (λ v. (left hand : ℕ) → is_good_at game.now v.items left hand
+            ≡ is_good_after game.now (filled self.now.well) self.now.rows piece left hand) }
+        ensures counted { steps.new ≡ steps.old + 1 }
+    {
+        let places = places(&self.well, &game.rules, piece, game.drop_mode, steps);
+        let mut children = Vec::new(alloc);
+        let mut last = None;
+        while let Some(placement) = places.next_after(last.as_ref()) {
+            if lies_below(&placement, self.rows) {
+                children.push(self.after(&placement))?;
+            }
+            last = Some(placement);
+        }
+        Ok(children)
+    }
+}

@@ -1,0 +1,99 @@
+// Where the search for good hands begins.
+ghost use Rattle.std.specs.Prelude.{◌≡◌, ℕ, ◌≤◌, ◌<◌, ◌&&◌, ◌↔◌, IsTrue, IfOk, length};
+ghost use Rattle.well.specs.Well.{filled};
+ghost use Rattle.queue_pattern.specs.Pattern.{elements_of};
+ghost use Rattle.queue_pattern.specs.Queues.{queues};
+ghost use Rattle.number_sets.specs.Rising.{IsRising, has};
+ghost use Rattle.enumerate.specs.Problem.{IsFit, needed_of};
+ghost use Rattle.percent.specs.Good.{Good};
+ghost use Rattle.percent.specs.GoodHands.{game_of, hand_at, is_good};
+
+use crate::answered::answered;
+use crate::game::Game;
+use crate::hand::hand_of;
+use crate::kept::Kept;
+use crate::position::Position;
+use enumerate::{Problem, needed};
+use number_sets::holds;
+use pc_outside::NoMemory;
+use queue_pattern::Queue;
+use reach::Steps;
+use std::alloc::Global;
+use std::sync::ledger::Ledger;
+
+/// The game of a problem.
+fn game(problem: &Problem) -> Game
+    ensures { result ≡ game_of problem.now }
+{
+    Game {
+        rules: problem.rules,
+        drop_mode: problem.drop_mode,
+        hold: problem.hold,
+    }
+}
+
+/// The position at which the search begins.
+fn first_position(problem: &Problem) -> Position
+    requires { IsFit problem.now }
+    ensures well { result.well ≡ problem.now.well }
+    ensures rows { result.rows ≡ problem.now.height }
+{
+    Position {
+        well: problem.well,
+        rows: problem.height,
+    }
+}
+
+/// For how many positions answers are kept, where so many hands are asked about.
+fn room_for(hands: usize) -> usize {
+    if hands < 1024 { 8192 } else { 262_144 }
+}
+
+/// The good ones of some hands. Where the empty cells below the height are no multiple of four there are none.
+pub fn good_hands<L: Ledger>(
+    alloc: Global,
+    problem: &Problem,
+    hands: &[u64],
+    steps: &mut Steps<L>,
+) -> Result<Vec<u64>, NoMemory>
+    requires fit { IsFit problem.now }
+    requires rises { IsRising hands.now }
+    ensures rises { IfOk result (λ v. IsRising v.items) }
+    ensures members { IfOk result (λ v. (hand : ℕ) → has v.items hand ≡ (has hands.now hand
+        && is_good (game_of problem.now) (filled problem.now.well) problem.now.height (needed_of problem.now) hand)) }
+    ensures counted { steps.old ≤ steps.new }
+{
+    if problem.well.empties_below(problem.height) % 4 != 0 {
+        return Ok(Vec::new(alloc));
+    }
+    let mut kept = Kept::new(alloc, game(problem), room_for(hands.len()))?;
+    let position = first_position(problem);
+    answered(alloc, &mut kept, &position, needed(problem), hands, steps)
+}
+
+/// The hand of the queue with this number, from 0.
+pub fn hand(problem: &Problem, number: u32) -> u64
+    requires fit { IsFit problem.now }
+    requires within { number < length (queues (elements_of problem.now.pattern)) }
+    ensures { result ≡ hand_at problem.now number }
+{
+    let queue = problem.pattern.queue(number);
+    hand_of(problem.hold, problem.held, needed(problem), &queue)
+}
+
+/// Whether a queue is good: whether it permits the pieces of some sequence that plays in the problem. Adds a step for
+/// each flood. Want of memory is the only refusal.
+pub fn solvable<L: Ledger>(
+    alloc: Global,
+    problem: &Problem,
+    queue: &Queue,
+    steps: &mut Steps<L>,
+) -> Result<bool, NoMemory>
+    requires { IsFit problem.now }
+    ensures good { IfOk result (λ good. IsTrue good ↔ Good problem.now queue.now.items) }
+    ensures counted { steps.old ≤ steps.new }
+{
+    let hand = hand_of(problem.hold, problem.held, needed(problem), queue);
+    let good = good_hands(alloc, problem, &[hand], steps)?;
+    Ok(holds(good.as_slice(), hand))
+}

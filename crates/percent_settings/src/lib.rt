@@ -1,0 +1,6 @@
+// What `percent` is asked for.
+#![tactic(auto)]
+
+mod percent;
+
+pub use percent::PercentSettings;
