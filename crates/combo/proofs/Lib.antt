@@ -1,0 +1,5 @@
+-- Lemmas on runs.
+mod BestLemmas
+mod TurnLemmas
+mod PlaceFree
+mod PlacesLeft

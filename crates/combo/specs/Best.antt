@@ -1,0 +1,44 @@
+-- The best of some runs: the first one in an order of runs, in which a longer run comes first.
+use Rattle.std.specs.Prelude.{◌≡◌, ◌≤◌, false, List, [], ◌∷◌, length, Option, Some, None}
+use Rattle.std.specs.Ordering.{nat_cmp, is_gt, ordering_then}
+use Rattle.std.specs.declared.cmp.Ordering.{Ordering}
+use Rattle.lane_board.specs.Field.{Field}
+use Rattle.lists.specs.Rising.{is_above}
+use Rattle.srs.specs.declared.placement.Placement.{Placement}
+use Rattle.srs.specs.Kick.{Table}
+use Rattle.srs.specs.Order.{placement_cmp, sequence_cmp}
+use Rattle.well.specs.Lock.{locked, rows_removed}
+use Rattle.moves.specs.declared.key.DropMode.{DropMode}
+use Rattle.moves.specs.Place.{IsPlace}
+use Rattle.hold_queue.specs.declared.hold.Hold.{Hold}
+use Rattle.combo.specs.Longest.{IsPermittedRun}
+use Rattle.combo.specs.Turns.{Next}
+
+-- the longer one first, and of two that are as long the one that comes before
+abbrev pub run_cmp : List Placement → List Placement → Ordering
+run_cmp run other = ordering_then (nat_cmp (length other) (length run)) (sequence_cmp run other)
+
+-- one of them, and none of them comes before it
+pub record IsBest (IsMember : List Placement → Type 0) (run : List Placement) : Type 0 where
+  pub member : IsMember run
+  pub first : (other : List Placement) → IsMember other → is_gt (run_cmp run other) ≡ false
+
+-- no placement; or a first one of the next piece, not above a bound, and a run from what is left after it
+abbrev pub GoesOn : Table → DropMode → Hold → Field → Next → List Placement → Type 0
+GoesOn table mode hold F next [] = Unit {0}
+GoesOn table mode hold F next (placement ∷ rest) =
+    (placement.piece ≡ next.piece) × IsPlace table F mode placement × (1 ≤ rows_removed F placement)
+    × IsPermittedRun table mode (locked F placement) hold next.queue next.held rest
+
+-- the same with a first placement that is not above a bound
+abbrev pub IsUpTo : Option Placement → List Placement → Type 0
+IsUpTo bound [] = Unit {0}
+IsUpTo bound (placement ∷ rest) = is_above placement_cmp bound placement ≡ false
+
+abbrev pub GoesOnUpTo : Table → DropMode → Hold → Field → Next → Option Placement → List Placement → Type 0
+GoesOnUpTo table mode hold F next bound run = GoesOn table mode hold F next run × IsUpTo bound run
+
+-- the runs that begin with a next piece, if there is one
+abbrev pub GoesOnIf : Table → DropMode → Hold → Field → Option Next → List Placement → Type 0
+GoesOnIf table mode hold F None run = run ≡ []
+GoesOnIf table mode hold F (Some next) run = GoesOn table mode hold F next run

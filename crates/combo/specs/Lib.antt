@@ -1,0 +1,6 @@
+-- What a reader must believe
+pub mod Runs
+pub mod Longest
+-- What serves proofs alone
+pub mod Best
+pub mod Turns

@@ -1,0 +1,47 @@
+-- The next piece that is played, by the first piece of the queue or by hold.
+use Rattle.std.specs.Prelude.{ℕ, ◌+◌, ◌-◌, List, [], ◌∷◌, length, drop, Option, Some, None}
+use Rattle.srs.specs.declared.piece.Piece.{Piece}
+use Rattle.hold_queue.specs.declared.hold.Hold.{Hold}
+use Rattle.hold_queue.specs.declared.hold.Hold.TheVariants.{Allowed, Avoided}
+use Rattle.combo.specs.declared.hand.Hand.{Hand}
+use Rattle.combo.specs.declared.hand.Turn.{Turn}
+
+-- a piece that is played, the queue that is left, and what is held afterwards
+pub record Next : Type 0 where
+  pub piece : Piece
+  pub queue : List Piece
+  pub held : Option Piece
+
+-- the first piece of the queue
+abbrev pub plain_next : List Piece → Option Piece → Option Next
+plain_next [] held = None
+plain_next (piece ∷ queue) held = Some (record { piece = piece; queue = queue; held = held })
+
+-- the held piece, or the second one with the first one held
+abbrev pub second_next : Piece → List Piece → Option Next
+second_next first [] = None
+second_next first (piece ∷ queue) = Some (record { piece = piece; queue = queue; held = Some first })
+
+abbrev pub hold_next : Hold → List Piece → Option Piece → Option Next
+hold_next Avoided queue held = None
+hold_next Allowed [] None = None
+hold_next Allowed [] (Some piece) = Some (record { piece = piece; queue = []; held = None })
+hold_next Allowed (first ∷ queue) (Some piece) = Some (record { piece = piece; queue = queue; held = Some first })
+hold_next Allowed (first ∷ queue) None = second_next first queue
+
+-- what is left of a queue of which so many pieces were taken
+abbrev pub next_of : List Piece → Turn → Next
+next_of queue turn = record { piece = turn.piece; queue = drop turn.hand.taken queue; held = turn.hand.held }
+
+-- how many pieces are at hand
+abbrev pub held_count : Option Piece → ℕ
+held_count None = 0
+held_count (Some piece) = 1
+
+abbrev pub hand_count : List Piece → Hand → ℕ
+hand_count queue hand = (length queue - hand.taken) + held_count hand.held
+
+-- how many pieces a turn plays and leaves at hand
+abbrev pub turn_count : List Piece → Option Turn → ℕ
+turn_count queue None = 0
+turn_count queue (Some turn) = hand_count queue turn.hand + 1

@@ -1,0 +1,104 @@
+// The pieces at hand: what is left of a queue, and a held piece.
+ghost use Rattle.std.specs.Prelude.{◌≡◌, ◌<◌, ◌≤◌, ◌+◌, IfSome, Some, None, ◌-◌, drop, length};
+ghost use Rattle.hold_queue.specs.declared.hold.Hold.{Hold};
+ghost use Rattle.std.specs.Option.{option_map};
+ghost use Rattle.combo.specs.Turns.{plain_next, second_next, hold_next, next_of, hand_count, held_count};
+
+use hold_queue::Hold;
+use srs::Piece;
+
+/// How many pieces of the queue are taken, and which piece is held.
+#[derive(Clone, Copy)]
+pub struct Hand {
+    pub taken: usize,
+    pub held: Option<Piece>,
+}
+
+/// A piece that is played, and the hand that is left.
+#[derive(Clone, Copy)]
+pub struct Turn {
+    pub piece: Piece,
+    pub hand: Hand,
+}
+
+/// How many pieces are at hand.
+pub fn count(queue: &[Piece], hand: Hand) -> usize
+    requires { hand_count queue.now hand ≤ 23 }
+    ensures { result ≡ hand_count queue.now hand }
+{
+    queue.len().saturating_sub(hand.taken) + held_count(hand.held)
+}
+
+fn held_count(held: Option<Piece>) -> usize
+    ensures { result ≡ held_count held }
+{
+    match held {
+        Some(_) => 1,
+        None => 0,
+    }
+}
+
+/// Plays the first piece of the queue.
+pub fn plain_turn(queue: &[Piece], hand: Hand) -> Option<Turn>
+    ensures next { option_map (next_of queue.now) result ≡ plain_next (drop hand.taken queue.now) hand.held }
+    ensures fewer { IfSome result (λ turn. hand_count queue.now turn.hand + 1 ≤ hand_count queue.now hand) }
+{
+    let piece = *queue.get(hand.taken)?;
+    Some(Turn {
+        piece,
+        hand: Hand {
+            taken: hand.taken + 1,
+            held: hand.held,
+        },
+    })
+}
+
+/// Plays the held piece, and holds the first one of the queue, if any.
+fn exchanged(queue: &[Piece], piece: Piece, taken: usize) -> Turn
+    ensures next { Some (next_of queue.now result) ≡ hold_next Hold.Allowed (drop taken queue.now) (Some piece) }
+    ensures fewer { hand_count queue.now result.hand + 1 ≤ (length queue.now - taken) + 1 }
+{
+    match queue.get(taken) {
+        Some(first) => Turn {
+            piece,
+            hand: Hand {
+                taken: taken + 1,
+                held: Some(*first),
+            },
+        },
+        None => Turn {
+            piece,
+            hand: Hand { taken, held: None },
+        },
+    }
+}
+
+/// Plays the second piece of the queue, and holds the first one.
+fn second_turn(queue: &[Piece], taken: usize) -> Option<Turn>
+    ensures next { option_map (next_of queue.now) result ≡ hold_next Hold.Allowed (drop taken queue.now) None }
+    ensures fewer { IfSome result (λ turn. hand_count queue.now turn.hand + 1 ≤ length queue.now - taken) }
+{
+    let first = *queue.get(taken)?;
+    let piece = *queue.get(taken + 1)?;
+    Some(Turn {
+        piece,
+        hand: Hand {
+            taken: taken + 2,
+            held: Some(first),
+        },
+    })
+}
+
+/// Plays the held piece, or the second one of the queue with the first one held.
+pub fn hold_turn(queue: &[Piece], hold: Hold, hand: Hand) -> Option<Turn>
+    ensures next { option_map (next_of queue.now) result ≡ hold_next hold (drop hand.taken queue.now) hand.held }
+    ensures fewer { IfSome result (λ turn. hand_count queue.now turn.hand + 1 ≤ hand_count queue.now hand) }
+{
+    match hold {
+        Hold::Avoided => None,
+        Hold::Allowed => match hand.held {
+            Some(piece) => Some(exchanged(queue, piece, hand.taken)),
+            None => second_turn(queue, hand.taken),
+        },
+    }
+}

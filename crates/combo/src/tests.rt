@@ -1,0 +1,55 @@
+// Longest runs of small fields.
+ghost use Rattle.std.specs.Prelude.{◌≡◌, ◌<◌};
+
+use crate::{Run, longest};
+use hold_queue::Hold;
+use moves::DropMode;
+use queue_pattern::Queue;
+use reach::Steps;
+use srs::{Piece, Placement, Rotation, Rules};
+use std::marker::Brand;
+use std::sync::ledger::{Blank, Ledger};
+use std::test::Fail;
+use well::Well;
+
+fn queue_of(first: Piece, second: Piece) -> Queue {
+    let mut queue = Queue::new();
+    queue.push(first);
+    queue.push(second);
+    queue
+}
+
+fn longest_of<L: Ledger>(blank: Blank, well: &Well, queue: &Queue) -> Run
+    requires name { blank.name ≡ L.name }
+    requires parts { blank.parts ≡ L.parts }
+    requires some { 0 < blank.parts }
+{
+    let mut steps = Steps::<L>::new(blank);
+    longest(
+        well,
+        &Rules::srs(),
+        DropMode::Soft,
+        queue,
+        Hold::Avoided,
+        None,
+        &mut steps,
+    )
+}
+
+#[test]
+fn a_straight_piece_clears_twice(rt: HostRuntime) -> Result<(), Fail> {
+    let rows = Well::from_rows(b"XXXXXX____/XXXXXX____");
+    assert!(rt; rows.is_ok());
+    if let Ok(well) = rows {
+        let queue = queue_of(Piece::I, Piece::I);
+        let run = longest_of::<Brand>(Blank::new(1), &well, &queue);
+        let flat = Placement {
+            piece: Piece::I,
+            rotation: Rotation::Spawn,
+            x: 7,
+            y: 0,
+        };
+        assert_eq!(rt; run.as_slice(), [flat, flat].as_slice());
+    }
+    Ok(())
+}

@@ -1,0 +1,11 @@
+-- Lemmas on table texts.
+mod GivenLemmas
+mod Steps
+mod Numbers
+mod Entries
+mod SpelledIsRead
+mod ReadIsSpelled
+mod Standing
+mod Moving
+mod OneReading
+mod PrintLemmas

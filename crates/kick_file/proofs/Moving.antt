@@ -1,0 +1,257 @@
+-- Where a text stands after one more byte.
+use Rattle.std.proofs.Common.{◌≡◌, ℕ, ◌+◌, ℤ, Bool, true, false, cond, not, ◌&&◌, ◌==◌, nat_lt, eqb-true, ltb-true, List, [], ◌∷◌, ◌++◌, length, refl, ap, sym, subst, ◌∙◌, arith, Option, Some, None, append_assoc, inl, inr}
+use Rattle.std.specs.Option.{option_map}
+use Rattle.std.proofs.lemmas.Bool.{and_parts, cases_Bool}
+use Rattle.std.proofs.lemmas.List.{append-nil, length_push, flat_map_more}
+use Rattle.std.proofs.lemmas.Option.{none-some, same_Some, cond_some}
+use Rattle.srs.specs.declared.piece.Piece.{Piece}
+use Rattle.srs.specs.declared.offset.Offset.{Offset}
+use Rattle.srs.specs.Cells.{Cell}
+use Rattle.srs.specs.Kick.{Table, table_with, pair_of}
+use Rattle.srs.specs.Piece.{piece_with_letter}
+use Rattle.srs.specs.Rotation.{rotation_letter, rotation_with_letter}
+use Rattle.kick_file.specs.declared.turned.TurnedPiece.{TurnedPiece}
+use Rattle.kick_file.specs.declared.position.Position.{Position}
+use Rattle.kick_file.specs.declared.position.Position.TheVariants.{Beginning, Division, Letter, Letters, Columns, Comma, Rows, Whole}
+use Rattle.kick_file.specs.Form.{Entry, number_form, offset_form, turned_of, table_of_entries}
+use Rattle.kick_file.specs.Faults.{SpellsBefore}
+use Rattle.kick_file.specs.Reading.{is_small_number, number_with_digit, next}
+use Rattle.kick_file.proofs.GivenLemmas.{not_true}
+use Rattle.kick_file.proofs.Entries.{put_from}
+use Rattle.kick_file.proofs.ReadIsSpelled.{one_more_before, ended_offsets, all_small}
+use Rattle.kick_file.proofs.Standing.{Here, Kept, AfterLetter, AfterLetters, Part, WholePart, finished, sign, number_found, rotation_found, small_offset, part_longer, put_more}
+
+-- what is kept where the text stands now
+unfoldable pub given_then : List TurnedPiece → Position → List TurnedPiece
+given_then given (Letters turned start) = given ++ turned ∷ []
+given_then given other = given
+
+unfoldable pub table_then : Table → Position → Table
+table_then table (Whole turned test offset) = table_with table turned.piece turned.rotation test (pair_of offset)
+table_then table other = table
+
+pub record Moved (text : List ℕ) (given : List TurnedPiece) (table : Table) (to : Position) : Type 0 where
+  pub entries : List Entry
+  pub here : Here text entries (given_then given to) (table_then table to) to
+
+record Mapped {A B : Type 0} (f : A → B) (o : Option A) (b : B) : Type 0 where
+  a : A
+  is : o ≡ Some a
+  to : f a ≡ b
+
+mapped : {A B : Type 0} (f : A → B) (o : Option A) (b : B) → option_map f o ≡ Some b → Mapped f o b
+mapped f None b h = absurd (none-some b h)
+mapped f (Some a) b h = record { a = a; is = refl; to = same_Some (f a) b h }
+
+letter_moved : (text : List ℕ) (byte place : ℕ) (entries : List Entry) (given : List TurnedPiece) (table : Table) (to : Position) → SpellsBefore text entries → Kept entries given table
+    → place ≡ length text → option_map (λ piece. Letter piece place) (piece_with_letter byte) ≡ Some to → Moved (text ++ byte ∷ []) given table to
+unfolding given_then table_then
+letter_moved text byte place entries given table to spelled kept stands is =
+    let found = mapped (λ piece. Letter piece place) (piece_with_letter byte) to is in
+    subst (Moved (text ++ byte ∷ []) given table) found.to (record {
+      entries = entries;
+      here = (record { before = text; letter = byte; spelled = spelled; named = found.is; whole = refl; starts = stands }, kept);
+    })
+
+letters_moved : (text : List ℕ) (byte place start : ℕ) (piece : Piece) (entries : List Entry) (given : List TurnedPiece) (table : Table) (to : Position) → AfterLetter text entries piece start
+    → Kept entries given table → option_map (λ rotation. Letters (record { piece = piece; rotation = rotation }) start) (rotation_with_letter byte) ≡ Some to
+    → Moved (text ++ byte ∷ []) given table to
+unfolding given_then table_then
+letters_moved text byte place start piece entries given table to after kept is =
+    let found = mapped (λ rotation. Letters (record { piece = piece; rotation = rotation }) start) (rotation_with_letter byte) to is in
+    let turned : TurnedPiece = record { piece = piece; rotation = found.a } in
+    subst (Moved (text ++ byte ∷ []) given table) found.to (record {
+      entries = entries;
+      here = (
+        record {
+          before = after.before;
+          letter = after.letter;
+          spelled = after.spelled;
+          named = after.named;
+          whole = ap (λ t. t ++ byte ∷ []) after.whole ∙ append_assoc after.before (after.letter ∷ []) (byte ∷ [])
+              ∙ ap (λ b. after.before ++ after.letter ∷ b ∷ []) (rotation_found byte found.a found.is);
+          starts = after.starts;
+        },
+        ap (λ names. names ++ turned ∷ []) kept.names,
+        kept.is,
+      );
+    })
+
+colon_moved : (text : List ℕ) (byte place start : ℕ) (turned : TurnedPiece) (entries : List Entry) (given : List TurnedPiece) (table : Table) (to : Position) → AfterLetters text entries turned start
+    → given ≡ turned_of entries ++ turned ∷ [] → table ≡ table_of_entries entries → cond (byte == 58) (Some (Columns turned 1 false)) None ≡ Some to
+    → Moved (text ++ byte ∷ []) given table to
+unfolding given_then table_then
+colon_moved text byte place start turned entries given table to after names is next_is =
+    let found = cond_some (byte == 58) (Columns turned 1 false) to next_is in
+    subst (Moved (text ++ byte ∷ []) given table) found.1 (record {
+      entries = entries;
+      here = record {
+        cells = [];
+        stands = record {
+          before = after.before;
+          letter = after.letter;
+          spelled = after.spelled;
+          named = after.named;
+          small = refl;
+          whole = ap (λ t. t ++ byte ∷ []) after.whole ∙ append_assoc after.before (after.letter ∷ rotation_letter turned.rotation ∷ []) (byte ∷ [])
+              ∙ ap (λ b. after.before ++ after.letter ∷ rotation_letter turned.rotation ∷ b ∷ []) (eqb-true byte 58 found.0);
+        };
+        number = refl;
+        most = omega arith;
+        names = names;
+        put = is;
+      };
+    })
+
+-- the sign of a number, or its digit
+record Signed (byte : ℕ) (is_negative : Bool) : Type 0 where
+  minus_sign : byte ≡ 45
+  none : is_negative ≡ false
+
+signed : (byte : ℕ) (is_negative : Bool) → (byte == 45 && not is_negative) ≡ true → Signed byte is_negative
+signed byte is_negative h =
+    let parts = and_parts (byte == 45) (not is_negative) h in
+    record { minus_sign = eqb-true byte 45 parts.0; none = not_true is_negative parts.1 }
+
+columns_moved : (text : List ℕ) (byte place : ℕ) (turned : TurnedPiece) (test : ℕ) (is_negative : Bool) (entries : List Entry) (given : List TurnedPiece) (table : Table) (to : Position)
+    → Part text entries given table turned test (sign is_negative)
+    → cond (byte == 45 && not is_negative) (Some (Columns turned test true)) (option_map (λ dx. Comma turned test dx) (number_with_digit is_negative byte)) ≡ Some to
+    → Moved (text ++ byte ∷ []) given table to
+unfolding given_then table_then
+columns_moved text byte place turned test is_negative entries given table to here next_is = elim (cases_Bool (byte == 45 && not is_negative)) [
+  | inl negative_next ↦
+      let s = signed byte is_negative negative_next in
+      let to_is = same_Some (Columns turned test true) to (sym (ap (λ b. cond b (Some (Columns turned test true)) (option_map (λ dx. Comma turned test dx) (number_with_digit is_negative byte))) negative_next) ∙ next_is) in
+      subst (Moved (text ++ byte ∷ []) given table) to_is (record {
+        entries = entries;
+        here = part_longer text entries given table turned test (sign is_negative) (45 ∷ []) byte here
+            (ap (λ n. sign n ++ byte ∷ []) s.none ∙ ap (λ b. b ∷ []) s.minus_sign);
+      })
+  | inr digit ↦
+      let found = mapped (λ dx. Comma turned test dx) (number_with_digit is_negative byte) to
+      (sym (ap (λ b. cond b (Some (Columns turned test true)) (option_map (λ dx. Comma turned test dx) (number_with_digit is_negative byte))) digit) ∙ next_is) in
+      let number = number_found is_negative byte found.a found.is in
+      subst (Moved (text ++ byte ∷ []) given table) found.to (record {
+        entries = entries;
+        here = (part_longer text entries given table turned test (sign is_negative) (number_form found.a) byte here number.form, number.small);
+      })
+]
+
+comma_moved : (text : List ℕ) (byte place : ℕ) (turned : TurnedPiece) (test : ℕ) (dx : ℤ) (entries : List Entry) (given : List TurnedPiece) (table : Table) (to : Position)
+    → Part text entries given table turned test (number_form dx) → is_small_number dx ≡ true → cond (byte == 44) (Some (Rows turned test dx false)) None ≡ Some to
+    → Moved (text ++ byte ∷ []) given table to
+unfolding given_then table_then
+comma_moved text byte place turned test dx entries given table to here small next_is =
+    let found = cond_some (byte == 44) (Rows turned test dx false) to next_is in
+    subst (Moved (text ++ byte ∷ []) given table) found.1 (record {
+      entries = entries;
+      here = (
+        part_longer text entries given table turned test (number_form dx) (number_form dx ++ 44 ∷ []) byte here
+            (ap (λ b. number_form dx ++ b ∷ []) (eqb-true byte 44 found.0)),
+        small,
+      );
+    })
+
+rows_moved : (text : List ℕ) (byte place : ℕ) (turned : TurnedPiece) (test : ℕ) (dx : ℤ) (is_negative : Bool) (entries : List Entry) (given : List TurnedPiece) (table : Table) (to : Position)
+    → Part text entries given table turned test (number_form dx ++ 44 ∷ sign is_negative) → is_small_number dx ≡ true
+    → cond (byte == 45 && not is_negative) (Some (Rows turned test dx true)) (option_map (λ dy. Whole turned test (record { dx = dx; dy = dy })) (number_with_digit is_negative byte)) ≡ Some to
+    → Moved (text ++ byte ∷ []) given table to
+unfolding given_then table_then
+rows_moved text byte place turned test dx is_negative entries given table to here small next_is = elim (cases_Bool (byte == 45 && not is_negative)) [
+  | inl negative_next ↦
+      let s = signed byte is_negative negative_next in
+      let to_is = same_Some (Rows turned test dx true) to
+      (sym (ap (λ b. cond b (Some (Rows turned test dx true)) (option_map (λ dy. Whole turned test (record { dx = dx; dy = dy })) (number_with_digit is_negative byte))) negative_next) ∙ next_is) in
+      subst (Moved (text ++ byte ∷ []) given table) to_is (record {
+        entries = entries;
+        here = (
+          part_longer text entries given table turned test (number_form dx ++ 44 ∷ sign is_negative) (number_form dx ++ 44 ∷ 45 ∷ []) byte here
+              (append_assoc (number_form dx) (44 ∷ sign is_negative) (byte ∷ [])
+              ∙ ap (λ n. number_form dx ++ 44 ∷ (sign n ++ byte ∷ [])) s.none ∙ ap (λ b. number_form dx ++ 44 ∷ b ∷ []) s.minus_sign),
+          small,
+        );
+      })
+  | inr digit ↦
+      let found = mapped (λ dy. Whole turned test (record { dx = dx; dy = dy })) (number_with_digit is_negative byte) to
+      (sym (ap (λ b. cond b (Some (Rows turned test dx true)) (option_map (λ dy. Whole turned test (record { dx = dx; dy = dy })) (number_with_digit is_negative byte))) digit) ∙ next_is) in
+      let number = number_found is_negative byte found.a found.is in
+      subst (Moved (text ++ byte ∷ []) given table) found.to (record {
+        entries = entries;
+        here = record {
+          old = table;
+          part = part_longer text entries given table turned test (number_form dx ++ 44 ∷ sign is_negative) (offset_form (dx, found.a)) byte here
+              (append_assoc (number_form dx) (44 ∷ sign is_negative) (byte ∷ []) ∙ ap (λ t. number_form dx ++ 44 ∷ t) number.form);
+          small = small_offset dx found.a small number.small;
+          is = refl;
+        };
+      })
+]
+
+-- the next offset of an entry
+slash_part : (text : List ℕ) (turned : TurnedPiece) (test : ℕ) (cell : Cell) (entries : List Entry) (given : List TurnedPiece) (table : Table)
+    → WholePart text entries given table turned test cell → nat_lt test 5 ≡ true → Part (text ++ 47 ∷ []) entries given table turned (test + 1) []
+slash_part text turned test cell entries given table here more =
+    let part = here.part in
+    let stands = part.stands in
+    let below = ltb-true test 5 more in
+    let form : (ended_offsets part.cells ++ offset_form cell) ++ 47 ∷ [] ≡ ended_offsets (part.cells ++ cell ∷ []) ++ [] =
+    append_assoc (ended_offsets part.cells) (offset_form cell) (47 ∷ []) ∙ flat_map_more (λ c. offset_form c ++ 47 ∷ []) [] part.cells cell
+    ∙ sym (append-nil (ended_offsets (part.cells ++ cell ∷ []))) in
+    let fifth : 1 + length part.cells ≡ test = omega (arith, part.number) in
+    record {
+      cells = part.cells ++ cell ∷ [];
+      stands = record {
+        before = stands.before;
+        letter = stands.letter;
+        spelled = stands.spelled;
+        named = stands.named;
+        small = all_small part.cells cell [] stands.small here.small refl;
+        whole = ap (λ t. t ++ 47 ∷ []) stands.whole
+            ∙ append_assoc stands.before (stands.letter ∷ rotation_letter turned.rotation ∷ 58 ∷ (ended_offsets part.cells ++ offset_form cell)) (47 ∷ [])
+            ∙ ap (λ t. stands.before ++ stands.letter ∷ rotation_letter turned.rotation ∷ 58 ∷ t) form;
+      };
+      number = omega (arith, part.number, length_push part.cells cell);
+      most = omega (arith, below);
+      names = part.names;
+      put = here.is ∙ ap (λ t. table_with t turned.piece turned.rotation test cell) part.put
+          ∙ ap (λ n. table_with (put_from (table_of_entries entries) turned 1 part.cells) turned.piece turned.rotation n cell) (sym fifth)
+          ∙ sym (put_more (table_of_entries entries) turned 1 part.cells cell);
+    }
+
+whole_moved : (text : List ℕ) (byte place : ℕ) (turned : TurnedPiece) (test : ℕ) (offset : Offset) (entries : List Entry) (given : List TurnedPiece) (table : Table) (to : Position)
+    → WholePart text entries given table turned test (pair_of offset)
+    → cond (nat_lt test 5) (cond (byte == 47) (Some (Columns turned (test + 1) false)) None) (cond (byte == 59) (Some Division) None) ≡ Some to
+    → Moved (text ++ byte ∷ []) given table to
+unfolding given_then table_then
+whole_moved text byte place turned test offset entries given table to here next_is = elim (cases_Bool (nat_lt test 5)) [
+  | inl more ↦
+      let found = cond_some (byte == 47) (Columns turned (test + 1) false) to
+      (sym (ap (λ b. cond b (cond (byte == 47) (Some (Columns turned (test + 1) false)) None) (cond (byte == 59) (Some Division) None)) more) ∙ next_is) in
+      subst (λ b. Moved (text ++ b ∷ []) given table to) (sym (eqb-true byte 47 found.0))
+      (subst (Moved (text ++ 47 ∷ []) given table) found.1 (record { entries = entries; here = slash_part text turned test (pair_of offset) entries given table here more }))
+  | inr done ↦
+      let found = cond_some (byte == 59) Division to
+      (sym (ap (λ b. cond b (cond (byte == 47) (Some (Columns turned (test + 1) false)) None) (cond (byte == 59) (Some Division) None)) done) ∙ next_is) in
+      let end = finished text entries given table turned test (pair_of offset) here done in
+      let form : text ++ 59 ∷ [] ≡ end.before ++ (end.last ++ 59 ∷ []) = ap (λ t. t ++ 59 ∷ []) end.whole ∙ append_assoc end.before end.last (59 ∷ []) in
+      subst (λ b. Moved (text ++ b ∷ []) given table to) (sym (eqb-true byte 59 found.0))
+      (subst (Moved (text ++ 59 ∷ []) given table) found.1 (record {
+        entries = entries ++ end.entry ∷ [];
+        here = (
+          subst (λ t. SpellsBefore t (entries ++ end.entry ∷ [])) (sym form) (one_more_before end.before end.last entries end.entry end.spelled end.entry_spelled),
+          record { names = end.names; is = end.is },
+        );
+      }))
+]
+
+pub moved : (text : List ℕ) (byte place : ℕ) (entries : List Entry) (given : List TurnedPiece) (table : Table) (position to : Position) → Here text entries given table position
+    → place ≡ length text → next position place byte ≡ Some to → Moved (text ++ byte ∷ []) given table to
+moved text byte place entries given table Beginning to here stands is =
+    letter_moved text byte place entries given table to (subst (λ es. SpellsBefore text es) (sym here.1) here.0) here.2 stands is
+moved text byte place entries given table Division to here stands is = letter_moved text byte place entries given table to here.0 here.1 stands is
+moved text byte place entries given table (Letter piece start) to here stands is = letters_moved text byte place start piece entries given table to here.0 here.1 is
+moved text byte place entries given table (Letters turned start) to here stands is = colon_moved text byte place start turned entries given table to here.0 here.1 here.2 is
+moved text byte place entries given table (Columns turned test is_negative) to here stands is = columns_moved text byte place turned test is_negative entries given table to here is
+moved text byte place entries given table (Comma turned test dx) to here stands is = comma_moved text byte place turned test dx entries given table to here.0 here.1 is
+moved text byte place entries given table (Rows turned test dx is_negative) to here stands is = rows_moved text byte place turned test dx is_negative entries given table to here.0 here.1 is
+moved text byte place entries given table (Whole turned test offset) to here stands is = whole_moved text byte place turned test offset entries given table to here is

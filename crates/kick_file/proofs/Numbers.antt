@@ -1,0 +1,93 @@
+-- Numbers and offsets are read as they are written.
+use Rattle.std.proofs.Common.{◌≡◌, ℕ, zero, suc, ◌≤◌, Bool, true, false, ◌&&◌, nat_le, leb-true, ℤ, pos, negsuc, List, [], ◌∷◌, refl, arith, Ok}
+use Rattle.std.specs.Prelude.{int_le}
+use Rattle.std.proofs.lemmas.Bool.{false≢true}
+use Rattle.srs.specs.Cells.{Cell, minus}
+use Rattle.srs.specs.Kick.{Table, table_with, is_small_move}
+use Rattle.lists.proofs.CallerLemmas.{and_first, and_second}
+use Rattle.kick_file.specs.declared.turned.TurnedPiece.{TurnedPiece}
+use Rattle.kick_file.specs.declared.position.Position.{Position}
+use Rattle.kick_file.specs.declared.position.Position.TheVariants.{Columns, Comma, Rows, Whole}
+use Rattle.kick_file.specs.Form.{number_form, offset_form}
+use Rattle.kick_file.specs.Reading.{is_small_number, step, Reading}
+use Rattle.kick_file.proofs.Steps.{at, Passes, one_byte, both}
+
+below_four : (P : ℕ → Type 0) → P 0 → P 1 → P 2 → P 3 → (n : ℕ) → n ≤ 3 → P n
+below_four P a b c d zero within = a
+below_four P a b c d (suc zero) within = b
+below_four P a b c d (suc (suc zero)) within = c
+below_four P a b c d (suc (suc (suc zero))) within = d
+below_four P a b c d (suc (suc (suc (suc n)))) within = absurd (omega (arith, within))
+
+below_three : (P : ℕ → Type 0) → P 0 → P 1 → P 2 → (n : ℕ) → n ≤ 2 → P n
+below_three P a b c zero within = a
+below_three P a b c (suc zero) within = b
+below_three P a b c (suc (suc zero)) within = c
+below_three P a b c (suc (suc (suc n))) within = absurd (omega (arith, within))
+
+-- a fact of each small number
+pub each_small : (P : ℤ → Type 0) → P (pos 0) → P (pos 1) → P (pos 2) → P (pos 3) → P (minus 1) → P (minus 2) → P (minus 3)
+    → (z : ℤ) → is_small_number z ≡ true → P z
+each_small P a b c d x y z (pos n) small = below_four (λ n. P (pos n)) a b c d n (leb-true n 3 (and_second true (nat_le n 3) small))
+each_small P a b c d x y z (negsuc n) small = below_three (λ n. P (negsuc n)) x y z n (leb-true n 2 (and_first (nat_le n 2) true small))
+
+-- the columns of an offset
+pub columns_pass : (given : List TurnedPiece) (table : Table) (turned : TurnedPiece) (test : ℕ) (z : ℤ) → is_small_number z ≡ true
+    → Passes (at given table (Columns turned test false)) (number_form z) (at given table (Comma turned test z))
+unfolding step
+columns_pass given table turned test = each_small P (plain 48 (pos 0) (λ place. refl)) (plain 49 (pos 1) (λ place. refl)) (plain 50 (pos 2) (λ place. refl))
+    (plain 51 (pos 3) (λ place. refl)) (below 49 (minus 1) (λ place. refl)) (below 50 (minus 2) (λ place. refl)) (below 51 (minus 3) (λ place. refl))
+  where
+    P : ℤ → Type 0
+    P z = Passes (at given table (Columns turned test false)) (number_form z) (at given table (Comma turned test z))
+
+    plain : (byte : ℕ) (z : ℤ) → ((place : ℕ) → step (at given table (Columns turned test false)) place byte ≡ Ok (at given table (Comma turned test z)))
+        → Passes (at given table (Columns turned test false)) (byte ∷ []) (at given table (Comma turned test z))
+    plain byte z is = one_byte _ byte _ is
+
+    below : (byte : ℕ) (z : ℤ) → ((place : ℕ) → step (at given table (Columns turned test true)) place byte ≡ Ok (at given table (Comma turned test z)))
+        → Passes (at given table (Columns turned test false)) (45 ∷ byte ∷ []) (at given table (Comma turned test z))
+    below byte z is = both _ (45 ∷ []) (at given table (Columns turned test true)) (byte ∷ []) _ (one_byte _ 45 _ (λ place. refl)) (one_byte _ byte _ is)
+
+-- the position after a whole offset
+abbrev pub whole : TurnedPiece → ℕ → Cell → Position
+whole turned test cell = Whole turned test (record { dx = cell.0; dy = cell.1 })
+
+-- the rows of an offset
+pub rows_pass : (given : List TurnedPiece) (table : Table) (turned : TurnedPiece) (test : ℕ) (dx z : ℤ) → is_small_number z ≡ true
+    → Passes (at given table (Rows turned test dx false)) (number_form z)
+    (at given (table_with table turned.piece turned.rotation test (dx, z)) (whole turned test (dx, z)))
+unfolding step
+rows_pass given table turned test dx = each_small P (plain 48 (pos 0) (λ place. refl)) (plain 49 (pos 1) (λ place. refl)) (plain 50 (pos 2) (λ place. refl))
+    (plain 51 (pos 3) (λ place. refl)) (below 49 (minus 1) (λ place. refl)) (below 50 (minus 2) (λ place. refl)) (below 51 (minus 3) (λ place. refl))
+  where
+    to : ℤ → Reading
+    to z = at given (table_with table turned.piece turned.rotation test (dx, z)) (whole turned test (dx, z))
+
+    P : ℤ → Type 0
+    P z = Passes (at given table (Rows turned test dx false)) (number_form z) (at given (table_with table turned.piece turned.rotation test (dx, z)) (whole turned test (dx, z)))
+
+    plain : (byte : ℕ) (z : ℤ) → ((place : ℕ) → step (at given table (Rows turned test dx false)) place byte ≡ Ok (to z))
+        → Passes (at given table (Rows turned test dx false)) (byte ∷ []) (to z)
+    plain byte z is = one_byte _ byte _ is
+
+    below : (byte : ℕ) (z : ℤ) → ((place : ℕ) → step (at given table (Rows turned test dx true)) place byte ≡ Ok (to z))
+        → Passes (at given table (Rows turned test dx false)) (45 ∷ byte ∷ []) (to z)
+    below byte z is = both _ (45 ∷ []) (at given table (Rows turned test dx true)) (byte ∷ []) _ (one_byte _ 45 _ (λ place. refl)) (one_byte _ byte _ is)
+
+-- columns and rows are small
+pub small_parts : (a b c d : Bool) → (a && b && c && d) ≡ true → ((a && b) ≡ true) × ((c && d) ≡ true)
+small_parts a b true true small = (and_first (a && b) true (and_first (a && b && true) true small), refl)
+small_parts a b true false small = absurd (false≢true (and_second (a && b && true) false small))
+small_parts a b false d small = absurd (false≢true (and_second (a && b) false (and_first (a && b && false) d small)))
+
+-- a whole offset
+pub offset_passes : (given : List TurnedPiece) (table : Table) (turned : TurnedPiece) (test : ℕ) (cell : Cell) → is_small_move cell ≡ true
+    → Passes (at given table (Columns turned test false)) (offset_form cell)
+    (at given (table_with table turned.piece turned.rotation test cell) (whole turned test cell))
+unfolding step
+offset_passes given table turned test cell small =
+    let parts = small_parts (int_le (minus 3) cell.0) (int_le cell.0 (pos 3)) (int_le (minus 3) cell.1) (int_le cell.1 (pos 3)) small in
+    let comma : Passes (at given table (Comma turned test cell.0)) (44 ∷ []) (at given table (Rows turned test cell.0 false)) = one_byte _ 44 _ (λ place. refl) in
+    both _ (number_form cell.0) _ (44 ∷ number_form cell.1) _ (columns_pass given table turned test cell.0 parts.0)
+    (both _ (44 ∷ []) _ (number_form cell.1) _ comma (rows_pass given table turned test cell.0 cell.1 parts.1))

@@ -1,0 +1,243 @@
+-- A text is read as it spells, and as nothing else.
+use Rattle.std.proofs.Common.{◌≡◌, ℕ, ◌+◌, ◌<◌, true, cond, nat_lt, List, [], ◌∷◌, ◌++◌, length, drop, get_or, refl, ap, sym, subst, ◌∙◌, ◌↔◌, arith, Option, Some, None, Result, Ok, Err, append_assoc, inl, inr}
+use Rattle.std.proofs.lemmas.Bool.{cases_Bool, cases_lt}
+use Rattle.std.proofs.lemmas.List.{append-nil, length_push, same_from_push}
+use Rattle.srs.specs.declared.offset.Offset.{Offset}
+use Rattle.srs.specs.Kick.{Table, srs_table, pair_of}
+use Rattle.kick_file.specs.declared.fault.KickFault.{KickFault}
+use Rattle.kick_file.specs.declared.fault.KickFault.TheVariants.{Unexpected, RepeatedEntry}
+use Rattle.kick_file.specs.declared.turned.TurnedPiece.{TurnedPiece}
+use Rattle.kick_file.specs.declared.position.Position.{Position}
+use Rattle.kick_file.specs.declared.position.Position.TheVariants.{Beginning, Division, Letter, Letters, Columns, Comma, Rows, Whole}
+use Rattle.kick_file.specs.Form.{Entry, SpellsEntries, is_among, are_distinct, turned_of, table_of_entries}
+use Rattle.srs.specs.Rotation.{rotation_letter}
+use Rattle.kick_file.specs.Faults.{Repeats, IsFront, IsStopped, IsUnexpected, IsReadAs}
+use Rattle.kick_file.specs.Reading.{Reading, kick_text, entered, step, ended, next, read_on, read_after}
+use Rattle.kick_file.proofs.GivenLemmas.{distinct_more}
+use Rattle.kick_file.proofs.Steps.{at}
+use Rattle.kick_file.proofs.SpelledIsRead.{IsFine, table_read, repeat_read, spelled_fine}
+use Rattle.kick_file.proofs.ReadIsSpelled.{one_more}
+use Rattle.kick_file.proofs.Standing.{Here, finished, front_here}
+use Rattle.kick_file.proofs.Moving.{given_then, table_then, moved}
+
+-- where reading stands after a text
+record At (text : List ℕ) (reading : Reading) : Type 0 where
+  entries : List Entry
+  distinct : are_distinct reading.given ≡ true
+  here : Here text entries reading.given reading.table reading.position
+  passes : (rest : List ℕ) → kick_text (text ++ rest) ≡ read_on reading (length text) rest
+
+-- what follows a byte that may stand
+data Enters (given : List TurnedPiece) (table : Table) (position to : Position) : Result Reading KickFault → Type 0 where
+  on : are_distinct (given_then given to) ≡ true → Enters given table position to (Ok (at (given_then given to) (table_then table to) to))
+  stood : (turned : TurnedPiece) (start : ℕ) → to ≡ Letters turned start → is_among given turned ≡ true → Enters given table position to (Err (RepeatedEntry start))
+
+enters : (given : List TurnedPiece) (table : Table) (position to : Position) (place : ℕ) → are_distinct given ≡ true
+    → Enters given table position to (entered (at given table position) place (Some to))
+unfolding given_then table_then
+enters given table position Beginning place distinct = on distinct
+enters given table position Division place distinct = on distinct
+enters given table position (Letter piece start) place distinct = on distinct
+enters given table position (Letters turned start) place distinct = elim (cases_Bool (is_among given turned)) [
+  | inl among ↦ subst (λ b. Enters given table position (Letters turned start) (cond b (Err (RepeatedEntry start)) (Ok (at (given ++ turned ∷ []) table (Letters turned start))))) (sym among)
+      (stood turned start refl among)
+  | inr fresh ↦ subst (λ b. Enters given table position (Letters turned start) (cond b (Err (RepeatedEntry start)) (Ok (at (given ++ turned ∷ []) table (Letters turned start))))) (sym fresh)
+      (on (distinct_more given turned distinct fresh))
+]
+enters given table position (Columns turned test is_negative) place distinct = on distinct
+enters given table position (Comma turned test dx) place distinct = on distinct
+enters given table position (Rows turned test dx is_negative) place distinct = on distinct
+enters given table position (Whole turned test offset) place distinct = on distinct
+
+-- a text with an unexpected byte repeats nothing, and nothing goes on with that byte
+not_fine : (place : ℕ) (read : Result Table KickFault) → read ≡ Err (Unexpected place) → IsFine read → ⊥
+unfolding IsFine
+not_fine place read is fine = subst IsFine is fine
+
+unexpected : (text rest : List ℕ) (reading : Reading) → At text reading → kick_text (text ++ rest) ≡ Err (Unexpected (length text)) → IsStopped text rest
+    → IsUnexpected (text ++ rest) (length text)
+unexpected text rest reading stands is stops = record {
+  front = text;
+  rest = rest;
+  whole = refl;
+  stands = refl;
+  begins = front_here text stands.entries reading.given reading.table reading.position stands.here;
+  stops = stops;
+  first = λ other repeats. let no : Err (Unexpected (length text)) ≡ Err (RepeatedEntry other) = sym is ∙ repeat_read (text ++ rest) other repeats in cc;
+}
+
+-- the text ends
+end_unexpected : (text : List ℕ) (reading : Reading) → At text reading → ended reading.table (length text) reading.position ≡ Err (Unexpected (length text))
+    → IsReadAs (text ++ []) (Err (Unexpected (length text)))
+unfolding read_on
+end_unexpected text reading stands is =
+    let read : kick_text (text ++ []) ≡ Err (Unexpected (length text)) = stands.passes [] ∙ is in
+    unexpected text [] reading stands read
+    (λ entries spelled. not_fine (length text) (kick_text text) (ap kick_text (sym (append-nil text)) ∙ read) (spelled_fine text entries spelled))
+
+whole_end : (text : List ℕ) (given : List TurnedPiece) (table : Table) (turned : TurnedPiece) (test : ℕ) (offset : Offset) → At text (at given table (Whole turned test offset))
+    → IsReadAs (text ++ []) (ended table (length text) (Whole turned test offset))
+whole_end text given table turned test offset stands = elim (cases_Bool (nat_lt test 5)) [
+  | inl more ↦
+      let is : ended table (length text) (Whole turned test offset) ≡ Err (Unexpected (length text)) = ap (λ b. cond b (Err (Unexpected (length text))) (Ok table)) more in
+      subst (IsReadAs (text ++ [])) (sym is) (end_unexpected text (at given table (Whole turned test offset)) stands is)
+  | inr done ↦
+      let is : ended table (length text) (Whole turned test offset) ≡ Ok table = ap (λ b. cond b (Err (Unexpected (length text))) (Ok table)) done in
+      let end = finished text stands.entries given table turned test (pair_of offset) stands.here done in
+      subst (IsReadAs (text ++ [])) (sym is) (record {
+        entries = stands.entries ++ end.entry ∷ [];
+        spelled = subst (λ t. SpellsEntries t (stands.entries ++ end.entry ∷ [])) (sym end.whole ∙ sym (append-nil text)) (one_more end.before end.last stands.entries end.entry end.spelled end.entry_spelled);
+        distinct = subst (λ g. are_distinct g ≡ true) end.names stands.distinct;
+        is = end.is;
+      })
+]
+
+at_the_end : (text : List ℕ) (given : List TurnedPiece) (table : Table) (position : Position) → At text (at given table position)
+    → IsReadAs (text ++ []) (ended table (length text) position)
+at_the_end text given table Beginning stands = record {
+  entries = [];
+  spelled = append-nil text ∙ stands.here.0;
+  distinct = refl;
+  is = stands.here.2.is ∙ ap table_of_entries stands.here.1;
+}
+at_the_end text given table Division stands = end_unexpected text _ stands refl
+at_the_end text given table (Letter piece start) stands = end_unexpected text _ stands refl
+at_the_end text given table (Letters turned start) stands = end_unexpected text _ stands refl
+at_the_end text given table (Columns turned test is_negative) stands = end_unexpected text _ stands refl
+at_the_end text given table (Comma turned test dx) stands = end_unexpected text _ stands refl
+at_the_end text given table (Rows turned test dx is_negative) stands = end_unexpected text _ stands refl
+at_the_end text given table (Whole turned test offset) stands = whole_end text given table turned test offset stands
+
+-- an entry that stood before
+repeats : (text rest : List ℕ) (byte start : ℕ) (turned : TurnedPiece) (given : List TurnedPiece) (table : Table) (position : Position) (entries fresh : List Entry) → are_distinct given ≡ true
+    → Here text entries given table position → Here (text ++ byte ∷ []) fresh (given ++ turned ∷ []) table (Letters turned start) → is_among given turned ≡ true
+    → Repeats (text ++ byte ∷ rest) start
+repeats text rest byte start turned given table position entries fresh distinct here now among =
+    let same = same_from_push given (turned_of fresh) turned turned now.1 in
+    record {
+      front = now.0.before;
+      rest = rest;
+      entries = fresh;
+      turned = turned;
+      letter = now.0.letter;
+      before = now.0.spelled;
+      distinct = subst (λ g. are_distinct g ≡ true) same.0 distinct;
+      named = now.0.named;
+      whole = sym (append_assoc text (byte ∷ []) rest) ∙ ap (λ t. t ++ rest) now.0.whole ∙ append_assoc now.0.before (now.0.letter ∷ rotation_letter turned.rotation ∷ []) rest;
+      repeated = subst (λ g. is_among g turned ≡ true) same.0 among;
+      starts = now.0.starts;
+    }
+
+-- reading on with these bytes, from wherever a text stands
+abbrev ReadsOn : List ℕ → Type 0
+ReadsOn bytes = (text : List ℕ) (given : List TurnedPiece) (table : Table) (position : Position) → At text (at given table position)
+    → IsReadAs (text ++ bytes) (read_on (at given table position) (length text) bytes)
+
+by_result : (bytes text : List ℕ) (byte : ℕ) (given : List TurnedPiece) (table : Table) (position to : Position) → At text (at given table position) → ReadsOn bytes
+    → next position (length text) byte ≡ Some to → (r : Result Reading KickFault) → Enters given table position to r → step (at given table position) (length text) byte ≡ r
+    → IsReadAs (text ++ byte ∷ bytes) (read_after r (λ now. read_on now (length text + 1) bytes))
+unfolding read_on given_then table_then
+by_result bytes text byte given table position to stands later is (Ok now) (on distinct) step_to =
+    let there = moved text byte (length text) stands.entries given table position to stands.here refl is in
+    let longer : length (text ++ byte ∷ []) ≡ length text + 1 = length_push text byte in
+    subst (λ t. IsReadAs t (read_on now (length text + 1) bytes)) (append_assoc text (byte ∷ []) bytes)
+    (subst (λ n. IsReadAs ((text ++ byte ∷ []) ++ bytes) (read_on now n bytes)) longer
+    (later (text ++ byte ∷ []) (given_then given to) (table_then table to) to (record {
+      entries = there.entries;
+      distinct = distinct;
+      here = there.here;
+      passes = λ rest. ap kick_text (append_assoc text (byte ∷ []) rest) ∙ stands.passes (byte ∷ rest)
+          ∙ ap (λ r. read_after r (λ next. read_on next (length text + 1) rest)) step_to ∙ ap (λ n. read_on now n rest) (sym longer);
+    })))
+by_result bytes text byte given table position to stands later is (Err fault) (stood turned start same among) step_to =
+    let there = moved text byte (length text) stands.entries given table position (Letters turned start) stands.here refl (is ∙ ap Some same) in
+    repeats text bytes byte start turned given table position stands.entries there.entries stands.distinct stands.here there.here among
+
+by_next : (bytes text : List ℕ) (byte : ℕ) (given : List TurnedPiece) (table : Table) (position : Position) → At text (at given table position) → ReadsOn bytes
+    → (o : Option Position) → next position (length text) byte ≡ o
+    → IsReadAs (text ++ byte ∷ bytes) (read_after (step (at given table position) (length text) byte) (λ now. read_on now (length text + 1) bytes))
+unfolding read_on step
+by_next bytes text byte given table position stands later None is =
+    let stops : step (at given table position) (length text) byte ≡ Err (Unexpected (length text)) = ap (entered (at given table position) (length text)) is in
+    let read : (rest : List ℕ) → kick_text (text ++ byte ∷ rest) ≡ Err (Unexpected (length text)) =
+    λ rest. stands.passes (byte ∷ rest) ∙ ap (λ r. read_after r (λ now. read_on now (length text + 1) rest)) stops in
+    subst (IsReadAs (text ++ byte ∷ bytes)) (sym (ap (λ r. read_after r (λ now. read_on now (length text + 1) bytes)) stops))
+    (unexpected text (byte ∷ bytes) (at given table position) stands (read bytes)
+    (λ front. not_fine (length text) (kick_text ((text ++ byte ∷ []) ++ front.rest)) (ap kick_text (append_assoc text (byte ∷ []) front.rest) ∙ read front.rest)
+    (spelled_fine ((text ++ byte ∷ []) ++ front.rest) front.entries front.spelled)))
+by_next bytes text byte given table position stands later (Some to) is =
+    let step_to : step (at given table position) (length text) byte ≡ entered (at given table position) (length text) (Some to) = ap (entered (at given table position) (length text)) is in
+    subst (λ r. IsReadAs (text ++ byte ∷ bytes) (read_after r (λ now. read_on now (length text + 1) bytes))) (sym step_to)
+    (by_result bytes text byte given table position to stands later is (entered (at given table position) (length text) (Some to)) (enters given table position to (length text) stands.distinct) step_to)
+
+reads_on : (bytes : List ℕ) → ReadsOn bytes
+unfolding read_on
+reads_on [] text given table position stands = at_the_end text given table position stands
+reads_on (byte ∷ bytes) text given table position stands = by_next bytes text byte given table position stands (reads_on bytes) (next position (length text) byte) refl
+
+-- what is read of a text is what it spells, or its fault
+pub read_as : (text : List ℕ) → IsReadAs text (kick_text text)
+read_as text = reads_on text [] [] srs_table Beginning (record {
+  entries = [];
+  distinct = refl;
+  here = (refl, refl, record { names = refl; is = refl });
+  passes = λ rest. refl;
+})
+
+-- of two fronts of a text the longer one goes on from the shorter one
+record GoesOn (front rest longer : List ℕ) : Type 0 where
+  byte : ℕ
+  more : List ℕ
+  after : List ℕ
+  rest_is : rest ≡ byte ∷ after
+  longer_is : longer ≡ (front ++ byte ∷ []) ++ more
+
+goes_on_from : (front rest longer later : List ℕ) → front ++ rest ≡ longer ++ later → length front < length longer → GoesOn front rest longer
+goes_on_from [] rest [] later same short = absurd (omega (arith, short))
+goes_on_from [] rest (byte ∷ longer) later same short = record { byte = byte; more = longer; after = longer ++ later; rest_is = same; longer_is = refl }
+goes_on_from (first ∷ front) rest [] later same short = absurd (omega (arith, short))
+goes_on_from (first ∷ front) rest (byte ∷ longer) later same short =
+    let on = goes_on_from front rest longer later (ap (drop 1) same) (omega (arith, short)) in
+    let head : byte ≡ first = sym (ap (λ t. get_or t 0 0) same) in
+    record { byte = on.byte; more = on.more; after = on.after; rest_is = on.rest_is; longer_is = (λ i. head i ∷ on.longer_is i) }
+
+-- a text that can go on beyond a front isn't stopped there
+beyond : (front rest longer later : List ℕ) → front ++ rest ≡ longer ++ later → length front < length longer → IsFront longer → IsStopped front rest → ⊥
+beyond front rest longer later same short begins stops =
+    let on = goes_on_from front rest longer later same short in
+    let stops_here = subst (IsStopped front) on.rest_is stops in
+    stops_here (record {
+      rest = on.more ++ begins.rest;
+      entries = begins.entries;
+      spelled = subst (λ t. SpellsEntries t begins.entries) (ap (λ t. t ++ begins.rest) on.longer_is ∙ append_assoc (front ++ on.byte ∷ []) on.more begins.rest) begins.spelled;
+    })
+
+-- a text with an unexpected byte spells no entries
+unexpected_unspelled : (text : List ℕ) (place : ℕ) (entries : List Entry) → IsUnexpected text place → SpellsEntries text entries → ⊥
+unexpected_unspelled text place entries is spelled = by is.rest (subst (λ t. SpellsEntries t entries) is.whole spelled) is.stops
+  where
+    by : (rest : List ℕ) → SpellsEntries (is.front ++ rest) entries → IsStopped is.front rest → ⊥
+    by [] whole stops = stops entries (subst (λ t. SpellsEntries t entries) (append-nil is.front) whole)
+    by (byte ∷ rest) whole stops = stops (record { rest = rest; entries = entries; spelled = subst (λ t. SpellsEntries t entries) (sym (append_assoc is.front (byte ∷ []) rest)) whole })
+
+one_place : (text : List ℕ) (place other : ℕ) → IsUnexpected text place → IsUnexpected text other → place ≡ other
+one_place text place other one two = elim (cases_lt (length one.front) (length two.front)) [
+  | inl less ↦ absurd (beyond one.front one.rest two.front two.rest (sym one.whole ∙ two.whole) less two.begins one.stops)
+  | inr le ↦ elim (cases_lt (length two.front) (length one.front)) [
+    | inl less ↦ absurd (beyond two.front two.rest one.front one.rest (sym two.whole ∙ one.whole) less one.begins two.stops)
+    | inr ge ↦ omega (arith, le, ge, one.stands, two.stands)
+  ]
+]
+
+unexpected_read : (text : List ℕ) (place : ℕ) (read : Result Table KickFault) → IsReadAs text read → IsUnexpected text place → read ≡ Err (Unexpected place)
+unexpected_read text place (Ok table) spells is = absurd (unexpected_unspelled text place spells.entries is spells.spelled)
+unexpected_read text place (Err (Unexpected other)) unexpected is = ap (λ n. Err (Unexpected n)) (one_place text other place unexpected is)
+unexpected_read text place (Err (RepeatedEntry other)) repeated is = absurd (is.first other repeated)
+
+only_read : (text : List ℕ) (read : Result Table KickFault) → IsReadAs text read → kick_text text ≡ read
+only_read text (Ok table) spells = table_read text table spells
+only_read text (Err (Unexpected place)) is = unexpected_read text place (kick_text text) (read_as text) is
+only_read text (Err (RepeatedEntry place)) repeated = repeat_read text place repeated
+
+pub read_as_spelled : (text : List ℕ) (read : Result Table KickFault) → (kick_text text ≡ read) ↔ IsReadAs text read
+read_as_spelled text read = (λ is. subst (IsReadAs text) is (read_as text), only_read text read)

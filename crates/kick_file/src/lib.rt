@@ -1,0 +1,15 @@
+// Tables of offsets as text, read and printed.
+#![tactic(auto)]
+
+mod fault;
+pub mod laws;
+mod position;
+mod printing;
+mod reading;
+#[cfg(test)]
+mod tests;
+mod turned;
+
+pub use fault::KickFault;
+pub use printing::print;
+pub use reading::parse;

@@ -1,0 +1,157 @@
+// Where a table text stands between two bytes.
+ghost use Rattle.std.specs.Prelude.{◌≡◌, IsTrue, IfSome};
+ghost use Rattle.kick_file.specs.Reading.{next, number_with_digit, is_sound};
+
+use crate::turned::TurnedPiece;
+use srs::{Offset, Piece, Rotation};
+
+/// What stands before the next byte of a text. Tests count from 1 to 5.
+#[derive(Clone, Copy, Debug)]
+pub enum Position {
+    /// Nothing.
+    Beginning,
+    /// The `;` after an entry.
+    Division,
+    /// The letter of a piece, at the place `start`.
+    Letter {
+        piece: Piece,
+        start: usize,
+    },
+    /// The letters of a piece and of a rotation, of which the first is at the place `start`.
+    Letters {
+        turned: TurnedPiece,
+        start: usize,
+    },
+    /// What comes before the columns of an offset, with a `-` or without.
+    Columns {
+        turned: TurnedPiece,
+        test: u8,
+        is_negative: bool,
+    },
+    /// The columns of an offset.
+    Comma {
+        turned: TurnedPiece,
+        test: u8,
+        dx: i8,
+    },
+    /// The comma of an offset, with a `-` after it or without.
+    Rows {
+        turned: TurnedPiece,
+        test: u8,
+        dx: i8,
+        is_negative: bool,
+    },
+    /// A whole offset.
+    Whole {
+        turned: TurnedPiece,
+        test: u8,
+        offset: Offset,
+    },
+}
+
+/// The number with this digit: from 0 to 3, or after a `-` from -1 to -3.
+fn number(digit: u8, is_negative: bool) -> Option<i8>
+    ensures { result ≡ number_with_digit is_negative digit }
+{
+    match (digit, is_negative) {
+        (b'0', false) => Some(0),
+        (b'1', false) => Some(1),
+        (b'2', false) => Some(2),
+        (b'3', false) => Some(3),
+        (b'1', true) => Some(-1),
+        (b'2', true) => Some(-2),
+        (b'3', true) => Some(-3),
+        _ => None,
+    }
+}
+
+impl Position {
+    /// Where the text stands after this byte, which is at a place. `None` exactly where no text of entries goes on so.
+    pub fn next(self, place: usize, byte: u8) -> Option<Position>
+        requires { IsTrue (is_sound self) }
+        ensures next { result ≡ next self place byte }
+        ensures sound { IfSome result (λ position. IsTrue (is_sound position)) }
+    {
+        match self {
+            Position::Beginning | Position::Division => Some(Position::Letter {
+                piece: Piece::from_letter(byte)?,
+                start: place,
+            }),
+            Position::Letter { piece, start } => {
+                let rotation = Rotation::from_letter(byte)?;
+                let turned = TurnedPiece { piece, rotation };
+                Some(Position::Letters { turned, start })
+            }
+            Position::Letters { turned, .. } if byte == b':' => Some(Position::Columns {
+                turned,
+                test: 1,
+                is_negative: false,
+            }),
+            Position::Columns {
+                turned,
+                test,
+                is_negative,
+            } => columns(turned, test, is_negative, byte),
+            Position::Comma { turned, test, dx } if byte == b',' => Some(Position::Rows {
+                turned,
+                test,
+                dx,
+                is_negative: false,
+            }),
+            Position::Rows {
+                turned,
+                test,
+                dx,
+                is_negative,
+            } => rows(turned, test, dx, is_negative, byte),
+            Position::Whole { turned, test, .. } if test < 5 && byte == b'/' => Some(
+                Position::Columns {
+                    turned,
+                    test: test + 1,
+                    is_negative: false,
+                },
+            ),
+            Position::Whole { test, .. } if test == 5 && byte == b';' => Some(Position::Division),
+            _ => None,
+        }
+    }
+}
+
+/// The columns of an offset, or the `-` before them.
+fn columns(turned: TurnedPiece, test: u8, is_negative: bool, byte: u8) -> Option<Position>
+    requires { IsTrue (is_sound (Position.Columns turned test is_negative)) }
+    ensures next { result ≡ next (Position.Columns turned test is_negative) 0 byte }
+    ensures sound { IfSome result (λ position. IsTrue (is_sound position)) }
+{
+    if byte == b'-' && !is_negative {
+        return Some(Position::Columns {
+            turned,
+            test,
+            is_negative: true,
+        });
+    }
+    let dx = number(byte, is_negative)?;
+    Some(Position::Comma { turned, test, dx })
+}
+
+/// The rows of an offset, or the `-` before them.
+fn rows(turned: TurnedPiece, test: u8, dx: i8, is_negative: bool, byte: u8) -> Option<Position>
+    requires { IsTrue (is_sound (Position.Rows turned test dx is_negative)) }
+    ensures next { result ≡ next (Position.Rows turned test dx is_negative) 0 byte }
+    ensures sound { IfSome result (λ position. IsTrue (is_sound position)) }
+{
+    if byte == b'-' && !is_negative {
+        return Some(Position::Rows {
+            turned,
+            test,
+            dx,
+            is_negative: true,
+        });
+    }
+    let dy = number(byte, is_negative)?;
+    Some(Position::Whole {
+        turned,
+        test,
+        offset: Offset { dx, dy },
+    })
+}

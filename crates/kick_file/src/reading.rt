@@ -1,0 +1,122 @@
+// Reading a table text.
+ghost use Rattle.std.specs.Prelude.{◌≡◌, IsTrue, Ok, Err, Some};
+ghost use Rattle.kick_file.specs.Form.{are_distinct, is_among};
+ghost use Rattle.kick_file.specs.Reading.{beginning, step, entered, ended, kick_text, Takes, Gives, is_sound};
+
+use crate::fault::KickFault;
+use crate::position::Position;
+use crate::turned::TurnedPiece;
+use arrayvec::ArrayVec;
+use srs::Rules;
+
+/// What was read of a text so far: the pieces and rotations that have an entry, the table that the entries make, and
+/// where the text stands.
+#[derive(Drop)]
+struct Reader {
+    given: ArrayVec<TurnedPiece, 28>,
+    rules: Rules,
+    position: Position,
+    ghost distinct: { IsTrue (are_distinct given.items) },
+    ghost sound: { IsTrue (is_sound position) },
+}
+
+impl Reader {
+    ghost use Rattle.kick_file.specs.Reader.{reading_of};
+
+    /// A reader of the beginning of a text.
+    fn new() -> Reader
+        ensures { reading_of result ≡ beginning }
+    {
+        Reader {
+            given: ArrayVec::new(),
+            rules: Rules::srs(),
+            position: Position::Beginning,
+        }
+    }
+
+    /// Whether this piece in this rotation has an entry.
+    fn has(&self, turned: TurnedPiece) -> bool
+        ensures { result ≡ is_among self.now.given.items turned }
+    {
+        self.given.iter().any(|other| turned.is_same(*other))
+    }
+
+    /// Takes the next byte, which is at a place of the text.
+    #[tactic(auto, unfolding(crate::specs::Reading::step))]
+    fn take(&mut self, place: usize, byte: u8) -> Result<(), KickFault>
+        ensures { Takes result (step (reading_of self.old) place byte) (reading_of self.new) }
+    {
+        match self.position.next(place, byte) {
+            Some(position) => self.enter(position),
+            None => Err(KickFault::Unexpected { place }),
+        }
+    }
+
+    /// Goes on to where the text stands now.
+    fn enter(&mut self, position: Position) -> Result<(), KickFault>
+        requires { IsTrue (is_sound position) }
+        ensures { Takes result (entered (reading_of self.old) 0 (Some position)) (reading_of self.new) }
+    {
+        match position {
+            Position::Letters { turned, start } => return self.begin(turned, start),
+            Position::Whole {
+                turned,
+                test,
+                offset,
+            } => {
+                self.rules = self
+                    .rules
+                    .with_offset(turned.piece, turned.rotation, test, offset);
+            }
+            Position::Beginning
+            | Position::Division
+            | Position::Letter { .. }
+            | Position::Columns { .. }
+            | Position::Comma { .. }
+            | Position::Rows { .. } => {}
+        }
+        self.position = position;
+        Ok(())
+    }
+
+    /// Begins the entry of this piece in this rotation, which stands at the place `start`.
+    fn begin(&mut self, turned: TurnedPiece, start: usize) -> Result<(), KickFault>
+        ensures { Takes result (entered (reading_of self.old) 0 (Some (Position.Letters turned start)))
+            (reading_of self.new) }
+    {
+        if self.has(turned) {
+            return Err(KickFault::RepeatedEntry { place: start });
+        }
+        self.given.push(turned);
+        self.position = Position::Letters { turned, start };
+        Ok(())
+    }
+
+    /// The table of a text that ends at a place.
+    fn end(&self, place: usize) -> Result<Rules, KickFault>
+        ensures { Gives result (ended (reading_of self.now).table place (reading_of self.now).position) }
+    {
+        match self.position {
+            Position::Beginning => Ok(self.rules),
+            Position::Whole { test: 5, .. } => Ok(self.rules),
+            _ => Err(KickFault::Unexpected { place }),
+        }
+    }
+}
+
+/// The table that a text spells, or the first fault from the left.
+///
+/// A text is a list of entries divided by `;`, in which no piece and rotation stands twice. An entry is the letter of a
+/// piece, capital or small, the letter `0`, `R`, `2` or `L` of a rotation, a colon, and five offsets divided by `/`. An
+/// offset is columns to the right and rows up, from -3 to 3, divided by a comma. What has no entry has its offsets of
+/// the Super Rotation System.
+pub fn parse(text: &str) -> Result<Rules, KickFault>
+    ensures { Gives result (kick_text text.now) }
+{
+    let bytes = text.as_bytes();
+    let mut reader = Reader::new();
+    for place in 0..bytes.len() {
+        reader.take(place, bytes[place])?;
+    }
+    reader.end(bytes.len())
+}
