@@ -6,6 +6,11 @@ mod SetLemmas
 mod UniformLemmas
 mod ChoiceLemmas
 mod QueueLemmas
+mod QueueLengths
+mod Phases
+mod FormPhases
+mod FormFollowed
+mod FormLeft
 mod FallingLemmas
 mod BuilderLemmas
 mod ParseLemmas

@@ -3,6 +3,7 @@ pub mod Queues
 pub mod Order
 pub mod Spelling
 pub mod Grammar
+pub mod Form
 pub mod Pattern
 -- What serves proofs alone
 pub mod Sound

@@ -1,8 +1,11 @@
 // Laws of the definitions: functions with an empty body, whose contract is the law.
-ghost use Rattle.std.specs.Prelude.{◌≡◌, ◌≢◌, ◌↔◌, ℕ, ◌<◌, ◌≤◌, List, Ok, length, slice_get};
+ghost use Rattle.std.specs.Prelude.{◌≡◌, ◌≢◌, ◌↔◌, ℕ, ◌<◌, ◌≤◌, List, Ok, Err, All, length, slice_get};
 ghost use Rattle.std.specs.List.Sorted.{IsStrictlySortedBy};
 ghost use Rattle.queue_pattern.specs.declared.element.Element.{Element};
+ghost use Rattle.queue_pattern.specs.declared.fault.PatternFault.{PatternFault};
+ghost use Rattle.queue_pattern.specs.declared.fault.PatternFault.TheVariants.{Unexpected};
 ghost use Rattle.queue_pattern.specs.declared.pattern.Pattern.{Pattern};
+ghost use Rattle.queue_pattern.specs.Form.{IsFaultUpTo, LeavesForm};
 ghost use Rattle.queue_pattern.specs.Grammar;
 ghost use Rattle.queue_pattern.specs.Order.{queue_cmp};
 ghost use Rattle.queue_pattern.specs.Pattern.{elements_of};
@@ -12,6 +15,11 @@ ghost use Rattle.queue_pattern.specs.Spelling.{SpellsElements};
 /// The list of queues has as many members as the factors of its elements make.
 pub fn queues_are_counted()
     ensures { (elements : List Element) → length (queues elements) ≡ queue_count elements }
+{}
+
+/// Each queue has as many pieces as the elements choose together.
+pub fn queues_are_as_long()
+    ensures { (elements : List Element) → All (λ queue. length queue ≡ queue_len elements) (queues elements) }
 {}
 
 /// The list of queues rises in the order of queues, so no two of them are equal.
@@ -31,4 +39,13 @@ pub fn patterns_are_within_limits()
 pub fn texts_are_read_as_they_spell()
     ensures { (text : List ℕ) (elements : List Element) →
         (Grammar.elements text ≡ Ok elements) ↔ SpellsElements text elements }
+{}
+
+/// Unexpected is the fault of a text exactly at the first byte that no pattern text goes on with, whatever pieces are
+/// listed and chosen, or at its end where it ends within an element, unless a piece that is repeated or a choice of too
+/// many stands before.
+pub fn unexpected_bytes_leave_the_form()
+    ensures only { (text : List ℕ) (place : ℕ) → Grammar.elements text ≡ Err (Unexpected place) → LeavesForm text place }
+    ensures all { (text : List ℕ) (place : ℕ) → LeavesForm text place
+        → (fault : PatternFault) × (Grammar.elements text ≡ Err fault) × IsFaultUpTo place fault }
 {}

@@ -4,5 +4,6 @@ mod WellFields
 mod LockLemmas
 mod CountLemmas
 mod RowsLemmas
+mod RowsTexts
 mod Worked
 pub mod CallerLemmas

@@ -1,5 +1,5 @@
 -- Rows text: rows from the top one down, divided by slashes.
-use Rattle.std.specs.Prelude.{ℕ, ◌+◌, Bool, ◌||◌, ◌==◌, if◌then◌else◌, is_some, Option, Some, None, List, [], ◌∷◌, reverse, slice_index, slice_index_or}
+use Rattle.std.specs.Prelude.{◌≡◌, ℕ, ◌+◌, ◌≤◌, Bool, true, ◌||◌, ◌==◌, if◌then◌else◌, is_some, Option, Some, None, List, [], ◌∷◌, All, length, reverse, slice_index, slice_index_or}
 use Rattle.std.specs.List.{slice_split}
 use Rattle.std.specs.Option.{option_or}
 use Rattle.lane_board.specs.Field.{Field}
@@ -18,12 +18,26 @@ is_filled_char byte = byte == 88 || (byte == 120 || is_some (piece_with_letter b
 abbrev pub is_slash : ℕ → Bool
 is_slash byte = byte == 47
 
+-- a character of a row
+abbrev pub is_row_char : ℕ → Bool
+is_row_char byte = is_empty_char byte || is_filled_char byte
+
+-- a row: ten characters
+pub record IsRow (row : List ℕ) : Type 0 where
+  pub ten : length row ≡ 10
+  pub characters : All (λ byte. is_row_char byte ≡ true) row
+
+-- a text of the form: no rows, or at most 23 divided by slashes
+abbrev pub IsRowsText : List ℕ → Type 0
+IsRowsText [] = Unit {0}
+IsRowsText (byte ∷ bytes) = let rows = slice_split is_slash (byte ∷ bytes) in (length rows ≤ 23) × All IsRow rows
+
 -- the fault at a byte that follows so many characters of a row, where rows are counted from 1 and places from 0
 abbrev pub fault_at_byte : ℕ → ℕ → ℕ → ℕ → Option RowsFault
 fault_at_byte row characters place byte =
     if is_slash byte then
     (if characters == 10 then (if row == 23 then Some TooManyRows else None) else Some (BadRowLength row))
-    else (if is_empty_char byte || is_filled_char byte then
+    else (if is_row_char byte then
     (if characters == 10 then Some (BadRowLength row) else None)
     else Some (BadRowChar place))
 

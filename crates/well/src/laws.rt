@@ -1,5 +1,7 @@
-// Laws of locking: functions without a body to speak of, whose contract is the law.
+// Laws of locking and of rows texts: functions without a body to speak of, whose contract is the law.
+ghost use Rattle.std.specs.Prelude.{◌≡◌, ◌↔◌, ℕ, List, None};
 ghost use Rattle.well.specs.LockLaws.{AddsFourCells, StaysBelow, RemovesBelow};
+ghost use Rattle.well.specs.Rows.{IsRowsText, rows_fault};
 
 /// For a free placement, the number of cells that are left and ten for each removed row is the number before and four.
 pub fn locking_adds_four_cells()
@@ -11,4 +13,9 @@ pub fn locking_adds_four_cells()
 pub fn what_is_left_stays_below()
     ensures cells { StaysBelow }
     ensures rows { RemovesBelow }
+{}
+
+/// A rows text has no fault exactly where it is empty, or at most 23 rows of ten characters, divided by slashes.
+pub fn texts_without_fault_are_rows()
+    ensures { (text : List ℕ) → (rows_fault text ≡ None) ↔ IsRowsText text }
 {}

@@ -1,0 +1,207 @@
+-- A byte of a text of the form leads on, to what may follow.
+use Rattle.std.proofs.Common.{◌≡◌, ℕ, ◌+◌, true, false, ◌&&◌, ◌||◌, ◌==◌, nat_le, Option, Some, None, is_some, List, [], ◌∷◌, ◌++◌, refl, sym, ap, subst, ◌∙◌, arith, ◌⊎◌, inl, inr}
+use Rattle.std.proofs.lemmas.Bool.{ne_eqb, eq-eqb, and_from, or_from, le-leb}
+use Rattle.std.proofs.lemmas.List.Elements.{All-head, All-tail}
+use Rattle.srs.specs.declared.piece.Piece.{Piece}
+use Rattle.srs.specs.Piece.{piece_with_letter}
+use Rattle.queue_pattern.specs.Grammar.{is_gap}
+use Rattle.queue_pattern.specs.Form.{is_letter, AreLetters, HasSetForm, all, these, others, HasChosenForm, one, digit, every, HasElementForm, letter, chosen, HasForm, none, gap, element}
+use Rattle.queue_pattern.proofs.Phases.{Phase, between, begun, unlisted, listed, shut, marked, letter_next, between_next, next, is_end}
+use Rattle.queue_pattern.proofs.FormPhases.{AfterSet, AfterMark, AfterLetter, AfterExcept, Follows, brackets}
+
+-- a byte leads on, to what follows
+pub record LeadsOn (phase : Phase) (byte : ℕ) (rest : List ℕ) : Type 0 where
+  pub after : Phase
+  pub leads : next phase byte ≡ Some after
+  pub follows : Follows after rest
+
+-- a letter is no byte that means something else
+other_byte : (byte code : ℕ) → is_letter byte ≡ true → is_letter code ≡ false → (byte == code) ≡ false
+other_byte byte code is free = ne_eqb byte code (λ same. let bad : is_letter code ≡ true = subst (λ b. is_letter b ≡ true) same is in cc)
+
+letter_no_gap : (byte : ℕ) → is_letter byte ≡ true → is_gap byte ≡ false
+letter_no_gap byte is = or_from (byte == 32) (byte == 9 || byte == 44) (other_byte byte 32 is refl)
+    (or_from (byte == 9) (byte == 44) (other_byte byte 9 is refl) (other_byte byte 44 is refl))
+
+some_piece : (o : Option Piece) (after : Phase) → is_some o ≡ true → letter_next o after ≡ Some after
+some_piece None after is = cc
+some_piece (Some piece) after is = refl
+
+letter_between : (byte : ℕ) → is_letter byte ≡ true → between_next byte ≡ Some between
+letter_between byte is =
+    let past : between_next byte ≡ letter_next (piece_with_letter byte) between =
+    rw (letter_no_gap byte is, other_byte byte 42 is refl, other_byte byte 91 is refl) refl in
+    past ∙ some_piece (piece_with_letter byte) between is
+
+after_letters : (first : ℕ) (letters back more : List ℕ) → AreLetters (first ∷ letters) → HasChosenForm back → HasForm more
+    → AfterExcept (first ∷ ((letters ++ 93 ∷ []) ++ back) ++ more)
+after_letters first letters back more are says form = record {
+  first = first;
+  more = ((letters ++ 93 ∷ []) ++ back) ++ more;
+  divided = refl;
+  is = All-head (λ byte. is_letter byte ≡ true) first letters are;
+  later = record {
+    letters = letters;
+    more = back ++ more;
+    divided = brackets letters back more;
+    are = All-tail (λ byte. is_letter byte ≡ true) first letters are;
+    set = record { back = back; more = more; divided = refl; says = says; form = form };
+  };
+}
+
+abbrev IsAhead : List ℕ → Type 0
+IsAhead [] = Unit {0}
+IsAhead (byte ∷ rest) = LeadsOn between byte rest
+
+set_ahead : (front back more : List ℕ) → HasSetForm front → HasChosenForm back → HasForm more → IsAhead ((front ++ back) ++ more)
+set_ahead front back more all says form =
+    record { after = shut; leads = refl; follows = record { back = back; more = more; divided = refl; says = says; form = form } }
+set_ahead front back more (these {letters = []} some are) says form = absurd (some refl)
+set_ahead front back more (these {letters = first ∷ letters} some are) says form =
+    record { after = begun; leads = refl; follows = inl (after_letters first letters back more are says form) }
+set_ahead front back more (others {letters = []} some are) says form = absurd (some refl)
+set_ahead front back more (others {letters = first ∷ letters} some are) says form = record {
+  after = begun;
+  leads = refl;
+  follows = inr (record {
+    more = (((first ∷ letters) ++ 93 ∷ []) ++ back) ++ more;
+    divided = refl;
+    later = after_letters first letters back more are says form;
+  });
+}
+
+element_ahead : (front more : List ℕ) → HasElementForm front → HasForm more → IsAhead (front ++ more)
+element_ahead front more (letter {byte = byte} is) form = record { after = between; leads = letter_between byte is; follows = form }
+element_ahead front more (chosen {front = set} {back = back} has says) form = set_ahead set back more has says form
+
+ahead : (text : List ℕ) → HasForm text → IsAhead text
+ahead text none = tt
+ahead text (gap {byte = byte} is form) = record { after = between; leads = rw is refl; follows = form }
+ahead text (element {front = front} {rest = rest} has form) = element_ahead front rest has form
+
+-- of two texts that are equal, the first bytes and the rests are
+first_is : (byte first : ℕ) (rest more : List ℕ) → byte ∷ rest ≡ first ∷ more → byte ≡ first
+first_is byte first rest more same = cc
+
+rest_is : (byte first : ℕ) (rest more : List ℕ) → byte ∷ rest ≡ first ∷ more → rest ≡ more
+rest_is byte first rest more same = cc
+
+on_letter : (byte : ℕ) (rest : List ℕ) → AfterExcept (byte ∷ rest) → (is_letter byte ≡ true) × AfterLetter rest
+on_letter byte rest after = (
+  subst (λ b. is_letter b ≡ true) (sym (first_is byte after.first rest after.more after.divided)) after.is,
+  subst AfterLetter (sym (rest_is byte after.first rest after.more after.divided)) after.later,
+)
+
+unlisted_ahead : (byte : ℕ) (rest : List ℕ) → AfterExcept (byte ∷ rest) → LeadsOn unlisted byte rest
+unlisted_ahead byte rest after =
+    let on = on_letter byte rest after in
+    record { after = listed; leads = some_piece (piece_with_letter byte) listed on.0; follows = on.1 }
+
+begun_ahead : (byte : ℕ) (rest : List ℕ) → Follows begun (byte ∷ rest) → LeadsOn begun byte rest
+begun_ahead byte rest (inl after) =
+    let on = on_letter byte rest after in
+    let past : next begun byte ≡ letter_next (piece_with_letter byte) listed = rw (other_byte byte 94 on.0 refl) refl in
+    record { after = listed; leads = past ∙ some_piece (piece_with_letter byte) listed on.0; follows = on.1 }
+begun_ahead byte rest (inr bracket) =
+    let is : (byte == 94) ≡ true = eq-eqb byte 94 (first_is byte 94 rest bracket.more bracket.divided) in
+    record {
+      after = unlisted;
+      leads = rw is refl;
+      follows = subst AfterExcept (sym (rest_is byte 94 rest bracket.more bracket.divided)) bracket.later;
+    }
+
+listed_ahead_of : (byte : ℕ) (rest letters more : List ℕ) → byte ∷ rest ≡ letters ++ 93 ∷ more → AreLetters letters → AfterSet more
+    → LeadsOn listed byte rest
+listed_ahead_of byte rest [] more divided are set =
+    let is : (byte == 93) ≡ true = eq-eqb byte 93 (first_is byte 93 rest more divided) in
+    record { after = shut; leads = rw is refl; follows = subst AfterSet (sym (rest_is byte 93 rest more divided)) set }
+listed_ahead_of byte rest (first ∷ letters) more divided are set =
+    let same : byte ≡ first = first_is byte first rest (letters ++ 93 ∷ more) divided in
+    let is : is_letter byte ≡ true = subst (λ b. is_letter b ≡ true) (sym same) (All-head (λ b. is_letter b ≡ true) first letters are) in
+    let past : next listed byte ≡ letter_next (piece_with_letter byte) listed = rw (other_byte byte 93 is refl) refl in
+    record {
+      after = listed;
+      leads = past ∙ some_piece (piece_with_letter byte) listed is;
+      follows = record {
+        letters = letters;
+        more = more;
+        divided = rest_is byte first rest (letters ++ 93 ∷ more) divided;
+        are = All-tail (λ b. is_letter b ≡ true) first letters are;
+        set = set;
+      };
+    }
+
+-- a byte that leads on between elements is neither `p` nor `!`
+no_mark : (byte code : ℕ) (after : Phase) → between_next byte ≡ Some after → between_next code ≡ None → (byte == code) ≡ false
+no_mark byte code after leads free = ne_eqb byte code
+    (λ same. let bad : between_next code ≡ Some after = subst (λ b. between_next b ≡ Some after) same leads in cc)
+
+past_shut : (byte : ℕ) (rest : List ℕ) → LeadsOn between byte rest → LeadsOn shut byte rest
+past_shut byte rest on =
+    let mark : (byte == 112 || byte == 80) ≡ false = or_from (byte == 112) (byte == 80)
+    (no_mark byte 112 on.after on.leads refl) (no_mark byte 80 on.after on.leads refl) in
+    let past : next shut byte ≡ between_next byte = rw (mark, no_mark byte 33 on.after on.leads refl) refl in
+    record { after = on.after; leads = past ∙ on.leads; follows = on.follows }
+
+shut_ahead : (byte : ℕ) (rest back more : List ℕ) → byte ∷ rest ≡ back ++ more → HasChosenForm back → HasForm more
+    → LeadsOn shut byte rest
+shut_ahead byte rest back more divided one form = past_shut byte rest (ahead (byte ∷ rest) (subst HasForm (sym divided) form))
+shut_ahead byte rest back more divided (digit {mark = mark} {n = n} either least most) form =
+    let same : byte ≡ mark = first_is byte mark rest ((48 + n) ∷ more) divided in
+    let is : (byte == 112 || byte == 80) ≡ true = marked_so (subst (λ b. (b ≡ 112) ⊎ (b ≡ 80)) (sym same) either) in
+    record {
+      after = marked;
+      leads = rw is refl;
+      follows = record {
+        n = n;
+        more = more;
+        divided = rest_is byte mark rest ((48 + n) ∷ more) divided;
+        least = least;
+        most = most;
+        form = form;
+      };
+    }
+  where
+    marked_so : (byte ≡ 112) ⊎ (byte ≡ 80) → (byte == 112 || byte == 80) ≡ true
+    marked_so (inl small) = ap (λ b. b == 112 || b == 80) small
+    marked_so (inr large) = ap (λ b. b == 112 || b == 80) large
+shut_ahead byte rest back more divided every form =
+    let same : byte ≡ 33 = first_is byte 33 rest more divided in
+    record {
+      after = between;
+      leads = ap (next shut) same;
+      follows = subst HasForm (sym (rest_is byte 33 rest more divided)) form;
+    }
+
+marked_ahead : (byte : ℕ) (rest : List ℕ) → AfterMark (byte ∷ rest) → LeadsOn marked byte rest
+marked_ahead byte rest mark =
+    let same : byte ≡ 48 + mark.n = first_is byte (48 + mark.n) rest mark.more mark.divided in
+    let is : (nat_le 49 byte && nat_le byte 57) ≡ true = and_from (nat_le 49 byte) (nat_le byte 57)
+    (le-leb 49 byte (omega (arith, same, mark.least))) (le-leb byte 57 (omega (arith, same, mark.most))) in
+    record {
+      after = between;
+      leads = rw is refl;
+      follows = subst HasForm (sym (rest_is byte (48 + mark.n) rest mark.more mark.divided)) mark.form;
+    }
+
+pub leads_on : (phase : Phase) (byte : ℕ) (rest : List ℕ) → Follows phase (byte ∷ rest) → LeadsOn phase byte rest
+leads_on between byte rest follows = ahead (byte ∷ rest) follows
+leads_on begun byte rest follows = begun_ahead byte rest follows
+leads_on unlisted byte rest follows = unlisted_ahead byte rest follows
+leads_on listed byte rest follows = listed_ahead_of byte rest follows.letters follows.more follows.divided follows.are follows.set
+leads_on shut byte rest follows = shut_ahead byte rest follows.back follows.more follows.divided follows.says follows.form
+leads_on marked byte rest follows = marked_ahead byte rest follows
+
+-- no text ends within an element
+ends_there : (text letters more : List ℕ) → [] ≡ letters ++ 93 ∷ more → ⊥
+ends_there text [] more divided = cc
+ends_there text (first ∷ letters) more divided = cc
+
+pub ends : (phase : Phase) → Follows phase [] → is_end phase ≡ true
+ends between follows = refl
+ends begun (inl after) = let bad : [] ≡ after.first ∷ after.more = after.divided in cc
+ends begun (inr bracket) = let bad : [] ≡ 94 ∷ bracket.more = bracket.divided in cc
+ends unlisted follows = let bad : [] ≡ follows.first ∷ follows.more = follows.divided in cc
+ends listed follows = absurd (ends_there [] follows.letters follows.more follows.divided)
+ends shut follows = refl
+ends marked follows = let bad : [] ≡ (48 + follows.n) ∷ follows.more = follows.divided in cc

@@ -1,0 +1,278 @@
+-- What may follow in each phase of the form of a pattern text.
+use Rattle.std.proofs.Common.{◌≡◌, ◌≢◌, ℕ, ◌+◌, ◌-◌, ◌≤◌, true, false, ◌&&◌, ◌||◌, ◌==◌, nat_le, Option, Some, None, is_some, List, [], ◌∷◌, ◌++◌, append_assoc, refl, sym, ap, subst, ◌∙◌, arith, ◌⊎◌, inl, inr}
+use Rattle.std.proofs.lemmas.Bool.{cases_Bool, eqb-true, and_parts, or_cases, leb-true}
+use Rattle.std.proofs.lemmas.List.Elements.{All-nil, All-cons}
+use Rattle.srs.specs.declared.piece.Piece.{Piece}
+use Rattle.srs.specs.Piece.{piece_with_letter}
+use Rattle.queue_pattern.specs.Grammar.{is_gap}
+use Rattle.queue_pattern.specs.Form.{is_letter, AreLetters, all, these, others, HasChosenForm, one, digit, every, letter, chosen, HasForm, none, gap, element}
+use Rattle.queue_pattern.proofs.Phases.{Phase, between, begun, unlisted, listed, shut, marked, letter_next, between_next, next, is_end}
+
+pub record AfterSet (rest : List ℕ) : Type 0 where
+  pub back : List ℕ
+  pub more : List ℕ
+  pub divided : rest ≡ back ++ more
+  pub says : HasChosenForm back
+  pub form : HasForm more
+
+pub record AfterMark (rest : List ℕ) : Type 0 where
+  pub n : ℕ
+  pub more : List ℕ
+  pub divided : rest ≡ (48 + n) ∷ more
+  pub least : 1 ≤ n
+  pub most : n ≤ 9
+  pub form : HasForm more
+
+pub record AfterLetter (rest : List ℕ) : Type 0 where
+  pub letters : List ℕ
+  pub more : List ℕ
+  pub divided : rest ≡ letters ++ 93 ∷ more
+  pub are : AreLetters letters
+  pub set : AfterSet more
+
+pub record AfterExcept (rest : List ℕ) : Type 0 where
+  pub first : ℕ
+  pub more : List ℕ
+  pub divided : rest ≡ first ∷ more
+  pub is : is_letter first ≡ true
+  pub later : AfterLetter more
+
+pub record AfterBracket (rest : List ℕ) : Type 0 where
+  pub more : List ℕ
+  pub divided : rest ≡ 94 ∷ more
+  pub later : AfterExcept more
+
+abbrev pub Follows : Phase → List ℕ → Type 0
+Follows between rest = HasForm rest
+Follows begun rest = AfterExcept rest ⊎ AfterBracket rest
+Follows unlisted rest = AfterExcept rest
+Follows listed rest = AfterLetter rest
+Follows shut rest = AfterSet rest
+Follows marked rest = AfterMark rest
+
+-- a phase that is found is the one that is named
+phase_is : (found after : Phase) (rest : List ℕ) → Some found ≡ Some after → Follows after rest → Follows found rest
+phase_is found after rest leads follows = let same : found ≡ after = cc in subst (λ phase. Follows phase rest) (sym same) follows
+
+letter_is : (o : Option Piece) (found after : Phase) → letter_next o found ≡ Some after → (is_some o ≡ true) × (Some found ≡ Some after)
+letter_is None found after leads = let bad : None ≡ Some after = leads in cc
+letter_is (Some piece) found after leads = (refl, leads)
+
+pub brackets : (letters back more : List ℕ) → ((letters ++ 93 ∷ []) ++ back) ++ more ≡ letters ++ 93 ∷ (back ++ more)
+brackets letters back more = ap (λ text. text ++ more) (append_assoc letters (93 ∷ []) back) ∙ append_assoc letters (93 ∷ back) more
+
+-- a byte before what may follow
+bracketed_form : (rest : List ℕ) → AfterExcept rest → HasForm (91 ∷ rest)
+bracketed_form rest after =
+    let letters : List ℕ = after.first ∷ after.later.letters in
+    let are : AreLetters letters = All-cons (λ byte. is_letter byte ≡ true) after.first after.later.letters after.is after.later.are in
+    let some : letters ≢ [] = λ bad. cc in
+    let set = after.later.set in
+    let whole : HasForm (91 ∷ ((letters ++ 93 ∷ []) ++ set.back) ++ set.more) = element (chosen (these some are) set.says) set.form in
+    let same : 91 ∷ ((letters ++ 93 ∷ []) ++ set.back) ++ set.more ≡ 91 ∷ rest =
+    ap (λ text. 91 ∷ text) (brackets letters set.back set.more
+    ∙ sym (after.divided ∙ ap (λ text. after.first ∷ text) (after.later.divided ∙ ap (λ text. after.later.letters ++ 93 ∷ text) set.divided))) in
+    subst HasForm same whole
+
+excepted_form : (rest : List ℕ) → AfterBracket rest → HasForm (91 ∷ rest)
+excepted_form rest bracket =
+    let after = bracket.later in
+    let letters : List ℕ = after.first ∷ after.later.letters in
+    let are : AreLetters letters = All-cons (λ byte. is_letter byte ≡ true) after.first after.later.letters after.is after.later.are in
+    let some : letters ≢ [] = λ bad. cc in
+    let set = after.later.set in
+    let whole : HasForm (91 ∷ 94 ∷ ((letters ++ 93 ∷ []) ++ set.back) ++ set.more) = element (chosen (others some are) set.says) set.form in
+    let same : 91 ∷ 94 ∷ ((letters ++ 93 ∷ []) ++ set.back) ++ set.more ≡ 91 ∷ rest =
+    ap (λ text. 91 ∷ text) (ap (λ text. 94 ∷ text) (brackets letters set.back set.more
+    ∙ sym (after.divided ∙ ap (λ text. after.first ∷ text) (after.later.divided ∙ ap (λ text. after.later.letters ++ 93 ∷ text) set.divided)))
+    ∙ sym bracket.divided) in
+    subst HasForm same whole
+
+starred_form : (rest : List ℕ) → AfterSet rest → HasForm (42 ∷ rest)
+starred_form rest set =
+    let whole : HasForm (42 ∷ set.back ++ set.more) = element (chosen all set.says) set.form in
+    subst (λ text. HasForm (42 ∷ text)) (sym set.divided) whole
+
+byte_form : (byte code : ℕ) (rest : List ℕ) → (byte == code) ≡ true → HasForm (code ∷ rest) → HasForm (byte ∷ rest)
+byte_form byte code rest is form = subst (λ b. HasForm (b ∷ rest)) (sym (eqb-true byte code is)) form
+
+between_before : (after : Phase) (byte : ℕ) (rest : List ℕ) → between_next byte ≡ Some after → Follows after rest → HasForm (byte ∷ rest)
+between_before after byte rest leads follows = elim (cases_Bool (is_gap byte)) [
+  | inl is ↦ gap is (phase_is between after rest (sym (rw is refl) ∙ leads) follows)
+  | inr no_gap ↦ at_star no_gap (cases_Bool (byte == 42)) (cases_Bool (byte == 91))
+]
+  where
+    at_star : is_gap byte ≡ false → ((byte == 42) ≡ true) ⊎ ((byte == 42) ≡ false) → ((byte == 91) ≡ true) ⊎ ((byte == 91) ≡ false)
+        → HasForm (byte ∷ rest)
+    at_star no_gap (inl is) bracket =
+        let to : between_next byte ≡ Some shut = rw (no_gap, is) refl in
+        byte_form byte 42 rest is (starred_form rest (phase_is shut after rest (sym to ∙ leads) follows))
+    at_star no_gap (inr no_star) (inl is) =
+        let to : between_next byte ≡ Some begun = rw (no_gap, no_star, is) refl in
+        byte_form byte 91 rest is (elim (phase_is begun after rest (sym to ∙ leads) follows) [
+          | inl these_ones ↦ bracketed_form rest these_ones
+          | inr other_ones ↦ excepted_form rest other_ones
+        ])
+    at_star no_gap (inr no_star) (inr no_bracket) =
+        let to : between_next byte ≡ letter_next (piece_with_letter byte) between = rw (no_gap, no_star, no_bracket) refl in
+        let found = letter_is (piece_with_letter byte) between after (sym to ∙ leads) in
+        element (letter found.0) (phase_is between after rest found.1 follows)
+
+listed_before : (byte : ℕ) (rest : List ℕ) → is_letter byte ≡ true → AfterLetter rest → AfterExcept (byte ∷ rest)
+listed_before byte rest is later = record { first = byte; more = rest; divided = refl; is = is; later = later }
+
+unlisted_before : (after : Phase) (byte : ℕ) (rest : List ℕ) → letter_next (piece_with_letter byte) listed ≡ Some after
+    → Follows after rest → AfterExcept (byte ∷ rest)
+unlisted_before after byte rest leads follows =
+    let found = letter_is (piece_with_letter byte) listed after leads in
+    listed_before byte rest found.0 (phase_is listed after rest found.1 follows)
+
+begun_before : (after : Phase) (byte : ℕ) (rest : List ℕ) → next begun byte ≡ Some after → Follows after rest
+    → Follows begun (byte ∷ rest)
+begun_before after byte rest leads follows = elim (cases_Bool (byte == 94)) [
+  | inl is ↦
+      let to : next begun byte ≡ Some unlisted = rw is refl in
+      inr (record {
+        more = rest;
+        divided = ap (λ b. b ∷ rest) (eqb-true byte 94 is);
+        later = phase_is unlisted after rest (sym to ∙ leads) follows;
+      })
+  | inr other ↦
+      let to : next begun byte ≡ letter_next (piece_with_letter byte) listed = rw other refl in
+      inl (unlisted_before after byte rest (sym to ∙ leads) follows)
+]
+
+listed_on : (byte : ℕ) (rest : List ℕ) → is_letter byte ≡ true → AfterLetter rest → AfterLetter (byte ∷ rest)
+listed_on byte rest is later = record {
+  letters = byte ∷ later.letters;
+  more = later.more;
+  divided = ap (λ text. byte ∷ text) later.divided;
+  are = All-cons (λ b. is_letter b ≡ true) byte later.letters is later.are;
+  set = later.set;
+}
+
+closing : (byte : ℕ) (rest : List ℕ) → (byte == 93) ≡ true → AfterSet rest → AfterLetter (byte ∷ rest)
+closing byte rest is set = record {
+  letters = [];
+  more = rest;
+  divided = ap (λ b. b ∷ rest) (eqb-true byte 93 is);
+  are = All-nil (λ b. is_letter b ≡ true);
+  set = set;
+}
+
+listed_more : (after : Phase) (byte : ℕ) (rest : List ℕ) → next listed byte ≡ Some after → Follows after rest
+    → AfterLetter (byte ∷ rest)
+listed_more after byte rest leads follows = elim (cases_Bool (byte == 93)) [
+  | inl is ↦
+      let to : next listed byte ≡ Some shut = rw is refl in
+      closing byte rest is (phase_is shut after rest (sym to ∙ leads) follows)
+  | inr other ↦
+      let to : next listed byte ≡ letter_next (piece_with_letter byte) listed = rw other refl in
+      let found = letter_is (piece_with_letter byte) listed after (sym to ∙ leads) in
+      listed_on byte rest found.0 (phase_is listed after rest found.1 follows)
+]
+
+marked_by : (byte : ℕ) → (byte == 112 || byte == 80) ≡ true → (byte ≡ 112) ⊎ (byte ≡ 80)
+marked_by byte is = elim (or_cases (byte == 112) (byte == 80) is) [
+  | inl small ↦ inl (eqb-true byte 112 small)
+  | inr large ↦ inr (eqb-true byte 80 large)
+]
+
+choosing_before : (byte : ℕ) (rest : List ℕ) → (byte == 112 || byte == 80) ≡ true → AfterMark rest → AfterSet (byte ∷ rest)
+choosing_before byte rest is mark = record {
+  back = byte ∷ (48 + mark.n) ∷ [];
+  more = mark.more;
+  divided = ap (λ text. byte ∷ text) mark.divided;
+  says = digit (marked_by byte is) mark.least mark.most;
+  form = mark.form;
+}
+
+shut_before : (after : Phase) (byte : ℕ) (rest : List ℕ) → next shut byte ≡ Some after → Follows after rest
+    → AfterSet (byte ∷ rest)
+shut_before after byte rest leads follows = elim (cases_Bool (byte == 112 || byte == 80)) [
+  | inl is ↦
+      let to : next shut byte ≡ Some marked = rw is refl in
+      choosing_before byte rest is (phase_is marked after rest (sym to ∙ leads) follows)
+  | inr no_mark ↦ at_all no_mark (cases_Bool (byte == 33))
+]
+  where
+    at_all : (byte == 112 || byte == 80) ≡ false → ((byte == 33) ≡ true) ⊎ ((byte == 33) ≡ false) → AfterSet (byte ∷ rest)
+    at_all no_mark (inl is) =
+        let to : next shut byte ≡ Some between = rw (no_mark, is) refl in
+        record {
+          back = 33 ∷ [];
+          more = rest;
+          divided = ap (λ b. b ∷ rest) (eqb-true byte 33 is);
+          says = every;
+          form = phase_is between after rest (sym to ∙ leads) follows;
+        }
+    at_all no_mark (inr other) =
+        let to : next shut byte ≡ between_next byte = rw (no_mark, other) refl in
+        record {
+          back = [];
+          more = byte ∷ rest;
+          divided = refl;
+          says = one;
+          form = between_before after byte rest (sym to ∙ leads) follows;
+        }
+
+marked_before : (after : Phase) (byte : ℕ) (rest : List ℕ) → next marked byte ≡ Some after → Follows after rest
+    → AfterMark (byte ∷ rest)
+marked_before after byte rest leads follows = elim (cases_Bool (nat_le 49 byte && nat_le byte 57)) [
+  | inl is ↦
+      let to : next marked byte ≡ Some between = rw is refl in
+      let parts = and_parts (nat_le 49 byte) (nat_le byte 57) is in
+      let least : 49 ≤ byte = leb-true 49 byte parts.0 in
+      record {
+        n = byte - 48;
+        more = rest;
+        divided = ap (λ b. b ∷ rest) (omega (arith, least));
+        least = omega (arith, least);
+        most = omega (arith, leb-true byte 57 parts.1);
+        form = phase_is between after rest (sym to ∙ leads) follows;
+      }
+  | inr other ↦
+      let to : next marked byte ≡ None = rw other refl in
+      let bad : None ≡ Some after = sym to ∙ leads in cc
+]
+
+pub follows_before : (phase after : Phase) (byte : ℕ) (rest : List ℕ) → next phase byte ≡ Some after → Follows after rest
+    → Follows phase (byte ∷ rest)
+follows_before between after byte rest leads follows = between_before after byte rest leads follows
+follows_before begun after byte rest leads follows = begun_before after byte rest leads follows
+follows_before unlisted after byte rest leads follows = unlisted_before after byte rest leads follows
+follows_before listed after byte rest leads follows = listed_more after byte rest leads follows
+follows_before shut after byte rest leads follows = shut_before after byte rest leads follows
+follows_before marked after byte rest leads follows = marked_before after byte rest leads follows
+
+-- what is enough to end with
+nothing_chosen : AfterSet []
+nothing_chosen = record { back = []; more = []; divided = refl; says = one; form = none }
+
+closed_by : AfterLetter (93 ∷ [])
+closed_by = closing 93 [] refl nothing_chosen
+
+pub ending : Phase → List ℕ
+ending between = []
+ending begun = 73 ∷ 93 ∷ []
+ending unlisted = 73 ∷ 93 ∷ []
+ending listed = 93 ∷ []
+ending shut = []
+ending marked = 49 ∷ []
+
+pub ending_follows : (phase : Phase) → Follows phase (ending phase)
+unfolding ending
+ending_follows between = none
+ending_follows begun = inl (listed_before 73 (93 ∷ []) refl closed_by)
+ending_follows unlisted = listed_before 73 (93 ∷ []) refl closed_by
+ending_follows listed = closed_by
+ending_follows shut = nothing_chosen
+ending_follows marked = record { n = 1; more = []; divided = refl; least = omega arith; most = omega arith; form = none }
+
+pub end_follows : (phase : Phase) → is_end phase ≡ true → Follows phase []
+end_follows between is = none
+end_follows shut is = nothing_chosen
+end_follows begun is = cc
+end_follows unlisted is = cc
+end_follows listed is = cc
+end_follows marked is = cc
