@@ -1,7 +1,11 @@
 // The fields that are flooded.
 ghost use Rattle.std.specs.Prelude.{◌<◌};
 
+use moves::DropMode;
+use reach::{Places, Steps, places};
+use srs::{Piece, Placement, Rules};
 use std::alloc::{AllocError, Global};
+use std::sync::ledger::Ledger;
 use well::Well;
 
 /// An empty well, an opener of four rows, and a high ragged stack with holes and overhangs.
@@ -11,7 +15,7 @@ pub(crate) const FIELDS: [&[u8]; 3] = [
     b"X_________/XX_______X/XX____X_XX/XXX___XXXX/XX____XXXX/XXX__XXXXX/XX_X__XXXX/XXXX__X_XX/XXX__XXXXX/XXXX_XXXXX/X_XXX_XXXX/XXXX__XXXX",
 ];
 
-/// How many ragged fields there are.
+/// How many ragged or played fields there are.
 const COUNT: u32 = 512;
 
 /// A generator of numbers that look random.
@@ -56,4 +60,64 @@ fn ragged_field(random: &mut Random, rows: u32) -> Well {
         }
     }
     well
+}
+
+/// Fields that are played in the lowest so many rows, each by another number of pieces.
+pub(crate) fn played_fields<L: Ledger>(
+    alloc: Global,
+    rows: u32,
+    steps: &mut Steps<L>,
+) -> Result<Vec<Well>, AllocError> {
+    let mut random = Random { state: 7 };
+    let mut wells = Vec::new(alloc);
+    for _ in 0..COUNT {
+        wells.push(played_field(&mut random, rows.min(22) as u8, steps))?;
+    }
+    Ok(wells)
+}
+
+/// One such field: pieces at random, each in one of its places whose cells lie in these rows.
+fn played_field<L: Ledger>(random: &mut Random, rows: u8, steps: &mut Steps<L>) -> Well {
+    let mut well = Well::empty();
+    for _ in 0..random.below(10 * u64::from(rows) / 4 + 1) {
+        let piece = Piece::ALL[random.below(7) as usize];
+        let held = places(&well, &Rules::srs(), piece, DropMode::Soft, steps);
+        match chosen(random, held.below(rows)) {
+            None => return well,
+            Some(placement) => well = locked(&well, &placement),
+        }
+    }
+    well
+}
+
+/// One of the placements that are held.
+fn chosen(random: &mut Random, held: Places) -> Option<Placement> {
+    let count = count(held);
+    if count == 0 {
+        return None;
+    }
+    let mut held = held;
+    for _ in 0..random.below(count) {
+        let _ = held.take_least();
+    }
+    held.take_least()
+}
+
+/// How many placements are held, if fewer than a thousand.
+fn count(held: Places) -> u64 {
+    let mut held = held;
+    for number in 0..1000 {
+        if held.take_least().is_none() {
+            return number;
+        }
+    }
+    1000
+}
+
+/// The well with the placement locked, where it is free.
+fn locked(well: &Well, placement: &Placement) -> Well {
+    if placement.x <= 9 && placement.y <= 22 && well.is_free(placement) {
+        return well.lock(placement).0;
+    }
+    *well
 }

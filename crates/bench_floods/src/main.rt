@@ -1,16 +1,20 @@
 // Floods fields as often as its first argument says, and prints a checksum of what was held. Without more arguments these
-// are three fixed fields with either drop. Further arguments are the number of rows of ragged fields, `soft` or `hard`, and
-// `list` or `first`: whether all placements of each flood are taken, or one is looked at.
+// are three fixed fields with either drop. Further arguments are `ragged` or `played` fields, their number of rows, `soft`
+// or `hard`, and what is made of each flood: `first` looks at one placement, `list` takes all, and `rules` looks at one by
+// the call that looks at the table first.
 #![tactic(auto)]
 
 ghost use Rattle.std.specs.Prelude.{◌≡◌, ◌<◌, ◌≤◌};
+ghost use Rattle.well.specs.Well.{filled};
+ghost use Rattle.sky.specs.Sky.{IsClearFrom};
 
 mod fields;
 
-use fields::{FIELDS, ragged_fields};
+use fields::{FIELDS, played_fields, ragged_fields};
 use moves::DropMode;
 use reach::{Places, Steps, is_low, places, window_places};
 use srs::{Piece, Placement, Rules};
+use std::alloc::{AllocError, Global};
 use std::marker::Brand;
 use std::sync::ledger::{Blank, Ledger};
 use std::{env, io};
@@ -18,23 +22,59 @@ use well::Well;
 
 const MODES: [DropMode; 2] = [DropMode::Soft, DropMode::Hard];
 
+/// What is flooded, and what is made of each flood.
+#[derive(Clone, Copy)]
+struct Task {
+    rounds: u32,
+    is_played: bool,
+    rows: u32,
+    mode: DropMode,
+    look: Look,
+}
+
+/// What is made of a flood.
+#[derive(Clone, Copy)]
+enum Look {
+    First,
+    All,
+    ByRules,
+}
+
 fn main(rt: HostRuntime) -> io::Result<()> {
     let words: Vec<String> = env::args(&rt)?.skip(1).collect(rt.alloc())?;
     let rounds = number(words.first());
-    let sum = match words.get(1) {
-        None => flooded::<Brand>(Blank::new(1), rounds),
-        Some(rows) => {
-            let wells = ragged_fields(rt.alloc(), number(Some(rows)))?;
-            let mode = if is_word(words.get(2), "hard") {
-                DropMode::Hard
-            } else {
-                DropMode::Soft
-            };
-            let taken = is_word(words.get(3), "list");
-            low_flooded::<Brand>(Blank::new(1), rounds, &wells, mode, taken)
-        }
+    let sum = if words.len() < 2 {
+        flooded::<Brand>(Blank::new(1), rounds)
+    } else {
+        low_flooded::<Brand>(Blank::new(1), rt.alloc(), task_of(&words))?
     };
     println!(rt; "{sum}")
+}
+
+/// What the words ask for.
+fn task_of(words: &Vec<String>) -> Task {
+    Task {
+        rounds: number(words.first()),
+        is_played: is_word(words.get(1), "played"),
+        rows: number(words.get(2)),
+        mode: if is_word(words.get(3), "hard") {
+            DropMode::Hard
+        } else {
+            DropMode::Soft
+        },
+        look: look_of(words.get(4)),
+    }
+}
+
+/// What is made of a flood by this word.
+fn look_of(word: Option<&String>) -> Look {
+    if is_word(word, "list") {
+        return Look::All;
+    }
+    if is_word(word, "rules") {
+        return Look::ByRules;
+    }
+    Look::First
 }
 
 /// The number that a word says, or 1.
@@ -77,34 +117,48 @@ fn flooded<L: Ledger>(blank: Blank, rounds: u32) -> u64
 }
 
 /// The checksum of what is looked at in floods of low fields.
-fn low_flooded<L: Ledger>(
-    blank: Blank,
-    rounds: u32,
-    wells: &[Well],
-    mode: DropMode,
-    taken: bool,
-) -> u64
+fn low_flooded<L: Ledger>(blank: Blank, alloc: Global, task: Task) -> Result<u64, AllocError>
     requires name { blank.name ≡ L.name }
     requires parts { blank.parts ≡ L.parts }
     requires some { 0 < blank.parts }
 {
     let mut steps = Steps::<L>::new(blank);
+    let wells = if task.is_played {
+        played_fields(alloc, task.rows, &mut steps)?
+    } else {
+        ragged_fields(alloc, task.rows)?
+    };
+    let rules = Rules::srs();
     let mut sum = 0;
-    for _ in 0..rounds {
-        for well in wells {
+    for _ in 0..task.rounds {
+        for well in &wells {
             if is_low(well) {
                 for piece in Piece::ALL {
-                    let held = window_places(well, piece, mode, &mut steps);
-                    sum = if taken {
-                        taken_sum(sum, held)
-                    } else {
-                        first_sum(sum, &held)
-                    };
+                    sum = low_sum(sum, well, &rules, piece, task, &mut steps);
                 }
             }
         }
     }
-    sum
+    Ok(sum)
+}
+
+/// The checksum with what is looked at in the flood of a low field.
+#[inline(always)]
+fn low_sum<L: Ledger>(
+    sum: u64,
+    well: &Well,
+    rules: &Rules,
+    piece: Piece,
+    task: Task,
+    steps: &mut Steps<L>,
+) -> u64
+    requires { IsClearFrom 8 (filled well.now) }
+{
+    match task.look {
+        Look::First => first_sum(sum, &window_places(well, piece, task.mode, steps)),
+        Look::All => taken_sum(sum, window_places(well, piece, task.mode, steps)),
+        Look::ByRules => first_sum(sum, &places(well, rules, piece, task.mode, steps)),
+    }
 }
 
 /// The checksum with the least placement that is held.

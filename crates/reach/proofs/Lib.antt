@@ -32,4 +32,5 @@ mod LaneTests
 mod LaneSound
 mod SoftLemmas
 mod SoftPlaces
+mod SameOffsets
 pub mod CallerLemmas

@@ -1,11 +1,12 @@
 -- The numbers of a set, word by word.
-use Rattle.std.proofs.Common.{◌≡◌, ℕ, ◌+◌, ◌-◌, ◌*◌, ◌/◌, ◌%◌, ◌<◌, ◌≤◌, Bool, true, false, not, ◌&&◌, ◌==◌, nat_lt, nat_le, List, length, set, get_or, Some, refl, sym, ap, subst, ◌∙◌, inl, inr, arith, get_or-set_other, get_or-set_same, ◌≢◌}
+use Rattle.std.proofs.Common.{◌≡◌, ℕ, ◌+◌, ◌-◌, ◌*◌, ◌/◌, ◌%◌, ◌<◌, ◌≤◌, Bool, true, false, not, ◌&&◌, ◌==◌, nat_lt, nat_le, List, length, length-set, set, get_or, Some, refl, sym, ap, subst, ◌∙◌, inl, inr, arith, get_or-set_other, get_or-set_same, ◌≢◌}
 use Rattle.std.proofs.Math.Path.{fun_ext}
 use Rattle.std.proofs.lemmas.Bool.{cases_lt, cases_eq, and_parts, and_from, leb-true, le-leb, lt-ltb, ltb-true, eq-eqb, ne_eqb, both_ways}
 use Rattle.lane_board.specs.Lanes.{has_bit}
 use Rattle.lane_board.proofs.CallerLemmas.{same_from_both, has_bit-zero}
 use Rattle.srs.specs.declared.rotation.Rotation.{Rotation}
 use Rattle.srs.specs.Rotation.{rotation_place}
+use Rattle.srs.proofs.CallerLemmas.{rotation_place-injective}
 use Rattle.reach.specs.declared.numbers.Numbers.{Numbers}
 use Rattle.reach.specs.FourRows.{IsFourRows}
 use Rattle.reach.specs.Numbers.{has_number, number_at, is_number, states_in, IsFirstNumber, NoNumber}
@@ -138,44 +139,70 @@ states_by numbers S lies rows few = fun_ext (λ r. fun_ext (λ x. fun_ext (λ y.
             let column : x < 16 = omega (arith, place.0) in
             and_from _ _ (and_from _ _ (lt-ltb x 16 column) (lt-ltb y 24 place.1)) (at r x y column place.1 ∙ held)
 
-pub rows_more : (S : States) (words : List ℕ) (at word : ℕ) → length words ≡ 24 → at < 24 → ((w : ℕ) → w < at → (r : Rotation) → rotation_place r ≡ w / 6 → IsFourRows (S r) (4 * (w % 6)) (get_or words w 0)) →
-    ((r : Rotation) → rotation_place r ≡ at / 6 → IsFourRows (S r) (4 * (at % 6)) word) → (w : ℕ) → w < at + 1 → (r : Rotation) → rotation_place r ≡ w / 6 → IsFourRows (S r) (4 * (w % 6)) (get_or (set words at word) w 0)
-rows_more S words at word size small before here w within r turn = elim (cases_lt w at) [
-  | inl old ↦ let apart : w ≢ at = omega arith in rw get_or-set_other (before w old r turn)
-  | inr new ↦
-      let same : w ≡ at = omega arith in
-      let in_bounds : at < length words = omega arith in
-      subst (λ w. rotation_place r ≡ w / 6 → IsFourRows (S r) (4 * (w % 6)) (get_or (set words at word) w 0)) (sym same) (λ turn. rw get_or-set_same (here r turn)) turn
+-- one word changed
+one_more : (P : ℕ → ℕ → Type 0) (words : List ℕ) (at word w : ℕ) → at < length words → P at word → (w ≢ at → P w (get_or words w 0)) → P w (get_or (set words at word) w 0)
+one_more P words at word w in_bounds here others = elim (cases_eq w at) [
+  | inl same ↦ subst (λ w. P w (get_or (set words at word) w 0)) (sym same) (rw get_or-set_same here)
+  | inr apart ↦ rw get_or-set_other (others apart)
 ]
 
--- the bits of some rows of each rotation
-pub record KeepsRows (old : Numbers) (rows words : List ℕ) (count : ℕ) : Type 0 where
-  pub bits : (w k : ℕ) → w < count → k < 64 → has_bit (get_or words w 0) k ≡ (has_bit (get_or old.words w 0) k && nat_lt k (16 * (get_or rows (w / 6) 0 - 4 * (w % 6))))
+-- one word more of each rotation
+abbrev pub four_set : List ℕ → ℕ → ℕ → ℕ → ℕ → ℕ → List ℕ
+four_set words at a b c d = set (set (set (set words at a) (at + 6) b) (at + 12) c) (at + 18) d
 
-pub keeps_rows : (old new : Numbers) (rows : List ℕ) → KeepsRows old rows new.words 24 → (place y x : ℕ) → place < 4 → y < 24 → x < 16 → has_number new (number_at place y x) ≡ (has_number old (number_at place y x) && nat_lt y (get_or rows place 0))
+pub four_set-length : (words : List ℕ) (at a b c d : ℕ) → length words ≡ 24 → length (four_set words at a b c d) ≡ 24
+four_set-length words at a b c d size =
+    length-set (set (set (set words at a) (at + 6) b) (at + 12) c) (at + 18) d ∙ length-set (set (set words at a) (at + 6) b) (at + 12) c ∙ length-set (set words at a) (at + 6) b ∙ length-set words at a ∙ size
+
+pub four_more : (P : ℕ → ℕ → Type 0) (words : List ℕ) (at a b c d : ℕ) → length words ≡ 24 → at < 6 → ((w : ℕ) → w < 24 → w % 6 < at → P w (get_or words w 0)) → P at a → P (at + 6) b → P (at + 12) c → P (at + 18) d →
+    (w : ℕ) → w < 24 → w % 6 < at + 1 → P w (get_or (four_set words at a b c d) w 0)
+four_more P words at a b c d size small before is_a is_b is_c is_d w below within =
+    one_more P (set (set (set words at a) (at + 6) b) (at + 12) c) (at + 18) d w (omega (arith, three)) is_d
+    (λ (n4 : w ≢ at + 18). one_more P (set (set words at a) (at + 6) b) (at + 12) c w (omega (arith, two)) is_c
+    (λ (n3 : w ≢ at + 12). one_more P (set words at a) (at + 6) b w (omega (arith, one)) is_b
+    (λ (n2 : w ≢ at + 6). one_more P words at a w (omega arith) is_a
+    (λ (n1 : w ≢ at). before w below (omega arith)))))
+  where
+    one : length (set words at a) ≡ 24
+    one = length-set words at a ∙ size
+
+    two : length (set (set words at a) (at + 6) b) ≡ 24
+    two = length-set (set words at a) (at + 6) b ∙ one
+
+    three : length (set (set (set words at a) (at + 6) b) (at + 12) c) ≡ 24
+    three = length-set (set (set words at a) (at + 6) b) (at + 12) c ∙ two
+
+-- the word has the four rows of its rotation
+abbrev pub HasRows : States → ℕ → ℕ → Type 0
+HasRows S w word = (r : Rotation) → rotation_place r ≡ w / 6 → IsFourRows (S r) (4 * (w % 6)) word
+
+pub rows_here : (S : States) (q : Rotation) (w at place word : ℕ) → w ≡ at + 6 * place → at < 6 → rotation_place q ≡ place → IsFourRows (S q) (4 * at) word → HasRows S w word
+rows_here S q w at place word is small here rows r turn =
+    let same : q ≡ r = rotation_place-injective q r (here ∙ sym (turn ∙ omega arith)) in
+    let row : 4 * at ≡ 4 * (w % 6) = omega arith in
+    subst (λ (r : Rotation). IsFourRows (S r) (4 * (w % 6)) word) same (subst (λ y. IsFourRows (S q) y word) row rows)
+
+-- the word has the bits of some rows of its rotation
+abbrev pub KeepsRows : Numbers → List ℕ → ℕ → ℕ → Type 0
+KeepsRows old rows w word = (k : ℕ) → k < 64 → has_bit word k ≡ (has_bit (get_or old.words w 0) k && nat_lt k (16 * (get_or rows (w / 6) 0 - 4 * (w % 6))))
+
+pub keeps_here : (old : Numbers) (rows : List ℕ) (w at place word : ℕ) → w ≡ at + 6 * place → at < 6 → ((k : ℕ) → k < 64 → has_bit word k ≡ (has_bit (get_or old.words w 0) k && nat_lt k (16 * (get_or rows place 0 - 4 * at)))) → KeepsRows old rows w word
+keeps_here old rows w at place word is small bits k within =
+    let turn : place ≡ w / 6 = omega arith in
+    let row : at ≡ w % 6 = omega arith in
+    bits k within ∙ (λ i. has_bit (get_or old.words w 0) k && nat_lt k (16 * (get_or rows (turn i) 0 - 4 * row i)))
+
+pub keeps_rows : (old new : Numbers) (rows : List ℕ) → ((w : ℕ) → w < 24 → KeepsRows old rows w (get_or new.words w 0)) → (place y x : ℕ) → place < 4 → y < 24 → x < 16 → has_number new (number_at place y x) ≡ (has_number old (number_at place y x) && nat_lt y (get_or rows place 0))
 unfolding has_number
 keeps_rows old new rows keeps place y x few row column =
     let n = number_at place y x in
     let turn : n / 64 / 6 ≡ place = omega arith in
     let rest : n / 64 % 6 ≡ y / 4 = omega arith in
     let bit : n % 64 ≡ 16 * (y % 4) + x = omega arith in
-    keeps.bits (n / 64) (n % 64) (omega arith) (omega arith)
+    keeps (n / 64) (omega arith) (n % 64) (omega arith)
     ∙ ap (λ b. has_bit (get_or old.words (n / 64) 0) (n % 64) && b) ((λ i. nat_lt (bit i) (16 * (get_or rows (turn i) 0 - 4 * rest i))) ∙ same (get_or rows place 0))
   where
     same : (left : ℕ) → nat_lt (16 * (y % 4) + x) (16 * (left - 4 * (y / 4))) ≡ nat_lt y left
     same left = same_from_both _ _
         (λ is. let less = ltb-true _ _ is in lt-ltb y left (omega (arith, less)))
         (λ is. let less = ltb-true _ _ is in lt-ltb _ _ (omega (arith, less)))
-
-pub keeps_more : (old : Numbers) (rows words : List ℕ) (at word : ℕ) → length words ≡ 24 → at < 24 → KeepsRows old rows words at →
-    ((k : ℕ) → k < 64 → has_bit word k ≡ (has_bit (get_or old.words at 0) k && nat_lt k (16 * (get_or rows (at / 6) 0 - 4 * (at % 6))))) → KeepsRows old rows (set words at word) (at + 1)
-keeps_more old rows words at word size small keeps here = record { bits = bits }
-  where
-    bits : (w k : ℕ) → w < at + 1 → k < 64 → has_bit (get_or (set words at word) w 0) k ≡ (has_bit (get_or old.words w 0) k && nat_lt k (16 * (get_or rows (w / 6) 0 - 4 * (w % 6))))
-    bits w k within small_k = elim (cases_lt w at) [
-      | inl before ↦ let apart : w ≢ at = omega arith in rw get_or-set_other (keeps.bits w k before small_k)
-      | inr new ↦
-          let same : w ≡ at = omega arith in
-          let in_bounds : at < length words = omega arith in
-          subst (λ w. has_bit (get_or (set words at word) w 0) k ≡ (has_bit (get_or old.words w 0) k && nat_lt k (16 * (get_or rows (w / 6) 0 - 4 * (w % 6))))) (sym same) (rw get_or-set_same (here k small_k))
-    ]

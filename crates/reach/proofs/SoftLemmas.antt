@@ -142,7 +142,18 @@ pub goes_on : (piece : Piece) (N : ℕ) (free S T : Lanes) → IsSoFar piece N f
 goes_on piece N free S T so_far round = record { start = so_far.start; spread = so_far.spread; rounds = suc so_far.rounds; reached = (S, (so_far.reached, round)) }
 
 pub ends : (piece : Piece) (N : ℕ) (free S : Lanes) → IsSoFar piece N free S → HaveAllRests piece N free S ⊎ IsRound piece N free S S → IsSoftFlood piece N free S
-ends piece N free S so_far last = record { start = so_far.start; spread = so_far.spread; rounds = so_far.rounds; reached = so_far.reached; ends = last }
+ends piece N free S so_far last = record { start = so_far.start; begun = inr so_far.spread; rounds = so_far.rounds; reached = so_far.reached; ends = last }
+
+pub ends_at_once : (piece : Piece) (N : ℕ) (free S : Lanes) → S ≡ skies piece N free → HaveAllRests piece N free S → IsSoftFlood piece N free S
+ends_at_once piece N free S sky all = record { start = S; begun = inl sky; rounds = 0; reached = refl; ends = inl all }
+
+-- the flood has the skies
+pub begun_grows : (piece : Piece) (N : ℕ) (free S : Lanes) → (flood : IsSoftFlood piece N free S) → Grows (skies piece N free) S
+begun_grows piece N free S flood = grows_trans (skies piece N free) flood.start S (at flood.begun) (rounds_grow flood.rounds piece N free flood.start S flood.reached)
+  where
+    at : (flood.start ≡ skies piece N free) ⊎ AreSpread N free (skies piece N free) flood.start → Grows (skies piece N free) flood.start
+    at (inl same) = grows_same (skies piece N free) flood.start (sym same)
+    at (inr spread) = record { each = λ r. spread-has Shift.All N (free r) _ (flood.start r) (spread.each r) }
 
 pub still_round : (piece : Piece) (N : ℕ) (free S T : Lanes) → T ≡ S → IsRound piece N free S T → IsRound piece N free S S
 still_round piece N free S T e round = subst (IsRound piece N free S) e round

@@ -27,12 +27,11 @@ use Rattle.sky.specs.Sky.{IsClearFrom}
 use Rattle.sky.specs.Rests.{IsResting, IsKeyed}
 use Rattle.sky.specs.Lanes.{lowest, lane}
 use Rattle.sky.proofs.CallerLemmas.{soft_places, rest_lane, keyed_in}
-use Rattle.reach.specs.declared.spread.Shifts.TheVariants as Shift
 use Rattle.reach.specs.LaneFlood.{Lanes, IsInLanes, IsLanesClosed}
 use Rattle.reach.specs.LanePlaces.{raised, has_own_cells}
 use Rattle.reach.specs.LaneTurns.{arrivals}
 use Rattle.reach.specs.PlaceSets.{ArePlaces}
-use Rattle.reach.specs.SkyBoard.{IsLaneMap, sky_board}
+use Rattle.reach.specs.SkyBoard.{IsLaneMap}
 use Rattle.reach.specs.SoftLanes.{free_boards, skies, places_of, rests_in, soft_board, HaveAllRests, AreSpread, IsTurnedInto, IsRound, Rounds, IsSoftFlood}
 use Rattle.reach.specs.States.{has_state}
 use Rattle.reach.proofs.ClassLemmas.{class_lane, rests_same}
@@ -42,8 +41,7 @@ use Rattle.reach.proofs.LaneMaps.{free_lanes-exact, resting_lanes-exact, free_he
 use Rattle.reach.proofs.LanePlaceLemmas.{raised-from, raised-to, free_within, resting_within}
 use Rattle.reach.proofs.LaneSound.{IsAt, IsSoundBoard, state_at_place, spread_sound, union_sound, sky_sound, arrivals_sound}
 use Rattle.reach.proofs.LaneTurns.{free_lane, clockwise_low, anti_low, is_low_move}
-use Rattle.reach.proofs.SoftLemmas.{grows_trans, rounds_grow, round_closes, sky_is_free, IsPlaceOf, places_of-from, places_of-has, in_rotation}
-use Rattle.reach.proofs.SpreadLemmas.{spread-has}
+use Rattle.reach.proofs.SoftLemmas.{begun_grows, round_closes, sky_is_free, IsPlaceOf, places_of-from, places_of-has, in_rotation}
 
 pub many_rows : (n : ℕ) → IsTrue (is_lane_count n) → 8 ≤ n
 many_rows n is = leb-true 8 n (and_parts (nat_le 8 n) (nat_le n 32) (and_parts (n % 8 == 0) _ is).1).0
@@ -81,12 +79,13 @@ module _ (F : Field) (rows N : ℕ) (clear : IsClearFrom rows F) (over : rows + 
   sound_lies : (S : Lanes) → AreSound S → (r : Rotation) → LiesWithin (S r) N
   sound_lies S sound r = record { inside = λ x y held. (lies r).inside x y ((sound.each r).within.has x y held) }
 
-  start_sound : (S : Lanes) → AreSpread N free (skies piece N free) S → AreSound S
+  skies_sound : AreSound (skies piece N free)
   unfolding skies
-  start_sound S spread = record {
-    each = λ r. spread_sound F N piece r (free r) (is r) (lies r) (sky_board piece (canonical_rotation piece r) N (free r)) (S r) (spread.each r)
-        (sky_sound F N piece r (free r) (is r) (lies r) rows clear over few (sky_is_free piece (canonical_rotation piece r) N (free r)));
-  }
+  skies_sound = record { each = λ r. sky_sound F N piece r (free r) (is r) (lies r) rows clear over few (sky_is_free piece (canonical_rotation piece r) N (free r)) }
+
+  start_sound : (S : Lanes) → (S ≡ skies piece N free) ⊎ AreSpread N free (skies piece N free) S → AreSound S
+  start_sound S (inl same) = subst AreSound (sym same) skies_sound
+  start_sound S (inr spread) = record { each = λ r. spread_sound F N piece r (free r) (is r) (lies r) (skies piece N free r) (S r) (spread.each r) (skies_sound.each r) }
 
   turned_sound : (to : Rotation) (S T : Lanes) → IsTurnedInto piece N free to S T → AreSound S → AreSound T
   turned_sound to S T turn sound = record {
@@ -120,13 +119,12 @@ module _ (F : Field) (rows N : ℕ) (clear : IsClearFrom rows F) (over : rows + 
 
   -- a flood is sound, and closed or with all rests
   flood_sound : (S : Lanes) → IsSoftFlood piece N free S → AreSound S
-  flood_sound S flood = rounds_sound flood.rounds flood.start S flood.reached (start_sound flood.start flood.spread)
+  flood_sound S flood = rounds_sound flood.rounds flood.start S flood.reached (start_sound flood.start flood.begun)
 
   flood_ends : (S : Lanes) → IsSoftFlood piece N free S → HaveAllRests piece N free S ⊎ IsLanesClosed piece N free S
   flood_ends S flood = elim flood.ends [
     | inl all ↦ inl all
-    | inr still ↦ inr (round_closes piece N free S still (grows_trans (skies piece N free) flood.start S
-        (record { each = λ r. spread-has Shift.All N (free r) _ (flood.start r) (flood.spread.each r) }) (rounds_grow flood.rounds piece N free flood.start S flood.reached)))
+    | inr still ↦ inr (round_closes piece N free S still (begun_grows piece N free S flood))
   ]
 
   -- the canonical placement with a state's cells is at its place

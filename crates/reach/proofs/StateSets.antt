@@ -40,10 +40,6 @@ pub with_other : (S : States) (r s : Rotation) (F : Field) → (rotation_place s
 unfolding states_with
 with_other S r s F other = cond-false _ F (S s) other
 
--- the rotation that was changed, or another
-pub record OtherRotation (r s : Rotation) : Type 0 where
-  pub apart : (rotation_place s == rotation_place r) ≡ false
-
 pub states_within : {N : ℕ} (pivots : Pivots N) (r : Rotation) → LiesWithin (states_of pivots r) N
 unfolding states_of
 states_within pivots Spawn = record { inside = field_of-within pivots.spawn }

@@ -1,13 +1,14 @@
 -- The bits of words after shifts and masks.
-use Rattle.std.proofs.Common.{◌≡◌, ℕ, ◌+◌, ◌-◌, ◌*◌, ◌/◌, ◌%◌, ◌^◌, ◌<◌, ◌≤◌, Bool, true, false, not, ◌&&◌, ◌||◌, ◌==◌, nat_le, nat_lt, bit_and, bit_or, w64, refl, sym, ap, ◌∙◌, inl, inr, arith}
-use Rattle.std.specs.Int.{bit_not, trailing_zeros}
-use Rattle.std.proofs.lemmas.Bool.{cases_lt, cases_eq, cases_Bool, lt-leb, le-leb, lt-ltb, le-ltb, eq-eqb, ne_eqb, both_ways}
+use Rattle.std.proofs.Common.{◌≡◌, ℕ, zero, suc, ◌+◌, ◌-◌, ◌*◌, ◌/◌, ◌%◌, ◌^◌, ◌<◌, ◌≤◌, Bool, true, false, not, ◌&&◌, ◌||◌, ◌==◌, nat_le, nat_lt, bit_and, bit_or, w64, refl, sym, ap, ◌∙◌, inl, inr, arith}
+use Rattle.std.specs.Int.{trailing_zeros}
+use Rattle.std.proofs.lemmas.Bool.{cases_lt, cases_eq, cases_Bool, lt-leb, le-leb, lt-ltb, le-ltb, eq-eqb, eqb-true, ne_eqb, both_ways}
 use Rattle.std.proofs.lemmas.Nat.{one_shl}
-use Rattle.std.proofs.lemmas.Nat.Bits.{bit_at-trailing_zeros, bit_at_clear_same, bit_at_clear_other, bit_at_ones, bit_at_ones_above}
+use Rattle.std.proofs.lemmas.Nat.Bits.{bit_at-trailing_zeros, bit_at-suc, bit_at_lowest, bit_at_ones, bit_at_ones_above}
 use Rattle.lane_board.specs.Field.{Field}
 use Rattle.lane_board.specs.Lanes.{has_bit}
 use Rattle.lane_board.proofs.CallerLemmas.{true_from_bit, false_from_bit, has_bit-and, has_bit-or, has_bit-low, has_bit-shifted_low, has_bit-shifted_high, has_bit-shifted_right}
 use Rattle.reach.specs.FourRows.{IsFourRows}
+use Rattle.reach.specs.LowestBit.{IsLowestBit}
 use Rattle.reach.proofs.FieldLemmas.{LiesWithin}
 
 pub has_bit-bits_from : (n low k : ℕ) → k < 64 → has_bit (n / 2 ^ low * 2 ^ low % 2 ^ 64) k ≡ (nat_le low k && has_bit n k)
@@ -20,29 +21,86 @@ has_bit-bits_from n low k within =
           ∙ ap (λ b. b && has_bit n k) (sym (le-leb low k from))
     ]
 
-pub lowest-has : (n : ℕ) → 0 < n → n < 2 ^ 64 → has_bit n (trailing_zeros w64 n) ≡ true
-lowest-has n some fits = true_from_bit n (trailing_zeros w64 n) (bit_at-trailing_zeros w64 n some fits).1
+pub lowest-is : (n : ℕ) → 0 < n → n < 2 ^ 64 → IsLowestBit n (trailing_zeros w64 n)
+lowest-is n some fits = record { has = true_from_bit n (trailing_zeros w64 n) (bit_at-trailing_zeros w64 n some fits).1; first = first }
+  where
+    first : (k : ℕ) → has_bit n k ≡ true → trailing_zeros w64 n ≤ k
+    first k has = elim (cases_lt k (trailing_zeros w64 n)) [
+      | inl below ↦ absurd (both_ways _ (false_from_bit n k ((bit_at-trailing_zeros w64 n some fits).2 k below)) has)
+      | inr above ↦ above
+    ]
 
-pub lowest-first : (n k : ℕ) → 0 < n → n < 2 ^ 64 → has_bit n k ≡ true → trailing_zeros w64 n ≤ k
-lowest-first n k some fits has = elim (cases_lt k (trailing_zeros w64 n)) [
-  | inl below ↦ absurd (both_ways _ (false_from_bit n k ((bit_at-trailing_zeros w64 n some fits).2 k below)) has)
-  | inr above ↦ above
-]
-
-pub has_bit-without : (n bit k : ℕ) → bit < 64 → k < 64 → has_bit (bit_and n (bit_not w64 (1 * 2 ^ bit % 2 ^ 64))) k ≡ (has_bit n k && not (k == bit))
+has_bit-suc : (n k : ℕ) → has_bit n (suc k) ≡ has_bit (n / 2) k
 unfolding has_bit
-has_bit-without n bit k within at = elim (cases_eq k bit) [
+has_bit-suc n k = ap (λ b. b == 1) (bit_at-suc n k)
+
+true_odd : (n : ℕ) → has_bit n 0 ≡ true → n % 2 ≡ 1
+unfolding has_bit
+true_odd n has = sym (bit_at_lowest n) ∙ eqb-true _ _ has
+
+-- one less clears the lowest bit, and changes none above it
+record IsOneLess (bit n less : ℕ) : Type 0 where
+  cleared : has_bit less bit ≡ false
+  same : (k : ℕ) → bit < k → has_bit less k ≡ has_bit n k
+
+one_less : (bit n : ℕ) → IsLowestBit n bit → IsOneLess bit n (n - 1)
+one_less zero n lowest =
+    let odd : n % 2 ≡ 1 = true_odd n lowest.has in
+    record { cleared = even (n - 1) (omega (arith, odd)); same = same odd }
+  where
+    even : (n : ℕ) → n % 2 ≡ 0 → has_bit n 0 ≡ false
+    even n e = false_from_bit n 0 (bit_at_lowest n ∙ e)
+
+    same : n % 2 ≡ 1 → (k : ℕ) → 0 < k → has_bit (n - 1) k ≡ has_bit n k
+    same odd zero above = absurd (omega (arith, above))
+    same odd (suc k) above = has_bit-suc (n - 1) k ∙ ap (λ m. has_bit m k) {x = (n - 1) / 2} {y = n / 2} (omega (arith, odd)) ∙ sym (has_bit-suc n k)
+one_less (suc bit) n lowest =
+    let half = one_less bit (n / 2) halved in
+    record {
+      cleared = has_bit-suc (n - 1) bit ∙ ap (λ m. has_bit m bit) less ∙ half.cleared;
+      same = same half;
+    }
+  where
+    halved : IsLowestBit (n / 2) bit
+    halved = record { has = sym (has_bit-suc n bit) ∙ lowest.has; first = λ k has. let next = lowest.first (suc k) (has_bit-suc n k ∙ has) in omega (arith, next) }
+
+    is_even : n % 2 ≡ 0
+    is_even = elim (cases_eq (n % 2) 0) [
+      | inl e ↦ e
+      | inr other ↦ absurd (let next = lowest.first 0 (true_from_bit n 0 (bit_at_lowest n ∙ omega (arith, other))) in omega (arith, next))
+    ]
+
+    less : (n - 1) / 2 ≡ n / 2 - 1
+    less = omega (arith, is_even)
+
+    same : IsOneLess bit (n / 2) (n / 2 - 1) → (k : ℕ) → suc bit < k → has_bit (n - 1) k ≡ has_bit n k
+    same half zero above = absurd (omega (arith, above))
+    same half (suc k) above = has_bit-suc (n - 1) k ∙ ap (λ m. has_bit m k) less ∙ half.same k (omega (arith, above)) ∙ sym (has_bit-suc n k)
+
+pub has_bit-without : (n bit k : ℕ) → IsLowestBit n bit → has_bit (bit_and n (n - 1)) k ≡ (has_bit n k && not (k == bit))
+has_bit-without n bit k lowest = has_bit-and n (n - 1) k ∙ elim (cases_eq k bit) [
   | inl same ↦
-      ap (λ k. has_bit (bit_and n (bit_not w64 (1 * 2 ^ bit % 2 ^ 64))) k) same
-      ∙ false_from_bit _ bit (bit_at_clear_same w64 n bit within)
-      ∙ sym (and_none (has_bit n k)) ∙ ap (λ b. has_bit n k && not b) (sym (eq-eqb k bit same))
-  | inr other ↦
-      ap (λ b. b == 1) (bit_at_clear_other w64 n bit within k at other) ∙ sym (and_all (has_bit n k)) ∙ ap (λ b. has_bit n k && not b) (sym (ne_eqb k bit other))
+      ap (λ b. has_bit n k && b) (ap (has_bit (n - 1)) same ∙ (one_less bit n lowest).cleared)
+      ∙ ap (λ b. has_bit n k && not b) (sym (eq-eqb k bit same))
+  | inr other ↦ elim (cases_lt k bit) [
+    | inl below ↦
+        let none : has_bit n k ≡ false = none_below below in
+        ap (λ b. b && has_bit (n - 1) k) none ∙ ap (λ b. b && not (k == bit)) (sym none)
+    | inr above ↦
+        ap (λ b. has_bit n k && b) ((one_less bit n lowest).same k (omega (arith, other, above)))
+        ∙ twice (has_bit n k) ∙ sym (and_all (has_bit n k)) ∙ ap (λ b. has_bit n k && not b) (sym (ne_eqb k bit other))
+  ]
 ]
   where
-    and_none : (b : Bool) → (b && false) ≡ false
-    and_none true = refl
-    and_none false = refl
+    none_below : k < bit → has_bit n k ≡ false
+    none_below below = elim (cases_Bool (has_bit n k)) [
+      | inl has ↦ absurd (let least = lowest.first k has in omega (arith, least, below))
+      | inr none ↦ none
+    ]
+
+    twice : (b : Bool) → (b && b) ≡ b
+    twice true = refl
+    twice false = refl
 
     and_all : (b : Bool) → (b && true) ≡ b
     and_all true = refl

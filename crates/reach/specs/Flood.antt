@@ -1,4 +1,4 @@
--- What a flood holds: the states to which allowed keys lead from a set of states, where a piece is free at given pivots.
+-- What a flood holds: the states to which allowed keys lead from a set of states, where the free pivots are given.
 use Rattle.std.specs.Prelude.{◌≡◌, ◌↔◌, true, IsTrue, pos, if◌then◌else◌, Option, Some, None, List, [], ◌∷◌, All}
 use Rattle.srs.specs.declared.piece.Piece.{Piece}
 use Rattle.srs.specs.declared.rotation.Rotation.{Rotation}
@@ -54,23 +54,27 @@ pub record IsReached (ground : Ground) (start : States) (state : Placement) : Ty
 
 -- all states of the set are reached
 pub record AreReached (ground : Ground) (start S : States) : Type 0 where
-  pub reached : (state : Placement) → state.piece ≡ ground.piece → has_state S state ≡ true → IsReached ground start state
+  pub reached : (state : Placement) → state.piece ≡ ground.piece → has_state S state ≡ true
+      → IsReached ground start state
 
 -- S has the states to which an allowed key leads from the state
 pub record IsCovered (ground : Ground) (S : States) (state : Placement) : Type 0 where
-  pub covered : (key : Key) (next : Placement) → IsTrue (allows ground.mode key) → step_in ground.table ground.free state key ≡ Some next → has_state S next ≡ true
+  pub covered : (key : Key) (next : Placement) → IsTrue (allows ground.mode key)
+      → step_in ground.table ground.free state key ≡ Some next → has_state S next ≡ true
 
 -- S has all that R has
 pub record Includes (S R : States) : Type 0 where
   pub has : (state : Placement) → has_state R state ≡ true → has_state S state ≡ true
 
--- one rotation is settled: nothing is lost, what is new is reached where all was, and the states of the rotation lead to
--- none that is missing
+-- one rotation is settled: nothing is lost, what is new is reached where all was, and the states of the rotation lead
+-- to none that is missing
 pub record IsSettled (ground : Ground) (rotation : Rotation) (before after : States) : Type 0 where
   pub kept : Includes after before
   pub sound : (start : States) → AreReached ground start before → AreReached ground start after
-  pub covers : (state : Placement) → state.piece ≡ ground.piece → state.rotation ≡ rotation → has_state after state ≡ true → IsCovered ground after state
+  pub covers : (state : Placement) → state.piece ≡ ground.piece → state.rotation ≡ rotation → has_state after state
+      ≡ true → IsCovered ground after state
 
 -- the set has the states that are reached, and no others
 pub record IsFlood (ground : Ground) (start result : States) : Type 0 where
-  pub exact : (state : Placement) → state.piece ≡ ground.piece → (has_state result state ≡ true) ↔ IsReached ground start state
+  pub exact : (state : Placement) → state.piece ≡ ground.piece → (has_state result state ≡ true)
+      ↔ IsReached ground start state

@@ -11,7 +11,8 @@ use Rattle.reach.specs.States.{States, states_with}
 unfoldable pub folded_with : Piece → ℕ → States → Rotation → States → States
 folded_with piece N resting rotation S =
     let to : Rotation = canonical_rotation piece rotation in
-    states_with S to (union (S to) (moved_within (resting rotation) N (canonical_move piece rotation).0 (canonical_move piece rotation).1))
+    states_with S to (union (S to) (moved_within (resting rotation) N (canonical_move piece rotation).0
+    (canonical_move piece rotation).1))
 
 abbrev pub no_states : States
 no_states rotation = empty_field

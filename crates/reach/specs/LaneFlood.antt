@@ -30,10 +30,16 @@ pub record IsInLanes (piece : Piece) (S : Lanes) (state : Placement) : Type 0 wh
 
 -- single moves and turns lead to no free place that is missing, and none of the sky is missing
 pub record IsLanesClosed (piece : Piece) (N : ℕ) (free S : Lanes) : Type 0 where
-  pub beside : (rotation : Rotation) (x y : ℕ) → union (sideways N (S rotation)) (lower N (S rotation)) x y ≡ true → free rotation x y ≡ true → S rotation x y ≡ true
-  pub clockwise : (rotation : Rotation) (x y : ℕ) → arrivals piece rotation (clockwise_of rotation) N (free (clockwise_of rotation)) (S rotation) empty_field x y ≡ true → S (clockwise_of rotation) x y ≡ true
-  pub anti : (rotation : Rotation) (x y : ℕ) → arrivals piece rotation (anticlockwise_of rotation) N (free (anticlockwise_of rotation)) (S rotation) empty_field x y ≡ true → S (anticlockwise_of rotation) x y ≡ true
-  pub sky : (rotation : Rotation) (x y : ℕ) → sky_board piece (canonical_rotation piece rotation) N (free rotation) x y ≡ true → S rotation x y ≡ true
+  pub beside : (rotation : Rotation) (x y : ℕ) → union (sideways N (S rotation)) (lower N (S rotation)) x y ≡ true
+      → free rotation x y ≡ true → S rotation x y ≡ true
+  pub clockwise : (rotation : Rotation) (x y : ℕ)
+      → arrivals piece rotation (clockwise_of rotation) N (free (clockwise_of rotation)) (S rotation) empty_field
+      x y ≡ true → S (clockwise_of rotation) x y ≡ true
+  pub anti : (rotation : Rotation) (x y : ℕ)
+      → arrivals piece rotation (anticlockwise_of rotation) N (free (anticlockwise_of rotation)) (S rotation)
+      empty_field x y ≡ true → S (anticlockwise_of rotation) x y ≡ true
+  pub sky : (rotation : Rotation) (x y : ℕ) → sky_board piece (canonical_rotation piece rotation) N (free rotation) x y
+      ≡ true → S rotation x y ≡ true
 
 -- the cells lie in columns 0 to 9 and rows 0 to N - 1
 pub record LiesOnLanes (N : ℕ) (S : Field) : Type 0 where

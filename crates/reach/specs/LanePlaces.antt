@@ -12,7 +12,8 @@ use Rattle.reach.specs.SkyBoard.{sky_board}
 
 -- the pivots of the places
 unfoldable pub raised : Piece → Rotation → Field → Field
-raised piece rotation S = moved_within (intersection S (rows_below 24)) 24 (pos 0) (neg_ℤ (lowest (shape piece rotation)))
+raised piece rotation S = moved_within (intersection S (rows_below 24)) 24 (pos 0)
+    (neg_ℤ (lowest (shape piece rotation)))
 
 -- whether the placements of a rotation are canonical
 abbrev pub has_own_cells : Piece → Rotation → Bool

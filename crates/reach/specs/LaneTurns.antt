@@ -1,5 +1,5 @@
--- A quarter turn of a set of places on N lanes, where all inside places above the lanes count as free. The place of a state
--- is the column of its canonical pivot, and its lane: so states with the same cells have one place.
+-- A quarter turn of a set of places on N lanes, where all inside places above the lanes count as free. The place of a
+-- state is the column of its canonical pivot, and its lane: so states with the same cells have one place.
 use Rattle.std.specs.Prelude.{ℕ, ◌&&◌, nat_lt, pos, ◌+ℤ◌, ◌-ℤ◌, if◌then◌else◌, List, [], ◌∷◌, map}
 use Rattle.lane_board.specs.Field.{Field, has_cell, union, difference, moved_within}
 use Rattle.srs.specs.declared.piece.Piece.{Piece}
@@ -30,9 +30,11 @@ hits open_places move S x y = S x y && has_cell open_places (pos x +ℤ move.0) 
 unfoldable pub lane_turned : Field → ℕ → List Cell → Field → Field → Field
 lane_turned open_places N [] S before = before
 lane_turned open_places N (move ∷ moves) S before =
-    lane_turned open_places N moves (difference S (hits open_places move S)) (union before (moved_within (hits open_places move S) N move.0 move.1))
+    lane_turned open_places N moves (difference S (hits open_places move S))
+    (union before (moved_within (hits open_places move S) N move.0 move.1))
 
 -- the arrivals of a quarter turn
 abbrev pub arrivals : Piece → Rotation → Rotation → ℕ → Field → Field → Field → Field
 arrivals piece from to N free S before =
-    lane_turned (opened piece (canonical_rotation piece to) N free) N (map (lane_move piece from to) (kicks_of srs_table piece from to)) S before
+    lane_turned (opened piece (canonical_rotation piece to) N free) N
+    (map (lane_move piece from to) (kicks_of srs_table piece from to)) S before

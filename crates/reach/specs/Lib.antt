@@ -19,6 +19,8 @@ pub mod LanePlaces
 pub mod PlaceSets
 pub mod Numbers
 pub mod FourRows
+pub mod LowestBit
 pub mod Tops
 pub mod LaneTests
 pub mod SoftLanes
+pub mod SameOffsets

@@ -15,7 +15,8 @@ number_at place y x = place * 384 + (y * 16 + x)
 
 -- the states whose numbers the set has
 unfoldable pub states_in : Numbers → States
-states_in numbers rotation x y = nat_lt x 16 && nat_lt y 24 && has_number numbers (number_at (rotation_place rotation) y x)
+states_in numbers rotation x y = nat_lt x 16 && nat_lt y 24
+    && has_number numbers (number_at (rotation_place rotation) y x)
 
 -- the one number that is named, if there is one
 abbrev pub is_number : Option ℕ → ℕ → Bool

@@ -13,4 +13,5 @@ piece_of places = places.piece
 
 -- whether the places hold a placement
 unfoldable pub holds : Places → Placement → Bool
-holds places placement = piece_code placement.piece == piece_code places.piece && has_state (states_in places.numbers) placement
+holds places placement = piece_code placement.piece == piece_code places.piece
+    && has_state (states_in places.numbers) placement

@@ -16,7 +16,8 @@ pub record IsFirstState (S : States) (piece : Piece) (from : ℕ) (state : Place
   pub kind : state.piece ≡ piece
   pub held : has_state S state ≡ true
   pub after : from ≤ state_number state
-  pub first : (other : Placement) → from ≤ state_number other → has_state S other ≡ true → state_number state ≤ state_number other
+  pub first : (other : Placement) → from ≤ state_number other → has_state S other ≡ true
+      → state_number state ≤ state_number other
 
 pub record NoState (S : States) (from : ℕ) : Type 0 where
   pub none : (other : Placement) → from ≤ state_number other → has_state S other ≡ true → ⊥

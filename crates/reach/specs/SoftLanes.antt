@@ -32,7 +32,8 @@ with_rotation piece S canonical rotation B =
 unfoldable pub places_of : Piece → Lanes → Rotation → Field
 places_of piece S canonical =
     with_rotation piece S canonical Left
-    (with_rotation piece S canonical Reverse (with_rotation piece S canonical Right (with_rotation piece S canonical Spawn empty_field)))
+    (with_rotation piece S canonical Reverse (with_rotation piece S canonical Right
+    (with_rotation piece S canonical Spawn empty_field)))
 
 -- all free places of a rotation at which a state rests
 unfoldable pub rests_in : ℕ → Lanes → Rotation → Field
@@ -41,17 +42,20 @@ rests_in N free rotation = resting_lanes N (free rotation) (free rotation)
 -- the canonical placements in a rotation that rest at one of the places
 unfoldable pub soft_board : Piece → ℕ → Lanes → Lanes → Rotation → Field
 soft_board piece N free S rotation =
-    if has_own_cells piece rotation then raised piece rotation (intersection (rests_in N free rotation) (places_of piece S rotation))
+    if has_own_cells piece rotation then raised piece rotation
+    (intersection (rests_in N free rotation) (places_of piece S rotation))
     else empty_field
 
 -- the rests of a canonical rotation that the places lack
 unfoldable pub lacking : Piece → ℕ → Lanes → Lanes → Rotation → Field
 lacking piece N free S rotation =
-    if has_own_cells piece rotation then difference (rests_in N free rotation) (places_of piece S rotation) else empty_field
+    if has_own_cells piece rotation then difference (rests_in N free rotation) (places_of piece S rotation)
+    else empty_field
 
 -- the places hold all rests
 pub record HaveAllRests (piece : Piece) (N : ℕ) (free S : Lanes) : Type 0 where
-  pub each : (rotation : Rotation) (x y : ℕ) → has_own_cells piece rotation ≡ true → rests_in N free rotation x y ≡ true → places_of piece S rotation x y ≡ true
+  pub each : (rotation : Rotation) (x y : ℕ) → has_own_cells piece rotation ≡ true → rests_in N free rotation x y ≡ true
+      → places_of piece S rotation x y ≡ true
 
 -- each board is spread
 pub record AreSpread (N : ℕ) (free S T : Lanes) : Type 0 where
@@ -60,7 +64,9 @@ pub record AreSpread (N : ℕ) (free S T : Lanes) : Type 0 where
 -- one rotation has what both turns into it lead to, and is spread
 pub record IsTurnedInto (piece : Piece) (N : ℕ) (free : Lanes) (to : Rotation) (S T : Lanes) : Type 0 where
   pub board : Field
-  pub spread : IsSpread All N (free to) (union (S to) (union (arrivals piece (anticlockwise_of to) to N (free to) (S (anticlockwise_of to)) empty_field) (arrivals piece (clockwise_of to) to N (free to) (S (clockwise_of to)) empty_field))) board
+  pub spread : IsSpread All N (free to) (union (S to)
+      (union (arrivals piece (anticlockwise_of to) to N (free to) (S (anticlockwise_of to)) empty_field)
+      (arrivals piece (clockwise_of to) to N (free to) (S (clockwise_of to)) empty_field))) board
   pub changed : T ≡ states_with S to board
 
 -- so in each rotation, one after the other
@@ -78,10 +84,10 @@ abbrev pub Rounds : ℕ → Piece → ℕ → Lanes → Lanes → Lanes → Type
 Rounds zero piece N free S T = S ≡ T
 Rounds (suc n) piece N free S T = (U : Lanes) × (Rounds n piece N free S U × IsRound piece N free U T)
 
--- rounds from the spread skies, until all rests are held or a round changes nothing
+-- rounds from the skies, spread or not, until all rests are held or a round changes nothing
 pub record IsSoftFlood (piece : Piece) (N : ℕ) (free T : Lanes) : Type 0 where
   pub start : Lanes
-  pub spread : AreSpread N free (skies piece N free) start
+  pub begun : (start ≡ skies piece N free) ⊎ AreSpread N free (skies piece N free) start
   pub rounds : ℕ
   pub reached : Rounds rounds piece N free start T
   pub ends : HaveAllRests piece N free T ⊎ IsRound piece N free T T

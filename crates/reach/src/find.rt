@@ -11,6 +11,7 @@ ghost use Rattle.reach.specs.Places.{holds, piece_of};
 
 use crate::held::Places;
 use crate::low::{is_clear_from, low_places};
+use crate::same_offsets::has_srs_offsets;
 use crate::steps::Steps;
 use crate::whole::whole_places;
 use moves::DropMode;
@@ -28,10 +29,11 @@ pub fn places<L: Ledger>(
     steps: &mut Steps<L>,
 ) -> Places
     ensures piece { piece_of result ≡ piece }
-    ensures held { (q : Placement) → (IsTrue (holds result q)) ↔ ((q.piece ≡ piece) × IsPlace (table_of rules.now) (filled well.now) drop_mode q) }
+    ensures held { (q : Placement) → (IsTrue (holds result q))
+        ↔ ((q.piece ≡ piece) × IsPlace (table_of rules.now) (filled well.now) drop_mode q) }
     ensures counted { steps.new ≡ steps.old + 1 }
 {
-    if rules.is_srs() && is_low(well) {
+    if is_low(well) && has_srs_offsets(rules, piece) {
         return window_places(well, piece, drop_mode, steps);
     }
     steps.tick();
@@ -56,8 +58,10 @@ pub fn window_places<L: Ledger>(
 ) -> Places
     requires { IsClearFrom 8 (filled well.now) }
     ensures piece { piece_of result ≡ piece }
-    ensures held { (q : Placement) → (IsTrue (holds result q)) ↔ ((q.piece ≡ piece) × IsPlace srs_table (filled well.now) drop_mode q) }
-    ensures window { (r : ℕ) (q : Placement) → IsClearFrom r (filled well.now) → r ≤ 8 → (IsTrue (holds result q)) ↔ ((q.piece ≡ piece) × IsWindowPlace (filled well.now) r drop_mode q) }
+    ensures held { (q : Placement) → (IsTrue (holds result q))
+        ↔ ((q.piece ≡ piece) × IsPlace srs_table (filled well.now) drop_mode q) }
+    ensures window { (r : ℕ) (q : Placement) → IsClearFrom r (filled well.now) → r ≤ 8 → (IsTrue (holds result q))
+        ↔ ((q.piece ≡ piece) × IsWindowPlace (filled well.now) r drop_mode q) }
     ensures counted { steps.new ≡ steps.old + 1 }
 {
     steps.tick();

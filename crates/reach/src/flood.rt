@@ -24,7 +24,8 @@ pub(crate) fn flood<const N: usize>(
     mode: DropMode,
     start: &Pivots<N>,
 ) -> Pivots<N>
-    ensures { IsFlood (record { table = table_of rules.now; piece = piece; mode = mode; free = states_of free.now }) (states_of start.now) (states_of result) }
+    ensures { IsFlood (record { table = table_of rules.now; piece = piece; mode = mode; free = states_of free.now })
+        (states_of start.now) (states_of result) }
 {
     let mut reached = *start;
     let mut done = Pivots::empty();
@@ -44,7 +45,8 @@ fn settle<const N: usize>(
     rotation: Rotation,
     reached: &Pivots<N>,
 ) -> Pivots<N>
-    ensures { IsSettled (record { table = table_of rules.now; piece = piece; mode = mode; free = states_of free.now }) rotation (states_of reached.now) (states_of result) }
+    ensures { IsSettled (record { table = table_of rules.now; piece = piece; mode = mode; free = states_of free.now })
+        rotation (states_of reached.now) (states_of result) }
 {
     let wide = spread(free.board(rotation), shifts(mode), reached.board(rotation));
     let reached = reached.with(rotation, &wide);
@@ -79,7 +81,9 @@ fn turn<const N: usize>(
     reached: &Pivots<N>,
 ) -> Pivots<N>
     requires { (to ≡ clockwise_of from) ⊎ (to ≡ anticlockwise_of from) }
-    ensures { states_of result ≡ states_with (states_of reached.now) to (union (states_of reached.now to) (turned_from (states_of free.now to) N (kicks_of (table_of rules.now) piece from to) (states_of reached.now from) empty_field)) }
+    ensures { states_of result ≡ states_with (states_of reached.now) to
+        (union (states_of reached.now to) (turned_from (states_of free.now to) N
+        (kicks_of (table_of rules.now) piece from to) (states_of reached.now from) empty_field)) }
 {
     let arrivals = turned(free.board(to), rules, piece, from, to, reached.board(from));
     reached.with(to, &reached.board(to).or(&arrivals))

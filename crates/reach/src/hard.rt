@@ -1,4 +1,5 @@
-// The places of a hard drop: the resting states under an open sky, with no flood.
+// The places of a hard drop: the resting states under an open sky, with no flood. `KIND` numbers the copies that are
+// compiled, as in `soft`.
 ghost use Rattle.std.specs.Prelude.{◌≡◌, ◌≤ℤ◌, pos, neg_ℤ};
 ghost use Rattle.lane_board.specs.Board.{field_of};
 ghost use Rattle.srs.specs.Cells.{shape};
@@ -12,7 +13,10 @@ use lane_board::LaneBoard;
 use srs::{Piece, Rotation};
 
 /// The canonical placements with the cells of resting states under an open sky.
-pub(crate) fn hard_places<const N: usize>(filled: &LaneBoard<N>, piece: Piece) -> Pivots<24>
+pub(crate) fn hard_places<const KIND: u8, const N: usize>(
+    filled: &LaneBoard<N>,
+    piece: Piece,
+) -> Pivots<24>
     ensures { states_of result ≡ hard_board piece N (field_of filled.now) }
 {
     Pivots {

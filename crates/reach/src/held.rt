@@ -27,10 +27,19 @@ impl Places {
     /// The placements of a piece with these pivots.
     pub(crate) fn of_states(piece: Piece, states: &Pivots<24>) -> Places
         ensures piece { piece_of result ≡ piece }
-        ensures held { (q : Placement) → holds result q ≡ (piece_code q.piece == piece_code piece && has_state (states_of states.now) q) }
+        ensures held { (q : Placement) → holds result q
+            ≡ (piece_code q.piece == piece_code piece && has_state (states_of states.now) q) }
     {
         let numbers = Numbers::of_states(states);
         Places { piece, numbers }
+    }
+
+    #[tactic(auto, unfolding(crate::specs::Places::holds))]
+    /// Whether they hold a placement.
+    pub fn contains(&self, placement: &Placement) -> bool
+        ensures { result ≡ holds self.now placement.now }
+    {
+        placement.piece.code() == self.piece.code() && self.numbers.has(placement)
     }
 
     /// The least held placement above the bound, or the least of all. `None` exactly where there is none.
@@ -65,7 +74,8 @@ impl Places {
     /// Those of the placements whose cells all lie in rows below the given one.
     pub fn below(&self, rows: u8) -> Places
         ensures piece { piece_of result ≡ piece_of self.now }
-        ensures held { (q : Placement) → IsTrue (holds result q) ↔ (IsTrue (holds self.now q) × IsTrue (is_below rows q)) }
+        ensures held { (q : Placement) → IsTrue (holds result q)
+            ↔ (IsTrue (holds self.now q) × IsTrue (is_below rows q)) }
     {
         let numbers = self.numbers.in_rows_below(rows_left(self.piece, rows));
         Places {

@@ -28,7 +28,7 @@ pub(crate) fn lane_kick(piece: Piece, from: Rotation, to: Rotation, test: u8) ->
 
 /// The offset of the Super Rotation System for test 1 to 5.
 #[inline(always)]
-fn srs_offset(piece: Piece, rotation: Rotation, test: u8) -> (i8, i8)
+pub(crate) fn srs_offset(piece: Piece, rotation: Rotation, test: u8) -> (i8, i8)
     requires first { 1 ≤ test }
     requires last { test ≤ 5 }
     ensures offset { result ≡ offset_in srs_table piece rotation test }

@@ -37,7 +37,7 @@ fn fitting_all<const N: usize>(piece: Piece, rotation: Rotation) -> LaneBoard<N>
     fitting(&all, d, &third)
 }
 
-/// Those of the places from whose column the offset leads to a column of the well, where the board of all cells is given.
+/// Those of the places from whose column the offset leads to a column of the well. The board of all cells is given.
 #[tactic(auto, unfolding(crate::specs::LaneMap::fitting))]
 #[inline(always)]
 fn fitting<const N: usize>(

@@ -1,4 +1,4 @@
-// A quarter turn of places on lanes.
+// A quarter turn of places on lanes. `KIND`, `TO` and `CLOCKWISE` number the copies that are compiled, as in `soft`.
 ghost use Rattle.std.specs.Prelude.{◌≡◌, ◌-◌, ◌≤ℤ◌, pos, IsTrue};
 ghost use Rattle.lane_board.specs.Board.{field_of};
 ghost use Rattle.lane_board.specs.Field.{empty_field, difference, intersection, union, moved_within};
@@ -13,10 +13,10 @@ use crate::lane_map::inside_lanes;
 use lane_board::LaneBoard;
 use srs::{Piece, Rotation};
 
-/// The places to which a quarter turn leads, each by the first test that succeeds. The free places of the rotation that is
-/// turned to are given.
+/// The places to which a quarter turn leads, each by the first test that succeeds. The free places of the rotation that
+/// is turned to are given.
 #[inline(always)]
-pub(crate) fn arrivals<const N: usize>(
+pub(crate) fn arrivals<const KIND: u8, const TO: u8, const CLOCKWISE: bool, const N: usize>(
     piece: Piece,
     from: Rotation,
     to: Rotation,
@@ -79,8 +79,12 @@ fn tested<const N: usize>(
     requires right { change.0 ≤ℤ pos 5 }
     requires down { minus 6 ≤ℤ change.1 }
     requires up { change.1 ≤ℤ pos 6 }
-    ensures left { field_of result.left ≡ difference (field_of places.now) (opening N (field_of free.now) (field_of inside.now) change) }
-    ensures reached { field_of result.reached ≡ union (field_of reached.now) (moved_within (intersection (field_of places.now) (opening N (field_of free.now) (field_of inside.now) change)) N change.0 change.1) }
+    ensures left { field_of result.left ≡ difference (field_of places.now)
+        (opening N (field_of free.now) (field_of inside.now) change) }
+    ensures reached { field_of result.reached
+        ≡ union (field_of reached.now) (moved_within
+        (intersection (field_of places.now) (opening N (field_of free.now) (field_of inside.now) change)) N change.0
+        change.1) }
 {
     let back = opening(free, inside, change);
     let hits = places.and(&back);

@@ -15,6 +15,7 @@ mod low;
 mod numbers;
 mod pivots;
 mod rest;
+mod same_offsets;
 mod scan;
 mod soft;
 mod spread;

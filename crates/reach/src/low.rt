@@ -1,10 +1,11 @@
 // Places in fields of few rows, under the Super Rotation System: a board of eight or sixteen lanes is enough.
-ghost use Rattle.std.specs.Prelude.{◌≡◌, ◌≤◌, ◌↔◌, IsTrue};
+ghost use Rattle.std.specs.Prelude.{◌≡◌, ◌-◌, ◌≤◌, ◌↔◌, IsTrue};
 ghost use Rattle.lane_board.specs.Board.{field_of};
 ghost use Rattle.srs.specs.Kick.{srs_table};
 ghost use Rattle.moves.specs.declared.key.DropMode.{DropMode};
 ghost use Rattle.sky.specs.Sky.{IsClearFrom};
 ghost use Rattle.reach.specs.PlaceSets.{ArePlaces};
+ghost use Rattle.reach.specs.LanePlaces.{hard_board};
 ghost use Rattle.reach.specs.States.{states_of};
 
 use crate::hard::hard_places;
@@ -31,9 +32,26 @@ fn low_soft_places(filled: &LaneBoard<24>, piece: Piece) -> Pivots<24>
     ensures { ArePlaces srs_table (field_of filled.now) DropMode.Soft piece (states_of result) }
 {
     if is_clear_from(filled, 6) {
-        return soft_places(&filled.resized::<8>(), piece);
+        return soft_copies(&filled.resized::<8>(), piece);
     }
-    soft_places(&filled.resized::<16>(), piece)
+    soft_copies(&filled.resized::<16>(), piece)
+}
+
+/// The places of a soft drop on lanes, by the copy of the flood that is compiled for the piece.
+fn soft_copies<const N: usize>(filled: &LaneBoard<N>, piece: Piece) -> Pivots<24>
+    requires clear { IsClearFrom (N - 2) (field_of filled.now) }
+    requires few { N ≤ 16 }
+    ensures { ArePlaces srs_table (field_of filled.now) DropMode.Soft piece (states_of result) }
+{
+    match piece {
+        Piece::I => soft_places::<0, N>(filled, Piece::I),
+        Piece::L => soft_places::<1, N>(filled, Piece::L),
+        Piece::O => soft_places::<2, N>(filled, Piece::O),
+        Piece::Z => soft_places::<3, N>(filled, Piece::Z),
+        Piece::T => soft_places::<4, N>(filled, Piece::T),
+        Piece::J => soft_places::<5, N>(filled, Piece::J),
+        Piece::S => soft_places::<6, N>(filled, Piece::S),
+    }
 }
 
 /// The places of a hard drop.
@@ -42,9 +60,25 @@ fn low_hard_places(filled: &LaneBoard<24>, piece: Piece) -> Pivots<24>
     ensures { ArePlaces srs_table (field_of filled.now) DropMode.Hard piece (states_of result) }
 {
     if is_clear_from(filled, 6) {
-        return hard_places(&filled.resized::<8>(), piece);
+        return hard_copies(&filled.resized::<8>(), piece);
     }
-    hard_places(&filled.resized::<16>(), piece)
+    hard_copies(&filled.resized::<16>(), piece)
+}
+
+/// The canonical placements with the cells of resting states under an open sky, by the copy that is compiled for the
+/// piece.
+fn hard_copies<const N: usize>(filled: &LaneBoard<N>, piece: Piece) -> Pivots<24>
+    ensures { states_of result ≡ hard_board piece N (field_of filled.now) }
+{
+    match piece {
+        Piece::I => hard_places::<0, N>(filled, Piece::I),
+        Piece::L => hard_places::<1, N>(filled, Piece::L),
+        Piece::O => hard_places::<2, N>(filled, Piece::O),
+        Piece::Z => hard_places::<3, N>(filled, Piece::Z),
+        Piece::T => hard_places::<4, N>(filled, Piece::T),
+        Piece::J => hard_places::<5, N>(filled, Piece::J),
+        Piece::S => hard_places::<6, N>(filled, Piece::S),
+    }
 }
 
 /// Whether no cell lies in a row or above.

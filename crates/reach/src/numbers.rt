@@ -2,11 +2,15 @@
 ghost use Rattle.std.specs.Prelude.{◌≡◌, ℕ, ◌<◌, length, slice_index};
 
 use crate::pivots::Pivots;
-use crate::scan::rotation_at;
-use crate::words::{bits_from, four_rows, in_low_rows, lowest_bit, without_bit};
+use crate::scan::number_of;
+use crate::words::{bits_from, four_rows, has_bit, in_low_rows, lowest_bit, without_lowest};
+use srs::Placement;
 
 /// How many words of 64 bits a set has.
 const WORDS: usize = 24;
+
+/// How many of them are for each rotation.
+const EACH: usize = 6;
 
 /// A set of numbers below 1,536: bit `k` of word `w` is for the number `64 w + k`.
 #[derive(Clone, Copy)]
@@ -20,18 +24,32 @@ pub(crate) struct Numbers {
 impl Numbers {
     ghost use Rattle.std.specs.Prelude.{◌≤◌, nat_lt, ◌&&◌, not};
     ghost use Rattle.reach.specs.Numbers.{has_number, number_at, is_number, states_in, IsNumberFrom};
-    ghost use Rattle.reach.specs.States.{states_of};
+    ghost use Rattle.reach.specs.States.{has_state, states_of};
 
     /// The numbers of the states.
     pub(crate) fn of_states(states: &Pivots<24>) -> Numbers
         ensures { states_in result ≡ states_of states.now }
     {
         let mut words = [0; WORDS];
-        for at in 0..WORDS {
-            let board = states.board(rotation_at((at / 6) as u8));
-            words[at] = four_rows(board, 4 * (at % 6) as u8);
+        for at in 0..EACH {
+            let row = 4 * at as u8;
+            words[at] = four_rows(&states.spawn, row);
+            words[at + 6] = four_rows(&states.right, row);
+            words[at + 12] = four_rows(&states.reverse, row);
+            words[at + 18] = four_rows(&states.left, row);
         }
         Numbers { words, first: 0 }
+    }
+
+    /// Whether the set has the number of a state.
+    pub(crate) fn has(&self, state: &Placement) -> bool
+        ensures { result ≡ has_state (states_in self.now) state.now }
+    {
+        if state.x >= 16 || state.y >= 24 {
+            return false;
+        }
+        let number = number_of(state);
+        has_bit(self.words[usize::from(number / 64)], number % 64)
     }
 
     /// The least number of the set from one on. `None` exactly where there is none.
@@ -52,13 +70,14 @@ impl Numbers {
     /// Takes the least number out of the set. `None` exactly where the set has none.
     pub(crate) fn take_first(&mut self) -> Option<u16>
         ensures first { IsNumberFrom self.old 0 result }
-        ensures rest { (n : ℕ) → n < 1536 → has_number self.new n ≡ (has_number self.old n && not (is_number result n)) }
+        ensures rest { (n : ℕ) → n < 1536 → has_number self.new n
+            ≡ (has_number self.old n && not (is_number result n)) }
     {
         for at in self.first..WORDS {
             let word = self.words[at];
             if word != 0 {
                 let bit = lowest_bit(word);
-                self.words[at] = without_bit(word, bit);
+                self.words[at] = without_lowest(word);
                 self.first = at;
                 return Some(64 * at as u16 + bit);
             }
@@ -69,12 +88,16 @@ impl Numbers {
     /// The numbers of states in a row below the given one of their rotation.
     pub(crate) fn in_rows_below(&self, rows: [u8; 4]) -> Numbers
         requires { length rows ≡ 4 }
-        ensures { (place y x : ℕ) → place < 4 → y < 24 → x < 16 → has_number result (number_at place y x) ≡ (has_number self.now (number_at place y x) && nat_lt y (slice_index rows place)) }
+        ensures { (place y x : ℕ) → place < 4 → y < 24 → x < 16 → has_number result (number_at place y x)
+            ≡ (has_number self.now (number_at place y x) && nat_lt y (slice_index rows place)) }
     {
         let mut words = [0; WORDS];
-        for at in 0..WORDS {
-            let left = rows[at / 6].saturating_sub(4 * (at % 6) as u8);
-            words[at] = in_low_rows(self.words[at], left);
+        for at in 0..EACH {
+            let row = 4 * at as u8;
+            words[at] = in_low_rows(self.words[at], rows[0].saturating_sub(row));
+            words[at + 6] = in_low_rows(self.words[at + 6], rows[1].saturating_sub(row));
+            words[at + 12] = in_low_rows(self.words[at + 12], rows[2].saturating_sub(row));
+            words[at + 18] = in_low_rows(self.words[at + 18], rows[3].saturating_sub(row));
         }
         Numbers { words, first: 0 }
     }

@@ -74,7 +74,8 @@ impl<const N: usize> Pivots<N> {
 
     /// A rotation in which the sets differ. `None` exactly where they are the same.
     pub(crate) fn difference(&self, other: &Pivots<N>) -> Option<Rotation>
-        ensures { MatchOption result (states_of self.now ≡ states_of other.now) (λ r. states_of self.now r ≢ states_of other.now r) }
+        ensures { MatchOption result (states_of self.now ≡ states_of other.now)
+            (λ r. states_of self.now r ≢ states_of other.now r) }
     {
         if !self.spawn.equal(&other.spawn) {
             return Some(Rotation::Spawn);

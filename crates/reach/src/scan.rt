@@ -30,13 +30,25 @@ fn number_from(first: u8, y: u8, x: u16) -> u16
     requires rotation { first < 4 }
     requires column { x ≤ 256 }
     ensures small { result ≤ 1536 }
-    ensures start { (place b a : ℕ) → b < 24 → a < 16 → (place_number first y x ≤ place_number place b a) ↔ (result ≤ number_at place b a) }
+    ensures start { (place b a : ℕ) → b < 24 → a < 16 → (place_number first y x ≤ place_number place b a)
+        ↔ (result ≤ number_at place b a) }
 {
     let place = u16::from(first);
     if y >= 24 {
         return 384 * (place + 1);
     }
     384 * place + 16 * u16::from(y) + x.min(16)
+}
+
+/// The number of a state.
+#[inline(always)]
+pub(crate) fn number_of(state: &Placement) -> u16
+    requires column { state.now.x < 16 }
+    requires row { state.now.y < 24 }
+    ensures value { result ≡ number_at (rotation_place state.now.rotation) state.now.y state.now.x }
+    ensures small { result < 1536 }
+{
+    384 * u16::from(state.rotation.place()) + 16 * u16::from(state.y) + u16::from(state.x)
 }
 
 /// The state with a number.

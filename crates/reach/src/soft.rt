@@ -1,4 +1,5 @@
-// The places of a soft drop in a field of few rows.
+// The places of a soft drop in a field of few rows. `KIND` and `TO` are in no contract: they number the copies that are
+// compiled, one for each piece and each rotation, in which shapes and kicks are constants.
 ghost use Rattle.std.specs.Prelude.{◌≡◌, ◌-◌, ◌≤◌, IsTrue};
 ghost use Rattle.lane_board.specs.Board.{field_of};
 ghost use Rattle.srs.specs.Kick.{srs_table};
@@ -19,13 +20,16 @@ use moves::DropMode;
 use srs::{Piece, Rotation};
 
 /// The canonical placements with the cells of resting states to which keys lead, where two lanes lie above all cells.
-pub(crate) fn soft_places<const N: usize>(filled: &LaneBoard<N>, piece: Piece) -> Pivots<24>
+pub(crate) fn soft_places<const KIND: u8, const N: usize>(
+    filled: &LaneBoard<N>,
+    piece: Piece,
+) -> Pivots<24>
     requires clear { IsClearFrom (N - 2) (field_of filled.now) }
     requires few { N ≤ 16 }
     ensures { ArePlaces srs_table (field_of filled.now) DropMode.Soft piece (states_of result) }
 {
-    let free = free_boards(filled, piece);
-    let reached = flood(piece, &free);
+    let free = free_boards::<KIND, N>(filled, piece);
+    let reached = flood::<KIND, N>(piece, &free);
     Pivots {
         spawn: soft_board(piece, Rotation::Spawn, &free, &reached),
         right: soft_board(piece, Rotation::Right, &free, &reached),
@@ -35,7 +39,7 @@ pub(crate) fn soft_places<const N: usize>(filled: &LaneBoard<N>, piece: Piece) -
 }
 
 /// The free places of each rotation, on the board of the canonical one.
-fn free_boards<const N: usize>(filled: &LaneBoard<N>, piece: Piece) -> Pivots<N>
+fn free_boards<const KIND: u8, const N: usize>(filled: &LaneBoard<N>, piece: Piece) -> Pivots<N>
     ensures { states_of result ≡ free_boards piece N (field_of filled.now) }
 {
     Pivots {
@@ -47,15 +51,19 @@ fn free_boards<const N: usize>(filled: &LaneBoard<N>, piece: Piece) -> Pivots<N>
 }
 
 /// The places that single moves and turns reach from the sky, or enough of them to hold all rests.
-fn flood<const N: usize>(piece: Piece, free: &Pivots<N>) -> Pivots<N>
+fn flood<const KIND: u8, const N: usize>(piece: Piece, free: &Pivots<N>) -> Pivots<N>
     ensures { IsSoftFlood piece N (states_of free.now) (states_of result) }
 {
-    let mut reached = spread_all(free, &skies(piece, free));
+    let sky = skies::<KIND, N>(piece, free);
+    if has_all_rests::<KIND, N>(piece, free, &sky) {
+        return sky;
+    }
+    let mut reached = spread_all::<KIND, N>(free, &sky);
     'rounds: loop {
-        if has_all_rests(piece, free, &reached) {
+        if has_all_rests::<KIND, N>(piece, free, &reached) {
             return reached;
         }
-        let next = round(piece, free, &reached);
+        let next = round::<KIND, N>(piece, free, &reached);
         match next.difference(&reached) {
             None => return reached,
             Some(_) => reached = next,
@@ -64,7 +72,7 @@ fn flood<const N: usize>(piece: Piece, free: &Pivots<N>) -> Pivots<N>
 }
 
 /// The sky of each rotation.
-fn skies<const N: usize>(piece: Piece, free: &Pivots<N>) -> Pivots<N>
+fn skies<const KIND: u8, const N: usize>(piece: Piece, free: &Pivots<N>) -> Pivots<N>
     ensures { states_of result ≡ skies piece N (states_of free.now) }
 {
     Pivots {
@@ -76,7 +84,7 @@ fn skies<const N: usize>(piece: Piece, free: &Pivots<N>) -> Pivots<N>
 }
 
 /// The places of each rotation with all that single moves reach from them.
-fn spread_all<const N: usize>(free: &Pivots<N>, places: &Pivots<N>) -> Pivots<N>
+fn spread_all<const KIND: u8, const N: usize>(free: &Pivots<N>, places: &Pivots<N>) -> Pivots<N>
     ensures { AreSpread N (states_of free.now) (states_of places.now) (states_of result) }
 {
     Pivots {
@@ -88,18 +96,22 @@ fn spread_all<const N: usize>(free: &Pivots<N>, places: &Pivots<N>) -> Pivots<N>
 }
 
 /// Turns into each rotation, one after the other.
-fn round<const N: usize>(piece: Piece, free: &Pivots<N>, places: &Pivots<N>) -> Pivots<N>
+fn round<const KIND: u8, const N: usize>(
+    piece: Piece,
+    free: &Pivots<N>,
+    places: &Pivots<N>,
+) -> Pivots<N>
     ensures { IsRound piece N (states_of free.now) (states_of places.now) (states_of result) }
 {
-    let one = turned_into(piece, Rotation::Spawn, free, places);
-    let two = turned_into(piece, Rotation::Right, free, &one);
-    let three = turned_into(piece, Rotation::Reverse, free, &two);
-    turned_into(piece, Rotation::Left, free, &three)
+    let one = turned_into::<KIND, 0, N>(piece, Rotation::Spawn, free, places);
+    let two = turned_into::<KIND, 1, N>(piece, Rotation::Right, free, &one);
+    let three = turned_into::<KIND, 2, N>(piece, Rotation::Reverse, free, &two);
+    turned_into::<KIND, 3, N>(piece, Rotation::Left, free, &three)
 }
 
 /// The places with those that both turns into a rotation lead to, and all that single moves reach from there.
 #[inline(always)]
-fn turned_into<const N: usize>(
+fn turned_into<const KIND: u8, const TO: u8, const N: usize>(
     piece: Piece,
     to: Rotation,
     free: &Pivots<N>,
@@ -110,14 +122,24 @@ fn turned_into<const N: usize>(
     let there = free.board(to);
     let before = to.anticlockwise();
     let after = to.clockwise();
-    let clockwise = arrivals(piece, before, to, there, places.board(before));
-    let anticlockwise = arrivals(piece, after, to, there, places.board(after));
+    let clockwise = arrivals::<KIND, TO, true, N>(piece, before, to, there, places.board(before));
+    let anticlockwise = arrivals::<KIND, TO, false, N>(
+        piece,
+        after,
+        to,
+        there,
+        places.board(after),
+    );
     let wide = places.board(to).or(&clockwise.or(&anticlockwise));
     places.with(to, &spread(there, Shifts::All, &wide))
 }
 
 /// Whether the places hold all resting states.
-fn has_all_rests<const N: usize>(piece: Piece, free: &Pivots<N>, places: &Pivots<N>) -> bool
+fn has_all_rests<const KIND: u8, const N: usize>(
+    piece: Piece,
+    free: &Pivots<N>,
+    places: &Pivots<N>,
+) -> bool
     ensures { IsTrue result → HaveAllRests piece N (states_of free.now) (states_of places.now) }
 {
     lacks(piece, Rotation::Spawn, free, places)

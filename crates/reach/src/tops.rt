@@ -10,7 +10,8 @@ use srs::{Piece, Rotation};
 /// For each rotation the row below which a pivot lies exactly where all cells of the piece lie below the given row.
 pub(crate) fn rows_left(piece: Piece, rows: u8) -> [u8; 4]
     ensures four { length result ≡ 4 }
-    ensures left { (rotation : Rotation) → slice_index result (rotation_place rotation) ≡ rows - rows_over_pivot piece rotation }
+    ensures left { (rotation : Rotation) → slice_index result (rotation_place rotation)
+        ≡ rows - rows_over_pivot piece rotation }
 {
     [
         rows.saturating_sub(rows_over_pivot(piece, Rotation::Spawn)),

@@ -7,7 +7,7 @@ ghost use Rattle.srs.specs.Rotation.{clockwise_of, anticlockwise_of};
 ghost use Rattle.srs.specs.Rules.{table_of};
 ghost use Rattle.moves.specs.Step.{IsShort};
 ghost use Rattle.sky.specs.Kicks.{kicks_of};
-ghost use Rattle.reach.specs.Kicks.{reversed, taken, left_by, turned_from};
+ghost use Rattle.reach.specs.Kicks.{reversed, kicked_to, left_by, turned_from};
 
 use lane_board::LaneBoard;
 use srs::{Offset, Piece, Rotation, Rules, kick};
@@ -23,13 +23,14 @@ pub(crate) fn turned<const N: usize>(
     pivots: &LaneBoard<N>,
 ) -> LaneBoard<N>
     requires { (to ≡ clockwise_of from) ⊎ (to ≡ anticlockwise_of from) }
-    ensures { field_of result ≡ turned_from (field_of free.now) N (kicks_of (table_of rules.now) piece from to) (field_of pivots.now) empty_field }
+    ensures { field_of result ≡ turned_from (field_of free.now) N (kicks_of (table_of rules.now) piece from to)
+        (field_of pivots.now) empty_field }
 {
     let mut left = *pivots;
     let mut reached = LaneBoard::empty();
     for test in 1..6 {
         let offset = kick(rules, piece, from, to, test);
-        let hits = taken(free, offset, &left);
+        let hits = kicked_to(free, offset, &left);
         reached = reached.or(&hits);
         left = left_by(&hits, offset, &left);
     }
@@ -37,11 +38,15 @@ pub(crate) fn turned<const N: usize>(
 }
 
 /// The free pivots that one test takes these pivots to.
-#[tactic(auto, unfolding(crate::specs::Kicks::taken))]
+#[tactic(auto, unfolding(crate::specs::Kicks::kicked_to))]
 #[inline(always)]
-fn taken<const N: usize>(free: &LaneBoard<N>, offset: Offset, pivots: &LaneBoard<N>) -> LaneBoard<N>
+fn kicked_to<const N: usize>(
+    free: &LaneBoard<N>,
+    offset: Offset,
+    pivots: &LaneBoard<N>,
+) -> LaneBoard<N>
     requires { IsShort offset }
-    ensures { field_of result ≡ taken (field_of free.now) N (pair_of offset) (field_of pivots.now) }
+    ensures { field_of result ≡ kicked_to (field_of free.now) N (pair_of offset) (field_of pivots.now) }
 {
     free.and(&pivots.moved(offset.dx, offset.dy))
 }

@@ -3,6 +3,7 @@ ghost use Rattle.std.specs.Prelude.{◌≡◌, ℕ, ◌*◌, ◌+◌, ◌<◌, �
 ghost use Rattle.lane_board.specs.Board.{field_of};
 ghost use Rattle.lane_board.specs.Lanes.{has_bit};
 ghost use Rattle.reach.specs.FourRows.{IsFourRows};
+ghost use Rattle.reach.specs.LowestBit.{IsLowestBit};
 
 use lane_board::LaneBoard;
 
@@ -32,19 +33,28 @@ pub(crate) fn bits_from(word: u64, low: u16) -> u64
 pub(crate) fn lowest_bit(word: u64) -> u16
     requires { 0 < word }
     ensures below { result < 64 }
-    ensures has { has_bit word result ≡ true }
-    ensures first { (k : ℕ) → k < 64 → has_bit word k ≡ true → result ≤ k }
+    ensures lowest { IsLowestBit word result }
 {
     word.trailing_zeros() as u16
 }
 
-/// The word without a bit.
+/// Whether a bit is set.
+#[tactic(auto, unfolding(lane_board::specs::Lanes::has_bit))]
 #[inline(always)]
-pub(crate) fn without_bit(word: u64, bit: u16) -> u64
+pub(crate) fn has_bit(word: u64, bit: u16) -> bool
     requires { bit < 64 }
-    ensures { (k : ℕ) → k < 64 → has_bit result k ≡ (has_bit word k && not (k == bit)) }
+    ensures { result ≡ has_bit word bit }
 {
-    word & !(1u64 << bit)
+    word >> bit & 1 == 1
+}
+
+/// The word without its lowest bit.
+#[inline(always)]
+pub(crate) fn without_lowest(word: u64) -> u64
+    requires { 0 < word }
+    ensures { (bit k : ℕ) → IsLowestBit word bit → k < 64 → has_bit result k ≡ (has_bit word k && not (k == bit)) }
+{
+    word & (word - 1)
 }
 
 /// The bits of the first so many of the four rows of a word.

@@ -5,8 +5,8 @@ use Rattle.lane_board.proofs.CallerLemmas.{field_of-within}
 use Rattle.reach.proofs.LowLemmas.{lanes_clear, soft_places_by}
 use Rattle.reach.proofs.low.low_soft_places.Goals as goal
 
-pub soft_places-requires : goal.soft_places-requires
-soft_places-requires c = (
+pub soft_copies-requires : goal.soft_copies-requires
+soft_copies-requires c = (
   omega arith,
   (
     lanes_clear 6 6 8 (field_of c.args.filled.now) _ (c.is_clear_from.ensures.0 c.if-is_clear_from.true) (omega arith) (omega arith)
@@ -15,8 +15,8 @@ soft_places-requires c = (
   ),
 )
 
-pub soft_places-requires-2 : goal.soft_places-requires-2
-soft_places-requires-2 c = (
+pub soft_copies-requires-2 : goal.soft_copies-requires-2
+soft_copies-requires-2 c = (
   omega arith,
   (
     lanes_clear 8 14 16 (field_of c.args.filled.now) _ c.requires (omega arith) (omega arith)
@@ -28,9 +28,9 @@ soft_places-requires-2 c = (
 pub returns-then-is_clear_from : goal.returns-then-is_clear_from
 returns-then-is_clear_from c =
     soft_places_by 6 8 (field_of c.args.filled.now) _ c.args.piece _ (c.is_clear_from.ensures.0 c.if-is_clear_from.true) (omega arith)
-    (record { inside = field_of-within c.args.filled.now }) c.resized.ensures c.soft_places.ensures
+    (record { inside = field_of-within c.args.filled.now }) c.resized.ensures c.soft_copies.ensures
 
 pub returns : goal.returns
 returns c =
     soft_places_by 8 16 (field_of c.args.filled.now) _ c.args.piece _ c.requires (omega arith)
-    (record { inside = field_of-within c.args.filled.now }) c.resized-2.ensures c.soft_places-2.ensures
+    (record { inside = field_of-within c.args.filled.now }) c.resized-2.ensures c.soft_copies-2.ensures

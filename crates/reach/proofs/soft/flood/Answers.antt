@@ -2,12 +2,12 @@
 use Rattle.std.proofs.Common.{inl, inr}
 use Rattle.srs.specs.declared.rotation.Rotation.{Rotation}
 use Rattle.reach.specs.States.{states_of}
-use Rattle.reach.proofs.SoftLemmas.{begins, goes_on, ends, still_round, round_grows, missing_less}
+use Rattle.reach.proofs.SoftLemmas.{begins, goes_on, ends, ends_at_once, still_round, round_grows, missing_less}
 use Rattle.reach.proofs.StateSets.{states_within}
 use Rattle.reach.proofs.soft.flood.Goals as goal
 
 pub rounds-init : goal.rounds-init
-rounds-init g c = begins c.args.piece g.row.N (states_of c.args.free.now) (states_of c.skies.result) (states_of c.spread_all-reached.result) c.skies.ensures c.spread_all-reached.ensures
+rounds-init g c = begins c.args.piece g.row.N (states_of c.args.free.now) (states_of c.skies-sky.result) (states_of c.spread_all-reached.result) c.skies-sky.ensures c.spread_all-reached.ensures
 
 pub rounds-preserved : goal.rounds-preserved
 rounds-preserved g c = goes_on c.args.piece g.row.N (states_of c.args.free.now) (states_of c.rounds.reached) (states_of c.round-next.result) c.rounds.invariant c.round-next.ensures
@@ -19,7 +19,10 @@ rounds-smaller g c =
     (λ (r : Rotation). states_within c.round-next.result r) c.in-Some.ensures
 
 pub returns-then-has_all_rests : goal.returns-then-has_all_rests
-returns-then-has_all_rests g c = ends c.args.piece g.row.N (states_of c.args.free.now) (states_of c.rounds.reached) c.rounds.invariant (inl (c.has_all_rests.ensures c.if-has_all_rests.true))
+returns-then-has_all_rests g c = ends_at_once c.args.piece g.row.N (states_of c.args.free.now) (states_of c.skies-sky.result) c.skies-sky.ensures (c.has_all_rests.ensures c.if-has_all_rests.true)
+
+pub returns-then-has_all_rests-2 : goal.returns-then-has_all_rests-2
+returns-then-has_all_rests-2 g c = ends c.args.piece g.row.N (states_of c.args.free.now) (states_of c.rounds.reached) c.rounds.invariant (inl (c.has_all_rests-in-rounds.ensures c.if-has_all_rests-2.true))
 
 pub returns-in-None : goal.returns-in-None
 returns-in-None g c =

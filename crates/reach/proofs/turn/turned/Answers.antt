@@ -24,8 +24,8 @@ loop-test-preserved g c =
     let same : test + 1 - 1 ≡ test = omega arith in
     ap (λ (n : ℕ). turned_from (field_of c.args.free.now) g.row.N (drop n kicks) (field_of c.left_by-left.result) (field_of c.or-reached.result)) same
     ∙ turned_step (field_of c.args.free.now) g.row.N (drop (test - 1) kicks) (drop test kicks) (pair_of c.kick-offset.result)
-    (field_of c.loop-test.left) (field_of c.loop-test.reached) (field_of c.taken-hits.result) (field_of c.left_by-left.result) (field_of c.or-reached.result) _
-    due c.taken-hits.ensures c.or-reached.ensures c.left_by-left.ensures c.loop-test.invariant
+    (field_of c.loop-test.left) (field_of c.loop-test.reached) (field_of c.kicked_to-hits.result) (field_of c.left_by-left.result) (field_of c.or-reached.result) _
+    due c.kicked_to-hits.ensures c.or-reached.ensures c.left_by-left.ensures c.loop-test.invariant
 
 pub returns : goal.returns
 unfolding turned_from
@@ -34,8 +34,8 @@ returns g c =
     let last : c.loop-test.test - 1 ≡ 5 = omega arith in
     ap (λ (n : ℕ). turned_from (field_of c.args.free.now) g.row.N (drop n kicks) (field_of c.loop-test.left) (field_of c.loop-test.reached)) (sym last) ∙ c.loop-test.invariant
 
-pub taken-hits-requires : goal.taken-hits-requires
-taken-hits-requires g c =
+pub kicked_to-hits-requires : goal.kicked_to-hits-requires
+kicked_to-hits-requires g c =
     let few = few_rows g.row.N c.args.free.now.lane_count in
     (omega (arith, few), kick_is_short (table_of c.args.rules.now) _ _ _ _ _ (table_of-small c.args.rules.now) (omega arith) (omega arith) c.kick-offset.ensures)
 

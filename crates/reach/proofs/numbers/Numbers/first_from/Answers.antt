@@ -10,7 +10,7 @@ word_from numbers from at low word is bits = record { bits = λ k within. bits k
 
 pub returns-then-word-ne0 : goal.returns-then-word-ne0
 returns-then-word-ne0 c =
-    first_in c.args.self.now c.args.from c.loop-at.at c.bits_from-word.result (word_from c.args.self.now c.args.from c.loop-at.at c.saturating_sub.result c.bits_from-word.result c.saturating_sub.ensures c.bits_from-word.ensures) c.loop-at.invariant c.lowest_bit.result (omega arith) c.lowest_bit.ensures.below c.lowest_bit.ensures.has c.lowest_bit.ensures.first
+    first_in c.args.self.now c.args.from c.loop-at.at c.bits_from-word.result (word_from c.args.self.now c.args.from c.loop-at.at c.saturating_sub.result c.bits_from-word.result c.saturating_sub.ensures c.bits_from-word.ensures) c.loop-at.invariant c.lowest_bit.result (omega arith) c.lowest_bit.ensures.below c.lowest_bit.ensures.lowest.has (λ k within. c.lowest_bit.ensures.lowest.first k)
 
 pub loop-at-preserved : goal.loop-at-preserved
 loop-at-preserved c = none_more c.args.self.now c.args.from c.loop-at.at c.bits_from-word.result (word_from c.args.self.now c.args.from c.loop-at.at c.saturating_sub.result c.bits_from-word.result c.saturating_sub.ensures c.bits_from-word.ensures) c.loop-at.invariant c.if-word-ne0.false

@@ -1,15 +1,25 @@
--- One word more; all words keep these rows.
-use Rattle.std.proofs.Common.{◌*◌, ◌&&◌, nat_lt, get_or, length-set, ap, ◌∙◌, arith}
+-- One word more of each rotation; all words keep these rows.
+use Rattle.std.proofs.Common.{◌+◌, ◌*◌, ◌&&◌, nat_lt, get_or, ap, ◌∙◌, arith}
 use Rattle.lane_board.specs.Lanes.{has_bit}
-use Rattle.reach.proofs.NumberLemmas.{keeps_rows, keeps_more}
+use Rattle.reach.proofs.NumberLemmas.{KeepsRows, keeps_rows, keeps_here, four_more, four_set-length}
 use Rattle.reach.proofs.numbers.Numbers.in_rows_below.Goals as goal
 
 pub loop-at-preserved : goal.loop-at-preserved
-loop-at-preserved c = (
-  length-set c.loop-at.words c.loop-at.at c.in_low_rows.result ∙ c.loop-at.invariant.0,
-  keeps_more c.args.self.now c.args.rows c.loop-at.words c.loop-at.at c.in_low_rows.result c.loop-at.invariant.0 c.loop-at-test.true c.loop-at.invariant.1
-      (λ k within. c.in_low_rows.ensures k within ∙ ap (λ left. has_bit (get_or c.args.self.now.words c.loop-at.at 0) k && nat_lt k (16 * left)) c.saturating_sub-left.ensures),
-)
+loop-at-preserved c =
+    let at = c.loop-at.at in
+    let rows = c.args.rows in
+    let old = c.args.self.now in
+    let a = c.in_low_rows.result in
+    let b = c.in_low_rows-in-loop-at.result in
+    let d = c.in_low_rows-in-loop-at-2.result in
+    let e = c.in_low_rows-in-loop-at-3.result in (
+      four_set-length c.loop-at.words at a b d e c.loop-at.invariant.0,
+      four_more (KeepsRows old rows) c.loop-at.words at a b d e c.loop-at.invariant.0 c.loop-at-test.true c.loop-at.invariant.1
+          (keeps_here old rows at at 0 a (omega arith) c.loop-at-test.true (λ k within. c.in_low_rows.ensures k within ∙ ap (λ left. has_bit (get_or old.words at 0) k && nat_lt k (16 * left)) c.saturating_sub.ensures))
+          (keeps_here old rows (at + 6) at 1 b (omega arith) c.loop-at-test.true (λ k within. c.in_low_rows-in-loop-at.ensures k within ∙ ap (λ left. has_bit (get_or old.words (at + 6) 0) k && nat_lt k (16 * left)) c.saturating_sub-in-loop-at.ensures))
+          (keeps_here old rows (at + 12) at 2 d (omega arith) c.loop-at-test.true (λ k within. c.in_low_rows-in-loop-at-2.ensures k within ∙ ap (λ left. has_bit (get_or old.words (at + 12) 0) k && nat_lt k (16 * left)) c.saturating_sub-in-loop-at-2.ensures))
+          (keeps_here old rows (at + 18) at 3 e (omega arith) c.loop-at-test.true (λ k within. c.in_low_rows-in-loop-at-3.ensures k within ∙ ap (λ left. has_bit (get_or old.words (at + 18) 0) k && nat_lt k (16 * left)) c.saturating_sub-in-loop-at-3.ensures)),
+    )
 
 pub returns : goal.returns
-returns c = keeps_rows c.args.self.now _ c.args.rows (record { bits = λ w k below. c.loop-at.invariant.1.bits w k (omega arith) })
+returns c = keeps_rows c.args.self.now _ c.args.rows (λ w below. c.loop-at.invariant.1 w below (omega arith))

@@ -1,13 +1,10 @@
--- One word more; all words have all rows.
-use Rattle.std.proofs.Common.{◌≡◌, ◌*◌, ◌%◌, ◌<◌, length-set, sym, subst, ◌∙◌, ap, arith}
-use Rattle.lane_board.specs.Field.{Field}
+-- One word more of each rotation; all words have all rows.
+use Rattle.std.proofs.Common.{◌+◌, ◌<◌, refl, arith}
 use Rattle.srs.specs.declared.rotation.Rotation.{Rotation}
 use Rattle.srs.specs.declared.rotation.Rotation.TheVariants.{Spawn, Right, Reverse, Left}
 use Rattle.srs.specs.Rotation.{rotation_place}
-use Rattle.srs.proofs.CallerLemmas.{rotation_place-injective}
-use Rattle.reach.specs.FourRows.{IsFourRows}
 use Rattle.reach.specs.States.{states_of}
-use Rattle.reach.proofs.NumberLemmas.{states_by, rows_more}
+use Rattle.reach.proofs.NumberLemmas.{HasRows, states_by, four_more, four_set-length, rows_here}
 use Rattle.reach.proofs.StateSets.{states_within}
 use Rattle.reach.proofs.numbers.Numbers.of_states.Goals as goal
 
@@ -18,13 +15,17 @@ few_places Reverse = omega arith
 few_places Left = omega arith
 
 pub loop-at-preserved : goal.loop-at-preserved
-loop-at-preserved c = (
-  length-set c.loop-at.words c.loop-at.at c.four_rows.result ∙ c.loop-at.invariant.0,
-  rows_more (states_of c.args.states.now) c.loop-at.words c.loop-at.at c.four_rows.result c.loop-at.invariant.0 c.loop-at-test.true c.loop-at.invariant.1
-      (λ r turn.
-      let same : c.rotation_at.result ≡ r = rotation_place-injective c.rotation_at.result r (c.rotation_at.ensures ∙ sym turn) in
-      subst (λ (F : Field). IsFourRows F (4 * (c.loop-at.at % 6)) c.four_rows.result) (c.board-board.ensures ∙ ap (states_of c.args.states.now) same) c.four_rows.ensures),
-)
+unfolding states_of
+loop-at-preserved c =
+    let S = states_of c.args.states.now in
+    let at = c.loop-at.at in (
+      four_set-length c.loop-at.words at c.four_rows.result c.four_rows-in-loop-at.result c.four_rows-in-loop-at-2.result c.four_rows-in-loop-at-3.result c.loop-at.invariant.0,
+      four_more (HasRows S) c.loop-at.words at c.four_rows.result c.four_rows-in-loop-at.result c.four_rows-in-loop-at-2.result c.four_rows-in-loop-at-3.result c.loop-at.invariant.0 c.loop-at-test.true c.loop-at.invariant.1
+          (rows_here S Spawn at at 0 c.four_rows.result (omega arith) c.loop-at-test.true refl c.four_rows.ensures)
+          (rows_here S Right (at + 6) at 1 c.four_rows-in-loop-at.result (omega arith) c.loop-at-test.true refl c.four_rows-in-loop-at.ensures)
+          (rows_here S Reverse (at + 12) at 2 c.four_rows-in-loop-at-2.result (omega arith) c.loop-at-test.true refl c.four_rows-in-loop-at-2.ensures)
+          (rows_here S Left (at + 18) at 3 c.four_rows-in-loop-at-3.result (omega arith) c.loop-at-test.true refl c.four_rows-in-loop-at-3.ensures),
+    )
 
 pub returns : goal.returns
-returns c = states_by _ (states_of c.args.states.now) (λ (r : Rotation). states_within c.args.states.now r) (λ w below. c.loop-at.invariant.1 w (omega arith)) few_places
+returns c = states_by _ (states_of c.args.states.now) (λ (r : Rotation). states_within c.args.states.now r) (λ w below. c.loop-at.invariant.1 w below (omega arith)) few_places
