@@ -13,8 +13,8 @@ use std::alloc::Global;
 use std::num::NonZeroUsize;
 use well::Well;
 
-/// Questions that have no tiling, in the order of their use. A question is the cells of a well below the rows left, the rows
-/// left, and the supply.
+/// Questions that have no tiling, in the order of their use. A question is the cells of a well below the rows left,
+/// the rows left, and the supply.
 #[derive(Drop)]
 pub struct DeadMemo {
     cache: LruCache<Key, ()>,
@@ -43,11 +43,13 @@ impl DeadMemo {
         self.cache.len()
     }
 
-    /// Whether it keeps the question of the well, the rows left and the supply, which is then the one that was used last.
+    /// Whether it keeps the question of the well, the rows left and the supply, which is then the one that was used
+    /// last.
     pub fn is_dead(&mut self, well: &Well, rows_left: u8, supply: &[u8; 7]) -> bool
         requires { rows_left ≤ 8 }
         ensures found { IsTrue result ↔ Contains (kept self.old) (question (filled well.now) rows_left supply.now) }
-        ensures used { IsTrue result → IsUsed (kept self.old) (question (filled well.now) rows_left supply.now) (kept self.new) }
+        ensures used { IsTrue result → IsUsed (kept self.old) (question (filled well.now) rows_left supply.now)
+            (kept self.new) }
         ensures same { result ≡ false → kept self.new ≡ kept self.old }
         ensures capacity { capacity_of self.new ≡ capacity_of self.old }
         ensures dead { IsTrue result → Tiling (filled well.now) rows_left (supply_in supply.now) → ⊥ }
@@ -55,8 +57,9 @@ impl DeadMemo {
         self.cache.promote(&Key::new(well, rows_left, supply))
     }
 
-    /// Keeps the question of the well, the rows left and the supply as the one that was used last. Where it wasn't kept and the
-    /// store is full, the one that wasn't used for longest goes. `NoMemory` where memory is refused; all is then as before.
+    /// Keeps the question of the well, the rows left and the supply as the one that was used last. Where it wasn't
+    /// kept and the store is full, the one that wasn't used for longest goes. `NoMemory` where memory is refused; all
+    /// is then as before.
     pub fn note_dead(
         &mut self,
         well: &Well,
@@ -65,7 +68,8 @@ impl DeadMemo {
     ) -> Result<(), NoMemory>
         requires low { rows_left ≤ 8 }
         requires dead { Tiling (filled well.now) rows_left (supply_in supply.now) → ⊥ }
-        ensures noted { OnOk result (IsNoted (capacity_of self.old) (kept self.old) (question (filled well.now) rows_left supply.now) (kept self.new)) }
+        ensures noted { OnOk result (IsNoted (capacity_of self.old) (kept self.old)
+            (question (filled well.now) rows_left supply.now) (kept self.new)) }
         ensures refused { OnErr result (self.new ≡ self.old) }
         ensures capacity { capacity_of self.new ≡ capacity_of self.old }
     {

@@ -77,7 +77,7 @@ module _ (left : ℕ) (prefix : List Placement) (n : Position) (q : Placement) (
   floods-first true is =
       let placed : is_place n.table n.field n.mode q ≡ true = and_first (is_place n.table n.field n.mode q) (is_below n.rows q) (sym is) in
       let below : is_below n.rows q ≡ true = and_second (is_place n.table n.field n.mode q) (is_below n.rows q) (sym is) in
-      let this : entered (enter left) prefix n q ≡ enter left (prefix ++ q ∷ []) (after_of n q) = if_true (is_below n.rows q) (enter left (prefix ++ q ∷ []) (after_of n q)) (Tick ∷ []) below in
+      let this : entered (enter left) prefix n q ≡ enter left (prefix ++ q ∷ []) (after_of n q) = if_true (is_below n.rows q) (enter left (prefix ++ q ∷ []) (after_of n q)) [] below in
       let counted : floods (entered (enter left) prefix n q) ≡ floods (enter left (prefix ++ q ∷ []) (after_of n q)) = ap floods this in
       omega (
         arith,

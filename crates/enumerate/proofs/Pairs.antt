@@ -112,11 +112,11 @@ place-floods : (left : ℕ) (root : Position) (prefix : List Placement) (n : Pos
 unfolding entered floods
 place-floods left root prefix n at alive below q played placed = elim (cases_Bool (is_below n.rows q)) [
   | inl e ↦
-      ap floods (if_true (is_below n.rows q) (enter left (prefix ++ q ∷ []) (after_of n q)) (Tick ∷ []) e)
+      ap floods (if_true (is_below n.rows q) (enter left (prefix ++ q ∷ []) (after_of n q)) [] e)
       ∙ below (prefix ++ q ∷ []) (after_of n q) (IsAt-next left root prefix n at alive q placed e)
       (played-next (suc left) root prefix n at q ∙ and_both (may_play n.line q.piece) (is_place n.table n.field n.mode q && is_below n.rows q) played (and_both (is_place n.table n.field n.mode q) (is_below n.rows q) placed e))
   | inr e ↦
-      ap floods (if_false (is_below n.rows q) (enter left (prefix ++ q ∷ []) (after_of n q)) (Tick ∷ []) e)
+      ap floods (if_false (is_below n.rows q) (enter left (prefix ++ q ∷ []) (after_of n q)) [] e)
       ∙ sym (work-unplayed left root (prefix ++ q ∷ []) (played-next (suc left) root prefix n at q ∙ and_none (may_play n.line q.piece) _ (and_none (is_place n.table n.field n.mode q) (is_below n.rows q) e)))
 ]
 

@@ -18,7 +18,7 @@ use Rattle.enumerate.specs.Problem.{needed_of}
 use Rattle.enumerate.specs.Position.{Position, is_live, line_at, root_of}
 use Rattle.enumerate.specs.Events.{Event, begun, sought}
 use Rattle.enumerate.specs.Frames.{has_room, position_of, stacked}
-use Rattle.enumerate.specs.Rest.{rest_from, whole_from}
+use Rattle.enumerate.specs.Rest.{events_from, whole_from}
 use Rattle.enumerate.specs.Seeks.{IsFresh, SkipsTo}
 use Rattle.enumerate.specs.Walks.{Finds}
 use Rattle.enumerate.proofs.SeekLemmas.{fresh-events}
@@ -135,14 +135,14 @@ sought-skips table mode frames f given given' whole rest before now some same e 
 -- ---- going on
 
 pub pending-skips : (problem : Problem) (queue : Option (List Piece)) (after : Option (List Placement)) (pending : Bool) (used : List Frame) (rest : List Event) (before now : ℕ) → pending ≡ true →
-    SkipsTo (whole_from problem queue after) rest before now → SkipsTo (rest_from problem queue after pending used) rest before now
-unfolding rest_from
+    SkipsTo (whole_from problem queue after) rest before now → SkipsTo (events_from problem queue after pending used) rest before now
+unfolding events_from
 pending-skips problem queue after true used rest before now e skips = skips
 pending-skips problem queue after false used rest before now e skips = cc
 
 pub standing-skips : (problem : Problem) (queue : Option (List Piece)) (after : Option (List Placement)) (pending : Bool) (used : List Frame) (before : ℕ) → pending ≡ false →
-    SkipsTo (rest_from problem queue after pending used) (stacked (table_of problem.rules) problem.drop_mode [] used) before before
-unfolding rest_from
+    SkipsTo (events_from problem queue after pending used) (stacked (table_of problem.rules) problem.drop_mode [] used) before before
+unfolding events_from
 standing-skips problem queue after true used before e = cc
 standing-skips problem queue after false used before e = skips-same _ _ before refl
 

@@ -11,7 +11,7 @@ use Rattle.moves.specs.declared.key.DropMode.{DropMode}
 use Rattle.enumerate.specs.declared.frame.Frame.{Frame}
 use Rattle.enumerate.specs.Position.{is_live}
 use Rattle.enumerate.specs.Events.{Event, entered, enter, level, sought}
-use Rattle.enumerate.specs.Frames.{events_of, has_room, path_of, places_left, position_of, stacked, step_of}
+use Rattle.enumerate.specs.Frames.{events_of, has_room, path_of, places_left, position_of, stacked, entered_placement}
 use Rattle.enumerate.specs.Turns.{SamePosition}
 use Rattle.enumerate.specs.Seeks.{IsDeeper, IsFresh, IsThere, SkipsTo, sought_at}
 use Rattle.enumerate.proofs.SkipLemmas.{skips-before, skips-same}
@@ -75,7 +75,7 @@ module _ (table : Table) (mode : DropMode) (frames : List Frame) (top : ℕ) (d0
     child-there d = sym (get_or-set_same (set frames top new) (top + 1) child d long-new)
 
     pub deeper : IsFresh table mode child →
-        ((prefix given : List Placement) → SkipsTo (sought (suc old.left) prefix (position_of table mode old) (q ∷ given)) (sought (suc child.left) (prefix ++ step_of new) (position_of table mode child) given ++ events_of table mode prefix new) before now) →
+        ((prefix given : List Placement) → SkipsTo (sought (suc old.left) prefix (position_of table mode old) (q ∷ given)) (sought (suc child.left) (prefix ++ entered_placement new) (position_of table mode child) given ++ events_of table mode prefix new) before now) →
         IsDeeper table mode frames more top q before now
     deeper fresh skips = record {
       within = deeper-within;
@@ -84,13 +84,13 @@ module _ (table : Table) (mode : DropMode) (frames : List Frame) (top : ℕ) (d0
       fresh = λ d. subst (IsFresh table mode) (child-there d) fresh;
       skips = λ given d.
           subst (λ l. SkipsTo (sought_at table mode frames top (q ∷ given) d) l before now) (shape given d)
-          (subst (λ f. SkipsTo (sought (suc f.left) (path_of below) (position_of table mode f) (q ∷ given) ++ stacked table mode [] below) ((sought (suc child.left) (path_of below ++ step_of new) (position_of table mode child) given ++ events_of table mode (path_of below) new) ++ stacked table mode [] below) before now) (read-any frames top d0 d within)
-          (skips-before (sought (suc old.left) (path_of below) (position_of table mode old) (q ∷ given)) (sought (suc child.left) (path_of below ++ step_of new) (position_of table mode child) given ++ events_of table mode (path_of below) new) (stacked table mode [] below) before now (skips (path_of below) given)));
+          (subst (λ f. SkipsTo (sought (suc f.left) (path_of below) (position_of table mode f) (q ∷ given) ++ stacked table mode [] below) ((sought (suc child.left) (path_of below ++ entered_placement new) (position_of table mode child) given ++ events_of table mode (path_of below) new) ++ stacked table mode [] below) before now) (read-any frames top d0 d within)
+          (skips-before (sought (suc old.left) (path_of below) (position_of table mode old) (q ∷ given)) (sought (suc child.left) (path_of below ++ entered_placement new) (position_of table mode child) given ++ events_of table mode (path_of below) new) (stacked table mode [] below) before now (skips (path_of below) given)));
     }
       where
-        shape : (given : List Placement) (d : Frame) → (sought (suc child.left) (path_of below ++ step_of new) (position_of table mode child) given ++ events_of table mode (path_of below) new) ++ stacked table mode [] below ≡ sought_at table mode more (top + 1) given d
+        shape : (given : List Placement) (d : Frame) → (sought (suc child.left) (path_of below ++ entered_placement new) (position_of table mode child) given ++ events_of table mode (path_of below) new) ++ stacked table mode [] below ≡ sought_at table mode more (top + 1) given d
         shape given d =
-            append_assoc (sought (suc child.left) (path_of below ++ step_of new) (position_of table mode child) given) (events_of table mode (path_of below) new) (stacked table mode [] below)
+            append_assoc (sought (suc child.left) (path_of below ++ entered_placement new) (position_of table mode child) given) (events_of table mode (path_of below) new) (stacked table mode [] below)
             ∙ (λ i. sought (suc (child-there d i).left) (sym (path-last below new) i) (position_of table mode (child-there d i)) given ++ sym (stacked-last table mode [] below new) i)
             ∙ sym (λ i. sought (suc (get_or more (top + 1) d).left) (path_of (below-more i)) (position_of table mode (get_or more (top + 1) d)) given ++ stacked table mode [] (below-more i))
 

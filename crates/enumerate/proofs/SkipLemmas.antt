@@ -6,7 +6,7 @@ use Rattle.std.specs.Option.{option_to_list}
 use Rattle.std.specs.List.Sorted.{IsStrictlySortedBy}
 use Rattle.std.specs.declared.cmp.Ordering.TheVariants.{Less, Equal, Greater}
 use Rattle.std.specs.Cmp.{tied_itself}
-use Rattle.std.proofs.lemmas.Bool.{cases_Bool}
+use Rattle.std.proofs.lemmas.Bool.{and_parts, cases_Bool}
 use Rattle.std.proofs.lemmas.List.Kept.{IsStrictlySortedBy-filter}
 use Rattle.srs.specs.declared.placement.Placement.{Placement}
 use Rattle.srs.specs.Kick.{Table}
@@ -14,7 +14,7 @@ use Rattle.srs.specs.Piece.{all_pieces, piece_code}
 use Rattle.srs.specs.Order.{placement_cmp}
 use Rattle.srs.specs.Placements.{placements_of}
 use Rattle.lists.specs.Rising.{is_above}
-use Rattle.lists.proofs.CallerLemmas.{Contains-cases, Contains-there, rising-first, rising-none}
+use Rattle.lists.proofs.CallerLemmas.{Contains-cases, Contains-filter, Contains-from_filter, Contains-there, rising-first, rising-none}
 use Rattle.srs.proofs.CallerLemmas.{placement_cmp-total, placements_of-list}
 use Rattle.moves.specs.declared.key.DropMode.{DropMode}
 use Rattle.moves.specs.PlaceTest.{is_place}
@@ -27,7 +27,7 @@ use Rattle.enumerate.specs.declared.turn.Turn.TheVariants.{Passed, Flooded, Ente
 use Rattle.well.specs.LockLaws.{is_below}
 use Rattle.enumerate.specs.Position.{Position, after_of, may_play, places_at, is_live}
 use Rattle.enumerate.specs.Events.{Event, Tick, Flood, Found, found, floods, entered, level, enter, sought}
-use Rattle.enumerate.specs.Frames.{position_of, places_left, step_of, events_of}
+use Rattle.enumerate.specs.Frames.{position_of, places_left, entered_placement, events_of}
 use Rattle.enumerate.specs.Turns.{Enters, EntersAs, IsChild, SamePosition}
 use Rattle.enumerate.specs.Seeks.{SkipsTo}
 use Rattle.enumerate.proofs.FloodCounts.{floods-sought}
@@ -35,7 +35,7 @@ use Rattle.enumerate.proofs.Resumed.{past, placed-there, there-placed}
 use Rattle.enumerate.proofs.Solutions.{sols}
 use Rattle.enumerate.proofs.Sought.{found-sought}
 use Rattle.enumerate.proofs.Tests.{if_false, if_true}
-use Rattle.enumerate.proofs.TurnLemmas.{filter-both, filter-same, same-position}
+use Rattle.enumerate.proofs.TurnLemmas.{entered-below, filter-both, filter-same, same-position}
 use Rattle.enumerate.proofs.Walks.{finds-enter, found-append, floods-append, prefixed}
 
 pub places_left-rising : (places : Option Places) (last : Option Placement) → IsStrictlySortedBy placement_cmp (places_left places last)
@@ -54,6 +54,16 @@ places_left-above (Some places) q =
     and_true : (b : Bool) → (b && true) ≡ b
     and_true true = refl
     and_true false = refl
+
+-- the order of two tests does not matter
+filters-swap : (a b : Placement → Bool) (qs : List Placement) → filter a (filter b qs) ≡ filter b (filter a qs)
+filters-swap a b qs = sym (filter-both b a qs) ∙ filter-same (λ q. b q && a q) (λ q. a q && b q) qs (λ q _. and_swap (b q) (a q)) ∙ filter-both a b qs
+  where
+    and_swap : (p q : Bool) → (p && q) ≡ (q && p)
+    and_swap true true = refl
+    and_swap true false = refl
+    and_swap false true = refl
+    and_swap false false = refl
 
 -- ---- looking for a placement in a rising list
 
@@ -113,7 +123,7 @@ module _ (table : Table) (mode : DropMode) (old new : Frame) (same : SamePositio
   abbrev first : List Placement → List Placement → List Event
   first prefix given = if is_place table here.field mode q && is_below old.rows q then sought old.left (prefix ++ q ∷ []) (after_of here q) given else []
 
-  module _ (played : may_play (queues_in_play old.queues) q.piece ≡ true) (left : places_left new.places new.entered ≡ filter (is_above placement_cmp (Some q)) (places_at here q.piece)) where
+  module _ (played : may_play (queues_in_play old.queues) q.piece ≡ true) (left : places_left new.places new.entered ≡ filter (is_above placement_cmp (Some q)) (filter (is_below old.rows) (places_at here q.piece))) where
     pub floods-kind : (prefix given : List Placement) → sought (suc old.left) prefix here (q ∷ given) ≡ Flood ∷ (first prefix given ++ events_of table mode prefix new)
     unfolding sought events_of position_of
     floods-kind prefix given =
@@ -121,24 +131,27 @@ module _ (table : Table) (mode : DropMode) (old new : Frame) (same : SamePositio
         ∙ ap (λ l. l ++ rest prefix) (if_true (may_play (queues_in_play old.queues) q.piece) _ [] played)
         ∙ ap (λ l. Flood ∷ l)
         (append_assoc (first prefix given) (flat_map (entered (enter old.left) prefix here) (filter (is_above placement_cmp (Some q)) (places_at here q.piece))) (rest prefix)
+        ∙ ap (λ l. first prefix given ++ (l ++ rest prefix))
+        (sym (entered-below (enter old.left) prefix here (filter (is_above placement_cmp (Some q)) (places_at here q.piece)))
+        ∙ ap (flat_map (entered (enter old.left) prefix here)) (filters-swap (is_below old.rows) (is_above placement_cmp (Some q)) (places_at here q.piece)))
         ∙ ap (λ l. first prefix given ++ l) (sym (λ i. flat_map (entered (enter (same.left i)) prefix (same-position table mode old new same i)) (left i) ++ rest-same prefix i)))
 
     -- no place
-    pub skips-unplaced : (before now : ℕ) → now ≡ before + 1 → is_place table here.field mode q ≡ false → (prefix given : List Placement) →
+    pub skips-unplaced : (before now : ℕ) → now ≡ before + 1 → (is_place table here.field mode q && is_below old.rows q) ≡ false → (prefix given : List Placement) →
         SkipsTo (sought (suc old.left) prefix here (q ∷ given)) (events_of table mode prefix new) before now
     skips-unplaced before now steps unplaced prefix given =
         skips-flood _ (events_of table mode prefix new) before now
         (floods-kind prefix given
-        ∙ ap (λ b. Flood ∷ ((if b && is_below old.rows q then sought old.left (prefix ++ q ∷ []) (after_of here q) given else []) ++ events_of table mode prefix new)) unplaced) steps
+        ∙ ap (λ b. Flood ∷ ((if b then sought old.left (prefix ++ q ∷ []) (after_of here q) given else []) ++ events_of table mode prefix new)) unplaced) steps
 
     -- a place with a frame of its own
     pub skips-entered : (before now : ℕ) → now ≡ before + 1 → is_place table here.field mode q ≡ true → new.entered ≡ Some q → (child : Frame) → IsChild new q child → (prefix given : List Placement) →
-        SkipsTo (sought (suc old.left) prefix here (q ∷ given)) (sought (suc child.left) (prefix ++ step_of new) (position_of table mode child) given ++ events_of table mode prefix new) before now
+        SkipsTo (sought (suc old.left) prefix here (q ∷ given)) (sought (suc child.left) (prefix ++ entered_placement new) (position_of table mode child) given ++ events_of table mode prefix new) before now
     skips-entered before now steps placed step child is_child prefix given =
         let below : is_below old.rows q ≡ true = subst (λ r. is_below r q ≡ true) same.rows is_child.below in
         let depth : old.left ≡ suc child.left = omega (arith, is_child.left, same.left) in
         let at_child : after_of here q ≡ position_of table mode child = ap (λ n. after_of n q) (sym (same-position table mode old new same)) ∙ sym (is_child.position table mode) in
-        let step_is : q ∷ [] ≡ step_of new = sym (ap option_to_list step) in
+        let step_is : q ∷ [] ≡ entered_placement new = sym (ap option_to_list step) in
         skips-flood _ _ before now
         (floods-kind prefix given
         ∙ ap (λ l. Flood ∷ (l ++ events_of table mode prefix new))
@@ -197,7 +210,7 @@ module _ (table : Table) (mode : DropMode) (old new : Frame) (same : SamePositio
   first-dead false events enters dead prefix given = (refl, refl)
   first-dead true events enters dead prefix given = elim (cases_Bool (is_below old.rows q)) [
     | inl below ↦
-        let e = dead prefix given (sym (if_true (is_below old.rows q) (enter old.left (prefix ++ q ∷ []) (after_of there q)) (Tick ∷ []) below) ∙ at-old events enters prefix) in
+        let e = dead prefix given (sym (if_true (is_below old.rows q) (enter old.left (prefix ++ q ∷ []) (after_of there q)) [] below) ∙ at-old events enters prefix) in
         let is = if_true (is_below old.rows q) (sought old.left (prefix ++ q ∷ []) (after_of there q) given) [] below in
         (ap found is ∙ e.0, ap floods is ∙ e.1)
     | inr blocked ↦
@@ -215,20 +228,29 @@ module _ (table : Table) (mode : DropMode) (old new : Frame) (same : SamePositio
 
 -- ---- after the flood
 
-pub left-above : (n : Position) (places : Option Places) (last : Option Placement) → last ≡ None → (q : Placement) → places_left places last ≡ places_at n q.piece →
-    places_left places (Some q) ≡ filter (is_above placement_cmp (Some q)) (places_at n q.piece)
+pub left-above : (n : Position) (places : Option Places) (last : Option Placement) → last ≡ None → (q : Placement) → places_left places last ≡ filter (is_below n.rows) (places_at n q.piece) →
+    places_left places (Some q) ≡ filter (is_above placement_cmp (Some q)) (filter (is_below n.rows) (places_at n q.piece))
 left-above n places last none q e =
     places_left-above places q
     ∙ ap (λ l. filter (is_above placement_cmp (Some q)) (places_left places l)) (sym none)
     ∙ ap (filter (is_above placement_cmp (Some q))) e
 
-module _ (n : Position) (q : Placement) (l : List Placement) (e : l ≡ places_at n q.piece) (held : Bool) (answer : (held ≡ true) ↔ Contains l q) where
-  pub held-place : held ≡ true → is_place n.table n.field n.mode q ≡ true
-  held-place is = there-placed n q (subst (λ l. Contains l q) e (answer.0 is))
+module _ (n : Position) (q : Placement) (l : List Placement) (e : l ≡ filter (is_below n.rows) (places_at n q.piece)) (held : Bool) (answer : (held ≡ true) ↔ Contains l q) where
+  kept : held ≡ true → Contains (places_at n q.piece) q × (is_below n.rows q ≡ true)
+  kept is = Contains-from_filter (is_below n.rows) (places_at n q.piece) q (subst (λ l. Contains l q) e (answer.0 is))
 
-  pub unheld-place : held ≡ false → is_place n.table n.field n.mode q ≡ false
-  unheld-place is = elim (cases_Bool (is_place n.table n.field n.mode q)) [
-    | inl placed ↦ let yes : held ≡ true = answer.1 (subst (λ l. Contains l q) (sym e) (placed-there n q placed)) in cc
+  pub held-place : held ≡ true → is_place n.table n.field n.mode q ≡ true
+  held-place is = there-placed n q (kept is).0
+
+  pub held-below : held ≡ true → is_below n.rows q ≡ true
+  held-below is = (kept is).1
+
+  pub unheld-place : held ≡ false → (is_place n.table n.field n.mode q && is_below n.rows q) ≡ false
+  unheld-place is = elim (cases_Bool (is_place n.table n.field n.mode q && is_below n.rows q)) [
+    | inl both ↦
+        let parts = and_parts (is_place n.table n.field n.mode q) (is_below n.rows q) both in
+        let yes : held ≡ true = answer.1 (subst (λ l. Contains l q) (sym e) (Contains-filter (is_below n.rows) (places_at n q.piece) q (placed-there n q parts.0) parts.1)) in
+        cc
     | inr unplaced ↦ unplaced
   ]
 

@@ -12,7 +12,7 @@ use Rattle.lists.proofs.CallerLemmas.{and_both, and_first, and_second}
 use Rattle.moves.specs.declared.key.DropMode.{DropMode}
 use Rattle.enumerate.specs.declared.frame.Frame.{Frame}
 use Rattle.enumerate.specs.Events.{Event, Tick, Flood, Found, found, floods}
-use Rattle.enumerate.specs.Frames.{events_of, has_room, path_of, stacked, step_of}
+use Rattle.enumerate.specs.Frames.{events_of, has_room, path_of, stacked, entered_placement}
 use Rattle.enumerate.specs.Turns.{GoesAs}
 use Rattle.enumerate.specs.Walks.{Finds, IsTurn}
 
@@ -22,13 +22,13 @@ pub stacked-last : (table : Table) (mode : DropMode) (prefix : List Placement) (
 unfolding stacked path_of
 stacked-last table mode prefix [] frame = sym (append-nil (events_of table mode prefix frame)) ∙ ap (λ p. events_of table mode p frame ++ []) (sym (append-nil prefix))
 stacked-last table mode prefix (f ∷ frames) frame =
-    ap (λ l. l ++ events_of table mode prefix f) (stacked-last table mode (prefix ++ step_of f) frames frame)
-    ∙ append_assoc (events_of table mode ((prefix ++ step_of f) ++ path_of frames) frame) (stacked table mode (prefix ++ step_of f) frames) (events_of table mode prefix f)
-    ∙ ap (λ p. events_of table mode p frame ++ (stacked table mode (prefix ++ step_of f) frames ++ events_of table mode prefix f)) (append_assoc prefix (step_of f) (path_of frames))
+    ap (λ l. l ++ events_of table mode prefix f) (stacked-last table mode (prefix ++ entered_placement f) frames frame)
+    ∙ append_assoc (events_of table mode ((prefix ++ entered_placement f) ++ path_of frames) frame) (stacked table mode (prefix ++ entered_placement f) frames) (events_of table mode prefix f)
+    ∙ ap (λ p. events_of table mode p frame ++ (stacked table mode (prefix ++ entered_placement f) frames ++ events_of table mode prefix f)) (append_assoc prefix (entered_placement f) (path_of frames))
 
-pub path-last : (frames : List Frame) (frame : Frame) → path_of (frames ++ frame ∷ []) ≡ path_of frames ++ step_of frame
+pub path-last : (frames : List Frame) (frame : Frame) → path_of (frames ++ frame ∷ []) ≡ path_of frames ++ entered_placement frame
 unfolding path_of
-path-last frames frame = flat_map-append step_of frames (frame ∷ []) ∙ ap (λ l. flat_map step_of frames ++ l) (append-nil (step_of frame))
+path-last frames frame = flat_map-append entered_placement frames (frame ∷ []) ∙ ap (λ l. flat_map entered_placement frames ++ l) (append-nil (entered_placement frame))
 
 -- room for frames at the end
 pub room-last : (depth : ℕ) (frames : List Frame) (frame : Frame) → has_room depth (frames ++ frame ∷ []) ≡ true → (has_room depth frames ≡ true) × (frame.left + (depth + length frames) ≤ 19)
@@ -71,10 +71,10 @@ module _ (table : Table) (mode : DropMode) (fs : List Frame) (old new : Frame) (
       let e : stacked table mode [] (fs ++ old ∷ []) ≡ Flood ∷ stacked table mode [] (fs ++ new ∷ []) = old-events (λ prefix. Flood ∷ events_of table mode prefix new) goes ∙ ap (λ l. Flood ∷ l) (sym new-events) in
       record { room = room-new; finds = ap found e; counted = omega (arith, ap floods e, steps); fewer = omega (arith, ap floods e); shorter = omega (arith, ap length e) }
 
-  pub turn-full : (before now : ℕ) → GoesAs table mode old (λ prefix. Found (prefix ++ step_of new) ∷ events_of table mode prefix new) → now ≡ before → IsTurn table mode (fs ++ old ∷ []) (fs ++ new ∷ []) before now true
+  pub turn-full : (before now : ℕ) → GoesAs table mode old (λ prefix. Found (prefix ++ entered_placement new) ∷ events_of table mode prefix new) → now ≡ before → IsTurn table mode (fs ++ old ∷ []) (fs ++ new ∷ []) before now true
   unfolding found floods
   turn-full before now goes steps =
-      let e : stacked table mode [] (fs ++ old ∷ []) ≡ Found (path_of fs ++ step_of new) ∷ stacked table mode [] (fs ++ new ∷ []) = old-events (λ prefix. Found (prefix ++ step_of new) ∷ events_of table mode prefix new) goes ∙ ap (λ l. Found (path_of fs ++ step_of new) ∷ l) (sym new-events) in
+      let e : stacked table mode [] (fs ++ old ∷ []) ≡ Found (path_of fs ++ entered_placement new) ∷ stacked table mode [] (fs ++ new ∷ []) = old-events (λ prefix. Found (prefix ++ entered_placement new) ∷ events_of table mode prefix new) goes ∙ ap (λ l. Found (path_of fs ++ entered_placement new) ∷ l) (sym new-events) in
       record {
         room = room-new;
         finds = ap found e ∙ ap (λ p. p ∷ found (stacked table mode [] (fs ++ new ∷ []))) (sym (path-last fs new));
@@ -89,16 +89,16 @@ module _ (table : Table) (mode : DropMode) (fs : List Frame) (old new : Frame) (
       let e : stacked table mode [] (fs ++ old ∷ []) ≡ Tick ∷ stacked table mode [] fs = old-events (λ prefix. Tick ∷ []) goes in
       record { room = (room-last 0 fs old room).0; finds = ap found e; counted = omega (arith, ap floods e, steps); fewer = omega (arith, ap floods e); shorter = omega (arith, ap length e) }
 
-  pub turn-entered : (before now : ℕ) (child : Frame) → GoesAs table mode old (λ prefix. Tick ∷ (events_of table mode (prefix ++ step_of new) child ++ events_of table mode prefix new)) → now ≡ before → child.left + 1 ≡ old.left →
+  pub turn-entered : (before now : ℕ) (child : Frame) → GoesAs table mode old (λ prefix. Tick ∷ (events_of table mode (prefix ++ entered_placement new) child ++ events_of table mode prefix new)) → now ≡ before → child.left + 1 ≡ old.left →
       IsTurn table mode (fs ++ old ∷ []) ((fs ++ new ∷ []) ++ child ∷ []) before now false
   unfolding found floods
   turn-entered before now child goes steps fewer =
-      let deeper : stacked table mode [] ((fs ++ new ∷ []) ++ child ∷ []) ≡ (events_of table mode (path_of fs ++ step_of new) child ++ events_of table mode (path_of fs) new) ++ below =
+      let deeper : stacked table mode [] ((fs ++ new ∷ []) ++ child ∷ []) ≡ (events_of table mode (path_of fs ++ entered_placement new) child ++ events_of table mode (path_of fs) new) ++ below =
       stacked-last table mode [] (fs ++ new ∷ []) child
       ∙ (λ i. events_of table mode (path-last fs new i) child ++ new-events i)
-      ∙ sym (append_assoc (events_of table mode (path_of fs ++ step_of new) child) (events_of table mode (path_of fs) new) below) in
+      ∙ sym (append_assoc (events_of table mode (path_of fs ++ entered_placement new) child) (events_of table mode (path_of fs) new) below) in
       let e : stacked table mode [] (fs ++ old ∷ []) ≡ Tick ∷ stacked table mode [] ((fs ++ new ∷ []) ++ child ∷ []) =
-      old-events (λ prefix. Tick ∷ (events_of table mode (prefix ++ step_of new) child ++ events_of table mode prefix new)) goes ∙ ap (λ l. Tick ∷ l) (sym deeper) in
+      old-events (λ prefix. Tick ∷ (events_of table mode (prefix ++ entered_placement new) child ++ events_of table mode prefix new)) goes ∙ ap (λ l. Tick ∷ l) (sym deeper) in
       let fits = room-last 0 fs old room in
       record {
         room = room-more 0 (fs ++ new ∷ []) child room-new (omega (arith, fits.1, fewer, length-append fs (new ∷ [])));
@@ -162,7 +162,7 @@ finds-none old new path true e finds = cc
 finds-none old new path false e finds = finds
 
 -- one more frame on the path
-pub path-more : (frames : List Frame) (i : ℕ) (frame : Frame) → i < length frames → frame ≡ get_or frames i frame → path_of (take (i + 1) frames) ≡ path_of (take i frames) ++ step_of frame
+pub path-more : (frames : List Frame) (i : ℕ) (frame : Frame) → i < length frames → frame ≡ get_or frames i frame → path_of (take (i + 1) frames) ≡ path_of (take i frames) ++ entered_placement frame
 path-more frames i frame within is =
     let next : i + 1 ≡ suc i = omega arith in
     ap (λ k. path_of (take k frames)) next

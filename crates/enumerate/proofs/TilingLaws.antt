@@ -1,29 +1,40 @@
 -- What plays to the end leaves a tiling, and the supply of a queue set is that of its line.
-use Rattle.std.proofs.Common.{◌≡◌, ℕ, ◌-◌, ◌≤◌, Bool, true, cond, List, [], ◌∷◌, ◌++◌, map, length, refl, sym, ap, subst, ◌∙◌, arith}
-use Rattle.std.specs.Prelude.{count_by, ◌==◌}
+use Rattle.std.proofs.Common.{◌≡◌, ◌↔◌, ℕ, suc, ◌+◌, ◌-◌, ◌≤◌, Bool, true, cond, List, [], ◌∷◌, ◌++◌, map, length, refl, sym, ap, subst, ◌∙◌, inl, inr, arith}
+use Rattle.std.specs.Prelude.{count_by, min, ◌==◌}
+use Rattle.std.specs.Bool.{one_answer}
+use Rattle.std.specs.Int.{bit_at}
+use Rattle.std.proofs.lemmas.Bool.{cases_Bool, cond-false, cond-true}
 use Rattle.std.proofs.Math.Path.{fun_ext}
 use Rattle.std.proofs.lemmas.List.{length-map}
-use Rattle.std.proofs.lemmas.List.Sums.{sum_by-cons}
+use Rattle.std.proofs.lemmas.List.Sums.{sum_by-append, sum_by-cons}
 use Rattle.srs.specs.declared.piece.Piece.{Piece}
 use Rattle.srs.specs.declared.piece.Piece.TheVariants.{I, L, O, Z, T, J, S}
 use Rattle.srs.specs.declared.placement.Placement.{Placement}
 use Rattle.srs.specs.Piece.{piece_code}
 use Rattle.srs.specs.Kick.{Table}
-use Rattle.lane_board.specs.Field.{Field}
-use Rattle.well.specs.Lock.{locked, rows_removed}
+use Rattle.lane_board.specs.Field.{Field, difference, rows_below}
+use Rattle.well.specs.Free.{is_free}
+use Rattle.well.specs.declared.well.Well.{Well}
+use Rattle.well.specs.Well.{filled}
+use Rattle.well.specs.Lock.{locked, rows_removed, together}
+use Rattle.well.specs.LockLaws.{LiesBelow, is_below}
 use Rattle.moves.specs.declared.key.DropMode.{DropMode}
-use Rattle.hold_queue.specs.QueueSet.{QueuesInPlay, QueuesPermit}
-use Rattle.hold_queue.specs.Supply.{supplies, supply_of}
+use Rattle.hold_queue.specs.QueueSet.{QueuesInPlay, QueuesPermit, queues_in_play}
+use Rattle.hold_queue.specs.Supply.{from_hold, supplies, supply_of}
 use Rattle.hold_queue.proofs.CallerLemmas.{supply-enough}
-use Rattle.prune.specs.Tiling.{Tiling, supply_in}
+use Rattle.prune.specs.Tiling.{Supply, Tiling, supply_in}
+use Rattle.prune.specs.OnePart.{less_one}
 use Rattle.prune.specs.Laws.{ClearsRows, pieces_in}
-use Rattle.prune.proofs.CallerLemmas.{cleared_is_tiled, more_pieces}
+use Rattle.prune.proofs.CallerLemmas.{cleared_is_tiled, full_rows_may_stand, more_pieces}
+use Rattle.packing.specs.Empties.{all_but, without_placement}
 use Rattle.packing.specs.HasTiling.{has_tiling}
-use Rattle.packing.proofs.CallerLemmas.{tiling_decided}
+use Rattle.packing.proofs.CallerLemmas.{left_by_placement, tiling_below, tiling_decided}
 use Rattle.enumerate.specs.Plays.{Plays}
 use Rattle.enumerate.specs.Solution.{pieces_of}
-use Rattle.enumerate.specs.Position.{Position, can_be_tiled}
-use Rattle.enumerate.proofs.Game.{IsLow}
+use Rattle.enumerate.specs.declared.frame.Frame.{Frame}
+use Rattle.enumerate.specs.Frames.{position_of}
+use Rattle.enumerate.specs.Position.{Position, after_of, can_be_tiled, is_live}
+use Rattle.enumerate.proofs.Game.{IsLow, locked-low}
 use Rattle.enumerate.proofs.PlaceLaws.{place-free}
 
 -- what plays clears all rows
@@ -51,6 +62,80 @@ played-tiled n s low plays permitted =
     enough piece =
         let most = subst (λ k. count_by (λ other. piece_code other == piece_code piece) (pieces_of s) ≤ supply_of n.line k piece) (length-map s (λ q. q.piece)) (supply-enough n.line (pieces_of s) piece permitted) in
         omega (arith, pieces-counted s piece)
+
+-- what a placement leaves has a tiling, before its full rows go, exactly where it has one after
+pub left-tiled : (F E : Field) (rows : ℕ) (q : Placement) (supply : Supply) (answer : Bool) → rows ≤ 8 → LiesBelow F rows → is_free F q ≡ true → is_below rows q ≡ true →
+    E ≡ without_placement (difference (rows_below rows) F) q → ((answer ≡ true) ↔ Tiling (all_but E) 8 supply) → answer ≡ has_tiling (locked F q) (rows - rows_removed F q) supply
+left-tiled F E rows q supply answer few below free placed is answers =
+    one_answer {P = Tiling (locked F q) (rows - rows_removed F q) supply} answer (has_tiling (locked F q) (rows - rows_removed F q) supply) (
+      λ yes. locking.0 (standing.0 (subst (λ E. Tiling (all_but E) 8 supply) left (answers.0 yes))),
+      λ tiling. answers.1 (subst (λ E. Tiling (all_but E) 8 supply) (sym left) (standing.1 (locking.1 tiling))),
+    )
+    (tiling_decided (locked F q) (rows - rows_removed F q) supply)
+  where
+    left : E ≡ difference (rows_below rows) (together F q)
+    left = is ∙ left_by_placement F rows q
+
+    standing : Tiling (all_but (difference (rows_below rows) (together F q))) 8 supply ↔ Tiling (together F q) rows supply
+    standing = tiling_below (together F q) rows 8 supply few
+
+    locking : Tiling (together F q) rows supply ↔ Tiling (locked F q) (rows - rows_removed F q) supply
+    locking = full_rows_may_stand F q rows supply (omega arith) below free placed
+
+-- ---- what may be played after one more piece
+
+fewer : (left a c : ℕ) → min left (min (left + 1) (a - c) - 1) ≡ min left (a - (c + 1))
+fewer left a c = omega arith
+
+as_many : (left a c : ℕ) → min left (min (left + 1) (a - c)) ≡ min left (a - c)
+as_many left a c = omega arith
+
+supply-next : (line : QueuesInPlay) (piece : Piece) (left : ℕ) (other : Piece) →
+    min left (less_one (supply_of line (left + 1)) piece other) ≡ supply_of (record line { played = line.played ++ piece ∷ [] }) left other
+unfolding less_one
+supply-next line piece left other = elim (cases_Bool (piece_code piece == piece_code other)) [
+  | inl same ↦
+      ap (min left) (cond-true (piece_code piece == piece_code other) _ _ same) ∙ fewer left most count
+      ∙ ap (λ k. min left (most - k)) {x = count + 1} (omega (arith, counted, cond-true {A = ℕ} (piece_code piece == piece_code other) 1 0 same))
+  | inr differs ↦
+      ap (min left) (cond-false (piece_code piece == piece_code other) _ _ differs) ∙ as_many left most count
+      ∙ ap (λ k. min left (most - k)) {x = count} (omega (arith, counted, cond-false {A = ℕ} (piece_code piece == piece_code other) 1 0 differs))
+]
+  where
+    most : ℕ
+    most = count_by (λ element. bit_at element.set (piece_code other - 1) == 1) line.elements + from_hold line.hold line.held other
+
+    count : ℕ
+    count = count_by (λ played. piece_code played == piece_code other) line.played
+
+    counted : count_by (λ played. piece_code played == piece_code other) (line.played ++ piece ∷ []) ≡ count + cond (piece_code piece == piece_code other) 1 0
+    counted = omega (
+      arith,
+      sum_by-append (λ played. cond (piece_code played == piece_code other) 1 0) line.played (piece ∷ []),
+      sum_by-cons (λ played. cond (piece_code played == piece_code other) 1 0) piece [],
+    )
+
+-- the supply of a frame, after one more piece
+pub supply-moves : (line : QueuesInPlay) (piece : Piece) (left : ℕ) (before after : Supply) → before ≡ supply_of line (left + 1) →
+    ((other : Piece) → after other ≡ min left (less_one before piece other)) → after ≡ supply_of (record line { played = line.played ++ piece ∷ [] }) left
+supply-moves line piece left before after is moves = fun_ext (λ other. moves other ∙ ap (λ (s : Supply). min left (less_one s piece other)) is ∙ supply-next line piece left other)
+
+-- so whether a placement leads to a live position is told by what it leaves
+pub live-after : (table : Table) (mode : DropMode) (frame : Frame) (q : Placement) (supply : Supply) → ((other : Piece) → supply other ≡ min frame.left (less_one (supply_in frame.supply) q.piece other)) →
+    (left : ℕ) → left + 1 ≡ frame.left → is_live left (after_of (position_of table mode frame) q) ≡ has_tiling (locked (filled frame.well) q) (frame.rows - rows_removed (filled frame.well) q) supply
+unfolding is_live can_be_tiled after_of position_of
+live-after table mode frame q supply moves left less =
+    let line = queues_in_play frame.queues in
+    let next : suc left ≡ frame.left = omega arith in
+    ap (has_tiling (locked (filled frame.well) q) (frame.rows - rows_removed (filled frame.well) q))
+    (ap (supply_of (record line { played = line.played ++ q.piece ∷ [] })) next ∙ sym (supply-moves line q.piece frame.left (supply_in frame.supply) supply frame.supplied moves))
+
+-- what is left lies below the rows left
+pub locked-below : (frame : Frame) (q : Placement) (well : Well) (rows : ℕ) → is_below frame.rows q ≡ true → is_free (filled frame.well) q ≡ true →
+    filled well ≡ locked (filled frame.well) q → rows ≡ frame.rows - rows_removed (filled frame.well) q → LiesBelow (filled well) rows
+locked-below frame q well rows below free field is =
+    let low = locked-low (filled frame.well) frame.rows q (record { none = frame.bounded.none; within = omega (arith, frame.low) }) below free in
+    record { none = λ x y above. ap (λ (F : Field). F x y) field ∙ low.none x y (omega (arith, is)) }
 
 -- the entries of a supply, read again
 pub supplies-read : (line : QueuesInPlay) (left : ℕ) → supply_in (supplies line left) ≡ supply_of line left

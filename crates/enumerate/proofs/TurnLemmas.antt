@@ -4,7 +4,7 @@ use Rattle.std.specs.Prelude.{Contains, Option, Some, None, IsTrue, MatchOption,
 use Rattle.std.specs.List.{flat_map}
 use Rattle.std.specs.Bool.{one_answer}
 use Rattle.std.specs.Option.{option_to_list}
-use Rattle.std.proofs.lemmas.Bool.{cases_Bool, eqb-true}
+use Rattle.std.proofs.lemmas.Bool.{and_from, and_parts, cases_Bool, eqb-true}
 use Rattle.lane_board.specs.Field.{Field}
 use Rattle.srs.specs.declared.piece.Piece.{Piece}
 use Rattle.srs.specs.declared.placement.Placement.{Placement}
@@ -29,7 +29,7 @@ use Rattle.well.specs.LockLaws.{is_below}
 use Rattle.enumerate.specs.Position.{Position, after_of, may_play, places_at, is_live}
 use Rattle.enumerate.specs.Standing.{may_lock}
 use Rattle.enumerate.specs.Events.{Event, Tick, Flood, Found, Walk, entered, tried, level, enter}
-use Rattle.enumerate.specs.Frames.{position_of, places_left, step_of, events_of}
+use Rattle.enumerate.specs.Frames.{position_of, places_left, entered_placement, events_of}
 use Rattle.enumerate.specs.declared.turn.Turn.{Turn}
 use Rattle.enumerate.specs.declared.turn.Turn.TheVariants.{Passed, Flooded, Entered, Full, Over}
 use Rattle.enumerate.specs.Turns.{Enters, EntersAs, GoesAs, IsChild, SamePosition, Turns}
@@ -66,7 +66,11 @@ filter-same a b (x ∷ xs) each =
 abbrev pub Lockable : Field → Places → Type 0
 Lockable F places = (q : Placement) → holds places q ≡ true → may_lock F (piece_of places) q ≡ true
 
-module _ (F : Field) (line : QueuesInPlay) (places : Places) (lockable : Lockable F places) (permitted : may_play line (piece_of places) ≡ true) where
+-- and it lies below a row
+abbrev pub HeldBelow : ℕ → Places → Type 0
+HeldBelow rows places = (q : Placement) → holds places q ≡ true → is_below rows q ≡ true
+
+module _ (F : Field) (rows : ℕ) (line : QueuesInPlay) (places : Places) (lockable : Lockable F places) (low : HeldBelow rows places) (permitted : may_play line (piece_of places) ≡ true) where
   abbrev held : List Placement
   held = filter (holds places) (placements_of (piece_of places))
 
@@ -82,7 +86,7 @@ module _ (F : Field) (line : QueuesInPlay) (places : Places) (lockable : Lockabl
   -- the next of the held placements is the first of those that are left
   pub upcoming-next : (last r : Option Placement) → IsNextAbove placement_cmp (λ q. IsTrue (holds places q)) last r →
       MatchOption r (places_left (Some places) last ≡ [])
-      (λ q. (places_left (Some places) last ≡ q ∷ places_left (Some places) (Some q)) × IsTrue (may_lock F q.piece q) × IsTrue (may_play line q.piece))
+      (λ q. (places_left (Some places) last ≡ q ∷ places_left (Some places) (Some q)) × IsTrue (may_lock F q.piece q) × IsTrue (is_below rows q) × IsTrue (may_play line q.piece))
   unfolding places_left
   upcoming-next last r next = at r same next
     where
@@ -93,7 +97,7 @@ module _ (F : Field) (line : QueuesInPlay) (places : Places) (lockable : Lockabl
       at : (r : Option Placement) → find (is_above placement_cmp last) held ≡ r → IsNextAbove placement_cmp (λ q. IsTrue (holds places q)) last r →
           MatchOption r (filter (λ q. holds places q && is_above placement_cmp last q) (placements_of (piece_of places)) ≡ [])
           (λ q. (filter (λ q. holds places q && is_above placement_cmp last q) (placements_of (piece_of places)) ≡ q ∷ filter (λ p. holds places p && is_above placement_cmp (Some q) p) (placements_of (piece_of places)))
-          × IsTrue (may_lock F q.piece q) × IsTrue (may_play line q.piece))
+          × IsTrue (may_lock F q.piece q) × IsTrue (is_below rows q) × IsTrue (may_play line q.piece))
       at None e next = filter-both (holds places) (is_above placement_cmp last) (placements_of (piece_of places)) ∙ filter_above-none placement_cmp placement_cmp-total last held e
       at (Some q) e next =
           let lock : may_lock F (piece_of places) q ≡ true = lockable q next.member in
@@ -102,48 +106,52 @@ module _ (F : Field) (line : QueuesInPlay) (places : Places) (lockable : Lockabl
                 ∙ filter_above-next placement_cmp placement_cmp-total last held q held-list.rising e
                 ∙ ap (λ l. q ∷ l) (sym (filter-both (holds places) (is_above placement_cmp (Some q)) (placements_of (piece_of places)))),
             subst (λ p. may_lock F p q ≡ true) (sym kind) lock,
+            low q next.member,
             subst (λ p. may_play line p ≡ true) (sym kind) permitted,
           )
 
--- what a flood holds is the places, in order
-pub flooded-places : (table : Table) (F : Field) (mode : DropMode) (piece : Piece) (places : Places) → piece_of places ≡ piece →
-    ((q : Placement) → (holds places q ≡ true) ↔ ((q.piece ≡ piece) × IsPlace table F mode q)) → (n : Position) → n.table ≡ table → n.mode ≡ mode → n.field ≡ F →
-    places_left (Some places) None ≡ places_at n piece
-unfolding places_left places_at
-flooded-places table F mode piece places kind held n t m f =
-    ap (λ p. filter (λ q. holds places q && true) (placements_of p)) kind
-    ∙ filter-same (λ q. holds places q && true) (is_place table F mode) (placements_of piece) each
-    ∙ sym (λ i. filter (is_place (t i) (f i) (m i)) (placements_of piece))
-  where
-    and_true : (b : Bool) → (b && true) ≡ b
-    and_true true = refl
-    and_true false = refl
+-- what a flood holds is the places; those of them that lie below the rows left are kept, in order
+module _ (table : Table) (F : Field) (mode : DropMode) (piece : Piece) (all places : Places) (kind : piece_of all ≡ piece)
+    (held : (q : Placement) → (holds all q ≡ true) ↔ ((q.piece ≡ piece) × IsPlace table F mode q))
+    (same : piece_of places ≡ piece_of all) (rows : ℕ) (kept : (q : Placement) → (holds places q ≡ true) ↔ ((holds all q ≡ true) × (is_below rows q ≡ true))) where
+  pub flooded-places : (n : Position) → n.table ≡ table → n.mode ≡ mode → n.field ≡ F → places_left (Some places) None ≡ filter (is_below rows) (places_at n piece)
+  unfolding places_left places_at
+  flooded-places n t m f =
+      ap (λ p. filter (λ q. holds places q && true) (placements_of p)) (same ∙ kind)
+      ∙ filter-same (λ q. holds places q && true) (λ q. is_place table F mode q && is_below rows q) (placements_of piece) each
+      ∙ filter-both (is_place table F mode) (is_below rows) (placements_of piece)
+      ∙ ap (filter (is_below rows)) (sym (λ i. filter (is_place (t i) (f i) (m i)) (placements_of piece)))
+    where
+      and_true : (b : Bool) → (b && true) ≡ b
+      and_true true = refl
+      and_true false = refl
 
-    each : (q : Placement) → Contains (placements_of piece) q → (holds places q && true) ≡ is_place table F mode q
-    each q among =
-        let of_kind : q.piece ≡ piece = (((placements_of-list piece).members q).0 among).kind in
-        and_true (holds places q)
-        ∙ one_answer {P = IsPlace table F mode q} (holds places q) (is_place table F mode q)
-        (λ h. ((held q).0 h).1, λ place. (held q).1 (of_kind, place)) (place-decides table F mode q)
+      each : (q : Placement) → Contains (placements_of piece) q → (holds places q && true) ≡ (is_place table F mode q && is_below rows q)
+      each q among =
+          let of_kind : q.piece ≡ piece = (((placements_of-list piece).members q).0 among).kind in
+          and_true (holds places q)
+          ∙ one_answer {P = IsPlace table F mode q × (is_below rows q ≡ true)} (holds places q) (is_place table F mode q && is_below rows q)
+          (λ h. let both = (kept q).0 h in (((held q).0 both.0).1, both.1), λ p. (kept q).1 ((held q).1 (of_kind, p.0), p.1)) (
+            λ h. let both = and_parts (is_place table F mode q) (is_below rows q) h in ((place-decides table F mode q).0 both.0, both.1),
+            λ p. and_from (is_place table F mode q) (is_below rows q) ((place-decides table F mode q).1 p.0) p.1,
+          )
 
-pub flooded-lockable : (table : Table) (F : Field) (mode : DropMode) (piece : Piece) (places : Places) → piece_of places ≡ piece →
-    ((q : Placement) → (holds places q ≡ true) ↔ ((q.piece ≡ piece) × IsPlace table F mode q)) → Lockable F places
-flooded-lockable table F mode piece places kind held q is_held =
-    let both = (held q).0 is_held in
-    place-lockable table F mode (piece_of places) q (both.0 ∙ sym kind) both.1
+  pub flooded-lockable : Lockable F places
+  flooded-lockable q is_held =
+      let both = (held q).0 ((kept q).0 is_held).0 in
+      place-lockable table F mode (piece_of places) q (both.0 ∙ sym (same ∙ kind)) both.1
+
+  pub flooded-below : HeldBelow rows places
+  flooded-below q is_held = ((kept q).0 is_held).1
 
 -- ---- entering
-
-pub enters-blocked : (frame : Frame) (q : Placement) → is_below frame.rows q ≡ false → EntersAs frame q (λ table mode prefix. Tick ∷ [])
-unfolding entered position_of
-enters-blocked frame q blocked = record { same = λ table mode prefix. if_false (is_below frame.rows q) _ (Tick ∷ []) blocked }
 
 module _ (frame : Frame) (q : Placement) (below : is_below frame.rows q ≡ true) where
   pub enters-full : frame.left ≡ 0 → frame.rows - rows_removed (filled frame.well) q ≡ 0 → EntersAs frame q (λ table mode prefix. Found prefix ∷ [])
   unfolding entered position_of enter after_of
   enters-full none done = record {
     same = λ table mode prefix.
-        if_true (is_below frame.rows q) (enter frame.left (prefix ++ q ∷ []) (after_of (position_of table mode frame) q)) (Tick ∷ []) below
+        if_true (is_below frame.rows q) (enter frame.left (prefix ++ q ∷ []) (after_of (position_of table mode frame) q)) [] below
         ∙ ap (λ left. enter left (prefix ++ q ∷ []) (after_of (position_of table mode frame) q)) none
         ∙ ap (λ e. e ∷ []) (if_true (frame.rows - rows_removed (filled frame.well) q == 0) (Found (prefix ++ q ∷ [])) Tick (eq-eqb _ 0 done));
   }
@@ -152,7 +160,7 @@ module _ (frame : Frame) (q : Placement) (below : is_below frame.rows q ≡ true
   unfolding entered position_of enter after_of
   enters-rows_left none more = record {
     same = λ table mode prefix.
-        if_true (is_below frame.rows q) (enter frame.left (prefix ++ q ∷ []) (after_of (position_of table mode frame) q)) (Tick ∷ []) below
+        if_true (is_below frame.rows q) (enter frame.left (prefix ++ q ∷ []) (after_of (position_of table mode frame) q)) [] below
         ∙ ap (λ left. enter left (prefix ++ q ∷ []) (after_of (position_of table mode frame) q)) none
         ∙ ap (λ e. e ∷ []) (if_false (frame.rows - rows_removed (filled frame.well) q == 0) (Found (prefix ++ q ∷ [])) Tick more);
   }
@@ -164,40 +172,62 @@ module _ (frame : Frame) (q : Placement) (below : is_below frame.rows q ≡ true
     unfolding position_of after_of
     child-position table mode = λ i. record { table = table; mode = mode; field = field i; rows = rows i; line = line i }
 
-    pub is_child : child.left + 1 ≡ frame.left → child.tried ≡ 0 → child.places ≡ None → ((table : Table) (mode : DropMode) → is_live child.left (position_of table mode child) ≡ true) → IsChild frame q child
-    is_child left tried places live = record { left = left; below = below; position = child-position; live = live; tried = tried; places = places }
+    pub is_child : child.left + 1 ≡ frame.left → child.tried ≡ 0 → child.places ≡ None → ((table : Table) (mode : DropMode) → is_live child.left (after_of (position_of table mode frame) q) ≡ true) → IsChild frame q child
+    is_child left tried places live = record {
+      left = left;
+      below = below;
+      position = child-position;
+      live = λ table mode. subst (λ n. is_live child.left n ≡ true) (sym (child-position table mode)) (live table mode);
+      tried = tried;
+      places = places;
+    }
 
-    pub enters-child : child.left + 1 ≡ frame.left → child.tried ≡ 0 → child.places ≡ None → ((table : Table) (mode : DropMode) → is_live child.left (position_of table mode child) ≡ true) →
+    pub enters-child : child.left + 1 ≡ frame.left → child.tried ≡ 0 → child.places ≡ None → ((table : Table) (mode : DropMode) → is_live child.left (after_of (position_of table mode frame) q) ≡ true) →
         EntersAs frame q (λ table mode prefix. Tick ∷ events_of table mode prefix child)
     unfolding entered enter events_of places_left position_of
     enters-child left tried places live = record {
       same = λ table mode prefix.
           let next : Position = after_of (position_of table mode frame) q in
           let depth : frame.left ≡ suc child.left = omega (arith, left) in
-          if_true (is_below frame.rows q) (enter frame.left (prefix ++ q ∷ []) next) (Tick ∷ []) below
+          if_true (is_below frame.rows q) (enter frame.left (prefix ++ q ∷ []) next) [] below
           ∙ ap (λ left. enter left (prefix ++ q ∷ []) next) depth
           ∙ ap (λ l. Tick ∷ l)
-          (if_true (is_live child.left next) (level (enter child.left) (prefix ++ q ∷ []) next all_pieces) [] (subst (λ n. is_live child.left n ≡ true) (child-position table mode) (live table mode))
+          (if_true (is_live child.left next) (level (enter child.left) (prefix ++ q ∷ []) next all_pieces) [] (live table mode)
           ∙ sym (λ i. level (enter child.left) (prefix ++ q ∷ []) (child-position table mode i) all_pieces)
           ∙ ap (λ k. level (enter child.left) (prefix ++ q ∷ []) (position_of table mode child) (drop k all_pieces)) (sym tried)
           ∙ ap (λ p. flat_map (entered (enter child.left) (prefix ++ q ∷ []) (position_of table mode child)) (places_left p child.entered)
           ++ level (enter child.left) (prefix ++ q ∷ []) (position_of table mode child) (drop child.tried all_pieces)) (sym places));
     }
 
-    pub enters-dead : child.left + 1 ≡ frame.left → ((table : Table) (mode : DropMode) → is_live child.left (position_of table mode child) ≡ false) →
-        EntersAs frame q (λ table mode prefix. Tick ∷ [])
-    unfolding entered enter position_of
-    enters-dead left dead = record {
-      same = λ table mode prefix.
-          let next : Position = after_of (position_of table mode frame) q in
-          let depth : frame.left ≡ suc child.left = omega (arith, left) in
-          if_true (is_below frame.rows q) (enter frame.left (prefix ++ q ∷ []) next) (Tick ∷ []) below
-          ∙ ap (λ left. enter left (prefix ++ q ∷ []) next) depth
-          ∙ ap (λ l. Tick ∷ l)
-          (if_false (is_live child.left next) (level (enter child.left) (prefix ++ q ∷ []) next all_pieces) [] (subst (λ n. is_live child.left n ≡ false) (child-position table mode) (dead table mode)));
-    }
+  -- a position that has no tiling
+  pub enters-dead : (left : ℕ) → left + 1 ≡ frame.left → ((table : Table) (mode : DropMode) → is_live left (after_of (position_of table mode frame) q) ≡ false) →
+      EntersAs frame q (λ table mode prefix. Tick ∷ [])
+  unfolding entered enter position_of
+  enters-dead left less dead = record {
+    same = λ table mode prefix.
+        let next : Position = after_of (position_of table mode frame) q in
+        let depth : frame.left ≡ suc left = omega (arith, less) in
+        if_true (is_below frame.rows q) (enter frame.left (prefix ++ q ∷ []) next) [] below
+        ∙ ap (λ left. enter left (prefix ++ q ∷ []) next) depth
+        ∙ ap (λ l. Tick ∷ l)
+        (if_false (is_live left next) (level (enter left) (prefix ++ q ∷ []) next all_pieces) [] (dead table mode));
+  }
 
 -- ---- trying kinds, and a whole turn
+
+-- what does not lie below the rows left is passed over
+pub entered-below : (walk : Walk) (prefix : List Placement) (n : Position) (qs : List Placement) → flat_map (entered walk prefix n) (filter (is_below n.rows) qs) ≡ flat_map (entered walk prefix n) qs
+unfolding entered
+entered-below walk prefix n [] = refl
+entered-below walk prefix n (q ∷ qs) = elim (cases_Bool (is_below n.rows q)) [
+  | inl e ↦ ap (flat_map (entered walk prefix n)) (filter-true (is_below n.rows) q qs e) ∙ ap (λ l. entered walk prefix n q ++ l) (entered-below walk prefix n qs)
+  | inr e ↦
+      ap (flat_map (entered walk prefix n)) (filter-false (is_below n.rows) q qs e) ∙ entered-below walk prefix n qs
+      ∙ ap (λ l. l ++ flat_map (entered walk prefix n) qs) (sym (nothing e))
+]
+  where
+    nothing : is_below n.rows q ≡ false → entered walk prefix n q ≡ []
+    nothing e = if_false (is_below n.rows q) (walk (prefix ++ q ∷ []) (after_of n q)) [] e
 
 events-shape : (table : Table) (mode : DropMode) (frame : Frame) (prefix : List Placement) → places_left frame.places frame.entered ≡ [] →
     events_of table mode prefix frame ≡ level (enter frame.left) prefix (position_of table mode frame) (drop frame.tried all_pieces)
@@ -252,13 +282,15 @@ module _ (table : Table) (mode : DropMode) (old new : Frame) (same : SamePositio
         ∙ ap (λ l. Tick ∷ l) (sym (events-shape table mode new prefix none_new ∙ rest-same prefix));
   }
 
-  pub goes-flooded : may_play (queues_in_play old.queues) c ≡ true → places_left new.places new.entered ≡ places_at (position_of table mode old) c → GoesAs table mode old (λ prefix. Flood ∷ events_of table mode prefix new)
+  pub goes-flooded : may_play (queues_in_play old.queues) c ≡ true → places_left new.places new.entered ≡ filter (is_below old.rows) (places_at (position_of table mode old) c) → GoesAs table mode old (λ prefix. Flood ∷ events_of table mode prefix new)
   unfolding tried position_of events_of
   goes-flooded played places = record {
     same = λ prefix.
         begins prefix
         ∙ ap (λ l. l ++ level (enter old.left) prefix (position_of table mode old) (drop new.tried all_pieces))
         (if_true (may_play (queues_in_play old.queues) c) (Flood ∷ flat_map (entered (enter old.left) prefix (position_of table mode old)) (places_at (position_of table mode old) c)) (Tick ∷ []) played)
+        ∙ ap (λ l. Flood ∷ (l ++ level (enter old.left) prefix (position_of table mode old) (drop new.tried all_pieces)))
+        (sym (entered-below (enter old.left) prefix (position_of table mode old) (places_at (position_of table mode old) c)))
         ∙ ap (λ l. Flood ∷ l)
         (sym ((λ i. flat_map (entered (enter (same.left i)) prefix (same-position table mode old new same i)) (places i)
         ++ level (enter (same.left i)) prefix (same-position table mode old new same i) (drop new.tried all_pieces))));
@@ -268,7 +300,7 @@ module _ (table : Table) (mode : DropMode) (old new : Frame) (same : SamePositio
 module _ (table : Table) (mode : DropMode) (old new : Frame) (same : SamePosition old new) (q : Placement)
     (first : places_left old.places old.entered ≡ q ∷ places_left new.places new.entered) (kinds : new.tried ≡ old.tried) (step : new.entered ≡ Some q) where
   pub goes-entered : (events : Table → DropMode → List Placement → List Event) → EntersAs new q events →
-      GoesAs table mode old (λ prefix. events table mode (prefix ++ step_of new) ++ events_of table mode prefix new)
+      GoesAs table mode old (λ prefix. events table mode (prefix ++ entered_placement new) ++ events_of table mode prefix new)
   unfolding events_of
   goes-entered events enters = record {
     same = λ prefix.
@@ -287,7 +319,7 @@ module _ (table : Table) (mode : DropMode) (old new : Frame) (same : SamePositio
       position : position_of table mode old ≡ position_of table mode new
       position = sym (same-position table mode old new same)
 
-      step-is : step_of new ≡ q ∷ []
+      step-is : entered_placement new ≡ q ∷ []
       step-is = ap option_to_list step
 
 pub line-permits : (line : QueuesInPlay) (c : Piece) → may_play line c ≡ true → QueuesPermit line (line.played ++ c ∷ [])

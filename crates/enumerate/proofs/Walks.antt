@@ -52,7 +52,7 @@ module _ (walk : Walk) (S : Sequences) (finds : Finds walk S) (prefix : List Pla
   unfolding entered of_place found prefixed
   found-entered q = at (is_below n.rows q)
     where
-      at : (b : Bool) → found (if b then walk (prefix ++ q ∷ []) (after_of n q) else Tick ∷ []) ≡ prefixed prefix (if b then map (λ s. q ∷ s) (S (after_of n q)) else [])
+      at : (b : Bool) → found (if b then walk (prefix ++ q ∷ []) (after_of n q) else []) ≡ prefixed prefix (if b then map (λ s. q ∷ s) (S (after_of n q)) else [])
       at true = finds.same (prefix ++ q ∷ []) (after_of n q) ∙ prefixed-cons prefix q (S (after_of n q))
       at false = refl
 

@@ -33,9 +33,9 @@ floods (Found sequence ∷ events) = floods events
 abbrev pub Walk : Type 0
 Walk = List Placement → Position → List Event
 
--- a placement is entered where it lies below the rows left
+-- a placement is entered where it lies below the rows left, and else nothing is done
 unfoldable pub entered : Walk → List Placement → Position → Placement → List Event
-entered walk prefix n q = if is_below n.rows q then walk (prefix ++ q ∷ []) (after_of n q) else Tick ∷ []
+entered walk prefix n q = if is_below n.rows q then walk (prefix ++ q ∷ []) (after_of n q) else []
 
 -- a kind that may be played is flooded, and each of its places entered
 unfoldable pub tried : Walk → List Placement → Position → Piece → List Event
@@ -56,15 +56,17 @@ unfoldable pub begun : ℕ → Position → List Event
 begun zero n = []
 begun (suc left) n = if is_live left n then level (enter left) [] n all_pieces else []
 
--- What is done after a given sequence: its first placement is flooded where it may be played, and where it is a place below
--- the rows left, what is done after the rest of the sequence comes first; then the later places and the later kinds.
+-- What is done after a given sequence: its first placement is flooded where it may be played, and where it is a place
+-- below the rows left, what is done after the rest of the sequence comes first; then the later places and the later
+-- kinds.
 unfoldable pub sought : ℕ → List Placement → Position → List Placement → List Event
 sought zero prefix n given = []
 sought (suc left) prefix n [] = if is_live left n then level (enter left) prefix n all_pieces else []
 sought (suc left) prefix n (q ∷ given) =
     if is_live left n then
     (if may_play n.line q.piece then
-    Flood ∷ ((if is_place n.table n.field n.mode q && is_below n.rows q then sought left (prefix ++ q ∷ []) (after_of n q) given else [])
+    Flood ∷ ((if is_place n.table n.field n.mode q && is_below n.rows q
+    then sought left (prefix ++ q ∷ []) (after_of n q) given else [])
     ++ flat_map (entered (enter left) prefix n) (filter (is_above placement_cmp (Some q)) (places_at n q.piece)))
     else [])
     ++ level (enter left) prefix n (drop (piece_code q.piece) all_pieces)

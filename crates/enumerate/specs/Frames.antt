@@ -29,11 +29,12 @@ position_of table mode frame = record {
 -- the held placements above the one that was entered last
 unfoldable pub places_left : Option Places → Option Placement → List Placement
 places_left None last = []
-places_left (Some places) last = filter (λ q. holds places q && is_above placement_cmp last q) (placements_of (piece_of places))
+places_left (Some places) last =
+    filter (λ q. holds places q && is_above placement_cmp last q) (placements_of (piece_of places))
 
 -- the placement that was entered last, as a sequence
-abbrev pub step_of : Frame → List Placement
-step_of frame = option_to_list frame.entered
+abbrev pub entered_placement : Frame → List Placement
+entered_placement frame = option_to_list frame.entered
 
 -- what is still to be done at a frame
 unfoldable pub events_of : Table → DropMode → List Placement → Frame → List Event
@@ -45,11 +46,11 @@ events_of table mode prefix frame =
 unfoldable pub stacked : Table → DropMode → List Placement → List Frame → List Event
 stacked table mode prefix [] = []
 stacked table mode prefix (frame ∷ frames) =
-    stacked table mode (prefix ++ step_of frame) frames ++ events_of table mode prefix frame
+    stacked table mode (prefix ++ entered_placement frame) frames ++ events_of table mode prefix frame
 
 -- the placements that lead to the deepest frame, and the one entered there
 unfoldable pub path_of : List Frame → List Placement
-path_of frames = flat_map step_of frames
+path_of frames = flat_map entered_placement frames
 
 -- there is room for the frames below
 unfoldable pub has_room : ℕ → List Frame → Bool

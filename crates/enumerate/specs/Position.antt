@@ -51,8 +51,18 @@ is_live left n = can_be_tiled (suc left) n
 
 -- the queues that count, with nothing played: one of them alone, or all of the pattern
 abbrev pub line_at : Problem → Option (List Piece) → QueuesInPlay
-line_at problem None = record { elements = elements_of problem.pattern; hold = problem.hold; held = problem.held; played = [] }
-line_at problem (Some queue) = record { elements = singles queue; hold = problem.hold; held = problem.held; played = [] }
+line_at problem None = record {
+  elements = elements_of problem.pattern;
+  hold = problem.hold;
+  held = problem.held;
+  played = [];
+}
+line_at problem (Some queue) = record {
+  elements = singles queue;
+  hold = problem.hold;
+  held = problem.held;
+  played = [];
+}
 
 -- the position at which a search begins
 unfoldable pub root_of : Problem → Option (List Piece) → Position

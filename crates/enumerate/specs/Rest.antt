@@ -16,6 +16,6 @@ whole_from problem queue None = begun (needed_of problem) (root_of problem queue
 whole_from problem queue (Some given) = sought (needed_of problem) [] (root_of problem queue) given
 
 -- all of them where the search has yet to go to its start, and else those of the frames in use
-unfoldable pub rest_from : Problem → Option (List Piece) → Option (List Placement) → Bool → List Frame → List Event
-rest_from problem queue after true frames = whole_from problem queue after
-rest_from problem queue after false frames = stacked (table_of problem.rules) problem.drop_mode [] frames
+unfoldable pub events_from : Problem → Option (List Piece) → Option (List Placement) → Bool → List Frame → List Event
+events_from problem queue after true frames = whole_from problem queue after
+events_from problem queue after false frames = stacked (table_of problem.rules) problem.drop_mode [] frames

@@ -6,7 +6,7 @@ use Rattle.moves.specs.declared.key.DropMode.{DropMode}
 use Rattle.enumerate.specs.declared.frame.Frame.{Frame}
 use Rattle.enumerate.specs.Position.{is_live}
 use Rattle.enumerate.specs.Events.{Event, found, floods, sought}
-use Rattle.enumerate.specs.Frames.{events_of, has_room, path_of, position_of, stacked, step_of}
+use Rattle.enumerate.specs.Frames.{events_of, has_room, path_of, position_of, stacked, entered_placement}
 
 -- nothing was tried at the frame, and it is worth a look
 pub record IsFresh (table : Table) (mode : DropMode) (frame : Frame) : Type 0 where
@@ -23,29 +23,37 @@ pub record SkipsTo (old new : List Event) (before now : ℕ) : Type 0 where
 -- after any prefix, whatever of the given sequence follows
 abbrev pub Skips : Table → DropMode → Frame → Frame → Placement → Option Frame → ℕ → ℕ → Type 0
 Skips table mode old new q None before now =
-    (prefix given : List Placement) → SkipsTo (sought (suc old.left) prefix (position_of table mode old) (q ∷ given)) (events_of table mode prefix new) before now
+    (prefix given : List Placement) →
+    SkipsTo (sought (suc old.left) prefix (position_of table mode old) (q ∷ given))
+    (events_of table mode prefix new) before now
 Skips table mode old new q (Some child) before now =
     ((prefix given : List Placement) → SkipsTo (sought (suc old.left) prefix (position_of table mode old) (q ∷ given))
-    (sought (suc child.left) (prefix ++ step_of new) (position_of table mode child) given ++ events_of table mode prefix new) before now)
+    (sought (suc child.left) (prefix ++ entered_placement new) (position_of table mode child) given
+    ++ events_of table mode prefix new) before now)
     × IsFresh table mode child × (child.left + 1 ≡ old.left)
 
 -- what is to be done from a frame on, where this is still to be passed by there
 abbrev pub sought_at : Table → DropMode → List Frame → ℕ → List Placement → Frame → List Event
 sought_at table mode frames top given d =
-    sought (suc (slice_index_or frames top d).left) (path_of (take top frames)) (position_of table mode (slice_index_or frames top d)) given
+    sought (suc (slice_index_or frames top d).left) (path_of (take top frames))
+    (position_of table mode (slice_index_or frames top d)) given
     ++ stacked table mode [] (take top frames)
 
 -- one more frame is in use, and at it one placement less is to be passed by
-pub record IsDeeper (table : Table) (mode : DropMode) (old new : List Frame) (top : ℕ) (q : Placement) (before now : ℕ) : Type 0 where
+pub record IsDeeper (table : Table) (mode : DropMode) (old new : List Frame) (top : ℕ) (q : Placement)
+    (before now : ℕ) : Type 0 where
   pub within : top + 1 < 20
   pub room : IsTrue (has_room 0 (take (top + 1 + 1) new))
   pub fresh : (d : Frame) → IsFresh table mode (slice_index_or new (top + 1) d)
-  pub skips : (given : List Placement) (d : Frame) → SkipsTo (sought_at table mode old top (q ∷ given) d) (sought_at table mode new (top + 1) given d) before now
+  pub skips : (given : List Placement) (d : Frame) →
+      SkipsTo (sought_at table mode old top (q ∷ given) d) (sought_at table mode new (top + 1) given d) before now
 
 -- the same frames are in use, and all that comes before is passed by
-pub record IsThere (table : Table) (mode : DropMode) (old new : List Frame) (top : ℕ) (q : Placement) (before now : ℕ) : Type 0 where
+pub record IsThere (table : Table) (mode : DropMode) (old new : List Frame) (top : ℕ) (q : Placement)
+    (before now : ℕ) : Type 0 where
   pub room : IsTrue (has_room 0 (take (top + 1) new))
-  pub skips : (given : List Placement) (d : Frame) → SkipsTo (sought_at table mode old top (q ∷ given) d) (stacked table mode [] (take (top + 1) new)) before now
+  pub skips : (given : List Placement) (d : Frame) →
+      SkipsTo (sought_at table mode old top (q ∷ given) d) (stacked table mode [] (take (top + 1) new)) before now
 
 abbrev pub IsSought : Table → DropMode → List Frame → List Frame → ℕ → Placement → Bool → ℕ → ℕ → Type 0
 IsSought table mode old new top q true before now = IsDeeper table mode old new top q before now

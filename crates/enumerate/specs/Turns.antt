@@ -9,7 +9,7 @@ use Rattle.enumerate.specs.declared.turn.Turn.TheVariants.{Passed, Flooded, Ente
 use Rattle.well.specs.LockLaws.{is_below}
 use Rattle.enumerate.specs.Position.{after_of, is_live}
 use Rattle.enumerate.specs.Events.{Event, Tick, Flood, Found, entered, enter}
-use Rattle.enumerate.specs.Frames.{position_of, step_of, events_of}
+use Rattle.enumerate.specs.Frames.{position_of, entered_placement, events_of}
 
 -- the two frames differ only in what was tried
 pub record SamePosition (old new : Frame) : Type 0 where
@@ -19,7 +19,8 @@ pub record SamePosition (old new : Frame) : Type 0 where
   pub left : new.left ≡ old.left
 
 -- what there is to do at a placement, whatever the rules, and after any prefix
-pub record EntersAs (frame : Frame) (q : Placement) (events : Table → DropMode → List Placement → List Event) : Type 0 where
+pub record EntersAs (frame : Frame) (q : Placement)
+    (events : Table → DropMode → List Placement → List Event) : Type 0 where
   pub same : (table : Table) (mode : DropMode) (prefix : List Placement) →
       entered (enter frame.left) prefix (position_of table mode frame) q ≡ events table mode (prefix ++ q ∷ [])
 
@@ -27,7 +28,8 @@ pub record EntersAs (frame : Frame) (q : Placement) (events : Table → DropMode
 pub record IsChild (frame : Frame) (q : Placement) (child : Frame) : Type 0 where
   pub left : child.left + 1 ≡ frame.left
   pub below : is_below frame.rows q ≡ true
-  pub position : (table : Table) (mode : DropMode) → position_of table mode child ≡ after_of (position_of table mode frame) q
+  pub position : (table : Table) (mode : DropMode) →
+      position_of table mode child ≡ after_of (position_of table mode frame) q
   pub live : (table : Table) (mode : DropMode) → is_live child.left (position_of table mode child) ≡ true
   pub tried : child.tried ≡ 0
   pub places : child.places ≡ None
@@ -35,12 +37,14 @@ pub record IsChild (frame : Frame) (q : Placement) (child : Frame) : Type 0 wher
 abbrev pub Enters : Frame → Placement → Turn → Type 0
 Enters frame q Passed = EntersAs frame q (λ table mode prefix. Tick ∷ [])
 Enters frame q Flooded = ⊥
-Enters frame q (Entered child) = EntersAs frame q (λ table mode prefix. Tick ∷ events_of table mode prefix child) × IsChild frame q child
+Enters frame q (Entered child) =
+    EntersAs frame q (λ table mode prefix. Tick ∷ events_of table mode prefix child) × IsChild frame q child
 Enters frame q Full = EntersAs frame q (λ table mode prefix. Found prefix ∷ [])
 Enters frame q Over = ⊥
 
 -- what there is to do at a frame, after any prefix
-pub record GoesAs (table : Table) (mode : DropMode) (frame : Frame) (events : List Placement → List Event) : Type 0 where
+pub record GoesAs (table : Table) (mode : DropMode) (frame : Frame)
+    (events : List Placement → List Event) : Type 0 where
   pub same : (prefix : List Placement) → events_of table mode prefix frame ≡ events prefix
 
 abbrev pub Turns : Table → DropMode → Frame → Frame → Turn → ℕ → ℕ → Type 0
@@ -49,8 +53,10 @@ Turns table mode old new Passed before now =
 Turns table mode old new Flooded before now =
     GoesAs table mode old (λ prefix. Flood ∷ events_of table mode prefix new) × (now ≡ before + 1)
 Turns table mode old new (Entered child) before now =
-    GoesAs table mode old (λ prefix. Tick ∷ (events_of table mode (prefix ++ step_of new) child ++ events_of table mode prefix new))
+    GoesAs table mode old (λ prefix. Tick ∷ (events_of table mode (prefix ++ entered_placement new) child
+    ++ events_of table mode prefix new))
     × (now ≡ before) × (child.left + 1 ≡ old.left)
 Turns table mode old new Full before now =
-    GoesAs table mode old (λ prefix. Found (prefix ++ step_of new) ∷ events_of table mode prefix new) × (now ≡ before)
+    GoesAs table mode old (λ prefix. Found (prefix ++ entered_placement new) ∷ events_of table mode prefix new)
+    × (now ≡ before)
 Turns table mode old new Over before now = GoesAs table mode old (λ prefix. Tick ∷ []) × (now ≡ before)

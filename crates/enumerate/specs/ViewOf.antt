@@ -4,7 +4,7 @@ use Rattle.srs.specs.declared.placement.Placement.{Placement}
 use Rattle.enumerate.specs.declared.search.Search.{Search}
 use Rattle.enumerate.specs.Events.{Event, found, floods}
 use Rattle.enumerate.specs.Items.{items_of}
-use Rattle.enumerate.specs.Rest.{rest_from, whole_from}
+use Rattle.enumerate.specs.Rest.{events_from, whole_from}
 use Rattle.enumerate.specs.Search.{View}
 
 unfoldable pub view_of : Search → View
@@ -18,13 +18,14 @@ after_given search = items_of search.after
 unfoldable pub whole_of : Search → List Event
 whole_of search = whole_from search.problem (items_of search.queue) (items_of search.after)
 
-unfoldable pub rest_of : Search → List Event
-rest_of search = rest_from search.problem (items_of search.queue) (items_of search.after) search.pending (take search.depth search.frames)
+unfoldable pub events_to_come : Search → List Event
+events_to_come search = events_from search.problem (items_of search.queue) (items_of search.after) search.pending
+    (take search.depth search.frames)
 
 -- the solutions that are still to come, in order
 unfoldable pub solutions : Search → List (List Placement)
-solutions search = found (rest_of search)
+solutions search = found (events_to_come search)
 
 -- how many floods the search has made
 unfoldable pub work : Search → ℕ
-work search = floods (whole_of search) - floods (rest_of search)
+work search = floods (whole_of search) - floods (events_to_come search)

@@ -24,10 +24,11 @@ can_stand table mode F rows (q ∷ rest) =
 
 -- from a position: some queue permits the prefix, and its placements can stand
 unfoldable pub can_be_played : Position → List Placement → Bool
-can_be_played root prefix = queues_permit root.line (pieces_of prefix) && can_stand root.table root.mode root.field root.rows prefix
+can_be_played root prefix = queues_permit root.line (pieces_of prefix)
+    && can_stand root.table root.mode root.field root.rows prefix
 
--- with so many placements to come after the prefix: before each placement of it and after the last one, the empty cells of
--- the rows left have a tiling by what may still be played there
+-- with so many placements to come after the prefix: before each placement of it and after the last one, the empty
+-- cells of the rows left have a tiling by what may still be played there
 unfoldable pub stays_tiled : ℕ → Position → List Placement → Bool
 stays_tiled left n [] = can_be_tiled left n
 stays_tiled left n (q ∷ rest) = can_be_tiled (left + length (q ∷ rest)) n && stays_tiled left (after_of n q) rest

@@ -43,7 +43,8 @@ fn turn<L: Ledger>(
     requires room { IsTrue (has_room 0 (take depth frames.old)) }
     ensures within { result.0 ≤ 20 }
     ensures solved { result.1 ≡ true → 0 < result.0 }
-    ensures turn { IsTurn (table_of rules.now) drop_mode (take depth frames.old) (take result.0 frames.new) steps.old steps.new result.1 }
+    ensures turn { IsTurn (table_of rules.now) drop_mode (take depth frames.old)
+        (take result.0 frames.new) steps.old steps.new result.1 }
     ensures noted { CountsUp notes.old.floods notes.new.floods steps.old steps.new }
 {
     let top = depth - 1;

@@ -1,14 +1,20 @@
 // One level of the search: a position, and which of its next placements are still to be walked.
-ghost use Rattle.std.specs.Prelude.{◌≡◌, ℕ, ◌≤◌, IsTrue};
+ghost use Rattle.std.specs.Prelude.{◌≡◌, ℕ, ◌+◌, ◌≤◌, IsTrue};
 ghost use Rattle.std.specs.Option.{ForSome};
+ghost use Rattle.lane_board.specs.Field.{difference, rows_below};
 ghost use Rattle.srs.specs.declared.placement.Placement.{Placement};
 ghost use Rattle.well.specs.Well.{filled};
+ghost use Rattle.well.specs.LockLaws.{LiesBelow, is_below};
 ghost use Rattle.reach.specs.Places.{holds, piece_of};
 ghost use Rattle.hold_queue.specs.QueueSet.{queues_in_play};
+ghost use Rattle.hold_queue.specs.Supply.{supply_of};
+ghost use Rattle.prune.specs.Tiling.{supply_in};
+ghost use Rattle.packing.specs.Empties.{empty_cells};
 ghost use Rattle.enumerate.specs.Position.{may_play};
 ghost use Rattle.enumerate.specs.Standing.{may_lock};
 
 use hold_queue::QueueSet;
+use packing::Empties;
 use reach::Places;
 use srs::Placement;
 use well::Well;
@@ -19,7 +25,11 @@ pub struct Frame {
     pub well: Well,
     /// How many rows are left.
     pub rows: u8,
+    /// The empty cells of these rows.
+    pub empties: Empties,
     pub queues: QueueSet,
+    /// How many pieces of each kind may still be played, in the order of codes.
+    pub supply: [u8; 7],
     /// How many placements come after the next one.
     pub left: u8,
     /// How many kinds were tried.
@@ -28,7 +38,12 @@ pub struct Frame {
     pub entered: Option<Placement>,
     ghost low: { rows ≤ 8 },
     ghost few: { left ≤ 19 },
-    ghost lockable: { ForSome places (λ p. (q : Placement) → IsTrue (holds p q) → IsTrue (may_lock (filled well) (piece_of p) q)) },
+    ghost bounded: { LiesBelow (filled well) rows },
+    ghost emptied: { empty_cells empties ≡ difference (rows_below rows) (filled well) },
+    ghost supplied: { supply_in supply ≡ supply_of (queues_in_play queues) (left + 1) },
+    ghost lockable: { ForSome places (λ p. (q : Placement) → IsTrue (holds p q) →
+        IsTrue (may_lock (filled well) (piece_of p) q)) },
+    ghost held_below: { ForSome places (λ p. (q : Placement) → IsTrue (holds p q) → IsTrue (is_below rows q)) },
     ghost permitted: { ForSome places (λ p. IsTrue (may_play (queues_in_play queues) (piece_of p))) },
     ghost same_piece: { ForSome places (λ p. ForSome entered (λ q. q.piece ≡ piece_of p)) },
 }

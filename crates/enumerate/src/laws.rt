@@ -9,7 +9,8 @@ ghost use Rattle.enumerate.specs.Solution.{IsSolution};
 
 /// Each solution of a fit problem has as many placements as are needed.
 pub fn solutions_are_as_long_as_needed()
-    ensures { (problem : Problem) (queue : Option (List Piece)) (s : List Placement) → IsFit problem → IsSolution problem queue s → length s ≡ needed_of problem }
+    ensures { (problem : Problem) (queue : Option (List Piece)) (s : List Placement) → IsFit problem →
+        IsSolution problem queue s → length s ≡ needed_of problem }
 {}
 
 /// The list that a view asks for is determined.
@@ -19,7 +20,8 @@ pub fn lists_are_determined()
 
 /// For a listed sequence the whole list is its members up to this one, followed by the list after it.
 pub fn lists_resume()
-    ensures { (problem : Problem) (queue : Option (List Piece)) (whole rest : List (List Placement)) (s : List Placement) →
+    ensures { (problem : Problem) (queue : Option (List Piece)) (whole rest : List (List Placement))
+        (s : List Placement) →
         IsList (record { problem = problem; queue = queue; bound = None }) whole → Contains whole s →
         IsList (record { problem = problem; queue = queue; bound = Some s }) rest → Resumes whole s rest }
 {}

@@ -10,6 +10,7 @@ mod problem;
 mod search;
 mod seek;
 mod start;
+mod supply;
 mod tilings;
 mod turn;
 

@@ -7,7 +7,7 @@ ghost use Rattle.enumerate.specs.Counted.{as_count};
 ghost use Rattle.enumerate.specs.Events.{found, floods};
 ghost use Rattle.enumerate.specs.Frames.{has_room};
 ghost use Rattle.enumerate.specs.Items.{items_of};
-ghost use Rattle.enumerate.specs.Rest.{rest_from, whole_from};
+ghost use Rattle.enumerate.specs.Rest.{events_from, whole_from};
 
 use crate::frame::Frame;
 use crate::notes::Notes;
@@ -35,10 +35,10 @@ pub struct Search {
     ghost fit: { IsFit problem },
     ghost within: { depth ≤ 20 },
     ghost room: { IsTrue (has_room 0 (take depth frames)) },
-    ghost listed: { found (rest_from problem (items_of queue) (items_of after) pending (take depth frames))
+    ghost listed: { found (events_from problem (items_of queue) (items_of after) pending (take depth frames))
         ≡ filter (is_above sequence_cmp (items_of bound)) (found (whole_from problem (items_of queue) None)) },
-    ghost counted: { floods (rest_from problem (items_of queue) (items_of after) pending (take depth frames))
+    ghost counted: { floods (events_from problem (items_of queue) (items_of after) pending (take depth frames))
         ≤ floods (whole_from problem (items_of queue) (items_of after)) },
     ghost noted: { notes.floods ≡ as_count (floods (whole_from problem (items_of queue) (items_of after))
-        - floods (rest_from problem (items_of queue) (items_of after) pending (take depth frames))) },
+        - floods (events_from problem (items_of queue) (items_of after) pending (take depth frames))) },
 }

@@ -79,8 +79,8 @@ impl Frame {
     }
 }
 
-/// Passes, at the last of the frames in use, all that comes before a placement. True where one more frame is in use then,
-/// which is the frame after it.
+/// Passes, at the last of the frames in use, all that comes before a placement. True where one more frame is in use
+/// then, which is the frame after it.
 fn skip_at<L: Ledger>(
     frames: &mut [Frame; 20],
     top: usize,
@@ -93,7 +93,8 @@ fn skip_at<L: Ledger>(
     requires within { top < 20 }
     requires room { IsTrue (has_room 0 (take (top + 1) frames.old)) }
     requires fresh { (d : Frame) → IsFresh (table_of rules.now) drop_mode (slice_index_or frames.old top d) }
-    ensures sought { IsSought (table_of rules.now) drop_mode frames.old frames.new top target.now result steps.old steps.new }
+    ensures sought { IsSought (table_of rules.now) drop_mode frames.old frames.new top target.now result
+        steps.old steps.new }
     ensures noted { CountsUp notes.old.floods notes.new.floods steps.old steps.new }
 {
     let frame = &mut frames[top];
@@ -120,7 +121,8 @@ pub fn seek<L: Ledger>(
     ensures within { result ≤ 20 }
     ensures room { IsTrue (has_room 0 (take result frames.new)) }
     ensures skips { (d : Frame) → SkipsTo
-        (sought (suc (slice_index_or frames.old 0 d).left) [] (position_of (table_of rules.now) drop_mode (slice_index_or frames.old 0 d)) given.now)
+        (sought (suc (slice_index_or frames.old 0 d).left) [] (position_of (table_of rules.now) drop_mode
+        (slice_index_or frames.old 0 d)) given.now)
         (stacked (table_of rules.now) drop_mode [] (take result frames.new)) steps.old steps.new }
     ensures noted { CountsUp notes.old.floods notes.new.floods steps.old steps.new }
 {

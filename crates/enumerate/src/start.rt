@@ -15,7 +15,7 @@ ghost use Rattle.enumerate.specs.Counted.{as_count, CountsUp};
 ghost use Rattle.enumerate.specs.Events.{found, floods};
 ghost use Rattle.enumerate.specs.Frames.{has_room, path_of, position_of, stacked};
 ghost use Rattle.enumerate.specs.Items.{items_of};
-ghost use Rattle.enumerate.specs.Rest.{rest_from, whole_from};
+ghost use Rattle.enumerate.specs.Rest.{events_from, whole_from};
 ghost use Rattle.enumerate.specs.Walks.{Finds};
 ghost use Rattle.enumerate.specs.Seeks.{SkipsTo};
 ghost use Rattle.enumerate.specs.Search.{View, IsList};
@@ -32,6 +32,7 @@ use crate::search::{Search, Sequence};
 use crate::seek::seek;
 use crate::tilings::Tilings;
 use hold_queue::QueueSet;
+use packing::Empties;
 use pc_outside::NoMemory;
 use queue_pattern::Queue;
 use reach::Steps;
@@ -61,7 +62,8 @@ fn copied_if_any(sequence: &Option<Sequence>) -> Option<Sequence>
 /// The frame of the position at which a search begins.
 fn first_frame(problem: &Problem, queue: &Option<Queue>) -> Frame
     requires { IsFit problem.now }
-    ensures position { position_of (table_of problem.now.rules) problem.now.drop_mode result ≡ root_of problem.now (items_of queue.now) }
+    ensures position { position_of (table_of problem.now.rules) problem.now.drop_mode result
+        ≡ root_of problem.now (items_of queue.now) }
     ensures left { result.left ≡ needed_of problem.now - 1 }
     ensures tried { result.tried ≡ 0 }
     ensures places { result.places ≡ None }
@@ -70,11 +72,14 @@ fn first_frame(problem: &Problem, queue: &Option<Queue>) -> Frame
         None => QueueSet::start(&problem.pattern, problem.hold, problem.held),
         Some(queue) => QueueSet::start_one(queue, problem.hold, problem.held),
     };
+    let left = needed(problem).saturating_sub(1);
     Frame {
         well: problem.well,
         rows: problem.height,
+        empties: Empties::below(&problem.well, problem.height),
         queues,
-        left: needed(problem).saturating_sub(1),
+        supply: queues.supply(left + 1),
+        left,
         tried: 0,
         places: None,
         entered: None,
@@ -84,13 +89,14 @@ fn first_frame(problem: &Problem, queue: &Option<Queue>) -> Frame
 /// Whether a search has a first frame: where some placement is needed, and the position is worth a look.
 fn has_frame(problem: &Problem, first: &Frame, tilings: &mut Tilings) -> bool
     requires { IsFit problem.now }
-    ensures { (table : Table) (mode : DropMode) → result ≡ (nat_lt 0 (needed_of problem.now) && is_live first.now.left (position_of table mode first.now)) }
+    ensures { (table : Table) (mode : DropMode) →
+        result ≡ (nat_lt 0 (needed_of problem.now) && is_live first.now.left (position_of table mode first.now)) }
 {
     needed(problem) > 0 && first.is_live(tilings)
 }
 
-/// Goes from where a search stands to its next solution: how many frames are in use then, which is 0 where no solution is
-/// left.
+/// Goes from where a search stands to its next solution: how many frames are in use then, which is 0 where no
+/// solution is left.
 fn go_on<L: Ledger>(
     problem: &Problem,
     queue: &Option<Queue>,
@@ -107,13 +113,14 @@ fn go_on<L: Ledger>(
     ensures within { result ≤ 20 }
     ensures room { IsTrue (has_room 0 (take result frames.new)) }
     ensures found { Finds
-        (found (rest_from problem.now (items_of queue.now) (items_of after.now) pending (take depth frames.old)))
+        (found (events_from problem.now (items_of queue.now) (items_of after.now) pending (take depth frames.old)))
         (found (stacked (table_of problem.now.rules) problem.now.drop_mode [] (take result frames.new)))
         (path_of (take result frames.new)) (nat_lt 0 result) }
-    ensures counted { floods (rest_from problem.now (items_of queue.now) (items_of after.now) pending (take depth frames.old)) + steps.old
+    ensures counted { floods (events_from problem.now (items_of queue.now) (items_of after.now) pending
+        (take depth frames.old)) + steps.old
         ≡ floods (stacked (table_of problem.now.rules) problem.now.drop_mode [] (take result frames.new)) + steps.new }
     ensures fewer { floods (stacked (table_of problem.now.rules) problem.now.drop_mode [] (take result frames.new))
-        ≤ floods (rest_from problem.now (items_of queue.now) (items_of after.now) pending (take depth frames.old)) }
+        ≤ floods (events_from problem.now (items_of queue.now) (items_of after.now) pending (take depth frames.old)) }
     ensures noted { CountsUp notes.old.floods notes.new.floods steps.old steps.new }
 {
     let mut depth = depth;
@@ -188,7 +195,8 @@ impl Search {
         }
     }
 
-    /// A search of all queues, for the solutions after a sequence where one is given. `NoMemory` where its memory is refused.
+    /// A search of all queues, for the solutions after a sequence where one is given. `NoMemory` where its memory is
+    /// refused.
     pub fn start(
         alloc: Global,
         problem: Problem,
@@ -196,7 +204,8 @@ impl Search {
     ) -> Result<Search, NoMemory>
         requires fit { IsFit problem }
         requires after { ForSome after (λ s. length s.items ≡ needed_of problem) }
-        ensures view { IfOk result (λ search. view_of search ≡ record { problem = problem; queue = None; bound = items_of after }) }
+        ensures view { IfOk result (λ search. view_of search
+            ≡ record { problem = problem; queue = None; bound = items_of after }) }
         ensures list { IfOk result (λ search. IsList (view_of search) (solutions search)) }
         ensures after { IfOk result (λ search. after_given search ≡ items_of after) }
         ensures work { IfOk result (λ search. work search ≡ 0) }
@@ -209,7 +218,8 @@ impl Search {
     pub fn start_one(alloc: Global, problem: Problem, queue: &Queue) -> Result<Search, NoMemory>
         requires fit { IsFit problem }
         requires listed { Contains (queues (elements_of problem.pattern)) queue.now.items }
-        ensures view { IfOk result (λ search. view_of search ≡ record { problem = problem; queue = Some queue.now.items; bound = None }) }
+        ensures view { IfOk result (λ search. view_of search
+            ≡ record { problem = problem; queue = Some queue.now.items; bound = None }) }
         ensures list { IfOk result (λ search. IsList (view_of search) (solutions search)) }
         ensures after { IfOk result (λ search. after_given search ≡ None) }
         ensures work { IfOk result (λ search. work search ≡ 0) }
@@ -243,11 +253,14 @@ impl Search {
             ((solutions self.old ≡ []) × (solutions self.new ≡ []) × (view_of self.new ≡ view_of self.old))
             (λ s. (solutions self.old ≡ s.items ∷ solutions self.new)
             × (view_of self.new ≡ record (view_of self.old) { bound = Some s.items })) }
-        ensures next { IsNextAbove sequence_cmp (IsSolution (view_of self.old).problem (view_of self.old).queue) (view_of self.old).bound (items_of result) }
+        ensures next { IsNextAbove sequence_cmp (IsSolution (view_of self.old).problem (view_of self.old).queue)
+            (view_of self.old).bound (items_of result) }
         ensures after { after_given self.new ≡ after_given self.old }
         ensures counted { work self.new + steps.old ≡ work self.old + steps.new }
+        ensures rose { steps.old ≤ steps.new }
         ensures bounded { work self.new ≤ pairs (view_of self.old).problem (view_of self.old).queue }
-        ensures whole { after_given self.old ≡ None → MatchOption result (work self.new ≡ pairs (view_of self.old).problem (view_of self.old).queue) (λ _. ⊤) }
+        ensures whole { after_given self.old ≡ None →
+            MatchOption result (work self.new ≡ pairs (view_of self.old).problem (view_of self.old).queue) (λ _. ⊤) }
     {
         self.depth = go_on(
             &self.problem,

@@ -1,7 +1,8 @@
 // What a search knows of tilings.
-ghost use Rattle.std.specs.Prelude.{◌≡◌, ◌≤◌, [], IfOk};
+ghost use Rattle.std.specs.Prelude.{◌≡◌, ◌≤◌, ◌↔◌, [], IfOk, IsTrue};
 ghost use Rattle.well.specs.Well.{filled};
-ghost use Rattle.prune.specs.Tiling.{supply_in};
+ghost use Rattle.prune.specs.Tiling.{supply_in, Tiling};
+ghost use Rattle.packing.specs.Empties.{all_but, empty_cells};
 ghost use Rattle.packing.specs.HasTiling.{has_tiling};
 ghost use Rattle.dead_memo.specs.Memo.{kept};
 
@@ -34,7 +35,8 @@ impl Tilings {
         Ok(Tilings { decided, dead })
     }
 
-    /// Whether the empty cells below the rows left have a tiling by the supply. What has none is kept where memory allows.
+    /// Whether the empty cells below the rows left have a tiling by the supply. What has none is kept where memory
+    /// allows.
     pub fn has_tiling(&mut self, well: &Well, rows_left: u8, supply: &[u8; 7]) -> bool
         requires { rows_left ≤ 8 }
         ensures { result ≡ has_tiling (filled well.now) rows_left (supply_in supply.now) }
@@ -50,5 +52,12 @@ impl Tilings {
         }
         let _ = self.dead.note_dead(well, rows_left, supply);
         false
+    }
+
+    /// Whether a set of cells has a tiling by the supply. The search begins at the side that is nearer to a column.
+    pub fn can_fill(&mut self, cells: &Empties, column: u8, supply: &[u8; 7]) -> bool
+        ensures { IsTrue result ↔ Tiling (all_but (empty_cells cells.now)) 8 (supply_in supply.now) }
+    {
+        self.decided.has_tiling_near(cells, column, supply)
     }
 }

@@ -1,5 +1,5 @@
 // One turn of the search at a frame.
-ghost use Rattle.std.specs.Prelude.{◌≡◌, ℕ, ◌+◌, ◌≤◌, IsTrue, MatchOption, Some, None, [], ◌∷◌, drop};
+ghost use Rattle.std.specs.Prelude.{◌≡◌, ℕ, ◌+◌, ◌-◌, ◌≤◌, IsTrue, MatchOption, Some, None, [], ◌∷◌, drop, filter};
 ghost use Rattle.std.specs.Option.{ForSome};
 ghost use Rattle.srs.specs.Cells.{is_inside_of};
 ghost use Rattle.srs.specs.Piece.{all_pieces};
@@ -9,7 +9,10 @@ ghost use Rattle.well.specs.Well.{filled};
 ghost use Rattle.moves.specs.declared.key.DropMode.{DropMode};
 ghost use Rattle.reach.specs.Places.{piece_of};
 ghost use Rattle.hold_queue.specs.QueueSet.{queues_in_play};
+ghost use Rattle.well.specs.Lock.{locked, rows_removed};
 ghost use Rattle.well.specs.LockLaws.{is_below};
+ghost use Rattle.prune.specs.Tiling.{supply_in};
+ghost use Rattle.packing.specs.HasTiling.{has_tiling};
 ghost use Rattle.enumerate.specs.Position.{may_play, is_live, places_at};
 ghost use Rattle.enumerate.specs.Standing.{may_lock};
 ghost use Rattle.enumerate.specs.Counted.{CountsUp};
@@ -18,11 +21,16 @@ ghost use Rattle.enumerate.specs.Turns.{Enters, Turns, SamePosition};
 
 use crate::frame::Frame;
 use crate::notes::Notes;
+use crate::supply::supply_after;
 use crate::tilings::Tilings;
 use moves::DropMode;
+use packing::Empties;
 use reach::{Steps, places};
 use srs::{Piece, Placement, Rules, cells};
 use std::sync::ledger::Ledger;
+
+/// From so many placements to come on, a position that is found to have no tiling is kept.
+const MANY: u8 = 8;
 
 /// What a turn came to.
 #[derive(Clone, Copy)]
@@ -51,7 +59,8 @@ pub fn lies_below(placement: &Placement, rows: u8) -> bool
 
 /// The kind at an index from 0, in the order of codes. `None` exactly where there is none.
 fn kind_at(index: u8) -> Option<Piece>
-    ensures { MatchOption result (drop index all_pieces ≡ []) (λ piece. drop index all_pieces ≡ piece ∷ drop (index + 1) all_pieces) }
+    ensures { MatchOption result (drop index all_pieces ≡ []) (λ piece. drop index all_pieces
+        ≡ piece ∷ drop (index + 1) all_pieces) }
 {
     let index = usize::from(index);
     if index < Piece::ALL.len() {
@@ -64,10 +73,24 @@ fn kind_at(index: u8) -> Option<Piece>
 impl Frame {
     /// Whether the empty cells of the rows left have a tiling by what may still be played.
     pub fn is_live(&self, tilings: &mut Tilings) -> bool
-        ensures { (table : Table) (mode : DropMode) → result ≡ is_live self.now.left (position_of table mode self.now) }
+        ensures { (table : Table) (mode : DropMode)
+            → result ≡ is_live self.now.left (position_of table mode self.now) }
     {
-        let supply = self.queues.supply(self.left + 1);
-        tilings.has_tiling(&self.well, self.rows, &supply)
+        tilings.has_tiling(&self.well, self.rows, &self.supply)
+    }
+
+    /// Whether what a placement leaves has a tiling by so many pieces of each kind.
+    fn leaves_tiling(&self, placement: &Placement, supply: &[u8; 7], tilings: &mut Tilings) -> bool
+        requires lockable { IsTrue (may_lock (filled self.now.well) placement.now.piece placement.now) }
+        requires below { IsTrue (is_below self.now.rows placement.now) }
+        ensures { result ≡ has_tiling (locked (filled self.now.well) placement.now)
+            (self.now.rows - rows_removed (filled self.now.well) placement.now) (supply_in supply.now) }
+    {
+        if self.left < MANY {
+            return tilings.can_fill(&self.empties.without(placement), placement.x, supply);
+        }
+        let (well, removed) = self.well.lock(placement);
+        tilings.has_tiling(&well, self.rows.saturating_sub(removed), supply)
     }
 
     /// The next placement to be entered.
@@ -76,6 +99,7 @@ impl Frame {
             (places_left self.now.places self.now.entered ≡ [])
             (λ q. (places_left self.now.places self.now.entered ≡ q ∷ places_left self.now.places (Some q))
             × IsTrue (may_lock (filled self.now.well) q.piece q)
+            × IsTrue (is_below self.now.rows q)
             × IsTrue (may_play (queues_in_play self.now.queues) q.piece)) }
     {
         match &self.places {
@@ -84,34 +108,47 @@ impl Frame {
         }
     }
 
+    /// Enters a placement after which none is to come.
+    fn complete(&self, placement: &Placement) -> Turn
+        requires lockable { IsTrue (may_lock (filled self.now.well) placement.now.piece placement.now) }
+        requires below { IsTrue (is_below self.now.rows placement.now) }
+        requires last { self.now.left ≡ 0 }
+        ensures { Enters self.now placement.now result }
+    {
+        let (_, removed) = self.well.lock(placement);
+        if self.rows.saturating_sub(removed) == 0 {
+            return Turn::Full;
+        }
+        Turn::Passed
+    }
+
     /// Enters a placement.
     pub fn enter(&self, placement: &Placement, tilings: &mut Tilings) -> Turn
         requires lockable { IsTrue (may_lock (filled self.now.well) placement.now.piece placement.now) }
+        requires below { IsTrue (is_below self.now.rows placement.now) }
         requires permitted { IsTrue (may_play (queues_in_play self.now.queues) placement.now.piece) }
         ensures { Enters self.now placement.now result }
     {
-        if !lies_below(placement, self.rows) {
+        if self.left == 0 {
+            return self.complete(placement);
+        }
+        let supply = supply_after(&self.supply, placement.piece, self.left);
+        if !self.leaves_tiling(placement, &supply, tilings) {
             return Turn::Passed;
         }
         let (well, removed) = self.well.lock(placement);
         let rows = self.rows.saturating_sub(removed);
-        if self.left == 0 {
-            return if rows == 0 { Turn::Full } else { Turn::Passed };
-        }
-        let child = Frame {
+        Turn::Entered(Frame {
             well,
             rows,
+            empties: Empties::below(&well, rows),
             queues: self.queues.after(placement.piece),
+            supply,
             left: self.left - 1,
             tried: 0,
             places: None,
             entered: None,
-        };
-        if child.is_live(tilings) {
-            Turn::Entered(child)
-        } else {
-            Turn::Passed
-        }
+        })
     }
 
     /// Floods a kind that may be played.
@@ -124,7 +161,8 @@ impl Frame {
         steps: &mut Steps<L>,
     )
         requires { IsTrue (may_play (queues_in_play self.old.queues) piece) }
-        ensures places { places_left self.new.places self.new.entered ≡ places_at (position_of (table_of rules.now) drop_mode self.old) piece }
+        ensures places { places_left self.new.places self.new.entered ≡ filter (is_below self.old.rows)
+            (places_at (position_of (table_of rules.now) drop_mode self.old) piece) }
         ensures piece { ForSome self.new.places (λ p. piece_of p ≡ piece) }
         ensures same { SamePosition self.old self.new }
         ensures tried { self.new.tried ≡ self.old.tried }
@@ -132,7 +170,8 @@ impl Frame {
         ensures counted { steps.new ≡ steps.old + 1 }
         ensures noted { CountsUp floods.old floods.new steps.old steps.new }
     {
-        self.places = Some(places(&self.well, rules, piece, drop_mode, steps));
+        let reached = places(&self.well, rules, piece, drop_mode, steps);
+        self.places = Some(reached.below(self.rows));
         self.entered = None;
         *floods = floods.saturating_add(1);
     }

@@ -1,5 +1,7 @@
 -- The lemmas of this crate.
 mod SpanBits
+mod ColumnBits
+mod Mirrors
 mod EmptiesLemmas
 mod SupplyLemmas
 mod StackLemmas

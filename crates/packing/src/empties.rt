@@ -13,7 +13,7 @@ pub struct Empties {
 }
 
 impl Empties {
-    ghost use Rattle.std.specs.Prelude.{◌≤◌, IsTrue, MatchOption};
+    ghost use Rattle.std.specs.Prelude.{◌≤◌, ◌-◌, IsTrue, MatchOption};
     ghost use Rattle.lane_board.specs.Field.{empty_field, difference, rows_below};
     ghost use Rattle.lane_board.specs.Lanes.{has_bit};
     ghost use Rattle.well.specs.Well.{filled};
@@ -67,6 +67,25 @@ impl Empties {
         }
         let place = self.cells.trailing_zeros() as u8;
         Some((place / 8, place % 8))
+    }
+
+    /// The set with its columns counted from the right.
+    pub(crate) fn mirrored(&self) -> Empties
+        ensures { (x y : ℕ) → x ≤ 9
+            → empty_cells result x y ≡ empty_cells self.now (9 - x) y }
+    {
+        let mut cells = 0;
+        for x in 0..10 {
+            cells = cells << 8 | u128::from(self.rows_with(x, Span::First));
+        }
+        Empties { cells }
+    }
+
+    /// Whether a column lies nearer to the last column that has cells than to the first one.
+    pub(crate) fn lies_right(&self, column: u8) -> bool {
+        let first = self.cells.trailing_zeros() as u8 / 8;
+        let last = 15u8.saturating_sub(self.cells.leading_zeros() as u8 / 8);
+        2 * u16::from(column) > u16::from(first) + u16::from(last)
     }
 
     /// The rows in which the set has all cells of a span whose first column is `x`: bit `y` stands for row `y`.

@@ -5,6 +5,7 @@ ghost use Rattle.packing.specs.Empties.{all_but, empty_cells};
 
 use crate::decided::Decided;
 use crate::empties::Empties;
+use crate::mirror::mirrored_supply;
 use pc_outside::NoMemory;
 use std::alloc::Global;
 
@@ -30,6 +31,19 @@ impl TilingStore {
     pub fn has_tiling(&mut self, cells: &Empties, supply: &[u8; 7]) -> bool
         ensures { IsTrue result ↔ Tiling (all_but (empty_cells cells.now)) 8 (supply_in supply.now) }
     {
+        if cells.has_uneven_run() {
+            return false;
+        }
         cells.decide(supply, &mut self.decided)
+    }
+
+    /// The same, by a search that begins at the side that is nearer to a column.
+    pub fn has_tiling_near(&mut self, cells: &Empties, column: u8, supply: &[u8; 7]) -> bool
+        ensures { IsTrue result ↔ Tiling (all_but (empty_cells cells.now)) 8 (supply_in supply.now) }
+    {
+        if !cells.lies_right(column) {
+            return self.has_tiling(cells, supply);
+        }
+        self.has_tiling(&cells.mirrored(), &mirrored_supply(supply))
     }
 }

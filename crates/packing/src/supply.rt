@@ -1,5 +1,5 @@
 // How many pieces of each kind there are.
-ghost use Rattle.std.specs.Prelude.{◌≡◌, ◌<◌, ℕ, length};
+ghost use Rattle.std.specs.Prelude.{◌≡◌, ℕ, length};
 ghost use Rattle.prune.specs.OnePart.{less_one};
 ghost use Rattle.prune.specs.Tiling.{supply_in};
 
@@ -12,13 +12,12 @@ pub(crate) fn count_of(supply: &[u8; 7], piece: Piece) -> u8
     supply[piece.code() as usize - 1]
 }
 
-/// One piece of this kind fewer.
-pub(crate) fn without_one(supply: &[u8; 7], piece: Piece) -> [u8; 7]
-    requires { 0 < supply_in supply.now piece }
+/// One piece of this kind fewer, or none where there is none.
+pub fn without_one(supply: &[u8; 7], piece: Piece) -> [u8; 7]
     ensures { supply_in result ≡ less_one (supply_in supply.now) piece }
 {
     let mut fewer = *supply;
     let place = piece.code() as usize - 1;
-    fewer[place] -= 1;
+    fewer[place] = fewer[place].saturating_sub(1);
     fewer
 }

@@ -9,4 +9,5 @@ mod PlacedLemmas
 mod ColumnCounts
 mod RefusalLemmas
 mod RunLemmas
+mod MirrorLemmas
 pub mod CallerLemmas

@@ -29,8 +29,8 @@ pub record HasUnevenRun (F : Field) (rows : ℕ) : Type 0 where
   pub run : IsRun F rows first last
   pub uneven : run_empties F rows first last % 4 ≢ 0
 
--- One of three counts shows that there is no tiling: the empty cells are no multiple of four; they are more than four times
--- the pieces; or those of some run are no multiple of four.
+-- One of three counts shows that there is no tiling: the empty cells are no multiple of four; they are more than four
+-- times the pieces; or those of some run are no multiple of four.
 pub data IsRefusedByCounts (F : Field) (rows : ℕ) (supply : Supply) : Type 0 where
   uneven_cells : empties_below F rows % 4 ≢ 0 → IsRefusedByCounts F rows supply
   too_few_pieces : 4 * sum_by supply all_pieces < empties_below F rows → IsRefusedByCounts F rows supply

@@ -13,13 +13,15 @@ use Rattle.prune.specs.Tiling.{Supply, Tiling}
 unfoldable pub with_one : Supply → Piece → Supply
 with_one supply piece other = if piece_code piece == piece_code other then suc (supply other) else supply other
 
--- a tiling of the field after a placement, with the rows left then, gives one of the field before it with one more piece
+-- a tiling of the field after a placement, with the rows left then, gives one of the field before it with one more
+-- piece
 abbrev pub OnePlacement : Type 0
 OnePlacement = (F : Field) (q : Placement) (height : ℕ) (supply : Supply) → height ≤ 23 → LiesBelow F height →
     IsTrue (is_free F q) → IsTrue (is_below height q) →
     Tiling (locked F q) (height - rows_removed F q) supply → Tiling F height (with_one supply q.piece)
 
--- full rows that still stand change nothing: what is empty then has a tiling exactly where the field after their removal has
+-- full rows that still stand change nothing: what is empty then has a tiling exactly where the field after their
+-- removal has
 abbrev pub FullRowsMayStand : Type 0
 FullRowsMayStand = (F : Field) (q : Placement) (height : ℕ) (supply : Supply) → height ≤ 23 → LiesBelow F height →
     IsTrue (is_free F q) → IsTrue (is_below height q) →
@@ -30,18 +32,19 @@ abbrev pub MorePieces : Type 0
 MorePieces = (F : Field) (rows : ℕ) (supply more : Supply) → ((piece : Piece) → supply piece ≤ more piece) →
     Tiling F rows supply → Tiling F rows more
 
--- with so many rows left, each placement is free in the field before it and lies below the rows left there, and after the
--- last one no row is left
+-- with so many rows left, each placement is free in the field before it and lies below the rows left there, and after
+-- the last one no row is left
 abbrev pub ClearsRows : Field → ℕ → List Placement → Type 0
 ClearsRows F rows [] = rows ≡ 0
-ClearsRows F rows (q ∷ rest) = IsTrue (is_free F q) × IsTrue (is_below rows q) × ClearsRows (locked F q) (rows - rows_removed F q) rest
+ClearsRows F rows (q ∷ rest) = IsTrue (is_free F q) × IsTrue (is_below rows q)
+    × ClearsRows (locked F q) (rows - rows_removed F q) rest
 
 -- as many pieces of each kind as these placements have
 unfoldable pub pieces_in : List Placement → Supply
 pieces_in placements piece = count_by (λ q. piece_code q.piece == piece_code piece) placements
 
--- where a run of placements clears all rows, its placements leave a tiling of the field before it; so it is before each of
--- them, since the rest of a run is a run
+-- where a run of placements clears all rows, its placements leave a tiling of the field before it; so it is before
+-- each of them, since the rest of a run is a run
 abbrev pub ClearedIsTiled : Type 0
 ClearedIsTiled = (F : Field) (rows : ℕ) (placements : List Placement) → rows ≤ 23 → LiesBelow F rows →
     ClearsRows F rows placements → Tiling F rows (pieces_in placements)

@@ -6,3 +6,4 @@ pub mod Counts
 pub mod Laws
 -- What serves proofs alone
 pub mod OnePart
+pub mod Mirror

@@ -17,8 +17,8 @@ pub record Part : Type 0 where
 unfoldable pub sent : ℤ → (ℤ → ℕ) → Cell → Cell
 sent move row cell = (cell.0 +ℤ move, pos (row cell.1))
 
--- A generalized piece: the shape of the piece in some rotation, its columns moved together, its rows, from the lowest up,
--- sent to any rows that rise strictly.
+-- A generalized piece: the shape of the piece in some rotation, its columns moved together, its rows, from the lowest
+-- up, sent to any rows that rise strictly.
 pub record IsGeneralized (part : Part) : Type 0 where
   pub rotation : Rotation
   pub move : ℤ
@@ -44,8 +44,8 @@ parts_of parts piece = count_by (λ part. piece_code part.piece == piece_code pi
 abbrev pub Supply : Type 0
 Supply = Piece → ℕ
 
--- The empty cells of rows 0 to rows - 1 are the disjoint union of generalized pieces, with at most so many of each kind:
--- each of these cells stands in one part and once there, and no other cell in any.
+-- The empty cells of rows 0 to rows - 1 are the disjoint union of generalized pieces, with at most so many of each
+-- kind: each of these cells stands in one part and once there, and no other cell in any.
 pub record Tiling (F : Field) (rows : ℕ) (supply : Supply) : Type 0 where
   pub parts : List Part
   pub generalized : All IsGeneralized parts

@@ -9,8 +9,8 @@ use well::Well;
 
 /// Whether counts show that the empty cells of rows 0 to `rows_left - 1` have no tiling with at most `supply` pieces of
 /// each kind, in the order of piece codes. It is true exactly where one of three holds: their number is no multiple of
-/// four; it is more than four times the sum of the supply; or some longest run of neighbouring columns that each have an
-/// empty cell has a number of them that is no multiple of four.
+/// four; it is more than four times the sum of the supply; or some longest run of neighbouring columns that each have
+/// an empty cell has a number of them that is no multiple of four.
 pub fn cheap_no(well: &Well, rows_left: u8, supply: &[u8; 7]) -> bool
     requires { rows_left ≤ 8 }
     ensures counts { IsTrue result ↔ IsRefusedByCounts (filled well.now) rows_left (supply_in supply.now) }
@@ -33,8 +33,8 @@ fn pieces(supply: &[u8; 7]) -> u16
     i + l + o + z + t + j + s
 }
 
-/// Whether some longest run of neighbouring columns that each have an empty cell below `rows_left` has a number of empty
-/// cells that is no multiple of four.
+/// Whether some longest run of neighbouring columns that each have an empty cell below `rows_left` has a number of
+/// empty cells that is no multiple of four.
 fn has_uneven_run(well: &Well, rows_left: u8) -> bool
     requires { rows_left ≤ 8 }
     ensures { IsTrue result ↔ HasUnevenRun (filled well.now) rows_left }

@@ -6,7 +6,8 @@ pub fn placement_is_one_part()
     ensures { OnePlacement }
 {}
 
-/// The empty cells that a placement leaves have a tiling before its full rows are removed exactly where they have one after.
+/// The empty cells that a placement leaves have a tiling before its full rows are removed exactly where they have one
+/// after.
 pub fn full_rows_may_stand()
     ensures { FullRowsMayStand }
 {}

@@ -3,7 +3,7 @@ use Rattle.std.proofs.Common.{[], ◌∙◌, arith, take}
 use Rattle.srs.specs.Rules.{table_of}
 use Rattle.enumerate.specs.Items.{items_of}
 use Rattle.enumerate.specs.Frames.{stacked}
-use Rattle.enumerate.specs.Rest.{rest_from}
+use Rattle.enumerate.specs.Rest.{events_from}
 use Rattle.enumerate.specs.Seeks.{SkipsTo}
 use Rattle.enumerate.proofs.SearchLemmas.{finds-same, moved-skips, pending-skips, standing-skips}
 use Rattle.enumerate.proofs.Counting.{counts-none, counts-then}
@@ -12,7 +12,7 @@ use Rattle.enumerate.proofs.start.go_on.Goals as goal
 use Rattle.enumerate.proofs.start.go_on.Goals.{After-advance, then-pending, else-pending}
 
 passed : (g : Over) (c : After-advance g) → SkipsTo
-    (rest_from c.args.problem.now (items_of c.args.queue.now) (items_of c.args.after.now) c.args.pending (take c.args.depth c.args.frames.now))
+    (events_from c.args.problem.now (items_of c.args.queue.now) (items_of c.args.after.now) c.args.pending (take c.args.depth c.args.frames.now))
     (stacked (table_of c.args.problem.now.rules) c.args.problem.now.drop_mode [] (take c.if-pending.depth c.if-pending.frames)) c.args.steps.now c.if-pending.steps
 passed g c = elim c.if-pending.branch [
   | then-pending w ↦

@@ -1,45 +1,48 @@
--- A placement below the rows left leads to a frame of its own, or completes a solution.
-use Rattle.std.proofs.Common.{◌≡◌, ◌+◌, ◌-◌, refl, sym, ap, ◌∙◌, arith, true}
-use Rattle.std.specs.Prelude.{◌==◌}
+-- A placement that leaves a tiling leads to a frame of its own.
+use Rattle.std.proofs.Common.{◌≡◌, ◌+◌, ◌-◌, refl, sym, ap, subst, ◌∙◌, arith, true}
+use Rattle.srs.specs.Kick.{Table}
 use Rattle.well.specs.Well.{filled}
-use Rattle.well.specs.LockLaws.{is_below}
-use Rattle.enumerate.proofs.PlaceLaws.{lockable-free, lockable-inside}
-use Rattle.enumerate.proofs.TurnLemmas.{enters-blocked, enters-full, enters-rows_left, enters-child, enters-dead, is_child, line-permits, not-zero}
+use Rattle.moves.specs.declared.key.DropMode.{DropMode}
+use Rattle.hold_queue.specs.QueueSet.{queues_in_play}
+use Rattle.hold_queue.specs.Supply.{supply_of}
+use Rattle.prune.specs.Tiling.{supply_in}
+use Rattle.enumerate.specs.Frames.{position_of}
+use Rattle.enumerate.specs.Position.{after_of, is_live}
+use Rattle.enumerate.proofs.PlaceLaws.{lockable-free}
+use Rattle.enumerate.proofs.TilingLaws.{live-after, locked-below, supply-moves}
+use Rattle.enumerate.proofs.TurnLemmas.{enters-child, enters-dead, is_child, line-permits}
 use Rattle.enumerate.proofs.frame.Frame.enter.Goals as goal
 
-pub lies_below-requires : goal.lies_below-requires
-lies_below-requires c = lockable-inside (filled c.args.self.now.well) c.args.placement.now.piece c.args.placement.now c.requires.lockable
+pub returns-then-not-leaves_tiling : goal.returns-then-not-leaves_tiling
+returns-then-not-leaves_tiling c =
+    let less : c.args.self.now.left - 1 + 1 ≡ c.args.self.now.left = omega arith in
+    enters-dead c.args.self.now c.args.placement.now c.requires.below (c.args.self.now.left - 1) less
+    (λ table mode. live-after table mode c.args.self.now c.args.placement.now (supply_in c.supply_after-supply.result) c.supply_after-supply.ensures (c.args.self.now.left - 1) less ∙ sym c.leaves_tiling.ensures ∙ c.if-not-leaves_tiling.true)
 
 pub lock-removed-requires : goal.lock-removed-requires
 lock-removed-requires c = lockable-free (filled c.args.self.now.well) c.args.placement.now.piece c.args.placement.now c.requires.lockable
 
-pub returns-then-not-lies_below : goal.returns-then-not-lies_below
-returns-then-not-lies_below c = enters-blocked c.args.self.now c.args.placement.now (sym c.lies_below.ensures ∙ c.if-not-lies_below.true)
-
-pub returns-then-rows-eq0 : goal.returns-then-rows-eq0
-returns-then-rows-eq0 c =
-    enters-full c.args.self.now c.args.placement.now (sym c.lies_below.ensures ∙ c.if-not-lies_below.false) c.if-self-eq0.true
-    (ap (λ k. c.args.self.now.rows - k) (sym c.lock-removed.ensures.removed) ∙ sym c.saturating_sub-rows.ensures ∙ c.if-rows-eq0.true)
-
-pub returns-else-rows-eq0 : goal.returns-else-rows-eq0
-returns-else-rows-eq0 c =
-    enters-rows_left c.args.self.now c.args.placement.now (sym c.lies_below.ensures ∙ c.if-not-lies_below.false) c.if-self-eq0.true
-    (ap (λ k. c.args.self.now.rows - k == 0) (sym c.lock-removed.ensures.removed) ∙ ap (λ k. k == 0) (sym c.saturating_sub-rows.ensures) ∙ not-zero c.saturating_sub-rows.result c.if-rows-eq0.false)
-
 pub after-requires : goal.after-requires
 after-requires c = line-permits _ c.args.placement.now.piece c.requires.permitted
 
-pub returns-then-is_live : goal.returns-then-is_live
-returns-then-is_live c =
-    let below : is_below c.args.self.now.rows c.args.placement.now ≡ true = sym c.lies_below.ensures ∙ c.if-not-lies_below.false in
-    let rows = c.saturating_sub-rows.ensures ∙ ap (λ k. c.args.self.now.rows - k) c.lock-removed.ensures.removed in
-    let left : c.args.self.now.left - 1 + 1 ≡ c.args.self.now.left = omega arith in (
-      enters-child c.args.self.now c.args.placement.now below _ c.lock-removed.ensures.field rows c.after.ensures left refl refl (λ table mode. sym (c.is_live.ensures table mode) ∙ c.if-is_live.true),
-      is_child c.args.self.now c.args.placement.now below _ c.lock-removed.ensures.field rows c.after.ensures left refl refl (λ table mode. sym (c.is_live.ensures table mode) ∙ c.if-is_live.true),
-    )
+pub invariant_of-result-clause-bounded : goal.invariant_of-result-clause-bounded
+invariant_of-result-clause-bounded c =
+    locked-below c.args.self.now c.args.placement.now _ _ c.requires.below (lockable-free (filled c.args.self.now.well) c.args.placement.now.piece c.args.placement.now c.requires.lockable)
+    c.lock-removed.ensures.field (c.saturating_sub-rows.ensures ∙ ap (λ k. c.args.self.now.rows - k) c.lock-removed.ensures.removed)
 
-pub returns-else-is_live : goal.returns-else-is_live
-returns-else-is_live c =
-    enters-dead c.args.self.now c.args.placement.now (sym c.lies_below.ensures ∙ c.if-not-lies_below.false) _
-    c.lock-removed.ensures.field (c.saturating_sub-rows.ensures ∙ ap (λ k. c.args.self.now.rows - k) c.lock-removed.ensures.removed) c.after.ensures
-    (omega arith) (λ table mode. sym (c.is_live.ensures table mode) ∙ c.if-is_live.false)
+pub invariant_of-result-clause-supplied : goal.invariant_of-result-clause-supplied
+invariant_of-result-clause-supplied c =
+    let frame = c.args.self.now in
+    let left : frame.left ≡ frame.left - 1 + 1 = omega arith in
+    supply-moves (queues_in_play frame.queues) c.args.placement.now.piece frame.left (supply_in frame.supply) (supply_in c.supply_after-supply.result) frame.supplied c.supply_after-supply.ensures
+    ∙ (λ i. supply_of (sym c.after.ensures i) (left i))
+
+pub returns : goal.returns
+returns c =
+    let rows = c.saturating_sub-rows.ensures ∙ ap (λ k. c.args.self.now.rows - k) c.lock-removed.ensures.removed in
+    let left : c.args.self.now.left - 1 + 1 ≡ c.args.self.now.left = omega arith in
+    let live : (table : Table) (mode : DropMode) → is_live (c.args.self.now.left - 1) (after_of (position_of table mode c.args.self.now) c.args.placement.now) ≡ true =
+    λ table mode. live-after table mode c.args.self.now c.args.placement.now (supply_in c.supply_after-supply.result) c.supply_after-supply.ensures (c.args.self.now.left - 1) left ∙ sym c.leaves_tiling.ensures ∙ c.if-not-leaves_tiling.false in (
+      enters-child c.args.self.now c.args.placement.now c.requires.below _ c.lock-removed.ensures.field rows c.after.ensures left refl refl live,
+      is_child c.args.self.now c.args.placement.now c.requires.below _ c.lock-removed.ensures.field rows c.after.ensures left refl refl live,
+    )

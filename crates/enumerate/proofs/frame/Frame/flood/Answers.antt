@@ -1,5 +1,5 @@
 -- What the flood holds is the places of the kind, in order.
-use Rattle.std.proofs.Common.{◌≡◌, refl, sym, subst}
+use Rattle.std.proofs.Common.{◌≡◌, refl, sym, subst, ◌∙◌}
 use Rattle.std.specs.Prelude.{true}
 use Rattle.srs.specs.Rules.{table_of}
 use Rattle.lists.proofs.CallerLemmas.{some_same}
@@ -8,7 +8,7 @@ use Rattle.reach.specs.Places.{piece_of}
 use Rattle.hold_queue.specs.QueueSet.{queues_in_play}
 use Rattle.enumerate.specs.Frames.{position_of}
 use Rattle.enumerate.specs.Position.{may_play}
-use Rattle.enumerate.proofs.TurnLemmas.{Lockable, flooded-lockable, flooded-places}
+use Rattle.enumerate.proofs.TurnLemmas.{HeldBelow, Lockable, flooded-below, flooded-lockable, flooded-places}
 use Rattle.enumerate.proofs.Counting.{counts-one}
 use Rattle.enumerate.proofs.frame.Frame.flood.Goals as goal
 
@@ -16,21 +16,26 @@ pub invariant_of-self : goal.invariant_of-self
 invariant_of-self g c = record {
   low = c.args.self.now.low;
   few = c.args.self.now.few;
+  bounded = c.args.self.now.bounded;
+  emptied = c.args.self.now.emptied;
+  supplied = c.args.self.now.supplied;
   lockable = λ x is. subst (λ p. Lockable (filled c.args.self.now.well) p) (some_same is)
-      (flooded-lockable (table_of c.args.rules.now) (filled c.args.self.now.well) c.args.drop_mode c.args.piece c.places.result c.places.ensures.piece c.places.ensures.held);
+      (flooded-lockable (table_of c.args.rules.now) (filled c.args.self.now.well) c.args.drop_mode c.args.piece c.places-reached.result c.below.result c.places-reached.ensures.piece c.places-reached.ensures.held c.below.ensures.piece c.args.self.now.rows c.below.ensures.held);
+  held_below = λ x is. subst (λ p. HeldBelow c.args.self.now.rows p) (some_same is)
+      (flooded-below (table_of c.args.rules.now) (filled c.args.self.now.well) c.args.drop_mode c.args.piece c.places-reached.result c.below.result c.places-reached.ensures.piece c.places-reached.ensures.held c.below.ensures.piece c.args.self.now.rows c.below.ensures.held);
   permitted = λ x is. subst (λ p. may_play (queues_in_play c.args.self.now.queues) (piece_of p) ≡ true) (some_same is)
-      (subst (λ p. may_play (queues_in_play c.args.self.now.queues) p ≡ true) (sym c.places.ensures.piece) c.requires);
+      (subst (λ p. may_play (queues_in_play c.args.self.now.queues) p ≡ true) (sym (c.below.ensures.piece ∙ c.places-reached.ensures.piece)) c.requires);
   same_piece = λ x is q none. cc;
 }
 
 pub returns-clause-places : goal.returns-clause-places
 unfolding position_of
 returns-clause-places g c =
-    flooded-places (table_of c.args.rules.now) (filled c.args.self.now.well) c.args.drop_mode c.args.piece c.places.result c.places.ensures.piece c.places.ensures.held
+    flooded-places (table_of c.args.rules.now) (filled c.args.self.now.well) c.args.drop_mode c.args.piece c.places-reached.result c.below.result c.places-reached.ensures.piece c.places-reached.ensures.held c.below.ensures.piece c.args.self.now.rows c.below.ensures.held
     (position_of (table_of c.args.rules.now) c.args.drop_mode c.args.self.now) refl refl refl
 
 pub returns-clause-piece : goal.returns-clause-piece
-returns-clause-piece g c = λ x is. subst (λ p. piece_of p ≡ c.args.piece) (some_same is) c.places.ensures.piece
+returns-clause-piece g c = λ x is. subst (λ p. piece_of p ≡ c.args.piece) (some_same is) (c.below.ensures.piece ∙ c.places-reached.ensures.piece)
 
 pub returns-clause-noted : goal.returns-clause-noted
-returns-clause-noted g c = counts-one c.args.floods.now _ c.args.steps.now _ c.saturating_add.ensures c.places.ensures.counted
+returns-clause-noted g c = counts-one c.args.floods.now _ c.args.steps.now _ c.saturating_add.ensures c.places-reached.ensures.counted

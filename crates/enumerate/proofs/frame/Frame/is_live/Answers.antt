@@ -3,11 +3,9 @@ use Rattle.std.proofs.Common.{◌≡◌, suc, ◌+◌, ap, ◌∙◌, arith}
 use Rattle.well.specs.Well.{filled}
 use Rattle.hold_queue.specs.QueueSet.{queues_in_play}
 use Rattle.hold_queue.specs.Supply.{supply_of}
-use Rattle.prune.specs.Tiling.{supply_in}
 use Rattle.packing.specs.HasTiling.{has_tiling}
 use Rattle.enumerate.specs.Frames.{position_of}
 use Rattle.enumerate.specs.Position.{can_be_tiled, is_live}
-use Rattle.enumerate.proofs.TilingLaws.{supplies-read}
 use Rattle.enumerate.proofs.frame.Frame.is_live.Goals as goal
 
 pub returns : goal.returns
@@ -15,4 +13,4 @@ unfolding is_live can_be_tiled position_of
 returns c = λ table mode.
     let next : c.args.self.now.left + 1 ≡ suc c.args.self.now.left = omega arith in
     c.has_tiling.ensures
-    ∙ ap (has_tiling (filled c.args.self.now.well) c.args.self.now.rows) (ap supply_in c.supply-supply.ensures ∙ supplies-read (queues_in_play c.args.self.now.queues) (c.args.self.now.left + 1) ∙ ap (supply_of (queues_in_play c.args.self.now.queues)) next)
+    ∙ ap (has_tiling (filled c.args.self.now.well) c.args.self.now.rows) (c.args.self.now.supplied ∙ ap (supply_of (queues_in_play c.args.self.now.queues)) next)

@@ -3,6 +3,7 @@ use Rattle.std.proofs.Common.{◌≡◌, refl, sym, subst, ◌∙◌, true}
 use Rattle.srs.specs.Rules.{table_of}
 use Rattle.lists.proofs.CallerLemmas.{some_same}
 use Rattle.well.specs.Well.{filled}
+use Rattle.well.specs.LockLaws.{is_below}
 use Rattle.moves.specs.PlaceTest.{is_place}
 use Rattle.hold_queue.specs.QueueSet.{queues_in_play}
 use Rattle.reach.specs.Places.{piece_of}
@@ -10,7 +11,7 @@ use Rattle.enumerate.specs.Frames.{places_left, position_of}
 use Rattle.enumerate.specs.Position.{may_play}
 use Rattle.enumerate.proofs.Game.{place-decides}
 use Rattle.enumerate.proofs.PlaceLaws.{place-lockable}
-use Rattle.enumerate.proofs.SkipLemmas.{dead-result, held-place, left-above, passes-kind, skips-dead, skips-entered, skips-same, skips-unplaced, unheld-place}
+use Rattle.enumerate.proofs.SkipLemmas.{dead-result, held-below, held-place, left-above, passes-kind, skips-dead, skips-entered, skips-same, skips-unplaced, unheld-place}
 use Rattle.enumerate.proofs.TurnLemmas.{may_play-answer}
 use Rattle.enumerate.proofs.Counting.{counts-none}
 use Rattle.enumerate.proofs.frame.Frame.skip.Goals as goal
@@ -29,7 +30,11 @@ pub invariant_of-self-2 : goal.invariant_of-self-2
 invariant_of-self-2 g c = record {
   low = c.flood.new.self.low;
   few = c.flood.new.self.few;
+  bounded = c.flood.new.self.bounded;
+  emptied = c.flood.new.self.emptied;
+  supplied = c.flood.new.self.supplied;
   lockable = c.flood.new.self.lockable;
+  held_below = c.flood.new.self.held_below;
   permitted = c.flood.new.self.permitted;
   same_piece = λ places is q is_q. subst (λ q. q.piece ≡ piece_of places) (some_same is_q) (sym (c.flood.ensures.piece places is));
 }
@@ -52,6 +57,12 @@ enter-requires-clause-lockable g c =
     place-lockable (table_of c.args.rules.now) (filled c.flood.new.self.well) c.args.drop_mode c.args.target.now.piece c.args.target.now refl
     ((place-decides (table_of c.args.rules.now) (filled c.flood.new.self.well) c.args.drop_mode c.args.target.now).0
     (subst (λ w. is_place (table_of c.args.rules.now) (filled w) c.args.drop_mode c.args.target.now ≡ true) (sym c.flood.ensures.same.well) placed))
+
+pub enter-requires-clause-below : goal.enter-requires-clause-below
+unfolding position_of
+enter-requires-clause-below g c =
+    subst (λ rows. is_below rows c.args.target.now ≡ true) (sym c.flood.ensures.same.rows)
+    (held-below (position_of (table_of c.args.rules.now) c.args.drop_mode c.args.self.now) c.args.target.now _ c.flood.ensures.places c.reaches-reached.result c.reaches-reached.ensures c.if-not-reached.false)
 
 pub enter-requires-clause-permitted : goal.enter-requires-clause-permitted
 enter-requires-clause-permitted g c =

@@ -1,8 +1,9 @@
 -- The next kind, if there is one, is passed or flooded.
 use Rattle.std.proofs.Common.{◌∷◌, refl, sym, ap, ◌∙◌}
-use Rattle.std.specs.Prelude.{drop}
+use Rattle.std.specs.Prelude.{drop, filter}
 use Rattle.srs.specs.Piece.{all_pieces}
 use Rattle.srs.specs.Rules.{table_of}
+use Rattle.well.specs.LockLaws.{is_below}
 use Rattle.enumerate.specs.Position.{places_at}
 use Rattle.enumerate.proofs.TurnLemmas.{goes-over, goes-past_kind, goes-flooded, may_play-answer, record-same, same-position}
 use Rattle.enumerate.proofs.Counting.{counts-none}
@@ -27,7 +28,7 @@ returns-clause-turn g c =
       goes-flooded (table_of c.args.rules.now) c.args.drop_mode c.args.self.now c.flood.new.self same c.in-Some.piece c.requires
           (c.in-Some.ensures ∙ ap (λ k. c.in-Some.piece ∷ drop k all_pieces) (sym c.flood.ensures.tried))
           (may_play-answer _ c.in-Some.piece c.may_play.result c.may_play.ensures.permitted ∙ c.if-not-may_play.false)
-          (c.flood.ensures.places ∙ ap (λ n. places_at n c.in-Some.piece) (same-position (table_of c.args.rules.now) c.args.drop_mode c.args.self.now _ record { well = refl; rows = refl; queues = refl; left = refl })),
+          (c.flood.ensures.places ∙ ap (λ n. filter (is_below c.args.self.now.rows) (places_at n c.in-Some.piece)) (same-position (table_of c.args.rules.now) c.args.drop_mode c.args.self.now _ record { well = refl; rows = refl; queues = refl; left = refl })),
       c.flood.ensures.counted,
     )
 

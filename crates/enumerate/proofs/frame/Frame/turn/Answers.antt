@@ -13,7 +13,11 @@ pub invariant_of-self : goal.invariant_of-self
 invariant_of-self g c = record {
   low = c.args.self.now.low;
   few = c.args.self.now.few;
+  bounded = c.args.self.now.bounded;
+  emptied = c.args.self.now.emptied;
+  supplied = c.args.self.now.supplied;
   lockable = c.args.self.now.lockable;
+  held_below = c.args.self.now.held_below;
   permitted = c.args.self.now.permitted;
   same_piece = λ places is q is_q.
       let first = subst (λ (p : Option Places). places_left p c.args.self.now.entered ≡ c.in-Some.placement ∷ places_left p (Some c.in-Some.placement)) is c.in-Some.ensures.0 in

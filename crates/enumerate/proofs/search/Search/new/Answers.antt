@@ -5,14 +5,14 @@ use Rattle.srs.specs.Order.{sequence_cmp}
 use Rattle.lists.specs.Rising.{is_above}
 use Rattle.enumerate.specs.Events.{found}
 use Rattle.enumerate.specs.Items.{items_of}
-use Rattle.enumerate.specs.Rest.{rest_from, whole_from}
-use Rattle.enumerate.specs.ViewOf.{after_given, rest_of, view_of, whole_of, work}
+use Rattle.enumerate.specs.Rest.{events_from, whole_from}
+use Rattle.enumerate.specs.ViewOf.{after_given, events_to_come, view_of, whole_of, work}
 use Rattle.enumerate.proofs.SearchLemmas.{nothing-room}
 use Rattle.enumerate.proofs.SearchLists.{listed-start}
 use Rattle.enumerate.proofs.search.Search.new.Goals as goal
 
 pub invariant_of-result : goal.invariant_of-result
-unfolding rest_from
+unfolding events_from
 invariant_of-result c = record {
   fit = c.requires.fit;
   within = omega arith;
@@ -32,5 +32,5 @@ unfolding after_given
 returns-clause-after c = refl
 
 pub returns-clause-work : goal.returns-clause-work
-unfolding work whole_of rest_of rest_from
+unfolding work whole_of events_to_come events_from
 returns-clause-work c = omega arith

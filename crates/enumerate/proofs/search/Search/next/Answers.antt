@@ -7,8 +7,8 @@ use Rattle.srs.specs.Rules.{table_of}
 use Rattle.enumerate.specs.Events.{found, floods}
 use Rattle.enumerate.specs.Frames.{stacked}
 use Rattle.enumerate.specs.Items.{items_of}
-use Rattle.enumerate.specs.Rest.{rest_from, whole_from}
-use Rattle.enumerate.specs.ViewOf.{after_given, rest_of, solutions, view_of, whole_of, work}
+use Rattle.enumerate.specs.Rest.{events_from, whole_from}
+use Rattle.enumerate.specs.ViewOf.{after_given, events_to_come, solutions, view_of, whole_of, work}
 use Rattle.enumerate.specs.Search.{IsList}
 use Rattle.enumerate.proofs.ListLaws.{next-first, next-none}
 use Rattle.enumerate.proofs.SearchFacts.{search-list}
@@ -17,7 +17,7 @@ use Rattle.enumerate.proofs.SearchLists.{floods-within, listed-next, whole-flood
 use Rattle.enumerate.proofs.search.Search.next.Goals as goal
 
 pub invariant_of-self : goal.invariant_of-self
-unfolding rest_from
+unfolding events_from
 invariant_of-self g c = record {
   fit = c.args.self.now.fit;
   within = c.go_on-self.ensures.within;
@@ -31,7 +31,7 @@ pub returns-then-self-eq0-clause-list : goal.returns-then-self-eq0-clause-list
 returns-then-self-eq0-clause-list g c = search-list c.args.self.now
 
 pub returns-then-self-eq0-clause-found : goal.returns-then-self-eq0-clause-found
-unfolding solutions rest_of rest_from view_of found
+unfolding solutions events_to_come events_from view_of found
 returns-then-self-eq0-clause-found g c =
     let none = none-used (table_of c.args.self.now.problem.rules) c.args.self.now.problem.drop_mode c.go_on-self.new.frames c.go_on-self.result c.if-self-eq0.true in
     (none-found _ _ _ c.go_on-self.result c.if-self-eq0.true c.go_on-self.ensures.found ∙ ap found none, ap found none, refl)
@@ -41,16 +41,16 @@ unfolding after_given
 returns-then-self-eq0-clause-after g c = refl
 
 pub returns-then-self-eq0-clause-counted : goal.returns-then-self-eq0-clause-counted
-unfolding work whole_of rest_of rest_from
+unfolding work whole_of events_to_come events_from
 returns-then-self-eq0-clause-counted g c = omega (arith, c.go_on-self.ensures.counted, c.go_on-self.ensures.fewer, c.args.self.now.counted)
 
 pub returns-then-self-eq0-clause-bounded : goal.returns-then-self-eq0-clause-bounded
-unfolding work whole_of rest_of rest_from view_of
+unfolding work whole_of events_to_come events_from view_of
 returns-then-self-eq0-clause-bounded g c =
     omega (arith, floods-within c.args.self.now.problem (items_of c.args.self.now.queue) (items_of c.args.self.now.after))
 
 pub returns-then-self-eq0-clause-whole : goal.returns-then-self-eq0-clause-whole
-unfolding work whole_of rest_of rest_from view_of after_given floods
+unfolding work whole_of events_to_come events_from view_of after_given floods
 returns-then-self-eq0-clause-whole g c = λ started.
     let none = ap floods (none-used (table_of c.args.self.now.problem.rules) c.args.self.now.problem.drop_mode c.go_on-self.new.frames c.go_on-self.result c.if-self-eq0.true) in
     let whole = ap (λ a. floods (whole_from c.args.self.now.problem (items_of c.args.self.now.queue) a)) started ∙ whole-floods c.args.self.now.problem (items_of c.args.self.now.queue) in
@@ -58,7 +58,7 @@ returns-then-self-eq0-clause-whole g c = λ started.
 
 -- what is found is the path, which is given and kept as the bound
 pub invariant_of-self-2 : goal.invariant_of-self-2
-unfolding rest_from
+unfolding events_from
 invariant_of-self-2 g c =
     let first = one-found _ _ _ c.go_on-self.result c.if-self-eq0.false c.go_on-self.ensures.found in
     record {
@@ -76,7 +76,7 @@ pub returns-clause-list : goal.returns-clause-list
 returns-clause-list g c = search-list c.args.self.now
 
 pub returns-clause-found : goal.returns-clause-found
-unfolding solutions rest_of rest_from view_of
+unfolding solutions events_to_come events_from view_of
 returns-clause-found g c = (
   one-found _ _ _ c.go_on-self.result c.if-self-eq0.false c.go_on-self.ensures.found
       ∙ ap (λ p. p ∷ found (stacked (table_of c.args.self.now.problem.rules) c.args.self.now.problem.drop_mode [] (take c.go_on-self.result c.go_on-self.new.frames))) (sym c.path-sequence.ensures),
@@ -88,23 +88,23 @@ unfolding after_given
 returns-clause-after g c = refl
 
 pub returns-clause-counted : goal.returns-clause-counted
-unfolding work whole_of rest_of rest_from
+unfolding work whole_of events_to_come events_from
 returns-clause-counted g c = omega (arith, c.go_on-self.ensures.counted, c.go_on-self.ensures.fewer, c.args.self.now.counted)
 
 pub returns-clause-bounded : goal.returns-clause-bounded
-unfolding work whole_of rest_of rest_from view_of
+unfolding work whole_of events_to_come events_from view_of
 returns-clause-bounded g c =
     omega (arith, floods-within c.args.self.now.problem (items_of c.args.self.now.queue) (items_of c.args.self.now.after))
 
 pub returns-then-self-eq0-clause-next : goal.returns-then-self-eq0-clause-next
-unfolding view_of solutions rest_of found
+unfolding view_of solutions events_to_come found
 returns-then-self-eq0-clause-next g c =
     let none = none-used (table_of c.args.self.now.problem.rules) c.args.self.now.problem.drop_mode c.go_on-self.new.frames c.go_on-self.result c.if-self-eq0.true in
     let empty : solutions c.args.self.now ≡ [] = none-found _ _ _ c.go_on-self.result c.if-self-eq0.true c.go_on-self.ensures.found ∙ ap found none in
     next-none c.args.self.now.problem (items_of c.args.self.now.queue) (items_of c.args.self.now.bound) (subst (IsList (view_of c.args.self.now)) empty (search-list c.args.self.now))
 
 pub returns-clause-next : goal.returns-clause-next
-unfolding view_of solutions rest_of
+unfolding view_of solutions events_to_come
 returns-clause-next g c =
     let first : solutions c.args.self.now ≡ c.path-sequence.result.items ∷ found (stacked (table_of c.args.self.now.problem.rules) c.args.self.now.problem.drop_mode [] (take c.go_on-self.result c.go_on-self.new.frames)) =
     one-found _ _ _ c.go_on-self.result c.if-self-eq0.false c.go_on-self.ensures.found

@@ -1,0 +1,25 @@
+// How many pieces of each kind may still be played, from placement to placement.
+ghost use Rattle.std.specs.Prelude.{◌≡◌, min};
+ghost use Rattle.srs.specs.declared.piece.Piece.{Piece};
+ghost use Rattle.prune.specs.Tiling.{supply_in};
+ghost use Rattle.prune.specs.OnePart.{less_one};
+
+use packing::without_one;
+use srs::Piece;
+
+/// One piece of a kind fewer, and of each kind at most so many.
+pub fn supply_after(supply: &[u8; 7], piece: Piece, left: u8) -> [u8; 7]
+    ensures { (other : Piece)
+        → supply_in result other ≡ min left (less_one (supply_in supply.now) piece other) }
+{
+    let [i, l, o, z, t, j, s] = without_one(supply, piece);
+    [
+        left.min(i),
+        left.min(l),
+        left.min(o),
+        left.min(z),
+        left.min(t),
+        left.min(j),
+        left.min(s),
+    ]
+}
