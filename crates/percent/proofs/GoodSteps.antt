@@ -1,7 +1,8 @@
 -- The steps of looking into hands, as facts about what lists have.
-use Rattle.std.proofs.Common.{ℕ, suc, ◌≡◌, ◌+◌, ◌*◌, ◌/◌, ◌%◌, ◌<◌, ◌≤◌, Bool, true, false, not, ◌&&◌, ◌||◌, ◌==◌, List, length, get_or, take, refl, ap, subst, ◌∙◌, sym, arith}
+use Rattle.std.proofs.Common.{ℕ, suc, ◌≡◌, ◌+◌, ◌*◌, ◌/◌, ◌%◌, ◌<◌, ◌≤◌, Bool, true, false, not, ◌&&◌, ◌||◌, ◌==◌, List, [], length, get_or, take, refl, ap, subst, ◌∙◌, sym, arith}
 use Rattle.std.specs.List.{list_any}
-use Rattle.std.specs.Prelude.{Result, Ok, Err, IfOk}
+use Rattle.std.specs.Prelude.{Result, Ok, Err, IfOk, IsPermutation}
+use Rattle.std.proofs.lemmas.List.Sorted.{list_any-IsPermutation}
 use Rattle.std.proofs.lemmas.List.{take_all}
 use Rattle.std.proofs.lemmas.List.Folds.{list_any_more}
 use Rattle.std.proofs.lemmas.Bool.{eqb-true}
@@ -11,6 +12,7 @@ use Rattle.srs.specs.Piece.{all_pieces, piece_code}
 use Rattle.well.specs.Well.{filled}
 use Rattle.hold_queue.specs.declared.hold.Hold.{Hold}
 use Rattle.number_sets.specs.Rising.{IsRising, has}
+use Rattle.number_sets.proofs.CallerLemmas.{has-none}
 use Rattle.percent.specs.declared.game.Game.{Game}
 use Rattle.percent.specs.declared.position.Position.{Position}
 use Rattle.percent.specs.Hands.{is_allowed, takes, with_first, with_second, without_first, without_second}
@@ -62,19 +64,19 @@ answer-taken hold code asked rests good after hand there rests_is good_is =
 -- ---- one kind after the other
 
 -- the hands for which none of the first i kinds leads to a good rest are still asked about
-pub record Exploring (game now : Game) (F : Field) (rows left : ℕ) (hands asked : List ℕ) (before after : ℕ) (i : ℕ) : Type 0 where
+pub record Exploring (order : List Piece) (game now : Game) (F : Field) (rows left : ℕ) (hands asked : List ℕ) (before after : ℕ) (i : ℕ) : Type 0 where
   pub same : now ≡ game
   pub rises : IsRising asked
   pub counted : before ≤ after
   pub members : (hand : ℕ) → has asked hand
-      ≡ (has hands hand && not (list_any (λ piece. takes game.hold (piece_code piece) (is_good_after game F rows piece left) hand) (take i all_pieces)))
+      ≡ (has hands hand && not (list_any (λ piece. takes game.hold (piece_code piece) (is_good_after game F rows piece left) hand) (take i order)))
 
 not_none : (a : Bool) → a ≡ (a && not false)
 not_none true = refl
 not_none false = refl
 
-pub explore-starts : (game : Game) (F : Field) (rows left : ℕ) (hands asked : List ℕ) (steps : ℕ) → asked ≡ hands → IsRising hands → Exploring game game F rows left hands asked steps steps 0
-explore-starts game F rows left hands asked steps is up = record {
+pub explore-starts : (order : List Piece) (game : Game) (F : Field) (rows left : ℕ) (hands asked : List ℕ) (steps : ℕ) → asked ≡ hands → IsRising hands → Exploring order game game F rows left hands asked steps steps 0
+explore-starts order game F rows left hands asked steps is up = record {
   same = refl;
   rises = rw is up;
   counted = omega arith;
@@ -86,61 +88,61 @@ ask_less false a t u same = refl
 ask_less true true t u same = refl
 ask_less true false t u same = ap not (same refl)
 
-explore-more : (game now next_game : Game) (F : Field) (rows left : ℕ) (hands asked rests good next : List ℕ) (before middle after i : ℕ) (d : Piece)
-    → Exploring game now F rows left hands asked before middle i → i < length all_pieces
-    → ((rest : ℕ) → has rests rest ≡ (has asked (with_first (piece_code (get_or all_pieces i d)) rest) || (is_allowed now.hold && has asked (with_second (piece_code (get_or all_pieces i d)) rest))))
-    → ((rest : ℕ) → has good rest ≡ (has rests rest && is_good_after now F rows (get_or all_pieces i d) left rest))
+explore-more : (order : List Piece) (game now next_game : Game) (F : Field) (rows left : ℕ) (hands asked rests good next : List ℕ) (before middle after i : ℕ) (d : Piece)
+    → Exploring order game now F rows left hands asked before middle i → i < length order
+    → ((rest : ℕ) → has rests rest ≡ (has asked (with_first (piece_code (get_or order i d)) rest) || (is_allowed now.hold && has asked (with_second (piece_code (get_or order i d)) rest))))
+    → ((rest : ℕ) → has good rest ≡ (has rests rest && is_good_after now F rows (get_or order i d) left rest))
     → next_game ≡ now → middle ≤ after
-    → IsRising next → ((hand : ℕ) → has next hand ≡ (has asked hand && not (takes now.hold (piece_code (get_or all_pieces i d)) (has good) hand)))
-    → Exploring game next_game F rows left hands next before after (i + 1)
-explore-more game now next_game F rows left hands asked rests good next before middle after i d state within rests_is good_is same later rises next_is =
+    → IsRising next → ((hand : ℕ) → has next hand ≡ (has asked hand && not (takes now.hold (piece_code (get_or order i d)) (has good) hand)))
+    → Exploring order game next_game F rows left hands next before after (i + 1)
+explore-more order game now next_game F rows left hands asked rests good next before middle after i d state within rests_is good_is same later rises next_is =
     record {
       same = same ∙ state.same;
       rises = rises;
       counted = omega (arith, state.counted, later);
       members = λ hand.
           let test : Piece → Bool = λ piece. takes game.hold (piece_code piece) (is_good_after game F rows piece left) hand in
-          let taken : has asked hand ≡ true → takes now.hold (piece_code (get_or all_pieces i d)) (has good) hand ≡ test (get_or all_pieces i d) = λ there.
-          answer-taken now.hold (piece_code (get_or all_pieces i d)) asked rests good (is_good_after now F rows (get_or all_pieces i d) left) hand there rests_is good_is
-          ∙ ap (λ (g : Game). takes g.hold (piece_code (get_or all_pieces i d)) (is_good_after g F rows (get_or all_pieces i d) left) hand) state.same in
-          next_is hand ∙ ap (λ b. b && not (takes now.hold (piece_code (get_or all_pieces i d)) (has good) hand)) (state.members hand)
-          ∙ ask_less (has hands hand) (list_any test (take i all_pieces)) (takes now.hold (piece_code (get_or all_pieces i d)) (has good) hand) (test (get_or all_pieces i d)) (λ there. taken (state.members hand ∙ there))
-          ∙ ap (λ b. has hands hand && not b) (sym (list_any_more test all_pieces i d within));
+          let taken : has asked hand ≡ true → takes now.hold (piece_code (get_or order i d)) (has good) hand ≡ test (get_or order i d) = λ there.
+          answer-taken now.hold (piece_code (get_or order i d)) asked rests good (is_good_after now F rows (get_or order i d) left) hand there rests_is good_is
+          ∙ ap (λ (g : Game). takes g.hold (piece_code (get_or order i d)) (is_good_after g F rows (get_or order i d) left) hand) state.same in
+          next_is hand ∙ ap (λ b. b && not (takes now.hold (piece_code (get_or order i d)) (has good) hand)) (state.members hand)
+          ∙ ask_less (has hands hand) (list_any test (take i order)) (takes now.hold (piece_code (get_or order i d)) (has good) hand) (test (get_or order i d)) (λ there. taken (state.members hand ∙ there))
+          ∙ ap (λ b. has hands hand && not b) (sym (list_any_more test order i d within));
     }
 
 -- the same where the clauses are over other names of the lists
-pub explore-step : (game now next_game : Game) (F : Field) (rows left : ℕ) (hands asked asked1 asked2 rests rests1 good good1 next : List ℕ) (before middle after i : ℕ) (d : Piece)
-    → Exploring game now F rows left hands asked before middle i → i < length all_pieces
+pub explore-step : (order : List Piece) (game now next_game : Game) (F : Field) (rows left : ℕ) (hands asked asked1 asked2 rests rests1 good good1 next : List ℕ) (before middle after i : ℕ) (d : Piece)
+    → Exploring order game now F rows left hands asked before middle i → i < length order
     → asked1 ≡ asked
-    → ((rest : ℕ) → has rests rest ≡ (has asked1 (with_first (piece_code (get_or all_pieces i d)) rest) || (is_allowed now.hold && has asked1 (with_second (piece_code (get_or all_pieces i d)) rest))))
+    → ((rest : ℕ) → has rests rest ≡ (has asked1 (with_first (piece_code (get_or order i d)) rest) || (is_allowed now.hold && has asked1 (with_second (piece_code (get_or order i d)) rest))))
     → rests1 ≡ rests
-    → ((rest : ℕ) → has good rest ≡ (has rests1 rest && is_good_after now F rows (get_or all_pieces i d) left rest))
+    → ((rest : ℕ) → has good rest ≡ (has rests1 rest && is_good_after now F rows (get_or order i d) left rest))
     → next_game ≡ now → middle ≤ after
     → IsRising next → asked2 ≡ asked → good1 ≡ good
-    → ((hand : ℕ) → has next hand ≡ (has asked2 hand && not (takes now.hold (piece_code (get_or all_pieces i d)) (has good1) hand)))
-    → Exploring game next_game F rows left hands next before after (i + 1)
-explore-step game now next_game F rows left hands asked asked1 asked2 rests rests1 good good1 next before middle after i d state within e1 rests_is e2 good_is same later rises e3 e4 next_is =
-    explore-more game now next_game F rows left hands asked rests good next before middle after i d state within
-    (subst (λ l. (rest : ℕ) → has rests rest ≡ (has l (with_first (piece_code (get_or all_pieces i d)) rest) || (is_allowed now.hold && has l (with_second (piece_code (get_or all_pieces i d)) rest)))) e1 rests_is)
-    (subst (λ l. (rest : ℕ) → has good rest ≡ (has l rest && is_good_after now F rows (get_or all_pieces i d) left rest)) e2 good_is)
+    → ((hand : ℕ) → has next hand ≡ (has asked2 hand && not (takes now.hold (piece_code (get_or order i d)) (has good1) hand)))
+    → Exploring order game next_game F rows left hands next before after (i + 1)
+explore-step order game now next_game F rows left hands asked asked1 asked2 rests rests1 good good1 next before middle after i d state within e1 rests_is e2 good_is same later rises e3 e4 next_is =
+    explore-more order game now next_game F rows left hands asked rests good next before middle after i d state within
+    (subst (λ l. (rest : ℕ) → has rests rest ≡ (has l (with_first (piece_code (get_or order i d)) rest) || (is_allowed now.hold && has l (with_second (piece_code (get_or order i d)) rest)))) e1 rests_is)
+    (subst (λ l. (rest : ℕ) → has good rest ≡ (has l rest && is_good_after now F rows (get_or order i d) left rest)) e2 good_is)
     same later rises
-    (subst (λ l. (hand : ℕ) → has next hand ≡ (has asked hand && not (takes now.hold (piece_code (get_or all_pieces i d)) (has l) hand))) e4
-    (subst (λ l. (hand : ℕ) → has next hand ≡ (has l hand && not (takes now.hold (piece_code (get_or all_pieces i d)) (has good1) hand))) e3 next_is))
+    (subst (λ l. (hand : ℕ) → has next hand ≡ (has asked hand && not (takes now.hold (piece_code (get_or order i d)) (has l) hand))) e4
+    (subst (λ l. (hand : ℕ) → has next hand ≡ (has l hand && not (takes now.hold (piece_code (get_or order i d)) (has good1) hand))) e3 next_is))
 
 taken_back : (w a : Bool) → (w && not (w && not a)) ≡ (w && a)
 taken_back false a = refl
 taken_back true true = refl
 taken_back true false = refl
 
-pub explore-ends : (game now : Game) (F : Field) (rows left : ℕ) (hands asked found : List ℕ) (before after i : ℕ) → Exploring game now F rows left hands asked before after i → length all_pieces ≤ i
+pub explore-ends : (order : List Piece) (game now : Game) (F : Field) (rows left : ℕ) (hands asked found : List ℕ) (before after i : ℕ) → IsPermutation all_pieces order → Exploring order game now F rows left hands asked before after i → length order ≤ i
     → ((hand : ℕ) → has found hand ≡ (has hands hand && not (has asked hand)))
     → (hand : ℕ) → has found hand ≡ (has hands hand && is_good game F rows (left + 1) hand)
-explore-ends game now F rows left hands asked found before after i state all found_is hand =
+explore-ends order game now F rows left hands asked found before after i same state all found_is hand =
     let test : Piece → Bool = λ piece. takes game.hold (piece_code piece) (is_good_after game F rows piece left) hand in
     let one : left + 1 ≡ suc left = omega arith in
     found_is hand ∙ ap (λ b. has hands hand && not b) (state.members hand)
-    ∙ taken_back (has hands hand) (list_any test (take i all_pieces))
-    ∙ ap (λ b. has hands hand && b) (ap (list_any test) (take_all i all_pieces all) ∙ sym (good-step game F rows left hand) ∙ ap (λ n. is_good game F rows n hand) (sym one))
+    ∙ taken_back (has hands hand) (list_any test (take i order))
+    ∙ ap (λ b. has hands hand && b) (ap (list_any test) (take_all i order all) ∙ sym (list_any-IsPermutation test all_pieces order same) ∙ sym (good-step game F rows left hand) ∙ ap (λ n. is_good game F rows n hand) (sym one))
 
 -- ---- one child after the other
 
@@ -224,6 +226,28 @@ answer-looked known unknown found hands answer good whole found_is answer_is han
 or_none : (a b : Bool) → b ≡ false → a ≡ (a || b)
 or_none true b h = refl
 or_none false b h = sym h
+
+less_none : (a b : Bool) → b ≡ false → a ≡ (a && not b)
+less_none true b h = ap not (sym h)
+less_none false b h = refl
+
+-- less nothing all stay
+pub less-none : (numbers found : List ℕ) → found ≡ [] → (number : ℕ) → has numbers number ≡ (has numbers number && not (has found number))
+less-none numbers found nil number = less_none (has numbers number) (has found number) (ap (λ l. has l number) nil ∙ has-none number)
+
+-- the answer for the hands that are kept is that for all
+pub answer-kept : (kept fit hands : List ℕ) (good : ℕ → Bool) → fit ≡ kept → ((hand : ℕ) → (has kept hand && good hand) ≡ (has hands hand && good hand))
+    → (hand : ℕ) → (has fit hand && good hand) ≡ (has hands hand && good hand)
+answer-kept kept fit hands good same kept_is hand = ap (λ l. has l hand && good hand) same ∙ kept_is hand
+
+no_hand : (a b : Bool) → a ≡ false → (a && b) ≡ a
+no_hand true b h = cc
+no_hand false b h = refl
+
+-- where no hand is kept none is good
+pub answer-none : (kept hands : List ℕ) (good : ℕ → Bool) → kept ≡ [] → ((hand : ℕ) → (has kept hand && good hand) ≡ (has hands hand && good hand))
+    → (hand : ℕ) → has kept hand ≡ (has hands hand && good hand)
+answer-none kept hands good nil kept_is hand = sym (no_hand (has kept hand) (good hand) (ap (λ l. has l hand) nil ∙ has-none hand)) ∙ kept_is hand
 
 pub answer-known : (known unknown hands : List ℕ) (good : ℕ → Bool)
     → ((hand : ℕ) → (has known hand || (has unknown hand && good hand)) ≡ (has hands hand && good hand))

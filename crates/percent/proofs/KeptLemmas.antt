@@ -1,5 +1,7 @@
 -- A slot stands for a position, and what is kept is true of it.
-use Rattle.std.proofs.Common.{◌≡◌, ℕ, nat_lt, Bool, true, false, ◌&&◌, ◌||◌, not, List, [], refl, sym, ap, ◌∙◌, inl, inr}
+use Rattle.std.proofs.Common.{◌≡◌, ℕ, nat_lt, Bool, true, false, ◌&&◌, ◌||◌, not, List, [], ◌∷◌, ◌++◌, ◌+◌, ◌<◌, ◌≤◌, length, get_or, set, refl, sym, ap, subst, ◌∙◌, inl, inr, arith}
+use Rattle.std.specs.Prelude.{sum_by}
+use Rattle.std.proofs.lemmas.List.Sums.{get_or-le-sum_by, sum_by-set, sum_by-cons, sum_by-append}
 use Rattle.std.proofs.Math.Path.{fun_ext}
 use Rattle.std.proofs.lemmas.Bool.{cases_Bool, cases_lt, and_from, lt-ltb}
 use Rattle.lane_board.specs.Field.{intersection, rows_below}
@@ -12,7 +14,7 @@ use Rattle.percent.specs.declared.game.Game.{Game}
 use Rattle.percent.specs.declared.position.Position.{Position}
 use Rattle.percent.specs.declared.kept.Slot.{Slot}
 use Rattle.percent.specs.GoodHands.{is_good}
-use Rattle.percent.specs.Kept.{IsTrueSlot}
+use Rattle.percent.specs.Kept.{answers_in, answers_of, IsTrueSlot}
 
 -- the cells below the rows left are all
 all_below : (p : Position) → intersection (filled p.well) (rows_below p.rows) ≡ filled p.well
@@ -83,3 +85,32 @@ recalled-is w f m rest unknown good g found missed rest_is unknown_is good_is =
     by true f true g found missed = sym (missed refl)
     by true true false g found missed = sym (found refl)
     by true false false g found missed = refl
+
+-- ---- how many answers there are
+
+pub none-counted : (slot : Slot) → slot.found.items ≡ [] → slot.missed.items ≡ [] → answers_of slot ≡ 0
+unfolding answers_of
+none-counted slot found missed = let a = ap length found in let b = ap length missed in omega (arith, a, b)
+
+pub empty-more : (slots : List Slot) (slot : Slot) → answers_in slots ≡ 0 → slot.found.items ≡ [] → slot.missed.items ≡ [] → answers_in (slots ++ slot ∷ []) ≡ 0
+unfolding answers_in
+empty-more slots slot none found missed =
+    let both = sum_by-append answers_of slots (slot ∷ []) in
+    let one = sum_by-cons answers_of slot [] in
+    let zero = none-counted slot found missed in
+    omega (arith, both, one, zero, none)
+
+pub replaced : (slots : List Slot) (place : ℕ) (slot before : Slot) → place < length slots → before ≡ get_or slots place before
+    → answers_in (set slots place slot) + answers_of before ≡ answers_in slots + answers_of slot
+unfolding answers_in
+replaced slots place slot before within there =
+    subst (λ b. sum_by answers_of (set slots place slot) + answers_of b ≡ sum_by answers_of slots + answers_of slot) (sym there) (sum_by-set answers_of slots place slot before within)
+
+-- a slot has no more answers than there are
+pub one-of-all : (slots : List Slot) (place : ℕ) (before : Slot) → place < length slots → before ≡ get_or slots place before → answers_of before ≤ answers_in slots
+unfolding answers_in
+one-of-all slots place before within there = let e = ap answers_of there in let le = get_or-le-sum_by answers_of slots place before within in omega (arith, e)
+
+pub none-in : (slots : List Slot) → slots ≡ [] → answers_in slots ≡ 0
+unfolding answers_in
+none-in slots nil = ap (sum_by answers_of) nil

@@ -9,3 +9,5 @@ mod KeptLemmas
 mod PlaceLemmas
 mod GoodSteps
 mod AnswerLemmas
+mod TiledLemmas
+mod FittingLemmas

@@ -2,6 +2,8 @@
 use Rattle.std.proofs.Common.{◌≡◌, ◌↔◌, ℕ, ◌-◌, Bool, true, false, ◌&&◌, ◌||◌, List, [], ◌∷◌, ◌++◌, IsTrue, refl, sym, ap, ◌∙◌}
 use Rattle.std.specs.Prelude.{Option, Some, None, MatchOption, filter, find}
 use Rattle.std.specs.List.{list_any}
+use Rattle.std.specs.Prelude.{IsPermutation}
+use Rattle.std.proofs.lemmas.List.Sorted.{list_any-IsPermutation}
 use Rattle.std.proofs.lemmas.List.Folds.{list_any-append}
 use Rattle.std.proofs.lemmas.List.Kept.{IsStrictlySortedBy-filter}
 use Rattle.lane_board.specs.Field.{Field}
@@ -140,3 +142,8 @@ unfolding good_after_some
 follow-ends game F rows piece children last state none left hand =
     let test : Placement → Bool = λ q. is_below rows q && is_good game (locked F q) (rows - rows_removed F q) left hand in
     sym (ap (λ l. is_good_at game children left hand || list_any test l) none ∙ or_false (is_good_at game children left hand)) ∙ state.same left hand
+
+-- positions are good in any order
+pub in-any-order : (game : Game) (children ordered : List Position) (left hand : ℕ) → IsPermutation children ordered → is_good_at game ordered left hand ≡ is_good_at game children left hand
+unfolding is_good_at
+in-any-order game children ordered left hand same = sym (list_any-IsPermutation (λ p. is_good game (filled p.well) p.rows left hand) children ordered same)

@@ -5,3 +5,4 @@ pub mod Answers
 pub mod Hands
 pub mod GoodHands
 pub mod Kept
+pub mod Fitting

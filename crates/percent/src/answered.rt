@@ -1,11 +1,13 @@
 // The hands that are good at a position: by the kept answers, else by going into each position that a piece leads to.
-ghost use Rattle.std.specs.Prelude.{◌≡◌, ℕ, ◌≤◌, ◌+◌, ◌&&◌, ◌==◌, IfOk};
+ghost use Rattle.std.specs.Prelude.{◌≡◌, ℕ, ◌≤◌, ◌+◌, ◌&&◌, ◌==◌, not, IfOk};
 ghost use Rattle.number_sets.specs.Rising.{IsRising, has};
 ghost use Rattle.well.specs.Well.{filled};
 ghost use Rattle.percent.specs.GoodHands.{is_good, is_good_after};
 
+use crate::fitting::fitting;
 use crate::hand::{not_leading_to, rests_of};
 use crate::kept::Kept;
+use crate::order::wanted_first;
 use crate::position::Position;
 use number_sets::{merged, without};
 use pc_outside::NoMemory;
@@ -27,6 +29,20 @@ fn answered_at_end(alloc: Global, position: &Position, hands: &[u64]) -> Result<
     Ok(Vec::new(alloc))
 }
 
+/// The numbers that are not among the found ones.
+fn less(alloc: Global, numbers: Vec<u64>, found: &[u64]) -> Result<Vec<u64>, NoMemory>
+    requires numbers { IsRising numbers.items }
+    requires found { IsRising found.now }
+    ensures rises { IfOk result (λ v. IsRising v.items) }
+    ensures members { IfOk result (λ v. (number : ℕ) →
+        has v.items number ≡ (has numbers.items number && not (has found.now number))) }
+{
+    if found.is_empty() {
+        return Ok(numbers);
+    }
+    without(alloc, numbers.as_slice(), found)
+}
+
 /// The hands that are good at a position with so many placements to come.
 #[cycle(search)]
 pub fn answered<L: Ledger>(
@@ -37,6 +53,7 @@ pub fn answered<L: Ledger>(
     hands: &[u64],
     steps: &mut Steps<L>,
 ) -> Result<Vec<u64>, NoMemory>
+    requires few { left ≤ 20 }
     requires rises { IsRising hands.now }
     ensures rises { IfOk result (λ v. IsRising v.items) }
     ensures members { IfOk result (λ v. (hand : ℕ) → has v.items hand
@@ -47,7 +64,14 @@ pub fn answered<L: Ledger>(
     if left == 0 {
         return answered_at_end(alloc, position, hands);
     }
-    let (known, unknown) = kept.recalled(alloc, position, left, hands)?;
+    if hands.is_empty() {
+        return Ok(Vec::new(alloc));
+    }
+    let fit = fitting(alloc, &mut kept.tilings, position, left, hands)?;
+    if fit.is_empty() {
+        return Ok(fit);
+    }
+    let (known, unknown) = kept.recalled(alloc, position, left, fit.as_slice())?;
     if unknown.is_empty() {
         return Ok(known);
     }
@@ -67,6 +91,7 @@ fn explored<L: Ledger>(
     hands: &[u64],
     steps: &mut Steps<L>,
 ) -> Result<Vec<u64>, NoMemory>
+    requires few { left ≤ 19 }
     requires rises { IsRising hands.now }
     ensures rises { IfOk result (λ v. IsRising v.items) }
     ensures members { IfOk result (λ v. (hand : ℕ) → has v.items hand
@@ -75,7 +100,7 @@ fn explored<L: Ledger>(
     ensures counted { steps.old ≤ steps.new }
 {
     let mut open = Vec::from_slice(alloc, hands)?;
-    for piece in Piece::ALL {
+    for piece in wanted_first(kept.game.hold, hands) {
         let hold = kept.game.hold;
         let rests = rests_of(alloc, hold, piece, open.as_slice())?;
         let good = tried(alloc, kept, position, left, piece, rests.as_slice(), steps)?;
@@ -95,6 +120,7 @@ fn tried<L: Ledger>(
     rests: &[u64],
     steps: &mut Steps<L>,
 ) -> Result<Vec<u64>, NoMemory>
+    requires few { left ≤ 19 }
     requires rises { IsRising rests.now }
     ensures rises { IfOk result (λ v. IsRising v.items) }
     ensures members { IfOk result (λ v. (rest : ℕ) → has v.items rest
@@ -110,7 +136,7 @@ fn tried<L: Ledger>(
     let mut open = Vec::from_slice(alloc, rests)?;
     for child in &children {
         let good = answered(alloc, kept, child, left, open.as_slice(), steps)?;
-        open = without(alloc, open.as_slice(), good.as_slice())?;
+        open = less(alloc, open, good.as_slice())?;
     }
     without(alloc, rests, open.as_slice())
 }

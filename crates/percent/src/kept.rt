@@ -1,11 +1,12 @@
 // Answers that are kept, each of them true. Any may be dropped, which costs time alone.
-ghost use Rattle.std.specs.Prelude.{◌<◌, All, length};
-ghost use Rattle.percent.specs.Kept.{IsTrueSlot};
+ghost use Rattle.std.specs.Prelude.{◌≡◌, ◌≤◌, ◌<◌, All, length};
+ghost use Rattle.percent.specs.Kept.{answers_in, answers_of, IsTrueSlot};
 
 use crate::game::Game;
 use crate::position::Position;
 use dead_memo::cells_below;
 use number_sets::{merged, without};
+use packing::TilingStore;
 use pc_outside::NoMemory;
 use std::alloc::Global;
 
@@ -19,16 +20,51 @@ pub struct Slot {
     pub missed: Vec<u64>,
 }
 
+impl Slot {
+    ghost use Rattle.std.specs.Prelude.{[]};
+
+    /// A slot with no answer.
+    fn empty(alloc: Global) -> Slot
+        ensures found { result.found.items ≡ [] }
+        ensures missed { result.missed.items ≡ [] }
+    {
+        Slot {
+            cells: 0,
+            rows: 0,
+            left: 0,
+            found: Vec::new(alloc),
+            missed: Vec::new(alloc),
+        }
+    }
+
+    /// How many answers it has.
+    fn len(&self) -> usize
+        ensures { result ≡ answers_of self.now }
+    {
+        self.found.len() + self.missed.len()
+    }
+}
+
+/// How many answers are kept at most.
+const MOST: usize = 4_194_304;
+
 /// A table of slots, of which a later entry takes over an earlier one.
 #[derive(Drop)]
 pub struct Kept {
     pub game: Game,
+    pub tilings: TilingStore,
     slots: Vec<Slot>,
+    /// How many answers are kept.
+    count: usize,
+    /// The slot that goes next where there is no room.
+    next: usize,
     ghost are_true: { All (IsTrueSlot game) slots.items },
+    ghost counted: { count ≡ answers_in slots.items },
+    ghost bounded: { count ≤ 4194304 },
 }
 
 impl Kept {
-    ghost use Rattle.std.specs.Prelude.{◌≡◌, ℕ, ◌≤◌, ◌&&◌, ◌||◌, true, false, IfOk};
+    ghost use Rattle.std.specs.Prelude.{ℕ, ◌+◌, ◌&&◌, ◌||◌, true, false, IfOk};
     ghost use Rattle.number_sets.specs.Rising.{IsRising, has};
     ghost use Rattle.well.specs.Well.{filled};
     ghost use Rattle.percent.specs.GoodHands.{is_good};
@@ -39,15 +75,16 @@ impl Kept {
     {
         let mut slots = Vec::with_capacity(alloc, room)?;
         for _ in 0..room {
-            slots.push(Slot {
-                cells: 0,
-                rows: 0,
-                left: 0,
-                found: Vec::new(alloc),
-                missed: Vec::new(alloc),
-            })?;
+            slots.push(Slot::empty(alloc))?;
         }
-        Ok(Kept { game, slots })
+        let tilings = TilingStore::new(alloc)?;
+        Ok(Kept {
+            game,
+            tilings,
+            slots,
+            count: 0,
+            next: 0,
+        })
     }
 
     /// The place of the slot for some cells.
@@ -102,7 +139,36 @@ impl Kept {
         Ok((good, unknown))
     }
 
-    /// Keeps hands that are good at a position and hands that are not, beside those that are known.
+    /// Puts an entry in the place of an earlier one, where there is room.
+    fn replace(&mut self, place: usize, slot: Slot)
+        requires place { place < length self.old.slots.items }
+        requires holds { IsTrueSlot self.old.game slot }
+        requires room { self.old.count + answers_of slot ≤ 4194304 }
+        ensures game { self.new.game ≡ self.old.game }
+        ensures size { length self.new.slots.items ≡ length self.old.slots.items }
+    {
+        self.count = self.count - self.slots[place].len() + slot.len();
+        self.slots[place] = slot;
+    }
+
+    /// Drops answers until there is room for so many, or none is left.
+    fn make_room(&mut self, alloc: Global, count: usize)
+        requires { count ≤ 4194304 }
+        ensures game { self.new.game ≡ self.old.game }
+        ensures size { length self.new.slots.items ≡ length self.old.slots.items }
+    {
+        for _ in 0..self.slots.len() {
+            if self.count <= MOST - count {
+                return;
+            }
+            let place = self.next % self.slots.len();
+            self.replace(place, Slot::empty(alloc));
+            self.next = place + 1;
+        }
+    }
+
+    /// Keeps hands that are good at a position and hands that are not, beside those that are known. Others may be dropped
+    /// for them, and where there is no room for them they are not kept.
     pub fn note(
         &mut self,
         alloc: Global,
@@ -118,20 +184,27 @@ impl Kept {
         requires missed_true { (hand : ℕ) → has missed.now hand ≡ true
             → is_good self.old.game (filled position.now.well) position.now.rows left hand ≡ false }
         ensures game { self.new.game ≡ self.old.game }
+        ensures bounded { answers_in self.new.slots.items ≤ 4194304 }
     {
         let (found_before, missed_before) = self.known(position, left);
         let found = merged(alloc, found_before, found)?;
         let missed = merged(alloc, missed_before, missed)?;
         let cells = cells_below(&position.well, position.rows);
+        let slot = Slot {
+            cells,
+            rows: position.rows,
+            left,
+            found,
+            missed,
+        };
+        let count = slot.len();
+        if count > MOST {
+            return Ok(());
+        }
+        self.make_room(alloc, count);
         let place = self.place_of(cells, left);
-        if place < self.slots.len() {
-            self.slots[place] = Slot {
-                cells,
-                rows: position.rows,
-                left,
-                found,
-                missed,
-            };
+        if place < self.slots.len() && self.count <= MOST - count {
+            self.replace(place, slot);
         }
         Ok(())
     }

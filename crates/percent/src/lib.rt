@@ -3,10 +3,12 @@
 
 mod answered;
 mod answers;
+mod fitting;
 mod game;
 mod hand;
 mod kept;
 pub mod laws;
+mod order;
 mod position;
 mod share;
 mod start;

@@ -4,6 +4,7 @@ ghost use Rattle.well.specs.Well.{filled};
 ghost use Rattle.well.specs.LockLaws.{LiesBelow};
 
 use crate::game::Game;
+use crate::order::roughness;
 use enumerate::lies_below;
 use pc_outside::NoMemory;
 use reach::{Steps, places};
@@ -17,6 +18,7 @@ use well::Well;
 pub struct Position {
     pub well: Well,
     pub rows: u8,
+    pub roughness: u32,
     ghost few: { rows ≤ 8 },
     ghost below: { LiesBelow (filled well) rows },
 }
@@ -36,9 +38,11 @@ impl Position {
         ensures rows { result.rows ≡ self.now.rows - rows_removed (filled self.now.well) placement.now }
     {
         let (well, removed) = self.well.lock(placement);
+        let rows = self.rows.saturating_sub(removed);
         Position {
             well,
-            rows: self.rows.saturating_sub(removed),
+            rows,
+            roughness: roughness(&well, rows),
         }
     }
 
@@ -63,6 +67,7 @@ impl Position {
             }
             last = Some(placement);
         }
+        children.sort_unstable_by_key(|child| child.roughness);
         Ok(children)
     }
 }

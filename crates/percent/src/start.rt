@@ -41,12 +41,13 @@ fn first_position(problem: &Problem) -> Position
     Position {
         well: problem.well,
         rows: problem.height,
+        roughness: 0,
     }
 }
 
 /// For how many positions answers are kept, where so many hands are asked about.
 fn room_for(hands: usize) -> usize {
-    if hands < 1024 { 8192 } else { 262_144 }
+    hands.saturating_mul(4).clamp(8192, 262_144)
 }
 
 /// The good ones of some hands. Where the empty cells below the height are no multiple of four there are none.

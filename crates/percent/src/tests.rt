@@ -2,7 +2,7 @@
 ghost use Rattle.std.specs.Prelude.{◌≡◌, ◌≤◌, ◌<◌};
 ghost use Rattle.enumerate.specs.Problem.{IsFit};
 
-use crate::{Answers, rate};
+use crate::{Answers, rate, solvable};
 use enumerate::Problem;
 use hold_queue::Hold;
 use moves::DropMode;
@@ -46,6 +46,47 @@ fn good_count<L: Ledger>(alloc: Global, blank: Blank, problem: &Problem) -> Opti
     match Answers::new(alloc, problem, &mut steps) {
         Ok(answers) => Some(answers.count_good()),
         Err(_) => None,
+    }
+}
+
+/// How many queues are good where each is asked about alone. `None` where that says other than the answers for all.
+fn good_alone<L: Ledger>(alloc: Global, blank: Blank, problem: &Problem) -> Option<u32>
+    requires name { blank.name ≡ L.name }
+    requires parts { blank.parts ≡ L.parts }
+    requires some { 0 < blank.parts }
+    requires fit { IsFit problem.now }
+{
+    let mut steps = Steps::<L>::new(blank);
+    let Ok(answers) = Answers::new(alloc, problem, &mut steps) else {
+        return None;
+    };
+    let mut count = 0u32;
+    for number in 0..problem.pattern.count() {
+        let good = answers.is_good(number);
+        match solvable(alloc, problem, &problem.pattern.queue(number), &mut steps) {
+            Ok(alone) if alone == good => count = count.wrapping_add(u32::from(good)),
+            _ => return None,
+        }
+    }
+    Some(count)
+}
+
+#[test]
+fn queues_alone_and_all_queues_say_the_same(rt: HostRuntime) {
+    let questions: [(&[u8], u8, &str); 3] = [
+        (b"XXXXXX____", 1, "*p2"),
+        (b"XXXXXXXX__/XXXXXX____/XXXXXXXX__", 3, "*p3"),
+        (b"XXXX____XX/XXXX___XXX/XXXX__XXXX/XXXX___XXX", 4, "*p4"),
+    ];
+    for (rows, height, pattern) in questions {
+        for hold in [Hold::Allowed, Hold::Avoided] {
+            if height >= 1 && height <= 8 {
+                let asked = problem(&rt, rows, height, pattern, hold);
+                let all = good_count::<Brand>(rt.alloc(), Blank::new(1), &asked);
+                assert!(rt; all.is_some());
+                assert_eq!(rt; good_alone::<Brand>(rt.alloc(), Blank::new(1), &asked), all);
+            }
+        }
     }
 }
 

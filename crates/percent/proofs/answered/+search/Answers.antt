@@ -1,13 +1,16 @@
 -- Each answer is made of lists whose contracts say what they have.
-use Rattle.std.proofs.Common.{◌≡◌, ℕ, ◌==◌, ◌&&◌, not, length, true, ap, subst, ◌∙◌, sym, arith}
-use Rattle.std.specs.Prelude.{vec_len}
+use Rattle.std.proofs.Common.{◌≡◌, ℕ, ◌==◌, ◌&&◌, Bool, not, List, length, true, refl, ap, subst, ◌∙◌, sym, arith}
+use Rattle.std.specs.Prelude.{vec_len, IsPermutation}
+use Rattle.srs.specs.declared.piece.Piece.{Piece}
+use Rattle.srs.specs.Piece.{all_pieces}
 use Rattle.std.proofs.lemmas.Bool.Decides.{nat_tests}
 use Rattle.std.proofs.lemmas.List.{nil_from_length}
+use Rattle.std.proofs.lemmas.List.Sorted.{length_permutation}
 use Rattle.well.specs.Well.{filled}
-use Rattle.number_sets.specs.Rising.{IsRising, has}
+use Rattle.number_sets.specs.Rising.{has}
 use Rattle.number_sets.proofs.CallerLemmas.{has-none}
 use Rattle.percent.specs.GoodHands.{is_good, is_good_after, is_good_at}
-use Rattle.percent.proofs.GoodSteps.{good-ends, answer-known, explore-ends, explore-step, try-ends, try-step, try-starts, ok-map}
+use Rattle.percent.proofs.GoodSteps.{good-ends, answer-kept, answer-known, answer-none, explore-ends, explore-step, try-ends, try-step, try-starts, ok-map}
 use Rattle.percent.proofs.answered.+search.Goals as goal
 
 pub answered-returns-then-left-eq0-clause-members : goal.answered-returns-then-left-eq0-clause-members
@@ -17,25 +20,44 @@ answered-returns-then-left-eq0-clause-members g t c =
     c.answered_at_end.ensures.members
 
 pub answered-returns-then-is_empty-clause-members : goal.answered-returns-then-is_empty-clause-members
-answered-returns-then-is_empty-clause-members g t c =
+answered-returns-then-is_empty-clause-members g t c = λ hand.
     let p = c.args.position.now in
-    let none : (vec_len c.in_ok-known.unknown == 0) ≡ true = sym c.is_empty.ensures ∙ c.if-is_empty.true in
+    let none : (length c.args.hands.now == 0) ≡ true = sym c.is_empty.ensures ∙ c.if-is_empty.true in
+    let short : length c.args.hands.now ≡ 0 = grind (arith, nat_tests) in
+    let nil = nil_from_length c.args.hands.now short in
+    rw c.new.ensures.items
+    (has-none hand ∙ sym (ap (λ b. b && is_good c.args.kept.now.game (filled p.well) p.rows c.args.left hand) (ap (λ l. has l hand) nil ∙ has-none hand)))
+
+pub answered-returns-then-is_empty-2-clause-members : goal.answered-returns-then-is_empty-2-clause-members
+answered-returns-then-is_empty-2-clause-members g t c =
+    let p = c.args.position.now in
+    let none : (vec_len c.in_ok-fit.fit == 0) ≡ true = sym c.is_empty-2.ensures ∙ c.if-is_empty-2.true in
+    let short : length c.in_ok-fit.fit.items ≡ 0 = grind (arith, nat_tests) in
+    answer-none c.in_ok-fit.fit.items c.args.hands.now (is_good c.args.kept.now.game (filled p.well) p.rows c.args.left) (nil_from_length c.in_ok-fit.fit.items short)
+    (c.in_ok-fit.ensures.members c.args.kept.now.game)
+
+pub answered-returns-then-is_empty-3-clause-members : goal.answered-returns-then-is_empty-3-clause-members
+answered-returns-then-is_empty-3-clause-members g t c =
+    let p = c.args.position.now in
+    let good : ℕ → Bool = is_good c.args.kept.now.game (filled p.well) p.rows c.args.left in
+    let none : (vec_len c.in_ok-known.unknown == 0) ≡ true = sym c.is_empty-3.ensures ∙ c.if-is_empty-3.true in
     let short : length c.in_ok-known.unknown.items ≡ 0 = grind (arith, nat_tests) in
     let nil = nil_from_length c.in_ok-known.unknown.items short in
-    answer-known c.in_ok-known.known.items c.in_ok-known.unknown.items c.args.hands.now (is_good c.args.kept.now.game (filled p.well) p.rows c.args.left) c.in_ok-known.ensures.members
+    answer-known c.in_ok-known.known.items c.in_ok-known.unknown.items c.args.hands.now good
+    (λ hand. c.in_ok-known.ensures.members hand ∙ answer-kept c.in_ok-fit.fit.items c.as_slice.result.now c.args.hands.now good c.as_slice.ensures.value (c.in_ok-fit.ensures.members c.args.kept.now.game) hand)
     (λ hand. ap (λ l. has l hand) nil ∙ has-none hand)
 
-pub answered-merged-requires-clause-a_rises : goal.answered-merged-requires-clause-a_rises
-answered-merged-requires-clause-a_rises g t c = subst IsRising (sym c.as_slice-6.ensures.value) c.in_ok-known.ensures.good_rises
+seven : (order : List Piece) → IsPermutation all_pieces order → length order ≡ 7
+seven order same = length_permutation all_pieces order same
 
 pub explored-loop-piece-preserved : goal.explored-loop-piece-preserved
 explored-loop-piece-preserved g t c =
     let p = c.args.position.now in
-    explore-step c.args.kept.now.game c.loop-piece.kept.game c.tried.new.kept.game (filled p.well) p.rows c.args.left c.args.hands.now
+    explore-step c.wanted_first-piece-items.result c.args.kept.now.game c.loop-piece.kept.game c.tried.new.kept.game (filled p.well) p.rows c.args.left c.args.hands.now
     c.loop-piece.open.items c.as_slice.result.now c.as_slice-in-loop-piece-2.result.now
     c.in_ok-rests.rests.items c.as_slice-in-loop-piece.result.now c.in_ok-good.good.items c.as_slice-in-loop-piece-3.result.now c.in_ok-open-2.open.items
     c.args.steps.now c.loop-piece.steps c.tried.new.steps c.loop-piece.piece-index _
-    c.loop-piece.invariant c.loop-piece-test.true
+    c.loop-piece.invariant (omega (arith, seven c.wanted_first-piece-items.result c.wanted_first-piece-items.ensures, c.loop-piece-test.true))
     c.as_slice.ensures.value c.in_ok-rests.ensures.members
     c.as_slice-in-loop-piece.ensures.value c.in_ok-good.ensures.members
     c.in_ok-good.ensures.game c.in_ok-good.ensures.counted
@@ -45,8 +67,8 @@ pub explored-returns-clause-members : goal.explored-returns-clause-members
 explored-returns-clause-members g t c =
     let p = c.args.position.now in
     ok-map c.without.result _ _
-    (λ v h. explore-ends c.args.kept.now.game c.loop-piece.kept.game (filled p.well) p.rows c.args.left c.args.hands.now c.loop-piece.open.items v.items c.args.steps.now c.loop-piece.steps c.loop-piece.piece-index
-    c.loop-piece.invariant c.loop-piece-test.false (λ hand. h hand ∙ ap (λ l. has c.args.hands.now hand && not (has l hand)) c.as_slice-2.ensures.value))
+    (λ v h. explore-ends c.wanted_first-piece-items.result c.args.kept.now.game c.loop-piece.kept.game (filled p.well) p.rows c.args.left c.args.hands.now c.loop-piece.open.items v.items c.args.steps.now c.loop-piece.steps c.loop-piece.piece-index
+    c.wanted_first-piece-items.ensures c.loop-piece.invariant (omega (arith, seven c.wanted_first-piece-items.result c.wanted_first-piece-items.ensures, c.loop-piece-test.false)) (λ hand. h hand ∙ ap (λ l. has c.args.hands.now hand && not (has l hand)) c.as_slice-2.ensures.value))
     c.without.ensures.members
 
 pub tried-returns-then-is_empty-clause-members : goal.tried-returns-then-is_empty-clause-members
@@ -66,19 +88,19 @@ tried-loop-child-init g t c =
 pub tried-loop-child-preserved : goal.tried-loop-child-preserved
 tried-loop-child-preserved g t c =
     try-step c.args.kept.now.game c.loop-child.kept.game c.answered.new.kept.game c.args.left c.deref-child-items.result.now c.args.rests.now
-    c.loop-child.open.items c.as_slice.result.now c.as_slice-in-loop-child.result.now c.in_ok-good.good.items c.as_slice-in-loop-child-2.result.now c.in_ok-open-2.open.items
+    c.loop-child.open.items c.as_slice.result.now c.loop-child.open.items c.in_ok-good.good.items c.as_slice-in-loop-child.result.now c.in_ok-open-2.open.items
     c.args.steps.now c.loop-child.steps c.answered.new.steps c.loop-child.child-index c.child-item.result
     c.loop-child.invariant c.loop-child-test.true (sym c.child-item.is)
     c.as_slice.ensures.value c.in_ok-good.ensures.members
     c.in_ok-good.ensures.game c.in_ok-good.ensures.counted
-    c.in_ok-open-2.ensures.rises c.as_slice-in-loop-child.ensures.value c.as_slice-in-loop-child-2.ensures.value c.in_ok-open-2.ensures.members
+    c.in_ok-open-2.ensures.rises refl c.as_slice-in-loop-child.ensures.value c.in_ok-open-2.ensures.members
 
 pub tried-returns-clause-members : goal.tried-returns-clause-members
 tried-returns-clause-members g t c =
     let p = c.args.position.now in
-    ok-map c.without-2.result _ _
+    ok-map c.without.result _ _
     (λ v h. try-ends c.args.kept.now.game c.loop-child.kept.game (filled p.well) p.rows c.args.piece c.args.left c.deref-child-items.result.now c.args.rests.now c.loop-child.open.items v.items
     c.args.steps.now c.loop-child.steps c.loop-child.child-index c.loop-child.invariant c.loop-child-test.false
     (subst (λ l. (left hand : ℕ) → is_good_at c.args.kept.now.game l left hand ≡ is_good_after c.args.kept.now.game (filled p.well) p.rows c.args.piece left hand) (sym c.deref-child-items.ensures.value) c.in_ok-children.ensures.good)
     (λ rest. h rest ∙ ap (λ l. has c.args.rests.now rest && not (has l rest)) c.as_slice-2.ensures.value))
-    c.without-2.ensures.members
+    c.without.ensures.members

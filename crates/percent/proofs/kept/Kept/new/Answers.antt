@@ -1,11 +1,19 @@
 -- Nothing is kept at the start.
-use Rattle.std.proofs.Common.{All, subst, sym}
-use Rattle.std.proofs.lemmas.List.Elements.{All-push}
-use Rattle.percent.specs.Kept.{IsTrueSlot}
-use Rattle.percent.proofs.KeptLemmas.{empty-slot}
+use Rattle.std.proofs.Common.{All, subst, sym, ◌∙◌, ap}
+use Rattle.std.proofs.lemmas.List.Elements.{All-push, All-nil}
+use Rattle.percent.specs.Kept.{answers_in, IsTrueSlot}
+use Rattle.percent.proofs.KeptLemmas.{empty-more, empty-slot, none-in}
 use Rattle.percent.proofs.kept.Kept.new.Goals as goal
 
+pub loop-init : goal.loop-init
+loop-init c = (
+  subst (All (IsTrueSlot c.args.game)) (sym c.in_ok-slots.ensures.items) (All-nil (IsTrueSlot c.args.game)),
+  none-in c.in_ok-slots.slots.items c.in_ok-slots.ensures.items,
+)
+
 pub loop-preserved : goal.loop-preserved
-loop-preserved c =
-    subst (All (IsTrueSlot c.args.game)) (sym c.in_ok-push.ensures.items)
-    (All-push (IsTrueSlot c.args.game) c.loop.slots.items _ c.loop.invariant (empty-slot c.args.game _ c.new.ensures.items c.new-in-loop.ensures.items))
+loop-preserved c = (
+  subst (All (IsTrueSlot c.args.game)) (sym c.in_ok-push.ensures.items)
+      (All-push (IsTrueSlot c.args.game) c.loop.slots.items _ c.loop.invariant.0 (empty-slot c.args.game _ c.empty.ensures.found c.empty.ensures.missed)),
+  ap answers_in c.in_ok-push.ensures.items ∙ empty-more c.loop.slots.items _ c.loop.invariant.1 c.empty.ensures.found c.empty.ensures.missed,
+)

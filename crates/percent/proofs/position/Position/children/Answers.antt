@@ -1,5 +1,5 @@
 -- The places come in order, and each that lies below the rows left is entered.
-use Rattle.std.proofs.Common.{◌≡◌, [], length, IsTrue, ap, subst, sym, arith}
+use Rattle.std.proofs.Common.{◌≡◌, ◌∙◌, [], length, IsTrue, ap, subst, sym, arith}
 use Rattle.std.specs.Prelude.{Option, Some, None}
 use Rattle.lane_board.specs.Field.{Field}
 use Rattle.srs.specs.declared.piece.Piece.{Piece}
@@ -11,7 +11,7 @@ use Rattle.reach.specs.declared.held.Places.{Places}
 use Rattle.reach.specs.Places.{holds}
 use Rattle.enumerate.proofs.CallerLemmas.{free-inside}
 use Rattle.percent.specs.declared.game.Game.{Game}
-use Rattle.percent.proofs.PlaceLemmas.{Held, NextPlace, next-place, places_above, follow-starts, follow-more, follow-pass, follow-ends}
+use Rattle.percent.proofs.PlaceLemmas.{Held, NextPlace, next-place, places_above, follow-starts, follow-more, follow-pass, follow-ends, in-any-order}
 use Rattle.percent.proofs.position.Position.children.Goals as goal
 
 -- what the next placement is, where the bound is that of the loop
@@ -60,7 +60,9 @@ loop-placement-preserved g c =
     )
 
 pub returns-clause-good : goal.returns-clause-good
-returns-clause-good g c =
-    let none : places_above c.args.game.now (filled c.args.self.now.well) c.args.piece c.loop-placement.last ≡ [] =
-    next c.args.game.now (filled c.args.self.now.well) c.args.piece c.places-places.result c.places-places.ensures.held c.loop-placement.last _ None c.as_ref.ensures.value c.in_default.ensures in
-    follow-ends c.args.game.now (filled c.args.self.now.well) c.args.self.now.rows c.args.piece c.loop-placement.children.items c.loop-placement.last c.loop-placement.invariant.0 none
+returns-clause-good g c = λ left hand.
+    let F = filled c.args.self.now.well in
+    let none : places_above c.args.game.now F c.args.piece c.loop-placement.last ≡ [] =
+    next c.args.game.now F c.args.piece c.places-places.result c.places-places.ensures.held c.loop-placement.last _ None c.as_ref.ensures.value c.in_default.ensures in
+    in-any-order c.args.game.now c.loop-placement.children.items c.sort_unstable_by_key.new.self.items left hand c.sort_unstable_by_key.ensures.permutation
+    ∙ follow-ends c.args.game.now F c.args.self.now.rows c.args.piece c.loop-placement.children.items c.loop-placement.last c.loop-placement.invariant.0 none left hand

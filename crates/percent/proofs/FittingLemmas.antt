@@ -1,0 +1,251 @@
+-- Hands that are left out are not good, one hand on.
+use Rattle.std.proofs.Common.{ℕ, suc, ◌≡◌, ◌+◌, ◌-◌, ◌/◌, ◌%◌, ◌<◌, ◌≤◌, Bool, true, false, ◌&&◌, ◌||◌, ◌==◌, cond, List, [], ◌∷◌, ◌++◌, length, length-set, get_or, take, refl, sym, ap, subst, ◌∙◌, inl, inr, arith}
+use Rattle.std.proofs.Common.{set as list_set, slice_index}
+use Rattle.std.proofs.Math.Path.{fun_ext}
+use Rattle.std.proofs.lemmas.List.{get_or-set_other}
+use Rattle.std.proofs.lemmas.Grind.{get_or-set_at}
+use Rattle.std.proofs.lemmas.Bool.{cases_eq, false_from_ne_true, false≢true, eqb-true}
+use Rattle.std.proofs.lemmas.Bool.Decides.{nat_tests}
+use Rattle.lane_board.specs.Field.{difference, rows_below}
+use Rattle.srs.specs.declared.piece.Piece.{Piece}
+use Rattle.srs.specs.declared.piece.Piece.TheVariants.{I, L, O, Z, T, J, S}
+use Rattle.srs.specs.Piece.{piece_code}
+use Rattle.well.specs.Well.{filled}
+use Rattle.prune.specs.Tiling.{Supply, Tiling, supply_in}
+use Rattle.prune.proofs.CallerLemmas.{more_pieces}
+use Rattle.packing.specs.declared.empties.Empties.{Empties}
+use Rattle.packing.specs.Empties.{all_but, empty_cells}
+use Rattle.packing.proofs.CallerLemmas.{tiling_below}
+use Rattle.number_sets.specs.Rising.{IsRising, AllBelow, has}
+use Rattle.number_sets.proofs.CallerLemmas.{has-none, has-push, has-more, has-all, rising-none, rising-push, below-push, below-more}
+use Rattle.enumerate.proofs.CallerLemmas.{IsLow}
+use Rattle.percent.specs.declared.game.Game.{Game}
+use Rattle.percent.specs.declared.position.Position.{Position}
+use Rattle.percent.specs.declared.fitting.Verdict.{Verdict}
+use Rattle.percent.specs.Fitting.{codes_in, supply_at, supply_by, IsTrueVerdict}
+use Rattle.percent.specs.GoodHands.{is_good}
+use Rattle.percent.proofs.HandLemmas.{code-few}
+use Rattle.percent.proofs.TiledLemmas.{codes-few, good-tiled}
+
+low-position : (p : Position) → IsLow (filled p.well) p.rows
+low-position p = record { none = p.below.none; within = omega (arith, p.few) }
+
+-- where pieces of a supply that has those of a hand have no tiling, the hand is not good
+untiled : (game : Game) (p : Position) (left hand count : ℕ) (supply : Supply) → suc left ≤ count → ((piece : Piece) → supply_at count hand piece ≤ supply piece)
+    → (Tiling (filled p.well) p.rows supply → ⊥) → is_good game (filled p.well) p.rows left hand ≡ false
+untiled game p left hand count supply enough more none = false_from_ne_true _ (λ good.
+    none (more_pieces (filled p.well) p.rows (supply_at count hand) supply more (good-tiled game (filled p.well) p.rows left hand count (low-position p) enough good)))
+
+pub refused : (game : Game) (p : Position) (left hand count : ℕ) (supply : Supply) → count ≡ left + 1 → count ≤ 21 → ((piece : Piece) → 21 ≤ supply piece)
+    → (Tiling (filled p.well) p.rows supply → ⊥) → is_good game (filled p.well) p.rows left hand ≡ false
+unfolding supply_at
+refused game p left hand count supply one few many none =
+    untiled game p left hand count supply (omega (arith, one)) (λ piece. let most = codes-few count hand (piece_code piece) in let enough = many piece in omega (arith, few)) none
+
+pub unfit : (game : Game) (p : Position) (cells : Empties) (counts : List ℕ) (left hand count : ℕ) → count ≡ left + 1
+    → empty_cells cells ≡ difference (rows_below p.rows) (filled p.well)
+    → ((code : ℕ) → code < 8 → codes_in count hand code ≤ get_or counts code 0)
+    → (Tiling (all_but (empty_cells cells)) 8 (supply_by counts) → ⊥) → is_good game (filled p.well) p.rows left hand ≡ false
+unfolding supply_at supply_by
+unfit game p cells counts left hand count one cells_are most none =
+    untiled game p left hand count (supply_by counts) (omega (arith, one)) (λ piece. most (piece_code piece) (let few = code-few piece in omega arith))
+    (λ tiled. none (subst (λ E. Tiling (all_but E) 8 (supply_by counts)) (sym cells_are) ((tiling_below (filled p.well) p.rows 8 (supply_by counts) p.few).1 tiled)))
+
+-- of pieces that may fit nothing is said
+pub new-verdict : (cells : Empties) (verdict : Verdict) → verdict.may_fit ≡ true → IsTrueVerdict cells verdict
+new-verdict cells verdict may = record { holds = λ no _. false≢true (sym no ∙ may) }
+
+-- ---- the hands that are kept
+
+all_bad : (a b g : Bool) → g ≡ false → (a && g) ≡ (b && g)
+all_bad true true g h = refl
+all_bad true false g h = h
+all_bad false true g h = sym h
+all_bad false false g h = refl
+
+-- where no hand is good none need be kept
+pub none-kept : (v hands : List ℕ) (good : ℕ → Bool) → ((hand : ℕ) → has hands hand ≡ true → good hand ≡ false) → v ≡ [] → (hand : ℕ) → (has v hand && good hand) ≡ (has hands hand && good hand)
+none-kept v hands good bad nil hand = ap (λ b. b && good hand) (ap (λ l. has l hand) nil ∙ has-none hand) ∙ by (has hands hand) (good hand) (bad hand)
+  where
+    by : (a g : Bool) → (a ≡ true → g ≡ false) → false ≡ (a && g)
+    by true g h = sym (h refl)
+    by false g h = refl
+
+-- of the first i hands those that are good are kept
+pub record Sifting (good : Game → ℕ → Bool) (hands v : List ℕ) (i : ℕ) : Type 0 where
+  pub rises : IsRising v
+  pub members : (game : Game) (hand : ℕ) → (has v hand && good game hand) ≡ (has (take i hands) hand && good game hand)
+  pub below : i < length hands → AllBelow v (get_or hands i 0)
+
+pub sift-starts : (good : Game → ℕ → Bool) (hands v : List ℕ) → v ≡ [] → Sifting good hands v 0
+sift-starts good hands v nil = record {
+  rises = rw nil rising-none;
+  members = λ game hand. ap (λ b. b && good game hand) (ap (λ l. has l hand) nil ∙ has-none hand ∙ sym (has-none hand));
+  below = λ _ k low. let none = ap length nil in absurd (omega (arith, none));
+}
+
+pushed : (a b e g : Bool) → (a && g) ≡ (b && g) → ((a || e) && g) ≡ ((b || e) && g)
+pushed true true e g h = refl
+pushed true false true g h = refl
+pushed true false false g h = h
+pushed false true true g h = refl
+pushed false true false g h = h
+pushed false false e g h = refl
+
+passed : (a b e g : Bool) → (a && g) ≡ (b && g) → (e ≡ true → g ≡ false) → (a && g) ≡ ((b || e) && g)
+passed a true e g h bad = h
+passed a false false g h bad = h
+passed a false true g h bad = h ∙ sym (bad refl)
+
+pub sift-push : (good : Game → ℕ → Bool) (hands v : List ℕ) (i : ℕ) → IsRising hands → Sifting good hands v i → i < length hands → Sifting good hands (v ++ get_or hands i 0 ∷ []) (i + 1)
+sift-push good hands v i up state in_hands = record {
+  rises = rising-push v (get_or hands i 0) state.rises (state.below in_hands);
+  members = λ game hand. ap (λ b. b && good game hand) (has-push v (get_or hands i 0) hand)
+      ∙ pushed (has v hand) (has (take i hands) hand) (get_or hands i 0 == hand) (good game hand) (state.members game hand)
+      ∙ ap (λ b. b && good game hand) (sym (has-more hands i hand in_hands));
+  below = λ more. let next = up i (i + 1) (omega arith) more in
+      below-push v (get_or hands i 0) (get_or hands (i + 1) 0) (below-more v (get_or hands i 0) (get_or hands (i + 1) 0) (state.below in_hands) (omega arith)) next;
+}
+
+pub sift-pass : (good : Game → ℕ → Bool) (hands v : List ℕ) (i : ℕ) → IsRising hands → Sifting good hands v i → i < length hands → ((game : Game) → good game (get_or hands i 0) ≡ false) → Sifting good hands v (i + 1)
+sift-pass good hands v i up state in_hands bad = record {
+  rises = state.rises;
+  members = λ game hand. passed (has v hand) (has (take i hands) hand) (get_or hands i 0 == hand) (good game hand) (state.members game hand)
+      (λ same. ap (good game) (sym (eqb-true (get_or hands i 0) hand same)) ∙ bad game)
+      ∙ ap (λ b. b && good game hand) (sym (has-more hands i hand in_hands));
+  below = λ more. let next = up i (i + 1) (omega arith) more in
+      below-more v (get_or hands i 0) (get_or hands (i + 1) 0) (state.below in_hands) (omega arith);
+}
+
+pub sift-ends : (good : Game → ℕ → Bool) (hands v : List ℕ) (i : ℕ) → length hands ≤ i → Sifting good hands v i → (game : Game) (hand : ℕ) → (has v hand && good game hand) ≡ (has hands hand && good game hand)
+sift-ends good hands v i all state game hand = state.members game hand ∙ ap (λ b. b && good game hand) (has-all hands i hand all)
+
+-- ---- the greatest counts
+
+-- the counts are as great as those of each of the first i hands
+pub record Covering (hands counts : List ℕ) (pieces i : ℕ) : Type 0 where
+  pub each : (hand : ℕ) → has (take i hands) hand ≡ true → (code : ℕ) → code < 8 → codes_in pieces hand code ≤ get_or counts code 0
+
+pub cover-starts : (hands counts : List ℕ) (pieces : ℕ) → Covering hands counts pieces 0
+cover-starts hands counts pieces = record { each = λ hand there. let none = has-none hand in cc }
+
+either : (a b : Bool) → (a || b) ≡ true → (a ≡ false → b ≡ true)
+either true b h none = absurd (apart none)
+  where
+    apart : true ≡ false → ⊥
+    apart e = cc
+either false b h none = h
+
+pub cover-more : (hands counts more next : List ℕ) (pieces i : ℕ) → Covering hands counts pieces i → i < length hands
+    → ((code : ℕ) → code < 8 → get_or more code 0 ≡ codes_in pieces (get_or hands i 0) code)
+    → ((code : ℕ) → code < 8 → get_or counts code 0 ≤ get_or next code 0) → ((code : ℕ) → code < 8 → get_or more code 0 ≤ get_or next code 0)
+    → Covering hands next pieces (i + 1)
+cover-more hands counts more next pieces i state in_hands more_is first second = record {
+  each = λ hand there code few. at hand code few (has (take i hands) hand) refl (sym (has-more hands i hand in_hands) ∙ there);
+}
+  where
+    at : (hand code : ℕ) → code < 8 → (b : Bool) → has (take i hands) hand ≡ b → (has (take i hands) hand || get_or hands i 0 == hand) ≡ true → codes_in pieces hand code ≤ get_or next code 0
+    at hand code few true old there = let before = state.each hand old code few in let step = first code few in omega arith
+    at hand code few false old there =
+        let same : get_or hands i 0 ≡ hand = eqb-true (get_or hands i 0) hand (either (has (take i hands) hand) (get_or hands i 0 == hand) there old) in
+        let is = more_is code few in
+        let step = second code few in
+        let equal = ap (λ n. codes_in pieces n code) same in
+        omega (arith, equal)
+
+pub cover-ends : (hands counts : List ℕ) (pieces i : ℕ) → length hands ≤ i → Covering hands counts pieces i
+    → (hand : ℕ) → has hands hand ≡ true → (code : ℕ) → code < 8 → codes_in pieces hand code ≤ get_or counts code 0
+cover-ends hands counts pieces i all state hand there = state.each hand (has-all hands i hand all ∙ there)
+
+-- ---- counts one by one
+
+-- the entries behind the first are the supply
+pub entries-supply : (counts : List ℕ) → supply_in (slice_index counts 1 ∷ slice_index counts 2 ∷ slice_index counts 3 ∷ slice_index counts 4 ∷ slice_index counts 5 ∷ slice_index counts 6 ∷ slice_index counts 7 ∷ []) ≡ supply_by counts
+unfolding supply_in supply_by
+entries-supply counts = fun_ext read
+  where
+    read : (piece : Piece) → supply_in (slice_index counts 1 ∷ slice_index counts 2 ∷ slice_index counts 3 ∷ slice_index counts 4 ∷ slice_index counts 5 ∷ slice_index counts 6 ∷ slice_index counts 7 ∷ []) piece ≡ supply_by counts piece
+    read I = refl
+    read L = refl
+    read O = refl
+    read Z = refl
+    read T = refl
+    read J = refl
+    read S = refl
+
+-- the counts and those of the rest make up the whole hand
+pub record Tallying (hand pieces i : ℕ) (counts : List ℕ) (rest : ℕ) : Type 0 where
+  pub is : (code : ℕ) → code < 8 → get_or counts code 0 + codes_in (pieces - i) rest code ≡ codes_in pieces hand code
+  pub few : (code : ℕ) → get_or counts code 0 ≤ i
+  pub size : length counts ≡ 8
+
+pub tally-starts : (hand pieces : ℕ) (counts : List ℕ) → length counts ≡ 8 → ((code : ℕ) → get_or counts code 0 ≡ 0) → Tallying hand pieces 0 counts hand
+tally-starts hand pieces counts size none = record {
+  is = λ code few.
+      let there = none code in
+      let all : pieces - 0 ≡ pieces = omega arith in
+      let same = ap (λ n. codes_in n hand code) all in
+      omega (arith, there, same);
+  few = λ code. let there = none code in omega arith;
+  size = size;
+}
+
+pub tally-more : (hand pieces i : ℕ) (counts : List ℕ) (rest : ℕ) → i < pieces → Tallying hand pieces i counts rest
+    → Tallying hand pieces (i + 1) (list_set counts (rest % 8) (get_or counts (rest % 8) 0 + 1)) (rest / 8)
+unfolding codes_in
+tally-more hand pieces i counts rest more state = let size = state.size in record {
+  size = length-set counts (rest % 8) (get_or counts (rest % 8) 0 + 1) ∙ size;
+  is = λ code few.
+      let one : pieces - i ≡ suc (pieces - (i + 1)) = omega arith in
+      let before = ap (λ n. get_or counts code 0 + codes_in n rest code) (sym one) ∙ state.is code few in
+      elim (cases_eq code (rest % 8)) [
+        | inl same ↦
+            let put = get_or-set_at counts (rest % 8) code (get_or counts (rest % 8) 0 + 1) 0 same (omega arith) in
+            let passes : (rest % 8 == code) ≡ true = grind (arith, nat_tests) in
+            let equal = ap (λ c. get_or counts c 0) same in
+            let split = ap (λ b. get_or counts code 0 + (cond b 1 0 + codes_in (pieces - (i + 1)) (rest / 8) code)) (sym passes) ∙ before in
+            omega (arith, put, equal, split)
+        | inr apart ↦
+            let put = get_or-set_other counts (rest % 8) code (get_or counts (rest % 8) 0 + 1) 0 apart in
+            let fails : (rest % 8 == code) ≡ false = grind (arith, nat_tests) in
+            let split = ap (λ b. get_or counts code 0 + (cond b 1 0 + codes_in (pieces - (i + 1)) (rest / 8) code)) (sym fails) ∙ before in
+            omega (arith, put, split)
+      ];
+  few = λ code. elim (cases_eq code (rest % 8)) [
+    | inl same ↦
+        let put = get_or-set_at counts (rest % 8) code (get_or counts (rest % 8) 0 + 1) 0 same (omega arith) in
+        let old = state.few (rest % 8) in omega arith
+    | inr apart ↦
+        let put = get_or-set_other counts (rest % 8) code (get_or counts (rest % 8) 0 + 1) 0 apart in
+        let old = state.few code in omega arith
+  ];
+}
+
+pub tally-ends : (hand pieces i : ℕ) (counts : List ℕ) (rest : ℕ) → pieces ≤ i → Tallying hand pieces i counts rest → (code : ℕ) → code < 8 → get_or counts code 0 ≡ codes_in pieces hand code
+unfolding codes_in
+tally-ends hand pieces i counts rest all state code few =
+    let none : pieces - i ≡ 0 = omega arith in
+    let whole = ap (λ n. get_or counts code 0 + codes_in n rest code) (sym none) ∙ state.is code few in
+    omega (arith, whole)
+
+-- the counts of the first codes are as great as both
+pub record Raising (a b counts : List ℕ) (i : ℕ) : Type 0 where
+  pub first : (code : ℕ) → code < i → get_or a code 0 ≤ get_or counts code 0
+  pub second : (code : ℕ) → code < i → get_or b code 0 ≤ get_or counts code 0
+  pub size : length counts ≡ 8
+
+pub raise-starts : (a b counts : List ℕ) → length counts ≡ 8 → Raising a b counts 0
+raise-starts a b counts size = record { size = size; first = λ code low. absurd (omega arith); second = λ code low. absurd (omega arith) }
+
+pub raise-more : (a b counts : List ℕ) (i most : ℕ) → i < 8 → Raising a b counts i → get_or a i 0 ≤ most → get_or b i 0 ≤ most → Raising a b (list_set counts i most) (i + 1)
+raise-more a b counts i most low8 state first second = let within : i < length counts = let size = state.size in omega arith in record {
+  size = length-set counts i most ∙ state.size;
+  first = λ code low. elim (cases_eq code i) [
+    | inl same ↦ let put = get_or-set_at counts i code most 0 same within in let equal = ap (λ c. get_or a c 0) same in omega (arith, put, equal)
+    | inr apart ↦ let put = get_or-set_other counts i code most 0 apart in let old = state.first code (omega arith) in omega (arith, put)
+  ];
+  second = λ code low. elim (cases_eq code i) [
+    | inl same ↦ let put = get_or-set_at counts i code most 0 same within in let equal = ap (λ c. get_or b c 0) same in omega (arith, put, equal)
+    | inr apart ↦ let put = get_or-set_other counts i code most 0 apart in let old = state.second code (omega arith) in omega (arith, put)
+  ];
+}

@@ -1,0 +1,63 @@
+-- A hand is left out where its pieces fill nothing.
+use Rattle.std.proofs.Common.{◌≤◌, ◌+◌, ◌∙◌, [], ◌∷◌, get_or, refl, sym, ap, arith}
+use Rattle.std.proofs.lemmas.Bool.{false≢true}
+use Rattle.srs.specs.declared.piece.Piece.{Piece}
+use Rattle.srs.specs.declared.piece.Piece.TheVariants.{I, L, O, Z, T, J, S}
+use Rattle.well.specs.Well.{filled}
+use Rattle.prune.specs.Tiling.{supply_in}
+use Rattle.packing.specs.Empties.{empty_cells}
+use Rattle.percent.specs.GoodHands.{is_good}
+use Rattle.percent.proofs.FittingLemmas.{none-kept, refused, sift-ends, sift-pass, sift-push, unfit}
+use Rattle.percent.proofs.fitting.fitting.Goals as goal
+use Rattle.percent.proofs.fitting.fitting.Goals.{then-may_fit+in_ok-push, else-may_fit}
+
+pub returns-then-cheap_no-clause-members : goal.returns-then-cheap_no-clause-members
+unfolding supply_in
+returns-then-cheap_no-clause-members c = λ game.
+    let p = c.args.position.now in
+    none-kept c.new-v.result.items c.args.hands.now (is_good game (filled p.well) p.rows c.args.left)
+    (λ hand _. refused game p c.args.left hand (c.args.left + 1) _ refl (omega (arith, c.requires.few)) many (c.cheap_no.ensures.none c.if-cheap_no.true))
+    c.new-v.ensures.items
+  where
+    many : (piece : Piece) → 21 ≤ supply_in (255 ∷ 255 ∷ 255 ∷ 255 ∷ 255 ∷ 255 ∷ 255 ∷ []) piece
+    many I = omega arith
+    many L = omega arith
+    many O = omega arith
+    many Z = omega arith
+    many T = omega arith
+    many J = omega arith
+    many S = omega arith
+
+pub returns-then-not-fills-clause-members : goal.returns-then-not-fills-clause-members
+returns-then-not-fills-clause-members c = λ game.
+    let p = c.args.position.now in
+    none-kept c.new-v.result.items c.args.hands.now (is_good game (filled p.well) p.rows c.args.left)
+    (λ hand there. unfit game p c.below-cells.result c.greatest_counts.result c.args.left hand (c.args.left + 1) refl c.below-cells.ensures
+    (c.greatest_counts.ensures hand there) (λ tiled. false≢true (sym c.if-not-fills.true ∙ c.fills.ensures.1 tiled)))
+    c.new-v.ensures.items
+
+pub loop-hand-preserved : goal.loop-hand-preserved
+loop-hand-preserved c =
+    let p = c.args.position.now in
+    elim c.if-may_fit.branch [
+      | then-may_fit+in_ok-push w ↦ (
+        rw (w.v-is, w.in_ok-push.ensures.items)
+            (sift-push (λ game. is_good game (filled p.well) p.rows c.args.left) c.args.hands.now c.loop-hand.v.items c.loop-hand.hand-index c.requires.rises c.loop-hand.invariant.0 c.loop-hand-test.true),
+        ap empty_cells c.may_fit.ensures.cells ∙ c.loop-hand.invariant.1,
+      )
+      | else-may_fit w ↦ (
+        rw w.v-is
+            (sift-pass (λ game. is_good game (filled p.well) p.rows c.args.left) c.args.hands.now c.loop-hand.v.items c.loop-hand.hand-index c.requires.rises c.loop-hand.invariant.0 c.loop-hand-test.true
+            (λ game. unfit game p c.loop-hand.verdicts.cells c.counts_of.result c.args.left (get_or c.args.hands.now c.loop-hand.hand-index 0) (c.args.left + 1) refl c.loop-hand.invariant.1
+            (λ code few. let equal = c.counts_of.ensures code few in omega (arith, equal)) (c.may_fit.ensures.none w.if-may_fit.false))),
+        ap empty_cells c.may_fit.ensures.cells ∙ c.loop-hand.invariant.1,
+      )
+    ]
+
+pub returns-clause-rises : goal.returns-clause-rises
+returns-clause-rises c = c.loop-hand.invariant.0.rises
+
+pub returns-clause-members : goal.returns-clause-members
+returns-clause-members c =
+    let p = c.args.position.now in
+    sift-ends (λ game. is_good game (filled p.well) p.rows c.args.left) c.args.hands.now c.loop-hand.v.items c.loop-hand.hand-index c.loop-hand-test.false c.loop-hand.invariant.0

@@ -1,0 +1,55 @@
+// In which order kinds and positions are tried. The answers are the same in any order.
+ghost use Rattle.std.specs.Prelude.{◌≡◌, ◌≤◌, ◌<◌, IsPermutation};
+ghost use Rattle.srs.specs.Piece.{all_pieces};
+
+use hold_queue::Hold;
+use srs::Piece;
+use std::cmp::Reverse;
+use well::Well;
+
+/// How rough the surface of a well below some rows is: the sum of the differences of neighbouring heights, and four for
+/// each hole.
+pub fn roughness(well: &Well, rows: u8) -> u32
+    requires { rows ≤ 8 }
+{
+    let board = well.board();
+    let mut covered = 0;
+    let mut sum = 0u32;
+    for y in (0..rows).rev() {
+        let row = board.row(y);
+        covered |= row;
+        let steps = ((covered ^ covered >> 1) & 511).count_ones();
+        let holes = (covered & !row).count_ones();
+        sum = sum.wrapping_add(steps).wrapping_add(holes.wrapping_mul(4));
+    }
+    sum
+}
+
+/// How many hands want each code: with hold a hand wants its first and its second piece.
+fn wanted_counts(hold: Hold, hands: &[u64]) -> [u32; 8] {
+    let mut wanted = [0u32; 8];
+    for hand in hands {
+        let first = (*hand % 8) as usize;
+        wanted[first] = wanted[first].wrapping_add(1);
+        if let Hold::Allowed = hold {
+            let second = (*hand / 8 % 8) as usize;
+            wanted[second] = wanted[second].wrapping_add(1);
+        }
+    }
+    wanted
+}
+
+/// The count of a kind.
+fn count_of(wanted: &[u32; 8], piece: Piece) -> u32 {
+    wanted[usize::from(piece.code())]
+}
+
+/// All kinds, the one that most hands want first.
+pub fn wanted_first(hold: Hold, hands: &[u64]) -> [Piece; 7]
+    ensures { IsPermutation all_pieces result }
+{
+    let wanted = wanted_counts(hold, hands);
+    let mut kinds = Piece::ALL;
+    kinds.sort_unstable_by_key(|piece| Reverse(count_of(&wanted, *piece)));
+    kinds
+}
