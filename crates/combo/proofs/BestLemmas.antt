@@ -1,11 +1,11 @@
 -- The best of some runs.
-use Rattle.std.proofs.Common.{◌≡◌, ◌≢◌, ℕ, suc, ◌≤◌, true, false, cond, List, [], ◌∷◌, length, refl, ap, sym, subst, ◌∙◌, arith, Option, Some, None, inl, inr, ◌⊎◌, ◌<◌, ◌+◌, map}
+use Rattle.std.proofs.Common.{◌≡◌, ◌≢◌, ℕ, suc, ◌≤◌, true, false, cond, List, [], ◌∷◌, length, refl, ap, sym, subst, ◌∙◌, arith, Option, Some, None, inl, inr, ◌⊎◌, ◌<◌, ◌↔◌}
+use Rattle.std.specs.Option.{option_map}
 use Rattle.std.specs.Ordering.{nat_cmp, is_gt, is_lt, ordering_then, ordering_reverse}
 use Rattle.std.specs.Cmp.{IsTotalOrder}
 use Rattle.std.specs.declared.cmp.Ordering.{Ordering}
 use Rattle.std.specs.declared.cmp.Ordering.TheVariants.{Less, Equal, Greater}
 use Rattle.std.proofs.lemmas.Bool.{cases_Bool, cases_lt, false≢true}
-use Rattle.std.proofs.lemmas.List.{length-map}
 use Rattle.std.proofs.lemmas.Cmp.{upto, tied_itself, then_total, back_total, on_total, nat_cmp_total}
 use Rattle.lane_board.specs.Field.{Field}
 use Rattle.lists.specs.Rising.{is_above, IsLeastAbove, NoneAbove}
@@ -13,17 +13,20 @@ use Rattle.lists.proofs.CallerLemmas.{below_is_less}
 use Rattle.srs.specs.declared.piece.Piece.{Piece}
 use Rattle.srs.specs.declared.placement.Placement.{Placement}
 use Rattle.srs.specs.Kick.{Table}
+use Rattle.srs.specs.Piece.{piece_code}
+use Rattle.srs.specs.Rotation.{rotation_place}
 use Rattle.srs.specs.Order.{placement_cmp, sequence_cmp}
 use Rattle.srs.proofs.CallerLemmas.{placement_cmp-total, sequence_cmp-first, sequence_cmp-total, placement_cmp-antisymmetric}
 use Rattle.well.specs.Lock.{locked, rows_removed}
 use Rattle.moves.specs.declared.key.DropMode.{DropMode}
 use Rattle.moves.specs.Place.{IsPlace}
 use Rattle.hold_queue.specs.declared.hold.Hold.{Hold}
-use Rattle.hold_queue.specs.Permits.{Way}
+use Rattle.hold_queue.specs.Permits.{Way, Permits}
 use Rattle.combo.specs.Longest.{IsPermittedRun, IsLongest}
-use Rattle.combo.specs.Best.{run_cmp, IsBest, GoesOn, GoesOnIf, GoesOnUpTo, IsUpTo}
-use Rattle.combo.specs.Turns.{Next, held_count, plain_next, hold_next}
-use Rattle.combo.proofs.TurnLemmas.{made, permitted_short, way_next, plain_way, hold_way}
+use Rattle.combo.specs.Best.{run_cmp, IsBest, GoesOn, GoesOnIf, GoesOnEither, GoesOnUpTo, IsUpTo, AreNoLonger}
+use Rattle.combo.specs.declared.hand.Turn.{Turn}
+use Rattle.combo.specs.Turns.{Next, ComesBefore, next_of, plain_next, hold_next}
+use Rattle.combo.proofs.TurnLemmas.{made, way_next, plain_way, hold_way}
 
 run_total : IsTotalOrder run_cmp
 run_total = then_total (back_total (on_total length nat_cmp_total)) sequence_cmp-total
@@ -200,28 +203,76 @@ to_turn : (table : Table) (mode : DropMode) (hold : Hold) (F : Field) (queue : L
 to_turn table mode hold F queue held turn q run rest after is place removes permitted =
     subst (λ t. GoesOnIf table mode hold F t (q ∷ run)) (sym is) (refl, place, removes, permitted)
 
-pub best_turn : (table : Table) (mode : DropMode) (hold : Hold) (F : Field) (queue : List Piece) (held : Option Piece) (first second : Option Next) (one other : List Placement)
-    → first ≡ plain_next queue held → second ≡ hold_next hold queue held → IsBest (GoesOnIf table mode hold F first) one → IsBest (GoesOnIf table mode hold F second) other
-    → IsBest (IsPermittedRun table mode F hold queue held) (taken one other)
-best_turn table mode hold F queue held first second one other first_is second_is one_best other_best =
-    best_of_two one other one_best other_best divided
-    (from_turn table mode hold F queue held first (λ next is. plain_way hold queue held next (sym first_is ∙ is)))
-    (from_turn table mode hold F queue held second (λ next is. hold_way hold queue held next (sym second_is ∙ is)))
-  where
-    none : (turn : Option Next) → GoesOnIf table mode hold F turn []
-    none None = refl
-    none (Some next) = tt
+none : (table : Table) (mode : DropMode) (hold : Hold) (F : Field) (turn : Option Next) → GoesOnIf table mode hold F turn []
+none table mode hold F None = refl
+none table mode hold F (Some next) = tt
 
-    divided : (run : List Placement) → IsPermittedRun table mode F hold queue held run → GoesOnIf table mode hold F first run ⊎ GoesOnIf table mode hold F second run
-    divided [] member = inl (none first)
-    divided (q ∷ run) member =
-        let rest = member.permitted.0 in
-        let after = member.permitted.1 in
-        let permitted : IsPermittedRun table mode (locked F q) hold rest after run = record { runs = member.runs.2; permitted = member.permitted.3 } in
-        elim (way_next hold queue held q.piece rest after member.permitted.2) [
-          | inl is ↦ inl (to_turn table mode hold F queue held first q run rest after (first_is ∙ is) member.runs.0 member.runs.1 permitted)
-          | inr is ↦ inr (to_turn table mode hold F queue held second q run rest after (second_is ∙ is) member.runs.0 member.runs.1 permitted)
-        ]
+-- the permitted runs are those that begin with one of the two turns
+pub permitted_either : (table : Table) (mode : DropMode) (hold : Hold) (F : Field) (queue : List Piece) (held : Option Piece) (first second : Option Next) → first ≡ plain_next queue held → second ≡ hold_next hold queue held
+    → (run : List Placement) → IsPermittedRun table mode F hold queue held run → GoesOnEither table mode hold F first second run
+permitted_either table mode hold F queue held first second first_is second_is [] member = inl (none table mode hold F first)
+permitted_either table mode hold F queue held first second first_is second_is (q ∷ run) member =
+    let rest = member.permitted.0 in
+    let after = member.permitted.1 in
+    let permitted : IsPermittedRun table mode (locked F q) hold rest after run = record { runs = member.runs.2; permitted = member.permitted.3 } in
+    elim (way_next hold queue held q.piece rest after member.permitted.2) [
+      | inl is ↦ inl (to_turn table mode hold F queue held first q run rest after (first_is ∙ is) member.runs.0 member.runs.1 permitted)
+      | inr is ↦ inr (to_turn table mode hold F queue held second q run rest after (second_is ∙ is) member.runs.0 member.runs.1 permitted)
+    ]
+
+pub either_permitted : (table : Table) (mode : DropMode) (hold : Hold) (F : Field) (queue : List Piece) (held : Option Piece) (first second : Option Next) → first ≡ plain_next queue held → second ≡ hold_next hold queue held
+    → (run : List Placement) → GoesOnEither table mode hold F first second run → IsPermittedRun table mode F hold queue held run
+either_permitted table mode hold F queue held first second first_is second_is run (inl is) =
+    from_turn table mode hold F queue held first (λ next same. plain_way hold queue held next (sym first_is ∙ same)) run is
+either_permitted table mode hold F queue held first second first_is second_is run (inr is) =
+    from_turn table mode hold F queue held second (λ next same. hold_way hold queue held next (sym second_is ∙ same)) run is
+
+pub best_turn : (table : Table) (mode : DropMode) (hold : Hold) (F : Field) (queue : List Piece) (held : Option Piece) (first second : Option Next) (run : List Placement)
+    → first ≡ plain_next queue held → second ≡ hold_next hold queue held → IsBest (GoesOnEither table mode hold F first second) run → IsBest (IsPermittedRun table mode F hold queue held) run
+best_turn table mode hold F queue held first second run first_is second_is best =
+    same_best run best (permitted_either table mode hold F queue held first second first_is second_is) (either_permitted table mode hold F queue held first second first_is second_is)
+
+pub swapped : (table : Table) (mode : DropMode) (hold : Hold) (F : Field) (first second : Option Next) (run : List Placement) → GoesOnEither table mode hold F first second run → GoesOnEither table mode hold F second first run
+swapped table mode hold F first second run (inl is) = inr is
+swapped table mode hold F first second run (inr is) = inl is
+
+pub best_swapped : (table : Table) (mode : DropMode) (hold : Hold) (F : Field) (first second : Option Next) (run : List Placement)
+    → IsBest (GoesOnEither table mode hold F first second) run → IsBest (GoesOnEither table mode hold F second first) run
+best_swapped table mode hold F first second run best = same_best run best (swapped table mode hold F second first) (swapped table mode hold F first second)
+
+-- two turns that are the same
+pub best_same : (table : Table) (mode : DropMode) (hold : Hold) (F : Field) (first second : Option Next) (run : List Placement) → first ≡ second
+    → IsBest (GoesOnIf table mode hold F first) run → IsBest (GoesOnEither table mode hold F first second) run
+best_same table mode hold F first second run same best = same_best run best to (λ r is. inl is)
+  where
+    to : (r : List Placement) → GoesOnEither table mode hold F first second r → GoesOnIf table mode hold F first r
+    to r (inl is) = is
+    to r (inr is) = subst (λ turn. GoesOnIf table mode hold F turn r) (sym same) is
+
+pub best_of_either : (table : Table) (mode : DropMode) (hold : Hold) (F : Field) (first second : Option Next) (one other : List Placement)
+    → IsBest (GoesOnIf table mode hold F first) one → IsBest (GoesOnIf table mode hold F second) other → IsBest (GoesOnEither table mode hold F first second) (taken one other)
+best_of_either table mode hold F first second one other a b = best_of_two one other a b (λ run is. is) (λ run is. inl is) (λ run is. inr is)
+
+pub fewer_members : {A B : List Placement → Type 0} (most : ℕ) → AreNoLonger A most → ((run : List Placement) → B run → A run) → AreNoLonger B most
+fewer_members most bound to = record { each = λ run member. bound.each run (to run member) }
+
+-- where no placement can be made
+pub none_best : (table : Table) (mode : DropMode) (hold : Hold) (F : Field) (queue : List Piece) (held : Option Piece) (most : ℕ) (items : List Placement) → most ≡ 0 → items ≡ []
+    → AreNoLonger (IsPermittedRun table mode F hold queue held) most → IsBest (IsPermittedRun table mode F hold queue held) items
+none_best table mode hold F queue held most items zero is bound =
+    subst (IsBest (IsPermittedRun table mode F hold queue held)) (sym is) (record { member = record { runs = tt; permitted = tt }; first = first })
+  where
+    first : (other : List Placement) → IsPermittedRun table mode F hold queue held other → is_gt (run_cmp [] other) ≡ false
+    first [] member = refl
+    first (q ∷ rest) member = absurd (omega (arith, zero, bound.each (q ∷ rest) member))
+
+-- what is at hand may be seen in another way
+pub same_hand : (table : Table) (mode : DropMode) (F : Field) (hold : Hold) (queue after : List Piece) (held holds : Option Piece) (run : List Placement)
+    → ((pieces : List Piece) → Permits hold after holds pieces ↔ Permits hold queue held pieces)
+    → IsBest (IsPermittedRun table mode F hold after holds) run → IsBest (IsPermittedRun table mode F hold queue held) run
+same_hand table mode F hold queue after held holds run same best = same_best run best
+    (λ other member. record { runs = member.runs; permitted = (same _).1 member.permitted })
+    (λ other member. record { runs = member.runs; permitted = (same _).0 member.permitted })
 
 -- the best permitted run is the longest, and the least of those
 pub best_longest : (table : Table) (mode : DropMode) (F : Field) (hold : Hold) (queue : List Piece) (held : Option Piece) (run : List Placement)
@@ -265,10 +316,10 @@ as_long (b ∷ best) q p run up_to above same =
     ∙ ap (λ o. is_gt (ordering_then o (sequence_cmp (b ∷ best) (p ∷ run)))) (tied_itself nat_cmp_total (length (b ∷ best)))
     ∙ ap is_gt (sequence_cmp-first b p best run (before_above b q p up_to above))
 
--- where the best run so far plays all pieces, no later one is better
-pub all_played : (table : Table) (mode : DropMode) (hold : Hold) (F : Field) (next : Next) (q : Placement) (best : List Placement)
-    → IsBest (GoesOnUpTo table mode hold F next (Some q)) best → length best ≡ length next.queue + held_count next.held + 1 → IsBest (GoesOn table mode hold F next) best
-all_played table mode hold F next q best so_far all = record { member = so_far.member.0; first = first }
+-- where the best run so far is as long as can be, no later one is better
+pub as_long_as_can_be : (table : Table) (mode : DropMode) (hold : Hold) (F : Field) (next : Next) (q : Placement) (best : List Placement) (most : ℕ)
+    → IsBest (GoesOnUpTo table mode hold F next (Some q)) best → length best ≡ most → AreNoLonger (GoesOn table mode hold F next) most → IsBest (GoesOn table mode hold F next) best
+as_long_as_can_be table mode hold F next q best most so_far all bound = record { member = so_far.member.0; first = first }
   where
     first : (other : List Placement) → GoesOn table mode hold F next other → is_gt (run_cmp best other) ≡ false
     first [] member = so_far.first [] (tt, tt)
@@ -276,7 +327,47 @@ all_played table mode hold F next q best so_far all = record { member = so_far.m
       | inr below ↦ so_far.first (p ∷ run) (member, below)
       | inl above ↦ elim (cases_lt (length (p ∷ run)) (length best)) [
         | inl less ↦ shorter best (p ∷ run) less
-        | inr le ↦ as_long best q p run so_far.member.1 above
-            (omega (arith, le, all, length-map run (λ placement. placement.piece), permitted_short hold next.queue next.held (map (λ (placement : Placement). placement.piece) run) member.3.permitted))
+        | inr le ↦ as_long best q p run so_far.member.1 above (omega (arith, le, all, bound.each (p ∷ run) member))
       ]
     ]
+
+-- nor is one that begins with a later piece
+abbrev StartsWith : Piece → List Placement → Type 0
+StartsWith piece [] = Unit {0}
+StartsWith piece (q ∷ run) = q.piece ≡ piece
+
+later_piece : (best : List Placement) (p : Placement) (run : List Placement) (piece : Piece) → StartsWith piece best → piece_code piece < piece_code p.piece
+    → length (p ∷ run) ≡ length best → is_gt (run_cmp best (p ∷ run)) ≡ false
+later_piece [] p run piece starts before same = absurd (omega (arith, same))
+later_piece (b ∷ best) p run piece starts before same =
+    let kind : piece_code b.piece < piece_code p.piece = omega (arith, before, ap piece_code starts) in
+    let less : placement_cmp b p ≡ Less =
+    ap (λ o. ordering_then o (ordering_then (nat_cmp (rotation_place b.rotation) (rotation_place p.rotation)) (ordering_then (nat_cmp b.y p.y) (nat_cmp b.x p.x)))) (below_is_less _ _ kind) in
+    ap (λ n. is_gt (ordering_then (nat_cmp n (length (b ∷ best))) (sequence_cmp (b ∷ best) (p ∷ run)))) same
+    ∙ ap (λ o. is_gt (ordering_then o (sequence_cmp (b ∷ best) (p ∷ run)))) (tied_itself nat_cmp_total (length (b ∷ best)))
+    ∙ ap is_gt (sequence_cmp-first b p best run less)
+
+starts : (table : Table) (mode : DropMode) (hold : Hold) (F : Field) (next : Next) (run : List Placement) → GoesOn table mode hold F next run → StartsWith next.piece run
+starts table mode hold F next [] member = tt
+starts table mode hold F next (q ∷ run) member = member.0
+
+pub first_is_best : (table : Table) (mode : DropMode) (hold : Hold) (F : Field) (queue : List Piece) (first second : Option Turn) (best : List Placement) (most : ℕ)
+    → 0 < most → length best ≡ most → ComesBefore first second → IsBest (GoesOnIf table mode hold F (option_map (next_of queue) first)) best
+    → AreNoLonger (GoesOnEither table mode hold F (option_map (next_of queue) first) (option_map (next_of queue) second)) most
+    → IsBest (GoesOnEither table mode hold F (option_map (next_of queue) first) (option_map (next_of queue) second)) best
+first_is_best table mode hold F queue None second best most some long before so_far bound = absurd before
+first_is_best table mode hold F queue (Some one) None best most some long before so_far bound = absurd before
+first_is_best table mode hold F queue (Some one) (Some other) best most some long before so_far bound =
+    record { member = inl so_far.member; first = first }
+  where
+    later : (run : List Placement) → GoesOn table mode hold F (next_of queue other) run → is_gt (run_cmp best run) ≡ false
+    later [] member = shorter best [] (omega (arith, some, long))
+    later (p ∷ run) member = elim (cases_lt (length (p ∷ run)) (length best)) [
+      | inl less ↦ shorter best (p ∷ run) less
+      | inr le ↦ later_piece best p run one.piece (starts table mode hold F (next_of queue one) best so_far.member)
+          (omega (arith, before, ap piece_code member.0)) (omega (arith, le, long, bound.each (p ∷ run) (inr member)))
+    ]
+
+    first : (run : List Placement) → GoesOnEither table mode hold F (Some (next_of queue one)) (Some (next_of queue other)) run → is_gt (run_cmp best run) ≡ false
+    first run (inl is) = so_far.first run is
+    first run (inr is) = later run is

@@ -1,5 +1,9 @@
 -- Lemmas on runs.
 mod BestLemmas
+mod BoundLemmas
+pub mod CallerLemmas
+mod LongestLemmas
+mod StoreLemmas
 mod TurnLemmas
 mod PlaceFree
 mod PlacesLeft

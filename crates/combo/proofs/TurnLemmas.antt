@@ -1,11 +1,12 @@
 -- The ways to get a next piece are the two turns.
-use Rattle.std.proofs.Common.{◌≡◌, ℕ, suc, ◌+◌, ◌≤◌, arith, length, List, [], ◌∷◌, refl, subst, Option, Some, None, inl, inr, ◌⊎◌}
-use Rattle.std.specs.Prelude.{IfSome}
+use Rattle.std.proofs.Common.{◌≡◌, ℕ, suc, ◌+◌, ◌≤◌, arith, length, drop, List, [], ◌∷◌, refl, subst, Option, Some, None, inl, inr, ◌⊎◌, ◌↔◌}
+use Rattle.std.proofs.lemmas.List.{length-drop}
 use Rattle.std.proofs.lemmas.Option.{same_Some}
 use Rattle.srs.specs.declared.piece.Piece.{Piece}
 use Rattle.hold_queue.specs.declared.hold.Hold.{Hold}
 use Rattle.hold_queue.specs.declared.hold.Hold.TheVariants.{Allowed, Avoided}
 use Rattle.hold_queue.specs.Permits.{Permits, Way, plain, exchange, first_hold, last}
+use Rattle.hold_queue.proofs.CallerLemmas.{permits-of_takes, takes-of_permits}
 use Rattle.combo.specs.declared.hand.Turn.{Turn}
 use Rattle.combo.specs.Turns.{Next, plain_next, hold_next, hand_count, held_count, turn_count}
 
@@ -31,10 +32,11 @@ hold_way Allowed (first ∷ queue) (Some piece) next is = subst (λ n. Way Allow
 hold_way Allowed (first ∷ []) None next is = cc
 hold_way Allowed (first ∷ piece ∷ queue) None next is = subst (λ n. Way Allowed (first ∷ piece ∷ queue) None n.piece n.queue n.held) (same_Some _ next is) first_hold
 
--- a run that begins with a turn is no longer than the hand before it
-pub turn_short : (queue : List Piece) (turn : Option Turn) (most count : ℕ) → IfSome turn (λ t. hand_count queue t.hand + 1 ≤ most) → count ≤ turn_count queue turn → count ≤ most
-turn_short queue None most count fewer short = omega (arith, short)
-turn_short queue (Some turn) most count fewer short = omega (arith, short, fewer)
+-- what is left after a turn is one piece less
+pub one_more : (queue : List Piece) (turn : Option Turn) (t : Turn) (count : ℕ) → turn ≡ Some t → turn_count queue turn ≤ 23 → count ≤ length (drop t.hand.taken queue) + held_count t.hand.held → count + 1 ≤ 23
+one_more queue turn t count is few short =
+    let few_left : hand_count queue t.hand + 1 ≤ 23 = subst (λ s. turn_count queue s ≤ 23) is few in
+    omega (arith, short, few_left, length-drop t.hand.taken queue)
 
 -- each way takes one piece
 way_count : (hold : Hold) (queue : List Piece) (held : Option Piece) (piece : Piece) (rest : List Piece) (after : Option Piece) → Way hold queue held piece rest after
@@ -49,3 +51,10 @@ pub permitted_short : (hold : Hold) (queue : List Piece) (held : Option Piece) (
 permitted_short hold queue held [] permitted = omega arith
 permitted_short hold queue held (piece ∷ pieces) permitted =
     omega (arith, way_count hold queue held piece permitted.0 permitted.1 permitted.2, permitted_short hold permitted.0 permitted.1 pieces permitted.3)
+
+-- the first piece of the queue is like a held one
+pub first_is_held : (piece : Piece) (queue pieces : List Piece) → Permits Allowed queue (Some piece) pieces ↔ Permits Allowed (piece ∷ queue) None pieces
+first_is_held piece queue pieces = (
+  λ permitted. permits-of_takes Allowed (piece ∷ queue) None pieces (takes-of_permits Allowed queue (Some piece) pieces permitted),
+  λ permitted. permits-of_takes Allowed queue (Some piece) pieces (takes-of_permits Allowed (piece ∷ queue) None pieces permitted),
+)

@@ -1,5 +1,5 @@
 -- The best of some runs: the first one in an order of runs, in which a longer run comes first.
-use Rattle.std.specs.Prelude.{◌≡◌, ◌≤◌, false, List, [], ◌∷◌, length, Option, Some, None}
+use Rattle.std.specs.Prelude.{◌≡◌, ℕ, ◌≤◌, ◌⊎◌, false, List, [], ◌∷◌, length, Option, Some, None}
 use Rattle.std.specs.Ordering.{nat_cmp, is_gt, ordering_then}
 use Rattle.std.specs.declared.cmp.Ordering.{Ordering}
 use Rattle.lane_board.specs.Field.{Field}
@@ -42,3 +42,11 @@ GoesOnUpTo table mode hold F next bound run = GoesOn table mode hold F next run 
 abbrev pub GoesOnIf : Table → DropMode → Hold → Field → Option Next → List Placement → Type 0
 GoesOnIf table mode hold F None run = run ≡ []
 GoesOnIf table mode hold F (Some next) run = GoesOn table mode hold F next run
+
+-- the runs that begin with one of two next pieces, if there are any
+abbrev pub GoesOnEither : Table → DropMode → Hold → Field → Option Next → Option Next → List Placement → Type 0
+GoesOnEither table mode hold F one other run = GoesOnIf table mode hold F one run ⊎ GoesOnIf table mode hold F other run
+
+-- none of some runs is longer than this
+pub record AreNoLonger (IsMember : List Placement → Type 0) (most : ℕ) : Type 0 where
+  pub each : (run : List Placement) → IsMember run → length run ≤ most

@@ -4,3 +4,4 @@ pub mod Longest
 -- What serves proofs alone
 pub mod Best
 pub mod Turns
+pub mod Known

@@ -1,6 +1,7 @@
 -- The next piece that is played, by the first piece of the queue or by hold.
-use Rattle.std.specs.Prelude.{ℕ, ◌+◌, ◌-◌, List, [], ◌∷◌, length, drop, Option, Some, None}
+use Rattle.std.specs.Prelude.{ℕ, ◌<◌, ◌+◌, ◌-◌, List, [], ◌∷◌, length, drop, Option, Some, None}
 use Rattle.srs.specs.declared.piece.Piece.{Piece}
+use Rattle.srs.specs.Piece.{piece_code}
 use Rattle.hold_queue.specs.declared.hold.Hold.{Hold}
 use Rattle.hold_queue.specs.declared.hold.Hold.TheVariants.{Allowed, Avoided}
 use Rattle.combo.specs.declared.hand.Hand.{Hand}
@@ -45,3 +46,9 @@ hand_count queue hand = (length queue - hand.taken) + held_count hand.held
 abbrev pub turn_count : List Piece → Option Turn → ℕ
 turn_count queue None = 0
 turn_count queue (Some turn) = hand_count queue turn.hand + 1
+
+-- the piece of one turn comes before that of the other
+abbrev pub ComesBefore : Option Turn → Option Turn → Type 0
+ComesBefore None other = ⊥
+ComesBefore (Some one) None = ⊥
+ComesBefore (Some one) (Some other) = piece_code one.piece < piece_code other.piece

@@ -1,20 +1,25 @@
 // The search for the best run.
-ghost use Rattle.std.specs.Prelude.{◌≡◌, ◌+◌, ◌*◌, ◌≤◌, ℕ, drop, length, false};
-ghost use Rattle.std.specs.Option.{option_map, option_copied};
-ghost use Rattle.arrayvec.specs.ArrayVec.{array_vec_len};
+ghost use Rattle.std.specs.Prelude.{◌≡◌, ◌+◌, ◌*◌, ◌≤◌, ◌<◌, drop, length, IsTrue, IfSome, None};
+ghost use Rattle.std.specs.Option.{option_map};
 ghost use Rattle.srs.specs.Rules.{table_of};
+ghost use Rattle.well.specs.Free.{is_free};
+ghost use Rattle.well.specs.Lock.{locked, rows_removed};
 ghost use Rattle.well.specs.Well.{filled};
-ghost use Rattle.combo.specs.Best.{IsBest, GoesOnIf};
+ghost use Rattle.combo.specs.Best.{IsBest, GoesOnIf, GoesOnEither, AreNoLonger};
+ghost use Rattle.combo.specs.Known.{AreKnown};
 ghost use Rattle.combo.specs.Longest.{IsLongest, IsPermittedRun};
 ghost use Rattle.combo.specs.Turns.{next_of, hand_count, held_count, turn_count};
 
-use crate::hand::{Hand, Turn, count, hold_turn, plain_turn};
+use crate::bound::most;
+use crate::hand::{Hand, Turn, hold_turn, plain_turn};
+use crate::known::Known;
 use crate::run::{Run, better, with_first};
+use crate::store::{PLACES, kept, place_of};
 use hold_queue::Hold;
 use moves::DropMode;
 use queue_pattern::Queue;
 use reach::{Steps, places};
-use srs::{Piece, Rules};
+use srs::{Piece, Placement, Rules};
 use std::sync::ledger::Ledger;
 use well::Well;
 
@@ -26,50 +31,129 @@ struct Play {
     hold: Hold,
 }
 
-/// The best of the runs that the pieces at hand permit.
+/// The best of the runs that the pieces at hand permit, by what is kept and with what is found on the way.
 #[cycle(runs)]
 fn best_run<L: Ledger>(
     play: &Play,
     queue: &[Piece],
     well: &Well,
     hand: Hand,
+    store: &mut [Option<Known>],
     steps: &mut Steps<L>,
 ) -> Run
-    requires { hand_count queue.now hand ≤ 23 }
+    requires few { hand_count queue.now hand ≤ 23 }
+    requires some { 0 < length store.old }
+    requires known { AreKnown (table_of play.now.rules) play.now.drop_mode play.now.hold queue.now store.old }
     ensures best { IsBest (IsPermittedRun (table_of play.now.rules) play.now.drop_mode (filled well.now) play.now.hold
         (drop hand.taken queue.now) hand.held) result.items }
-    ensures short { array_vec_len result ≤ hand_count queue.now hand }
+    ensures known { AreKnown (table_of play.now.rules) play.now.drop_mode play.now.hold queue.now store.new }
+    ensures counted { steps.old ≤ steps.new }
 {
-    let plain = best_after(play, queue, well, plain_turn(queue, hand), steps);
-    let held = best_after(play, queue, well, hold_turn(queue, play.hold, hand), steps);
-    better(plain, held)
+    let place = place_of(well, hand, store.len());
+    if let Some(run) = kept(&store[place], well, hand) {
+        return run;
+    }
+    let best = best_turn(play, queue, well, hand, store, steps);
+    store[place] = Some(Known::new(well, hand, &best));
+    best
 }
 
-/// The best of the runs that begin with a turn, if there is one.
+/// The best of the runs that begin with one of the two turns. The one with the lesser piece is looked at first, and the
+/// other one only where a run of it can be better.
+#[cycle(runs)]
+fn best_turn<L: Ledger>(
+    play: &Play,
+    queue: &[Piece],
+    well: &Well,
+    hand: Hand,
+    store: &mut [Option<Known>],
+    steps: &mut Steps<L>,
+) -> Run
+    requires few { hand_count queue.now hand ≤ 23 }
+    requires some { 0 < length store.old }
+    requires known { AreKnown (table_of play.now.rules) play.now.drop_mode play.now.hold queue.now store.old }
+    ensures best { IsBest (IsPermittedRun (table_of play.now.rules) play.now.drop_mode (filled well.now) play.now.hold
+        (drop hand.taken queue.now) hand.held) result.items }
+    ensures known { AreKnown (table_of play.now.rules) play.now.drop_mode play.now.hold queue.now store.new }
+    ensures counted { steps.old ≤ steps.new }
+{
+    let most = most(queue, well, hand);
+    if most == 0 {
+        return Run::new();
+    }
+    let plain = plain_turn(queue, hand);
+    let by_hold = hold_turn(queue, play.hold, hand);
+    if Turn::is_same(&plain, &by_hold) {
+        return best_after(play, queue, well, plain, most, store, steps);
+    }
+    if Turn::is_before(&by_hold, &plain) {
+        return best_of_two(play, queue, well, by_hold, plain, most, store, steps);
+    }
+    best_of_two(play, queue, well, plain, by_hold, most, store, steps)
+}
+
+/// The best of the runs that begin with one of two turns.
+#[cycle(runs)]
+fn best_of_two<L: Ledger>(
+    play: &Play,
+    queue: &[Piece],
+    well: &Well,
+    first: Option<Turn>,
+    second: Option<Turn>,
+    most: usize,
+    store: &mut [Option<Known>],
+    steps: &mut Steps<L>,
+) -> Run
+    requires first { turn_count queue.now first ≤ 23 }
+    requires second { turn_count queue.now second ≤ 23 }
+    requires some { 0 < length store.old }
+    requires known { AreKnown (table_of play.now.rules) play.now.drop_mode play.now.hold queue.now store.old }
+    requires most { AreNoLonger (GoesOnEither (table_of play.now.rules) play.now.drop_mode play.now.hold (filled well.now)
+        (option_map (next_of queue.now) first) (option_map (next_of queue.now) second)) most }
+    requires some_pieces { 0 < most }
+    ensures best { IsBest (GoesOnEither (table_of play.now.rules) play.now.drop_mode play.now.hold (filled well.now)
+        (option_map (next_of queue.now) first) (option_map (next_of queue.now) second)) result.items }
+    ensures known { AreKnown (table_of play.now.rules) play.now.drop_mode play.now.hold queue.now store.new }
+    ensures counted { steps.old ≤ steps.new }
+{
+    let best = best_after(play, queue, well, first, most, store, steps);
+    if best.len() == most && Turn::is_before(&first, &second) {
+        return best;
+    }
+    let other = best_after(play, queue, well, second, most, store, steps);
+    better(best, other)
+}
+
+/// The best of the runs that begin with a turn, if there is one. None is longer than `most`.
 #[cycle(runs)]
 fn best_after<L: Ledger>(
     play: &Play,
     queue: &[Piece],
     well: &Well,
     turn: Option<Turn>,
+    most: usize,
+    store: &mut [Option<Known>],
     steps: &mut Steps<L>,
 ) -> Run
-    requires { turn_count queue.now turn ≤ 23 }
+    requires few { turn_count queue.now turn ≤ 23 }
+    requires some { 0 < length store.old }
+    requires known { AreKnown (table_of play.now.rules) play.now.drop_mode play.now.hold queue.now store.old }
+    requires most { AreNoLonger (GoesOnIf (table_of play.now.rules) play.now.drop_mode play.now.hold (filled well.now)
+        (option_map (next_of queue.now) turn)) most }
     ensures best { IsBest (GoesOnIf (table_of play.now.rules) play.now.drop_mode play.now.hold (filled well.now)
         (option_map (next_of queue.now) turn)) result.items }
-    ensures short { array_vec_len result ≤ turn_count queue.now turn }
+    ensures known { AreKnown (table_of play.now.rules) play.now.drop_mode play.now.hold queue.now store.new }
+    ensures counted { steps.old ≤ steps.new }
 {
     let mut best = Run::new();
     let Some(turn) = turn else {
         return best;
     };
     let places = places(well, &play.rules, turn.piece, play.drop_mode, steps);
-    let most = count(queue, turn.hand) + 1;
     let mut entered = None;
     while let Some(placement) = places.next_after(entered.as_ref()) {
-        let (next, removed) = well.lock(&placement);
-        if 0 < removed {
-            let rest = best_run(play, queue, &next, turn.hand, steps);
+        if let Some(next) = cleared(well, &placement) {
+            let rest = best_run(play, queue, &next, turn.hand, store, steps);
             best = better(best, with_first(placement, &rest));
             if best.len() == most {
                 return best;
@@ -80,8 +164,22 @@ fn best_after<L: Ledger>(
     best
 }
 
+/// What a placement leaves, where it removes a row.
+fn cleared(well: &Well, placement: &Placement) -> Option<Well>
+    requires { IsTrue (is_free (filled well.now) placement.now) }
+    ensures removes { IfSome result (λ _. 1 ≤ rows_removed (filled well.now) placement.now) }
+    ensures left { IfSome result (λ next. filled next ≡ locked (filled well.now) placement.now) }
+    ensures none { result ≡ None → rows_removed (filled well.now) placement.now ≡ 0 }
+{
+    let (next, removed) = well.lock(placement);
+    if removed == 0 {
+        return None;
+    }
+    Some(next)
+}
+
 /// The longest run of placements that each remove a row and that the queue permits, with the piece held at the start;
-/// of those that are as long, the one that comes first.
+/// of those that are as long, the one that comes first. Adds a step for each flood.
 pub fn longest<L: Ledger>(
     well: &Well,
     rules: &Rules,
@@ -91,13 +189,16 @@ pub fn longest<L: Ledger>(
     held: Option<Piece>,
     steps: &mut Steps<L>,
 ) -> Run
-    ensures { IsLongest (table_of rules.now) drop_mode (filled well.now) hold queue.now.items held result.items }
+    ensures longest { IsLongest (table_of rules.now) drop_mode (filled well.now) hold queue.now.items held result.items }
+    ensures counted { steps.old ≤ steps.new }
 {
     let play = Play {
         rules: *rules,
         drop_mode,
         hold,
     };
-    let hand = Hand { taken: 0, held };
-    best_run(&play, queue.as_slice(), well, hand, steps)
+    let queue = queue.as_slice();
+    let hand = Hand::start(queue, hold, held);
+    let mut store = [None; PLACES];
+    best_run(&play, queue, well, hand, &mut store, steps)
 }

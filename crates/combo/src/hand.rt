@@ -1,24 +1,80 @@
 // The pieces at hand: what is left of a queue, and a held piece.
-ghost use Rattle.std.specs.Prelude.{◌≡◌, ◌<◌, ◌≤◌, ◌+◌, IfSome, Some, None, ◌-◌, drop, length};
-ghost use Rattle.hold_queue.specs.declared.hold.Hold.{Hold};
+ghost use Rattle.std.specs.Prelude.{◌≡◌, ◌<◌, ◌≤◌, ◌+◌, ◌↔◌, IsTrue, Some, None, ◌-◌, drop, length, List};
 ghost use Rattle.std.specs.Option.{option_map};
-ghost use Rattle.combo.specs.Turns.{plain_next, second_next, hold_next, next_of, hand_count, held_count};
+ghost use Rattle.srs.specs.declared.piece.Piece.{Piece};
+ghost use Rattle.hold_queue.specs.declared.hold.Hold.{Hold};
+ghost use Rattle.hold_queue.specs.Permits.{Permits};
+ghost use Rattle.combo.specs.Turns.{plain_next, second_next, hold_next, next_of, hand_count, held_count, turn_count, ComesBefore};
 
 use hold_queue::Hold;
 use srs::Piece;
 
 /// How many pieces of the queue are taken, and which piece is held.
-#[derive(Clone, Copy)]
+#[derive(Clone, Copy, PartialEq, Eq)]
 pub struct Hand {
     pub taken: usize,
     pub held: Option<Piece>,
 }
 
 /// A piece that is played, and the hand that is left.
-#[derive(Clone, Copy)]
+#[derive(Clone, Copy, PartialEq, Eq)]
 pub struct Turn {
     pub piece: Piece,
     pub hand: Hand,
+}
+
+impl Hand {
+    /// What is at hand at the start. Where hold is allowed and no piece is held, the first piece of the queue is like a
+    /// held one.
+    #[tactic(auto, using(crate::proofs::TurnLemmas::first_is_held))]
+    pub fn start(queue: &[Piece], hold: Hold, held: Option<Piece>) -> Hand
+        ensures same { (pieces : List Piece) → Permits hold (drop result.taken queue.now) result.held pieces
+            ↔ Permits hold queue.now held pieces }
+        ensures count { hand_count queue.now result ≤ length queue.now + held_count held }
+    {
+        let at_start = Hand { taken: 0, held };
+        match hold {
+            Hold::Avoided => at_start,
+            Hold::Allowed => match held {
+                Some(_) => at_start,
+                None => match queue {
+                    [] => at_start,
+                    [first, ..] => Hand {
+                        taken: 1,
+                        held: Some(*first),
+                    },
+                },
+            },
+        }
+    }
+}
+
+impl Turn {
+    /// Whether two turns play the same piece and leave the same at hand.
+    pub fn is_same(one: &Option<Turn>, other: &Option<Turn>) -> bool
+        ensures { IsTrue result → one.now ≡ other.now }
+    {
+        match one {
+            None => other.is_none(),
+            Some(one) => match other {
+                None => false,
+                Some(other) => *one == *other,
+            },
+        }
+    }
+
+    /// Whether the piece of one turn comes before that of the other.
+    pub fn is_before(one: &Option<Turn>, other: &Option<Turn>) -> bool
+        ensures { IsTrue result → ComesBefore one.now other.now }
+    {
+        match one {
+            None => false,
+            Some(one) => match other {
+                None => false,
+                Some(other) => one.piece.code() < other.piece.code(),
+            },
+        }
+    }
 }
 
 /// How many pieces are at hand.
@@ -41,7 +97,7 @@ fn held_count(held: Option<Piece>) -> usize
 /// Plays the first piece of the queue.
 pub fn plain_turn(queue: &[Piece], hand: Hand) -> Option<Turn>
     ensures next { option_map (next_of queue.now) result ≡ plain_next (drop hand.taken queue.now) hand.held }
-    ensures fewer { IfSome result (λ turn. hand_count queue.now turn.hand + 1 ≤ hand_count queue.now hand) }
+    ensures fewer { turn_count queue.now result ≤ hand_count queue.now hand }
 {
     let piece = *queue.get(hand.taken)?;
     Some(Turn {
@@ -76,7 +132,7 @@ fn exchanged(queue: &[Piece], piece: Piece, taken: usize) -> Turn
 /// Plays the second piece of the queue, and holds the first one.
 fn second_turn(queue: &[Piece], taken: usize) -> Option<Turn>
     ensures next { option_map (next_of queue.now) result ≡ hold_next Hold.Allowed (drop taken queue.now) None }
-    ensures fewer { IfSome result (λ turn. hand_count queue.now turn.hand + 1 ≤ length queue.now - taken) }
+    ensures fewer { turn_count queue.now result ≤ length queue.now - taken }
 {
     let first = *queue.get(taken)?;
     let piece = *queue.get(taken + 1)?;
@@ -92,7 +148,7 @@ fn second_turn(queue: &[Piece], taken: usize) -> Option<Turn>
 /// Plays the held piece, or the second one of the queue with the first one held.
 pub fn hold_turn(queue: &[Piece], hold: Hold, hand: Hand) -> Option<Turn>
     ensures next { option_map (next_of queue.now) result ≡ hold_next hold (drop hand.taken queue.now) hand.held }
-    ensures fewer { IfSome result (λ turn. hand_count queue.now turn.hand + 1 ≤ hand_count queue.now hand) }
+    ensures fewer { turn_count queue.now result ≤ hand_count queue.now hand }
 {
     match hold {
         Hold::Avoided => None,

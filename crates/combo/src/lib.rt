@@ -2,8 +2,12 @@
 #![tactic(auto)]
 
 mod best;
+mod bound;
 mod hand;
+mod known;
+pub mod laws;
 mod run;
+mod store;
 #[cfg(test)]
 mod tests;
 

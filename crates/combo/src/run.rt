@@ -1,5 +1,5 @@
 // Runs of placements, and their order.
-ghost use Rattle.std.specs.Prelude.{◌≡◌, ℕ, ◌+◌, ◌≤◌, ◌∷◌, if◌then◌else◌};
+ghost use Rattle.std.specs.Prelude.{◌≡◌, ◌+◌, ◌≤◌, ◌∷◌, if◌then◌else◌};
 ghost use Rattle.std.specs.Ordering.{is_gt};
 ghost use Rattle.arrayvec.specs.ArrayVec.{array_vec_len};
 ghost use Rattle.srs.specs.Order.{sequence_cmp};
@@ -28,8 +28,7 @@ fn compare_sequences(one: &[Placement], other: &[Placement]) -> Ordering
 
 /// The longer of two runs, and of two that are as long the one that comes before.
 pub fn better(one: Run, other: Run) -> Run
-    ensures items { result.items ≡ (if is_gt (run_cmp one.items other.items) then other.items else one.items) }
-    ensures short { (most : ℕ) → array_vec_len one ≤ most → array_vec_len other ≤ most → array_vec_len result ≤ most }
+    ensures { result.items ≡ (if is_gt (run_cmp one.items other.items) then other.items else one.items) }
 {
     let order = other
         .len()
@@ -45,8 +44,7 @@ pub fn better(one: Run, other: Run) -> Run
 /// A run that begins with a placement.
 pub fn with_first(placement: Placement, rest: &Run) -> Run
     requires { array_vec_len rest.now + 1 ≤ 23 }
-    ensures items { result.items ≡ placement ∷ rest.now.items }
-    ensures len { array_vec_len result ≡ array_vec_len rest.now + 1 }
+    ensures { result.items ≡ placement ∷ rest.now.items }
 {
     let mut run = Run::new();
     run.push(placement);

@@ -1,0 +1,26 @@
+// Laws of the definitions: functions with an empty body, whose contract is the law.
+ghost use Rattle.std.specs.Prelude.{◌≡◌, ◌≤◌, ◌*◌, List, Option, length};
+ghost use Rattle.lane_board.specs.Field.{Field};
+ghost use Rattle.lane_board.specs.CellCount.{cell_count};
+ghost use Rattle.srs.specs.declared.piece.Piece.{Piece};
+ghost use Rattle.srs.specs.declared.placement.Placement.{Placement};
+ghost use Rattle.srs.specs.Kick.{Table};
+ghost use Rattle.moves.specs.declared.key.DropMode.{DropMode};
+ghost use Rattle.hold_queue.specs.declared.hold.Hold.{Hold};
+ghost use Rattle.combo.specs.Runs.{Runs};
+ghost use Rattle.combo.specs.Longest.{IsLongest};
+
+/// Of a field, its rules and a queue there is one longest run at most.
+#[tactic(auto, using(crate::proofs::LongestLemmas::one_longest))]
+pub fn longest_runs_are_determined()
+    ensures { (table : Table) (mode : DropMode) (F : Field) (hold : Hold) (queue : List Piece) (held : Option Piece)
+        (one other : List Placement) → IsLongest table mode F hold queue held one
+        → IsLongest table mode F hold queue held other → one ≡ other }
+{}
+
+/// Each placement of a run takes six cells of the field: it adds four, and a removed row has ten.
+#[tactic(auto, using(crate::proofs::BoundLemmas::runs_take_cells))]
+pub fn runs_take_six_cells_each()
+    ensures { (table : Table) (mode : DropMode) (F : Field) (run : List Placement) → Runs table mode F run
+        → 6 * length run ≤ cell_count F 23 }
+{}

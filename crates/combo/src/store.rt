@@ -1,0 +1,40 @@
+// A store of fixed room for runs: each has one place, and a later one takes it from an earlier one.
+ghost use Rattle.std.specs.Prelude.{◌<◌, IfSome};
+ghost use Rattle.well.specs.Well.{filled};
+ghost use Rattle.combo.specs.Known.{Keeps};
+
+use crate::hand::Hand;
+use crate::known::Known;
+use crate::run::Run;
+use well::Well;
+
+/// So many runs are kept at most.
+pub const PLACES: usize = 4096;
+
+/// The run that is kept in a place, where it is of this field and of these pieces at hand.
+pub fn kept(entry: &Option<Known>, well: &Well, hand: Hand) -> Option<Run>
+    ensures { IfSome result (λ run. Keeps entry.now (filled well.now) hand run.items) }
+{
+    match entry {
+        None => None,
+        Some(known) => known.run_of(well, hand),
+    }
+}
+
+/// The place of a field and of the pieces at hand, among so many.
+pub fn place_of(well: &Well, hand: Hand, count: usize) -> usize
+    requires { 0 < count }
+    ensures { result < count }
+{
+    let held = match hand.held {
+        None => 0,
+        Some(piece) => piece.code(),
+    };
+    let board = well.board();
+    let mut mixed = (hand.taken as u64).wrapping_mul(8) ^ u64::from(held);
+    for y in 0..23 {
+        mixed = (mixed ^ u64::from(board.row(y))).wrapping_mul(0x9e37_79b9_7f4a_7c15);
+        mixed ^= mixed >> 29;
+    }
+    (mixed >> 32) as usize % count
+}
