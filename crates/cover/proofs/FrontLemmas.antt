@@ -1,0 +1,118 @@
+-- The queues between two that begin alike begin so too.
+use Rattle.std.proofs.Common.{◌≡◌, ◌⊎◌, ℕ, zero, suc, ◌+◌, ◌<◌, ◌≤◌, List, [], ◌∷◌, length, take, get_or, Some, slice_get, refl, sym, ap, subst, ◌∙◌, inl, inr, arith}
+use Rattle.std.specs.Cmp.{nat_cmp_is}
+use Rattle.std.specs.List.Sorted.{IsStrictlySortedBy}
+use Rattle.std.specs.Ordering.{nat_cmp, ordering_then}
+use Rattle.std.specs.declared.cmp.Ordering.{Ordering}
+use Rattle.std.specs.declared.cmp.Ordering.TheVariants.{Less, Equal, Greater}
+use Rattle.std.proofs.lemmas.Bool.{cases_eq, cases_lt, cases_order}
+use Rattle.std.proofs.lemmas.Map.Keys.{Less-from_sorted}
+use Rattle.std.proofs.lemmas.Option.{get_or_from_slice_get, slice_get_within}
+use Rattle.srs.specs.declared.piece.Piece.{Piece}
+use Rattle.srs.specs.Piece.{piece_code}
+use Rattle.srs.proofs.CallerLemmas.{piece_code-injective}
+use Rattle.queue_pattern.specs.Order.{queue_cmp}
+use Rattle.cover.specs.Look.{HasSameFront}
+use Rattle.cover.specs.Fronts.{ShareFront}
+
+-- what it means that the first difference is less
+cmp-less : (m n : ℕ) (rest : Ordering) → ordering_then (nat_cmp m n) rest ≡ Less → (m < n) ⊎ ((m ≡ n) × (rest ≡ Less))
+cmp-less m n rest less = elim (cases_order m n) [
+  | inl same ↦ inr (same, ap (λ o. ordering_then o rest) (nat_cmp_is m n Equal same) ∙ less)
+  | inr apart ↦ elim apart [
+    | inl below ↦ inl below
+    | inr above ↦ let both : Greater ≡ Less = ap (λ o. ordering_then o rest) (nat_cmp_is m n Greater above) ∙ less in cc
+  ]
+]
+
+between : (count : ℕ) (first middle last : List Piece) → queue_cmp first middle ≡ Less → queue_cmp middle last ≡ Less → take count last ≡ take count first → take count middle ≡ take count first
+between zero first middle last one two same = refl
+between (suc count) [] [] [] one two same = refl
+between (suc count) [] (y ∷ middle) [] one two same = cc
+between (suc count) [] middle (z ∷ last) one two same = cc
+between (suc count) (x ∷ first) middle [] one two same = cc
+between (suc count) (x ∷ first) [] (z ∷ last) one two same = cc
+between (suc count) (x ∷ first) (y ∷ middle) (z ∷ last) one two same =
+    let head : z ≡ x = cc in
+    let tail : take count last ≡ take count first = cc in
+    let code : piece_code z ≡ piece_code x = ap piece_code head in
+    elim (cmp-less (piece_code x) (piece_code y) (queue_cmp first middle) one) [
+      | inl below ↦ elim (cmp-less (piece_code y) (piece_code z) (queue_cmp middle last) two) [
+        | inl under ↦ absurd (omega (arith, below, under, code))
+        | inr tied ↦ absurd (omega (arith, below, tied.0, code))
+      ]
+      | inr tied ↦ elim (cmp-less (piece_code y) (piece_code z) (queue_cmp middle last) two) [
+        | inl under ↦ absurd (omega (arith, tied.0, under, code))
+        | inr also ↦
+            ap (λ p. p ∷ take count middle) (sym (piece_code-injective x y tied.0))
+            ∙ ap (λ l. x ∷ l) (between count first middle last tied.1 also.1 tail)
+      ]
+    ]
+
+rises : (queues : List (List Piece)) (i j : ℕ) (a b : List Piece) → IsStrictlySortedBy queue_cmp queues → i < j → slice_get queues i ≡ Some a → slice_get queues j ≡ Some b → queue_cmp a b ≡ Less
+rises queues i j a b rising before at there =
+    let less = Less-from_sorted queue_cmp queues i j [] rising before (slice_get_within queues j b there) in
+    let first : get_or queues i [] ≡ a = get_or_from_slice_get queues i a [] at in
+    let second : get_or queues j [] ≡ b = get_or_from_slice_get queues j b [] there in
+    subst (λ y. queue_cmp a y ≡ Less) second (subst (λ x. queue_cmp x (get_or queues j []) ≡ Less) first less)
+
+-- all up to one that begins alike, and no further
+pub record BeginAlike (queues : List (List Piece)) (count : ℕ) (queue : List Piece) (number last end step : ℕ) : Type 0 where
+  pub after : number ≤ last
+  pub before : last < end
+  pub within : end ≤ length queues
+  pub some : 1 ≤ step
+  pub same : ShareFront queues count queue number (last + 1)
+
+module _ (queues : List (List Piece)) (count : ℕ) (queue : List Piece) (number : ℕ) (rising : IsStrictlySortedBy queue_cmp queues) (there : slice_get queues number ≡ Some queue) where
+  pub alike-starts : BeginAlike queues count queue number number (length queues) 1
+  alike-starts = record {
+    after = omega arith;
+    before = slice_get_within queues number queue there;
+    within = omega arith;
+    some = omega arith;
+    same = record {
+      each = λ k other from to at.
+          let is : k ≡ number = omega (arith, from, to) in
+          let same : Some other ≡ Some queue = sym at ∙ ap (slice_get queues) is ∙ there in
+          let alike : other ≡ queue = cc in
+          record { same = ap (take count) alike };
+    };
+  }
+
+  -- one more that begins alike
+  pub alike-goes_on : (last end step next more : ℕ) (last_queue : List Piece) → BeginAlike queues count queue number last end step → last < next → next < end → 1 ≤ more
+      → slice_get queues next ≡ Some last_queue → HasSameFront count queue last_queue → BeginAlike queues count queue number next end more
+  alike-goes_on last end step next more last_queue so_far later before positive at same = record {
+    after = omega (arith, so_far.after, later);
+    before = before;
+    within = so_far.within;
+    some = positive;
+    same = record {
+      each = λ k other from to found. elim (cases_lt k (last + 1)) [
+        | inl old ↦ so_far.same.each k other from old found
+        | inr new ↦ elim (cases_eq k next) [
+          | inl is ↦
+              let same_queue : Some other ≡ Some last_queue = sym found ∙ ap (slice_get queues) is ∙ at in
+              let alike : other ≡ last_queue = cc in
+              record { same = ap (take count) alike ∙ same.same }
+          | inr earlier ↦
+              record {
+                same = between count queue other last_queue
+                    (rises queues number k queue other rising (omega (arith, new, so_far.after)) there found)
+                    (rises queues k next other last_queue rising (omega (arith, to, earlier)) found at)
+                    same.same;
+              }
+        ]
+      ];
+    };
+  }
+
+  pub alike-stops : (last end step next : ℕ) → BeginAlike queues count queue number last end step → last < next → next < end → BeginAlike queues count queue number last next step
+  alike-stops last end step next so_far later before = record {
+    after = so_far.after;
+    before = later;
+    within = omega (arith, so_far.within, before);
+    some = so_far.some;
+    same = so_far.same;
+  }

@@ -1,0 +1,268 @@
+-- A tree with one node more below another one.
+use Rattle.std.proofs.Common.{◌≡◌, ℕ, zero, suc, ◌+◌, ◌-◌, ◌<◌, ◌≤◌, Bool, true, false, ◌&&◌, ◌||◌, ◌==◌, nat_lt, get_or, List, [], ◌∷◌, ◌++◌, length, Some, slice_get, set, refl, sym, ap, subst, ◌∙◌, inl, inr, arith, length-append}
+use Rattle.std.proofs.lemmas.Bool.{cases_eq, cases_lt, eq-eqb, ne_eqb}
+use Rattle.std.proofs.lemmas.List.{length-set}
+use Rattle.std.proofs.lemmas.Option.{slice_get_read}
+use Rattle.srs.specs.declared.piece.Piece.{Piece}
+use Rattle.srs.specs.Piece.{piece_code}
+use Rattle.srs.proofs.CallerLemmas.{piece_code-injective}
+use Rattle.cover.specs.declared.node.Node.{Node}
+use Rattle.cover.specs.Nodes.{child, child_of, ends_of, has_end, node_child, spells, Ends, Grows, IsBlank, IsTree, IsWith}
+use Rattle.cover.proofs.ReadLemmas.{get-written, get-others, get-before, get-pushed, get-past}
+
+pub child-at : (nodes : List Node) (at : ℕ) (node : Node) (kind : Piece) → slice_get nodes at ≡ Some node → child nodes at kind ≡ node_child node kind
+unfolding child
+child-at nodes at node kind there = ap (λ o. child_of o kind) there
+
+pub end-at : (nodes : List Node) (at : ℕ) (node : Node) → slice_get nodes at ≡ Some node → has_end nodes at ≡ node.ends
+unfolding has_end
+end-at nodes at node there = ap ends_of there
+
+child-past : (nodes : List Node) (at : ℕ) (kind : Piece) → length nodes ≤ at → child nodes at kind ≡ 0
+unfolding child
+child-past nodes at kind past = ap (λ o. child_of o kind) (get-past nodes at past)
+
+end-past : (nodes : List Node) (at : ℕ) → length nodes ≤ at → has_end nodes at ≡ false
+unfolding has_end
+end-past nodes at past = ap ends_of (get-past nodes at past)
+
+same-child : (old new : List Node) (at : ℕ) (kind : Piece) → slice_get new at ≡ slice_get old at → child new at kind ≡ child old at kind
+unfolding child
+same-child old new at kind same = ap (λ o. child_of o kind) same
+
+same-end : (old new : List Node) (at : ℕ) → slice_get new at ≡ slice_get old at → has_end new at ≡ has_end old at
+unfolding has_end
+same-end old new at same = ap ends_of same
+
+-- the tree of no list
+pub first-tree : (blank : Node) → IsBlank blank → IsTree (blank ∷ [])
+first-tree blank is = record {
+  rooted = omega arith;
+  later = λ at kind some. absurd (omega (arith, some, none at kind));
+  within = λ at kind. omega (arith, none at kind);
+  one_above = λ at other kind second some same. absurd (omega (arith, some, none at kind));
+  one_kind = λ at other kind second some same. absurd (omega (arith, some, none at kind));
+}
+  where
+    none : (at : ℕ) (kind : Piece) → child (blank ∷ []) at kind ≡ 0
+    none zero kind = child-at (blank ∷ []) 0 blank kind refl ∙ is.none kind
+    none (suc at) kind = child-past (blank ∷ []) (suc at) kind (omega arith)
+
+pub first-spells : (blank : Node) (kinds : List Piece) → IsBlank blank → spells (blank ∷ []) 0 kinds ≡ false
+unfolding spells
+first-spells blank [] is = end-at (blank ∷ []) 0 blank refl ∙ is.open_end
+first-spells blank (kind ∷ kinds) is =
+    ap (λ c. nat_lt 0 c && spells (blank ∷ []) c kinds) (child-at (blank ∷ []) 0 blank kind refl ∙ is.none kind)
+
+-- one node more, below another one for one kind
+pub record IsGrown (old : List Node) (at : ℕ) (kind : Piece) (new : List Node) : Type 0 where
+  pub there : child new at kind ≡ length old
+  pub others : (other : ℕ) (second : Piece) → (other ≡ at → piece_code second ≡ piece_code kind → ⊥) → child new other second ≡ child old other second
+  pub ends : (other : ℕ) → has_end new other ≡ has_end old other
+  pub long : length new ≡ length old + 1
+
+module _ (old : List Node) (at : ℕ) (kind : Piece) (blank first linked : Node) (within : at < length old) (is_blank : IsBlank blank) (there : slice_get old at ≡ Some first) (link : IsWith first kind (length old) linked) where
+  abbrev new : List Node
+  new = set (old ++ blank ∷ []) at linked
+
+  long : length new ≡ length old + 1
+  long = length-set (old ++ blank ∷ []) at linked ∙ length-append old (blank ∷ [])
+
+  at-linked : slice_get new at ≡ Some linked
+  at-linked = get-written (old ++ blank ∷ []) at linked (omega (arith, length-append old (blank ∷ []), within))
+
+  at-other : (other : ℕ) → (other ≡ at → ⊥) → slice_get new other ≡ slice_get (old ++ blank ∷ []) other
+  at-other other apart = get-others (old ++ blank ∷ []) at other linked apart
+
+  child-elsewhere : (other : ℕ) (second : Piece) → (other ≡ at → ⊥) → child new other second ≡ child old other second
+  child-elsewhere other second apart = elim (cases_lt other (length old)) [
+    | inl before ↦ same-child old new other second (at-other other apart ∙ get-before old other blank before)
+    | inr past ↦ elim (cases_eq other (length old)) [
+      | inl last ↦
+          child-at new other blank second (at-other other apart ∙ get-pushed old other blank last) ∙ is_blank.none second
+          ∙ sym (child-past old other second past)
+      | inr beyond ↦
+          child-past new other second (omega (arith, long, past, beyond)) ∙ sym (child-past old other second past)
+    ]
+  ]
+
+  end-elsewhere : (other : ℕ) → (other ≡ at → ⊥) → has_end new other ≡ has_end old other
+  end-elsewhere other apart = elim (cases_lt other (length old)) [
+    | inl before ↦ same-end old new other (at-other other apart ∙ get-before old other blank before)
+    | inr past ↦ elim (cases_eq other (length old)) [
+      | inl last ↦
+          end-at new other blank (at-other other apart ∙ get-pushed old other blank last) ∙ is_blank.open_end ∙ sym (end-past old other past)
+      | inr beyond ↦ end-past new other (omega (arith, long, past, beyond)) ∙ sym (end-past old other past)
+    ]
+  ]
+
+  child-others : (other : ℕ) (second : Piece) → (other ≡ at → piece_code second ≡ piece_code kind → ⊥) → child new other second ≡ child old other second
+  child-others other second apart = elim (cases_eq other at) [
+    | inl same ↦
+        subst (λ n. child new n second ≡ child old n second) (sym same)
+        (child-at new at linked second at-linked ∙ link.others second (ne_eqb (piece_code second) (piece_code kind) (apart same)) ∙ sym (child-at old at first second there))
+    | inr elsewhere ↦ child-elsewhere other second elsewhere
+  ]
+
+  end-others : (other : ℕ) → has_end new other ≡ has_end old other
+  end-others other = elim (cases_eq other at) [
+    | inl same ↦ subst (λ n. has_end new n ≡ has_end old n) (sym same) (end-at new at linked at-linked ∙ link.same_end ∙ sym (end-at old at first there))
+    | inr elsewhere ↦ end-elsewhere other elsewhere
+  ]
+
+  pub grown : IsGrown old at kind new
+  grown = record {
+    there = child-at new at linked kind at-linked ∙ link.there;
+    others = child-others;
+    ends = end-others;
+    long = long;
+  }
+
+-- the same of a list to which the blank node was pushed
+pub grown-pushed : (old pushed : List Node) (at : ℕ) (kind : Piece) (number : ℕ) (blank first linked : Node) → pushed ≡ old ++ blank ∷ [] → at < length old → IsBlank blank
+    → first ≡ get_or pushed at first → number ≡ length old → IsWith first kind number linked → IsGrown old at kind (set pushed at linked)
+grown-pushed old pushed at kind number blank first linked push within is_blank read count link =
+    let long : length pushed ≡ length old + 1 = ap length push ∙ length-append old (blank ∷ []) in
+    let there : slice_get old at ≡ Some first =
+    sym (get-before old at blank within) ∙ ap (λ l. slice_get l at) (sym push) ∙ slice_get_read pushed (length pushed) at first refl (omega (arith, long, within)) read in
+    subst (λ l. IsGrown old at kind (set l at linked)) (sym push)
+    (grown old at kind blank first linked within is_blank there (subst (λ n. IsWith first kind n linked) count link))
+
+module _ (old new : List Node) (at : ℕ) (kind : Piece) (tree : IsTree old) (within : at < length old) (none : child old at kind ≡ 0) (grown : IsGrown old at kind new) where
+  -- a child is the new node, or was there
+  data Child (other : ℕ) (second : Piece) : Type 0 where
+    fresh : other ≡ at → second ≡ kind → child new other second ≡ length old → Child other second
+    known : child new other second ≡ child old other second → Child other second
+
+  child_is : (other : ℕ) (second : Piece) → Child other second
+  child_is other second = elim (cases_eq other at) [
+    | inl same ↦ elim (cases_eq (piece_code second) (piece_code kind)) [
+      | inl code ↦
+          let is : second ≡ kind = piece_code-injective second kind code in
+          fresh same is (ap (λ n. child new n second) same ∙ ap (λ k. child new at k) is ∙ grown.there)
+      | inr differs ↦ known (grown.others other second (λ _ code. differs code))
+    ]
+    | inr elsewhere ↦ known (grown.others other second (λ same _. elsewhere same))
+  ]
+
+  later : (other : ℕ) (second : Piece) → 0 < child new other second → other < child new other second
+  later other second some = elim (child_is other second) [
+    | fresh same is value ↦ omega (arith, same, value, within)
+    | known value ↦ let before : 0 < child old other second = omega (arith, value, some) in omega (arith, value, tree.later other second before)
+  ]
+
+  below : (other : ℕ) (second : Piece) → child new other second < length new
+  below other second = elim (child_is other second) [
+    | fresh same is value ↦ omega (arith, value, grown.long)
+    | known value ↦ omega (arith, value, tree.within other second, grown.long)
+  ]
+
+  one_above : (other third : ℕ) (second fourth : Piece) → 0 < child new other second → child new other second ≡ child new third fourth → other ≡ third
+  one_above other third second fourth some same = elim (child_is other second) [
+    | fresh here is value ↦ elim (child_is third fourth) [
+      | fresh there also given ↦ here ∙ sym there
+      | known given ↦ absurd (omega (arith, value, given, same, tree.within third fourth))
+    ]
+    | known value ↦ elim (child_is third fourth) [
+      | fresh there also given ↦ absurd (omega (arith, value, given, same, tree.within other second))
+      | known given ↦
+          let before : 0 < child old other second = omega (arith, value, some) in
+          tree.one_above other third second fourth before (sym value ∙ same ∙ given)
+    ]
+  ]
+
+  one_kind : (other third : ℕ) (second fourth : Piece) → 0 < child new other second → child new other second ≡ child new third fourth → piece_code second ≡ piece_code fourth
+  one_kind other third second fourth some same = elim (child_is other second) [
+    | fresh here is value ↦ elim (child_is third fourth) [
+      | fresh there also given ↦ ap piece_code (is ∙ sym also)
+      | known given ↦ absurd (omega (arith, value, given, same, tree.within third fourth))
+    ]
+    | known value ↦ elim (child_is third fourth) [
+      | fresh there also given ↦ absurd (omega (arith, value, given, same, tree.within other second))
+      | known given ↦
+          let before : 0 < child old other second = omega (arith, value, some) in
+          tree.one_kind other third second fourth before (sym value ∙ same ∙ given)
+    ]
+  ]
+
+  pub grown-tree : IsTree new
+  grown-tree = record {
+    rooted = omega (arith, grown.long);
+    later = later;
+    within = below;
+    one_above = one_above;
+    one_kind = one_kind;
+  }
+
+  -- nothing is spelled from the new node
+  fresh-spells : (kinds : List Piece) → spells new (length old) kinds ≡ false
+  unfolding spells
+  fresh-spells [] = grown.ends (length old) ∙ end-past old (length old) (omega arith)
+  fresh-spells (k ∷ ks) =
+      let none_below : child new (length old) k ≡ 0 =
+      grown.others (length old) k (λ same _. omega (arith, same, within)) ∙ child-past old (length old) k (omega arith) in
+      ap (λ c. nat_lt 0 c && spells new c ks) none_below
+
+  both_false : (a b : Bool) → b ≡ false → (a && b) ≡ false
+  both_false true b e = e
+  both_false false b e = refl
+
+  same-spells : (other : ℕ) (kinds : List Piece) → other < length old → spells new other kinds ≡ spells old other kinds
+  unfolding spells
+  same-spells other [] inside = grown.ends other
+  same-spells other (k ∷ ks) inside = elim (child_is other k) [
+    | fresh here is value ↦
+        let before : child old other k ≡ 0 = ap (λ n. child old n k) here ∙ ap (λ p. child old at p) is ∙ none in
+        ap (λ c. nat_lt 0 c && spells new c ks) value ∙ both_false (nat_lt 0 (length old)) _ (fresh-spells ks)
+        ∙ sym (ap (λ c. nat_lt 0 c && spells old c ks) before)
+    | known value ↦
+        ap (λ c. nat_lt 0 c && spells new c ks) value
+        ∙ ap (λ b. nat_lt 0 (child old other k) && b) (same-spells (child old other k) ks (tree.within other k))
+  ]
+
+  same-children : (other : ℕ) (second : Piece) → 0 < child old other second → child new other second ≡ child old other second
+  same-children other second some = elim (child_is other second) [
+    | fresh here is value ↦
+        let before : child old other second ≡ 0 = ap (λ n. child old n second) here ∙ ap (λ p. child old at p) is ∙ none in
+        absurd (omega (arith, before, some))
+    | known value ↦ value
+  ]
+
+  pub grown-grows : Grows old new
+  grown-grows = record {
+    longer = omega (arith, grown.long);
+    kept = same-children;
+    spelled = same-spells;
+  }
+
+pub grows-same : (old new : List Node) → new ≡ old → Grows old new
+grows-same old new same = subst (Grows old) (sym same) (record { longer = omega arith; kept = λ at kind some. refl; spelled = λ at kinds within. refl })
+
+-- a list ends at a node
+pub ended : (nodes : List Node) (at : ℕ) (first last : Node) → at < length nodes → slice_get nodes at ≡ Some first → last.below ≡ first.below → last.ends ≡ true → Ends nodes (set nodes at last) at
+unfolding node_child
+ended nodes at first last within there below ends = record {
+  same = λ other kind. elim (cases_eq other at) [
+    | inl same ↦
+        subst (λ n. child (set nodes at last) n kind ≡ child nodes n kind) (sym same)
+        (child-at (set nodes at last) at last kind (get-written nodes at last within) ∙ ap (λ l. get_or l (piece_code kind - 1) 0) below ∙ sym (child-at nodes at first kind there))
+    | inr apart ↦ same-child nodes (set nodes at last) other kind (get-others nodes at other last apart)
+  ];
+  ends = λ other. elim (cases_eq other at) [
+    | inl same ↦
+        subst (λ n. has_end (set nodes at last) n ≡ (has_end nodes n || n == at)) (sym same)
+        (end-at (set nodes at last) at last (get-written nodes at last within) ∙ ends ∙ sym (or_true (has_end nodes at) (at == at) (eq-eqb at at refl)))
+    | inr apart ↦
+        same-end nodes (set nodes at last) other (get-others nodes at other last apart)
+        ∙ sym (or_false (has_end nodes other) (other == at) (ne_eqb other at apart))
+  ];
+  long = length-set nodes at last;
+}
+  where
+    or_true : (a b : Bool) → b ≡ true → (a || b) ≡ true
+    or_true true b e = refl
+    or_true false b e = e
+
+    or_false : (a b : Bool) → b ≡ false → (a || b) ≡ a
+    or_false true b e = refl
+    or_false false b e = e

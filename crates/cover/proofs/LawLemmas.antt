@@ -1,0 +1,57 @@
+-- Where the sequences are all solutions, a queue is covered exactly where it has one.
+use Rattle.std.proofs.Common.{◌≡◌, ◌↔◌, ℕ, Some, None, List, Contains, slice_get, sym, subst, ◌∙◌, refl, inl, inr, [], ◌∷◌}
+use Rattle.std.proofs.lemmas.Option.{get_or_from_slice_get, slice_get_within}
+use Rattle.srs.specs.declared.piece.Piece.{Piece}
+use Rattle.srs.specs.declared.placement.Placement.{Placement}
+use Rattle.queue_pattern.specs.Pattern.{elements_of}
+use Rattle.queue_pattern.specs.Queues.{queues}
+use Rattle.hold_queue.specs.Permits.{Permits}
+use Rattle.enumerate.specs.declared.problem.Problem.{Problem}
+use Rattle.enumerate.specs.Search.{IsList}
+use Rattle.enumerate.specs.Solution.{IsSolution, pieces_of}
+use Rattle.lists.proofs.CallerLemmas.{Contains-cases, Contains-here, Contains-none}
+use Rattle.cover.specs.Covered.{IsCovered}
+
+among : (lists : List (List Piece)) (number : ℕ) (queue : List Piece) → slice_get lists number ≡ Some queue → Contains lists queue
+among lists number queue there = (number, slice_get_within lists number queue there, get_or_from_slice_get lists number queue queue there)
+
+same_queue : (problem : Problem) (number : ℕ) (queue other : List Piece) → slice_get (queues (elements_of problem.pattern)) number ≡ Some queue → slice_get (queues (elements_of problem.pattern)) number ≡ Some other → other ≡ queue
+same_queue problem number queue other there also = let same : Some other ≡ Some queue = sym also ∙ there in cc
+
+-- a queue alone among those that count
+alone : (queue other : List Piece) → Contains (queue ∷ []) other → other ≡ queue
+alone queue other one = elim (Contains-cases queue [] other one) [
+  | inl here ↦ sym here
+  | inr there ↦ absurd (Contains-none other there)
+]
+
+pub covered-solved : (problem : Problem) (sequences : List (List Placement)) (number : ℕ) (queue : List Piece) → IsList (record { problem = problem; queue = None; bound = None }) sequences
+    → slice_get (queues (elements_of problem.pattern)) number ≡ Some queue → IsCovered problem sequences number ↔ ((sequence : List Placement) × IsSolution problem (Some queue) sequence)
+covered-solved problem sequences number queue list there = (
+  λ covered. (
+    covered.sequence,
+    record {
+      plays = covered.plays;
+      permitted = (queue, Contains-here queue [], subst (λ q. Permits problem.hold q problem.held (pieces_of covered.sequence)) (same_queue problem number queue covered.queue there covered.there) covered.permitted);
+    },
+  ),
+  λ solved. record {
+    queue = queue;
+    there = there;
+    sequence = solved.0;
+    given = (list.members solved.0).1 (record {
+      solution = record {
+        plays = solved.1.plays;
+        permitted = (queue, among (queues (elements_of problem.pattern)) number queue there, subst (λ q. Permits problem.hold q problem.held (pieces_of solved.0)) (alone queue solved.1.permitted.0 solved.1.permitted.1) solved.1.permitted.2);
+      };
+      above = refl;
+    });
+    plays = solved.1.plays;
+    permitted = subst (λ q. Permits problem.hold q problem.held (pieces_of solved.0)) (alone queue solved.1.permitted.0 solved.1.permitted.1) solved.1.permitted.2;
+  },
+)
+
+-- a queue alone permits the pieces of its solutions
+pub solved-permits : (problem : Problem) (queue : List Piece) (sequence : List Placement) → IsSolution problem (Some queue) sequence → Permits problem.hold queue problem.held (pieces_of sequence)
+solved-permits problem queue sequence solved =
+    subst (λ q. Permits problem.hold q problem.held (pieces_of sequence)) (alone queue solved.permitted.0 solved.permitted.1) solved.permitted.2

@@ -1,0 +1,16 @@
+-- The lemmas of this crate.
+mod ReadLemmas
+mod PieceEqual
+mod NodeLemmas
+mod GrownLemmas
+mod WayLemmas
+mod TreeFacts
+mod HandLemmas
+mod LookLemmas
+mod FrontLemmas
+mod KindLemmas
+mod KeepLemmas
+mod PlayLemmas
+mod NextLemmas
+mod LawLemmas
+pub mod CallerLemmas

@@ -1,0 +1,123 @@
+-- Lists that lead to nodes, and a list that ends at one node more.
+use Rattle.std.proofs.Common.{◌≡◌, ◌⊎◌, ℕ, ◌<◌, Bool, true, false, ◌&&◌, ◌||◌, ◌==◌, nat_lt, List, [], ◌∷◌, ◌++◌, length, reverse, refl, sym, ap, subst, ◌∙◌, inl, inr, arith, append_assoc, append-nil}
+use Rattle.std.proofs.lemmas.Bool.{ltb-true, lt-ltb, eqb-true, and_parts, and_from, eq-eqb}
+use Rattle.std.proofs.lemmas.List.{reverse-append, reverse-reverse}
+use Rattle.srs.specs.declared.piece.Piece.{Piece}
+use Rattle.srs.proofs.CallerLemmas.{piece_code-injective}
+use Rattle.cover.specs.declared.node.Node.{Node}
+use Rattle.cover.specs.Nodes.{child, has_end, spells, Ends, Grows, IsTree, LeadsTo}
+
+-- what leads to a node still does after the tree has grown
+pub leads-grown : (old new : List Node) (kinds : List Piece) (node : ℕ) → Grows old new → LeadsTo old kinds node → LeadsTo new kinds node
+leads-grown old new [] node grows leads = leads
+leads-grown old new (kind ∷ kinds) node grows leads =
+    let some : 0 < child old leads.0 kind = omega (arith, leads.2, leads.3) in
+    (leads.0, leads-grown old new kinds leads.0 grows leads.1, grows.kept leads.0 kind some ∙ leads.2, leads.3)
+
+pub grows-twice : (first second third : List Node) → Grows first second → Grows second third → Grows first third
+grows-twice first second third one two = record {
+  longer = omega (arith, one.longer, two.longer);
+  kept = λ at kind some. two.kept at kind (omega (arith, some, one.kept at kind some)) ∙ one.kept at kind some;
+  spelled = λ at kinds within. two.spelled at kinds (omega (arith, within, one.longer)) ∙ one.spelled at kinds within;
+}
+
+pub grows-none : (nodes : List Node) → Grows nodes nodes
+grows-none nodes = record { longer = omega arith; kept = λ at kind some. refl; spelled = λ at kinds within. refl }
+
+pub leads-within : (nodes : List Node) (kinds : List Piece) (node : ℕ) → IsTree nodes → LeadsTo nodes kinds node → node < length nodes
+leads-within nodes [] node tree leads = omega (arith, leads, tree.rooted)
+leads-within nodes (kind ∷ kinds) node tree leads = omega (arith, leads.2, tree.within leads.0 kind)
+
+-- one list alone leads to a node
+pub leads-one : (nodes : List Node) (kinds others : List Piece) (node : ℕ) → IsTree nodes → LeadsTo nodes kinds node → LeadsTo nodes others node → kinds ≡ others
+leads-one nodes [] [] node tree leads also = refl
+leads-one nodes [] (other ∷ others) node tree leads also = absurd (omega (arith, leads, also.3))
+leads-one nodes (kind ∷ kinds) [] node tree leads also = absurd (omega (arith, leads.3, also))
+leads-one nodes (kind ∷ kinds) (other ∷ others) node tree leads also =
+    let some : 0 < child nodes leads.0 kind = omega (arith, leads.2, leads.3) in
+    let same : child nodes leads.0 kind ≡ child nodes also.0 other = leads.2 ∙ sym also.2 in
+    let above = tree.one_above leads.0 also.0 kind other some same in
+    let code = tree.one_kind leads.0 also.0 kind other some same in
+    let rest = leads-one nodes kinds others also.0 tree (subst (LeadsTo nodes kinds) above leads.1) also.1 in
+    ap (λ k. k ∷ kinds) (piece_code-injective kind other code) ∙ ap (λ ks. other ∷ ks) rest
+
+-- the kinds on the way to a node, the last one first, before those that follow
+onto : List Piece → List Piece → List Piece
+onto [] kinds = kinds
+onto (kind ∷ way) kinds = onto way (kind ∷ kinds)
+
+onto-reverse : (way kinds : List Piece) → onto way kinds ≡ reverse way ++ kinds
+unfolding onto
+onto-reverse [] kinds = refl
+onto-reverse (kind ∷ way) kinds =
+    onto-reverse way (kind ∷ kinds) ∙ sym (append_assoc (reverse way) (kind ∷ []) kinds)
+    ∙ ap (λ front. front ++ kinds) (sym (reverse-append (kind ∷ []) way))
+
+onto-none : (kinds : List Piece) → onto (reverse kinds) [] ≡ kinds
+onto-none kinds = onto-reverse (reverse kinds) [] ∙ append-nil (reverse (reverse kinds)) ∙ reverse-reverse kinds
+
+pub ends-tree : (old new : List Node) (node : ℕ) → IsTree old → Ends old new node → IsTree new
+ends-tree old new node tree ends = record {
+  rooted = omega (arith, tree.rooted, ends.long);
+  later = λ at kind some. subst (λ c. at < c) (sym (ends.same at kind)) (tree.later at kind (omega (arith, some, ends.same at kind)));
+  within = λ at kind. omega (arith, tree.within at kind, ends.same at kind, ends.long);
+  one_above = λ at other kind second some same. tree.one_above at other kind second (omega (arith, some, ends.same at kind)) (sym (ends.same at kind) ∙ same ∙ ends.same other second);
+  one_kind = λ at other kind second some same. tree.one_kind at other kind second (omega (arith, some, ends.same at kind)) (sym (ends.same at kind) ∙ same ∙ ends.same other second);
+}
+
+module _ (old new : List Node) (kinds : List Piece) (node : ℕ) (tree : IsTree old) (leads : LeadsTo old (reverse kinds) node) (ends : Ends old new node) where
+  or_first : (a b : Bool) → a ≡ true → (a || b) ≡ true
+  or_first true b e = refl
+  or_first false b e = cc
+
+  or_second : (a b : Bool) → b ≡ true → (a || b) ≡ true
+  or_second true b e = refl
+  or_second false b e = e
+
+  or_parts : (a b : Bool) → (a || b) ≡ true → (a ≡ true) ⊎ (b ≡ true)
+  or_parts true b e = inl refl
+  or_parts false b e = inr e
+
+  -- what was spelled is
+  pub spells-still : (at : ℕ) (ks : List Piece) → spells old at ks ≡ true → spells new at ks ≡ true
+  unfolding spells
+  spells-still at [] spelled = ends.ends at ∙ or_first (has_end old at) (at == node) spelled
+  spells-still at (k ∷ ks) spelled =
+      let parts = and_parts (nat_lt 0 (child old at k)) _ spelled in
+      ap (λ c. nat_lt 0 c && spells new c ks) (ends.same at k) ∙ and_from _ _ parts.0 (spells-still (child old at k) ks parts.1)
+
+  -- what is spelled from a node is spelled from the first one, after the way to it
+  spells-onto : (way : List Piece) (at : ℕ) (ks : List Piece) → LeadsTo old way at → spells new at ks ≡ true → spells new 0 (onto way ks) ≡ true
+  unfolding spells onto
+  spells-onto [] at ks way_to spelled = subst (λ n. spells new n ks ≡ true) way_to spelled
+  spells-onto (k ∷ way) at ks way_to spelled =
+      spells-onto way way_to.0 (k ∷ ks) way_to.1
+      (ap (λ c. nat_lt 0 c && spells new c ks) (ends.same way_to.0 k ∙ way_to.2) ∙ and_from _ _ (lt-ltb 0 at way_to.3) spelled)
+
+  pub spells-new : spells new 0 kinds ≡ true
+  unfolding spells
+  spells-new =
+      subst (λ ks. spells new 0 ks ≡ true) (onto-none kinds)
+      (spells-onto (reverse kinds) node [] leads (ends.ends node ∙ or_second (has_end old node) (node == node) (eq-eqb node node refl)))
+
+  -- and nothing else
+  spells-more : (way : List Piece) (at : ℕ) (ks : List Piece) → LeadsTo old way at → spells new at ks ≡ true → (spells old at ks ≡ true) ⊎ (onto way ks ≡ kinds)
+  unfolding spells onto
+  spells-more way at [] way_to spelled = elim (or_parts (has_end old at) (at == node) (sym (ends.ends at) ∙ spelled)) [
+    | inl before ↦ inl before
+    | inr here ↦
+        let same : at ≡ node = eqb-true at node here in
+        inr (ap (λ w. onto w []) (leads-one old way (reverse kinds) node tree (subst (LeadsTo old way) same way_to) leads) ∙ onto-none kinds)
+  ]
+  spells-more way at (k ∷ ks) way_to spelled =
+      let parts = and_parts (nat_lt 0 (child new at k)) _ spelled in
+      let some : 0 < child old at k = omega (arith, ltb-true 0 (child new at k) parts.0, ends.same at k) in
+      let there = subst (λ c. spells new c ks ≡ true) (ends.same at k) parts.1 in
+      elim (spells-more (k ∷ way) (child old at k) ks (at, way_to, refl, some) there) [
+        | inl before ↦ inl (and_from _ _ (lt-ltb 0 (child old at k) some) before)
+        | inr is ↦ inr is
+      ]
+
+  pub spells-only : (ks : List Piece) → spells new 0 ks ≡ true → (spells old 0 ks ≡ true) ⊎ (ks ≡ kinds)
+  unfolding onto
+  spells-only ks spelled = spells-more [] 0 ks refl spelled

@@ -1,0 +1,13 @@
+-- A held piece stands in front where hold is allowed.
+use Rattle.std.proofs.Common.{◌∙◌, sym, ap, refl}
+use Rattle.hold_queue.specs.AtHand.{at_hand}
+use Rattle.cover.proofs.HandLemmas.{start-allowed, start-avoided}
+use Rattle.cover.proofs.hand.Hand.start.Goals as goal
+
+pub returns-in-Allowed-clause-at : goal.returns-in-Allowed-clause-at
+returns-in-Allowed-clause-at c = λ queue.
+    start-allowed queue _ c.args.held refl refl ∙ ap (λ hold. at_hand hold c.args.held queue) (sym c.in-Allowed.is)
+
+pub returns-in-Avoided-clause-at : goal.returns-in-Avoided-clause-at
+returns-in-Avoided-clause-at c = λ queue.
+    start-avoided queue _ c.args.held refl refl ∙ ap (λ hold. at_hand hold c.args.held queue) (sym c.in-Avoided.is)

@@ -1,0 +1,46 @@
+-- Each placement is looked up in the places of its piece.
+use Rattle.std.proofs.Common.{◌≡◌, ◌+◌, ◌-◌, ◌∙◌, ◌∷◌, sym, ap, subst, arith, drop, get_or, drop-cons, add-one, refl}
+use Rattle.srs.specs.Rules.{table_of}
+use Rattle.srs.specs.declared.placement.Placement.{Placement}
+use Rattle.srs.specs.declared.piece.Piece.TheVariants.{I}
+use Rattle.srs.specs.declared.rotation.Rotation.TheVariants.{Spawn}
+use Rattle.well.specs.Well.{filled}
+use Rattle.enumerate.proofs.CallerLemmas.{filled-low, free-inside, place-free}
+use Rattle.cover.proofs.PlayLemmas.{IsPlayed, played-starts, played-goes_on}
+use Rattle.cover.proofs.play.plays.Goals as goal
+
+abbrev no_placement : Placement
+no_placement = record { piece = I; rotation = Spawn; x = 0; y = 0 }
+
+pub placements-init : goal.placements-init
+placements-init g c =
+    let problem = c.args.problem.now in
+    subst (λ l. IsPlayed (table_of problem.rules) problem.drop_mode (filled problem.well) problem.height c.args.sequence.now.items (filled problem.well) problem.height l c.args.steps.now c.args.steps.now 0)
+    (sym c.as_slice-placement-items.ensures.value)
+    (played-starts (table_of problem.rules) problem.drop_mode (filled problem.well) problem.height c.args.sequence.now.items c.args.steps.now
+    (filled-low problem.well problem.height (omega (arith, c.requires.low)) c.requires.below))
+
+pub lies_below-requires : goal.lies_below-requires
+lies_below-requires g c =
+    let q = get_or c.as_slice-placement-items.result.now c.placements.placement-index no_placement in
+    let place = ((c.places-places.ensures.held q).0 (sym c.contains.ensures ∙ c.if-not-contains.false)).1 in
+    free-inside (filled c.placements.well) q (place-free (table_of c.args.problem.now.rules) (filled c.placements.well) c.args.problem.now.drop_mode q place)
+
+pub lock-removed-requires : goal.lock-removed-requires
+lock-removed-requires g c =
+    let q = get_or c.as_slice-placement-items.result.now c.placements.placement-index no_placement in
+    let place = ((c.places-places.ensures.held q).0 (sym c.contains.ensures ∙ c.if-not-contains.false)).1 in
+    place-free (table_of c.args.problem.now.rules) (filled c.placements.well) c.args.problem.now.drop_mode q place
+
+pub placements-preserved : goal.placements-preserved
+placements-preserved g c =
+    let problem = c.args.problem.now in
+    let items = c.as_slice-placement-items.result.now in
+    let i = c.placements.placement-index in
+    let q = get_or items i no_placement in
+    let split : drop i items ≡ q ∷ drop (i + 1) items = let within = c.placements-test.true in rw (add-one, drop-cons items i no_placement) refl in
+    let place = ((c.places-places.ensures.held q).0 (sym c.contains.ensures ∙ c.if-not-contains.false)).1 in
+    played-goes_on (table_of problem.rules) problem.drop_mode (filled problem.well) (filled c.placements.well) problem.height c.placements.rows c.args.sequence.now.items (drop (i + 1) items) (drop i items) q
+    c.args.steps.now c.placements.steps c.places-places.new.steps i c.placements.invariant split
+    (filled c.lock-removed.result.0) c.saturating_sub-rows.result place (sym c.lies_below.ensures ∙ c.if-not-lies_below.false) c.lock-removed.ensures.field
+    (c.saturating_sub-rows.ensures ∙ ap (λ n. c.placements.rows - n) c.lock-removed.ensures.removed) c.places-places.ensures.counted

@@ -1,0 +1,44 @@
+-- One node more is below, and all else stays.
+use Rattle.std.proofs.Common.{◌≡◌, ◌∙◌, length, sym, arith}
+use Rattle.cover.specs.Tree.{nodes_of}
+use Rattle.cover.proofs.GrownLemmas.{grown-grows, grown-pushed, grown-tree, grows-same}
+use Rattle.cover.proofs.tree.Tree.grown.Goals as goal
+
+pub returns-in_err-push-clause-grows : goal.returns-in_err-push-clause-grows
+unfolding nodes_of
+returns-in_err-push-clause-grows c = grows-same c.args.self.now.nodes.items _ c.in_err-push.ensures.items
+
+pub index-requires : goal.index-requires
+unfolding nodes_of
+index-requires c = omega (arith, c.requires, c.args.self.now.nodes.ok, c.in_ok-push.ensures.len)
+
+pub index_mut-requires : goal.index_mut-requires
+unfolding nodes_of
+index_mut-requires c = omega (arith, c.requires, c.args.self.now.nodes.ok, c.in_ok-push.ensures.len)
+
+pub invariant_of-self-2 : goal.invariant_of-self-2
+unfolding nodes_of
+invariant_of-self-2 c =
+    let items = c.args.self.now.nodes.items in
+    let count : c.len-node.result ≡ length items = omega (arith, c.len-node.ensures, c.args.self.now.nodes.ok) in
+    let grown = grown-pushed items c.push.new.self.items c.args.at c.args.kind c.len-node.result c.blank.result c.index.result.now c.with.result
+    c.in_ok-push.ensures.items c.requires c.blank.ensures c.index.ensures count c.with.ensures in
+    record { branches = grown-tree items _ c.args.at c.args.kind c.args.self.now.branches c.requires (sym c.below-known.ensures ∙ c.if-known-ne0.false) grown }
+
+pub returns-clause-grows : goal.returns-clause-grows
+unfolding nodes_of
+returns-clause-grows c =
+    let items = c.args.self.now.nodes.items in
+    let count : c.len-node.result ≡ length items = omega (arith, c.len-node.ensures, c.args.self.now.nodes.ok) in
+    let grown = grown-pushed items c.push.new.self.items c.args.at c.args.kind c.len-node.result c.blank.result c.index.result.now c.with.result
+    c.in_ok-push.ensures.items c.requires c.blank.ensures c.index.ensures count c.with.ensures in
+    grown-grows items _ c.args.at c.args.kind c.args.self.now.branches c.requires (sym c.below-known.ensures ∙ c.if-known-ne0.false) grown
+
+pub returns-clause-below : goal.returns-clause-below
+unfolding nodes_of
+returns-clause-below c =
+    let items = c.args.self.now.nodes.items in
+    let count : c.len-node.result ≡ length items = omega (arith, c.len-node.ensures, c.args.self.now.nodes.ok) in
+    let grown = grown-pushed items c.push.new.self.items c.args.at c.args.kind c.len-node.result c.blank.result c.index.result.now c.with.result
+    c.in_ok-push.ensures.items c.requires c.blank.ensures c.index.ensures count c.with.ensures in
+    count ∙ sym grown.there

@@ -1,0 +1,20 @@
+// Laws of the definitions: functions with an empty body, whose contract is the law.
+ghost use Rattle.std.specs.Prelude.{◌≡◌, ◌↔◌, ℕ, List, None, Some, slice_get};
+ghost use Rattle.srs.specs.declared.piece.Piece.{Piece};
+ghost use Rattle.srs.specs.declared.placement.Placement.{Placement};
+ghost use Rattle.queue_pattern.specs.Pattern.{elements_of};
+ghost use Rattle.queue_pattern.specs.Queues.{queues};
+ghost use Rattle.enumerate.specs.declared.problem.Problem.{Problem};
+ghost use Rattle.enumerate.specs.Search.{IsList};
+ghost use Rattle.enumerate.specs.Solution.{IsSolution};
+ghost use Rattle.cover.specs.Covered.{IsCovered};
+
+/// Where the sequences are all solutions of a problem, a queue is covered exactly where some sequence is a solution for
+/// it alone.
+pub fn all_solutions_cover_each_queue_that_has_one()
+    ensures { (problem : Problem) (sequences : List (List Placement)) (number : ℕ) (queue : List Piece) →
+        IsList (record { problem = problem; queue = None; bound = None }) sequences →
+        slice_get (queues (elements_of problem.pattern)) number ≡ Some queue →
+        IsCovered problem sequences number
+        ↔ ((sequence : List Placement) × IsSolution problem (Some queue) sequence) }
+{}

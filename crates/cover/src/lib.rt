@@ -1,0 +1,17 @@
+// Which queues of a pattern some known sequences answer.
+#![tactic(auto)]
+
+mod front;
+mod hand;
+mod kinds;
+pub mod laws;
+mod look;
+mod node;
+mod play;
+mod set;
+#[cfg(test)]
+mod tests;
+mod tree;
+
+pub use play::plays;
+pub use set::CoverSet;

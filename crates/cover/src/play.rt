@@ -1,0 +1,39 @@
+// Whether a sequence clears the field of a problem.
+ghost use Rattle.std.specs.Prelude.{◌+◌, ◌≤◌, ◌↔◌, IsTrue, length};
+ghost use Rattle.enumerate.specs.Problem.{IsFit};
+ghost use Rattle.cover.specs.Covered.{PlaysIn};
+
+use enumerate::{Problem, Sequence, lies_below};
+use reach::{Steps, places};
+use std::sync::ledger::Ledger;
+
+/// Whether each placement of a sequence is reached by legal keys in the field before it, below the rows that are left
+/// there, and the last one leaves no row and no cell. Adds at most one step for each placement.
+pub fn plays<L: Ledger>(problem: &Problem, sequence: &Sequence, steps: &mut Steps<L>) -> bool
+    requires { IsFit problem.now }
+    ensures exact { IsTrue result ↔ PlaysIn problem.now sequence.now.items }
+    ensures counted { steps.old ≤ steps.new }
+    ensures few { steps.new ≤ steps.old + length sequence.now.items }
+{
+    let mut well = problem.well;
+    let mut rows = problem.height;
+    'placements: for placement in sequence.as_slice() {
+        let places = places(
+            &well,
+            &problem.rules,
+            placement.piece,
+            problem.drop_mode,
+            steps,
+        );
+        if !places.contains(placement) {
+            return false;
+        }
+        if !lies_below(placement, rows) {
+            return false;
+        }
+        let (next, removed) = well.lock(placement);
+        well = next;
+        rows = rows.saturating_sub(removed);
+    }
+    rows == 0
+}

@@ -1,0 +1,110 @@
+// The kinds of known sequences, and the queues that permit them.
+ghost use Rattle.std.specs.Prelude.{◌≡◌, List, OnErr, OnOk, map};
+ghost use Rattle.srs.specs.declared.piece.Piece.{Piece};
+ghost use Rattle.enumerate.specs.Problem.{IsFit};
+ghost use Rattle.cover.specs.Covered.{Keeps};
+ghost use Rattle.cover.specs.Lists.{has_kinds, items_of};
+ghost use Rattle.cover.specs.Nodes.{spells};
+ghost use Rattle.cover.specs.Tree.{nodes_of};
+
+use crate::front::end_of_front;
+use crate::hand::Hand;
+use crate::kinds::{Kinds, kinds_of};
+use crate::look::{Look, look_at};
+use crate::play::plays;
+use crate::tree::Tree;
+use enumerate::{Problem, Sequence};
+use hold_queue::Hold;
+use indexmap::IndexSet;
+use pc_outside::NoMemory;
+use reach::Steps;
+use std::alloc::Global;
+use std::sync::ledger::Ledger;
+
+/// A problem, and the distinct lists of the kinds of sequences that clear its field, in the order of first sight.
+#[derive(Drop)]
+pub struct CoverSet {
+    problem: Problem,
+    lists: IndexSet<Kinds>,
+    tree: Tree,
+    ghost fit: { IsFit problem },
+    ghost listed: { (kinds : List Piece) → spells (nodes_of tree) 0 kinds ≡ has_kinds (map items_of lists.keys) kinds },
+}
+
+/// Keeps a list in a tree and in a set. Want of memory is the only refusal.
+fn keep(tree: &mut Tree, lists: &mut IndexSet<Kinds>, kinds: Kinds) -> Result<(), NoMemory>
+    requires { (other : List Piece) → spells (nodes_of tree.old) 0 other ≡ has_kinds (map items_of lists.old.keys) other }
+    ensures listed { (other : List Piece) → spells (nodes_of tree.new) 0 other ≡ has_kinds (map items_of lists.new.keys) other }
+    ensures kept { OnOk result (Keeps (map items_of lists.old.keys) (map items_of lists.new.keys) kinds.items) }
+    ensures err { OnErr result (map items_of lists.new.keys ≡ map items_of lists.old.keys) }
+{
+    let node = tree.way(kinds.as_slice())?;
+    lists.insert(kinds)?;
+    tree.end_at(node);
+    Ok(())
+}
+
+impl CoverSet {
+    ghost use Rattle.std.specs.Prelude.{ℕ, ◌+◌, ◌≤◌, ◌↔◌, [], IfOk, OnErr, IsTrue, length, if◌then◌else◌};
+    ghost use Rattle.queue_pattern.specs.Pattern.{elements_of};
+    ghost use Rattle.queue_pattern.specs.Queues.{queues};
+    ghost use Rattle.enumerate.specs.Solution.{pieces_of};
+    ghost use Rattle.cover.specs.Covered.{Adds, IsNextFrom, IsPermitted, PlaysIn};
+    ghost use Rattle.cover.specs.Kept.{lists_of, problem_of};
+
+    /// A set that keeps nothing yet, for a fit problem. Want of memory is the only refusal.
+    pub fn start(alloc: Global, problem: Problem) -> Result<CoverSet, NoMemory>
+        requires { IsFit problem }
+        ensures problem { IfOk result (λ set. problem_of set ≡ problem) }
+        ensures none { IfOk result (λ set. lists_of set ≡ []) }
+    {
+        let tree = Tree::new(alloc)?;
+        Ok(CoverSet {
+            problem,
+            lists: IndexSet::new(alloc),
+            tree,
+        })
+    }
+
+    /// Keeps the kinds of a sequence where it clears the field of the problem, and says whether it does. Adds at most
+    /// one step for each placement. Want of memory is the only refusal, and then all is as before.
+    pub fn add<L: Ledger>(
+        &mut self,
+        sequence: &Sequence,
+        steps: &mut Steps<L>,
+    ) -> Result<bool, NoMemory>
+        ensures problem { problem_of self.new ≡ problem_of self.old }
+        ensures plays { IfOk result (λ plays. IsTrue plays ↔ PlaysIn (problem_of self.old) sequence.now.items) }
+        ensures kept { IfOk result (λ plays.
+            Adds plays (lists_of self.old) (lists_of self.new) (pieces_of sequence.now.items)) }
+        ensures err { OnErr result (lists_of self.new ≡ lists_of self.old) }
+        ensures counted { steps.old ≤ steps.new }
+        ensures few { steps.new ≤ steps.old + length sequence.now.items }
+    {
+        if !plays(&self.problem, sequence, steps) {
+            return Ok(false);
+        }
+        keep(&mut self.tree, &mut self.lists, kinds_of(sequence))?;
+        Ok(true)
+    }
+
+    /// The least number, at or above one, of a queue that permits a kept list of kinds. `None` exactly where there is
+    /// none.
+    pub fn next_covered(&self, from: u32) -> Option<u32>
+        requires { from ≤ length (queues (elements_of (problem_of self.now).pattern)) }
+        ensures { IsNextFrom (IsPermitted (problem_of self.now) (lists_of self.now)) from result }
+    {
+        let pattern = &self.problem.pattern;
+        let hold = self.problem.hold;
+        let hand = Hand::start(hold, self.problem.held);
+        let mut number = from;
+        while number < pattern.count() {
+            let queue = pattern.queue(number);
+            match look_at(&self.tree, hold, 0, queue.as_slice(), hand) {
+                Look::Found => return Some(number),
+                Look::Missed(seen) => number = end_of_front(pattern, number, &queue, seen),
+            }
+        }
+        None
+    }
+}

@@ -1,0 +1,62 @@
+// The lines that commands about queues write.
+ghost use Rattle.std.specs.Prelude.{◌≡◌, ◌<◌, ◌≤◌, map};
+ghost use Rattle.srs.specs.Piece.{piece_letter};
+ghost use Rattle.pc_outside.specs.Counts.{HasCause};
+ghost use Rattle.pc_outside.specs.Writes.{WritesAll};
+ghost use Rattle.queue_lines.specs.Lines.{number_form, numbers_form, queue_form, rate_of};
+
+use arrayvec::ArrayVec;
+use itoa::Buffer;
+use pc_outside::{Failed, Sink, write_pieces};
+use queue_pattern::Queue;
+
+/// The letters of a queue.
+pub fn letters(queue: &Queue) -> ArrayVec<u8, 22>
+    ensures { result.items ≡ map piece_letter queue.now.items }
+{
+    let mut letters = ArrayVec::new();
+    'pieces: for piece in queue.as_slice() {
+        letters.push(piece.letter());
+    }
+    letters
+}
+
+/// 10,000 times the good ones divided by all, rounded down.
+pub fn rate(good: u32, all: u32) -> u32
+    requires some { 0 < all }
+    requires within { good ≤ all }
+    ensures { result ≡ rate_of good all }
+{
+    (10_000 * u64::from(good) / u64::from(all)) as u32
+}
+
+#[tactic(auto, unfolding(crate::specs::Lines::queue_form))]
+/// Writes the letters of a queue and a newline.
+pub fn write_queue<O: Sink>(out: &mut O, queue: &Queue) -> Result<(), Failed>
+    ensures written { WritesAll (O.written out.old) (O.written out.new) result (queue_form queue.now.items) }
+    ensures cause { HasCause (O.faults out.old) (O.faults out.new) result }
+{
+    write_pieces(out, &[letters(queue).as_slice(), b"\n"])
+}
+
+#[tactic(auto, unfolding(crate::specs::Lines::number_form))]
+/// Writes the line of a number behind its name and a blank: `good 12`.
+pub fn write_number<O: Sink>(out: &mut O, name: &[u8], number: u32) -> Result<(), Failed>
+    ensures written { WritesAll (O.written out.old) (O.written out.new) result (number_form name.now number) }
+    ensures cause { HasCause (O.faults out.old) (O.faults out.new) result }
+{
+    let mut digits = Buffer::new();
+    write_pieces(out, &[name, digits.format(number).as_bytes(), b"\n"])
+}
+
+/// Writes how many queues there are, how many of them are good, and the rate.
+pub fn write_numbers<O: Sink>(out: &mut O, all: u32, good: u32) -> Result<(), Failed>
+    requires some { 0 < all }
+    requires within { good ≤ all }
+    ensures written { WritesAll (O.written out.old) (O.written out.new) result (numbers_form all good) }
+    ensures cause { HasCause (O.faults out.old) (O.faults out.new) result }
+{
+    write_number(out, b"queues ", all)?;
+    write_number(out, b"good ", good)?;
+    write_number(out, b"rate ", rate(good, all))
+}
