@@ -1,4 +1,5 @@
 -- Lemmas on table texts.
+pub mod CallerLemmas
 mod GivenLemmas
 mod Steps
 mod Numbers

@@ -1,72 +1,36 @@
 -- What is printed of a table spells it.
-use Rattle.std.proofs.Common.{◌≡◌, ℕ, pos, ◌<◌, zero, suc, ◌+◌, ◌-◌, ◌≤◌, true, List, [], ◌∷◌, ◌++◌, length, map, take, refl, ap, sym, ◌∙◌, arith, Option, Some, None, Ok, append_assoc}
-use Rattle.std.specs.List.{list_all, flat_map, AllByRecursion, range_with_len, join_with_byte}
-use Rattle.std.specs.Prelude.{option_to_list, IsSome, slice_index_or}
+use Rattle.std.proofs.Common.{◌≡◌, ℕ, ℤ, pos, ◌<◌, ◌-◌, ◌-ℤ◌, ◌≤◌, true, ◌&&◌, List, [], ◌∷◌, ◌++◌, length, map, take, drop, get_or, refl, ap, sym, subst, ◌∙◌, arith, Option, Some, None, Ok, append_assoc}
+use Rattle.std.specs.List.{list_all, flat_map, AllByRecursion, join_with_byte}
+use Rattle.std.specs.Prelude.{option_to_list, IsSome, slice_index_or, int_le}
 use Rattle.std.proofs.Math.Path.{fun_ext}
-use Rattle.std.proofs.lemmas.List.{append-nil, flat_map_more, length_push, same_from_push}
-use Rattle.std.proofs.lemmas.List.Folds.{flat_map-map}
+use Rattle.std.proofs.lemmas.List.{append-nil, length_push, same_from_push, take_all}
+use Rattle.std.proofs.lemmas.List.Folds.{flat_map-map, list_all-map}
 use Rattle.std.proofs.lemmas.Grind.{flat_map-append}
 use Rattle.srs.specs.declared.piece.Piece.{Piece}
 use Rattle.srs.specs.declared.piece.Piece.TheVariants.{I, L, O, Z, T, J, S}
 use Rattle.srs.specs.declared.rotation.Rotation.{Rotation}
 use Rattle.srs.specs.declared.rotation.Rotation.TheVariants.{Spawn, Right, Reverse, Left}
-use Rattle.srs.specs.Cells.{Cell}
-use Rattle.srs.specs.Kick.{Table, IsSmallTable, is_small_move, offset_in}
+use Rattle.srs.specs.Cells.{Cell, minus}
+use Rattle.srs.specs.declared.offset.Offset.{Offset}
+use Rattle.srs.specs.Kick.{Table, IsSmallTable, is_small_move, kick_in, offset_in, pair_of}
 use Rattle.srs.specs.Piece.{all_pieces, piece_letter, piece_with_letter}
 use Rattle.srs.specs.Rotation.{all_rotations, rotation_letter}
+use Rattle.lists.proofs.CallerLemmas.{and_both, and_first, and_second, list_all_each}
 use Rattle.kick_file.specs.Form.{Entry, SpellsEntries, offset_form, offsets_form, table_of_entries}
 use Rattle.kick_file.specs.Faults.{SpellsTable}
-use Rattle.kick_file.specs.Printed.{entry_form, entries_of, table_form}
-use Rattle.kick_file.specs.Printing.{separator, test_form, ended_entry, piece_form}
-use Rattle.kick_file.specs.Reading.{kick_text}
+use Rattle.kick_file.specs.Printed.{entry_form, entry_of, entries_of, table_form}
+use Rattle.kick_file.specs.Printing.{ended_entry, is_one_digit, is_short_move, piece_form}
+use Rattle.kick_file.specs.Reading.{is_small_number, kick_text}
+use Rattle.kick_file.proofs.Numbers.{each_small}
 use Rattle.kick_file.proofs.SpelledIsRead.{table_read}
 
--- one more number of a range
-range_push : (a n : ℕ) → range_with_len a (suc n) ≡ range_with_len a n ++ (a + n) ∷ []
-range_push a zero = ap (λ m. m ∷ []) (omega arith)
-range_push a (suc n) = ap (λ xs. a ∷ xs) (range_push (a + 1) n ∙ ap (λ m. range_with_len (a + 1) n ++ m ∷ []) (omega arith))
-
--- the offset of one more test is written
-pub one_more_test : (now before base : List ℕ) (table : Table) (piece : Piece) (rotation : Rotation) (test : ℕ) (cell : Cell) → 1 ≤ test
-    → before ≡ base ++ flat_map (test_form table piece rotation) (range_with_len 1 (test - 1)) → cell ≡ offset_in table piece rotation test
-    → now ≡ (before ++ separator test ∷ []) ++ offset_form cell
-    → now ≡ base ++ flat_map (test_form table piece rotation) (range_with_len 1 (test + 1 - 1))
-one_more_test now before base table piece rotation test cell low stands is written =
-    let f = test_form table piece rotation in
-    let count : suc (test - 1) ≡ test + 1 - 1 = omega (arith, low) in
-    let last : 1 + (test - 1) ≡ test = omega (arith, low) in
-    written ∙ append_assoc before (separator test ∷ []) (offset_form cell)
-    ∙ ap (λ c. before ++ separator test ∷ offset_form c) is ∙ ap (λ b. b ++ f test) stands
-    ∙ flat_map_more f base (range_with_len 1 (test - 1)) test
-    ∙ ap (λ k. base ++ flat_map f (range_with_len 1 (test - 1) ++ k ∷ [])) (sym last)
-    ∙ ap (λ xs. base ++ flat_map f xs) (sym (range_push 1 (test - 1)))
-    ∙ ap (λ n. base ++ flat_map f (range_with_len 1 n)) count
-
--- the offsets of an entry, with what stands before each
 abbrev nothing : Cell
 nothing = (pos 0, pos 0)
 
-five_tests : (cells : List Cell) → length cells ≡ 5
-    → flat_map (λ test. separator test ∷ offset_form (slice_index_or cells (test - 1) nothing)) (range_with_len 1 5) ≡ 58 ∷ offsets_form cells
-five_tests [] five = absurd (omega (arith, five))
-five_tests (v ∷ []) five = absurd (omega (arith, five))
-five_tests (v ∷ w ∷ []) five = absurd (omega (arith, five))
-five_tests (v ∷ w ∷ x ∷ []) five = absurd (omega (arith, five))
-five_tests (v ∷ w ∷ x ∷ y ∷ []) five = absurd (omega (arith, five))
-five_tests (v ∷ w ∷ x ∷ y ∷ z ∷ []) five =
-    ap (λ t. 58 ∷ (offset_form v ++ 47 ∷ (offset_form w ++ 47 ∷ (offset_form x ++ 47 ∷ (offset_form y ++ 47 ∷ t))))) (append-nil (offset_form z))
-five_tests (u ∷ v ∷ w ∷ x ∷ y ∷ z ∷ more) five = absurd (omega (arith, five))
-
-pub entry_ends : (now before base : List ℕ) (table : Table) (piece : Piece) (rotation : Rotation) (test : ℕ) → IsSmallTable table → test ≡ 6
-    → before ≡ (base ++ piece_letter piece ∷ rotation_letter rotation ∷ []) ++ flat_map (test_form table piece rotation) (range_with_len 1 (test - 1))
-    → now ≡ before ++ 59 ∷ [] → now ≡ base ++ ended_entry table piece rotation
-entry_ends now before base table piece rotation test small at_end stands written =
-    let f = test_form table piece rotation in
-    let head = piece_letter piece ∷ rotation_letter rotation ∷ [] in
-    let offsets = offsets_form (table piece rotation) in
-    written ∙ ap (λ b. b ++ 59 ∷ []) (stands ∙ ap (λ n. (base ++ head) ++ flat_map f (range_with_len 1 (n - 1))) at_end
-    ∙ ap (λ t. (base ++ head) ++ t) (five_tests (table piece rotation) (small.five piece rotation)) ∙ append_assoc base head (58 ∷ offsets))
-    ∙ append_assoc base (piece_letter piece ∷ rotation_letter rotation ∷ 58 ∷ offsets) (59 ∷ [])
+-- the offsets after the first
+pub offsets_join : (first : Cell) (rest : List Cell) → offset_form first ++ flat_map (λ offset. 47 ∷ offset_form offset) rest ≡ offsets_form (first ∷ rest)
+offsets_join first [] = append-nil (offset_form first)
+offsets_join first (next ∷ rest) = ap (λ t. offset_form first ++ 47 ∷ t) (offsets_join next rest)
 
 -- all four rotations, and all seven pieces
 pub piece_ends : (now base : List ℕ) (table : Table) (piece : Piece) (index : ℕ) → 4 ≤ index → index ≤ 4
@@ -92,7 +56,7 @@ ended_joined [] some = absurd (omega (arith, some))
 ended_joined (entry ∷ entries) some = ended_join entry entries
 
 entries_at : Table → Piece → List Entry
-entries_at table piece = map (λ rotation. record { turned = record { piece = piece; rotation = rotation }; offsets = table piece rotation }) all_rotations
+entries_at table piece = map (entry_of table piece) all_rotations
 
 pieces_join : (table : Table) (pieces : List Piece) → flat_map (piece_form table) pieces ≡ flat_map ended (flat_map (entries_at table) pieces)
 unfolding piece_form entries_at
@@ -100,7 +64,7 @@ pieces_join table [] = refl
 pieces_join table (piece ∷ pieces) =
     ap (λ t. piece_form table piece ++ t) (pieces_join table pieces)
     ∙ ap (λ t. t ++ flat_map ended (flat_map (entries_at table) pieces))
-    (sym (flat_map-map ended (λ (rotation : Rotation). record { turned = record { piece = piece; rotation = rotation }; offsets = table piece rotation }) all_rotations))
+    (sym (flat_map-map ended (entry_of table piece) all_rotations))
     ∙ sym (flat_map-append ended (entries_at table piece) (flat_map (entries_at table) pieces))
 
 pub table_ends : (now popped : List ℕ) (last : Option ℕ) (table : Table) (index : ℕ) → 7 ≤ index → index ≤ 7
@@ -196,3 +160,101 @@ printed_spells table small = record {
 
 pub printed_read : (table : Table) (text : List ℕ) → IsSmallTable table → text ≡ table_form table → kick_text text ≡ Ok table
 printed_read table text small is = ap kick_text is ∙ table_read (table_form table) table (printed_spells table small)
+
+-- five offsets are those of the tests
+five_of : (cells : List Cell) → length cells ≡ 5 → ◌≡◌ {A = List Cell}
+    (slice_index_or cells 0 nothing ∷ slice_index_or cells 1 nothing ∷ slice_index_or cells 2 nothing ∷ slice_index_or cells 3 nothing ∷ slice_index_or cells 4 nothing ∷ []) cells
+five_of [] five = absurd (omega (arith, five))
+five_of (v ∷ []) five = absurd (omega (arith, five))
+five_of (v ∷ w ∷ []) five = absurd (omega (arith, five))
+five_of (v ∷ w ∷ x ∷ []) five = absurd (omega (arith, five))
+five_of (v ∷ w ∷ x ∷ y ∷ []) five = absurd (omega (arith, five))
+five_of (v ∷ w ∷ x ∷ y ∷ z ∷ []) five = refl
+five_of (u ∷ v ∷ w ∷ x ∷ y ∷ z ∷ more) five = absurd (omega (arith, five))
+
+pub tests_of : (table : Table) (piece : Piece) (rotation : Rotation) (a b c d e : Cell) → IsSmallTable table
+    → a ≡ offset_in table piece rotation 1 → b ≡ offset_in table piece rotation 2 → c ≡ offset_in table piece rotation 3
+    → d ≡ offset_in table piece rotation 4 → e ≡ offset_in table piece rotation 5
+    → ◌≡◌ {A = List Cell} (a ∷ b ∷ c ∷ d ∷ e ∷ []) (table piece rotation)
+tests_of table piece rotation a b c d e small p q r s t =
+    (λ i. p i ∷ q i ∷ r i ∷ s i ∷ t i ∷ []) ∙ five_of (table piece rotation) (small.five piece rotation)
+
+-- the offsets after the first one, as code has them
+rest_of : (first : Offset) (rest : List Offset) → take (length (first ∷ rest) - 1) (drop 1 (first ∷ rest)) ≡ rest
+rest_of first rest = take_all (length (first ∷ rest) - 1) rest (omega arith)
+
+pub short_in_rest : (offsets : List Offset) (i : ℕ) (d : Offset) → list_all is_short_move (map pair_of offsets) ≡ true
+    → i < length (take (length offsets - 1) (drop 1 offsets)) → is_short_move (pair_of (get_or (take (length offsets - 1) (drop 1 offsets)) i d)) ≡ true
+short_in_rest [] i d short within = absurd (omega (arith, within))
+short_in_rest (first ∷ rest) i d short within =
+    let is = rest_of first rest in
+    let inside : i < length rest = subst (λ xs. i < length xs) is within in
+    let each : list_all (λ offset. is_short_move (pair_of offset)) rest ≡ true =
+    sym (list_all-map is_short_move pair_of rest) ∙ and_second (is_short_move (pair_of first)) (list_all is_short_move (map pair_of rest)) short in
+    subst (λ xs. is_short_move (pair_of (get_or xs i d)) ≡ true) (sym is) (list_all_each (λ offset. is_short_move (pair_of offset)) rest i d each inside)
+
+-- all offsets are written
+pub offsets_end : (now before base : List ℕ) (offsets : List Offset) (first d : Offset) (index : ℕ) → 1 ≤ length offsets → first ≡ get_or offsets 0 d
+    → length (take (length offsets - 1) (drop 1 offsets)) ≤ index → before ≡ base ++ offset_form (pair_of first)
+    → now ≡ before ++ flat_map (λ offset. 47 ∷ offset_form (pair_of offset)) (take index (take (length offsets - 1) (drop 1 offsets)))
+    → now ≡ base ++ offsets_form (map pair_of offsets)
+offsets_end now before base [] first d index some is over begun written = absurd (omega (arith, some))
+offsets_end now before base (o ∷ rest) first d index some is over begun written =
+    let whole : take index (take (length (o ∷ rest) - 1) (drop 1 (o ∷ rest))) ≡ rest = take_all index (take (length (o ∷ rest) - 1) (drop 1 (o ∷ rest))) over ∙ rest_of o rest in
+    written ∙ ap (λ xs. before ++ flat_map (λ offset. 47 ∷ offset_form (pair_of offset)) xs) whole
+    ∙ ap (λ b. b ++ flat_map (λ offset. 47 ∷ offset_form (pair_of offset)) rest) (begun ∙ ap (λ f. base ++ offset_form (pair_of f)) is)
+    ∙ append_assoc base (offset_form (pair_of o)) (flat_map (λ offset. 47 ∷ offset_form (pair_of offset)) rest)
+    ∙ ap (λ t. base ++ (offset_form (pair_of o) ++ t)) (sym (flat_map-map (λ offset. 47 ∷ offset_form offset) pair_of rest))
+    ∙ ap (λ t. base ++ t) (offsets_join (pair_of o) (map pair_of rest))
+
+-- small numbers have one digit, and so have their differences
+short_number : (z : ℤ) → is_small_number z ≡ true → is_one_digit z ≡ true
+short_number = each_small (λ z. is_one_digit z ≡ true) refl refl refl refl refl refl refl
+
+short_difference : (a b : ℤ) → is_small_number a ≡ true → is_small_number b ≡ true → is_one_digit (a -ℤ b) ≡ true
+short_difference a b small = each_small (λ a. (b : ℤ) → is_small_number b ≡ true → is_one_digit (a -ℤ b) ≡ true)
+    (each_small (λ b. is_one_digit (pos 0 -ℤ b) ≡ true) refl refl refl refl refl refl refl)
+    (each_small (λ b. is_one_digit (pos 1 -ℤ b) ≡ true) refl refl refl refl refl refl refl)
+    (each_small (λ b. is_one_digit (pos 2 -ℤ b) ≡ true) refl refl refl refl refl refl refl)
+    (each_small (λ b. is_one_digit (pos 3 -ℤ b) ≡ true) refl refl refl refl refl refl refl)
+    (each_small (λ b. is_one_digit (minus 1 -ℤ b) ≡ true) refl refl refl refl refl refl refl)
+    (each_small (λ b. is_one_digit (minus 2 -ℤ b) ≡ true) refl refl refl refl refl refl refl)
+    (each_small (λ b. is_one_digit (minus 3 -ℤ b) ≡ true) refl refl refl refl refl refl refl)
+    a small b
+
+-- both numbers of a small move
+record IsSmallPair (cell : Cell) : Type 0 where
+  pub columns : is_small_number cell.0 ≡ true
+  pub rows : is_small_number cell.1 ≡ true
+
+small_pair : (cell : Cell) → is_small_move cell ≡ true → IsSmallPair cell
+small_pair cell small =
+    let p = int_le (minus 3) cell.0 in
+    let q = int_le cell.0 (pos 3) in
+    let r = int_le (minus 3) cell.1 in
+    let s = int_le cell.1 (pos 3) in
+    let front = and_first ((p && q) && r) s small in
+    record { columns = and_first (p && q) r front; rows = and_both r s (and_second (p && q) r front) (and_second ((p && q) && r) s small) }
+
+pub short_moves : (cells : List Cell) → list_all is_small_move cells ≡ true → list_all is_short_move cells ≡ true
+short_moves [] small = refl
+short_moves (cell ∷ cells) small = and_both (is_short_move cell) (list_all is_short_move cells) (short cell (and_first (is_small_move cell) (list_all is_small_move cells) small))
+    (short_moves cells (and_second (is_small_move cell) (list_all is_small_move cells) small))
+  where
+    short : (cell : Cell) → is_small_move cell ≡ true → is_short_move cell ≡ true
+    short cell small =
+        let both = small_pair cell small in
+        and_both (is_one_digit cell.0) (is_one_digit cell.1) (short_number cell.0 both.columns) (short_number cell.1 both.rows)
+
+-- kicks are short
+pub kick_short : (table : Table) (piece : Piece) (from to : Rotation) (test : ℕ) → IsSmallTable table → 1 ≤ test → test ≤ 5
+    → is_short_move (kick_in table piece from to test) ≡ true
+kick_short table piece from to test small first last =
+    let at : (rotation : Rotation) → IsSmallPair (offset_in table piece rotation test) =
+    λ rotation. small_pair (offset_in table piece rotation test)
+    (list_all_each is_small_move (table piece rotation) (test - 1) nothing (small.small piece rotation) (omega (arith, small.five piece rotation, first, last))) in
+    let left = at from in
+    let reached = at to in
+    and_both (is_one_digit (kick_in table piece from to test).0) (is_one_digit (kick_in table piece from to test).1)
+    (short_difference (offset_in table piece from test).0 (offset_in table piece to test).0 left.columns reached.columns)
+    (short_difference (offset_in table piece from test).1 (offset_in table piece to test).1 left.rows reached.rows)

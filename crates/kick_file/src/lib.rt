@@ -11,5 +11,5 @@ mod tests;
 mod turned;
 
 pub use fault::KickFault;
-pub use printing::print;
-pub use reading::parse;
+pub use printing::{print, push_entry, push_offsets};
+pub use reading::{parse, spelled};

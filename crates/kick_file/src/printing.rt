@@ -1,29 +1,30 @@
 // Printing a table.
-ghost use Rattle.std.specs.Prelude.{◌≡◌, ◌≤◌, ◌++◌, ◌∷◌, [], ◌==◌, if◌then◌else◌, IfOk, OnOk, IsTrue, Ok};
-ghost use Rattle.srs.specs.Kick.{is_small, pair_of, offset_in};
+ghost use Rattle.std.specs.Prelude.{◌≡◌, ◌++◌, ◌∷◌, [], map, IfOk, OnOk, IsTrue, Ok};
+ghost use Rattle.std.specs.List.{list_all};
+ghost use Rattle.srs.specs.Kick.{pair_of};
 ghost use Rattle.srs.specs.Piece.{piece_letter};
 ghost use Rattle.srs.specs.Rotation.{rotation_letter};
 ghost use Rattle.srs.specs.Rules.{table_of};
-ghost use Rattle.kick_file.specs.Form.{number_form, offset_form};
-ghost use Rattle.kick_file.specs.Printed.{table_form};
-ghost use Rattle.kick_file.specs.Printing.{separator, ended_entry, piece_form};
-ghost use Rattle.kick_file.specs.Reading.{kick_text, digit_of, is_small_number};
+ghost use Rattle.kick_file.specs.Form.{number_form, offset_form, offsets_form};
+ghost use Rattle.kick_file.specs.Printed.{entry_form, entry_of, table_form};
+ghost use Rattle.kick_file.specs.Printing.{is_one_digit, is_short_move, piece_form};
+ghost use Rattle.kick_file.specs.Reading.{kick_text, digit_of};
 
 use pc_outside::NoMemory;
 use srs::{Offset, Piece, Rotation, Rules};
 use std::alloc::Global;
 
-/// The digit of a number from -3 to 3.
+/// The digit of a number from -9 to 9.
 fn digit(number: i8) -> u8
-    requires { IsTrue (is_small_number number) }
+    requires { IsTrue (is_one_digit number) }
     ensures { result ≡ digit_of number }
 {
     b'0' + number.unsigned_abs()
 }
 
-/// A number from -3 to 3.
+/// A number from -9 to 9.
 fn push_number(text: &mut Vec<u8>, number: i8) -> Result<(), NoMemory>
-    requires { IsTrue (is_small_number number) }
+    requires { IsTrue (is_one_digit number) }
     ensures { OnOk result (text.new.items ≡ text.old.items ++ number_form number) }
 {
     let digit = digit(number);
@@ -35,9 +36,9 @@ fn push_number(text: &mut Vec<u8>, number: i8) -> Result<(), NoMemory>
     Ok(())
 }
 
-/// An offset.
+/// An offset, or a kick.
 fn push_offset(text: &mut Vec<u8>, offset: Offset) -> Result<(), NoMemory>
-    requires { IsTrue (is_small offset) }
+    requires { IsTrue (is_short_move (pair_of offset)) }
     ensures { OnOk result (text.new.items ≡ text.old.items ++ offset_form (pair_of offset)) }
 {
     push_number(text, offset.dx)?;
@@ -45,29 +46,47 @@ fn push_offset(text: &mut Vec<u8>, offset: Offset) -> Result<(), NoMemory>
     push_number(text, offset.dy)
 }
 
-/// What stands before the offset of a test.
-fn separator(test: u8) -> u8
-    ensures { result ≡ separator test }
+/// Appends offsets, or kicks, each of at most nine columns and nine rows, divided by `/`.
+pub fn push_offsets(text: &mut Vec<u8>, offsets: &[Offset]) -> Result<(), NoMemory>
+    requires { IsTrue (list_all is_short_move (map pair_of offsets.now)) }
+    ensures { OnOk result (text.new.items ≡ text.old.items ++ offsets_form (map pair_of offsets.now)) }
 {
-    if test == 1 { b':' } else { b'/' }
+    let [first, rest @ ..] = offsets else {
+        return Ok(());
+    };
+    push_offset(text, *first)?;
+    for offset in rest {
+        text.push(b'/')?;
+        push_offset(text, *offset)?;
+    }
+    Ok(())
 }
 
-/// An entry, with a `;` after it.
-fn push_entry(
+/// The offsets of a piece in a rotation, in the order of the tests.
+fn offsets_of(rules: &Rules, piece: Piece, rotation: Rotation) -> [Offset; 5]
+    ensures { map pair_of result ≡ table_of rules.now piece rotation }
+{
+    [
+        rules.offset(piece, rotation, 1),
+        rules.offset(piece, rotation, 2),
+        rules.offset(piece, rotation, 3),
+        rules.offset(piece, rotation, 4),
+        rules.offset(piece, rotation, 5),
+    ]
+}
+
+/// Appends the entry of a piece in a rotation.
+pub fn push_entry(
     text: &mut Vec<u8>,
     rules: &Rules,
     piece: Piece,
     rotation: Rotation,
 ) -> Result<(), NoMemory>
-    ensures { OnOk result (text.new.items ≡ text.old.items ++ ended_entry (table_of rules.now) piece rotation) }
+    ensures { OnOk result (text.new.items
+        ≡ text.old.items ++ entry_form (entry_of (table_of rules.now) piece rotation)) }
 {
-    text.extend_from_slice(&[piece.letter(), rotation.letter()])?;
-    for test in 1..6 {
-        text.push(separator(test))?;
-        push_offset(text, rules.offset(piece, rotation, test))?;
-    }
-    text.push(b';')?;
-    Ok(())
+    text.extend_from_slice(&[piece.letter(), rotation.letter(), b':'])?;
+    push_offsets(text, &offsets_of(rules, piece, rotation))
 }
 
 /// The four entries of a piece, with a `;` after each.
@@ -76,6 +95,7 @@ fn push_piece(text: &mut Vec<u8>, rules: &Rules, piece: Piece) -> Result<(), NoM
 {
     for rotation in Rotation::ALL {
         push_entry(text, rules, piece, rotation)?;
+        text.push(b';')?;
     }
     Ok(())
 }

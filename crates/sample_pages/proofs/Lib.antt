@@ -1,0 +1,2 @@
+-- Lemmas on drawn pages.
+mod PageLemmas

@@ -1,0 +1,12 @@
+-- One draw more.
+use Rattle.std.proofs.Common.{◌∙◌, refl}
+use Rattle.sample_pages.specs.Draws.{state_after}
+use Rattle.sample_pages.proofs.PageLemmas.{draw_more}
+use Rattle.sample_pages.proofs.draws.state_after.Goals as goal
+
+pub loop-init : goal.loop-init
+unfolding state_after
+loop-init c = refl
+
+pub loop-preserved : goal.loop-preserved
+loop-preserved c = c.next_state-after.ensures ∙ draw_more c.loop.after c.loop.counter c.args.state c.loop.invariant

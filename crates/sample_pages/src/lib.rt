@@ -1,0 +1,9 @@
+// Pages that are made from a number, by numbers that are drawn from it.
+#![tactic(auto)]
+
+mod draws;
+mod pages;
+#[cfg(test)]
+mod tests;
+
+pub use pages::{Sample, sample_of, sample_pages};
