@@ -139,6 +139,10 @@ key_word-is table F mode target =
 pub is_key_word : (table : Table) (F : Field) (mode : DropMode) (target : Placement) (a : Option (List Key)) → IsLeastKeyWord table F mode target a → a ≡ least_key_word table F mode target
 is_key_word table F mode target a is = key_word_unique table F mode target a (least_key_word table F mode target) is (key_word-is table F mode target)
 
+-- what the function names is the least key word
+pub named_is_least : (table : Table) (F : Field) (mode : DropMode) (target : Placement) (a : Option (List Key)) → a ≡ least_key_word table F mode target → IsLeastKeyWord table F mode target a
+named_is_least table F mode target a named = subst (IsLeastKeyWord table F mode target) (sym named) (key_word-is table F mode target)
+
 -- each placement that keys reach has a key word
 some_word : (table : Table) (F : Field) (mode : DropMode) (target : Placement) (a : Option (List Key)) → IsLeastKeyWord table F mode target a → IsPlace table F mode target → is_some a ≡ true
 some_word table F mode target None is place = absurd (is.none place.keys place.led_to refl)

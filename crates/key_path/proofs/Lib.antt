@@ -7,3 +7,4 @@ mod KeyWordLemmas
 mod NewStates
 mod FindLemmas
 mod Worked
+pub mod CallerLemmas

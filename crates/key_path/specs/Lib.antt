@@ -4,3 +4,4 @@ pub mod LeastKeyWord
 -- What serves proofs alone
 pub mod Marks
 pub mod Search
+pub mod Known

@@ -3,6 +3,7 @@ ghost use Rattle.std.specs.Prelude.{◌≡◌, ◌+◌, IsTrue, false, MatchOpti
 ghost use Rattle.std.specs.List.{count_by};
 ghost use Rattle.srs.specs.Cells.{is_inside_of};
 ghost use Rattle.srs.specs.Canonical.{IsCanonical};
+ghost use Rattle.srs.specs.Kick.{srs_table};
 ghost use Rattle.srs.specs.Rules.{table_of};
 ghost use Rattle.well.specs.Free.{is_free};
 ghost use Rattle.well.specs.Well.{filled};
@@ -14,6 +15,7 @@ ghost use Rattle.key_path.specs.Marks.{is_unseen, new_state};
 ghost use Rattle.key_path.specs.Search.{IsFinding, IsTrying, IsReached};
 
 use crate::aim::rests_on;
+use crate::known::Known;
 use crate::marks::{Mark, Marks, STATES};
 use arrayvec::ArrayVec;
 use circular_buffer::HeapCircularBuffer;
@@ -31,14 +33,17 @@ pub type KeyWord = ArrayVec<Key, 920>;
 pub struct Finder {
     /// States that were reached and from which no key was pressed yet, those of lesser key words first.
     waiting: HeapCircularBuffer<Placement, Global>,
+    /// The words that were found last.
+    known: Known,
     ghost room: { waiting.capacity ≡ 920 },
 }
 
 impl Finder {
     /// A finder. `NoMemory` where its memory is refused.
     pub fn new(alloc: Global) -> Result<Finder, NoMemory> {
+        let known = Known::new(alloc)?;
         match HeapCircularBuffer::with_capacity(alloc, STATES) {
-            Ok(waiting) => Ok(Finder { waiting }),
+            Ok(waiting) => Ok(Finder { waiting, known }),
             Err(_) => Err(NoMemory),
         }
     }
@@ -46,7 +51,7 @@ impl Finder {
     /// Of the key words of allowed keys that lead from the spawn to a state whose rest has the target's cells, the
     /// shortest, and among these the least by the order of keys L, R, D, C, A, the first difference deciding. `None`
     /// exactly where no key word leads there.
-    #[tactic(auto, using(crate::proofs::KeyWordLemmas::is_key_word))]
+    #[tactic(auto, using(crate::proofs::KeyWordLemmas::named_is_least))]
     pub fn find(
         &mut self,
         well: &Well,
@@ -60,7 +65,50 @@ impl Finder {
         ensures named { option_map (λ word. word.items) result
             ≡ least_key_word (table_of rules.now) (filled well.now) drop_mode target.now }
     {
-        self.least_word(well, rules, target, drop_mode)
+        self.named_word(well, rules, target, drop_mode)
+    }
+
+    /// The least key word, looked up where it was found before.
+    #[tactic(auto, using(crate::proofs::KeyWordLemmas::is_key_word))]
+    fn named_word(
+        &mut self,
+        well: &Well,
+        rules: &Rules,
+        target: &Placement,
+        drop_mode: DropMode,
+    ) -> Option<KeyWord>
+        requires { IsTrue (is_inside_of target.now) }
+        ensures { option_map (λ word. word.items) result
+            ≡ least_key_word (table_of rules.now) (filled well.now) drop_mode target.now }
+    {
+        if !rules.is_srs() {
+            return self.least_word(well, rules, target, drop_mode);
+        }
+        self.kept_word(well, rules, target, drop_mode)
+    }
+
+    /// The least key word under the offsets of the Super Rotation System, looked up where it was found before.
+    #[tactic(auto, using(crate::proofs::KeyWordLemmas::is_key_word))]
+    fn kept_word(
+        &mut self,
+        well: &Well,
+        rules: &Rules,
+        target: &Placement,
+        drop_mode: DropMode,
+    ) -> Option<KeyWord>
+        requires inside { IsTrue (is_inside_of target.now) }
+        requires table { table_of rules.now ≡ srs_table }
+        ensures { option_map (λ word. word.items) result
+            ≡ least_key_word srs_table (filled well.now) drop_mode target.now }
+    {
+        if let Some(word) = self.known.get(well, target, drop_mode) {
+            return Some(word);
+        }
+        let word = self.least_word(well, rules, target, drop_mode);
+        if let Some(word) = &word {
+            self.known.keep(well, target, drop_mode, word);
+        }
+        word
     }
 
     /// The least key word that leads to the target's cells.

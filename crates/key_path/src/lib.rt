@@ -3,6 +3,7 @@
 
 mod aim;
 mod finder;
+mod known;
 pub mod laws;
 mod marks;
 

@@ -13,7 +13,7 @@ mod reading;
 pub use fault::{ListFault, ListKind};
 pub use letters::{first_shown, letters_of, row};
 pub use line::print_page;
-pub use list::parse;
+pub use list::{first_line, parse};
 
 #[cfg(test)]
 mod tests;

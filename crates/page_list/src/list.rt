@@ -25,9 +25,10 @@ fn without_return(line: &[u8]) -> &[u8]
     }
 }
 
-/// The first line, and the text behind it.
+/// The first line without its end, and the text behind it. A line ends with a newline, or with `\r` and a newline, or
+/// with the text.
 #[tactic(auto, unfolding(crate::specs::ListReading::first_line))]
-fn first_line(text: &[u8]) -> (&[u8], &[u8])
+pub fn first_line(text: &[u8]) -> (&[u8], &[u8])
     ensures { first_line text.now ≡ (result.0.now, result.1.now) }
 {
     match cut_at(b'\n', text) {

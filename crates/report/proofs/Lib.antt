@@ -1,2 +1,8 @@
--- Lemmas on lines.
+-- Lemmas on lines, on grids and on fumens.
 pub mod LineLemmas
+mod Columns
+mod GreyLemmas
+mod GridLemmas
+mod PageFields
+mod LineFields
+mod FumenLemmas

@@ -1,19 +1,25 @@
 -- A line placement by placement: without keys the fields do not matter, and with keys each placement is free in its field.
-use Rattle.std.proofs.Common.{◌≡◌, ℕ, ◌+◌, ◌-◌, ◌<◌, ◌≤◌, true, false, List, [], ◌∷◌, ◌++◌, length, drop, get_or, refl, sym, ap, subst, ◌∙◌, append_assoc, Option, None}
+use Rattle.std.proofs.Common.{◌≡◌, ℕ, ◌+◌, ◌-◌, ◌<◌, ◌≤◌, true, false, List, [], ◌∷◌, ◌++◌, length, drop, get_or, refl, sym, ap, subst, ◌∙◌, append_assoc, arith, Option, None}
 use Rattle.std.specs.List.{flat_map}
 use Rattle.std.proofs.lemmas.List.{drop_more, drop_all}
 use Rattle.lane_board.specs.Field.{Field}
 use Rattle.srs.specs.declared.placement.Placement.{Placement}
 use Rattle.srs.specs.Cells.{is_inside_of}
 use Rattle.srs.specs.Kick.{Table}
+use Rattle.srs.proofs.CallerLemmas.{PivotInside, pivot_inside}
 use Rattle.well.specs.Free.{is_free}
 use Rattle.well.specs.Lock.{locked, rows_removed}
 use Rattle.moves.specs.declared.key.DropMode.{DropMode}
 use Rattle.moves.specs.declared.key.Key.{Key}
 use Rattle.key_path.specs.LeastKeyWord.{least_key_word}
+use Rattle.lane_board.proofs.CallerLemmas.{cell_count-le}
+use Rattle.lane_board.specs.CellCount.{cell_count}
 use Rattle.enumerate.specs.Plays.{Plays}
 use Rattle.enumerate.proofs.CallerLemmas.{place-free, free-inside}
 use Rattle.sequence_text.specs.Written.{keyed_form, sequence_form, without_keys}
+use Rattle.combo.specs.Runs.{Runs}
+use Rattle.combo.proofs.CallerLemmas.{runs_take_cells}
+use Rattle.report.specs.Played.{AreFree}
 use Rattle.report.specs.Forms.{KeysOf, key_part, keyed, line_form}
 
 -- without keys the fields do not matter
@@ -76,8 +82,37 @@ plays_free table mode F s i d within on = place-free table F mode (get_or s i d)
 pub plays_inside : (table : Table) (mode : DropMode) (F : Field) (s : List Placement) (i : ℕ) (d : Placement) → i < length s → PlaysOn table mode F s i → is_inside_of (get_or s i d) ≡ true
 plays_inside table mode F s i d within on = free-inside F (get_or s i d) (plays_free table mode F s i d within on)
 
+pub plays_pivot : (table : Table) (mode : DropMode) (F : Field) (s : List Placement) (i : ℕ) (d : Placement) → i < length s → PlaysOn table mode F s i → PivotInside (get_or s i d)
+plays_pivot table mode F s i d within on = pivot_inside (get_or s i d) (plays_inside table mode F s i d within on)
+
 pub plays_next : (table : Table) (mode : DropMode) (F : Field) (s : List Placement) (i : ℕ) (d : Placement) → i < length s → PlaysOn table mode F s i → PlaysOn table mode (locked F (get_or s i d)) s (i + 1)
 plays_next table mode F s i d within on = record { rows = on.rows - rows_removed F (get_or s i d); plays = (plays_first table mode F s i d within on).2 }
+
+-- placements that play are free
+pub played_free : (table : Table) (mode : DropMode) (F : Field) (rows : ℕ) (s : List Placement) → Plays table mode F rows s → AreFree F s
+played_free table mode F rows [] plays = tt
+played_free table mode F rows (q ∷ s) plays = (place-free table F mode q plays.0, played_free table mode (locked F q) (rows - rows_removed F q) s plays.2)
+
+-- and so are those of a run, of which there are few
+pub runs_free : (table : Table) (mode : DropMode) (F : Field) (s : List Placement) → Runs table mode F s → AreFree F s
+runs_free table mode F [] runs = tt
+runs_free table mode F (q ∷ s) runs = (place-free table F mode q runs.0, runs_free table mode (locked F q) s runs.2)
+
+pub runs_few : (table : Table) (mode : DropMode) (F : Field) (s : List Placement) → Runs table mode F s → length s ≤ 38
+runs_few table mode F s runs = omega (arith, runs_take_cells table mode F s runs, cell_count-le F 23)
+
+-- the placements from an index on are free
+free_from : (F : Field) (s : List Placement) (i : ℕ) (d : Placement) → i < length s → AreFree F (drop i s) → AreFree F (get_or s i d ∷ drop (i + 1) s)
+free_from F s i d within free = subst (AreFree F) (drop_more s i d within) free
+
+pub first_free : (F : Field) (s : List Placement) (i : ℕ) (d : Placement) → i < length s → AreFree F (drop i s) → is_free F (get_or s i d) ≡ true
+first_free F s i d within free = (free_from F s i d within free).0
+
+pub first_inside : (F : Field) (s : List Placement) (i : ℕ) (d : Placement) → i < length s → AreFree F (drop i s) → is_inside_of (get_or s i d) ≡ true
+first_inside F s i d within free = free-inside F (get_or s i d) (first_free F s i d within free)
+
+pub next_free : (F : Field) (s : List Placement) (i : ℕ) (d : Placement) → i < length s → AreFree F (drop i s) → AreFree (locked F (get_or s i d)) (drop (i + 1) s)
+next_free F s i d within free = (free_from F s i d within free).1
 
 -- a text of the next placement with its key word is the next piece of the line
 pub next_piece : (table : Table) (mode : DropMode) (divider : List ℕ) (F after : Field) (s : List Placement) (i : ℕ) (d : Placement) (piece : List ℕ) (word : Option (List Key)) → i < length s →

@@ -1,5 +1,5 @@
 -- The bytes of a report's lines.
-use Rattle.std.specs.Prelude.{ℕ, Bool, true, false, Option, Some, None, List, [], ◌∷◌, ◌++◌, codes, decimal, map, take, length, min, nat_le, if◌then◌else◌}
+use Rattle.std.specs.Prelude.{ℕ, Bool, true, false, Option, None, List, [], ◌∷◌, ◌++◌, codes, decimal, take, length, min, nat_le, if◌then◌else◌}
 use Rattle.std.specs.List.{flat_map}
 use Rattle.lane_board.specs.Field.{Field}
 use Rattle.srs.specs.declared.placement.Placement.{Placement}
@@ -30,6 +30,11 @@ keyed keys F (placement ∷ rest) = (placement, keys F placement) ∷ keyed keys
 unfoldable pub line_form : KeysOf → Field → List Placement → List ℕ
 line_form keys F sequence = sequence_form (keyed keys F sequence) ++ 10 ∷ []
 
+-- the line of a run that is played from a field; none where the run has no placement
+abbrev pub run_form : KeysOf → Field → List Placement → List ℕ
+run_form keys F [] = []
+run_form keys F (placement ∷ rest) = line_form keys F (placement ∷ rest)
+
 -- the word of a tail
 abbrev pub tail_word : Tail → List ℕ
 tail_word End = codes "end "
@@ -39,8 +44,12 @@ tail_word Limit = codes "limit "
 abbrev pub tail_form : Tail → ℕ → List ℕ
 tail_form tail count = tail_word tail ++ decimal count ++ 10 ∷ []
 
--- the report of a list of sequences, of which at most so many are written
-unfoldable pub report_form : KeysOf → Field → ℕ → List (List Placement) → List ℕ
-report_form keys F limit sequences =
-    flat_map (line_form keys F) (take limit sequences)
+-- the line of a number of floods, as `floods 3`
+abbrev pub floods_form : ℕ → List ℕ
+floods_form floods = codes "floods " ++ decimal floods ++ 10 ∷ []
+
+-- the report of a list of sequences, each in this form, of which at most so many are written
+unfoldable pub report_form : (List Placement → List ℕ) → ℕ → List (List Placement) → List ℕ
+report_form form limit sequences =
+    flat_map form (take limit sequences)
     ++ tail_form (if nat_le limit (length sequences) then Limit else End) (min limit (length sequences))

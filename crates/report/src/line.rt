@@ -7,18 +7,22 @@ ghost use Rattle.pc_outside.specs.Writes.{WritesAll};
 ghost use Rattle.enumerate.specs.Plays.{Plays};
 ghost use Rattle.sequence_text.specs.Written.{keyed_form, sequence_form, without_keys};
 ghost use Rattle.report.specs.Forms.{key_part, line_form};
+ghost use Rattle.report.specs.Played.{AreFree};
 
 use enumerate::{Problem, Sequence};
 use key_path::{Finder, KeyWord};
+use moves::DropMode;
 use pc_outside::{Failed, Sink};
 use sequence_text::{SequenceText, placement_with_keys, push, sequence_text};
-use srs::Placement;
+use srs::{Placement, Rules};
+use well::Well;
 
 // A line without keys.
-fn line_of(sequence: &Sequence) -> SequenceText
-    ensures { result.items ≡ sequence_form (without_keys sequence.now.items) ++ 10 ∷ [] }
+fn line_of(placements: &[Placement]) -> SequenceText
+    requires { length placements.now ≤ 38 }
+    ensures { result.items ≡ sequence_form (without_keys placements.now) ++ 10 ∷ [] }
 {
-    let mut line = sequence_text(sequence.as_slice());
+    let mut line = sequence_text(placements);
     push(&mut line, b"\n");
     line
 }
@@ -34,33 +38,56 @@ fn placement_text(divider: &[u8], placement: &Placement, word: &Option<KeyWord>)
     }
 }
 
-// Writes the line of a sequence with the key word of each placement in the field before it.
+// Writes the line of placements with the key word of each in the field before it.
 fn write_with_keys<O: Sink>(
     out: &mut O,
-    problem: &Problem,
+    well: &Well,
+    rules: &Rules,
+    drop_mode: DropMode,
     placements: &[Placement],
     finder: &mut Finder,
 ) -> Result<(), Failed>
-    requires { Plays (table_of problem.now.rules) problem.now.drop_mode
-        (filled problem.now.well) problem.now.height placements.now }
+    requires { AreFree (filled well.now) placements.now }
     ensures written { WritesAll (O.written out.old) (O.written out.new) result
-        (line_form (key_part true (table_of problem.now.rules) problem.now.drop_mode)
-        (filled problem.now.well) placements.now) }
+        (line_form (key_part true (table_of rules.now) drop_mode) (filled well.now) placements.now) }
     ensures cause { HasCause (O.faults out.old) (O.faults out.new) result }
 {
-    let mut well = problem.well;
+    let mut before = *well;
     let mut divider: &[u8] = b"";
     for placement in placements {
-        let word = finder.find(&well, &problem.rules, placement, problem.drop_mode);
+        let word = finder.find(&before, rules, placement, drop_mode);
         out.write(placement_text(divider, placement, &word).as_slice())?;
-        well = well.lock(placement).0;
+        before = before.lock(placement).0;
         divider = b" ";
     }
     out.write(b"\n")
 }
 
+/// Writes the line of placements that are played from a well, with their key words where a finder is given.
+pub(crate) fn write_placements<O: Sink>(
+    out: &mut O,
+    well: &Well,
+    rules: &Rules,
+    drop_mode: DropMode,
+    placements: &[Placement],
+    finder: Option<&mut Finder>,
+) -> Result<(), Failed>
+    requires free { AreFree (filled well.now) placements.now }
+    requires few { length placements.now ≤ 38 }
+    ensures written { WritesAll (O.written out.old) (O.written out.new) result
+        (line_form (key_part (is_some finder.entry) (table_of rules.now) drop_mode)
+        (filled well.now) placements.now) }
+    ensures cause { HasCause (O.faults out.old) (O.faults out.new) result }
+{
+    match finder {
+        Some(finder) => write_with_keys(out, well, rules, drop_mode, placements, finder),
+        None => out.write(line_of(placements).as_slice()),
+    }
+}
+
 /// Writes the line of a sequence that solves the problem, as `I0:7,0 O0:8,0`. With a finder each placement is
 /// followed by its key word in the field before it, as `I0:7,0:RRRH`.
+#[tactic(auto, using(crate::proofs::LineLemmas::played_free))]
 pub fn write_line<O: Sink>(
     out: &mut O,
     problem: &Problem,
@@ -74,8 +101,13 @@ pub fn write_line<O: Sink>(
         (filled problem.now.well) sequence.now.items) }
     ensures cause { HasCause (O.faults out.old) (O.faults out.new) result }
 {
-    match finder {
-        Some(finder) => write_with_keys(out, problem, sequence.as_slice(), finder),
-        None => out.write(line_of(sequence).as_slice()),
-    }
+    let placements = sequence.as_slice();
+    write_placements(
+        out,
+        &problem.well,
+        &problem.rules,
+        problem.drop_mode,
+        placements,
+        finder,
+    )
 }

@@ -1,8 +1,8 @@
-// The line that ends a report.
+// The line that ends a report, and that of the floods behind it.
 ghost use Rattle.std.specs.Prelude.{◌≡◌};
 ghost use Rattle.pc_outside.specs.Counts.{HasCause};
 ghost use Rattle.pc_outside.specs.Writes.{WritesAll};
-ghost use Rattle.report.specs.Forms.{tail_word, tail_form};
+ghost use Rattle.report.specs.Forms.{floods_form, tail_form, tail_word};
 
 use itoa::Buffer;
 use pc_outside::{Failed, Sink, write_pieces};
@@ -34,4 +34,13 @@ pub fn write_tail<O: Sink>(out: &mut O, tail: Tail, count: u64) -> Result<(), Fa
 {
     let mut digits = Buffer::new();
     write_pieces(out, &[tail.word(), digits.format(count).as_bytes(), b"\n"])
+}
+
+/// Writes the line of a number of floods, which stands behind a report: `floods 3`.
+pub fn write_floods<O: Sink>(out: &mut O, floods: u64) -> Result<(), Failed>
+    ensures written { WritesAll (O.written out.old) (O.written out.new) result (floods_form floods) }
+    ensures cause { HasCause (O.faults out.old) (O.faults out.new) result }
+{
+    let mut digits = Buffer::new();
+    write_pieces(out, &[b"floods ", digits.format(floods).as_bytes(), b"\n"])
 }

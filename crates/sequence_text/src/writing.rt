@@ -12,7 +12,7 @@ use moves::Key;
 use placement_form::placement_text;
 use srs::Placement;
 
-/// The bytes of a text of at most 22 placements, or of one placement with its keys.
+/// The bytes of a text of at most 38 placements, or of one placement with its keys.
 pub type SequenceText = ArrayVec<u8, 1024>;
 
 /// Appends bytes for which there is room.
@@ -34,9 +34,9 @@ fn push_placement(text: &mut SequenceText, placement: &Placement)
 
 fn push_sequence(text: &mut SequenceText, placements: &[Placement])
     requires empty { text.old.items ≡ [] }
-    requires few { length placements.now ≤ 22 }
+    requires few { length placements.now ≤ 38 }
     ensures items { text.new.items ≡ plain_form placements.now }
-    ensures len { array_vec_len text.new ≤ 241 }
+    ensures len { array_vec_len text.new ≤ 417 }
 {
     let [first, rest @ ..] = placements else {
         return
@@ -48,11 +48,11 @@ fn push_sequence(text: &mut SequenceText, placements: &[Placement])
     }
 }
 
-/// The text of at most 22 placements without keys, as `I0:7,0 O0:8,0`: at most 241 bytes.
+/// The text of at most 38 placements without keys, as `I0:7,0 O0:8,0`: at most 417 bytes.
 pub fn sequence_text(placements: &[Placement]) -> SequenceText
-    requires { length placements.now ≤ 22 }
+    requires { length placements.now ≤ 38 }
     ensures items { result.items ≡ sequence_form (without_keys placements.now) }
-    ensures len { array_vec_len result ≤ 241 }
+    ensures len { array_vec_len result ≤ 417 }
 {
     let mut text = SequenceText::new();
     push_sequence(&mut text, placements);

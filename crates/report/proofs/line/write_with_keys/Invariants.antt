@@ -1,17 +1,18 @@
--- The placements so far are written, and those that are left play in the field that they leave.
+-- The placements so far are written, and those that are left are free in the field that they leave.
 use Rattle.std.proofs.Common.{◌≡◌, ◌≤◌, true, length, drop}
 use Rattle.srs.specs.Rules.{table_of}
 use Rattle.well.specs.Well.{filled}
 use Rattle.pc_outside.specs.Writes.{GrowsUpTo}
 use Rattle.report.specs.Forms.{key_part, line_form}
-use Rattle.report.proofs.LineLemmas.{PlaysOn, line_from}
+use Rattle.report.specs.Played.{AreFree}
+use Rattle.report.proofs.LineLemmas.{line_from}
 use Rattle.report.proofs.line.write_with_keys.Given as goal
 
 abbrev pub invariant-loop-placement : goal.invariant-loop-placement
 invariant-loop-placement g l =
     GrowsUpTo (g.O.Sink.written l.initial.out) (g.O.Sink.written l.out)
-    (line_form (key_part true (table_of l.problem.rules) l.problem.drop_mode) (filled l.problem.well) l.placements)
-    (line_from (key_part true (table_of l.problem.rules) l.problem.drop_mode) l.divider (filled l.well) (drop l.placement-index l.placements))
-    × PlaysOn (table_of l.problem.rules) l.problem.drop_mode (filled l.well) l.placements l.placement-index
+    (line_form (key_part true (table_of l.rules) l.drop_mode) (filled l.well) l.placements)
+    (line_from (key_part true (table_of l.rules) l.drop_mode) l.divider (filled l.before) (drop l.placement-index l.placements))
+    × AreFree (filled l.before) (drop l.placement-index l.placements)
     × (length l.divider ≤ 1)
     × (g.O.Sink.faults l.out ≡ g.O.Sink.faults l.initial.out)

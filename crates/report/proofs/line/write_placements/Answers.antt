@@ -6,14 +6,14 @@ use Rattle.well.specs.Well.{filled}
 use Rattle.pc_outside.specs.Writes.{WritesAll}
 use Rattle.report.specs.Forms.{key_part, line_form}
 use Rattle.report.proofs.LineLemmas.{plain_line}
-use Rattle.report.proofs.line.write_line.Goals as goal
+use Rattle.report.proofs.line.write_placements.Goals as goal
 
 pub returns-in-None-clause-written : goal.returns-in-None-clause-written
 returns-in-None-clause-written g c =
-    let table = table_of c.args.problem.now.rules in
-    let mode = c.args.problem.now.drop_mode in
-    let F = filled c.args.problem.now.well in
-    let s = c.args.sequence.now.items in
+    let table = table_of c.args.rules.now in
+    let mode = c.args.drop_mode in
+    let F = filled c.args.well.now in
+    let s = c.args.placements.now in
     let none = ap (λ finder. line_form (key_part (is_some finder) table mode) F s) c.in-None.is in
     subst (WritesAll (g.O.Sink.written c.args.out.now) (g.O.Sink.written c.write.new.self) c.write.result)
-    (c.as_slice-in-None.ensures.value ∙ c.line_of.ensures ∙ sym (plain_line table mode F s) ∙ sym none) c.write.ensures.written
+    (c.as_slice.ensures.value ∙ c.line_of.ensures ∙ sym (plain_line table mode F s) ∙ sym none) c.write.ensures.written

@@ -1,0 +1,55 @@
+-- One page after another.
+use Rattle.std.proofs.Common.{◌+◌, ◌++◌, drop, get_or, true, false, None, refl, sym, subst, ◌∙◌}
+use Rattle.srs.specs.declared.placement.Placement.{Placement}
+use Rattle.srs.specs.declared.piece.Piece.TheVariants.{I}
+use Rattle.srs.specs.declared.rotation.Rotation.TheVariants.{Spawn}
+use Rattle.srs.specs.Rules.{table_of}
+use Rattle.well.specs.Well.{filled}
+use Rattle.fumen_digits.specs.declared.dialect.Dialect.TheVariants.{V115}
+use Rattle.fumen_pages.specs.Cells.{AreCells}
+use Rattle.report.specs.Forms.{key_part}
+use Rattle.report.specs.FumenLine.{pages_from, placing_page}
+use Rattle.report.proofs.FumenLemmas.{page_more, pages_end}
+use Rattle.report.proofs.LineFields.{first_cells}
+use Rattle.report.proofs.LineLemmas.{PlaysOn, plays_free, plays_inside, plays_next}
+use Rattle.report.proofs.fumen_line.FumenWriter.set_without_keys.Goals as goal
+
+-- what an index past the end would read
+abbrev default : Placement
+default = record { piece = I; rotation = Spawn; x = 0; y = 0 }
+
+pub loop-placement-init : goal.loop-placement-init
+loop-placement-init c =
+    let keys = key_part false (table_of c.args.problem.now.rules) c.args.problem.now.drop_mode in
+    let F = filled c.args.problem.now.well in
+    let s = c.args.placements.now in (
+      (λ i. sym c.clear.ensures.items i ++ pages_from keys (sym c.grey_cells-cells.ensures i) true F s),
+      record { rows = c.args.problem.now.height; plays = c.requires },
+      subst (AreCells V115) (sym c.grey_cells-cells.ensures) (first_cells F),
+    )
+
+pub push_page-requires-clause-inside : goal.push_page-requires-clause-inside
+push_page-requires-clause-inside c = plays_inside (table_of c.args.problem.now.rules) c.args.problem.now.drop_mode (filled c.loop-placement.well) c.args.placements.now c.loop-placement.placement-index default c.loop-placement-test.true c.loop-placement.invariant.1
+
+pub lock-requires : goal.lock-requires
+lock-requires c = plays_free (table_of c.args.problem.now.rules) c.args.problem.now.drop_mode (filled c.loop-placement.well) c.args.placements.now c.loop-placement.placement-index default c.loop-placement-test.true c.loop-placement.invariant.1
+
+pub loop-placement-preserved : goal.loop-placement-preserved
+loop-placement-preserved c =
+    let table = table_of c.args.problem.now.rules in
+    let mode = c.args.problem.now.drop_mode in
+    let i = c.loop-placement.placement-index in
+    let F = filled c.loop-placement.well in
+    let s = c.args.placements.now in
+    let keys = key_part false table mode in
+    let page = placing_page c.loop-placement.cells c.loop-placement.colour (get_or s i default) None in (
+      page_more keys _ c.loop-placement.self.pages.items page c.loop-placement.cells c.loop-placement.colour F (filled c.lock.result.0) s i default None c.loop-placement-test.true refl refl c.lock.ensures.field c.loop-placement.invariant.0
+          ∙ (λ k. sym c.in_ok-cells.ensures.pushed k ++ pages_from keys (sym c.in_ok-cells.ensures.left k) false (filled c.lock.result.0) (drop (i + 1) s)),
+      subst (λ F. PlaysOn table mode F s (i + 1)) (sym c.lock.ensures.field) (plays_next table mode F s i default c.loop-placement-test.true c.loop-placement.invariant.1),
+      c.in_ok-cells.ensures.sound,
+    )
+
+pub returns : goal.returns
+returns c =
+    pages_end (key_part false (table_of c.args.problem.now.rules) c.args.problem.now.drop_mode) _ c.loop-placement.self.pages.items c.loop-placement.cells c.loop-placement.colour (filled c.loop-placement.well) c.args.placements.now
+    c.loop-placement.placement-index c.loop-placement-test.false c.loop-placement.invariant.0

@@ -1,0 +1,261 @@
+// A sequence as a fumen text, a page for each placement.
+ghost use Rattle.std.specs.Prelude.{◌≡◌, ◌≤◌, [], ◌∷◌, ◌++◌, true, false, Err, None, IfOk, OnOk, IsTrue, is_some, length, map, option_map};
+ghost use Rattle.srs.specs.Cells.{is_inside_of};
+ghost use Rattle.srs.specs.Rules.{table_of};
+ghost use Rattle.well.specs.Well.{filled};
+ghost use Rattle.pc_outside.specs.Writes.{WritesAll};
+ghost use Rattle.enumerate.specs.Plays.{Plays};
+ghost use Rattle.moves.specs.Keys.{key_letter};
+ghost use Rattle.report.specs.Forms.{key_part};
+ghost use Rattle.fumen_digits.specs.declared.dialect.Dialect.TheVariants.{V115};
+ghost use Rattle.fumen_pages.specs.Cells.{AreCells};
+ghost use Rattle.fumen_pages.specs.Next.{next};
+ghost use Rattle.fumen_text.specs.Written.{list_encode_fault, written};
+ghost use Rattle.report.specs.FumenLine.{fumen_form, placing_page, sequence_pages};
+ghost use Rattle.report.specs.WriteCause.{HasWriteCause};
+
+use crate::grey::grey_cells;
+use crate::write_fault::WriteFault;
+use enumerate::{Problem, Sequence};
+use fumen_comment::Comment;
+use fumen_digits::Dialect;
+use fumen_pages::{Page, next_cells};
+use fumen_text::encode;
+use key_path::{Finder, KeyWord};
+use pc_outside::{NoMemory, Refused, Sink};
+use srs::Placement;
+use std::alloc::Global;
+
+/// A writer of sequences as fumen texts. The memory for the pages of a line is taken once, and is used again for the
+/// next line.
+#[derive(Drop)]
+pub struct FumenWriter {
+    pages: Vec<Page>,
+}
+
+impl FumenWriter {
+    /// A writer. `NoMemory` where the memory for the pages of a line is refused.
+    pub fn new(alloc: Global) -> Result<FumenWriter, NoMemory> {
+        let pages = Vec::with_capacity(alloc, 22)?;
+        Ok(FumenWriter { pages })
+    }
+
+    /// Writes a sequence as `write_fumen_line` does.
+    pub fn write_line<O: Sink>(
+        &mut self,
+        alloc: Global,
+        out: &mut O,
+        problem: &Problem,
+        sequence: &Sequence,
+        finder: Option<&mut Finder>,
+    ) -> Result<(), WriteFault>
+        requires { Plays (table_of problem.now.rules) problem.now.drop_mode
+            (filled problem.now.well) problem.now.height sequence.now.items }
+        ensures written { WritesAll (O.written out.old) (O.written out.new) result
+            (fumen_form (key_part (is_some finder.entry) (table_of problem.now.rules) problem.now.drop_mode)
+            (filled problem.now.well) sequence.now.items) }
+        ensures untouched { result ≡ Err WriteFault.NoMemory → out.new ≡ out.old }
+        ensures cause { HasWriteCause (O.faults out.old) (O.faults out.new) result }
+    {
+        let text = match self.text(alloc, problem, sequence.as_slice(), finder) {
+            Ok(text) => text,
+            Err(_) => return Err(WriteFault::NoMemory),
+        };
+        match out.write(text.as_slice()) {
+            Ok(()) => Ok(()),
+            Err(_) => Err(WriteFault::Failed),
+        }
+    }
+
+    // The text of a line, and a newline.
+    #[tactic(auto, unfolding(crate::specs::FumenLine::fumen_form))]
+    fn text(
+        &mut self,
+        alloc: Global,
+        problem: &Problem,
+        placements: &[Placement],
+        finder: Option<&mut Finder>,
+    ) -> Result<Vec<u8>, NoMemory>
+        requires plays { Plays (table_of problem.now.rules) problem.now.drop_mode
+            (filled problem.now.well) problem.now.height placements.now }
+        requires few { length placements.now ≤ 22 }
+        ensures { IfOk result (λ text. text.items
+            ≡ fumen_form (key_part (is_some finder.entry) (table_of problem.now.rules) problem.now.drop_mode)
+            (filled problem.now.well) placements.now) }
+    {
+        self.set_pages(alloc, problem, placements, finder)?;
+        text_of(alloc, &self.pages)
+    }
+
+    // Makes the pages of placements.
+    fn set_pages(
+        &mut self,
+        alloc: Global,
+        problem: &Problem,
+        placements: &[Placement],
+        finder: Option<&mut Finder>,
+    ) -> Result<(), NoMemory>
+        requires plays { Plays (table_of problem.now.rules) problem.now.drop_mode
+            (filled problem.now.well) problem.now.height placements.now }
+        requires few { length placements.now ≤ 22 }
+        ensures pages { OnOk result (self.new.pages.items
+            ≡ sequence_pages (key_part (is_some finder.entry) (table_of problem.now.rules) problem.now.drop_mode)
+            (filled problem.now.well) placements.now) }
+        ensures fit { OnOk result (list_encode_fault V115 self.new.pages.items ≡ None) }
+    {
+        match finder {
+            Some(finder) => self.set_with_keys(alloc, problem, placements, finder),
+            None => self.set_without_keys(alloc, problem, placements),
+        }
+    }
+
+    fn set_with_keys(
+        &mut self,
+        alloc: Global,
+        problem: &Problem,
+        placements: &[Placement],
+        finder: &mut Finder,
+    ) -> Result<(), NoMemory>
+        requires { Plays (table_of problem.now.rules) problem.now.drop_mode
+            (filled problem.now.well) problem.now.height placements.now }
+        ensures { OnOk result (self.new.pages.items
+            ≡ sequence_pages (key_part true (table_of problem.now.rules) problem.now.drop_mode)
+            (filled problem.now.well) placements.now) }
+    {
+        self.pages.clear();
+        let mut well = problem.well;
+        let mut cells = grey_cells(&well);
+        let mut colour = true;
+        for placement in placements {
+            let word = finder.find(&well, &problem.rules, placement, problem.drop_mode);
+            cells = self.push_page(alloc, &cells, colour, placement, &word)?;
+            well = well.lock(placement).0;
+            colour = false;
+        }
+        Ok(())
+    }
+
+    fn set_without_keys(
+        &mut self,
+        alloc: Global,
+        problem: &Problem,
+        placements: &[Placement],
+    ) -> Result<(), NoMemory>
+        requires { Plays (table_of problem.now.rules) problem.now.drop_mode
+            (filled problem.now.well) problem.now.height placements.now }
+        ensures { OnOk result (self.new.pages.items
+            ≡ sequence_pages (key_part false (table_of problem.now.rules) problem.now.drop_mode)
+            (filled problem.now.well) placements.now) }
+    {
+        self.pages.clear();
+        let mut well = problem.well;
+        let mut cells = grey_cells(&well);
+        let mut colour = true;
+        for placement in placements {
+            cells = self.push_page(alloc, &cells, colour, placement, &None)?;
+            well = well.lock(placement).0;
+            colour = false;
+        }
+        Ok(())
+    }
+
+    // Appends the page of a placement, and gives the cells that the page leaves.
+    fn push_page(
+        &mut self,
+        alloc: Global,
+        cells: &[u8; 240],
+        colour: bool,
+        placement: &Placement,
+        word: &Option<KeyWord>,
+    ) -> Result<[u8; 240], NoMemory>
+        requires cells { AreCells V115 cells.now }
+        requires inside { IsTrue (is_inside_of placement.now) }
+        ensures pushed { OnOk result (self.new.pages.items ≡ self.old.pages.items
+            ++ placing_page cells.now colour placement.now (option_map (λ word. word.items) word.now) ∷ []) }
+        ensures left { IfOk result (λ left. left ≡ next V115
+            (placing_page cells.now colour placement.now (option_map (λ word. word.items) word.now))) }
+        ensures sound { IfOk result (λ left. AreCells V115 left) }
+    {
+        let page = placing_page(alloc, *cells, colour, placement, word)?;
+        let left = next_cells(Dialect::V115, &page);
+        self.pages.push(page)?;
+        Ok(left)
+    }
+}
+
+// A page on which a placement locks, with its keys as the comment where there are some.
+fn placing_page(
+    alloc: Global,
+    cells: [u8; 240],
+    colour: bool,
+    placement: &Placement,
+    word: &Option<KeyWord>,
+) -> Result<Page, NoMemory>
+    ensures { IfOk result (λ page. page ≡ placing_page cells colour placement.now
+        (option_map (λ word. word.items) word.now)) }
+{
+    let comment = match word {
+        Some(word) => Some(keys_comment(alloc, word)?),
+        None => None,
+    };
+    Ok(Page {
+        cells,
+        operation: Some(*placement),
+        rise: false,
+        mirror: false,
+        colour,
+        lock: true,
+        comment,
+    })
+}
+
+// The letters of the keys, and `H` for the hard drop at the end.
+fn keys_comment(alloc: Global, word: &KeyWord) -> Result<Comment, NoMemory>
+    ensures { IfOk result (λ comment. comment ≡ map key_letter word.now.items ++ 72 ∷ []) }
+{
+    let mut units = Vec::with_capacity(alloc, word.len() + 1)?;
+    for key in word.as_slice() {
+        units.push(u16::from(key.letter()))?;
+    }
+    units.push(u16::from(b'H'))?;
+    Ok(Comment::from_units(units))
+}
+
+// The text of pages that can be written, and a newline.
+fn text_of(alloc: Global, pages: &[Page]) -> Result<Vec<u8>, NoMemory>
+    requires { list_encode_fault V115 pages.now ≡ None }
+    ensures { IfOk result (λ text. text.items ≡ written V115 pages.now ++ 10 ∷ []) }
+{
+    let mut text = match encode(alloc, Dialect::V115, pages) {
+        Ok(text) => text,
+        Err(Refused::NoMemory) => return Err(NoMemory),
+        Err(Refused::Fault(_)) => unreachable!(),
+    };
+    text.push(b'\n')?;
+    Ok(text)
+}
+
+/// Writes a sequence that solves the problem as the fumen text of one page for each placement, and a newline. The first
+/// page has the well's cells as grey ones and the colour flag; each later one has the cells that the page before it
+/// leaves. Each page has its placement as the operation, and locks. With a finder its comment is the key word of the
+/// placement in the field before it, and `H`. Where memory is wanting, nothing was written.
+pub fn write_fumen_line<O: Sink>(
+    alloc: Global,
+    out: &mut O,
+    problem: &Problem,
+    sequence: &Sequence,
+    finder: Option<&mut Finder>,
+) -> Result<(), WriteFault>
+    requires { Plays (table_of problem.now.rules) problem.now.drop_mode
+        (filled problem.now.well) problem.now.height sequence.now.items }
+    ensures written { WritesAll (O.written out.old) (O.written out.new) result
+        (fumen_form (key_part (is_some finder.entry) (table_of problem.now.rules) problem.now.drop_mode)
+        (filled problem.now.well) sequence.now.items) }
+    ensures untouched { result ≡ Err WriteFault.NoMemory → out.new ≡ out.old }
+    ensures cause { HasWriteCause (O.faults out.old) (O.faults out.new) result }
+{
+    match FumenWriter::new(alloc) {
+        Ok(mut writer) => writer.write_line(alloc, out, problem, sequence, finder),
+        Err(_) => Err(WriteFault::NoMemory),
+    }
+}

@@ -1,0 +1,130 @@
+// A sequence as a grid.
+ghost use Rattle.std.specs.Prelude.{◌≡◌, ◌+◌, ◌≤◌, ◌<◌, ◌++◌, [], ◌∷◌, pos, is_some, map, length};
+ghost use Rattle.arrayvec.specs.ArrayVec.{array_vec_len};
+ghost use Rattle.lane_board.specs.FullRows.{columns};
+ghost use Rattle.srs.specs.Cells.{cells_of, is_inside_of};
+ghost use Rattle.srs.specs.Rules.{table_of};
+ghost use Rattle.srs.specs.SameCells.{is_among};
+ghost use Rattle.well.specs.Well.{filled};
+ghost use Rattle.pc_outside.specs.Counts.{HasCause};
+ghost use Rattle.pc_outside.specs.Writes.{WritesAll};
+ghost use Rattle.enumerate.specs.Plays.{Plays};
+ghost use Rattle.report.specs.Forms.{key_part};
+ghost use Rattle.report.specs.Grid.{grid_form, grid_letter, grid_pictures, grid_row, grid_rows};
+
+use crate::line::write_line;
+use arrayvec::ArrayVec;
+use enumerate::{Problem, Sequence};
+use key_path::Finder;
+use pc_outside::{Failed, Sink};
+use srs::{Placement, cells};
+use well::Well;
+
+// A newline behind those of the rows.
+const EMPTY_LINE: u8 = b'\n';
+
+/// The rows of one picture, each with a newline, and an empty line.
+type Picture = ArrayVec<u8, 254>;
+
+/// Writes the grid of a sequence that solves the problem: its line as `write_line` writes it, and then for each
+/// placement the rows below the rows left, the top one first, and an empty line. A cell is the letter of the piece
+/// where the placement has it, `X` where the field before it has one, and else `_`.
+#[tactic(auto, unfolding(crate::specs::Grid::grid_form))]
+pub fn write_grid<O: Sink>(
+    out: &mut O,
+    problem: &Problem,
+    sequence: &Sequence,
+    finder: Option<&mut Finder>,
+) -> Result<(), Failed>
+    requires plays { Plays (table_of problem.now.rules) problem.now.drop_mode
+        (filled problem.now.well) problem.now.height sequence.now.items }
+    requires low { problem.now.height ≤ 23 }
+    ensures written { WritesAll (O.written out.old) (O.written out.new) result
+        (grid_form (key_part (is_some finder.entry) (table_of problem.now.rules) problem.now.drop_mode)
+        (filled problem.now.well) problem.now.height sequence.now.items) }
+    ensures cause { HasCause (O.faults out.old) (O.faults out.new) result }
+{
+    write_line(out, problem, sequence, finder)?;
+    write_pictures(out, problem, sequence.as_slice())
+}
+
+// The pictures of placements, one after the other.
+fn write_pictures<O: Sink>(
+    out: &mut O,
+    problem: &Problem,
+    placements: &[Placement],
+) -> Result<(), Failed>
+    requires plays { Plays (table_of problem.now.rules) problem.now.drop_mode
+        (filled problem.now.well) problem.now.height placements.now }
+    requires low { problem.now.height ≤ 23 }
+    ensures written { WritesAll (O.written out.old) (O.written out.new) result
+        (grid_pictures (filled problem.now.well) problem.now.height placements.now) }
+    ensures cause { HasCause (O.faults out.old) (O.faults out.new) result }
+{
+    let mut well = problem.well;
+    let mut rows = problem.height;
+    for placement in placements {
+        out.write(picture(&well, placement, rows).as_slice())?;
+        let locked = well.lock(placement);
+        well = locked.0;
+        rows = rows.saturating_sub(locked.1);
+    }
+    Ok(())
+}
+
+// The rows below a height, the top one first, with a placement in them, and an empty line.
+fn picture(well: &Well, placement: &Placement, rows: u8) -> Picture
+    requires column { placement.now.x ≤ 31 }
+    requires row { placement.now.y ≤ 31 }
+    requires low { rows ≤ 23 }
+    ensures { result.items ≡ grid_rows (filled well.now) placement.now rows ++ 10 ∷ [] }
+{
+    let mut picture = Picture::new();
+    for y in (0..rows).rev() {
+        push_row(&mut picture, well, placement, y);
+    }
+    picture.push(EMPTY_LINE);
+    picture
+}
+
+// Appends a row and a newline.
+
+fn push_row(picture: &mut Picture, well: &Well, placement: &Placement, y: u8)
+    requires column { placement.now.x ≤ 31 }
+    requires row { placement.now.y ≤ 31 }
+    requires low { y ≤ 22 }
+    requires room { array_vec_len picture.old + 11 ≤ 253 }
+    ensures items { picture.new.items ≡ picture.old.items ++ grid_row (filled well.now) placement.now y }
+    ensures len { array_vec_len picture.new ≡ array_vec_len picture.old + 11 }
+{
+    let cells = cells(placement);
+    for x in 0..10 {
+        picture.push(letter(well, placement, &cells, x, y));
+    }
+    picture.push(b'\n');
+}
+
+// The letter of a cell.
+fn letter(well: &Well, placement: &Placement, cells: &[(i8, i8); 4], x: u8, y: u8) -> u8
+    requires cells { cells.now ≡ cells_of placement.now }
+    requires column { x ≤ 9 }
+    requires row { y ≤ 22 }
+    ensures { result ≡ grid_letter (filled well.now) placement.now y x }
+{
+    if has_cell(cells, x, y) {
+        return placement.piece.letter();
+    }
+    if well.cell(x, y) { b'X' } else { b'_' }
+}
+
+// Whether one of the cells is that in this column and row.
+#[tactic(auto, unfolding(srs::specs::SameCells::is_among))]
+fn has_cell(cells: &[(i8, i8); 4], x: u8, y: u8) -> bool
+    requires column { x ≤ 9 }
+    requires row { y ≤ 22 }
+    ensures { result ≡ is_among cells.now (pos x, pos y) }
+{
+    cells
+        .iter()
+        .any(|cell| cell.0 == x as i8 && cell.1 == y as i8)
+}

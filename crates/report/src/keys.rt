@@ -1,0 +1,21 @@
+// The finder of key words.
+ghost use Rattle.std.specs.Prelude.{◌≡◌, false, IsOk, IfOk, is_some};
+
+use key_path::Finder;
+use pc_outside::NoMemory;
+use std::alloc::Global;
+
+/// A finder where keys are asked for, and none where they are not, for which no memory is taken. `NoMemory` where its
+/// memory is refused.
+pub fn finder_for(alloc: Global, keys: bool) -> Result<Option<Finder>, NoMemory>
+    ensures finder { IfOk result (λ finder. is_some finder ≡ keys) }
+    ensures none { keys ≡ false → IsOk result }
+{
+    if !keys {
+        return Ok(None);
+    }
+    match Finder::new(alloc) {
+        Ok(finder) => Ok(Some(finder)),
+        Err(none) => Err(none),
+    }
+}
