@@ -10,4 +10,6 @@ path_view settings = record {
   after = option_copied settings.after;
   limit = settings.limit;
   keys = settings.keys;
+  format = settings.format;
+  stats = settings.stats;
 }

@@ -1,4 +1,5 @@
 // The settings of `path`.
+use crate::format::Format;
 use pc_settings::FieldSettings;
 
 /// What `path` is asked for.
@@ -11,4 +12,8 @@ pub struct PathSettings<'a> {
     pub limit: u32,
     /// Whether each placement is followed by its key word.
     pub keys: bool,
+    /// In which form each sequence is written.
+    pub format: Format,
+    /// Whether the number of floods is written behind the report.
+    pub stats: bool,
 }

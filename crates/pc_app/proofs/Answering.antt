@@ -1,6 +1,7 @@
 -- What a run answers, by what its command answers for the bytes that were read.
-use Rattle.std.proofs.Common.{◌≡◌, ◌≢◌, ◌∙◌, ◌+◌, ◌≤◌, ℕ, List, [], Bool, true, false, length, append-nil, Option, Some, None, Result, Ok, Err, refl, ap, sym, subst, inl, inr, arith}
+use Rattle.std.proofs.Common.{◌≡◌, ◌≢◌, ◌∙◌, ◌+◌, ◌-◌, ◌≤◌, ℕ, List, [], Bool, true, false, length, append-nil, Option, Some, None, Result, Ok, Err, refl, ap, sym, subst, inl, inr, arith}
 use Rattle.std.specs.Option.{ForSome}
+use Rattle.std.proofs.lemmas.Option.{same_Some}
 use Rattle.pc_outside.specs.Reads.{TakesAtMost, TakesFirst}
 use Rattle.pc_outside.specs.Writes.{Grows, GrowsByFront}
 use Rattle.pc_outside.specs.WriteLaws.{begins, is_front}
@@ -10,46 +11,53 @@ use Rattle.pc_faults.specs.declared.status.Status.{Status}
 use Rattle.pc_faults.specs.declared.status.Status.TheVariants.{Done, Input, SourceFault, SinkFault, NoMemory}
 use Rattle.pc_faults.specs.declared.words_fault.WordsFault.{WordsFault}
 use Rattle.pc_faults.specs.Inner.{IsInner, is_outer}
-use Rattle.pc_source.specs.Answers.{Answers, SinkChange, WroteFront}
-use Rattle.pc_source.specs.Had.{HasBytes, IsUnread}
+use Rattle.pc_source.specs.Answers.{Answers, WroteFront}
+use Rattle.pc_source.specs.Had.{IsUnread}
+use Rattle.pc_source.specs.Sink.{SinkChange}
 use Rattle.pc_source.specs.Source.{LeavesSource}
-use Rattle.pc_source.specs.Task.{ForBytes, Needs, Sees, Task, first_fault, is_source, memory, most_bytes, nothing, reads_source, source_bytes}
-use Rattle.pc_source.proofs.CallerLemmas.{not_too_long, too_long}
-use Rattle.pc_words.specs.Request.{Request}
+use Rattle.pc_source.specs.Task.{ForBytes, ForSomeBytes, HasBytes, Needs, Sees, Task, first_fault, is_source, memory, most_bytes, nothing, reads_source, source_bytes}
+use Rattle.pc_source.specs.Work.{Works}
+use Rattle.pc_source.proofs.CallerLemmas.{idle_works, none_added, not_too_long, stays, too_long}
+use Rattle.srs.specs.Kick.{Table}
+use Rattle.kick_file.specs.declared.fault.KickFault.{KickFault}
+use Rattle.kick_file.specs.Reading.{kick_text}
+use Rattle.pc_words.specs.Request.{Request, table_asked}
 use Rattle.pc_app.specs.Ran.{LeavesSink, Ran}
-use Rattle.pc_app.specs.Tasks.{refused_task, task_for, task_in}
+use Rattle.pc_app.specs.Tasks.{asked_in, refused_task, task_for, task_in, with_table}
 use Rattle.pc_app.proofs.Commands.{inner_for}
 
--- what a command does not touch stays with it
-pub kept_answers : (task : Task) (bytes : List ℕ) (sink : SinkChange) (Kept More : Type 0) → (Kept → More) → (status : Status) → Answers task bytes sink Kept status → Answers task bytes sink More status
-kept_answers task bytes sink Kept More more Done a = a
-kept_answers task bytes sink Kept More more (Input f) a = (a.0, more a.1)
-kept_answers task bytes sink Kept More more SourceFault a = a
-kept_answers task bytes sink Kept More more SinkFault a = a
-kept_answers task bytes sink Kept More more NoMemory a = record {
-  known = a.known;
-  first = λ first. more (a.first first);
-  ended = elim a.ended [
-    | inl kept ↦ inl (more kept)
-    | inr ended ↦ inr ended
-  ];
-}
+-- the task of one request is that of the same one
+pub for_request : (one other : Request) (bytes : List ℕ) (sink : SinkChange) (Kept : Type 0) (floods : ℕ) (status : Status) → other ≡ one
+    → Answers (task_for one) bytes sink Kept floods status → Answers (task_for other) bytes sink Kept floods status
+for_request one other bytes sink Kept floods status same = subst (λ request. Answers (task_for request) bytes sink Kept floods status) (sym same)
 
-pub for_request : (one other : Request) (bytes : List ℕ) (sink : SinkChange) (Kept : Type 0) (status : Status) → other ≡ one
-    → Answers (task_for one) bytes sink Kept status → Answers (task_for other) bytes sink Kept status
-for_request one other bytes sink Kept status same = subst (λ request. Answers (task_for request) bytes sink Kept status) (sym same)
+pub works_for : (one other : Request) (bytes : List ℕ) (sink : SinkChange) (floods : ℕ) (status : Status) → other ≡ one
+    → Works (task_for one) ((task_for one).fault bytes) bytes sink floods status → Works (task_for other) ((task_for other).fault bytes) bytes sink floods status
+works_for one other bytes sink floods status same = subst (λ request. Works (task_for request) ((task_for request).fault bytes) bytes sink floods status) (sym same)
+
+-- a command that makes no floods, and leaves the counter where it was
+pub idle_answers : (one other : Request) (bytes : List ℕ) (sink : SinkChange) (Kept : Type 0) (before now : ℕ) (status : Status) → other ≡ one → now ≡ before
+    → Answers (task_for one) bytes sink Kept 0 status → Answers (task_for other) bytes sink Kept (now - before) status
+idle_answers one other bytes sink Kept before now status same kept a =
+    for_request one other bytes sink Kept (now - before) status same (subst (λ n. Answers (task_for one) bytes sink Kept n status) (sym (none_added before now kept)) a)
+
+pub idle_works_for : (one other : Request) (bytes : List ℕ) (sink : SinkChange) (before now : ℕ) (status : Status) → other ≡ one → now ≡ before
+    → ((status : Status) → (task_for one).IsWork bytes sink status 0) → Works (task_for other) ((task_for other).fault bytes) bytes sink (now - before) status
+idle_works_for one other bytes sink before now status same kept idle =
+    works_for one other bytes sink (now - before) status same (idle_works (task_for one) ((task_for one).fault bytes) bytes sink (now - before) idle (none_added before now kept) status)
 
 -- the bytes that were read are those that the task sees
 seen_is : (reads : Bool) (left : Option (List ℕ)) (seen bytes : List ℕ) → HasBytes reads left seen → Sees reads left bytes → seen ≡ bytes
 seen_is true left seen bytes has told = has bytes told
 seen_is false left seen bytes has told = has ∙ sym told
 
-ran_of : (task : Task) (bytes : List ℕ) (sink : SinkChange) (Kept : Type 0) → first_fault task bytes ≡ task.fault bytes → (status : Status) → Answers task bytes sink Kept status → Ran task bytes sink Kept status
-ran_of task bytes sink Kept same Done a = record { none = same ∙ a.none; wrote = a.wrote; kept = a.kept }
-ran_of task bytes sink Kept same (Input f) a = (same ∙ a.0, a.1)
-ran_of task bytes sink Kept same SourceFault a = absurd a
-ran_of task bytes sink Kept same SinkFault a = record { none = same ∙ a.none; front = a.front; rose = a.rose }
-ran_of task bytes sink Kept same NoMemory a = record {
+ran_of : (task : Task) (bytes : List ℕ) (sink : SinkChange) (Kept : Type 0) (floods : ℕ) → first_fault task bytes ≡ task.fault bytes → (status : Status)
+    → Answers task bytes sink Kept floods status → Ran task bytes sink Kept floods status
+ran_of task bytes sink Kept floods same Done a = record { none = same ∙ a.none; wrote = a.wrote; kept = a.kept }
+ran_of task bytes sink Kept floods same (Input f) a = (same ∙ a.0, a.1)
+ran_of task bytes sink Kept floods same SourceFault a = absurd a
+ran_of task bytes sink Kept floods same SinkFault a = record { none = same ∙ a.none; front = a.front; rose = a.rose }
+ran_of task bytes sink Kept floods same NoMemory a = record {
   known = λ needs. same ∙ a.known needs;
   first = a.first;
   ended = elim a.ended [
@@ -69,50 +77,121 @@ no_needs memory reads none = cc
 no_needs source_bytes reads none = cc
 
 -- the words ask for this, and its bytes were read
-module _ (asked : Result Request WordsFault) (request : Request) (same : Ok request ≡ asked) (left : Option (List ℕ)) (sink : SinkChange) (Kept : Type 0) (status : Status) where
-  pub ran_read : (seen : List ℕ) → HasBytes (reads_source (task_for request)) left seen → length seen ≤ most_bytes → Answers (task_for request) seen sink Kept status
-      → ForBytes (task_in asked) left (λ bytes. Ran (task_in asked) bytes sink Kept status)
-  ran_read seen has within a =
-      subst (λ asked. ForBytes (task_in asked) left (λ bytes. Ran (task_in asked) bytes sink Kept status)) same
-      (λ bytes told. subst (λ bytes. Ran (task_for request) bytes sink Kept status) (seen_is (reads_source (task_for request)) left seen bytes has told)
-      (ran_of (task_for request) seen sink Kept (not_too_long (task_for request) seen within) status a))
+module _ (asked : Result Request Fault) (request : Request) (same : Ok request ≡ asked) (left : Option (List ℕ)) (sink : SinkChange) (floods : ℕ) (status : Status) (seen : List ℕ)
+    (has : HasBytes (reads_source (task_for request)) left seen) (within : length seen ≤ most_bytes) where
+  pub ran_read : (Kept : Type 0) → Answers (task_for request) seen sink Kept floods status → ForBytes (task_in asked) left (λ bytes. Ran (task_in asked) bytes sink Kept floods status)
+  ran_read Kept a =
+      subst (λ asked. ForBytes (task_in asked) left (λ bytes. Ran (task_in asked) bytes sink Kept floods status)) same
+      (λ bytes told. subst (λ bytes. Ran (task_for request) bytes sink Kept floods status) (seen_is (reads_source (task_for request)) left seen bytes has told)
+      (ran_of (task_for request) seen sink Kept floods (not_too_long (task_for request) seen within) status a))
 
--- the words have a fault
-refused_fault : (fault : WordsFault) (bytes : List ℕ) → first_fault (refused_task fault) bytes ≡ Some (Words fault)
+  pub works_read : Works (task_for request) ((task_for request).fault seen) seen sink floods status
+      → ForSomeBytes (task_in asked) left (λ bytes. Works (task_in asked) (first_fault (task_in asked) bytes) bytes sink floods status)
+  works_read w =
+      subst (λ asked. ForSomeBytes (task_in asked) left (λ bytes. Works (task_in asked) (first_fault (task_in asked) bytes) bytes sink floods status)) same (record {
+        bytes = seen;
+        seen = has;
+        holds = subst (λ f. Works (task_for request) f seen sink floods status) (sym (not_too_long (task_for request) seen within)) w;
+      })
+
+-- the words, or the table that they give, have a fault
+refused_fault : (fault : Fault) (bytes : List ℕ) → first_fault (refused_task fault) bytes ≡ Some fault
 unfolding first_fault
 refused_fault fault bytes = refl
 
-pub refused_words : (asked : Result Request WordsFault) (fault : WordsFault) → Err fault ≡ asked → (bytes : List ℕ) → first_fault (task_in asked) bytes ≡ Some (Words fault)
-refused_words asked fault same bytes = subst (λ asked. first_fault (task_in asked) bytes ≡ Some (Words fault)) same (refused_fault fault bytes)
+pub refused_words : (asked : Result Request Fault) (fault : Fault) → Err fault ≡ asked → (bytes : List ℕ) → first_fault (task_in asked) bytes ≡ Some fault
+refused_words asked fault same bytes = subst (λ asked. first_fault (task_in asked) bytes ≡ Some fault) same (refused_fault fault bytes)
+
+pub refused_work : (asked : Result Request Fault) (fault : Fault) → Err fault ≡ asked → (left : Option (List ℕ)) (sink : SinkChange) (floods : ℕ) (found : Fault) → floods ≡ 0
+    → ForSomeBytes (task_in asked) left (λ bytes. Works (task_in asked) (first_fault (task_in asked) bytes) bytes sink floods (Input found))
+refused_work asked fault same left sink floods found none =
+    subst (λ asked. ForSomeBytes (task_in asked) left (λ bytes. Works (task_in asked) (first_fault (task_in asked) bytes) bytes sink floods (Input found))) same
+    (record { bytes = []; seen = refl; holds = none })
+
+-- a fault of the words is found by reading them
+table_words : (request : Request) (read : Result Table KickFault) (fault : WordsFault) → Err (Words fault) ≡ with_table request read → ⊥
+table_words request (Ok table) fault is = cc
+table_words request (Err kicks) fault is = cc
+
+pub words_found : (read : Result Request WordsFault) (found : Fault) (fault : WordsFault) → Err found ≡ asked_in read → found ≡ Words fault → read ≡ Err fault
+words_found (Ok request) found fault is same = absurd (table_words request (kick_text (table_asked request)) fault (ap (λ f. Err f) (sym same) ∙ is))
+words_found (Err other) found fault is same = cc
 
 -- or they could not be read
-unread_ran : (task : Task) (bytes : List ℕ) (sink : SinkChange) (Kept : Type 0) (status : Status) → Kept → reads_source task ≡ true → IsUnread status
-    → (status ≡ Input SourceTooLong → most_bytes + 1 ≤ length bytes) → Ran task bytes sink Kept status
-unread_ran task bytes sink Kept Done kept reads unread long = absurd unread
-unread_ran task bytes sink Kept (Input f) kept reads unread long =
+unread_ran : (task : Task) (bytes : List ℕ) (sink : SinkChange) (Kept : Type 0) (floods : ℕ) (status : Status) → Kept → reads_source task ≡ true → IsUnread status
+    → (status ≡ Input SourceTooLong → most_bytes + 1 ≤ length bytes) → Ran task bytes sink Kept floods status
+unread_ran task bytes sink Kept floods Done kept reads unread long = absurd unread
+unread_ran task bytes sink Kept floods (Input f) kept reads unread long =
     let more = long (ap (λ f. Input f) unread) in
     (too_long task bytes (reading_needs task.needs reads) (omega (arith, more)) ∙ ap (λ f. Some f) (sym unread), kept)
-unread_ran task bytes sink Kept SourceFault kept reads unread long = (reads, kept)
-unread_ran task bytes sink Kept SinkFault kept reads unread long = absurd unread
-unread_ran task bytes sink Kept NoMemory kept reads unread long =
+unread_ran task bytes sink Kept floods SourceFault kept reads unread long = (reads, kept)
+unread_ran task bytes sink Kept floods SinkFault kept reads unread long = absurd unread
+unread_ran task bytes sink Kept floods NoMemory kept reads unread long =
     record { known = λ none. absurd (no_needs task.needs reads none); first = λ first. kept; ended = inl kept }
 
-pub ran_unread : (asked : Result Request WordsFault) (request : Request) → Ok request ≡ asked → (left new : Option (List ℕ)) (sink : SinkChange) (Kept : Type 0) (status : Status) → Kept → reads_source (task_for request) ≡ true
-    → IsUnread status → (status ≡ Input SourceTooLong → TakesFirst left new (most_bytes + 1)) → ForBytes (task_in asked) left (λ bytes. Ran (task_in asked) bytes sink Kept status)
-ran_unread asked request same left new sink Kept status kept reads unread long =
-    subst (λ asked. ForBytes (task_in asked) left (λ bytes. Ran (task_in asked) bytes sink Kept status)) same
-    (λ bytes told. unread_ran (task_for request) bytes sink Kept status kept reads unread (λ is. (long is).enough bytes (subst (λ reads. Sees reads left bytes) reads told)))
+some_bytes : (left : Option (List ℕ)) → (bytes : List ℕ) × HasBytes true left bytes
+some_bytes (Some all) = (all, λ told is. same_Some all told is)
+some_bytes None = ([], λ all is. cc)
+
+unread_works : (task : Task) (fault : Option Fault) (bytes : List ℕ) (sink : SinkChange) (floods : ℕ) (status : Status) → IsUnread status → floods ≡ 0 → Works task fault bytes sink floods status
+unread_works task fault bytes sink floods Done unread none = absurd unread
+unread_works task fault bytes sink floods (Input f) unread none = none
+unread_works task fault bytes sink floods SourceFault unread none = none
+unread_works task fault bytes sink floods SinkFault unread none = absurd unread
+unread_works task fault bytes sink floods NoMemory unread none = inl none
+
+module _ (asked : Result Request Fault) (request : Request) (same : Ok request ≡ asked) (left : Option (List ℕ)) (sink : SinkChange) (floods : ℕ) (status : Status)
+    (reads : reads_source (task_for request) ≡ true) (unread : IsUnread status) where
+  pub ran_unread : (new : Option (List ℕ)) (Kept : Type 0) → Kept → (status ≡ Input SourceTooLong → TakesFirst left new (most_bytes + 1))
+      → ForBytes (task_in asked) left (λ bytes. Ran (task_in asked) bytes sink Kept floods status)
+  ran_unread new Kept kept long =
+      subst (λ asked. ForBytes (task_in asked) left (λ bytes. Ran (task_in asked) bytes sink Kept floods status)) same
+      (λ bytes told. unread_ran (task_for request) bytes sink Kept floods status kept reads unread (λ is. (long is).enough bytes (subst (λ reads. Sees reads left bytes) reads told)))
+
+  pub works_unread : floods ≡ 0 → ForSomeBytes (task_in asked) left (λ bytes. Works (task_in asked) (first_fault (task_in asked) bytes) bytes sink floods status)
+  works_unread none =
+      let some = some_bytes left in
+      subst (λ asked. ForSomeBytes (task_in asked) left (λ bytes. Works (task_in asked) (first_fault (task_in asked) bytes) bytes sink floods status)) same (record {
+        bytes = some.0;
+        seen = subst (λ reads. HasBytes reads left some.0) (sym reads) some.1;
+        holds = unread_works (task_for request) (first_fault (task_for request) some.0) some.0 sink floods status unread none;
+      })
+
+-- where the input has a fault, no flood is made
+pub input_idle : (task : Task) (fault : Option Fault) (bytes : List ℕ) (sink : SinkChange) (before now : ℕ) (status : Status) (f : Fault) → before ≤ now → status ≡ Input f
+    → Works task fault bytes sink (now - before) status → now ≡ before
+input_idle task fault bytes sink before now status f rose is w = stays before now rose (subst (Works task fault bytes sink (now - before)) is w)
+
+idle_by : (task : Task) (bytes : List ℕ) (sink : SinkChange) (Kept : Type 0) (floods : ℕ) (f : Fault) → first_fault task bytes ≡ Some f → (status : Status) → Ran task bytes sink Kept floods status
+    → Works task (first_fault task bytes) bytes sink floods status → floods ≡ 0
+idle_by task bytes sink Kept floods f is Done ran w = let none = ran.none in cc
+idle_by task bytes sink Kept floods f is (Input g) ran w = w
+idle_by task bytes sink Kept floods f is SourceFault ran w = w
+idle_by task bytes sink Kept floods f is SinkFault ran w = let none = ran.none in cc
+idle_by task bytes sink Kept floods f is NoMemory ran w = elim w [
+  | inl none ↦ none
+  | inr made ↦ let none = made.0 in cc
+]
+
+pub fault_idle : (task : Task) (left : Option (List ℕ)) (sink : SinkChange) (Kept : Type 0) (before now : ℕ) (status : Status) → before ≤ now
+    → ForBytes task left (λ bytes. Ran task bytes sink Kept (now - before) status)
+    → ForSomeBytes task left (λ bytes. Works task (first_fault task bytes) bytes sink (now - before) status)
+    → ForBytes task left (λ bytes. (f : Fault) → first_fault task bytes ≡ Some f → now ≡ before)
+fault_idle task left sink Kept before now status rose ran some = λ bytes told f is.
+    stays before now rose (idle_by task bytes sink Kept (now - before) f is status (ran bytes told)
+    (subst (λ bytes. Works task (first_fault task bytes) bytes sink (now - before) status) (seen_is (reads_source task) left some.bytes bytes some.seen told) some.holds))
 
 -- no command ends by a fault of the words, or by the length of the source, or by a failed read
 inner_found : (found : Option Fault) (f : Fault) → IsInner found → found ≡ Some f → is_outer f ≡ false
 inner_found found f inner is = subst IsInner is inner
 
-pub never_outer : (request : Request) (bytes : List ℕ) (sink : SinkChange) (Kept : Type 0) (status : Status) (f : Fault) → is_outer f ≡ true → Answers (task_for request) bytes sink Kept status → status ≡ Input f → ⊥
-never_outer request bytes sink Kept status f outer a is =
-    let inner = inner_found ((task_for request).fault bytes) f (inner_for request bytes) (subst (Answers (task_for request) bytes sink Kept) is a).0 in cc
+pub never_outer : (request : Request) (bytes : List ℕ) (sink : SinkChange) (Kept : Type 0) (floods : ℕ) (status : Status) (f : Fault) → is_outer f ≡ true
+    → Answers (task_for request) bytes sink Kept floods status → status ≡ Input f → ⊥
+never_outer request bytes sink Kept floods status f outer a is =
+    let inner = inner_found ((task_for request).fault bytes) f (inner_for request bytes) (subst (Answers (task_for request) bytes sink Kept floods) is a).0 in cc
 
-pub never_unread : (request : Request) (bytes : List ℕ) (sink : SinkChange) (Kept : Type 0) (status : Status) → Answers (task_for request) bytes sink Kept status → status ≡ SourceFault → ⊥
-never_unread request bytes sink Kept status a is = subst (Answers (task_for request) bytes sink Kept) is a
+pub never_unread : (request : Request) (bytes : List ℕ) (sink : SinkChange) (Kept : Type 0) (floods : ℕ) (status : Status) → Answers (task_for request) bytes sink Kept floods status → status ≡ SourceFault → ⊥
+never_unread request bytes sink Kept floods status a is = subst (Answers (task_for request) bytes sink Kept floods) is a
 
 -- what is left of the source
 leaves : (reads : Bool) (old new : Option (List ℕ)) (Kept : Type 0) (status : Status) → (reads ≡ true → ForSome old (λ _. new ≡ Some [])) → (reads ≡ true → TakesAtMost old new (most_bytes + 1))
@@ -120,7 +199,7 @@ leaves : (reads : Bool) (old new : Option (List ℕ)) (Kept : Type 0) (status : 
 leaves true old new Kept status ended most kept short had = record { ended = λ _. ended refl; too_long = λ is. absurd (short is); most = most refl }
 leaves false old new Kept status ended most kept short had = (kept refl, had)
 
-pub leaves_read : (asked : Result Request WordsFault) (request : Request) → Ok request ≡ asked → (reads : Bool) → reads ≡ reads_source (task_for request) → (old new : Option (List ℕ)) (Kept : Type 0) (status : Status)
+pub leaves_read : (asked : Result Request Fault) (request : Request) → Ok request ≡ asked → (reads : Bool) → reads ≡ reads_source (task_for request) → (old new : Option (List ℕ)) (Kept : Type 0) (status : Status)
     → (reads ≡ true → ForSome old (λ _. new ≡ Some [])) → (reads ≡ true → TakesAtMost old new (most_bytes + 1)) → (reads ≡ false → Kept) → (status ≡ Input SourceTooLong → ⊥) → (status ≡ SourceFault → ⊥)
     → LeavesSource (reads_source (task_in asked)) old new Kept status
 leaves_read asked request same reads is old new Kept status ended most kept short had =
@@ -133,19 +212,20 @@ never_done SourceFault unread is = cc
 never_done SinkFault unread is = unread
 never_done NoMemory unread is = cc
 
-pub leaves_unread : (asked : Result Request WordsFault) (request : Request) → Ok request ≡ asked → reads_source (task_for request) ≡ true → (old new : Option (List ℕ)) (Kept : Type 0) (status : Status)
+pub leaves_unread : (asked : Result Request Fault) (request : Request) → Ok request ≡ asked → reads_source (task_for request) ≡ true → (old new : Option (List ℕ)) (Kept : Type 0) (status : Status)
     → IsUnread status → (status ≡ Input SourceTooLong → TakesFirst old new (most_bytes + 1)) → TakesAtMost old new (most_bytes + 1) → LeavesSource (reads_source (task_in asked)) old new Kept status
 leaves_unread asked request same reads old new Kept status unread long most =
     subst (λ asked. LeavesSource (reads_source (task_in asked)) old new Kept status) same
     (subst (λ reads. LeavesSource reads old new Kept status) (sym reads) (record { ended = λ is. absurd (never_done status unread is); too_long = long; most = most }))
 
 -- what holds of the sink whatever the source tells
-sink_left : (task : Task) (bytes : List ℕ) (sink : SinkChange) (Kept : Type 0) → (Kept → sink.now ≡ sink.before) → (status : Status) → Answers task bytes sink Kept status → LeavesSink task sink Kept status
-sink_left task bytes sink Kept same Done a = a.kept
-sink_left task bytes sink Kept same (Input f) a = a.1
-sink_left task bytes sink Kept same SourceFault a = absurd a
-sink_left task bytes sink Kept same SinkFault a = a.rose
-sink_left task bytes sink Kept same NoMemory a = (
+sink_left : (task : Task) (bytes : List ℕ) (sink : SinkChange) (Kept : Type 0) (floods : ℕ) → (Kept → sink.now ≡ sink.before) → (status : Status) → Answers task bytes sink Kept floods status
+    → LeavesSink task sink Kept status
+sink_left task bytes sink Kept floods same Done a = a.kept
+sink_left task bytes sink Kept floods same (Input f) a = a.1
+sink_left task bytes sink Kept floods same SourceFault a = absurd a
+sink_left task bytes sink Kept floods same SinkFault a = a.rose
+sink_left task bytes sink Kept floods same NoMemory a = (
   a.first,
   elim a.ended [
     | inl kept ↦ same kept
@@ -153,9 +233,10 @@ sink_left task bytes sink Kept same NoMemory a = (
   ],
 )
 
-pub leaves_sink : (asked : Result Request WordsFault) (request : Request) → Ok request ≡ asked → (bytes : List ℕ) (sink : SinkChange) (Kept : Type 0) (status : Status) → (Kept → sink.now ≡ sink.before)
-    → Answers (task_for request) bytes sink Kept status → LeavesSink (task_in asked) sink Kept status
-leaves_sink asked request same bytes sink Kept status kept a = subst (λ asked. LeavesSink (task_in asked) sink Kept status) same (sink_left (task_for request) bytes sink Kept kept status a)
+pub leaves_sink : (asked : Result Request Fault) (request : Request) → Ok request ≡ asked → (bytes : List ℕ) (sink : SinkChange) (Kept : Type 0) (floods : ℕ) (status : Status)
+    → (Kept → sink.now ≡ sink.before) → Answers (task_for request) bytes sink Kept floods status → LeavesSink (task_in asked) sink Kept status
+leaves_sink asked request same bytes sink Kept floods status kept a =
+    subst (λ asked. LeavesSink (task_in asked) sink Kept status) same (sink_left (task_for request) bytes sink Kept floods kept status a)
 
 -- the whole is a front of itself, and nothing is a front of anything
 whole_is_front : {old new : Option (List ℕ)} {bytes : List ℕ} → Grows old new bytes → GrowsByFront old new bytes
@@ -165,11 +246,12 @@ nothing_is_front : (old new : Option (List ℕ)) (bytes : List ℕ) → new ≡ 
 nothing_is_front old new bytes same = subst (λ o. GrowsByFront old o bytes) (sym same) (is_front (begins old bytes))
 
 -- on every status a front of each output was appended
-module _ (task : Task) (bytes : List ℕ) (sink : SinkChange) (Kept : Type 0) (one : (a b : List ℕ) → task.IsOutput bytes a → task.IsOutput bytes b → a ≡ b) (same : Kept → sink.holds ≡ sink.held) where
-  front_is : WroteFront (task.IsOutput bytes) sink → (output : List ℕ) → task.IsOutput bytes output → GrowsByFront sink.held sink.holds output
+module _ (task : Task) (bytes : List ℕ) (sink : SinkChange) (Kept : Type 0) (floods : ℕ) (one : (a b : List ℕ) → task.IsOutput bytes floods a → task.IsOutput bytes floods b → a ≡ b)
+    (same : Kept → sink.holds ≡ sink.held) where
+  front_is : WroteFront (task.IsOutput bytes floods) sink → (output : List ℕ) → task.IsOutput bytes floods output → GrowsByFront sink.held sink.holds output
   front_is wrote output is = subst (GrowsByFront sink.held sink.holds) (one wrote.output output wrote.is_output is) wrote.grown
 
-  pub front_of_each : (status : Status) → Ran task bytes sink Kept status → (output : List ℕ) → task.IsOutput bytes output → GrowsByFront sink.held sink.holds output
+  pub front_of_each : (status : Status) → Ran task bytes sink Kept floods status → (output : List ℕ) → task.IsOutput bytes floods output → GrowsByFront sink.held sink.holds output
   front_of_each Done ran output is = subst (GrowsByFront sink.held sink.holds) (one ran.wrote.output output ran.wrote.is_output is) (whole_is_front ran.wrote.grown)
   front_of_each (Input f) ran output is = nothing_is_front sink.held sink.holds output (same ran.1)
   front_of_each SourceFault ran output is = nothing_is_front sink.held sink.holds output (same ran.1)

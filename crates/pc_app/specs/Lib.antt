@@ -2,3 +2,4 @@
 pub mod Tasks
 -- What serves proofs alone.
 pub mod Ran
+pub mod Views

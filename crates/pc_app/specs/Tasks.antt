@@ -1,33 +1,65 @@
 -- The table of commands, and what the words ask for.
-use Rattle.std.specs.Prelude.{ℕ, List, true, false, Some, Result, Ok, Err}
-use Rattle.pc_faults.specs.declared.fault.Fault.TheVariants.{Words}
+use Rattle.std.specs.Prelude.{ℕ, List, Bool, true, false, Some, Result, Ok, Err}
+use Rattle.srs.specs.Kick.{Table}
+use Rattle.kick_file.specs.declared.fault.KickFault.{KickFault}
+use Rattle.kick_file.specs.Reading.{kick_text}
+use Rattle.pc_faults.specs.declared.fault.Fault.{Fault}
+use Rattle.pc_faults.specs.declared.fault.Fault.TheVariants.{Kicks, Words}
 use Rattle.pc_faults.specs.declared.words_fault.WordsFault.{WordsFault}
 use Rattle.pc_source.specs.Task.{Task, nothing}
+use Rattle.pc_source.specs.Work.{no_floods}
 use Rattle.pc_path.specs.PathTask.{path_task}
+use Rattle.pc_percent.specs.PercentTask.{percent_task}
+use Rattle.pc_cover.specs.CoverTask.{cover_task}
 use Rattle.pc_pages.specs.Tasks.{decode_task, encode_task, show_task}
-use Rattle.pc_words.specs.Request.{Request, decode, encode, path, show}
+use Rattle.pc_kicks.specs.KicksTask.{kicks_task}
+use Rattle.pc_words.specs.Request.{Request, combo, cover, decode, encode, kicks, path, percent, show, table_asked}
+use Rattle.pc_combo.specs.ComboTask.{combo_task}
 use Rattle.pc_words.specs.Words.{request_in}
 
 abbrev pub task_for : Request → Task
 task_for (path request) = path_task request
+task_for (percent request) = percent_task request
+task_for (cover request) = cover_task request
+task_for (combo request) = combo_task request
 task_for decode = decode_task
 task_for (encode dialect) = encode_task dialect
 task_for (show asked) = show_task asked
+task_for (kicks text) = kicks_task text
 
--- words with a fault: nothing is needed to know it, and nothing is written
-abbrev pub refused_task : WordsFault → Task
+-- whether the number of floods is written
+abbrev pub tells_floods : Request → Bool
+tells_floods (path request) = request.stats
+tells_floods other = false
+
+abbrev pub tells_floods_in : Result Request Fault → Bool
+tells_floods_in (Ok request) = tells_floods request
+tells_floods_in (Err fault) = false
+
+-- words, or a table of offsets, with a fault: nothing is needed to know it, nothing is written, and no flood is made
+abbrev pub refused_task : Fault → Task
 refused_task fault = record {
   needs = nothing;
   memory_first = true;
-  searches = false;
-  fault = λ bytes. Some (Words fault);
-  IsOutput = λ bytes output. ⊥;
+  fault = λ bytes. Some fault;
+  IsOutput = λ bytes floods output. ⊥;
+  IsWork = no_floods;
 }
 
-abbrev pub task_in : Result Request WordsFault → Task
+-- a request, unless the table of offsets that it gives has a fault
+abbrev pub with_table : Request → Result Table KickFault → Result Request Fault
+with_table request (Ok table) = Ok request
+with_table request (Err fault) = Err (Kicks fault)
+
+-- what is asked for, or the first fault of the words, or of the table
+abbrev pub asked_in : Result Request WordsFault → Result Request Fault
+asked_in (Ok request) = with_table request (kick_text (table_asked request))
+asked_in (Err fault) = Err (Words fault)
+
+abbrev pub task_in : Result Request Fault → Task
 task_in (Ok request) = task_for request
 task_in (Err fault) = refused_task fault
 
 -- what the words ask for
 abbrev pub task_of : List (List ℕ) → Task
-task_of words = task_in (request_in words)
+task_of words = task_in (asked_in (request_in words))

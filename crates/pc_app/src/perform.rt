@@ -1,14 +1,22 @@
 // The commands, each by its settings.
-ghost use Rattle.std.specs.Prelude.{◌≡◌, false};
-ghost use Rattle.pc_source.specs.Answers.{Answers, sink_change};
-ghost use Rattle.pc_source.specs.Task.{reads_source};
+ghost use Rattle.std.specs.Prelude.{◌≡◌, ◌-◌, ◌≤◌, IsOk, length};
+ghost use Rattle.kick_file.specs.Reading.{kick_text};
+ghost use Rattle.pc_source.specs.Answers.{Answers};
+ghost use Rattle.pc_source.specs.Sink.{sink_change};
+ghost use Rattle.pc_source.specs.Task.{most_bytes, reads_source};
+ghost use Rattle.pc_source.specs.Work.{Works};
+ghost use Rattle.pc_words.specs.Request.{table_asked};
 ghost use Rattle.pc_words.specs.Views.{AsksInRange, settings_view};
 ghost use Rattle.pc_app.specs.Tasks.{task_for};
 
+use pc_combo::run_combo;
+use pc_cover::run_cover;
 use pc_faults::Status;
+use pc_kicks::run_kicks;
 use pc_outside::Sink;
 use pc_pages::{run_decode, run_encode, run_show};
 use pc_path::run_path;
+use pc_percent::run_percent;
 use pc_source::is_of_source;
 use pc_words::Settings;
 use reach::Steps;
@@ -21,9 +29,13 @@ pub fn reads_source(settings: &Settings<'_>) -> bool
 {
     match settings {
         Settings::Path(path) => is_of_source(path.common.field),
+        Settings::Percent(percent) => is_of_source(percent.common.field),
+        Settings::Cover(_) => true,
+        Settings::Combo(combo) => is_of_source(combo.field),
         Settings::Decode => true,
         Settings::Encode { .. } => true,
         Settings::Show { .. } => true,
+        Settings::Kicks { .. } => false,
     }
 }
 
@@ -35,16 +47,25 @@ pub fn perform<O: Sink, L: Ledger>(
     out: &mut O,
     steps: &mut Steps<L>,
 ) -> Status
-    requires { AsksInRange (settings_view settings.now) }
+    requires range { AsksInRange (settings_view settings.now) }
+    requires spelled { IsOk (kick_text (table_asked (settings_view settings.now))) }
+    requires short { length bytes.now ≤ most_bytes }
     ensures answers { let task = task_for (settings_view settings.now) in
         let sink = sink_change (O.written out.old) (O.written out.new) (O.faults out.old) (O.faults out.new) in
-        Answers task bytes.now sink ((out.new ≡ out.old) × (steps.new ≡ steps.old)) result }
-    ensures steps { (task_for (settings_view settings.now)).searches ≡ false → steps.new ≡ steps.old }
+        Answers task bytes.now sink (out.new ≡ out.old) (steps.new - steps.old) result }
+    ensures works { let task = task_for (settings_view settings.now) in
+        let sink = sink_change (O.written out.old) (O.written out.new) (O.faults out.old) (O.faults out.new) in
+        Works task (task.fault bytes.now) bytes.now sink (steps.new - steps.old) result }
+    ensures counted { steps.old ≤ steps.new }
 {
     match settings {
         Settings::Path(path) => run_path(alloc, path, bytes, out, steps),
+        Settings::Percent(percent) => run_percent(alloc, percent, bytes, out, steps),
+        Settings::Cover(cover) => run_cover(alloc, cover, bytes, out, steps),
+        Settings::Combo(combo) => run_combo(alloc, combo, bytes, out, steps),
         Settings::Decode => run_decode(alloc, bytes, out),
         Settings::Encode { dialect } => run_encode(alloc, *dialect, bytes, out),
         Settings::Show { page } => run_show(alloc, *page, bytes, out),
+        Settings::Kicks { kicks } => run_kicks(alloc, kicks, out),
     }
 }

@@ -1,26 +1,50 @@
 // The top call: from the words to what is written.
-ghost use Rattle.std.specs.Prelude.{◌≡◌, ◌≢◌, ◌⊎◌, ℕ, List, true, false, None, Some, Err};
+ghost use Rattle.std.specs.Prelude.{◌≡◌, ◌≢◌, ◌⊎◌, ◌-◌, ◌≤◌, ℕ, List, true, None, Some, Err, IfOk, IsOk};
+ghost use Rattle.kick_file.specs.declared.fault.KickFault.{KickFault};
+ghost use Rattle.kick_file.specs.Reading.{kick_text};
 ghost use Rattle.pc_outside.specs.Counts.{Rose};
 ghost use Rattle.pc_outside.specs.Writes.{Grows, GrowsByFront};
 ghost use Rattle.pc_faults.specs.declared.fault.Fault.{Fault};
 ghost use Rattle.pc_faults.specs.declared.status.Status.{Status};
 ghost use Rattle.pc_faults.specs.declared.words_fault.WordsFault.{WordsFault};
 ghost use Rattle.pc_faults.specs.FaultLine.{fault_line};
-ghost use Rattle.pc_source.specs.Answers.{EndsBy, FailedAfterFront, Wrote, sink_change};
+ghost use Rattle.pc_source.specs.Answers.{EndsBy, FailedAfterFront, Wrote};
+ghost use Rattle.pc_source.specs.Sink.{sink_change};
 ghost use Rattle.pc_source.specs.Source.{LeavesSource};
-ghost use Rattle.pc_source.specs.Task.{ForBytes, first_fault, reads_source};
+ghost use Rattle.pc_source.specs.Task.{ForBytes, ForSomeBytes, first_fault, reads_source};
+ghost use Rattle.pc_source.specs.Work.{Works};
+ghost use Rattle.pc_words.specs.Request.{table_asked};
+ghost use Rattle.pc_words.specs.Views.{AsksInRange, settings_view};
 ghost use Rattle.pc_words.specs.Words.{request_in, texts};
 ghost use Rattle.pc_app.specs.Ran.{LeavesSink, Ran};
-ghost use Rattle.pc_app.specs.Tasks.{task_of};
+ghost use Rattle.pc_app.specs.Tasks.{asked_in, task_of};
+ghost use Rattle.pc_app.specs.Views.{asked_reading};
 
 use crate::perform::{perform, reads_source};
+use kick_file::parse;
 use pc_faults::{Fault, Status, write_fault};
 use pc_outside::{Sink, Source};
 use pc_source::source_bytes;
-use pc_words::read_words;
+use pc_words::{Settings, read_words};
 use reach::Steps;
 use std::alloc::Global;
 use std::sync::ledger::Ledger;
+
+// What the words ask for, or the first fault of the words, or of the table of offsets that they give.
+fn asked(words: &[String]) -> Result<Settings<'_>, Fault>
+    ensures value { asked_reading result ≡ asked_in (request_in (texts words.entry.now)) }
+    ensures range { IfOk result (λ settings. AsksInRange (settings_view settings)) }
+    ensures spelled { IfOk result (λ settings. IsOk (kick_text (table_asked (settings_view settings)))) }
+{
+    let settings = match read_words(words) {
+        Ok(settings) => settings,
+        Err(fault) => return Err(Fault::Words(fault)),
+    };
+    match parse(settings.kicks()) {
+        Ok(_) => Ok(settings),
+        Err(fault) => Err(Fault::Kicks(fault)),
+    }
+}
 
 // The status, before a fault is reported.
 fn answer<S: Source, O: Sink, L: Ledger>(
@@ -33,21 +57,32 @@ fn answer<S: Source, O: Sink, L: Ledger>(
     ensures ran { let task = task_of (texts words.now) in
         let sink = sink_change (O.written out.old) (O.written out.new) (O.faults out.old) (O.faults out.new) in
         ForBytes task (S.left source.old)
-        (λ bytes. Ran task bytes sink ((out.new ≡ out.old) × (steps.new ≡ steps.old)) result) }
+        (λ bytes. Ran task bytes sink (out.new ≡ out.old) (steps.new - steps.old) result) }
     ensures sink { let task = task_of (texts words.now) in
         let sink = sink_change (O.written out.old) (O.written out.new) (O.faults out.old) (O.faults out.new) in
-        LeavesSink task sink ((out.new ≡ out.old) × (steps.new ≡ steps.old)) result }
+        LeavesSink task sink (out.new ≡ out.old) result }
     ensures words_fault { (fault : WordsFault) → result ≡ Status.Input (Fault.Words fault)
         → request_in (texts words.now) ≡ Err fault }
+    ensures kicks_fault { (fault : KickFault) → result ≡ Status.Input (Fault.Kicks fault)
+        → asked_in (request_in (texts words.now)) ≡ Err (Fault.Kicks fault) }
     ensures source { LeavesSource (reads_source (task_of (texts words.now)))
         (S.left source.old) (S.left source.new) (source.new ≡ source.old) result }
     ensures source_rose { result ≡ Status.SourceFault → Rose (S.faults source.old) (S.faults source.new) }
     ensures source_kept { result ≢ Status.SourceFault → S.faults source.new ≡ S.faults source.old }
-    ensures steps { (task_of (texts words.now)).searches ≡ false → steps.new ≡ steps.old }
+    ensures work { let task = task_of (texts words.now) in
+        let sink = sink_change (O.written out.old) (O.written out.new) (O.faults out.old) (O.faults out.new) in
+        ForSomeBytes task (S.left source.old)
+        (λ bytes. Works task (first_fault task bytes) bytes sink (steps.new - steps.old) result) }
+    ensures rose { steps.old ≤ steps.new }
+    ensures input_idle { (fault : Fault) → result ≡ Status.Input fault → steps.new ≡ steps.old }
+    ensures unread_idle { result ≡ Status.SourceFault → steps.new ≡ steps.old }
+    ensures fault_idle { let task = task_of (texts words.now) in
+        ForBytes task (S.left source.old) (λ bytes. (fault : Fault) → first_fault task bytes ≡ Some fault
+        → steps.new ≡ steps.old) }
 {
-    let settings = match read_words(words) {
+    let settings = match asked(words) {
         Ok(settings) => settings,
-        Err(fault) => return Status::Input(Fault::Words(fault)),
+        Err(fault) => return Status::Input(fault),
     };
     match source_bytes(alloc, source, reads_source(&settings)) {
         Ok(bytes) => perform(alloc, &settings, &bytes, out, steps),
@@ -67,17 +102,21 @@ pub fn run<S: Source, O: Sink, E: Sink, L: Ledger>(
 ) -> Status
     ensures done { let task = task_of (texts words.now) in
         let sink = sink_change (O.written out.old) (O.written out.new) (O.faults out.old) (O.faults out.new) in
-        result ≡ Status.Done → ForBytes task (S.left source.old) (λ bytes. Wrote (task.IsOutput bytes) sink) }
+        result ≡ Status.Done → ForBytes task (S.left source.old)
+        (λ bytes. Wrote (task.IsOutput bytes (steps.new - steps.old)) sink) }
     ensures no_fault { let task = task_of (texts words.now) in
         result ≡ Status.Done → ForBytes task (S.left source.old) (λ bytes. first_fault task bytes ≡ None) }
     ensures front { let task = task_of (texts words.now) in
-        ForBytes task (S.left source.old) (λ bytes. (output : List ℕ) → task.IsOutput bytes output
+        ForBytes task (S.left source.old)
+        (λ bytes. (output : List ℕ) → task.IsOutput bytes (steps.new - steps.old) output
         → GrowsByFront (O.written out.old) (O.written out.new) output) }
     ensures input { let task = task_of (texts words.now) in
         (fault : Fault) → result ≡ Status.Input fault
         → ForBytes task (S.left source.old) (λ bytes. first_fault task bytes ≡ Some fault) }
     ensures words_fault { (fault : WordsFault) → result ≡ Status.Input (Fault.Words fault)
         → request_in (texts words.now) ≡ Err fault }
+    ensures kicks_fault { (fault : KickFault) → result ≡ Status.Input (Fault.Kicks fault)
+        → asked_in (request_in (texts words.now)) ≡ Err (Fault.Kicks fault) }
     ensures fault { let task = task_of (texts words.now) in
         ForBytes task (S.left source.old) (λ bytes. (fault : Fault) → first_fault task bytes ≡ Some fault
         → EndsBy task.needs fault result) }
@@ -91,10 +130,10 @@ pub fn run<S: Source, O: Sink, E: Sink, L: Ledger>(
     ensures sink_fault { let task = task_of (texts words.now) in
         let sink = sink_change (O.written out.old) (O.written out.new) (O.faults out.old) (O.faults out.new) in
         result ≡ Status.SinkFault → ForBytes task (S.left source.old)
-        (λ bytes. FailedAfterFront (first_fault task bytes) (task.IsOutput bytes) sink) }
+        (λ bytes. FailedAfterFront (first_fault task bytes) (task.IsOutput bytes (steps.new - steps.old)) sink) }
     ensures sink_rose { result ≡ Status.SinkFault → Rose (O.faults out.old) (O.faults out.new) }
     ensures no_memory { (task_of (texts words.now)).memory_first ≡ true → result ≡ Status.NoMemory
-        → (out.new ≡ out.old) × (steps.new ≡ steps.old) }
+        → out.new ≡ out.old }
     ensures complete { let task = task_of (texts words.now) in
         ForBytes task (S.left source.old) (λ bytes. first_fault task bytes ≡ None
         → (Rose (S.faults source.old) (S.faults source.new) → ⊥) → (Rose (O.faults out.old) (O.faults out.new) → ⊥)
@@ -103,7 +142,11 @@ pub fn run<S: Source, O: Sink, E: Sink, L: Ledger>(
         (S.left source.old) (S.left source.new) (source.new ≡ source.old) result }
     ensures source_kept { result ≢ Status.SourceFault → S.faults source.new ≡ S.faults source.old }
     ensures sink_kept { result ≢ Status.SinkFault → O.faults out.new ≡ O.faults out.old }
-    ensures steps { (task_of (texts words.now)).searches ≡ false → steps.new ≡ steps.old }
+    ensures work { let task = task_of (texts words.now) in
+        let sink = sink_change (O.written out.old) (O.written out.new) (O.faults out.old) (O.faults out.new) in
+        ForSomeBytes task (S.left source.old)
+        (λ bytes. Works task (first_fault task bytes) bytes sink (steps.new - steps.old) result) }
+    ensures rose { steps.old ≤ steps.new }
     ensures fault_line { (fault : Fault) → result ≡ Status.Input fault
         → GrowsByFront (E.written err.old) (E.written err.new) (fault_line fault) }
     ensures whole_line { (fault : Fault) → result ≡ Status.Input fault

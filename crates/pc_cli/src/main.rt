@@ -3,7 +3,9 @@
 
 ghost use Rattle.std.specs.Prelude.{◌≡◌, ◌<◌};
 
-use pc_app::run;
+mod edge;
+
+use edge::exit_code;
 use pc_outside::{FileSink, FileSource};
 use reach::Steps;
 use std::env;
@@ -30,7 +32,7 @@ fn run_counted<L: Ledger>(rt: &HostRuntime, blank: Blank, words: &[String]) -> u
     let mut source = FileSource::new(rt.stdin());
     let mut out = FileSink::new(rt.stdout());
     let mut err = FileSink::new(rt.stderr());
-    run(
+    exit_code(
         rt.alloc(),
         words,
         &mut source,
@@ -38,7 +40,6 @@ fn run_counted<L: Ledger>(rt: &HostRuntime, blank: Blank, words: &[String]) -> u
         &mut err,
         &mut steps,
     )
-    .code()
 }
 
 fn main(rt: HostRuntime) -> ExitCode {

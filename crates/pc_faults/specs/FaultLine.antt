@@ -5,6 +5,8 @@ use Rattle.well.specs.declared.rows.RowsFault.{RowsFault}
 use Rattle.well.specs.declared.rows.RowsFault.TheVariants.{BadRowChar, BadRowLength, TooManyRows}
 use Rattle.queue_pattern.specs.declared.fault.PatternFault.{PatternFault}
 use Rattle.queue_pattern.specs.declared.fault.PatternFault.TheVariants.{Unexpected, RepeatedPiece, TooManyChosen, PatternTooLong, TooManyQueues}
+use Rattle.kick_file.specs.declared.fault.KickFault.{KickFault}
+use Rattle.kick_file.specs.declared.fault.KickFault.TheVariants as kick
 use Rattle.fumen_text.specs.declared.fault.FumenFault.{FumenFault}
 use Rattle.fumen_text.specs.declared.fault.FumenFault.TheVariants as fumen
 use Rattle.fumen_text.specs.declared.encode_fault.EncodeFault.{EncodeFault}
@@ -13,8 +15,10 @@ use Rattle.page_list.specs.declared.fault.ListKind.{ListKind}
 use Rattle.page_list.specs.declared.fault.ListKind.TheVariants as kinds
 use Rattle.pc_faults.specs.declared.words_fault.WordsKind.{WordsKind}
 use Rattle.pc_faults.specs.declared.words_fault.WordsKind.TheVariants.{NoCommand, UnknownCommand, UnknownOption, RepeatedOption, BothFields, MissingValue, BadValue, MissingOption}
+use Rattle.pc_faults.specs.declared.cover_fault.CoverKind.{CoverKind}
+use Rattle.pc_faults.specs.declared.cover_fault.CoverKind.TheVariants.{BadSequence, TooManySequences}
 use Rattle.pc_faults.specs.declared.fault.Fault.{Fault}
-use Rattle.pc_faults.specs.declared.fault.Fault.TheVariants.{Words, SourceTooLong, Fumen, NoPage, List as ListOf, Encode, Rows, FieldTooHigh, FullRow, Pattern, TooFewPieces, BadAfter}
+use Rattle.pc_faults.specs.declared.fault.Fault.TheVariants.{Words, Kicks, SourceTooLong, Fumen, NoPage, List as ListOf, Encode, Rows, FieldTooHigh, FullRow, Pattern, NotOneQueue, TooFewPieces, BadAfter, Cover}
 
 abbrev pub words_name : WordsKind → List ℕ
 words_name NoCommand = codes "Words.NoCommand"
@@ -25,6 +29,10 @@ words_name BothFields = codes "Words.BothFields"
 words_name MissingValue = codes "Words.MissingValue"
 words_name BadValue = codes "Words.BadValue"
 words_name MissingOption = codes "Words.MissingOption"
+
+abbrev pub kicks_name : KickFault → List ℕ
+kicks_name (kick.Unexpected place) = codes "Kicks.Unexpected"
+kicks_name (kick.RepeatedEntry place) = codes "Kicks.RepeatedEntry"
 
 abbrev pub rows_name : RowsFault → List ℕ
 rows_name (BadRowChar place) = codes "Rows.BadRowChar"
@@ -37,6 +45,10 @@ pattern_name (RepeatedPiece place) = codes "Pattern.RepeatedPiece"
 pattern_name (TooManyChosen place) = codes "Pattern.TooManyChosen"
 pattern_name PatternTooLong = codes "Pattern.PatternTooLong"
 pattern_name TooManyQueues = codes "Pattern.TooManyQueues"
+
+abbrev pub cover_name : CoverKind → List ℕ
+cover_name BadSequence = codes "Cover.BadSequence"
+cover_name TooManySequences = codes "Cover.TooManySequences"
 
 abbrev pub fumen_name : FumenFault → List ℕ
 fumen_name fumen.NoFumen = codes "Fumen.NoFumen"
@@ -66,6 +78,7 @@ encode_name (unwritten.RowTooHigh page) = codes "Encode.RowTooHigh"
 
 abbrev pub fault_name : Fault → List ℕ
 fault_name (Words fault) = words_name fault.kind
+fault_name (Kicks fault) = kicks_name fault
 fault_name SourceTooLong = codes "SourceTooLong"
 fault_name (Fumen fault) = fumen_name fault
 fault_name (NoPage asked there) = codes "NoPage"
@@ -75,8 +88,14 @@ fault_name (Rows fault) = rows_name fault
 fault_name (FieldTooHigh row) = codes "FieldTooHigh"
 fault_name (FullRow row) = codes "FullRow"
 fault_name (Pattern fault) = pattern_name fault
+fault_name (NotOneQueue count) = codes "NotOneQueue"
 fault_name (TooFewPieces have need) = codes "TooFewPieces"
 fault_name (BadAfter place) = codes "BadAfter"
+fault_name (Cover fault) = cover_name fault.kind
+
+abbrev pub kicks_numbers : KickFault → List ℕ
+kicks_numbers (kick.Unexpected place) = place ∷ []
+kicks_numbers (kick.RepeatedEntry place) = place ∷ []
 
 abbrev pub rows_numbers : RowsFault → List ℕ
 rows_numbers (BadRowChar place) = place ∷ []
@@ -110,6 +129,7 @@ encode_numbers (unwritten.RowTooHigh page) = page ∷ []
 
 abbrev pub fault_numbers : Fault → List ℕ
 fault_numbers (Words fault) = fault.index ∷ []
+fault_numbers (Kicks fault) = kicks_numbers fault
 fault_numbers SourceTooLong = []
 fault_numbers (Fumen fault) = fumen_numbers fault
 fault_numbers (NoPage asked there) = asked ∷ there ∷ []
@@ -119,8 +139,10 @@ fault_numbers (Rows fault) = rows_numbers fault
 fault_numbers (FieldTooHigh row) = row ∷ []
 fault_numbers (FullRow row) = row ∷ []
 fault_numbers (Pattern fault) = pattern_numbers fault
+fault_numbers (NotOneQueue count) = count ∷ []
 fault_numbers (TooFewPieces have need) = have ∷ need ∷ []
 fault_numbers (BadAfter place) = place ∷ []
+fault_numbers (Cover fault) = fault.line ∷ []
 
 -- each number with a blank before it
 abbrev pub line_with : List ℕ → List ℕ → List ℕ

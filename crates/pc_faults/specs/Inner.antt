@@ -1,11 +1,12 @@
 -- The faults that a command finds, and those that it does not.
 use Rattle.std.specs.Prelude.{◌≡◌, Bool, true, false, Option, Some, None}
 use Rattle.pc_faults.specs.declared.fault.Fault.{Fault}
-use Rattle.pc_faults.specs.declared.fault.Fault.TheVariants.{SourceTooLong, Words}
+use Rattle.pc_faults.specs.declared.fault.Fault.TheVariants.{Kicks, SourceTooLong, Words}
 
--- a fault that no command finds: one of the words, or that the source is too long
+-- a fault that no command finds: one of the words or of the offsets that they give, or that the source is too long
 abbrev pub is_outer : Fault → Bool
 is_outer (Words fault) = true
+is_outer (Kicks fault) = true
 is_outer SourceTooLong = true
 is_outer other = false
 

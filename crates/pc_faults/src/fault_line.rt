@@ -2,13 +2,16 @@
 ghost use Rattle.std.specs.Prelude.{◌≡◌};
 ghost use Rattle.pc_outside.specs.Counts.{HasCause};
 ghost use Rattle.pc_outside.specs.Writes.{WritesAll};
-ghost use Rattle.pc_faults.specs.FaultLine.{words_name, rows_name, pattern_name, fumen_name, list_name, encode_name, fault_name, rows_numbers, pattern_numbers, fumen_numbers, encode_numbers, fault_numbers, line_with, fault_line};
+ghost use Rattle.pc_faults.specs.FaultLine.{words_name, kicks_name, rows_name, pattern_name, cover_name, fumen_name, list_name, encode_name, fault_name};
+ghost use Rattle.pc_faults.specs.FaultLine.{kicks_numbers, rows_numbers, pattern_numbers, fumen_numbers, encode_numbers, fault_numbers, line_with, fault_line};
 ghost use Rattle.pc_faults.specs.FaultNumbers.{numbers_of};
 
+use crate::cover_fault::CoverKind;
 use crate::fault::Fault;
 use crate::words_fault::WordsKind;
 use fumen_text::{EncodeFault, FumenFault};
 use itoa::Buffer;
+use kick_file::KickFault;
 use page_list::ListKind;
 use pc_outside::{Failed, Sink, write_pieces};
 use queue_pattern::PatternFault;
@@ -37,6 +40,15 @@ fn words_name(kind: WordsKind) -> &'static [u8]
     }
 }
 
+fn kicks_name(fault: KickFault) -> &'static [u8]
+    ensures { result.now ≡ kicks_name fault }
+{
+    match fault {
+        KickFault::Unexpected { .. } => b"Kicks.Unexpected",
+        KickFault::RepeatedEntry { .. } => b"Kicks.RepeatedEntry",
+    }
+}
+
 fn rows_name(fault: RowsFault) -> &'static [u8]
     ensures { result.now ≡ rows_name fault }
 {
@@ -56,6 +68,15 @@ fn pattern_name(fault: PatternFault) -> &'static [u8]
         PatternFault::TooManyChosen { .. } => b"Pattern.TooManyChosen",
         PatternFault::PatternTooLong => b"Pattern.PatternTooLong",
         PatternFault::TooManyQueues => b"Pattern.TooManyQueues",
+    }
+}
+
+fn cover_name(kind: CoverKind) -> &'static [u8]
+    ensures { result.now ≡ cover_name kind }
+{
+    match kind {
+        CoverKind::BadSequence => b"Cover.BadSequence",
+        CoverKind::TooManySequences => b"Cover.TooManySequences",
     }
 }
 
@@ -105,6 +126,7 @@ fn fault_name(fault: Fault) -> &'static [u8]
 {
     match fault {
         Fault::Words(words) => words_name(words.kind),
+        Fault::Kicks(kicks) => kicks_name(kicks),
         Fault::SourceTooLong => b"SourceTooLong",
         Fault::Fumen(fumen) => fumen_name(fumen),
         Fault::NoPage { .. } => b"NoPage",
@@ -114,8 +136,19 @@ fn fault_name(fault: Fault) -> &'static [u8]
         Fault::FieldTooHigh { .. } => b"FieldTooHigh",
         Fault::FullRow { .. } => b"FullRow",
         Fault::Pattern(pattern) => pattern_name(pattern),
+        Fault::NotOneQueue { .. } => b"NotOneQueue",
         Fault::TooFewPieces { .. } => b"TooFewPieces",
         Fault::BadAfter { .. } => b"BadAfter",
+        Fault::Cover(cover) => cover_name(cover.kind),
+    }
+}
+
+fn kicks_numbers(fault: KickFault) -> FaultNumbers
+    ensures { numbers_of result ≡ kicks_numbers fault }
+{
+    match fault {
+        KickFault::Unexpected { place } => FaultNumbers::One(place),
+        KickFault::RepeatedEntry { place } => FaultNumbers::One(place),
     }
 }
 
@@ -174,6 +207,7 @@ fn fault_numbers(fault: Fault) -> FaultNumbers
 {
     match fault {
         Fault::Words(words) => FaultNumbers::One(words.index),
+        Fault::Kicks(kicks) => kicks_numbers(kicks),
         Fault::SourceTooLong => FaultNumbers::None,
         Fault::Fumen(fumen) => fumen_numbers(fumen),
         Fault::List(list) => FaultNumbers::One(list.line as usize),
@@ -183,11 +217,13 @@ fn fault_numbers(fault: Fault) -> FaultNumbers
         Fault::FieldTooHigh { row } => FaultNumbers::One(usize::from(row)),
         Fault::FullRow { row } => FaultNumbers::One(usize::from(row)),
         Fault::Pattern(pattern) => pattern_numbers(pattern),
+        Fault::NotOneQueue { count } => FaultNumbers::One(count as usize),
         Fault::TooFewPieces { have, need } => FaultNumbers::Two(
             usize::from(have),
             usize::from(need),
         ),
         Fault::BadAfter { place } => FaultNumbers::One(place),
+        Fault::Cover(cover) => FaultNumbers::One(cover.line as usize),
     }
 }
 

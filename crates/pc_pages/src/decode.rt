@@ -4,8 +4,9 @@ ghost use Rattle.std.specs.List.{flat_map};
 ghost use Rattle.pc_outside.specs.Counts.{Rose};
 ghost use Rattle.pc_outside.specs.Writes.{WritesAll};
 ghost use Rattle.page_list.specs.PrintedLine.{page_form};
-ghost use Rattle.pc_source.specs.Answers.{Answers, sink_change};
+ghost use Rattle.pc_source.specs.Answers.{Answers};
 ghost use Rattle.pc_source.specs.Had.{IsShowable};
+ghost use Rattle.pc_source.specs.Sink.{sink_change};
 ghost use Rattle.pc_pages.specs.declared.decode.WriteFault.{WriteFault};
 ghost use Rattle.pc_pages.specs.Tasks.{decode_task};
 
@@ -42,7 +43,7 @@ impl From<NoMemory> for WriteFault {
 /// Reads the bytes as a fumen text, and writes a line for each of its pages.
 pub fn run_decode<O: Sink>(alloc: Global, bytes: &[u8], out: &mut O) -> Status
     ensures { let sink = sink_change (O.written out.old) (O.written out.new) (O.faults out.old) (O.faults out.new) in
-        Answers decode_task bytes.now sink (out.new ≡ out.old) result }
+        Answers decode_task bytes.now sink (out.new ≡ out.old) 0 result }
 {
     let pages = match text_pages(alloc, bytes) {
         Ok(pages) => pages,

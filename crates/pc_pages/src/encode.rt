@@ -2,8 +2,9 @@
 ghost use Rattle.std.specs.Prelude.{◌≡◌, ◌++◌, [], ◌∷◌, None, IfOk, IfErr, OnOk};
 ghost use Rattle.page_list.specs.LineSpelling.{SpellsPages};
 ghost use Rattle.page_list.specs.ListReading.{pages_in};
-ghost use Rattle.pc_source.specs.Answers.{Answers, sink_change};
+ghost use Rattle.pc_source.specs.Answers.{Answers};
 ghost use Rattle.pc_source.specs.Had.{IsRefusal};
+ghost use Rattle.pc_source.specs.Sink.{sink_change};
 ghost use Rattle.pc_pages.specs.Faults.{encode_fault, lines_fault};
 ghost use Rattle.pc_pages.specs.Output.{IsEncodeOutput};
 ghost use Rattle.pc_pages.specs.Tasks.{encode_task};
@@ -19,7 +20,7 @@ use std::alloc::Global;
 /// Reads the bytes as a list of pages, and writes their fumen text in a dialect, and a newline.
 pub fn run_encode<O: Sink>(alloc: Global, dialect: Dialect, bytes: &[u8], out: &mut O) -> Status
     ensures { let sink = sink_change (O.written out.old) (O.written out.new) (O.faults out.old) (O.faults out.new) in
-        Answers (encode_task dialect) bytes.now sink (out.new ≡ out.old) result }
+        Answers (encode_task dialect) bytes.now sink (out.new ≡ out.old) 0 result }
 {
     match encoded(alloc, dialect, bytes) {
         Ok(text) => Status::after_writes(write_pieces(out, &[&text, b"\n"])),

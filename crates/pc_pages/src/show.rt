@@ -3,8 +3,9 @@ ghost use Rattle.std.specs.Prelude.{◌≡◌, ◌≤◌, All, length};
 ghost use Rattle.std.specs.Option.{ForSome};
 ghost use Rattle.pc_outside.specs.Counts.{HasCause};
 ghost use Rattle.pc_outside.specs.Writes.{WritesAll};
-ghost use Rattle.pc_source.specs.Answers.{Answers, sink_change};
+ghost use Rattle.pc_source.specs.Answers.{Answers};
 ghost use Rattle.pc_source.specs.Had.{IsShowable};
+ghost use Rattle.pc_source.specs.Sink.{sink_change};
 ghost use Rattle.pc_pages.specs.Output.{shown_from};
 ghost use Rattle.pc_pages.specs.Tasks.{show_task};
 
@@ -20,7 +21,7 @@ use std::alloc::Global;
 pub fn run_show<O: Sink>(alloc: Global, asked: Option<u32>, bytes: &[u8], out: &mut O) -> Status
     requires { ForSome asked (λ number. 1 ≤ number) }
     ensures { let sink = sink_change (O.written out.old) (O.written out.new) (O.faults out.old) (O.faults out.new) in
-        Answers (show_task asked) bytes.now sink (out.new ≡ out.old) result }
+        Answers (show_task asked) bytes.now sink (out.new ≡ out.old) 0 result }
 {
     let pages = match text_pages(alloc, bytes) {
         Ok(pages) => pages,

@@ -4,4 +4,6 @@ mod AfterFaults
 mod OneOutput
 mod PathAnswers
 mod Reports
+mod Searching
 mod WrittenText
+mod Formatted

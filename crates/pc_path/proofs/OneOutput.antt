@@ -1,5 +1,5 @@
 -- What `path` writes is determined by its request and the bytes of the source.
-use Rattle.std.proofs.Common.{◌≡◌, ℕ, ◌/◌, List, [], ◌∷◌, refl, sym, ap, subst, ◌∙◌, inl, inr, Option, Some, None, Result, Ok, Err, IsTrue, Bool}
+use Rattle.std.proofs.Common.{◌≡◌, ℕ, ◌/◌, List, [], ◌∷◌, ◌++◌, true, false, refl, sym, ap, subst, ◌∙◌, inl, inr, Option, Some, None, IsTrue, Bool}
 use Rattle.std.specs.Prelude.{Contains}
 use Rattle.std.specs.List.Sorted.{IsStrictlySortedBy}
 use Rattle.std.specs.Cmp.{IsTotalOrder, tied_itself}
@@ -13,8 +13,6 @@ use Rattle.srs.proofs.CallerLemmas.{sequence_cmp-total}
 use Rattle.srs.specs.Rules.{table_of}
 use Rattle.well.specs.Counts.{empties_below}
 use Rattle.well.specs.Well.{filled}
-use Rattle.queue_pattern.specs.declared.element.Element.{Element}
-use Rattle.queue_pattern.specs.declared.fault.PatternFault.{PatternFault}
 use Rattle.queue_pattern.specs.Queues.{queues}
 use Rattle.queue_pattern.specs.Pattern.{elements_of}
 use Rattle.hold_queue.specs.Permits.{SomePermits}
@@ -25,10 +23,13 @@ use Rattle.enumerate.specs.Solution.{IsSolution, pieces_of}
 use Rattle.lane_board.specs.Field.{Field}
 use Rattle.sequence_text.proofs.CallerLemmas.{one_sequence}
 use Rattle.pc_settings.specs.Request.{FieldRequest}
+use Rattle.path_settings.specs.declared.format.Format.{Format}
 use Rattle.path_settings.specs.Request.{PathRequest}
 use Rattle.pc_source.proofs.CallerLemmas.{one_field}
 use Rattle.pc_problem.specs.Problem.{IsProblemOf}
-use Rattle.pc_path.specs.Output.{IsGiven, IsPathOutput, IsReportOf}
+use Rattle.pc_problem.proofs.CallerLemmas.{same_elements, same_table}
+use Rattle.pc_path.specs.Formats.{formatted, solution_form}
+use Rattle.pc_path.specs.Output.{IsGiven, IsPathOutput, IsReportOf, Listed, stats_form}
 use Rattle.report.specs.Forms.{key_part, report_form}
 
 -- of the same things there is one rising list
@@ -67,9 +68,6 @@ module _ {A : Type 0} (cmp : A → A → Ordering) (total : IsTotalOrder cmp) wh
   rising_list_unique xs ys first second to from =
       same_lists xs ys first.rising second.rising (λ z among. (second.members z).1 (to z ((first.members z).0 among))) (λ z among. (first.members z).1 (from z ((second.members z).0 among)))
 
-same_ok : (xs ys : List Element) → ◌≡◌ {A = Result (List Element) PatternFault} (Ok xs) (Ok ys) → xs ≡ ys
-same_ok xs ys e = cc
-
 -- two problems that are asked about one field have the same solutions
 module _ (request : FieldRequest) (F : Field) (one other : Problem) (first : IsProblemOf request F one) (second : IsProblemOf request F other) where
   same_field : filled one.well ≡ filled other.well
@@ -77,12 +75,12 @@ module _ (request : FieldRequest) (F : Field) (one other : Problem) (first : IsP
 
   solution_of_same : (sequence : List Placement) → IsSolution one None sequence → IsSolution other None sequence
   solution_of_same sequence solution =
-      let table : table_of one.rules ≡ table_of other.rules = first.rules ∙ sym second.rules in
+      let table : table_of one.rules ≡ table_of other.rules = same_table request F one other first second in
       let drop : one.drop_mode ≡ other.drop_mode = first.drop ∙ sym second.drop in
       let height : one.height ≡ other.height = first.height ∙ sym second.height in
       let hold : one.hold ≡ other.hold = first.hold ∙ sym second.hold in
       let held : one.held ≡ other.held = first.held ∙ sym second.held in
-      let elements : elements_of one.pattern ≡ elements_of other.pattern = same_ok _ _ (first.queues ∙ sym second.queues) in
+      let elements : elements_of one.pattern ≡ elements_of other.pattern = same_elements request F one other first second in
       record {
         plays =
             subst (λ t. Plays t other.drop_mode (filled other.well) other.height sequence) table
@@ -96,10 +94,9 @@ module _ (request : FieldRequest) (F : Field) (one other : Problem) (first : IsP
       }
 
   -- the same reports
-  one_report : (keys : Bool) (limit : ℕ) (xs ys : List (List Placement)) → xs ≡ ys →
-      report_form (key_part keys (table_of one.rules) one.drop_mode) (filled one.well) limit xs ≡ report_form (key_part keys (table_of other.rules) other.drop_mode) (filled other.well) limit ys
-  one_report keys limit xs ys same =
-      λ i. report_form (key_part keys ((first.rules ∙ sym second.rules) i) ((first.drop ∙ sym second.drop) i)) (same_field i) limit (same i)
+  one_report : (format : Format) (keys : Bool) (limit : ℕ) (xs ys : List (List Placement)) → xs ≡ ys → report_form (solution_form format keys one) limit xs ≡ report_form (solution_form format keys other) limit ys
+  one_report format keys limit xs ys same =
+      λ i. report_form (λ s. formatted format (key_part keys (same_table request F one other first second i) ((first.drop ∙ sym second.drop) i)) (same_field i) ((first.height ∙ sym second.height) i) s) limit (same i)
 
   -- and as many placements are needed
   same_needed : needed_of one ≡ needed_of other
@@ -111,17 +108,25 @@ same_given needed (Some text) None other first second = absurd first
 same_given needed (Some text) (Some one) None first second = absurd second
 same_given needed (Some text) (Some one) (Some other) first second = ap (λ s. Some s) (one_sequence needed text one other first second)
 
-report_unique : (request : PathRequest) (F : Field) (a b : List ℕ) → IsReportOf request F a → IsReportOf request F b → a ≡ b
-report_unique request F a b first second =
+same_stats : (stats : Bool) (floods others : ℕ) → (stats ≡ true → floods ≡ others) → stats_form stats floods ≡ stats_form stats others
+same_stats true floods others same = ap (stats_form true) (same refl)
+same_stats false floods others same = refl
+
+report_unique : (request : PathRequest) (F : Field) (floods others : ℕ) → (request.stats ≡ true → floods ≡ others) → (a b : List ℕ) → IsReportOf request F floods a → IsReportOf request F others b → a ≡ b
+report_unique request F floods others stats a b one other =
+    let first = one.listed in
+    let second = other.listed in
     let needed = same_needed request.common F first.problem second.problem first.named second.named in
     let given = subst (λ needed. IsGiven needed request.after first.after) needed first.given in
     let after : first.after ≡ second.after = same_given _ request.after first.after second.after given second.given in
     let same : first.sequences ≡ second.sequences = rising_list_unique sequence_cmp sequence_cmp-total first.sequences second.sequences first.list second.list
     (λ s m. record { solution = solution_of_same request.common F first.problem second.problem first.named second.named s m.solution; above = subst (λ bound. IsTrue (is_above sequence_cmp bound s)) after m.above })
     (λ s m. record { solution = solution_of_same request.common F second.problem first.problem second.named first.named s m.solution; above = subst (λ bound. IsTrue (is_above sequence_cmp bound s)) (sym after) m.above }) in
-    first.report ∙ one_report request.common F first.problem second.problem first.named second.named request.keys request.limit first.sequences second.sequences same ∙ sym second.report
+    let reports = one_report request.common F first.problem second.problem first.named second.named request.format request.keys request.limit first.sequences second.sequences same in
+    one.report ∙ (λ i. reports i ++ same_stats request.stats floods others stats i) ∙ sym other.report
 
-pub one_path_output : (request : PathRequest) (bytes a b : List ℕ) → IsPathOutput request bytes a → IsPathOutput request bytes b → a ≡ b
-one_path_output request bytes a b first second =
+pub one_path_output : (request : PathRequest) (bytes : List ℕ) (floods others : ℕ) → (request.stats ≡ true → floods ≡ others) → (a b : List ℕ)
+    → IsPathOutput request bytes floods a → IsPathOutput request bytes others b → a ≡ b
+one_path_output request bytes floods others stats a b first second =
     let same = one_field request.common.field request.common.page bytes first.field second.field first.asked second.asked in
-    report_unique request second.field a b (subst (λ F. IsReportOf request F a) same first.report) second.report
+    report_unique request second.field floods others stats a b (subst (λ F. IsReportOf request F floods a) same first.report) second.report

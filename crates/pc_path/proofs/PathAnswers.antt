@@ -1,5 +1,5 @@
 -- What `path` answers where its field is had, and where it is not; and that bytes which are not read do not matter.
-use Rattle.std.proofs.Common.{◌≡◌, ◌≢◌, ◌∙◌, ℕ, List, [], ◌∷◌, Bool, true, false, Option, Some, None, Result, Ok, Err, refl, ap, sym, subst}
+use Rattle.std.proofs.Common.{◌≡◌, ◌≢◌, ◌∙◌, ℕ, List, [], ◌∷◌, Bool, true, false, Option, Some, None, Result, Ok, Err, inl, inr, refl, ap, sym, subst}
 use Rattle.std.specs.Prelude.{if◌then◌else◌}
 use Rattle.lane_board.specs.Field.{Field}
 use Rattle.srs.specs.declared.placement.Placement.{Placement}
@@ -9,16 +9,18 @@ use Rattle.pc_outside.specs.declared.answers.Refused.{Refused}
 use Rattle.sequence_text.specs.Reading.{sequence_in}
 use Rattle.pc_faults.specs.declared.fault.Fault.{Fault}
 use Rattle.pc_faults.specs.declared.status.Status.{Status}
+use Rattle.pc_faults.specs.declared.status.Status.TheVariants.{Done, Input, SourceFault, SinkFault, NoMemory}
 use Rattle.pc_faults.specs.Inner.{IsInner}
 use Rattle.pc_faults.proofs.CallerLemmas.{first_stops, inner_first, second_left}
-use Rattle.pc_settings.specs.Request.{FieldText, fumen_text, rows_text}
 use Rattle.path_settings.specs.Request.{PathRequest}
-use Rattle.pc_source.specs.Answers.{Answers, SinkChange}
-use Rattle.pc_source.specs.Faults.{cells_of, cells_read, field_fault, text_fault}
-use Rattle.pc_source.specs.FieldText.{IsFieldOf, IsFumenField, field_needs, is_of_source, text_given}
+use Rattle.pc_source.specs.Answers.{Answers}
+use Rattle.pc_source.specs.Faults.{cells_of, field_fault}
+use Rattle.pc_source.specs.FieldText.{field_needs}
 use Rattle.pc_source.specs.Had.{HasField, IsRefusal}
-use Rattle.pc_source.specs.Task.{is_source, source_bytes}
-use Rattle.pc_source.proofs.CallerLemmas.{field_cells, inner_field, part_answers, refusal_before}
+use Rattle.pc_source.specs.Sink.{SinkChange}
+use Rattle.pc_source.specs.Task.{is_source}
+use Rattle.pc_source.specs.Work.{Works}
+use Rattle.pc_source.proofs.CallerLemmas.{cells_unread, fault_unread, field_cells, field_unread, inner_field, part_works, refusal_before}
 use Rattle.pc_problem.specs.Faults.{problem_fault}
 use Rattle.pc_problem.proofs.CallerLemmas.{inner_problem}
 use Rattle.pc_path.specs.Faults.{after_fault, listing_fault, path_fault, sequence_fault}
@@ -41,11 +43,37 @@ had_fault request bytes F has =
     second_left (field_fault request.common.field request.common.page bytes) (listing_fault request (cells_of request.common.field request.common.page bytes)) has.none
     ∙ ap (listing_fault request) (field_cells request.common.field request.common.page bytes F has.is)
 
-pub lists : (request : PathRequest) (bytes : List ℕ) (F : Field) → HasField request.common.field request.common.page bytes F → (sink : SinkChange) (Kept : Type 0) (status : Status)
-    → Answers (listing_task request F) [] sink Kept status → Answers (path_task request) bytes sink Kept status
-lists request bytes F has sink Kept status answers =
-    part_answers (listing_task request F) (path_task request) [] bytes sink Kept refl refl (had_fault request bytes F has)
-    (λ output report. record { field = F; asked = has.is; report = report }) status answers
+module _ (request : PathRequest) (bytes : List ℕ) (F : Field) (has : HasField request.common.field request.common.page bytes F) (sink : SinkChange) where
+  same : path_fault request bytes ≡ listing_fault request F
+  same = had_fault request bytes F has
+
+  of_field : (floods : ℕ) (output : List ℕ) → IsReportOf request F floods output → IsPathOutput request bytes floods output
+  of_field floods output report = record { field = F; asked = has.is; report = report }
+
+  pub lists : (Kept : Type 0) (floods : ℕ) (status : Status) → Answers (listing_task request F) [] sink Kept floods status → Answers (path_task request) bytes sink Kept floods status
+  lists Kept floods Done a =
+      record { none = same ∙ a.none; wrote = record { output = a.wrote.output; is_output = of_field floods a.wrote.output a.wrote.is_output; grown = a.wrote.grown }; kept = a.kept }
+  lists Kept floods (Input f) a = (same ∙ a.0, a.1)
+  lists Kept floods SourceFault a = absurd a
+  lists Kept floods SinkFault a =
+      record { none = same ∙ a.none; front = record { output = a.front.output; is_output = of_field floods a.front.output a.front.is_output; grown = a.front.grown }; rose = a.rose }
+  lists Kept floods NoMemory a = record {
+    known = λ _. same ∙ a.known refl;
+    first = a.first;
+    ended = elim a.ended [
+      | inl kept ↦ inl kept
+      | inr front ↦ inr (record {
+        none = same ∙ front.none;
+        front = record { output = front.front.output; is_output = of_field floods front.front.output front.front.is_output; grown = front.front.grown };
+        kept = front.kept;
+      })
+    ];
+  }
+
+  pub lists_work : (floods : ℕ) (status : Status) → Works (listing_task request F) (listing_fault request F) [] sink floods status
+      → Works (path_task request) (path_fault request bytes) bytes sink floods status
+  lists_work floods status works =
+      part_works (listing_task request F) (path_task request) [] bytes sink floods (had_fault request bytes F has) (λ status work. record { field = F; asked = has.is; listing = work }) status works
 
 -- no fault of the words, and none that the source is too long
 inner_sequence : (read : Result (List Placement) ℕ) → IsInner (sequence_fault read)
@@ -65,31 +93,12 @@ unfolding path_fault
 inner_path request bytes =
     inner_first _ _ (inner_field request.common.field request.common.page bytes) (inner_first _ [] (inner_listing request (cells_of request.common.field request.common.page bytes)) tt)
 
--- the text of a word that isn't the source's
-own_text : (word one other : List ℕ) → is_source (field_needs (fumen_text word)) ≡ false → text_given word one ≡ text_given word other
-own_text word one other = by (is_of_source word) refl where
-  by : (b : Bool) → is_of_source word ≡ b → is_source (field_needs (fumen_text word)) ≡ false → text_given word one ≡ text_given word other
-  by true is own = let h : is_source (field_needs (fumen_text word)) ≡ true = rw (is) refl in cc
-  by false is own = rw (is) refl
-
-module _ (number : ℕ) (one other : List ℕ) where
-  fault_unread : (field : FieldText) → is_source (field_needs field) ≡ false → field_fault field number one ≡ field_fault field number other
-  fault_unread (rows_text text) own = refl
-  fault_unread (fumen_text word) own = ap (text_fault (Some number)) (own_text word one other own)
-
-  cells_unread : (field : FieldText) → is_source (field_needs field) ≡ false → cells_of field number one ≡ cells_of field number other
-  cells_unread (rows_text text) own = refl
-  cells_unread (fumen_text word) own = ap (λ t. cells_read number (text_pages t)) (own_text word one other own)
-
-  field_unread : (field : FieldText) (F : Field) → is_source (field_needs field) ≡ false → IsFieldOf field number one F → IsFieldOf field number other F
-  field_unread (rows_text text) F own is = is
-  field_unread (fumen_text word) F own is = subst (λ t. IsFumenField t number F) (own_text word one other own) is
-
 pub path_fault_unread : (request : PathRequest) (one other : List ℕ) → is_source (field_needs request.common.field) ≡ false → path_fault request one ≡ path_fault request other
 unfolding path_fault
 path_fault_unread request one other own =
     rw (fault_unread request.common.page one other request.common.field own, cells_unread request.common.page one other request.common.field own) refl
 
-pub path_output_unread : (request : PathRequest) (one other output : List ℕ) → is_source (field_needs request.common.field) ≡ false → IsPathOutput request one output → IsPathOutput request other output
-path_output_unread request one other output own is =
+pub path_output_unread : (request : PathRequest) (one other output : List ℕ) (floods : ℕ) → is_source (field_needs request.common.field) ≡ false → IsPathOutput request one floods output
+    → IsPathOutput request other floods output
+path_output_unread request one other output floods own is =
     record { field = is.field; asked = field_unread request.common.page one other request.common.field is.field own is.asked; report = is.report }

@@ -1,16 +1,17 @@
 -- What is left of `path` once its field is had.
-use Rattle.std.specs.Prelude.{true}
 use Rattle.lane_board.specs.Field.{Field}
 use Rattle.path_settings.specs.Request.{PathRequest}
 use Rattle.pc_source.specs.Task.{Task, nothing}
 use Rattle.pc_path.specs.Faults.{listing_fault}
+use Rattle.pc_path.specs.Formats.{takes_memory_first}
 use Rattle.pc_path.specs.Output.{IsReportOf}
+use Rattle.pc_path.specs.Work.{IsListingWork}
 
 abbrev pub listing_task : PathRequest → Field → Task
 listing_task request F = record {
   needs = nothing;
-  memory_first = true;
-  searches = true;
+  memory_first = takes_memory_first request.format;
   fault = λ bytes. listing_fault request F;
-  IsOutput = λ bytes output. IsReportOf request F output;
+  IsOutput = λ bytes floods output. IsReportOf request F floods output;
+  IsWork = λ bytes sink status floods. IsListingWork request F sink status floods;
 }

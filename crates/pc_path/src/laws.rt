@@ -1,5 +1,5 @@
 // Laws of the definitions: functions with an empty body, whose contract is the law.
-ghost use Rattle.std.specs.Prelude.{◌≡◌, ◌↔◌, ℕ, Bool, false, List, Some, None};
+ghost use Rattle.std.specs.Prelude.{◌≡◌, ◌↔◌, ℕ, Bool, true, false, List, Some, None};
 ghost use Rattle.srs.specs.declared.placement.Placement.{Placement};
 ghost use Rattle.srs.specs.Rules.{table_of};
 ghost use Rattle.well.specs.Well.{filled};
@@ -16,19 +16,21 @@ ghost use Rattle.pc_source.specs.Task.{is_source};
 ghost use Rattle.pc_path.specs.Faults.{after_fault, path_fault};
 ghost use Rattle.pc_path.specs.Output.{IsPathOutput};
 
-/// What `path` writes is determined by its words and, where it reads the source, by the bytes of the source.
+/// What `path` writes is determined by its words and, where it reads the source, by the bytes of the source, and with
+/// `--stats yes` by the number of floods.
 pub fn path_output_is_determined()
-    ensures { (request : PathRequest) (bytes one other : List ℕ) → IsPathOutput request bytes one
-        → IsPathOutput request bytes other → one ≡ other }
+    ensures { (request : PathRequest) (bytes one other : List ℕ) (floods others : ℕ)
+        → (request.stats ≡ true → floods ≡ others)
+        → IsPathOutput request bytes floods one → IsPathOutput request bytes others other → one ≡ other }
 {}
 
 /// Where `path` doesn't read the source, its first fault and what it writes are the same whatever bytes the source has.
 pub fn unread_bytes_do_not_matter()
     ensures fault { (request : PathRequest) (one other : List ℕ) → is_source (field_needs request.common.field) ≡ false
         → path_fault request one ≡ path_fault request other }
-    ensures output { (request : PathRequest) (one other output : List ℕ)
+    ensures output { (request : PathRequest) (one other output : List ℕ) (floods : ℕ)
         → is_source (field_needs request.common.field) ≡ false
-        → IsPathOutput request one output → IsPathOutput request other output }
+        → IsPathOutput request one floods output → IsPathOutput request other floods output }
 {}
 
 /// A given value has no fault exactly where it spells a sequence of so many placements. It has the fault `BadAfter`

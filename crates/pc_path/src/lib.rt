@@ -4,5 +4,6 @@
 pub mod laws;
 mod listing;
 mod path;
+mod writer;
 
 pub use path::run_path;

@@ -1,90 +1,119 @@
 // The command `path`: the field, and then a line for each solution.
-ghost use Rattle.std.specs.Prelude.{◌≡◌, [], false, IsOk, IfOk, is_some};
-ghost use Rattle.srs.specs.Rules.{table_of};
+ghost use Rattle.std.specs.Prelude.{◌≡◌, ◌-◌, ◌<◌, ◌≤◌, ◌++◌, [], false, Err, None, length, drop, IsOk, IfOk, OnOk, OnErr, is_some};
 ghost use Rattle.well.specs.Well.{filled};
-ghost use Rattle.pc_outside.specs.Counts.{HasCause};
 ghost use Rattle.pc_outside.specs.Writes.{WritesAll};
-ghost use Rattle.enumerate.specs.Plays.{Plays};
-ghost use Rattle.enumerate.specs.ViewOf.{solutions, view_of};
-ghost use Rattle.report.specs.Forms.{key_part, line_form, report_form};
+ghost use Rattle.enumerate.specs.ViewOf.{after_given, solutions, work};
+ghost use Rattle.enumerate.specs.Work.{pairs};
+ghost use Rattle.report.specs.Forms.{report_form};
+ghost use Rattle.report.specs.WriteCause.{HasWriteCause};
+ghost use Rattle.kick_file.specs.Reading.{kick_text};
 ghost use Rattle.pc_settings.specs.Request.{IsInRange};
 ghost use Rattle.path_settings.specs.Views.{path_view};
-ghost use Rattle.pc_source.specs.Answers.{Answers, sink_change};
+ghost use Rattle.pc_source.specs.Answers.{Answers};
+ghost use Rattle.pc_source.specs.Sink.{sink_change};
+ghost use Rattle.pc_source.specs.Work.{Works};
+ghost use Rattle.pc_path.specs.Formats.{solution_form};
 ghost use Rattle.pc_path.specs.ListingTask.{listing_task};
+ghost use Rattle.pc_path.specs.Output.{stats_form};
 ghost use Rattle.pc_path.specs.PathTask.{path_task};
+ghost use Rattle.pc_path.specs.Work.{IsSearchOf, StoppedBefore};
+ghost use Rattle.pc_path.specs.Writer.{format_of};
 
 use crate::listing::listing_of;
-use enumerate::{Problem, Search, Sequence};
+use crate::writer::{FormWriter, as_line, line_status, write_solution, writer_for};
+use enumerate::{Problem, Search};
 use key_path::Finder;
-use path_settings::PathSettings;
+use path_settings::{Format, PathSettings};
 use pc_faults::Status;
-use pc_outside::{Failed, NoMemory, Sink};
+use pc_outside::Sink;
 use pc_source::field;
 use reach::Steps;
-use report::{Tail, write_line, write_tail};
+use report::{Tail, WriteFault, finder_for, write_floods, write_tail};
 use std::alloc::Global;
 use std::sync::ledger::Ledger;
 use well::Well;
 
-// A finder where keys are asked for. Where they are not, no memory is taken.
-fn finder_for(alloc: Global, keys: bool) -> Result<Option<Finder>, NoMemory>
-    ensures finder { IfOk result (λ finder. is_some finder ≡ keys) }
-    ensures none { keys ≡ false → IsOk result }
-{
-    if !keys {
-        return Ok(None);
-    }
-    match Finder::new(alloc) {
-        Ok(finder) => Ok(Some(finder)),
-        Err(none) => Err(none),
-    }
-}
-
-// Writes the line of a solution, with keys where there is a finder.
-fn write_solution<O: Sink>(
-    out: &mut O,
-    problem: &Problem,
-    sequence: &Sequence,
-    finder: &mut Option<Finder>,
-) -> Result<(), Failed>
-    requires { Plays (table_of problem.now.rules) problem.now.drop_mode
-        (filled problem.now.well) problem.now.height sequence.now.items }
-    ensures written { WritesAll (O.written out.old) (O.written out.new) result
-        (line_form (key_part (is_some finder.old) (table_of problem.now.rules) problem.now.drop_mode)
-        (filled problem.now.well) sequence.now.items) }
-    ensures cause { HasCause (O.faults out.old) (O.faults out.new) result }
-    ensures kept { is_some finder.new ≡ is_some finder.old }
-{
-    match finder {
-        Some(finder) => write_line(out, problem, sequence, Some(finder)),
-        None => write_line(out, problem, sequence, None),
-    }
-}
-
 // Writes the solutions that are still to come, at most so many, and the line that ends the report. With a finder each
 // placement has its key word.
 fn write_report<O: Sink, L: Ledger>(
+    alloc: Global,
     out: &mut O,
     problem: &Problem,
     search: &mut Search,
     limit: u32,
     finder: &mut Option<Finder>,
+    writer: &mut FormWriter,
     steps: &mut Steps<L>,
-) -> Result<(), Failed>
-    requires { (view_of search.old).problem ≡ problem.now }
+) -> Result<(), WriteFault>
+    requires searching { IsSearchOf problem.now (after_given search.old) search.old 0 }
+    requires low { problem.now.height ≤ 23 }
     ensures written { WritesAll (O.written out.old) (O.written out.new) result
-        (report_form (key_part (is_some finder.old) (table_of problem.now.rules) problem.now.drop_mode)
-        (filled problem.now.well) limit (solutions search.old)) }
-    ensures cause { HasCause (O.faults out.old) (O.faults out.new) result }
+        (report_form (solution_form (format_of writer.old) (is_some finder.old) problem.now) limit
+        (solutions search.old)) }
+    ensures cause { HasWriteCause (O.faults out.old) (O.faults out.new) result }
+    ensures memory { result ≡ Err WriteFault.NoMemory → format_of writer.old ≡ Format.Fumen }
+    ensures counted { steps.old ≤ steps.new }
+    ensures searched { IsSearchOf problem.now (after_given search.old) search.new (steps.new - steps.old) }
+    ensures left { OnOk result (solutions search.new ≡ drop limit (solutions search.old)) }
+    ensures stopped { OnErr result (StoppedBefore
+        (solution_form (format_of writer.old) (is_some finder.old) problem.now) (solutions search.old)
+        (solutions search.new)
+        (O.written out.old) (O.written out.new)) }
+    ensures ended { IsOk result → after_given search.old ≡ None → length (solutions search.old) < limit
+        → work search.new ≡ pairs problem.now None }
 {
     for count in 0..limit {
         let sequence = match search.next(steps) {
             Some(sequence) => sequence,
-            None => return write_tail(out, Tail::End, u64::from(count)),
+            None => return as_line(write_tail(out, Tail::End, u64::from(count))),
         };
-        write_solution(out, problem, &sequence, finder)?;
+        write_solution(alloc, out, problem, &sequence, finder, writer)?;
     }
-    write_tail(out, Tail::Limit, u64::from(limit))
+    as_line(write_tail(out, Tail::Limit, u64::from(limit)))
+}
+
+// Writes the report, and behind it how many floods the search made, where that is asked for.
+fn write_listing<O: Sink, L: Ledger>(
+    alloc: Global,
+    out: &mut O,
+    problem: &Problem,
+    search: &mut Search,
+    settings: &PathSettings<'_>,
+    finder: &mut Option<Finder>,
+    writer: &mut FormWriter,
+    steps: &mut Steps<L>,
+) -> Result<(), WriteFault>
+    requires searching { IsSearchOf problem.now (after_given search.old) search.old 0 }
+    requires low { problem.now.height ≤ 23 }
+    ensures written { WritesAll (O.written out.old) (O.written out.new) result
+        (report_form (solution_form (format_of writer.old) (is_some finder.old) problem.now) settings.now.limit
+        (solutions search.old) ++ stats_form settings.now.stats (steps.new - steps.old)) }
+    ensures cause { HasWriteCause (O.faults out.old) (O.faults out.new) result }
+    ensures memory { result ≡ Err WriteFault.NoMemory → format_of writer.old ≡ Format.Fumen }
+    ensures counted { steps.old ≤ steps.new }
+    ensures searched { IsSearchOf problem.now (after_given search.old) search.new (steps.new - steps.old) }
+    ensures left { OnOk result (solutions search.new ≡ drop settings.now.limit (solutions search.old)) }
+    ensures stopped { OnErr result (StoppedBefore
+        (solution_form (format_of writer.old) (is_some finder.old) problem.now) (solutions search.old)
+        (solutions search.new)
+        (O.written out.old) (O.written out.new)) }
+    ensures ended { IsOk result → after_given search.old ≡ None → length (solutions search.old) < settings.now.limit
+        → work search.new ≡ pairs problem.now None }
+{
+    write_report(
+        alloc,
+        out,
+        problem,
+        search,
+        settings.limit,
+        finder,
+        writer,
+        steps,
+    )?;
+    if settings.stats {
+        return as_line(write_floods(out, search.floods()));
+    }
+    Ok(())
 }
 
 /// Lists the solutions of the problem that the settings name, where the source has these bytes.
@@ -95,10 +124,15 @@ pub fn run_path<O: Sink, L: Ledger>(
     out: &mut O,
     steps: &mut Steps<L>,
 ) -> Status
-    requires { IsInRange (path_view settings.now).common }
-    ensures { let sink = sink_change (O.written out.old) (O.written out.new) (O.faults out.old) (O.faults out.new) in
-        Answers (path_task (path_view settings.now)) bytes.now sink
-        ((out.new ≡ out.old) × (steps.new ≡ steps.old)) result }
+    requires range { IsInRange (path_view settings.now).common }
+    requires spelled { IsOk (kick_text (path_view settings.now).common.kicks) }
+    ensures answers { let sink = sink_change (O.written out.old) (O.written out.new)
+        (O.faults out.old) (O.faults out.new) in
+        Answers (path_task (path_view settings.now)) bytes.now sink (out.new ≡ out.old) (steps.new - steps.old) result }
+    ensures works { let task = path_task (path_view settings.now) in
+        let sink = sink_change (O.written out.old) (O.written out.new) (O.faults out.old) (O.faults out.new) in
+        Works task (task.fault bytes.now) bytes.now sink (steps.new - steps.old) result }
+    ensures counted { steps.old ≤ steps.new }
 {
     match field(alloc, settings.common.field, settings.common.page, bytes) {
         Ok(well) => list_clears(alloc, well, settings, out, steps),
@@ -114,10 +148,16 @@ fn list_clears<O: Sink, L: Ledger>(
     out: &mut O,
     steps: &mut Steps<L>,
 ) -> Status
-    requires { IsInRange (path_view settings.now).common }
-    ensures { let sink = sink_change (O.written out.old) (O.written out.new) (O.faults out.old) (O.faults out.new) in
-        Answers (listing_task (path_view settings.now) (filled well)) [] sink
-        ((out.new ≡ out.old) × (steps.new ≡ steps.old)) result }
+    requires range { IsInRange (path_view settings.now).common }
+    requires spelled { IsOk (kick_text (path_view settings.now).common.kicks) }
+    ensures answers { let sink = sink_change (O.written out.old) (O.written out.new)
+        (O.faults out.old) (O.faults out.new) in
+        Answers (listing_task (path_view settings.now) (filled well)) [] sink (out.new ≡ out.old)
+        (steps.new - steps.old) result }
+    ensures works { let task = listing_task (path_view settings.now) (filled well) in
+        let sink = sink_change (O.written out.old) (O.written out.new) (O.faults out.old) (O.faults out.new) in
+        Works task (task.fault []) [] sink (steps.new - steps.old) result }
+    ensures counted { steps.old ≤ steps.new }
 {
     let listing = match listing_of(well, settings) {
         Ok(listing) => listing,
@@ -132,12 +172,19 @@ fn list_clears<O: Sink, L: Ledger>(
         Ok(finder) => finder,
         Err(_) => return Status::NoMemory,
     };
-    Status::after_writes(write_report(
+    let mut writer = match writer_for(alloc, settings.format) {
+        Ok(writer) => writer,
+        Err(_) => return Status::NoMemory,
+    };
+    let written = write_listing(
+        alloc,
         out,
         &problem,
         &mut search,
-        settings.limit,
+        settings,
         &mut finder,
+        &mut writer,
         steps,
-    ))
+    );
+    line_status(written)
 }

@@ -1,11 +1,9 @@
 -- What `percent` writes is determined by its request and the bytes of the source.
-use Rattle.std.proofs.Common.{◌≡◌, ◌∙◌, ◌↔◌, ℕ, List, Bool, true, false, IsTrue, Result, Ok, sym, ap, subst, refl}
+use Rattle.std.proofs.Common.{◌≡◌, ◌∙◌, ◌↔◌, ℕ, List, Bool, true, false, IsTrue, sym, ap, subst, refl}
 use Rattle.srs.specs.declared.piece.Piece.{Piece}
 use Rattle.srs.specs.Rules.{table_of}
 use Rattle.lane_board.specs.Field.{Field}
 use Rattle.well.specs.Well.{filled}
-use Rattle.queue_pattern.specs.declared.element.Element.{Element}
-use Rattle.queue_pattern.specs.declared.fault.PatternFault.{PatternFault}
 use Rattle.queue_pattern.specs.Pattern.{elements_of}
 use Rattle.queue_pattern.specs.Queues.{queues}
 use Rattle.hold_queue.specs.Permits.{Permits}
@@ -17,17 +15,15 @@ use Rattle.pc_settings.specs.Request.{FieldRequest}
 use Rattle.percent_settings.specs.Request.{PercentRequest}
 use Rattle.pc_source.proofs.CallerLemmas.{one_field}
 use Rattle.pc_problem.specs.Problem.{IsProblemOf}
+use Rattle.pc_problem.proofs.CallerLemmas.{same_elements, same_table}
 use Rattle.pc_percent.specs.Lines.{percent_form}
 use Rattle.pc_percent.specs.Output.{IsAnsweredFor, IsPercentOutput}
-
-same_ok : (xs ys : List Element) → ◌≡◌ {A = Result (List Element) PatternFault} (Ok xs) (Ok ys) → xs ≡ ys
-same_ok xs ys e = cc
 
 good_of_same : (request : FieldRequest) (F : Field) (one other : Problem) → IsProblemOf request F one → IsProblemOf request F other → (queue : List Piece) → Good one queue → Good other queue
 good_of_same request F one other first second queue good = record {
   sequence = good.sequence;
   plays =
-      subst (λ t. Plays t other.drop_mode (filled other.well) other.height good.sequence) (first.rules ∙ sym second.rules)
+      subst (λ t. Plays t other.drop_mode (filled other.well) other.height good.sequence) (same_table request F one other first second)
       (subst (λ d. Plays (table_of one.rules) d (filled other.well) other.height good.sequence) (first.drop ∙ sym second.drop)
       (subst (λ G. Plays (table_of one.rules) one.drop_mode G other.height good.sequence) (first.field ∙ sym second.field)
       (subst (λ h. Plays (table_of one.rules) one.drop_mode (filled one.well) h good.sequence) (first.height ∙ sym second.height) good.plays)));
@@ -47,7 +43,7 @@ one_answer request F a b first second =
     let same : (queue : List Piece) → first.is_good queue ≡ second.is_good queue = λ queue. same_tests (first.is_good queue) (second.is_good queue)
     (λ t. (second.decides queue).1 (good_of_same request.common F first.problem second.problem first.named second.named queue ((first.decides queue).0 t)))
     (λ t. (first.decides queue).1 (good_of_same request.common F second.problem first.problem second.named first.named queue ((second.decides queue).0 t))) in
-    let elements : elements_of first.problem.pattern ≡ elements_of second.problem.pattern = same_ok _ _ (first.named.queues ∙ sym second.named.queues) in
+    let elements : elements_of first.problem.pattern ≡ elements_of second.problem.pattern = same_elements request.common F first.problem second.problem first.named second.named in
     first.lines ∙ (λ i. percent_form (λ queue. same queue i) request.failed (queues (elements i))) ∙ sym second.lines
 
 pub one_percent_output : (request : PercentRequest) (bytes a b : List ℕ) → IsPercentOutput request bytes a → IsPercentOutput request bytes b → a ≡ b

@@ -8,10 +8,12 @@ use Rattle.pc_faults.specs.Inner.{IsInner}
 use Rattle.pc_faults.proofs.CallerLemmas.{first_stops, inner_first, second_left}
 use Rattle.std.specs.Prelude.{Some}
 use Rattle.percent_settings.specs.Request.{PercentRequest}
-use Rattle.pc_source.specs.Answers.{Answers, SinkChange}
+use Rattle.pc_source.specs.Answers.{Answers}
 use Rattle.pc_source.specs.Faults.{cells_of, field_fault}
 use Rattle.pc_source.specs.Had.{HasField, IsRefusal}
-use Rattle.pc_source.proofs.CallerLemmas.{field_cells, inner_field, part_answers, refusal_before}
+use Rattle.pc_source.specs.Sink.{SinkChange}
+use Rattle.pc_source.specs.Work.{Works}
+use Rattle.pc_source.proofs.CallerLemmas.{field_cells, inner_field, part_answers, part_works, refusal_before}
 use Rattle.pc_problem.specs.Faults.{problem_fault}
 use Rattle.pc_problem.proofs.CallerLemmas.{inner_problem}
 use Rattle.pc_percent.specs.AskedTask.{asked_task}
@@ -33,11 +35,16 @@ had_fault request bytes F has =
     second_left (field_fault request.common.field request.common.page bytes) (problem_fault request.common (cells_of request.common.field request.common.page bytes)) has.none
     ∙ ap (problem_fault request.common) (field_cells request.common.field request.common.page bytes F has.is)
 
-pub asks : (request : PercentRequest) (bytes : List ℕ) (F : Field) → HasField request.common.field request.common.page bytes F → (sink : SinkChange) (Kept : Type 0) (status : Status)
-    → Answers (asked_task request F) [] sink Kept status → Answers (percent_task request) bytes sink Kept status
-asks request bytes F has sink Kept status answers =
-    part_answers (asked_task request F) (percent_task request) [] bytes sink Kept refl refl (had_fault request bytes F has)
-    (λ output answered. record { field = F; asked = has.is; answered = answered }) status answers
+module _ (request : PercentRequest) (bytes : List ℕ) (F : Field) (has : HasField request.common.field request.common.page bytes F) (sink : SinkChange) where
+  pub asks : (Kept : Type 0) (floods : ℕ) (status : Status) → Answers (asked_task request F) [] sink Kept floods status → Answers (percent_task request) bytes sink Kept floods status
+  asks Kept floods status answers =
+      part_answers (asked_task request F) (percent_task request) [] bytes sink floods (had_fault request bytes F has) Kept refl refl
+      (λ output answered. record { field = F; asked = has.is; answered = answered }) status answers
+
+  pub asks_work : (floods : ℕ) (status : Status) → Works (asked_task request F) (problem_fault request.common F) [] sink floods status
+      → Works (percent_task request) (percent_fault request bytes) bytes sink floods status
+  asks_work floods status works =
+      part_works (asked_task request F) (percent_task request) [] bytes sink floods (had_fault request bytes F has) (λ status work. work) status works
 
 -- no fault of the words, and none that the source is too long
 pub inner_percent : (request : PercentRequest) (bytes : List ℕ) → IsInner (percent_fault request bytes)

@@ -3,6 +3,7 @@ use Rattle.std.specs.Prelude.{true}
 use Rattle.lane_board.specs.Field.{Field}
 use Rattle.percent_settings.specs.Request.{PercentRequest}
 use Rattle.pc_source.specs.Task.{Task, nothing}
+use Rattle.pc_source.specs.Work.{any_floods}
 use Rattle.pc_problem.specs.Faults.{problem_fault}
 use Rattle.pc_percent.specs.Output.{IsAnsweredFor}
 
@@ -10,7 +11,7 @@ abbrev pub asked_task : PercentRequest → Field → Task
 asked_task request F = record {
   needs = nothing;
   memory_first = true;
-  searches = true;
   fault = λ bytes. problem_fault request.common F;
-  IsOutput = λ bytes output. IsAnsweredFor request F output;
+  IsOutput = λ bytes floods output. IsAnsweredFor request F output;
+  IsWork = any_floods;
 }

@@ -1,5 +1,5 @@
 // The command `percent`: the field, the answers for all queues, and then the lines.
-ghost use Rattle.std.specs.Prelude.{◌≡◌, ◌<◌, ◌≤◌, []};
+ghost use Rattle.std.specs.Prelude.{◌≡◌, ◌-◌, ◌<◌, ◌≤◌, [], IsOk};
 ghost use Rattle.well.specs.Well.{filled};
 ghost use Rattle.pc_outside.specs.Counts.{HasCause};
 ghost use Rattle.pc_outside.specs.Writes.{WritesAll};
@@ -8,11 +8,12 @@ ghost use Rattle.queue_pattern.specs.Queues.{queues};
 ghost use Rattle.enumerate.specs.Problem.{IsFit};
 ghost use Rattle.percent.specs.Answers.{problem_of};
 ghost use Rattle.percent.specs.GoodHands.{is_good_queue};
-ghost use Rattle.pc_faults.specs.declared.fault.Fault.{Fault};
-ghost use Rattle.pc_faults.specs.declared.status.Status.TheVariants.{Input};
+ghost use Rattle.kick_file.specs.Reading.{kick_text};
 ghost use Rattle.pc_settings.specs.Request.{IsInRange};
 ghost use Rattle.percent_settings.specs.Views.{percent_view};
-ghost use Rattle.pc_source.specs.Answers.{Answers as AnswersOf, sink_change};
+ghost use Rattle.pc_source.specs.Answers.{Answers as AnswersOf};
+ghost use Rattle.pc_source.specs.Sink.{sink_change};
+ghost use Rattle.pc_source.specs.Work.{Works};
 ghost use Rattle.pc_percent.specs.AskedTask.{asked_task};
 ghost use Rattle.pc_percent.specs.Lines.{failed_lines, numbers_form, percent_form};
 ghost use Rattle.pc_percent.specs.PercentTask.{percent_task};
@@ -91,11 +92,16 @@ pub fn run_percent<O: Sink, L: Ledger>(
     out: &mut O,
     steps: &mut Steps<L>,
 ) -> Status
-    requires { IsInRange (percent_view settings.now).common }
+    requires range { IsInRange (percent_view settings.now).common }
+    requires spelled { IsOk (kick_text (percent_view settings.now).common.kicks) }
     ensures answers { let sink = sink_change (O.written out.old) (O.written out.new)
         (O.faults out.old) (O.faults out.new) in
-        AnswersOf (percent_task (percent_view settings.now)) bytes.now sink (out.new ≡ out.old) result }
-    ensures steps { (fault : Fault) → result ≡ Input fault → steps.new ≡ steps.old }
+        AnswersOf (percent_task (percent_view settings.now)) bytes.now sink (out.new ≡ out.old)
+        (steps.new - steps.old) result }
+    ensures works { let task = percent_task (percent_view settings.now) in
+        let sink = sink_change (O.written out.old) (O.written out.new) (O.faults out.old) (O.faults out.new) in
+        Works task (task.fault bytes.now) bytes.now sink (steps.new - steps.old) result }
+    ensures counted { steps.old ≤ steps.new }
 {
     match field(alloc, settings.common.field, settings.common.page, bytes) {
         Ok(well) => answer_all(alloc, well, settings, out, steps),
@@ -111,11 +117,16 @@ fn answer_all<O: Sink, L: Ledger>(
     out: &mut O,
     steps: &mut Steps<L>,
 ) -> Status
-    requires { IsInRange (percent_view settings.now).common }
+    requires range { IsInRange (percent_view settings.now).common }
+    requires spelled { IsOk (kick_text (percent_view settings.now).common.kicks) }
     ensures answers { let sink = sink_change (O.written out.old) (O.written out.new)
         (O.faults out.old) (O.faults out.new) in
-        AnswersOf (asked_task (percent_view settings.now) (filled well)) [] sink (out.new ≡ out.old) result }
-    ensures steps { (fault : Fault) → result ≡ Input fault → steps.new ≡ steps.old }
+        AnswersOf (asked_task (percent_view settings.now) (filled well)) [] sink (out.new ≡ out.old)
+        (steps.new - steps.old) result }
+    ensures works { let task = asked_task (percent_view settings.now) (filled well) in
+        let sink = sink_change (O.written out.old) (O.written out.new) (O.faults out.old) (O.faults out.new) in
+        Works task (task.fault []) [] sink (steps.new - steps.old) result }
+    ensures counted { steps.old ≤ steps.new }
 {
     let problem = match problem_of(well, &settings.common) {
         Ok(problem) => problem,

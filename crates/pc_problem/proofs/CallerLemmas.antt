@@ -1,9 +1,40 @@
--- What crates above cite: what is asked about a field has no fault of the words, and none that the source is too long.
+-- What crates above cite: what is asked about a field has no fault of the words, and none that the source is too long;
+-- and its queues and its table of offsets are determined.
+use Rattle.std.proofs.Common.{◌≡◌, ◌∙◌, List, Result, Ok, sym}
 use Rattle.lane_board.specs.Field.{Field}
+use Rattle.srs.specs.Kick.{Table}
+use Rattle.srs.specs.Rules.{table_of}
+use Rattle.kick_file.specs.declared.fault.KickFault.{KickFault}
+use Rattle.queue_pattern.specs.declared.element.Element.{Element}
+use Rattle.queue_pattern.specs.declared.fault.PatternFault.{PatternFault}
+use Rattle.queue_pattern.specs.Pattern.{elements_of}
+use Rattle.enumerate.specs.declared.problem.Problem.{Problem}
 use Rattle.pc_faults.specs.Inner.{IsInner}
 use Rattle.pc_settings.specs.Request.{FieldRequest}
-use Rattle.pc_problem.specs.Faults.{problem_fault}
-use Rattle.pc_problem.proofs.InnerFaults.{inner_asked}
+use Rattle.pc_problem.specs.Faults.{full_row_fault, pattern_fault, problem_fault}
+use Rattle.pc_problem.specs.Problem.{IsProblemOf}
+use Rattle.pc_problem.proofs.InnerFaults.{inner_asked, inner_full}
+use Rattle.pc_problem.proofs.InnerFaults as faults
 
 pub inner_problem : (request : FieldRequest) (F : Field) → IsInner (problem_fault request F)
 inner_problem = inner_asked
+
+pub inner_full_row : (F : Field) → IsInner (full_row_fault F)
+inner_full_row = inner_full
+
+pub inner_pattern : (read : Result (List Element) PatternFault) → IsInner (pattern_fault read)
+inner_pattern = faults.inner_pattern
+
+same_ok : (xs ys : List Element) → ◌≡◌ {A = Result (List Element) PatternFault} (Ok xs) (Ok ys) → xs ≡ ys
+same_ok xs ys e = cc
+
+-- two problems that are asked about one field have the same elements of queues
+pub same_elements : (request : FieldRequest) (F : Field) (one other : Problem) → IsProblemOf request F one → IsProblemOf request F other → elements_of one.pattern ≡ elements_of other.pattern
+same_elements request F one other first second = same_ok _ _ (first.queues ∙ sym second.queues)
+
+same_read : (t u : Table) → ◌≡◌ {A = Result Table KickFault} (Ok t) (Ok u) → t ≡ u
+same_read t u e = cc
+
+-- and the same table
+pub same_table : (request : FieldRequest) (F : Field) (one other : Problem) → IsProblemOf request F one → IsProblemOf request F other → table_of one.rules ≡ table_of other.rules
+same_table request F one other first second = same_read _ _ (first.rules ∙ sym second.rules)

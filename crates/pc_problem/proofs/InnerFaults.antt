@@ -1,36 +1,40 @@
 -- What is asked about a field has no fault of the words, and none that the source is too long.
-use Rattle.std.proofs.Common.{ℕ, ◌/◌, ◌%◌, ◌&&◌, ◌==◌, nat_lt, List, [], Result, Ok, Err, refl}
+use Rattle.std.proofs.Common.{ℕ, ◌+◌, ◌/◌, ◌%◌, ◌&&◌, ◌==◌, nat_lt, List, [], Result, Ok, Err, refl}
 use Rattle.lane_board.specs.Field.{Field}
 use Rattle.well.specs.Counts.{empties_below, lowest_full, lowest_filled_from}
 use Rattle.queue_pattern.specs.declared.element.Element.{Element}
 use Rattle.queue_pattern.specs.declared.fault.PatternFault.{PatternFault}
 use Rattle.queue_pattern.specs.Queues.{queue_len}
+use Rattle.enumerate.specs.Problem.{held_count}
 use Rattle.pc_faults.specs.declared.fault.Fault.TheVariants as faults
 use Rattle.pc_faults.specs.Inner.{IsInner}
 use Rattle.pc_faults.proofs.CallerLemmas.{inner_first, inner_map, inner_test}
 use Rattle.pc_settings.specs.Request.{FieldRequest}
-use Rattle.pc_problem.specs.Faults.{elements_asked, pattern_fault, pieces_fault, problem_fault, rows_fault, too_few}
+use Rattle.pc_problem.specs.Faults.{elements_asked, full_row_fault, pattern_fault, pieces_fault, problem_fault, rows_fault, too_few}
+
+pub inner_full : (F : Field) → IsInner (full_row_fault F)
+inner_full F = inner_map (λ row. faults.FullRow row) (lowest_full F) (λ row. refl)
 
 inner_rows : (F : Field) (height : ℕ) → IsInner (rows_fault F height)
 unfolding rows_fault
 inner_rows F height =
     inner_first _ _ (inner_map (λ row. faults.FieldTooHigh row) (lowest_filled_from F height) (λ row. refl))
-    (inner_first _ [] (inner_map (λ row. faults.FullRow row) (lowest_full F) (λ row. refl)) tt)
+    (inner_first _ [] (inner_full F) tt)
 
-inner_pattern : (read : Result (List Element) PatternFault) → IsInner (pattern_fault read)
+pub inner_pattern : (read : Result (List Element) PatternFault) → IsInner (pattern_fault read)
 inner_pattern (Ok elements) = tt
 inner_pattern (Err fault) = refl
 
 inner_few : (empties have : ℕ) → IsInner (too_few empties have)
 inner_few empties have = inner_test (empties % 4 == 0 && nat_lt have (empties / 4)) (faults.TooFewPieces have (empties / 4)) refl
 
-inner_pieces : (empties : ℕ) (read : Result (List Element) PatternFault) → IsInner (pieces_fault empties read)
-inner_pieces empties (Ok elements) = inner_few empties (queue_len elements)
-inner_pieces empties (Err fault) = tt
+inner_pieces : (empties held : ℕ) (read : Result (List Element) PatternFault) → IsInner (pieces_fault empties held read)
+inner_pieces empties held (Ok elements) = inner_few empties (queue_len elements + held)
+inner_pieces empties held (Err fault) = tt
 
 pub inner_asked : (request : FieldRequest) (F : Field) → IsInner (problem_fault request F)
 unfolding problem_fault
 inner_asked request F =
     inner_first _ _ (inner_rows F request.height)
     (inner_first _ _ (inner_pattern (elements_asked request))
-    (inner_first _ [] (inner_pieces (empties_below F request.height) (elements_asked request)) tt))
+    (inner_first _ [] (inner_pieces (empties_below F request.height) (held_count request.hold request.held) (elements_asked request)) tt))

@@ -1,21 +1,26 @@
 -- The first fault of what is asked about a field.
-use Rattle.std.specs.Prelude.{ℕ, ◌/◌, ◌%◌, ◌&&◌, ◌==◌, nat_lt, if◌then◌else◌, List, [], ◌∷◌, Option, Some, None, option_map, Result, Ok, Err}
+use Rattle.std.specs.Prelude.{ℕ, ◌+◌, ◌/◌, ◌%◌, ◌&&◌, ◌==◌, nat_lt, if◌then◌else◌, List, [], ◌∷◌, Option, Some, None, option_map, Result, Ok, Err}
 use Rattle.lane_board.specs.Field.{Field}
 use Rattle.well.specs.Counts.{empties_below, lowest_full, lowest_filled_from}
 use Rattle.queue_pattern.specs.declared.element.Element.{Element}
 use Rattle.queue_pattern.specs.declared.fault.PatternFault.{PatternFault}
 use Rattle.queue_pattern.specs.Grammar.{elements, limited}
 use Rattle.queue_pattern.specs.Queues.{queue_len}
+use Rattle.enumerate.specs.Problem.{held_count}
 use Rattle.pc_faults.specs.declared.fault.Fault.{Fault}
 use Rattle.pc_faults.specs.declared.fault.Fault.TheVariants as faults
 use Rattle.pc_faults.specs.FirstFault.{first_of_these}
 use Rattle.pc_settings.specs.Request.{FieldRequest}
 
+-- the lowest full row
+abbrev pub full_row_fault : Field → Option Fault
+full_row_fault F = option_map (λ row. faults.FullRow row) (lowest_full F)
+
 -- of a field with these cells: a cell at or above the height, a full row
 unfoldable pub rows_fault : Field → ℕ → Option Fault
 rows_fault F height = first_of_these (
     option_map (λ row. faults.FieldTooHigh row) (lowest_filled_from F height)
-    ∷ option_map (λ row. faults.FullRow row) (lowest_full F)
+    ∷ full_row_fault F
     ∷ [])
 
 -- the elements of the pattern that is asked for
@@ -31,14 +36,16 @@ abbrev pub too_few : ℕ → ℕ → Option Fault
 too_few empties have = if empties % 4 == 0 && nat_lt have (empties / 4)
     then Some (faults.TooFewPieces have (empties / 4)) else None
 
-abbrev pub pieces_fault : ℕ → Result (List Element) PatternFault → Option Fault
-pieces_fault empties (Ok elements) = too_few empties (queue_len elements)
-pieces_fault empties (Err fault) = None
+-- by the number of empty cells, that of held pieces, and the pattern
+abbrev pub pieces_fault : ℕ → ℕ → Result (List Element) PatternFault → Option Fault
+pieces_fault empties held (Ok elements) = too_few empties (queue_len elements + held)
+pieces_fault empties held (Err fault) = None
 
--- of a request about a field with these cells: its rows, the pattern, the number of pieces
+-- of a request about a field with these cells: its rows, the pattern, the number of pieces at
+-- hand, which are those of a queue and the held one where it may be played
 unfoldable pub problem_fault : FieldRequest → Field → Option Fault
 problem_fault request F = first_of_these (
     rows_fault F request.height
     ∷ pattern_fault (elements_asked request)
-    ∷ pieces_fault (empties_below F request.height) (elements_asked request)
+    ∷ pieces_fault (empties_below F request.height) (held_count request.hold request.held) (elements_asked request)
     ∷ [])

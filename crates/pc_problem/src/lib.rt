@@ -3,4 +3,4 @@
 
 mod problem;
 
-pub use problem::problem_of;
+pub use problem::{open_rows, pattern_of, problem_of};

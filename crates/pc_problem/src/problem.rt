@@ -1,20 +1,23 @@
 // The problem that the settings name about a field.
-ghost use Rattle.std.specs.Prelude.{◌≡◌, ◌/◌, ◌%◌, ◌≤◌, None, Some, Ok, IfOk, IfErr, OnOk};
+ghost use Rattle.std.specs.Prelude.{◌≡◌, ◌+◌, ◌/◌, ◌%◌, ◌≤◌, None, Some, Ok, IfOk, IfErr, IsOk, OnOk};
 ghost use Rattle.well.specs.Well.{filled};
 ghost use Rattle.well.specs.Counts.{lowest_full, lowest_filled_from};
 ghost use Rattle.queue_pattern.specs.Grammar.{elements, limited};
 ghost use Rattle.queue_pattern.specs.Pattern.{elements_of};
 ghost use Rattle.queue_pattern.specs.Queues.{queue_len};
-ghost use Rattle.enumerate.specs.Problem.{IsFit};
+ghost use Rattle.enumerate.specs.Problem.{IsFit, held_count};
+ghost use Rattle.kick_file.specs.Reading.{kick_text};
 ghost use Rattle.pc_settings.specs.Views.{field_view};
-ghost use Rattle.pc_problem.specs.Faults.{rows_fault, pattern_fault, too_few, problem_fault};
+ghost use Rattle.pc_problem.specs.Faults.{rows_fault, full_row_fault, pattern_fault, too_few, problem_fault};
 ghost use Rattle.pc_problem.specs.Problem.{IsProblemOf};
 
 use enumerate::Problem;
+use hold_queue::Hold;
+use kick_file::spelled;
 use pc_faults::Fault;
 use pc_settings::FieldSettings;
 use queue_pattern::Pattern;
-use srs::Rules;
+use srs::Piece;
 use well::Well;
 
 // The field has no cell at or above the height and no full row.
@@ -29,13 +32,23 @@ fn rows(well: &Well, height: u8) -> Result<(), Fault>
     if let Some(row) = well.lowest_filled_from(height) {
         return Err(Fault::FieldTooHigh { row });
     }
-    if let Some(row) = well.lowest_full() {
-        return Err(Fault::FullRow { row });
-    }
-    Ok(())
+    open_rows(well)
 }
 
-fn pattern(text: &str) -> Result<Pattern, Fault>
+/// The field has no full row. The fault names the lowest one.
+pub fn open_rows(well: &Well) -> Result<(), Fault>
+    ensures fault { IfErr result (λ fault. full_row_fault (filled well.now) ≡ Some fault) }
+    ensures none { OnOk result (full_row_fault (filled well.now) ≡ None) }
+    ensures open_rows { OnOk result (lowest_full (filled well.now) ≡ None) }
+{
+    match well.lowest_full() {
+        Some(row) => Err(Fault::FullRow { row }),
+        None => Ok(()),
+    }
+}
+
+/// The pattern that a text is of, or its first fault.
+pub fn pattern_of(text: &str) -> Result<Pattern, Fault>
     ensures fault { IfErr result (λ fault. pattern_fault (limited (elements text.now)) ≡ Some fault) }
     ensures pattern { IfOk result (λ pattern. limited (elements text.now) ≡ Ok (elements_of pattern)) }
 {
@@ -45,12 +58,25 @@ fn pattern(text: &str) -> Result<Pattern, Fault>
     }
 }
 
-fn pieces(empties: u8, pattern: &Pattern) -> Result<(), Fault>
-    ensures fault { IfErr result (λ fault. too_few empties (queue_len (elements_of pattern.now)) ≡ Some fault) }
-    ensures none { OnOk result (too_few empties (queue_len (elements_of pattern.now)) ≡ None) }
-    ensures enough { OnOk result (empties % 4 ≡ 0 → empties / 4 ≤ queue_len (elements_of pattern.now)) }
+// How many pieces are held and may be played.
+fn held_count(hold: Hold, held: Option<Piece>) -> u8
+    ensures value { result ≡ held_count hold held }
+    ensures most { result ≤ 1 }
 {
-    let have = pattern.len();
+    match (hold, held) {
+        (Hold::Allowed, Some(_)) => 1,
+        _ => 0,
+    }
+}
+
+// There are enough pieces at hand for these empty cells.
+fn pieces(empties: u8, pattern: &Pattern, held: u8) -> Result<(), Fault>
+    requires { held ≤ 1 }
+    ensures fault { IfErr result (λ fault. too_few empties (queue_len (elements_of pattern.now) + held) ≡ Some fault) }
+    ensures none { OnOk result (too_few empties (queue_len (elements_of pattern.now) + held) ≡ None) }
+    ensures enough { OnOk result (empties % 4 ≡ 0 → empties / 4 ≤ queue_len (elements_of pattern.now) + held) }
+{
+    let have = pattern.len() + held;
     let need = empties / 4;
     if empties % 4 == 0 && have < need {
         return Err(Fault::TooFewPieces { have, need });
@@ -60,10 +86,11 @@ fn pieces(empties: u8, pattern: &Pattern) -> Result<(), Fault>
 
 #[tactic(auto, unfolding(crate::specs::Faults::problem_fault))]
 /// The problem that the settings name about a field, or the first fault of what they name: a cell at or above the
-/// height, a full row, the pattern, too few pieces.
+/// height, a full row, the pattern, too few pieces at hand.
 pub fn problem_of(well: Well, settings: &FieldSettings<'_>) -> Result<Problem, Fault>
     requires least { 1 ≤ settings.now.height }
     requires most { settings.now.height ≤ 8 }
+    requires spelled { IsOk (kick_text settings.now.kicks.now) }
     ensures fault { IfErr result (λ fault. problem_fault (field_view settings.now) (filled well) ≡ Some fault) }
     ensures none { OnOk result (problem_fault (field_view settings.now) (filled well) ≡ None) }
     ensures problem { IfOk result (λ problem. IsProblemOf (field_view settings.now) (filled well) problem) }
@@ -71,15 +98,16 @@ pub fn problem_of(well: Well, settings: &FieldSettings<'_>) -> Result<Problem, F
 {
     let height = settings.height;
     rows(&well, height)?;
-    let pattern = pattern(settings.patterns)?;
-    pieces(well.empties_below(height), &pattern)?;
+    let pattern = pattern_of(settings.patterns)?;
+    let held = held_count(settings.hold, settings.held);
+    pieces(well.empties_below(height), &pattern, held)?;
     Ok(Problem {
         well,
         height,
         pattern,
         hold: settings.hold,
-        held: None,
+        held: settings.held,
         drop_mode: settings.drop_mode,
-        rules: Rules::srs(),
+        rules: spelled(settings.kicks),
     })
 }

@@ -15,5 +15,7 @@ field_view settings = record {
   height = settings.height;
   patterns = settings.patterns.now;
   hold = settings.hold;
+  held = settings.held;
   drop_mode = settings.drop_mode;
+  kicks = settings.kicks.now;
 }

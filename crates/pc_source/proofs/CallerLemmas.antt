@@ -1,5 +1,5 @@
--- What crates above cite: faults of texts, fields, and what a refused call answers.
-use Rattle.std.proofs.Common.{◌≡◌, ◌≢◌, ℕ, ◌<◌, ◌≤◌, length, List, ◌∷◌, Bool, true, false, Option, Some, None, Result, Ok, Err, refl, sym, subst, ◌∙◌, inl}
+-- What crates above cite: faults of texts, fields, and what calls answer and add to the counter of floods.
+use Rattle.std.proofs.Common.{◌≡◌, ◌≢◌, ℕ, ◌-◌, ◌<◌, ◌≤◌, length, List, ◌∷◌, Bool, true, false, Option, Some, None, Result, Ok, Err, refl, sym, subst, ap, ◌∙◌, arith, inl, inr}
 use Rattle.std.proofs.lemmas.Bool.{lt-ltb, le-ltb}
 use Rattle.lane_board.specs.Field.{Field}
 use Rattle.fumen_digits.specs.declared.dialect.Dialect.{Dialect}
@@ -19,51 +19,105 @@ use Rattle.pc_faults.specs.Inner.{IsInner}
 use Rattle.pc_faults.specs.declared.fault.Fault.TheVariants.{Fumen, SourceTooLong}
 use Rattle.pc_faults.proofs.CallerLemmas.{second_left}
 use Rattle.pc_faults.specs.Codes.{refused_status, written_status}
-use Rattle.pc_settings.specs.Request.{FieldText}
-use Rattle.pc_source.specs.Answers.{Answers, SinkChange}
-use Rattle.pc_source.specs.Faults.{cells_of, field_fault, page_fault, pages_fault, text_fault}
-use Rattle.pc_source.specs.FieldText.{IsFieldOf}
+use Rattle.pc_settings.specs.Request.{FieldText, fumen_text, rows_text}
+use Rattle.pc_source.specs.Answers.{Answers}
+use Rattle.pc_source.specs.Faults.{cells_of, cells_read, field_fault, page_fault, pages_fault, text_fault}
+use Rattle.pc_source.specs.FieldText.{IsFieldOf, IsFumenField, field_needs, is_of_source, text_given}
 use Rattle.pc_source.specs.Had.{HasText, IsRefusal}
 use Rattle.pc_source.specs.FumenFaults.{named}
-use Rattle.pc_source.specs.Task.{Needs, Task, first_fault, memory, most_bytes, nothing, source_bytes, source_fault}
+use Rattle.pc_source.specs.Sink.{SinkChange}
+use Rattle.pc_source.specs.Task.{Needs, Task, first_fault, is_source, memory, most_bytes, nothing, source_bytes, source_fault}
+use Rattle.pc_source.specs.Work.{Works}
 use Rattle.pc_source.proofs.FieldLaws as fields
 use Rattle.pc_source.proofs.InnerFaults as inner
 use Rattle.pc_source.proofs.TextFaults as texts
 
-refusal_answers : (task : Task) (bytes : List ℕ) (sink : SinkChange) (Kept : Type 0) (r : Refused Fault) → Kept → (r ≡ refused.NoMemory → task.needs ≢ nothing)
-    → IsRefusal (task.fault bytes) r → Answers task bytes sink Kept (refused_status r)
-refusal_answers task bytes sink Kept (refused.Fault f) kept needed is = (is, kept)
-refusal_answers task bytes sink Kept refused.NoMemory kept needed is = record { known = λ needs. absurd (needed refl needs); first = λ _. kept; ended = inl kept }
+refusal_answers : (task : Task) (bytes : List ℕ) (sink : SinkChange) (Kept : Type 0) (floods : ℕ) (r : Refused Fault) → Kept → (r ≡ refused.NoMemory → task.needs ≢ nothing)
+    → IsRefusal (task.fault bytes) r → Answers task bytes sink Kept floods (refused_status r)
+refusal_answers task bytes sink Kept floods (refused.Fault f) kept needed is = (is, kept)
+refusal_answers task bytes sink Kept floods refused.NoMemory kept needed is = record { known = λ needs. absurd (needed refl needs); first = λ _. kept; ended = inl kept }
 
--- a call was refused, and nothing was touched
-pub refused_answers : (task : Task) (bytes : List ℕ) (sink : SinkChange) (Kept : Type 0) (r : Refused Fault) (status : Status) → status ≡ refused_status r → Kept
-    → (r ≡ refused.NoMemory → task.needs ≢ nothing) → IsRefusal (task.fault bytes) r → Answers task bytes sink Kept status
-refused_answers task bytes sink Kept r status same kept needed is = subst (Answers task bytes sink Kept) (sym same) (refusal_answers task bytes sink Kept r kept needed is)
+-- a call was refused, and nothing was written
+pub refused_answers : (task : Task) (bytes : List ℕ) (sink : SinkChange) (Kept : Type 0) (floods : ℕ) (r : Refused Fault) (status : Status) → status ≡ refused_status r → Kept
+    → (r ≡ refused.NoMemory → task.needs ≢ nothing) → IsRefusal (task.fault bytes) r → Answers task bytes sink Kept floods status
+refused_answers task bytes sink Kept floods r status same kept needed is =
+    subst (Answers task bytes sink Kept floods) (sym same) (refusal_answers task bytes sink Kept floods r kept needed is)
 
-writing_answers : {T E : Type 0} (task : Task) (bytes output : List ℕ) (sink : SinkChange) (Kept : Type 0) (result : Result T E) → task.fault bytes ≡ None → task.IsOutput bytes output
-    → WritesAll sink.held sink.holds result output → HasCause sink.before sink.now result → Answers task bytes sink Kept (written_status result)
-writing_answers task bytes output sink Kept (Ok all) none is written cause =
+refusal_works : (task : Task) (fault : Option Fault) (bytes : List ℕ) (sink : SinkChange) (floods : ℕ) (r : Refused Fault) → floods ≡ 0 → Works task fault bytes sink floods (refused_status r)
+refusal_works task fault bytes sink floods (refused.Fault f) none = none
+refusal_works task fault bytes sink floods refused.NoMemory none = inl none
+
+-- a call was refused, and no flood was made
+pub refused_works : (task : Task) (fault : Option Fault) (bytes : List ℕ) (sink : SinkChange) (floods : ℕ) (r : Refused Fault) (status : Status) → status ≡ refused_status r → floods ≡ 0
+    → Works task fault bytes sink floods status
+refused_works task fault bytes sink floods r status same none =
+    subst (Works task fault bytes sink floods) (sym same) (refusal_works task fault bytes sink floods r none)
+
+writing_answers : {T E : Type 0} (task : Task) (bytes output : List ℕ) (sink : SinkChange) (Kept : Type 0) (floods : ℕ) (result : Result T E) → task.fault bytes ≡ None → task.IsOutput bytes floods output
+    → WritesAll sink.held sink.holds result output → HasCause sink.before sink.now result → Answers task bytes sink Kept floods (written_status result)
+writing_answers task bytes output sink Kept floods (Ok all) none is written cause =
     record { none = none; wrote = record { output = output; is_output = is; grown = written.done }; kept = cause.kept }
-writing_answers task bytes output sink Kept (Err failed) none is written cause =
+writing_answers task bytes output sink Kept floods (Err failed) none is written cause =
     record { none = none; front = record { output = output; is_output = is; grown = written.failed }; rose = cause.failed }
 
 -- the last writes were made, or one of them failed
-pub written_answers : {T E : Type 0} (task : Task) (bytes output : List ℕ) (sink : SinkChange) (Kept : Type 0) (result : Result T E) (status : Status) → status ≡ written_status result → task.fault bytes ≡ None
-    → task.IsOutput bytes output → WritesAll sink.held sink.holds result output → HasCause sink.before sink.now result → Answers task bytes sink Kept status
-written_answers task bytes output sink Kept result status same none is written cause =
-    subst (Answers task bytes sink Kept) (sym same) (writing_answers task bytes output sink Kept result none is written cause)
+pub written_answers : {T E : Type 0} (task : Task) (bytes output : List ℕ) (sink : SinkChange) (Kept : Type 0) (floods : ℕ) (result : Result T E) (status : Status) → status ≡ written_status result
+    → task.fault bytes ≡ None → task.IsOutput bytes floods output → WritesAll sink.held sink.holds result output → HasCause sink.before sink.now result → Answers task bytes sink Kept floods status
+written_answers task bytes output sink Kept floods result status same none is written cause =
+    subst (Answers task bytes sink Kept floods) (sym same) (writing_answers task bytes output sink Kept floods result none is written cause)
+
+writing_works : {T E : Type 0} (task : Task) (fault : Option Fault) (bytes : List ℕ) (sink : SinkChange) (floods : ℕ) (result : Result T E)
+    → ((all : T) → result ≡ Ok all → task.IsWork bytes sink Done floods) → ((failed : E) → result ≡ Err failed → task.IsWork bytes sink SinkFault floods)
+    → Works task fault bytes sink floods (written_status result)
+writing_works task fault bytes sink floods (Ok all) done failed = done all refl
+writing_works task fault bytes sink floods (Err e) done failed = failed e refl
+
+pub written_works : {T E : Type 0} (task : Task) (fault : Option Fault) (bytes : List ℕ) (sink : SinkChange) (floods : ℕ) (result : Result T E) (status : Status) → status ≡ written_status result
+    → ((all : T) → result ≡ Ok all → task.IsWork bytes sink Done floods) → ((failed : E) → result ≡ Err failed → task.IsWork bytes sink SinkFault floods)
+    → Works task fault bytes sink floods status
+written_works task fault bytes sink floods result status same done failed =
+    subst (Works task fault bytes sink floods) (sym same) (writing_works task fault bytes sink floods result done failed)
+
+-- no flood was made, by a command whose work may be none
+pub idle_works : (task : Task) (fault : Option Fault) (bytes : List ℕ) (sink : SinkChange) (floods : ℕ) → ((status : Status) → task.IsWork bytes sink status 0) → floods ≡ 0 → (status : Status)
+    → Works task fault bytes sink floods status
+idle_works task fault bytes sink floods idle none Done = subst (task.IsWork bytes sink Done) (sym none) (idle Done)
+idle_works task fault bytes sink floods idle none (Input f) = none
+idle_works task fault bytes sink floods idle none SourceFault = none
+idle_works task fault bytes sink floods idle none SinkFault = subst (task.IsWork bytes sink SinkFault) (sym none) (idle SinkFault)
+idle_works task fault bytes sink floods idle none NoMemory = inl none
+
+-- the counter stays where it was
+pub none_added : (before now : ℕ) → now ≡ before → now - before ≡ 0
+none_added before now same = omega (arith, same)
+
+pub stays : (before now : ℕ) → before ≤ now → now - before ≡ 0 → now ≡ before
+stays before now rose none = omega (arith, rose, none)
 
 -- a part of a task, all of whose faults are known with no need, and which takes its memory before it writes, answers for the whole
-pub part_answers : (part whole : Task) (seen bytes : List ℕ) (sink : SinkChange) (Kept : Type 0) → part.needs ≡ nothing → part.memory_first ≡ true → whole.fault bytes ≡ part.fault seen
-    → ((output : List ℕ) → part.IsOutput seen output → whole.IsOutput bytes output) → (status : Status) → Answers part seen sink Kept status → Answers whole bytes sink Kept status
-part_answers part whole seen bytes sink Kept needs first same more Done a =
-    record { none = same ∙ a.none; wrote = record { output = a.wrote.output; is_output = more a.wrote.output a.wrote.is_output; grown = a.wrote.grown }; kept = a.kept }
-part_answers part whole seen bytes sink Kept needs first same more (Input f) a = (same ∙ a.0, a.1)
-part_answers part whole seen bytes sink Kept needs first same more SourceFault a = absurd a
-part_answers part whole seen bytes sink Kept needs first same more SinkFault a =
-    record { none = same ∙ a.none; front = record { output = a.front.output; is_output = more a.front.output a.front.is_output; grown = a.front.grown }; rose = a.rose }
-part_answers part whole seen bytes sink Kept needs first same more NoMemory a =
-    record { known = λ _. same ∙ a.known needs; first = λ _. a.first first; ended = inl (a.first first) }
+module _ (part whole : Task) (seen bytes : List ℕ) (sink : SinkChange) (floods : ℕ) (same : whole.fault bytes ≡ part.fault seen) where
+  pub part_answers : (Kept : Type 0) → part.needs ≡ nothing → part.memory_first ≡ true
+      → ((output : List ℕ) → part.IsOutput seen floods output → whole.IsOutput bytes floods output) → (status : Status) → Answers part seen sink Kept floods status → Answers whole bytes sink Kept floods status
+  part_answers Kept needs first more Done a =
+      record { none = same ∙ a.none; wrote = record { output = a.wrote.output; is_output = more a.wrote.output a.wrote.is_output; grown = a.wrote.grown }; kept = a.kept }
+  part_answers Kept needs first more (Input f) a = (same ∙ a.0, a.1)
+  part_answers Kept needs first more SourceFault a = absurd a
+  part_answers Kept needs first more SinkFault a =
+      record { none = same ∙ a.none; front = record { output = a.front.output; is_output = more a.front.output a.front.is_output; grown = a.front.grown }; rose = a.rose }
+  part_answers Kept needs first more NoMemory a =
+      record { known = λ _. same ∙ a.known needs; first = λ _. a.first first; ended = inl (a.first first) }
+
+  -- and its work is that of the whole
+  pub part_works : ((status : Status) → part.IsWork seen sink status floods → whole.IsWork bytes sink status floods) → (status : Status)
+      → Works part (part.fault seen) seen sink floods status → Works whole (whole.fault bytes) bytes sink floods status
+  part_works more Done w = more Done w
+  part_works more (Input f) w = w
+  part_works more SourceFault w = w
+  part_works more SinkFault w = more SinkFault w
+  part_works more NoMemory w = elim w [
+    | inl none ↦ inl none
+    | inr made ↦ inr (same ∙ made.0, more NoMemory made.1)
+  ]
 
 -- what refuses a first call refuses the whole
 pub refusal_before : (one whole : Option Fault) (r : Refused Fault) → ((f : Fault) → one ≡ Some f → whole ≡ Some f) → IsRefusal one r → IsRefusal whole r
@@ -109,3 +163,24 @@ text_faulty = texts.text_faulty
 
 pub text_page : (asked : Option ℕ) (text : List ℕ) (dialect : Dialect) (pages : List Page) → ReadsAs text dialect pages → text_fault asked text ≡ page_fault asked pages
 text_page = texts.text_page
+
+-- the text of a word that isn't the source's
+own_text : (word one other : List ℕ) → is_source (field_needs (fumen_text word)) ≡ false → text_given word one ≡ text_given word other
+own_text word one other = by (is_of_source word) refl where
+  by : (b : Bool) → is_of_source word ≡ b → is_source (field_needs (fumen_text word)) ≡ false → text_given word one ≡ text_given word other
+  by true is own = let h : is_source (field_needs (fumen_text word)) ≡ true = rw (is) refl in cc
+  by false is own = rw (is) refl
+
+-- where the field is not that of the source, its bytes do not matter
+module _ (number : ℕ) (one other : List ℕ) where
+  pub fault_unread : (field : FieldText) → is_source (field_needs field) ≡ false → field_fault field number one ≡ field_fault field number other
+  fault_unread (rows_text text) own = refl
+  fault_unread (fumen_text word) own = ap (text_fault (Some number)) (own_text word one other own)
+
+  pub cells_unread : (field : FieldText) → is_source (field_needs field) ≡ false → cells_of field number one ≡ cells_of field number other
+  cells_unread (rows_text text) own = refl
+  cells_unread (fumen_text word) own = ap (λ t. cells_read number (text_pages t)) (own_text word one other own)
+
+  pub field_unread : (field : FieldText) (F : Field) → is_source (field_needs field) ≡ false → IsFieldOf field number one F → IsFieldOf field number other F
+  field_unread (rows_text text) F own is = is
+  field_unread (fumen_text word) F own is = subst (λ t. IsFumenField t number F) (own_text word one other own) is

@@ -5,17 +5,8 @@ use Rattle.pc_outside.specs.Writes.{Grows, GrowsByFront}
 use Rattle.pc_faults.specs.declared.fault.Fault.{Fault}
 use Rattle.pc_faults.specs.declared.status.Status.{Status}
 use Rattle.pc_faults.specs.declared.status.Status.TheVariants.{Done, Input, SourceFault, SinkFault, NoMemory}
+use Rattle.pc_source.specs.Sink.{SinkChange}
 use Rattle.pc_source.specs.Task.{Task, Needs, nothing, memory, source_bytes}
-
--- a sink before and after a call: the bytes that it held and holds, where it tells them, and its counts of faults
-pub record SinkChange : Type 0 where
-  pub held : Option (List ℕ)
-  pub holds : Option (List ℕ)
-  pub before : ℕ
-  pub now : ℕ
-
-abbrev pub sink_change : Option (List ℕ) → Option (List ℕ) → ℕ → ℕ → SinkChange
-sink_change held holds before now = record { held = held; holds = holds; before = before; now = now }
 
 -- an output was appended
 pub record Wrote (Outputs : List ℕ → Type 0) (sink : SinkChange) : Type 0 where
@@ -47,21 +38,23 @@ pub record EndedAfterFront (fault : Option Fault) (Outputs : List ℕ → Type 0
   pub front : WroteFront Outputs sink
   pub kept : sink.now ≡ sink.before
 
--- Memory was wanted, where `Kept` says that nothing was touched. It is wanted after the first byte only by a task
--- that does not take all of it before, and before a fault only by a task that needs it to know its faults.
+-- Memory was wanted, where `Kept` says that nothing was written. It is wanted after the first byte only by a task that
+-- does not take all of it before, and before a fault only by a task that needs it to know its faults.
 pub record WantsMemory (task : Task) (fault : Option Fault) (Outputs : List ℕ → Type 0) (sink : SinkChange)
     (Kept : Type 0) : Type 0 where
   pub known : task.needs ≡ nothing → fault ≡ None
   pub first : task.memory_first ≡ true → Kept
   pub ended : Kept ⊎ EndedAfterFront fault Outputs sink
 
--- a status with its cause, of a task that sees these bytes, where `Kept` says that nothing was touched
-abbrev pub Answers : Task → List ℕ → SinkChange → Type 0 → Status → Type 0
-Answers task bytes sink Kept Done = DoneAfter (task.fault bytes) (task.IsOutput bytes) sink
-Answers task bytes sink Kept (Input found) = (task.fault bytes ≡ Some found) × Kept
-Answers task bytes sink Kept SourceFault = ⊥
-Answers task bytes sink Kept SinkFault = FailedAfterFront (task.fault bytes) (task.IsOutput bytes) sink
-Answers task bytes sink Kept NoMemory = WantsMemory task (task.fault bytes) (task.IsOutput bytes) sink Kept
+-- a status with its cause, of a task that sees these bytes and made so many floods, where `Kept` says that nothing was
+-- written
+abbrev pub Answers : Task → List ℕ → SinkChange → Type 0 → ℕ → Status → Type 0
+Answers task bytes sink Kept floods Done = DoneAfter (task.fault bytes) (task.IsOutput bytes floods) sink
+Answers task bytes sink Kept floods (Input found) = (task.fault bytes ≡ Some found) × Kept
+Answers task bytes sink Kept floods SourceFault = ⊥
+Answers task bytes sink Kept floods SinkFault = FailedAfterFront (task.fault bytes) (task.IsOutput bytes floods) sink
+Answers task bytes sink Kept floods NoMemory =
+    WantsMemory task (task.fault bytes) (task.IsOutput bytes floods) sink Kept
 
 -- How a run ends where a fault stands: by this fault, unless what is needed to know it can't be had: memory, or a read.
 abbrev pub EndsBy : Needs → Fault → Status → Type 0

@@ -1,5 +1,5 @@
 -- What a call gives, with the fault that does not stand there, and what it is refused by.
-use Rattle.std.specs.Prelude.{◌≡◌, ℕ, List, [], true, false, Bool, IsTrue, All, Option, Some, None, if◌then◌else◌}
+use Rattle.std.specs.Prelude.{◌≡◌, ℕ, List, IsTrue, All, Option, Some, None, if◌then◌else◌}
 use Rattle.std.specs.Option.{ForSome}
 use Rattle.lane_board.specs.Field.{Field}
 use Rattle.srs.specs.Cells.{is_inside_of}
@@ -29,11 +29,6 @@ IsUnread (Input fault) = fault ≡ SourceTooLong
 IsUnread SourceFault = Unit {0}
 IsUnread NoMemory = Unit {0}
 IsUnread other = ⊥
-
--- the bytes that a run sees of the source were read
-abbrev pub HasBytes : Bool → Option (List ℕ) → List ℕ → Type 0
-HasBytes true left bytes = ForSome left (λ all. bytes ≡ all)
-HasBytes false left bytes = bytes ≡ []
 
 -- a text reads as these pages
 pub record HasText (text : List ℕ) (pages : List Page) : Type 0 where

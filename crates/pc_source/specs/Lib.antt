@@ -3,7 +3,9 @@ pub mod Answers
 pub mod Faults
 pub mod FieldText
 pub mod FumenFaults
+pub mod Sink
 pub mod Source
 pub mod Task
+pub mod Work
 -- What serves proofs alone.
 pub mod Had

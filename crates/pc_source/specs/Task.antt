@@ -1,8 +1,11 @@
 -- What a command does, by the bytes that it sees of the source.
 use Rattle.std.specs.Prelude.{◌≡◌, ℕ, List, [], ◌∷◌, length, Bool, true, false, nat_lt, if◌then◌else◌, Option, Some, None}
+use Rattle.std.specs.Option.{ForSome}
 use Rattle.pc_faults.specs.declared.fault.Fault.{Fault}
 use Rattle.pc_faults.specs.declared.fault.Fault.TheVariants.{SourceTooLong}
+use Rattle.pc_faults.specs.declared.status.Status.{Status}
 use Rattle.pc_faults.specs.FirstFault.{first_of_these}
+use Rattle.pc_source.specs.Sink.{SinkChange}
 
 -- what a run needs, besides its words, before its faults are known
 pub data Needs : Type 0 where
@@ -10,15 +13,18 @@ pub data Needs : Type 0 where
   memory : Needs
   source_bytes : Needs
 
--- A command with its settings. Its first fault and what it writes are those where it sees these bytes.
+-- A command with its settings. Its first fault, what it writes and the floods that it makes are those where it sees
+-- these bytes of the source.
 pub record Task : Type 1 where
   pub needs : Needs
-  -- it takes all its memory before it writes
+  -- where it wants memory, it has written nothing
   pub memory_first : Bool
-  -- it may make floods
-  pub searches : Bool
   pub fault : List ℕ → Option Fault
-  pub IsOutput : (bytes output : List ℕ) → Type 0
+  -- what it writes, where it made so many floods
+  pub IsOutput : (bytes : List ℕ) (floods : ℕ) (output : List ℕ) → Type 0
+  -- how many floods it may have made, where no fault stands, it left the sink so, and it ended with this status: Done,
+  -- a failed write, or want of memory
+  pub IsWork : (bytes : List ℕ) (sink : SinkChange) (status : Status) (floods : ℕ) → Type 0
 
 abbrev pub is_source : Needs → Bool
 is_source source_bytes = true
@@ -36,6 +42,18 @@ Sees false left bytes = bytes ≡ []
 -- This holds for the bytes that the task sees, where the source tells them.
 abbrev pub ForBytes : Task → Option (List ℕ) → (List ℕ → Type 0) → Type 0
 ForBytes task left Holds = (bytes : List ℕ) → Sees (reads_source task) left bytes → Holds bytes
+
+-- the bytes that a run saw: those that the source tells where it is read, some bytes where it does not tell them, and
+-- none where it is not read
+abbrev pub HasBytes : Bool → Option (List ℕ) → List ℕ → Type 0
+HasBytes true left bytes = ForSome left (λ all. bytes ≡ all)
+HasBytes false left bytes = bytes ≡ []
+
+-- This holds for some bytes that the task may have seen.
+pub record ForSomeBytes (task : Task) (left : Option (List ℕ)) (Holds : List ℕ → Type 0) : Type 0 where
+  pub bytes : List ℕ
+  pub seen : HasBytes (reads_source task) left bytes
+  pub holds : Holds bytes
 
 -- the most bytes that are read from the source
 abbrev pub most_bytes : ℕ

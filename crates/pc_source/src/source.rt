@@ -5,8 +5,8 @@ ghost use Rattle.pc_outside.specs.Counts.{Rose};
 ghost use Rattle.pc_outside.specs.Reads.{TakesFirst, TakesAtMost};
 ghost use Rattle.pc_faults.specs.declared.fault.Fault.{Fault};
 ghost use Rattle.pc_faults.specs.declared.status.Status.{Status};
-ghost use Rattle.pc_source.specs.Had.{HasBytes, IsUnread};
-ghost use Rattle.pc_source.specs.Task.{most_bytes};
+ghost use Rattle.pc_source.specs.Had.{IsUnread};
+ghost use Rattle.pc_source.specs.Task.{HasBytes, most_bytes};
 
 use pc_faults::Status;
 use pc_outside::{Source, read_all};

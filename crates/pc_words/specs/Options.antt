@@ -4,15 +4,19 @@ use Rattle.std.specs.Str.{bytes_eq}
 use Rattle.pc_words.specs.declared.options.Command.{Command}
 use Rattle.pc_words.specs.declared.options.Command.TheVariants as commands
 use Rattle.pc_words.specs.declared.options.CommandOption.{CommandOption}
-use Rattle.pc_words.specs.declared.options.CommandOption.TheVariants.{Rows, Tetfu, Page, ClearLine, Patterns, Hold, Drop, After, Limit, Keys, Dialect}
+use Rattle.pc_words.specs.declared.options.CommandOption.TheVariants.{Rows, Tetfu, Page, ClearLine, Patterns, Hold, Held, Drop, Kicks, After, Limit, Keys, Format, Dialect, Failed, Stats}
 
 unfoldable pub command_in : List ℕ → Option Command
 command_in word =
     if bytes_eq word (codes "path") then Some commands.Path
+    else (if bytes_eq word (codes "percent") then Some commands.Percent
+    else (if bytes_eq word (codes "cover") then Some commands.Cover
+    else (if bytes_eq word (codes "combo") then Some commands.Combo
     else (if bytes_eq word (codes "decode") then Some commands.Decode
     else (if bytes_eq word (codes "encode") then Some commands.Encode
     else (if bytes_eq word (codes "show") then Some commands.Show
-    else None)))
+    else (if bytes_eq word (codes "kicks") then Some commands.Kicks
+    else None)))))))
 
 -- the word that names an option
 abbrev pub option_name : CommandOption → List ℕ
@@ -22,17 +26,28 @@ option_name Page = codes "--page"
 option_name ClearLine = codes "--clear-line"
 option_name Patterns = codes "--patterns"
 option_name Hold = codes "--hold"
+option_name Held = codes "--held"
 option_name Drop = codes "--drop"
+option_name Kicks = codes "--kicks"
 option_name After = codes "--after"
 option_name Limit = codes "--limit"
 option_name Keys = codes "--keys"
+option_name Format = codes "--format"
 option_name Dialect = codes "--dialect"
+option_name Failed = codes "--failed"
+option_name Stats = codes "--stats"
 
 abbrev pub options_of : Command → List CommandOption
-options_of commands.Path = Rows ∷ Tetfu ∷ Page ∷ ClearLine ∷ Patterns ∷ Hold ∷ Drop ∷ After ∷ Limit ∷ Keys ∷ []
+options_of commands.Path =
+    Rows ∷ Tetfu ∷ Page ∷ ClearLine ∷ Patterns ∷ Hold ∷ Held ∷ Drop ∷ Kicks ∷ After ∷ Limit ∷ Keys ∷ Format
+    ∷ Stats ∷ []
+options_of commands.Percent = Rows ∷ Tetfu ∷ Page ∷ ClearLine ∷ Patterns ∷ Hold ∷ Held ∷ Drop ∷ Kicks ∷ Failed ∷ []
+options_of commands.Cover = Rows ∷ Tetfu ∷ Page ∷ ClearLine ∷ Patterns ∷ Hold ∷ Held ∷ Drop ∷ Kicks ∷ []
+options_of commands.Combo = Rows ∷ Tetfu ∷ Page ∷ Patterns ∷ Hold ∷ Held ∷ Drop ∷ Kicks ∷ Keys ∷ []
 options_of commands.Decode = []
 options_of commands.Encode = Dialect ∷ []
 options_of commands.Show = Page ∷ []
+options_of commands.Kicks = Kicks ∷ []
 
 -- the one of these options that has this name
 unfoldable pub named_in : List ℕ → List CommandOption → Option CommandOption

@@ -10,14 +10,17 @@ use Rattle.pc_faults.specs.declared.words_fault.WordsFault.{WordsFault}
 use Rattle.pc_faults.specs.declared.words_fault.WordsKind.{WordsKind}
 use Rattle.pc_faults.specs.declared.words_fault.WordsKind.TheVariants.{NoCommand, UnknownCommand, UnknownOption, RepeatedOption, BothFields, MissingValue, BadValue, MissingOption}
 use Rattle.pc_settings.specs.Request.{FieldRequest, FieldText, fumen_text, rows_text}
+use Rattle.path_settings.specs.declared.format.Format.TheVariants.{Text}
+use Rattle.combo_settings.specs.Request.{ComboRequest}
 use Rattle.path_settings.specs.Request.{PathRequest}
+use Rattle.percent_settings.specs.Request.{PercentRequest}
 use Rattle.pc_words.specs.declared.options.Command.{Command}
 use Rattle.pc_words.specs.declared.options.Command.TheVariants as commands
 use Rattle.pc_words.specs.declared.options.CommandOption.{CommandOption}
-use Rattle.pc_words.specs.declared.options.CommandOption.TheVariants.{Rows, Tetfu, Page, ClearLine, Patterns, Hold, Drop, After, Limit, Keys, Dialect}
+use Rattle.pc_words.specs.declared.options.CommandOption.TheVariants.{Rows, Tetfu, Page, ClearLine, Patterns, Hold, Held, Drop, Kicks, After, Limit, Keys, Format, Dialect, Failed, Stats}
 use Rattle.pc_words.specs.Options.{command_in, option_name, option_of}
-use Rattle.pc_words.specs.Request.{Request, decode, encode, path, show}
-use Rattle.pc_words.specs.Values.{dialect_in, drop_in, height_in, hold_in, limit_in, page_in, takes, yes_in}
+use Rattle.pc_words.specs.Request.{Request, combo, cover, decode, encode, kicks, path, percent, show}
+use Rattle.pc_words.specs.Values.{dialect_in, drop_in, failed_in, format_in, height_in, held_in, hold_in, limit_in, page_in, takes, yes_in}
 
 -- the texts of the words
 abbrev pub texts : {Z : Type 0} → List (String Z) → List (List ℕ)
@@ -78,6 +81,10 @@ field_given None None = None
 abbrev pub given_or : {X : Type 0} → X → (List ℕ → Option X) → Option (List ℕ) → X
 given_or default read value = unwrap_or (option_and_then read value) default
 
+-- the text of a table of offsets, which is empty where none is given
+abbrev pub table_given : List (List ℕ) → List ℕ
+table_given pairs = unwrap_or (value_of Kicks pairs) []
+
 abbrev pub request_with : List (List ℕ) → Option FieldText → Option (List ℕ) → Option FieldRequest
 request_with pairs (Some field) (Some patterns) = Some (record {
   field = field;
@@ -85,7 +92,9 @@ request_with pairs (Some field) (Some patterns) = Some (record {
   height = given_or 4 height_in (value_of ClearLine pairs);
   patterns = patterns;
   hold = given_or Allowed hold_in (value_of Hold pairs);
+  held = option_and_then held_in (value_of Held pairs);
   drop_mode = given_or Soft drop_in (value_of Drop pairs);
+  kicks = table_given pairs;
 })
 request_with pairs _ _ = None
 
@@ -100,7 +109,33 @@ path_request pairs common = record {
   after = value_of After pairs;
   limit = given_or 1000000000 limit_in (value_of Limit pairs);
   keys = given_or false yes_in (value_of Keys pairs);
+  format = given_or Text format_in (value_of Format pairs);
+  stats = given_or false yes_in (value_of Stats pairs);
 }
+
+abbrev pub percent_request : List (List ℕ) → FieldRequest → PercentRequest
+percent_request pairs common = record {
+  common = common;
+  failed = given_or 0 failed_in (value_of Failed pairs);
+}
+
+abbrev pub combo_request_with : List (List ℕ) → Option FieldText → Option (List ℕ) → Option ComboRequest
+combo_request_with pairs (Some field) (Some patterns) = Some (record {
+  field = field;
+  page = given_or 1 page_in (value_of Page pairs);
+  patterns = patterns;
+  hold = given_or Allowed hold_in (value_of Hold pairs);
+  held = option_and_then held_in (value_of Held pairs);
+  drop_mode = given_or Soft drop_in (value_of Drop pairs);
+  kicks = table_given pairs;
+  keys = given_or false yes_in (value_of Keys pairs);
+})
+combo_request_with pairs _ _ = None
+
+-- what is asked about a run; the field and the pattern are required
+unfoldable pub combo_request : List (List ℕ) → Option ComboRequest
+combo_request pairs = combo_request_with pairs (field_given (value_of Rows pairs) (value_of Tetfu pairs))
+    (value_of Patterns pairs)
 
 -- a request, or that a required option is absent
 abbrev pub or_missing : List (List ℕ) → Option Request → Result Request WordsFault
@@ -111,9 +146,14 @@ or_missing pairs (Some request) = Ok request
 abbrev pub request_of : Command → List (List ℕ) → Result Request WordsFault
 request_of commands.Path pairs = or_missing pairs (option_map (λ common. path (path_request pairs common))
     (field_request pairs))
+request_of commands.Percent pairs = or_missing pairs (option_map
+    (λ common. percent (percent_request pairs common)) (field_request pairs))
+request_of commands.Cover pairs = or_missing pairs (option_map (λ common. cover common) (field_request pairs))
+request_of commands.Combo pairs = or_missing pairs (option_map (λ request. combo request) (combo_request pairs))
 request_of commands.Decode pairs = Ok decode
 request_of commands.Encode pairs = Ok (encode (given_or V115 dialect_in (value_of Dialect pairs)))
 request_of commands.Show pairs = Ok (show (option_and_then page_in (value_of Page pairs)))
+request_of commands.Kicks pairs = Ok (kicks (table_given pairs))
 
 abbrev pub request_where : Option WordsFault → Command → List (List ℕ) → Result Request WordsFault
 request_where None command pairs = request_of command pairs

@@ -6,9 +6,13 @@ ghost use Rattle.pc_words.specs.Options.{command_in, option_name, option_of, opt
 #[derive(Clone, Copy, Debug, PartialEq, Eq)]
 pub enum Command {
     Path,
+    Percent,
+    Cover,
+    Combo,
     Decode,
     Encode,
     Show,
+    Kicks,
 }
 
 /// An option of some command.
@@ -20,23 +24,69 @@ pub enum CommandOption {
     ClearLine,
     Patterns,
     Hold,
+    Held,
     Drop,
+    Kicks,
     After,
     Limit,
     Keys,
+    Format,
     Dialect,
+    Failed,
+    Stats,
 }
 
-const PATH: [CommandOption; 10] = [
+const PATH: [CommandOption; 14] = [
     CommandOption::Rows,
     CommandOption::Tetfu,
     CommandOption::Page,
     CommandOption::ClearLine,
     CommandOption::Patterns,
     CommandOption::Hold,
+    CommandOption::Held,
     CommandOption::Drop,
+    CommandOption::Kicks,
     CommandOption::After,
     CommandOption::Limit,
+    CommandOption::Keys,
+    CommandOption::Format,
+    CommandOption::Stats,
+];
+
+const PERCENT: [CommandOption; 10] = [
+    CommandOption::Rows,
+    CommandOption::Tetfu,
+    CommandOption::Page,
+    CommandOption::ClearLine,
+    CommandOption::Patterns,
+    CommandOption::Hold,
+    CommandOption::Held,
+    CommandOption::Drop,
+    CommandOption::Kicks,
+    CommandOption::Failed,
+];
+
+const COVER: [CommandOption; 9] = [
+    CommandOption::Rows,
+    CommandOption::Tetfu,
+    CommandOption::Page,
+    CommandOption::ClearLine,
+    CommandOption::Patterns,
+    CommandOption::Hold,
+    CommandOption::Held,
+    CommandOption::Drop,
+    CommandOption::Kicks,
+];
+
+const COMBO: [CommandOption; 9] = [
+    CommandOption::Rows,
+    CommandOption::Tetfu,
+    CommandOption::Page,
+    CommandOption::Patterns,
+    CommandOption::Hold,
+    CommandOption::Held,
+    CommandOption::Drop,
+    CommandOption::Kicks,
     CommandOption::Keys,
 ];
 
@@ -47,9 +97,13 @@ pub fn command_named(word: &str) -> Option<Command>
 {
     match word {
         "path" => Some(Command::Path),
+        "percent" => Some(Command::Percent),
+        "cover" => Some(Command::Cover),
+        "combo" => Some(Command::Combo),
         "decode" => Some(Command::Decode),
         "encode" => Some(Command::Encode),
         "show" => Some(Command::Show),
+        "kicks" => Some(Command::Kicks),
         _ => None,
     }
 }
@@ -66,11 +120,16 @@ impl CommandOption {
             CommandOption::ClearLine => "--clear-line",
             CommandOption::Patterns => "--patterns",
             CommandOption::Hold => "--hold",
+            CommandOption::Held => "--held",
             CommandOption::Drop => "--drop",
+            CommandOption::Kicks => "--kicks",
             CommandOption::After => "--after",
             CommandOption::Limit => "--limit",
             CommandOption::Keys => "--keys",
+            CommandOption::Format => "--format",
             CommandOption::Dialect => "--dialect",
+            CommandOption::Failed => "--failed",
+            CommandOption::Stats => "--stats",
         }
     }
 }
@@ -80,9 +139,13 @@ fn options_of(command: Command) -> &'static [CommandOption]
 {
     match command {
         Command::Path => &PATH,
+        Command::Percent => &PERCENT,
+        Command::Cover => &COVER,
+        Command::Combo => &COMBO,
         Command::Decode => &[],
         Command::Encode => &[CommandOption::Dialect],
         Command::Show => &[CommandOption::Page],
+        Command::Kicks => &[CommandOption::Kicks],
     }
 }
 

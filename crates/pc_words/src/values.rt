@@ -1,15 +1,17 @@
 // The values that options take, each in its option's list or range.
 ghost use Rattle.std.specs.Prelude.{◌≡◌, ◌≤◌, IfSome};
-ghost use Rattle.pc_words.specs.Values.{dialect_in, drop_in, height_in, hold_in, limit_in, page_in, takes, yes_in};
+ghost use Rattle.pc_words.specs.Values.{dialect_in, drop_in, failed_in, format_in, height_in, held_in, hold_in, limit_in, page_in, takes, yes_in};
 
 use crate::numbers::number_in;
 use crate::options::CommandOption;
 use fumen_digits::Dialect;
 use hold_queue::Hold;
 use moves::DropMode;
+use path_settings::Format;
+use srs::Piece;
 
 /// The rows that may be removed, at most.
-const MOST_ROWS: u32 = 6;
+const MOST_ROWS: u32 = 8;
 
 /// The number of the last page that a list may have.
 const MOST_PAGES: u32 = 10_000;
@@ -17,10 +19,13 @@ const MOST_PAGES: u32 = 10_000;
 /// The sequences that may be written, at most.
 pub const MOST_SEQUENCES: u32 = 1_000_000_000;
 
-/// How many rows are to be removed: 1 to 6.
+/// The failed queues that may be written, at most.
+const MOST_FAILED: u32 = 10_000_000;
+
+/// How many rows are to be removed: 1 to 8.
 pub fn height_in(text: &str) -> Option<u8>
     ensures value { result ≡ height_in text.now }
-    ensures range { IfSome result (λ height. (1 ≤ height) × (height ≤ 6)) }
+    ensures range { IfSome result (λ height. (1 ≤ height) × (height ≤ 8)) }
 {
     match number_in(1, MOST_ROWS, text.as_bytes()) {
         Some(height) => Some(height as u8),
@@ -43,6 +48,13 @@ pub fn limit_in(text: &str) -> Option<u32>
     number_in(1, MOST_SEQUENCES, text.as_bytes())
 }
 
+/// How many failed queues are written at most: 0 to 10,000,000.
+pub fn failed_in(text: &str) -> Option<u32>
+    ensures { result ≡ failed_in text.now }
+{
+    number_in(0, MOST_FAILED, text.as_bytes())
+}
+
 /// Whether pieces may be held: `use` or `avoid`.
 #[tactic(auto, unfolding(crate::specs::Values::hold_in))]
 pub fn hold_in(text: &str) -> Option<Hold>
@@ -51,6 +63,16 @@ pub fn hold_in(text: &str) -> Option<Hold>
     match text {
         "use" => Some(Hold::Allowed),
         "avoid" => Some(Hold::Avoided),
+        _ => None,
+    }
+}
+
+/// The piece that is held at the start: one piece letter, capital or small.
+pub fn held_in(text: &str) -> Option<Piece>
+    ensures { result ≡ held_in text.now }
+{
+    match text.as_bytes() {
+        [letter] => Piece::from_letter(*letter),
         _ => None,
     }
 }
@@ -79,6 +101,19 @@ pub fn yes_in(text: &str) -> Option<bool>
     }
 }
 
+/// In which form sequences are written: `text`, `fumen` or `grid`.
+#[tactic(auto, unfolding(crate::specs::Values::format_in))]
+pub fn format_in(text: &str) -> Option<Format>
+    ensures { result ≡ format_in text.now }
+{
+    match text {
+        "text" => Some(Format::Text),
+        "fumen" => Some(Format::Fumen),
+        "grid" => Some(Format::Grid),
+        _ => None,
+    }
+}
+
 /// The dialect of a fumen text: `110` or `115`.
 #[tactic(auto, unfolding(crate::specs::Values::dialect_in))]
 pub fn dialect_in(text: &str) -> Option<Dialect>
@@ -102,10 +137,15 @@ pub fn takes(option: CommandOption, text: &str) -> bool
         CommandOption::ClearLine => height_in(text).is_some(),
         CommandOption::Patterns => true,
         CommandOption::Hold => hold_in(text).is_some(),
+        CommandOption::Held => held_in(text).is_some(),
         CommandOption::Drop => drop_in(text).is_some(),
+        CommandOption::Kicks => true,
         CommandOption::After => true,
         CommandOption::Limit => limit_in(text).is_some(),
         CommandOption::Keys => yes_in(text).is_some(),
+        CommandOption::Format => format_in(text).is_some(),
         CommandOption::Dialect => dialect_in(text).is_some(),
+        CommandOption::Failed => failed_in(text).is_some(),
+        CommandOption::Stats => yes_in(text).is_some(),
     }
 }

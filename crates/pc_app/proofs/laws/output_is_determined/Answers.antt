@@ -3,4 +3,4 @@ use Rattle.pc_app.proofs.Commands.{one_output}
 use Rattle.pc_app.proofs.laws.output_is_determined.Goals as goal
 
 pub returns : goal.returns
-returns c = one_output
+returns c = λ words bytes one other floods others same. one_output words bytes floods others same one other

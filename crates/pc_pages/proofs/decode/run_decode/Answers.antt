@@ -19,7 +19,7 @@ other_fault e other failed = cc
 
 pub returns-in-Err : goal.returns-in-Err
 returns-in-Err g c =
-    refused_answers decode_task c.args.bytes.now _ _ c.in-Err.refused c.from.result c.from.ensures refl (λ _ reads. cc) (text_refused None c.args.bytes.now c.in-Err.refused c.in-Err.ensures.refused)
+    refused_answers decode_task c.args.bytes.now _ _ 0 c.in-Err.refused c.from.result c.from.ensures refl (λ _ reads. cc) (text_refused None c.args.bytes.now c.in-Err.refused c.in-Err.ensures.refused)
 
 pub write_lines-requires : goal.write_lines-requires
 write_lines-requires g c = subst (All IsShowable) (sym c.deref.ensures.value) c.in-Ok.ensures.showable

@@ -6,4 +6,4 @@ use Rattle.pc_pages.specs.Tasks.{encode_task}
 use Rattle.pc_pages.proofs.encode.run_encode.Goals as goal
 
 pub returns-in-Err : goal.returns-in-Err
-returns-in-Err g c = refused_answers (encode_task c.args.dialect) c.args.bytes.now _ _ c.in-Err.refused c.from.result c.from.ensures refl (λ _ reads. cc) c.in-Err.ensures.refused
+returns-in-Err g c = refused_answers (encode_task c.args.dialect) c.args.bytes.now _ _ 0 c.in-Err.refused c.from.result c.from.ensures refl (λ _ reads. cc) c.in-Err.ensures.refused

@@ -29,7 +29,7 @@ one_shown asked number pages page given there none =
 
 pub returns-in-Err : goal.returns-in-Err
 returns-in-Err g c =
-    refused_answers (show_task c.args.asked) c.args.bytes.now _ _ c.in-Err.refused c.from.result c.from.ensures refl (λ _ reads. cc) (text_refused c.args.asked c.args.bytes.now c.in-Err.refused c.in-Err.ensures.refused)
+    refused_answers (show_task c.args.asked) c.args.bytes.now _ _ 0 c.in-Err.refused c.from.result c.from.ensures refl (λ _ reads. cc) (text_refused c.args.asked c.args.bytes.now c.in-Err.refused c.in-Err.ensures.refused)
 
 pub show_all-requires-clause-showable : goal.show_all-requires-clause-showable
 show_all-requires-clause-showable g c = subst (All IsShowable) (sym c.deref.ensures.value) c.in-Ok.ensures.showable
@@ -40,7 +40,7 @@ returns-in_default g c =
     let pages = c.deref.result.now in
     let has = subst (HasText bytes) (sym c.deref.ensures.value) c.in-Ok.ensures.pages in
     let shown = all_shown c.args.asked pages c.in_default.is in
-    written_answers (show_task c.args.asked) bytes (shown_from 1 pages) _ _ c.show_all.result c.after_writes.result c.after_writes.ensures (none_of c.args.asked bytes pages has shown.0)
+    written_answers (show_task c.args.asked) bytes (shown_from 1 pages) _ _ 0 c.show_all.result c.after_writes.result c.after_writes.ensures (none_of c.args.asked bytes pages has shown.0)
     (output_of c.args.asked bytes pages has (shown_from 1 pages) shown.1) c.show_all.ensures.written c.show_all.ensures.cause
 
 pub show_page-requires-clause-colours : goal.show_page-requires-clause-colours
@@ -60,7 +60,7 @@ returns-in-Ok-page_at g c =
     let page = c.in-Ok-page_at.page.now in
     let has = subst (HasText bytes) (sym c.deref-2.ensures.value) c.in-Ok.ensures.pages in
     let shown = one_shown c.args.asked c.in-Some.number pages page c.in-Some.is c.in-Ok-page_at.ensures.page c.in-Ok-page_at.ensures.none in
-    written_answers (show_task c.args.asked) bytes (shown_page c.in-Some.number page) _ _ c.show_page.result c.after_writes-in-Ok-page_at.result c.after_writes-in-Ok-page_at.ensures (none_of c.args.asked bytes pages has shown.0)
+    written_answers (show_task c.args.asked) bytes (shown_page c.in-Some.number page) _ _ 0 c.show_page.result c.after_writes-in-Ok-page_at.result c.after_writes-in-Ok-page_at.ensures (none_of c.args.asked bytes pages has shown.0)
     (output_of c.args.asked bytes pages has (shown_page c.in-Some.number page) shown.1) c.show_page.ensures.written c.show_page.ensures.cause
 
 pub returns : goal.returns

@@ -1,51 +1,114 @@
 -- The list is that of the search which was started.
-use Rattle.std.proofs.Common.{◌≡◌, ℕ, List, [], Option, None, refl, ap, inl, subst}
+use Rattle.std.proofs.Common.{◌≡◌, ◌-◌, ◌<◌, ◌++◌, ◌∙◌, ℕ, List, [], Option, None, Result, Ok, Err, OnOk, OnErr, IsOk, length, drop, refl, ap, sym, subst, arith}
 use Rattle.lane_board.specs.Field.{Field}
 use Rattle.enumerate.specs.Search.{View, IsList}
-use Rattle.enumerate.specs.ViewOf.{solutions, view_of}
+use Rattle.enumerate.specs.ViewOf.{after_given, solutions, view_of, work}
 use Rattle.enumerate.specs.Items.{items_of}
 use Rattle.enumerate.specs.Problem.{needed_of}
+use Rattle.enumerate.specs.Work.{pairs}
 use Rattle.enumerate.specs.declared.problem.Problem.{Problem}
 use Rattle.enumerate.specs.declared.search.Search.{Search}
-use Rattle.report.specs.Forms.{key_part, report_form}
-use Rattle.srs.specs.Rules.{table_of}
+use Rattle.report.specs.Forms.{report_form}
+use Rattle.report.specs.declared.write_fault.WriteFault.{WriteFault}
+use Rattle.report.specs.declared.write_fault.WriteFault.TheVariants as faults
 use Rattle.well.specs.Well.{filled}
 use Rattle.srs.specs.declared.placement.Placement.{Placement}
-use Rattle.pc_outside.specs.declared.answers.Failed.{Failed}
 use Rattle.pc_outside.specs.Writes.{WritesAll}
+use Rattle.pc_faults.specs.declared.status.Status.TheVariants.{Done, SinkFault}
 use Rattle.path_settings.specs.Request.{PathRequest}
 use Rattle.path_settings.specs.Views.{path_view}
-use Rattle.pc_source.proofs.CallerLemmas.{written_answers}
+use Rattle.pc_source.specs.Sink.{sink_change}
 use Rattle.pc_problem.specs.Problem.{IsProblemOf}
-use Rattle.pc_path.specs.ListingTask.{listing_task}
-use Rattle.pc_path.specs.Output.{IsGiven, IsReportOf}
+use Rattle.pc_path.specs.Formats.{solution_form}
+use Rattle.pc_path.specs.Output.{IsGiven, Listed, stats_form}
+use Rattle.pc_path.specs.Work.{IsSearchOf, StoppedBefore}
+use Rattle.pc_path.specs.Writer.{format_of}
+use Rattle.pc_path.proofs.Formatted.{report_answers, report_works}
 use Rattle.pc_path.proofs.path.list_clears.Goals as goal
 
--- the report of what a search gives at its start
-output_of : (request : PathRequest) (F : Field) (problem : Problem) (after : Option (List Placement)) (search : Search) → IsProblemOf request.common F problem → IsGiven (needed_of problem) request.after after
-    → view_of search ≡ record { problem = problem; queue = None; bound = after } → IsList (view_of search) (solutions search)
-    → IsReportOf request F (report_form (key_part request.keys (table_of problem.rules) problem.drop_mode) (filled problem.well) request.limit (solutions search))
-output_of request F problem after search named given view list = record {
+-- what a search gives at its start
+abbrev listed_of : (request : PathRequest) (F : Field) (problem : Problem) (after : Option (List Placement)) (search : Search) → IsProblemOf request.common F problem → IsGiven (needed_of problem) request.after after
+    → view_of search ≡ record { problem = problem; queue = None; bound = after } → IsList (view_of search) (solutions search) → Listed request F
+listed_of request F problem after search named given view list = record {
   problem = problem;
   named = named;
   after = after;
   given = given;
   sequences = solutions search;
   list = subst (λ v. IsList v (solutions search)) view list;
-  report = refl;
 }
 
-pub write_report-requires : goal.write_report-requires
-write_report-requires g c = ap (λ (v : View). v.problem) c.in-Ok-start.ensures.view
+done_by : {T E P : Type 0} (result : Result T E) (all : T) → result ≡ Ok all → OnOk result P → P
+done_by {P = P} result all is p = subst (λ r. OnOk r P) is p
 
-pub returns : goal.returns
-returns g c =
+failed_by : {T E P : Type 0} (result : Result T E) (failed : E) → result ≡ Err failed → OnErr result P → P
+failed_by {P = P} result failed is p = subst (λ r. OnErr r P) is p
+
+is_done : {T E : Type 0} (result : Result T E) (all : T) → result ≡ Ok all → IsOk result
+is_done (Ok x) all is = refl
+is_done (Err e) all is = cc
+
+pub write_listing-written-requires-clause-searching : goal.write_listing-written-requires-clause-searching
+write_listing-written-requires-clause-searching g c =
+    let view = c.in-Ok-start.ensures.view in
+    record { same = ap (λ (v : View). v.problem) view; all = ap (λ (v : View). v.queue) view; given = refl; made = c.in-Ok-start.ensures.work; bound = omega arith }
+
+pub write_listing-written-requires-clause-low : goal.write_listing-written-requires-clause-low
+write_listing-written-requires-clause-low g c = let low = c.in-Ok.ensures.fit.low in omega arith
+
+pub returns-clause-answers : goal.returns-clause-answers
+returns-clause-answers g c =
     let problem = c.in-Ok.listing.problem in
     let request = path_view c.args.settings.now in
     let F = filled c.args.well in
     let search = c.in-Ok-start.search in
-    let report = report_form (key_part request.keys (table_of problem.rules) problem.drop_mode) (filled problem.well) request.limit (solutions search) in
-    let is_report = output_of request F problem (items_of c.in-Ok.listing.after) search c.in-Ok.ensures.problem c.in-Ok.ensures.after c.in-Ok-start.ensures.view c.in-Ok-start.ensures.list in
-    let written = subst (λ keys. WritesAll {T = Unit {0}} {E = Failed} (g.O.Sink.written c.args.out.now) (g.O.Sink.written c.write_report.new.out) c.write_report.result (report_form (key_part keys (table_of problem.rules) problem.drop_mode) (filled problem.well) c.args.settings.now.limit (solutions search)))
-    c.in-Ok-finder_for.ensures.finder c.write_report.ensures.written in
-    written_answers (listing_task request F) [] report _ _ c.write_report.result c.after_writes.result c.after_writes.ensures c.in-Ok.ensures.none is_report written c.write_report.ensures.cause
+    let floods = c.write_listing-written.new.steps - c.args.steps.now in
+    let listed = listed_of request F problem (items_of c.in-Ok.listing.after) search c.in-Ok.ensures.problem c.in-Ok.ensures.after c.in-Ok-start.ensures.view c.in-Ok-start.ensures.list in
+    let report = report_form (solution_form request.format request.keys problem) request.limit (solutions search) ++ stats_form request.stats floods in
+    let written = subst (λ format. WritesAll {T = Unit {0}} {E = WriteFault} (g.O.Sink.written c.args.out.now) (g.O.Sink.written c.write_listing-written.new.out) c.write_listing-written.result (report_form (solution_form format request.keys problem) c.args.settings.now.limit (solutions search) ++ stats_form c.args.settings.now.stats floods))
+    c.in-Ok-writer_for.ensures
+    (subst (λ keys. WritesAll {T = Unit {0}} {E = WriteFault} (g.O.Sink.written c.args.out.now) (g.O.Sink.written c.write_listing-written.new.out) c.write_listing-written.result (report_form (solution_form (format_of c.in-Ok-writer_for.writer) keys problem) c.args.settings.now.limit (solutions search) ++ stats_form c.args.settings.now.stats floods))
+    c.in-Ok-finder_for.ensures.finder c.write_listing-written.ensures.written) in
+    report_answers request F (sink_change _ _ _ _) floods c.in-Ok.ensures.none _ report (record { listed = listed; report = refl }) c.write_listing-written.result c.line_status.result c.line_status.ensures written c.write_listing-written.ensures.cause
+    (λ is. sym c.in-Ok-writer_for.ensures ∙ c.write_listing-written.ensures.memory is)
+
+pub returns-clause-works : goal.returns-clause-works
+returns-clause-works g c =
+    let problem = c.in-Ok.listing.problem in
+    let request = path_view c.args.settings.now in
+    let F = filled c.args.well in
+    let before = c.in-Ok-start.search in
+    let search = c.write_listing-written.new.search in
+    let floods = c.write_listing-written.new.steps - c.args.steps.now in
+    let sink = sink_change (g.O.Sink.written c.args.out.now) (g.O.Sink.written c.write_listing-written.new.out) (g.O.Sink.faults c.args.out.now) (g.O.Sink.faults c.write_listing-written.new.out) in
+    let listed = listed_of request F problem (items_of c.in-Ok.listing.after) before c.in-Ok.ensures.problem c.in-Ok.ensures.after c.in-Ok-start.ensures.view c.in-Ok-start.ensures.list in
+    let searched = subst (λ after. IsSearchOf problem after search floods) c.in-Ok-start.ensures.after c.write_listing-written.ensures.searched in
+    let stopped = subst (λ format. OnErr {T = Unit {0}} {E = WriteFault} c.write_listing-written.result (StoppedBefore (solution_form format request.keys problem) (solutions before) (solutions search) sink.held sink.holds))
+    c.in-Ok-writer_for.ensures
+    (subst (λ keys. OnErr {T = Unit {0}} {E = WriteFault} c.write_listing-written.result (StoppedBefore (solution_form (format_of c.in-Ok-writer_for.writer) keys problem) (solutions before) (solutions search) sink.held sink.holds))
+    c.in-Ok-finder_for.ensures.finder c.write_listing-written.ensures.stopped) in
+    report_works request F sink floods c.in-Ok.ensures.none c.write_listing-written.result c.line_status.result c.line_status.ensures
+    (λ all is. record {
+      listed = listed;
+      search = search;
+      searched = searched;
+      left = done_by c.write_listing-written.result all is c.write_listing-written.ensures.left;
+      late = λ done. cc;
+      ended = λ done none short. sym searched.made ∙ c.write_listing-written.ensures.ended (is_done c.write_listing-written.result all is) (c.in-Ok-start.ensures.after ∙ none) short;
+    })
+    (λ is. record {
+      listed = listed;
+      search = search;
+      searched = searched;
+      left = failed_by c.write_listing-written.result faults.Failed is stopped;
+      late = λ failed. cc;
+      ended = λ done none short. cc;
+    })
+    (λ is. record {
+      listed = listed;
+      search = search;
+      searched = searched;
+      left = failed_by c.write_listing-written.result faults.NoMemory is stopped;
+      late = λ _. sym c.in-Ok-writer_for.ensures ∙ c.write_listing-written.ensures.memory is;
+      ended = λ done none short. cc;
+    })

@@ -1,19 +1,27 @@
 -- So many lines are written, and what the search still gives makes the rest of the report.
-use Rattle.std.proofs.Common.{◌≡◌, ◌-◌}
+use Rattle.std.proofs.Common.{◌≡◌, ◌-◌, ◌≤◌, length, take, drop}
 use Rattle.std.specs.Prelude.{is_some}
-use Rattle.srs.specs.Rules.{table_of}
-use Rattle.well.specs.Well.{filled}
-use Rattle.pc_outside.specs.Writes.{GrowsUpTo}
-use Rattle.enumerate.specs.ViewOf.{solutions, view_of}
-use Rattle.report.specs.Forms.{key_part, report_form}
+use Rattle.std.specs.List.{flat_map}
+use Rattle.pc_outside.specs.Writes.{Grows, GrowsUpTo}
+use Rattle.enumerate.specs.ViewOf.{after_given, solutions}
+use Rattle.report.specs.Forms.{report_form}
+use Rattle.pc_path.specs.Formats.{solution_form}
+use Rattle.pc_path.specs.Work.{IsSearchOf}
+use Rattle.pc_path.specs.Writer.{format_of}
 use Rattle.pc_path.proofs.Reports.{report_from}
 use Rattle.pc_path.proofs.path.write_report.Given as goal
 
 abbrev pub invariant-loop-count : goal.invariant-loop-count
 invariant-loop-count g l =
     GrowsUpTo (g.O.Sink.written l.initial.out) (g.O.Sink.written l.out)
-    (report_form (key_part (is_some l.initial.finder) (table_of l.problem.rules) l.problem.drop_mode) (filled l.problem.well) l.limit (solutions l.initial.search))
-    (report_from (key_part (is_some l.initial.finder) (table_of l.problem.rules) l.problem.drop_mode) (filled l.problem.well) l.count (l.limit - l.count) (solutions l.search))
+    (report_form (solution_form (format_of l.initial.writer) (is_some l.initial.finder) l.problem) l.limit (solutions l.initial.search))
+    (report_from (solution_form (format_of l.initial.writer) (is_some l.initial.finder) l.problem) l.count (l.limit - l.count) (solutions l.search))
     × (g.O.Sink.faults l.out ≡ g.O.Sink.faults l.initial.out)
-    × ((view_of l.search).problem ≡ l.problem)
     × (is_some l.finder ≡ is_some l.initial.finder)
+    × (l.initial.steps ≤ l.steps)
+    × IsSearchOf l.problem (after_given l.initial.search) l.search (l.steps - l.initial.steps)
+    × (solutions l.search ≡ drop l.count (solutions l.initial.search))
+    × (l.count ≤ length (solutions l.initial.search))
+    × Grows (g.O.Sink.written l.initial.out) (g.O.Sink.written l.out)
+    (flat_map (solution_form (format_of l.initial.writer) (is_some l.initial.finder) l.problem) (take l.count (solutions l.initial.search)))
+    × (format_of l.writer ≡ format_of l.initial.writer)

@@ -1,0 +1,2 @@
+-- Lemmas on exit codes.
+mod ExitCodes

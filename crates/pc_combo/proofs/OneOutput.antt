@@ -1,0 +1,42 @@
+-- What `combo` writes is determined by its request and the bytes of the source.
+use Rattle.std.proofs.Common.{◌≡◌, ◌∙◌, ℕ, List, [], ◌∷◌, Result, Ok, sym, ap, subst}
+use Rattle.srs.specs.declared.piece.Piece.{Piece}
+use Rattle.srs.specs.Kick.{Table}
+use Rattle.kick_file.specs.declared.fault.KickFault.{KickFault}
+use Rattle.lane_board.specs.Field.{Field}
+use Rattle.queue_pattern.specs.declared.element.Element.{Element}
+use Rattle.queue_pattern.specs.declared.fault.PatternFault.{PatternFault}
+use Rattle.queue_pattern.specs.Queues.{queues}
+use Rattle.combo.specs.Longest.{IsLongest}
+use Rattle.combo.proofs.CallerLemmas.{one_longest}
+use Rattle.report.specs.Forms.{key_part}
+use Rattle.combo_settings.specs.Request.{ComboRequest}
+use Rattle.pc_source.proofs.CallerLemmas.{one_field}
+use Rattle.pc_combo.specs.Output.{IsComboOutput, IsOneQueue, IsRunFor, combo_form}
+
+same_ok : (xs ys : List Element) → ◌≡◌ {A = Result (List Element) PatternFault} (Ok xs) (Ok ys) → xs ≡ ys
+same_ok xs ys e = cc
+
+same_table : (one other : Table) → ◌≡◌ {A = Result Table KickFault} (Ok one) (Ok other) → one ≡ other
+same_table one other e = cc
+
+same_only : (one other : List Piece) → ◌≡◌ {A = List (List Piece)} (one ∷ []) (other ∷ []) → one ≡ other
+same_only one other e = cc
+
+one_queue : (text : List ℕ) (one other : List Piece) → IsOneQueue text one → IsOneQueue text other → one ≡ other
+one_queue text one other first second =
+    same_only one other (sym first.only ∙ ap queues (same_ok first.elements second.elements (sym first.read ∙ second.read)) ∙ second.only)
+
+one_answer : (request : ComboRequest) (F : Field) (a b : List ℕ) → IsRunFor request F a → IsRunFor request F b → a ≡ b
+one_answer request F a b first second =
+    let same = one_queue request.patterns first.queue second.queue first.named second.named in
+    let table = same_table first.table second.table (first.rules ∙ sym second.rules) in
+    let queue = subst (λ queue. IsLongest first.table request.drop_mode F request.hold queue request.held first.run) same first.longest in
+    let longest = subst (λ t. IsLongest t request.drop_mode F request.hold second.queue request.held first.run) table queue in
+    first.lines ∙ ap (λ t. combo_form (key_part request.keys t request.drop_mode) F first.run) table ∙ ap (combo_form (key_part request.keys second.table request.drop_mode) F)
+    (one_longest second.table request.drop_mode F request.hold second.queue request.held first.run second.run longest second.longest) ∙ sym second.lines
+
+pub one_combo_output : (request : ComboRequest) (bytes a b : List ℕ) → IsComboOutput request bytes a → IsComboOutput request bytes b → a ≡ b
+one_combo_output request bytes a b first second =
+    let same = one_field request.field request.page bytes first.field second.field first.asked second.asked in
+    one_answer request second.field a b (subst (λ F. IsRunFor request F a) same first.answered) second.answered

@@ -1,0 +1,6 @@
+-- What a reader must believe.
+pub mod Faults
+pub mod Output
+pub mod ComboTask
+-- What serves proofs alone.
+pub mod RunTask

@@ -1,0 +1,7 @@
+// The command `combo`: a longest run of placements that each remove a row.
+#![tactic(auto)]
+
+mod command;
+mod queue;
+
+pub use command::run_combo;

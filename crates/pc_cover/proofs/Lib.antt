@@ -1,0 +1,7 @@
+-- Lemmas of this crate.
+mod GivenLemmas
+mod CoveringLemmas
+mod CoverAnswers
+mod OneOutput
+mod LineLaws
+pub mod CallerLemmas

@@ -1,0 +1,71 @@
+-- What `cover` writes is determined by its request and the bytes of the source.
+use Rattle.std.proofs.Common.{◌≡◌, ◌∙◌, ◌↔◌, ℕ, ◌/◌, List, Result, Ok, slice_get, Some, sym, ap, subst, refl}
+use Rattle.std.specs.Ordering.{nat_cmp}
+use Rattle.std.proofs.lemmas.Cmp.{nat_cmp_total}
+use Rattle.std.specs.FinMap.{nat_cmp-IsAntisymmetric}
+use Rattle.lists.specs.Rising.{IsRisingListOf}
+use Rattle.lists.proofs.CallerLemmas.{IsRisingListOf-unique}
+use Rattle.srs.specs.declared.placement.Placement.{Placement}
+use Rattle.srs.specs.Rules.{table_of}
+use Rattle.lane_board.specs.Field.{Field}
+use Rattle.well.specs.Counts.{empties_below}
+use Rattle.well.specs.Well.{filled}
+use Rattle.queue_pattern.specs.Pattern.{elements_of}
+use Rattle.queue_pattern.specs.Queues.{queues}
+use Rattle.hold_queue.specs.Permits.{Permits}
+use Rattle.enumerate.specs.declared.problem.Problem.{Problem}
+use Rattle.enumerate.specs.Plays.{Plays}
+use Rattle.enumerate.specs.Solution.{pieces_of}
+use Rattle.cover.specs.Covered.{IsCovered, IsCoveredList, PlaysIn}
+use Rattle.pc_settings.specs.Request.{FieldRequest}
+use Rattle.pc_source.proofs.CallerLemmas.{one_field}
+use Rattle.pc_problem.specs.Problem.{IsProblemOf}
+use Rattle.pc_problem.proofs.CallerLemmas.{same_elements, same_table}
+use Rattle.pc_faults.specs.declared.cover_fault.CoverFault.{CoverFault}
+use Rattle.pc_cover.specs.Faults.{dash}
+use Rattle.pc_cover.specs.Given.{given_in}
+use Rattle.pc_cover.specs.Lines.{cover_form}
+use Rattle.pc_cover.specs.Output.{IsCoverFor, IsCoverOutput, IsCoveringOf}
+
+covered_same : (request : FieldRequest) (F : Field) (one other : Problem) → IsProblemOf request F one → IsProblemOf request F other → (sequences : List (List Placement)) (number : ℕ) → IsCovered one sequences number → IsCovered other sequences number
+covered_same request F one other first second sequences number covered = record {
+  queue = covered.queue;
+  there = subst (λ e. slice_get (queues e) number ≡ Some covered.queue) (same_elements request F one other first second) covered.there;
+  sequence = covered.sequence;
+  given = covered.given;
+  plays =
+      subst (λ t. Plays t other.drop_mode (filled other.well) other.height covered.sequence) (same_table request F one other first second)
+      (subst (λ d. Plays (table_of one.rules) d (filled other.well) other.height covered.sequence) (first.drop ∙ sym second.drop)
+      (subst (λ G. Plays (table_of one.rules) one.drop_mode G other.height covered.sequence) (first.field ∙ sym second.field)
+      (subst (λ h. Plays (table_of one.rules) one.drop_mode (filled one.well) h covered.sequence) (first.height ∙ sym second.height) covered.plays)));
+  permitted =
+      subst (λ h. Permits h covered.queue other.held (pieces_of covered.sequence)) (first.hold ∙ sym second.hold)
+      (subst (λ p. Permits one.hold covered.queue p (pieces_of covered.sequence)) (first.held ∙ sym second.held) covered.permitted);
+}
+
+one_cover_for : (request : FieldRequest) (F : Field) (sequences : List (List Placement)) (a b : List ℕ) → IsCoverFor request F sequences a → IsCoverFor request F sequences b → a ≡ b
+one_cover_for request F sequences a b first second =
+    let elements : elements_of first.problem.pattern ≡ elements_of second.problem.pattern = same_elements request F first.problem second.problem first.named second.named in
+    let list : IsCoveredList second.problem sequences first.numbers = record {
+      rising = first.covered.rising;
+      members = λ number. (
+        λ among. covered_same request F first.problem second.problem first.named second.named sequences number ((first.covered.members number).0 among),
+        λ covered. (first.covered.members number).1 (covered_same request F second.problem first.problem second.named first.named sequences number covered),
+      );
+    } in
+    let numbers : first.numbers ≡ second.numbers =
+    IsRisingListOf-unique nat_cmp nat_cmp_total (IsCovered second.problem sequences) first.numbers second.numbers list second.covered in
+    first.lines ∙ (λ i. cover_form (queues (elements i)) (numbers i)) ∙ sym second.lines
+
+same_given : (one other : List (List Placement)) → ◌≡◌ {A = Result (List (List Placement)) CoverFault} (Ok one) (Ok other) → one ≡ other
+same_given one other e = cc
+
+one_covering : (request : FieldRequest) (F : Field) (bytes a b : List ℕ) → IsCoveringOf request F bytes a → IsCoveringOf request F bytes b → a ≡ b
+one_covering request F bytes a b first second =
+    let same = same_given first.sequences second.sequences (sym first.given ∙ second.given) in
+    one_cover_for request F second.sequences a b (subst (λ s. IsCoverFor request F s a) same first.covered) second.covered
+
+pub one_cover_output : (request : FieldRequest) (bytes a b : List ℕ) → IsCoverOutput request bytes a → IsCoverOutput request bytes b → a ≡ b
+one_cover_output request bytes a b first second =
+    let same = one_field request.field request.page dash first.field second.field first.asked second.asked in
+    one_covering request second.field bytes a b (subst (λ F. IsCoveringOf request F bytes a) same first.covering) second.covering

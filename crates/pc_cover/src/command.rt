@@ -1,0 +1,119 @@
+// The command `cover`: the field, the sequences of the source, and then the queues that they answer.
+ghost use Rattle.std.specs.Prelude.{◌≡◌, ◌-◌, ◌≤◌, IsOk, length};
+ghost use Rattle.well.specs.Well.{filled};
+ghost use Rattle.pc_outside.specs.Counts.{HasCause};
+ghost use Rattle.pc_outside.specs.Writes.{WritesAll};
+ghost use Rattle.queue_pattern.specs.Pattern.{elements_of};
+ghost use Rattle.queue_pattern.specs.Queues.{queues};
+ghost use Rattle.cover.specs.Kept.{lists_of, problem_of as problem_kept};
+ghost use Rattle.kick_file.specs.Reading.{kick_text};
+ghost use Rattle.pc_settings.specs.Request.{IsInRange};
+ghost use Rattle.pc_settings.specs.Views.{field_view};
+ghost use Rattle.pc_source.specs.Answers.{Answers as AnswersOf};
+ghost use Rattle.pc_source.specs.Sink.{sink_change};
+ghost use Rattle.pc_source.specs.Task.{most_bytes};
+ghost use Rattle.pc_source.specs.Work.{Works};
+ghost use Rattle.pc_cover.specs.CoverTask.{cover_task};
+ghost use Rattle.pc_cover.specs.Covering.{numbers_from};
+ghost use Rattle.pc_cover.specs.CoveringTask.{covering_task, status_of_lines};
+ghost use Rattle.pc_cover.specs.Lines.{cover_form};
+
+use crate::covering::{covering, write_covered};
+use crate::given::sequences_in;
+use cover::CoverSet;
+use enumerate::Problem;
+use pc_faults::{CoverFault, Fault, Status};
+use pc_outside::{Failed, Refused, Sink};
+use pc_problem::problem_of;
+use pc_settings::FieldSettings;
+use pc_source::field;
+use queue_lines::write_numbers;
+use reach::Steps;
+use std::alloc::Global;
+use std::sync::ledger::Ledger;
+use well::Well;
+
+// Writes the covered queues, and then the numbers of all.
+fn write_answers<O: Sink>(out: &mut O, problem: &Problem, set: &CoverSet) -> Result<(), Failed>
+    requires { problem_kept set.now ≡ problem.now }
+    ensures written { WritesAll (O.written out.old) (O.written out.new) result
+        (cover_form (queues (elements_of problem.now.pattern)) (numbers_from problem.now (lists_of set.now) 0)) }
+    ensures cause { HasCause (O.faults out.old) (O.faults out.new) result }
+{
+    let good = write_covered(out, problem, set)?;
+    write_numbers(out, problem.pattern.count(), good)
+}
+
+/// Writes which queues of the problem that the settings name permit the kinds of a sequence that clears its field, of
+/// those that the bytes of the source spell. Where memory is wanted nothing was written, but floods may have been made.
+pub fn run_cover<O: Sink, L: Ledger>(
+    alloc: Global,
+    settings: &FieldSettings<'_>,
+    bytes: &[u8],
+    out: &mut O,
+    steps: &mut Steps<L>,
+) -> Status
+    requires range { IsInRange (field_view settings.now) }
+    requires spelled { IsOk (kick_text (field_view settings.now).kicks) }
+    requires short { length bytes.now ≤ most_bytes }
+    ensures answers { let sink = sink_change (O.written out.old) (O.written out.new)
+        (O.faults out.old) (O.faults out.new) in
+        AnswersOf (cover_task (field_view settings.now)) bytes.now sink (out.new ≡ out.old)
+        (steps.new - steps.old) result }
+    ensures works { let task = cover_task (field_view settings.now) in
+        let sink = sink_change (O.written out.old) (O.written out.new) (O.faults out.old) (O.faults out.new) in
+        Works task (task.fault bytes.now) bytes.now sink (steps.new - steps.old) result }
+    ensures counted { steps.old ≤ steps.new }
+{
+    match field(alloc, settings.field, settings.page, b"-") {
+        Ok(well) => cover_all(alloc, well, settings, bytes, out, steps),
+        Err(refused) => Status::from(refused),
+    }
+}
+
+// How a run ends where the lines of the source are refused.
+fn refused_by(refused: Refused<CoverFault>) -> Status
+    ensures { result ≡ status_of_lines refused }
+{
+    match refused {
+        Refused::Fault(fault) => Status::Input(Fault::Cover(fault)),
+        Refused::NoMemory => Status::NoMemory,
+    }
+}
+
+// Answers for all queues about a field.
+fn cover_all<O: Sink, L: Ledger>(
+    alloc: Global,
+    well: Well,
+    settings: &FieldSettings<'_>,
+    bytes: &[u8],
+    out: &mut O,
+    steps: &mut Steps<L>,
+) -> Status
+    requires range { IsInRange (field_view settings.now) }
+    requires spelled { IsOk (kick_text (field_view settings.now).kicks) }
+    requires short { length bytes.now ≤ most_bytes }
+    ensures answers { let sink = sink_change (O.written out.old) (O.written out.new)
+        (O.faults out.old) (O.faults out.new) in
+        AnswersOf (covering_task (field_view settings.now) (filled well)) bytes.now sink (out.new ≡ out.old)
+        (steps.new - steps.old) result }
+    ensures works { let task = covering_task (field_view settings.now) (filled well) in
+        let sink = sink_change (O.written out.old) (O.written out.new) (O.faults out.old) (O.faults out.new) in
+        Works task (task.fault bytes.now) bytes.now sink (steps.new - steps.old) result }
+    ensures counted { steps.old ≤ steps.new }
+{
+    let problem = match problem_of(well, settings) {
+        Ok(problem) => problem,
+        Err(fault) => return Status::Input(fault),
+    };
+    let needed = well.empties_below(settings.height) / 4;
+    let sequences = match sequences_in(alloc, needed, bytes) {
+        Ok(sequences) => sequences,
+        Err(refused) => return refused_by(refused),
+    };
+    let set = match covering(alloc, &problem, sequences.as_slice(), steps) {
+        Ok(set) => set,
+        Err(_) => return Status::NoMemory,
+    };
+    Status::after_writes(write_answers(out, &problem, &set))
+}

@@ -1,0 +1,66 @@
+// The queues that permit the kinds of given sequences.
+ghost use Rattle.std.specs.Prelude.{◌≡◌, ◌≤◌, IfOk, length, map};
+ghost use Rattle.pc_outside.specs.Counts.{HasCause};
+ghost use Rattle.pc_outside.specs.Writes.{WritesAll};
+ghost use Rattle.queue_pattern.specs.Pattern.{elements_of};
+ghost use Rattle.queue_pattern.specs.Queues.{queues};
+ghost use Rattle.enumerate.specs.Problem.{IsFit};
+ghost use Rattle.cover.specs.Covered.{IsCoveredList};
+ghost use Rattle.cover.specs.Kept.{lists_of, problem_of};
+ghost use Rattle.pc_cover.specs.Covering.{numbers_from};
+ghost use Rattle.pc_cover.specs.Lines.{queues_form};
+ghost use Rattle.pc_cover.specs.Sequences.{placements_of};
+
+use cover::CoverSet;
+use enumerate::{Problem, Sequence};
+use hold_queue::laws::permits_is_decided;
+use pc_outside::{Failed, NoMemory, Sink};
+use queue_lines::write_queue;
+use reach::Steps;
+use std::alloc::Global;
+use std::sync::ledger::Ledger;
+
+/// The set that keeps the kinds of those of the sequences that clear the field. Want of memory is the only refusal.
+pub fn covering<L: Ledger>(
+    alloc: Global,
+    problem: &Problem,
+    sequences: &[Sequence],
+    steps: &mut Steps<L>,
+) -> Result<CoverSet, NoMemory>
+    requires { IsFit problem.now }
+    ensures problem { IfOk result (λ set. problem_of set ≡ problem.now) }
+    ensures covered { IfOk result (λ set. IsCoveredList problem.now (map placements_of sequences.now)
+        (numbers_from problem.now (lists_of set) 0)) }
+    ensures counted { steps.old ≤ steps.new }
+{
+    permits_is_decided();
+    let mut set = CoverSet::start(alloc, *problem)?;
+    for sequence in sequences {
+        set.add(sequence, steps)?;
+    }
+    Ok(set)
+}
+
+/// Writes the covered queues in order, and counts them.
+pub fn write_covered<O: Sink>(out: &mut O, problem: &Problem, set: &CoverSet) -> Result<u32, Failed>
+    requires { problem_of set.now ≡ problem.now }
+    ensures written { WritesAll (O.written out.old) (O.written out.new) result
+        (queues_form (queues (elements_of problem.now.pattern)) (numbers_from problem.now (lists_of set.now) 0)) }
+    ensures count { IfOk result (λ count. count ≡ length (numbers_from problem.now (lists_of set.now) 0)) }
+    ensures within { IfOk result (λ count. count ≤ length (queues (elements_of problem.now.pattern))) }
+    ensures cause { HasCause (O.faults out.old) (O.faults out.new) result }
+{
+    permits_is_decided();
+    let all = problem.pattern.count();
+    let mut count = 0;
+    let mut from = 0;
+    while from < all {
+        let Some(number) = set.next_covered(from) else {
+            return Ok(count);
+        };
+        write_queue(out, &problem.pattern.queue(number))?;
+        count += 1;
+        from = number + 1;
+    }
+    Ok(count)
+}

@@ -1,0 +1,9 @@
+// The command `cover`: which queues known sequences answer.
+#![tactic(auto)]
+
+mod command;
+mod covering;
+mod given;
+pub mod laws;
+
+pub use command::run_cover;

@@ -1,0 +1,71 @@
+-- What the last line of a report answers, and how the run ends by it.
+use Rattle.std.proofs.Common.{◌≡◌, ℕ, ◌+◌, ◌≤◌, List, [], Bool, true, false, Option, None, Result, Ok, Err, refl, sym, ap, subst, inl, inr}
+use Rattle.lane_board.specs.Field.{Field}
+use Rattle.pc_outside.specs.declared.answers.Failed.{Failed}
+use Rattle.pc_outside.specs.Counts.{HasCause}
+use Rattle.pc_outside.specs.Writes.{WritesAll}
+use Rattle.path_settings.specs.declared.format.Format.TheVariants.{Fumen}
+use Rattle.path_settings.specs.Request.{PathRequest}
+use Rattle.pc_faults.specs.declared.fault.Fault.{Fault}
+use Rattle.pc_faults.specs.declared.status.Status.{Status}
+use Rattle.pc_faults.specs.declared.status.Status.TheVariants.{Done, Input, SourceFault, SinkFault, NoMemory}
+use Rattle.pc_source.specs.Answers.{Answers}
+use Rattle.pc_source.specs.Sink.{SinkChange}
+use Rattle.pc_source.specs.Work.{Works}
+use Rattle.report.specs.declared.write_fault.WriteFault.{WriteFault}
+use Rattle.report.specs.declared.write_fault.WriteFault.TheVariants as fault
+use Rattle.report.specs.WriteCause.{HasWriteCause}
+use Rattle.pc_path.specs.Faults.{listing_fault}
+use Rattle.pc_path.specs.Formats.{as_line, line_status, takes_memory_first}
+use Rattle.pc_path.specs.ListingTask.{listing_task}
+use Rattle.pc_path.specs.Output.{IsReportOf}
+use Rattle.pc_path.specs.Work.{IsListingWork}
+
+-- a failed write is a line that is not written
+pub line_writes : {T : Type 0} {old new : Option (List ℕ)} {bytes : List ℕ} (r : Result T Failed) (line : Result T WriteFault) → line ≡ as_line r → WritesAll old new r bytes → WritesAll old new line bytes
+line_writes {old = old} {new = new} {bytes = bytes} (Ok x) line same written = subst (λ l. WritesAll old new l bytes) (sym same) (record { done = written.done; failed = tt })
+line_writes {old = old} {new = new} {bytes = bytes} (Err e) line same written = subst (λ l. WritesAll old new l bytes) (sym same) (record { done = tt; failed = written.failed })
+
+pub line_cause : {T : Type 0} {before now : ℕ} (r : Result T Failed) (line : Result T WriteFault) → line ≡ as_line r → HasCause before now r → HasWriteCause before now line
+line_cause {before = before} {now = now} (Ok x) line same cause = subst (HasWriteCause before now) (sym same) (record { later = cause.later; kept = λ _. cause.kept; failed = λ e. absurd cc })
+line_cause {before = before} {now = now} (Err e) line same cause = subst (HasWriteCause before now) (sym same) (record { later = cause.later; kept = λ other. absurd (other refl); failed = λ _. cause.failed })
+
+-- it wants no memory
+pub line_memory : {T : Type 0} {P : Type 0} (r : Result T Failed) (line : Result T WriteFault) → line ≡ as_line r → line ≡ Err fault.NoMemory → P
+line_memory (Ok x) line same none = absurd cc
+line_memory (Err e) line same none = absurd cc
+
+-- how the cause of a line goes on over lines before it
+pub cause_after : {T : Type 0} {before between now : ℕ} {line : Result T WriteFault} → between ≡ before → HasWriteCause between now line → HasWriteCause before now line
+cause_after {now = now} {line = line} same cause = subst (λ b. HasWriteCause b now line) same cause
+
+module _ (request : PathRequest) (F : Field) (sink : SinkChange) (floods : ℕ) (none : listing_fault request F ≡ None) where
+  answered : {T : Type 0} (Kept : Type 0) (output : List ℕ) → IsReportOf request F floods output → (line : Result T WriteFault) → WritesAll sink.held sink.holds line output → HasWriteCause sink.before sink.now line
+      → (line ≡ Err fault.NoMemory → request.format ≡ Fumen) → Answers (listing_task request F) [] sink Kept floods (line_status line)
+  answered Kept output is (Ok x) written cause memory =
+      record { none = none; wrote = record { output = output; is_output = is; grown = written.done }; kept = cause.kept (λ e. cc) }
+  answered Kept output is (Err fault.Failed) written cause memory =
+      record { none = none; front = record { output = output; is_output = is; grown = written.failed }; rose = cause.failed refl }
+  answered Kept output is (Err fault.NoMemory) written cause memory =
+      record {
+        known = λ _. none;
+        first = λ first. let late : takes_memory_first request.format ≡ false = ap takes_memory_first (memory refl) in absurd cc;
+        ended = inr (record { none = none; front = record { output = output; is_output = is; grown = written.failed }; kept = cause.kept (λ e. cc) });
+      }
+
+  -- the report was written, or a part of it
+  pub report_answers : {T : Type 0} (Kept : Type 0) (output : List ℕ) → IsReportOf request F floods output → (line : Result T WriteFault) (status : Status) → status ≡ line_status line
+      → WritesAll sink.held sink.holds line output → HasWriteCause sink.before sink.now line → (line ≡ Err fault.NoMemory → request.format ≡ Fumen) → Answers (listing_task request F) [] sink Kept floods status
+  report_answers Kept output is line status same written cause memory =
+      subst (Answers (listing_task request F) [] sink Kept floods) (sym same) (answered Kept output is line written cause memory)
+
+  worked : {T : Type 0} (line : Result T WriteFault) → ((all : T) → line ≡ Ok all → IsListingWork request F sink Done floods) → (line ≡ Err fault.Failed → IsListingWork request F sink SinkFault floods)
+      → (line ≡ Err fault.NoMemory → IsListingWork request F sink NoMemory floods) → Works (listing_task request F) (listing_fault request F) [] sink floods (line_status line)
+  worked (Ok x) done failed late = done x refl
+  worked (Err fault.Failed) done failed late = failed refl
+  worked (Err fault.NoMemory) done failed late = inr (none, late refl)
+
+  pub report_works : {T : Type 0} (line : Result T WriteFault) (status : Status) → status ≡ line_status line → ((all : T) → line ≡ Ok all → IsListingWork request F sink Done floods)
+      → (line ≡ Err fault.Failed → IsListingWork request F sink SinkFault floods) → (line ≡ Err fault.NoMemory → IsListingWork request F sink NoMemory floods)
+      → Works (listing_task request F) (listing_fault request F) [] sink floods status
+  report_works line status same done failed late = subst (Works (listing_task request F) (listing_fault request F) [] sink floods) (sym same) (worked line done failed late)
