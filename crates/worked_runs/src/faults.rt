@@ -10,12 +10,11 @@ fn fault(rt: &(impl AllocGlobal + Abort), line: &str, fault: &[u8]) -> Result<()
 
 #[test]
 fn words(rt: HostRuntime) -> Result<(), Fail> {
-    let rows: [(&str, &[u8]); 10] = [
+    let rows: [(&str, &[u8]); 9] = [
         ("", b"input: Words.NoCommand 0\n"),
         ("find", b"input: Words.UnknownCommand 0\n"),
         ("path --rows XXXXXX____", b"input: Words.MissingOption 3\n"),
         ("path --limit", b"input: Words.MissingValue 1\n"),
-        ("path --clear-line 7", b"input: Words.BadValue 2\n"),
         ("path --drop harder", b"input: Words.BadValue 2\n"),
         ("path --keys Yes", b"input: Words.BadValue 2\n"),
         ("path --keys", b"input: Words.MissingValue 1\n"),

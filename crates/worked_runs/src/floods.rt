@@ -103,11 +103,21 @@ fn agree<L: Ledger>(alloc: Global, field: &[u8], mode: DropMode, blank: Blank) -
 {
     let mut steps = Steps::<L>::new(blank);
     let well = Well::from_rows(field).ok().ok_or("no field")?;
+    agree_in(alloc, &well, mode, &mut steps)
+}
+
+/// The same in a well.
+fn agree_in<L: Ledger>(
+    alloc: Global,
+    well: &Well,
+    mode: DropMode,
+    steps: &mut Steps<L>,
+) -> Result<bool, Fail> {
     let rules = Rules::srs();
     for piece in Piece::ALL {
-        let states = walked(alloc, &well, &rules, piece, mode)?;
-        let (number, met) = rested(alloc, &well, &states)?;
-        let places = places(&well, &rules, piece, mode, &mut steps);
+        let states = walked(alloc, well, &rules, piece, mode)?;
+        let (number, met) = rested(alloc, well, &states)?;
+        let places = places(well, &rules, piece, mode, steps);
         if held(&places, &met) != Some(number) {
             return Ok(false);
         }
@@ -115,15 +125,64 @@ fn agree<L: Ledger>(alloc: Global, field: &[u8], mode: DropMode, blank: Blank) -
     Ok(true)
 }
 
+/// Whether the floods of all pieces with either drop agree in so many stacks of this many rows.
+fn agree_in_stacks<L: Ledger>(
+    alloc: Global,
+    rows: u8,
+    count: u32,
+    blank: Blank,
+) -> Result<bool, Fail>
+    requires name { blank.name ≡ L.name }
+    requires parts { blank.parts ≡ L.parts }
+    requires some { 0 < blank.parts }
+{
+    let mut steps = Steps::<L>::new(blank);
+    let mut random = u64::from(rows);
+    for _ in 0..count {
+        let (well, next) = stack(random, rows);
+        random = next;
+        let soft = agree_in(alloc, &well, DropMode::Soft, &mut steps)?;
+        let hard = agree_in(alloc, &well, DropMode::Hard, &mut steps)?;
+        if !soft || !hard {
+            return Ok(false);
+        }
+    }
+    Ok(true)
+}
+
+/// A stack of so many rows with holes and overhangs, and the number from which the next one is made.
+fn stack(random: u64, rows: u8) -> (Well, u64) {
+    let mut random = shuffled(random);
+    let percent = 10 + (random >> 33) % 85;
+    let mut well = Well::empty();
+    for y in 0..rows.min(22) {
+        for x in 0..10 {
+            random = shuffled(random);
+            if (random >> 33) % 100 < percent {
+                well = well.with(x, y);
+            }
+        }
+    }
+    (well, random)
+}
+
+/// A number that looks random beside the given one.
+fn shuffled(number: u64) -> u64 {
+    number
+        .wrapping_mul(6_364_136_223_846_793_005)
+        .wrapping_add(1_442_695_040_888_963_407)
+}
+
 /// The fields of the worked solutions, overhangs that only kicks lead under, and a spawn that is
 /// not free.
-const FIELDS: [&[u8]; 7] = [
+const FIELDS: [&[u8]; 8] = [
     b"XXXXXX____",
     b"XXXXXX____/XXXXXX____",
     b"XXXXXXXX__/XXXXXX____/XXXXXXXX__",
     b"XXXXXXXXX_/XXXXXXXXX_/XXXXXXXXX_/XXXXXXXXX_",
     b"XXX___XXXX/XX__XXXXXX/XXX__XXXXX/XXXX_XXXXX/XXX__XXXXX",
     b"__XX______/X____XX___/XX_XXX__XX/XX__XX_XXX/XXX_X__XXX/XX__XX_XXX",
+    b"X________X/XX__X___XX/XX______XX/XXX_XX__XX/XX__XX_XXX/XXX____XXX/XX__XXX_XX/XXX_____XX",
     b"____X_____/__________/__________/__________/__________/__________/__________/__________/__________/__________/__________/__________/__________/__________/__________/__________/__________/__________/__________/__________/__________",
 ];
 
@@ -133,5 +192,16 @@ fn floods_agree_with_plain_walks(rt: HostRuntime) -> Result<(), Fail> {
         assert!(rt; agree::<Brand>(rt.alloc(), field, DropMode::Soft, Blank::new(1))?);
         assert!(rt; agree::<Brand>(rt.alloc(), field, DropMode::Hard, Blank::new(1))?);
     }
+    Ok(())
+}
+
+/// How many stacks of each height are flooded, for each piece and with either drop.
+const STACKS: u32 = 80;
+
+#[test]
+fn floods_agree_with_plain_walks_in_stacks(rt: HostRuntime) -> Result<(), Fail> {
+    assert!(rt; agree_in_stacks::<Brand>(rt.alloc(), 6, STACKS, Blank::new(1))?);
+    assert!(rt; agree_in_stacks::<Brand>(rt.alloc(), 7, STACKS, Blank::new(1))?);
+    assert!(rt; agree_in_stacks::<Brand>(rt.alloc(), 8, STACKS, Blank::new(1))?);
     Ok(())
 }

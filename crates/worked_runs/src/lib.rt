@@ -13,6 +13,10 @@ use std::sync::ledger::{Blank, Ledger};
 #[cfg(test)]
 mod asserts;
 #[cfg(test)]
+mod combos;
+#[cfg(test)]
+mod covers;
+#[cfg(test)]
 mod encodes;
 #[cfg(test)]
 mod faults;
@@ -21,13 +25,23 @@ mod fields;
 #[cfg(test)]
 mod floods;
 #[cfg(test)]
+mod formats;
+#[cfg(test)]
+mod held;
+#[cfg(test)]
 mod keys;
+#[cfg(test)]
+mod kicks;
 #[cfg(test)]
 mod limits;
 #[cfg(test)]
 mod pages;
 #[cfg(test)]
+mod percents;
+#[cfg(test)]
 mod solutions;
+#[cfg(test)]
+mod stats;
 
 /// How a run ended, and what it wrote.
 #[derive(Drop)]
