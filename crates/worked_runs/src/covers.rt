@@ -126,7 +126,7 @@ fn sequences_with_other_kicks(rt: HostRuntime) -> Result<(), Fail> {
 #[test]
 fn each_read_fails_in_turn(rt: HostRuntime) -> Result<(), Fail> {
     let text = b"I0:7,0\nend 1\n";
-    for failing in 0..14 {
+    for failing in 1..15 {
         let bytes = Vec::from_slice(rt.alloc(), text)?;
         let source = MemorySource::new(bytes, vec![in rt.alloc(); failing]?).with_piece(1);
         let ended = run_words(rt.alloc(), ONE_ROW, &[], source, &[])
