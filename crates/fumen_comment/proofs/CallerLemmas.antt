@@ -3,5 +3,5 @@ pub use Rattle.fumen_comment.proofs.CommentReadAsSpelled.{comment_fault_from_rea
 pub use Rattle.fumen_comment.proofs.EscapeLaws.{IsMark, escaped_marks, escaped_printable, unescaped-escaped}
 pub use Rattle.fumen_comment.proofs.ReadLoop.{from_nothing, regroup}
 unfoldable pub use Rattle.fumen_comment.proofs.ReadLoop.{with_front}
-pub use Rattle.fumen_comment.proofs.UnitLaws.{comment_fits}
+pub use Rattle.fumen_comment.proofs.UnitLaws.{comment_fits, unescaped_fits}
 pub use Rattle.fumen_comment.proofs.WrittenIsSpelled.{written_comment, written_digits}

@@ -3,7 +3,7 @@ use Rattle.std.proofs.Common.{◌≡◌, ℕ, ◌+◌, ◌≤◌, List, ◌++◌
 use Rattle.std.specs.List.{flat_map}
 use Rattle.std.proofs.lemmas.List.{length-take}
 use Rattle.fumen_digits.specs.Number.{digits, Stands, NumberStands}
-use Rattle.fumen_digits.specs.Fault.{Fault}
+use Rattle.fumen_digits.specs.declared.fault.FumenFault.{FumenFault}
 use Rattle.fumen_digits.specs.Reading.{◌>>=◌, number_at}
 use Rattle.fumen_digits.proofs.CallerLemmas.{bind_ok, bind_err, ok_bind, err_bind, length-digits, Stands-then, Stands-parts, stands_from_read, read_from_stands, number_fault_from_read, read_from_number_fault}
 use Rattle.fumen_comment.specs.Unescape.{unescaped}
@@ -12,10 +12,10 @@ use Rattle.fumen_comment.specs.Reading.{text_at, comment_at}
 use Rattle.fumen_comment.specs.Faults.{IsGroupDue, IsCommentFault, CommentStands}
 use Rattle.fumen_comment.proofs.Groups.{characters_of, characters_of-is, length-unpacked_all, TextStands, text_from_read, read_from_text, GroupsDue, TextFault, text_fault_from_read, read_from_text_fault}
 
-abbrev then_text : List ℕ → ℕ → ℕ → Result (List ℕ × ℕ) Fault
+abbrev then_text : List ℕ → ℕ → ℕ → Result (List ℕ × ℕ) FumenFault
 then_text ds place total = text_at ds (place + 2) total (group_count total) >>= λ text. Ok (unescaped text.0, text.1)
 
-done_comment : (x y : List ℕ × ℕ) → ◌≡◌ {A = Result (List ℕ × ℕ) Fault} (Ok x) (Ok y) → x ≡ y
+done_comment : (x y : List ℕ × ℕ) → ◌≡◌ {A = Result (List ℕ × ℕ) FumenFault} (Ok x) (Ok y) → x ≡ y
 done_comment x y e = cc
 
 -- so many groups hold so many characters
@@ -92,7 +92,7 @@ due_in_comment : (ds : List ℕ) (place total k rest : ℕ) → NumberStands ds 
 due_in_comment ds place total k rest number due =
     record { total = total; total_stands = number; groups = due.groups; each = due.each; groups_stand = due.stand; fewer = due.fewer; rest = due.rest_is }
 
-pub comment_fault_from_read : (ds : List ℕ) (place : ℕ) (f : Fault) → place ≤ length ds → comment_at ds place ≡ Err f → IsCommentFault ds place f
+pub comment_fault_from_read : (ds : List ℕ) (place : ℕ) (f : FumenFault) → place ≤ length ds → comment_at ds place ≡ Err f → IsCommentFault ds place f
 unfolding comment_at
 comment_fault_from_read ds place f le e =
     elim (bind_err (number_at ds place 2) (λ total. then_text ds place total) f e) [
@@ -107,7 +107,7 @@ comment_fault_from_read ds place f le e =
           ]
     ]
 
-pub read_from_comment_fault : (ds : List ℕ) (place : ℕ) (f : Fault) → IsCommentFault ds place f → comment_at ds place ≡ Err f
+pub read_from_comment_fault : (ds : List ℕ) (place : ℕ) (f : FumenFault) → IsCommentFault ds place f → comment_at ds place ≡ Err f
 unfolding comment_at
 read_from_comment_fault ds place f (inl bad) =
     err_bind (number_at ds place 2) (λ total. then_text ds place total) f (read_from_number_fault ds place 2 f bad)

@@ -6,8 +6,9 @@ use Rattle.std.proofs.Math.Seq.{take-append-add}
 use Rattle.std.proofs.lemmas.Bool.{cases_lt, ltb-true, and_parts}
 use Rattle.std.proofs.lemmas.List.{append-nil, take_all, take-append-le, length-append}
 use Rattle.fumen_digits.specs.Number.{digits, Stands, NumberStands}
-use Rattle.fumen_digits.specs.Fault.{Fault, IsNumberFault}
-use Rattle.fumen_digits.specs.Fault.Fault.{BadComment}
+use Rattle.fumen_digits.specs.declared.fault.FumenFault.{FumenFault}
+use Rattle.fumen_digits.specs.Fault.{IsNumberFault}
+use Rattle.fumen_digits.specs.declared.fault.FumenFault.TheVariants.{BadComment}
 use Rattle.fumen_digits.specs.Reading.{◌>>=◌, number_at}
 use Rattle.fumen_digits.proofs.CallerLemmas.{bind_ok, bind_err, ok_bind, err_bind, length-digits, Stands-nil, Stands-then, Stands-parts, stands_from_read, read_from_stands, number_fault_from_read, read_from_number_fault}
 use Rattle.fumen_comment.specs.Part.{unpacked, is_group, AreGroups}
@@ -51,11 +52,11 @@ length-unpacked_all (group ∷ groups) =
 
 -- ---- one group
 
-chosen_ok : (b : Bool) (g : ℕ) (f : Fault) (h : ℕ) → ◌≡◌ {A = Result ℕ Fault} (cond b (Ok g) (Err f)) (Ok h) → (b ≡ true) × (g ≡ h)
+chosen_ok : (b : Bool) (g : ℕ) (f : FumenFault) (h : ℕ) → ◌≡◌ {A = Result ℕ FumenFault} (cond b (Ok g) (Err f)) (Ok h) → (b ≡ true) × (g ≡ h)
 chosen_ok true g f h e = (refl, cc)
 chosen_ok false g f h e = absurd cc
 
-chosen_err : (b : Bool) (g : ℕ) (f d : Fault) → ◌≡◌ {A = Result ℕ Fault} (cond b (Ok g) (Err f)) (Err d) → (b ≡ false) × (d ≡ f)
+chosen_err : (b : Bool) (g : ℕ) (f d : FumenFault) → ◌≡◌ {A = Result ℕ FumenFault} (cond b (Ok g) (Err f)) (Err d) → (b ≡ false) × (d ≡ f)
 chosen_err true g f d e = absurd cc
 chosen_err false g f d e = (refl, let same : d ≡ f = cc in same)
 
@@ -90,10 +91,10 @@ read_from_group ds place left group s =
     ∙ ap (λ (b : Bool). cond b (Ok group) (Err (BadComment place))) s.good
 
 -- the fault of a group that is due at a place
-abbrev pub GroupFault : List ℕ → ℕ → ℕ → Fault → Type 0
+abbrev pub GroupFault : List ℕ → ℕ → ℕ → FumenFault → Type 0
 GroupFault ds place left f = IsNumberFault ds place 5 f ⊎ (IsBadGroup ds place left × (f ≡ BadComment place))
 
-pub group_fault_from_read : (ds : List ℕ) (place left : ℕ) (f : Fault) → place ≤ length ds → group_at ds place left ≡ Err f → GroupFault ds place left f
+pub group_fault_from_read : (ds : List ℕ) (place left : ℕ) (f : FumenFault) → place ≤ length ds → group_at ds place left ≡ Err f → GroupFault ds place left f
 unfolding group_at
 group_fault_from_read ds place left f le e =
     elim (bind_err (number_at ds place 5) (λ g. cond (is_group left g) (Ok g) (Err (BadComment place))) f e) [
@@ -103,14 +104,14 @@ group_fault_from_read ds place left f le e =
           inr (record { group = n.0; stands = stands_from_read ds place place 5 n.0 le n.1; bad = c.0 }, c.1)
     ]
 
-pub read_from_group_fault : (ds : List ℕ) (place left : ℕ) (f : Fault) → GroupFault ds place left f → group_at ds place left ≡ Err f
+pub read_from_group_fault : (ds : List ℕ) (place left : ℕ) (f : FumenFault) → GroupFault ds place left f → group_at ds place left ≡ Err f
 unfolding group_at
 read_from_group_fault ds place left f (inl bad) =
     err_bind (number_at ds place 5) (λ g. cond (is_group left g) (Ok g) (Err (BadComment place))) f (read_from_number_fault ds place 5 f bad)
 read_from_group_fault ds place left f (inr bad) =
     let b = bad.0 in
     ok_bind (number_at ds place 5) (λ g. cond (is_group left g) (Ok g) (Err (BadComment place))) b.group (read_from_stands ds place place 5 b.group b.stands)
-    ∙ (ap (λ (t : Bool). cond t (Ok b.group) (Err (BadComment place))) b.bad ∙ ap (λ (d : Fault). Err d) (sym bad.1))
+    ∙ (ap (λ (t : Bool). cond t (Ok b.group) (Err (BadComment place))) b.bad ∙ ap (λ (d : FumenFault). Err d) (sym bad.1))
 
 -- ---- some groups
 
@@ -122,10 +123,10 @@ pub record TextStands (ds : List ℕ) (place left count : ℕ) (text : List ℕ)
   pub characters : text ≡ characters_of left groups
   pub stands : Stands ds place (flat_map (digits 5) groups) end
 
-abbrev behind : List ℕ → ℕ → ℕ → ℕ → ℕ → Result (List ℕ × ℕ) Fault
+abbrev behind : List ℕ → ℕ → ℕ → ℕ → ℕ → Result (List ℕ × ℕ) FumenFault
 behind ds place left count group = text_at ds (place + 5) (left - 4) count >>= λ rest. Ok (take left (unpacked 4 group) ++ rest.0, rest.1)
 
-done_text : (x y : List ℕ × ℕ) → ◌≡◌ {A = Result (List ℕ × ℕ) Fault} (Ok x) (Ok y) → x ≡ y
+done_text : (x y : List ℕ × ℕ) → ◌≡◌ {A = Result (List ℕ × ℕ) FumenFault} (Ok x) (Ok y) → x ≡ y
 done_text x y e = cc
 
 pub text_from_read : (ds : List ℕ) (place left count : ℕ) (text : List ℕ) (end : ℕ) → place ≤ length ds → text_at ds place left count ≡ Ok (text, end) → TextStands ds place left count text end
@@ -191,10 +192,10 @@ pub record GroupsDue (ds : List ℕ) (place left count k rest : ℕ) : Type 0 wh
   pub fewer : length groups < count
   pub rest_is : rest ≡ left - 4 * length groups
 
-abbrev pub TextFault : List ℕ → ℕ → ℕ → ℕ → Fault → Type 0
+abbrev pub TextFault : List ℕ → ℕ → ℕ → ℕ → FumenFault → Type 0
 TextFault ds place left count f = (k rest : ℕ) × GroupsDue ds place left count k rest × GroupFault ds k rest f
 
-pub text_fault_from_read : (ds : List ℕ) (place left count : ℕ) (f : Fault) → place ≤ length ds → text_at ds place left count ≡ Err f → TextFault ds place left count f
+pub text_fault_from_read : (ds : List ℕ) (place left count : ℕ) (f : FumenFault) → place ≤ length ds → text_at ds place left count ≡ Err f → TextFault ds place left count f
 unfolding text_at
 text_fault_from_read ds place left zero f le e = absurd cc
 text_fault_from_read ds place left (suc count) f le e =
@@ -211,7 +212,7 @@ text_fault_from_read ds place left (suc count) f le e =
           ]
     ]
 
-read_due : (ds : List ℕ) (place left count k rest : ℕ) (f : Fault) (groups : List ℕ) → AreGroups left groups → Stands ds place (flat_map (digits 5) groups) k → length groups < count → rest ≡ left - 4 * length groups → GroupFault ds k rest f
+read_due : (ds : List ℕ) (place left count k rest : ℕ) (f : FumenFault) (groups : List ℕ) → AreGroups left groups → Stands ds place (flat_map (digits 5) groups) k → length groups < count → rest ≡ left - 4 * length groups → GroupFault ds k rest f
     → text_at ds place left count ≡ Err f
 unfolding text_at
 read_due ds place left zero k rest f groups each s fewer rest_is fault = absurd (omega arith)
@@ -225,7 +226,7 @@ read_due ds place left (suc count) k rest f (group ∷ groups) each s fewer rest
     read_more ds place left count group first.one
     ∙ err_bind (text_at ds (place + 5) (left - 4) count) (λ r. Ok (take left (unpacked 4 group) ++ r.0, r.1)) f (read_due ds (place + 5) (left - 4) count k rest f groups each.1 first.others (omega arith) (omega arith) fault)
 
-pub read_from_text_fault : (ds : List ℕ) (place left count : ℕ) (f : Fault) → TextFault ds place left count f → text_at ds place left count ≡ Err f
+pub read_from_text_fault : (ds : List ℕ) (place left count : ℕ) (f : FumenFault) → TextFault ds place left count f → text_at ds place left count ≡ Err f
 read_from_text_fault ds place left count f t =
     let due = t.2 in
     read_due ds place left count t.0 t.1 f due.groups due.each due.stand due.fewer due.rest_is t.3

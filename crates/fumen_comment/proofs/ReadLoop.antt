@@ -3,7 +3,7 @@ use Rattle.std.proofs.Common.{◌≡◌, ℕ, suc, ◌+◌, ◌-◌, ◌<◌, �
 use Rattle.std.proofs.lemmas.List.{append-nil}
 use Rattle.pc_outside.specs.declared.answers.Refused.{Refused}
 use Rattle.pc_outside.specs.declared.answers.Refused.TheVariants as refused
-use Rattle.fumen_digits.specs.Fault.{Fault}
+use Rattle.fumen_digits.specs.declared.fault.FumenFault.{FumenFault}
 use Rattle.fumen_digits.specs.Reading.{◌>>=◌}
 use Rattle.fumen_digits.specs.Answers.{IsRefusal}
 use Rattle.fumen_digits.proofs.CallerLemmas.{ok_bind, err_bind}
@@ -13,10 +13,10 @@ use Rattle.fumen_comment.specs.Reading.{group_at, text_at}
 use Rattle.fumen_comment.specs.Faults.{comment_fault}
 
 -- what is read so far, before what is still to come
-unfoldable pub with_front : List ℕ → Result (List ℕ × ℕ) Fault → Result (List ℕ × ℕ) Fault
+unfoldable pub with_front : List ℕ → Result (List ℕ × ℕ) FumenFault → Result (List ℕ × ℕ) FumenFault
 with_front front read = read >>= λ x. Ok (front ++ x.0, x.1)
 
-abbrev pub rest_at : List ℕ → ℕ → ℕ → Result (List ℕ × ℕ) Fault
+abbrev pub rest_at : List ℕ → ℕ → ℕ → Result (List ℕ × ℕ) FumenFault
 rest_at ds place left = text_at ds place left (group_count left)
 
 -- what is read so far, and what is left completes the text
@@ -24,7 +24,7 @@ pub record IsReadSoFar (ds : List ℕ) (start count : ℕ) (text : List ℕ) (pl
   pub within : place ≤ length ds
   pub completes : with_front text (rest_at ds place left) ≡ rest_at ds start count
 
-pub from_nothing : (read : Result (List ℕ × ℕ) Fault) → with_front [] read ≡ read
+pub from_nothing : (read : Result (List ℕ × ℕ) FumenFault) → with_front [] read ≡ read
 unfolding with_front
 from_nothing (Ok x) = refl
 from_nothing (Err f) = refl
@@ -32,7 +32,7 @@ from_nothing (Err f) = refl
 pub text_starts : (ds : List ℕ) (start count : ℕ) → start ≤ length ds → IsReadSoFar ds start count [] start count
 text_starts ds start count le = record { within = le; completes = from_nothing (rest_at ds start count) }
 
-pub regroup : (front more : List ℕ) (read : Result (List ℕ × ℕ) Fault) → with_front front (read >>= λ x. Ok (more ++ x.0, x.1)) ≡ with_front (front ++ more) read
+pub regroup : (front more : List ℕ) (read : Result (List ℕ × ℕ) FumenFault) → with_front front (read >>= λ x. Ok (more ++ x.0, x.1)) ≡ with_front (front ++ more) read
 unfolding with_front
 regroup front more (Ok x) = ap (λ (text : List ℕ). Ok (text, x.1)) (sym (append_assoc front more x.0))
 regroup front more (Err f) = refl
@@ -40,7 +40,7 @@ regroup front more (Err f) = refl
 one_group : (left : ℕ) → 0 < left → group_count left ≡ suc (group_count (left - 4))
 one_group left some = omega arith
 
-abbrev behind_group : List ℕ → ℕ → ℕ → ℕ → ℕ → Result (List ℕ × ℕ) Fault
+abbrev behind_group : List ℕ → ℕ → ℕ → ℕ → ℕ → Result (List ℕ × ℕ) FumenFault
 behind_group ds place left count group = text_at ds (place + 5) (left - 4) count >>= λ rest. Ok (take left (unpacked 4 group) ++ rest.0, rest.1)
 
 read_group : (ds : List ℕ) (place left group : ℕ) → 0 < left → group_at ds place left ≡ Ok group → rest_at ds place left ≡ behind_group ds place left (group_count (left - 4)) group
@@ -54,7 +54,7 @@ text_more ds start count text place left group more some room read more_is s =
     let rest = rest_at ds (place + 5) (left - 4) in
     record {
       within = room;
-      completes = ap (λ (x : List ℕ). with_front (text ++ x) rest) more_is ∙ (sym (regroup text (take left (unpacked 4 group)) rest) ∙ (ap (λ (r : Result (List ℕ × ℕ) Fault). with_front text r) (sym (read_group ds place left group some read)) ∙ s.completes));
+      completes = ap (λ (x : List ℕ). with_front (text ++ x) rest) more_is ∙ (sym (regroup text (take left (unpacked 4 group)) rest) ∙ (ap (λ (r : Result (List ℕ × ℕ) FumenFault). with_front text r) (sym (read_group ds place left group some read)) ∙ s.completes));
     }
 
 pub text_stops : (e : Refused CommentFault) (ds : List ℕ) (start count : ℕ) (text : List ℕ) (place left : ℕ) → 0 < left → IsRefusal comment_fault e (group_at ds place left)
@@ -62,11 +62,11 @@ pub text_stops : (e : Refused CommentFault) (ds : List ℕ) (start count : ℕ) 
 unfolding text_at with_front
 text_stops (refused.Fault d) ds start count text place left some read s =
     let failed : rest_at ds place left ≡ Err (comment_fault d) = rw (one_group left some) (err_bind (group_at ds place left) (λ g. behind_group ds place left (group_count (left - 4)) g) (comment_fault d) read) in
-    sym s.completes ∙ ap (λ (r : Result (List ℕ × ℕ) Fault). with_front text r) failed
+    sym s.completes ∙ ap (λ (r : Result (List ℕ × ℕ) FumenFault). with_front text r) failed
 text_stops refused.NoMemory ds start count text place left some read s = tt
 
 pub text_ends : (ds : List ℕ) (start count : ℕ) (text : List ℕ) (place left : ℕ) → left ≡ 0 → IsReadSoFar ds start count text place left → rest_at ds start count ≡ Ok (text, place)
 unfolding text_at with_front
 text_ends ds start count text place left none s =
     let ended : rest_at ds place left ≡ Ok ([], place) = rw none refl in
-    sym s.completes ∙ (ap (λ (r : Result (List ℕ × ℕ) Fault). with_front text r) ended ∙ ap (λ (x : List ℕ). Ok (x, place)) (append-nil text))
+    sym s.completes ∙ (ap (λ (r : Result (List ℕ × ℕ) FumenFault). with_front text r) ended ∙ ap (λ (x : List ℕ). Ok (x, place)) (append-nil text))

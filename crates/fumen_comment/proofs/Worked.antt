@@ -1,9 +1,9 @@
 -- The definitions at worked cases, by computing them.
 use Rattle.std.proofs.Common.{◌≡◌, [], ◌∷◌, ◌++◌, Ok, Err, refl}
 use Rattle.std.specs.Prelude.{codes}
-use Rattle.fumen_digits.specs.Digit.{digit, value_of}
+use Rattle.fumen_digits.specs.Digit.{digit, digit_value}
 use Rattle.fumen_digits.specs.Number.{digits}
-use Rattle.fumen_digits.specs.Fault.Fault.{Truncated, BadComment}
+use Rattle.fumen_digits.specs.declared.fault.FumenFault.TheVariants.{Truncated, BadComment}
 use Rattle.fumen_digits.specs.Reading.{number_from, value_at}
 use Rattle.fumen_comment.specs.Escape.{stays, hex_digit, escaped}
 use Rattle.fumen_comment.specs.Unescape.{hex_value, hex_byte_at, hex_unit_at, unit_of, unescaped_behind, unescaped}
@@ -24,23 +24,23 @@ written = refl
 
 -- the comment of a fumen that another program wrote, from its action on
 read : comment_at (codes "HYaAkeEfEXoC+BlvlzByEEfE03k2AlP5ABwvDfE") 2 ≡ Ok (codes "DT" ++ 0x70AE ∷ 0x7B2C ∷ 0x4E00 ∷ 0x5305 ∷ [], 39)
-unfolding comment_at text_at group_at is_group unpacked number_from value_at value_of unescaped_behind unit_of hex_unit_at hex_byte_at hex_value
+unfolding comment_at text_at group_at is_group unpacked number_from value_at digit_value unescaped_behind unit_of hex_unit_at hex_byte_at hex_value
 read = refl
 
 bad_group : comment_at (codes "BA/////") 0 ≡ Err (BadComment 2)
-unfolding comment_at text_at group_at is_group unpacked number_from value_at value_of
+unfolding comment_at text_at group_at is_group unpacked number_from value_at digit_value
 bad_group = refl
 
 -- the first character has the value 95, the second one is past the length
 bad_character : comment_at (codes "BAfBAAA") 0 ≡ Err (BadComment 2)
-unfolding comment_at text_at group_at is_group unpacked number_from value_at value_of
+unfolding comment_at text_at group_at is_group unpacked number_from value_at digit_value
 bad_character = refl
 
 -- the second character has the value 95, and is past the length
 past_length : comment_at (codes "BAgOCAA") 0 ≡ Ok (codes " ", 7)
-unfolding comment_at text_at group_at is_group unpacked number_from value_at value_of unescaped_behind unit_of
+unfolding comment_at text_at group_at is_group unpacked number_from value_at digit_value unescaped_behind unit_of
 past_length = refl
 
 truncated : comment_at (codes "FAooMDEPB") 0 ≡ Err (Truncated 7)
-unfolding comment_at text_at group_at is_group unpacked number_from value_at value_of
+unfolding comment_at text_at group_at is_group unpacked number_from value_at digit_value
 truncated = refl

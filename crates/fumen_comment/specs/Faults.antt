@@ -2,8 +2,9 @@
 use Rattle.std.specs.Prelude.{◌≡◌, ℕ, ◌+◌, ◌-◌, ◌*◌, ◌<◌, List, length, false, ◌⊎◌}
 use Rattle.std.specs.List.{flat_map}
 use Rattle.fumen_digits.specs.Number.{digits, Stands, NumberStands}
-use Rattle.fumen_digits.specs.Fault.{Fault, IsNumberFault}
-use Rattle.fumen_digits.specs.Fault.Fault.{BadDigit, Truncated, BadComment}
+use Rattle.fumen_digits.specs.declared.fault.FumenFault.{FumenFault}
+use Rattle.fumen_digits.specs.Fault.{IsNumberFault}
+use Rattle.fumen_digits.specs.declared.fault.FumenFault.TheVariants.{BadDigit, Truncated, BadComment}
 use Rattle.fumen_comment.specs.declared.part.CommentFault.{CommentFault}
 use Rattle.fumen_comment.specs.declared.part.CommentFault.TheVariants as fault
 use Rattle.fumen_comment.specs.Part.{group_count, is_group, AreGroups, SpellsComment}
@@ -26,14 +27,14 @@ pub record IsBadGroup (ds : List ℕ) (k left : ℕ) : Type 0 where
   pub bad : is_group left group ≡ false
 
 -- the fault of the comment at a place: that of its length, or of a due group's number, or that this number is no group
-abbrev pub IsCommentFault : List ℕ → ℕ → Fault → Type 0
+abbrev pub IsCommentFault : List ℕ → ℕ → FumenFault → Type 0
 IsCommentFault ds place f =
     IsNumberFault ds place 2 f
     ⊎ ((k left : ℕ) × IsGroupDue ds place k left × (IsNumberFault ds k 5 f
     ⊎ (IsBadGroup ds k left × (f ≡ BadComment k))))
 
 -- a fault of a comment among those of a text
-abbrev pub comment_fault : CommentFault → Fault
+abbrev pub comment_fault : CommentFault → FumenFault
 comment_fault (fault.BadDigit place) = BadDigit place
 comment_fault (fault.Truncated place) = Truncated place
 comment_fault (fault.BadComment place) = BadComment place

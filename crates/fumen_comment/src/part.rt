@@ -12,7 +12,7 @@ ghost use Rattle.fumen_comment.specs.Faults.{CommentStands, IsCommentFault, comm
 
 use crate::comment::Comment;
 use crate::unescaping::unescape;
-use fumen_digits::{DigitFault, push_number, read_number};
+use fumen_digits::{DigitFault, FumenFault, push_number, read_number};
 use pc_outside::{NoMemory, Refused};
 use std::alloc::Global;
 
@@ -25,6 +25,18 @@ pub enum CommentFault {
     Truncated { place: usize },
     /// The group at this place is 96^4 or more, or has a character of value 95 within the length.
     BadComment { place: usize },
+}
+
+impl From<CommentFault> for FumenFault {
+    ghost from_gives = { λ fault text. text ≡ comment_fault fault };
+
+    fn from(fault: CommentFault) -> FumenFault {
+        match fault {
+            CommentFault::BadDigit { place } => FumenFault::BadDigit { place },
+            CommentFault::Truncated { place } => FumenFault::Truncated { place },
+            CommentFault::BadComment { place } => FumenFault::BadComment { place },
+        }
+    }
 }
 
 /// Appends the comment part of an escaped text, as fumen writes it: its length in two digits, and five

@@ -5,20 +5,21 @@ use Rattle.pc_outside.specs.declared.answers.Refused.{Refused}
 use Rattle.pc_outside.specs.declared.answers.Refused.TheVariants as refused
 use Rattle.fumen_digits.specs.declared.number.DigitFault.{DigitFault}
 use Rattle.fumen_digits.specs.declared.number.DigitFault.TheVariants as digit
-use Rattle.fumen_digits.specs.Fault.{Fault, digit_fault}
+use Rattle.fumen_digits.specs.declared.fault.FumenFault.{FumenFault}
+use Rattle.fumen_digits.specs.Fault.{digit_fault}
 use Rattle.fumen_digits.specs.Answers.{Reads, Gives}
 
-pub reads_ok : {X Y E : Type 0} (view : X → Y) (fault : E → Fault) (r : Result X E) (read : Result Y Fault) (x : X) → Reads view fault r read → r ≡ Ok x → read ≡ Ok (view x)
+pub reads_ok : {X Y E : Type 0} (view : X → Y) (fault : E → FumenFault) (r : Result X E) (read : Result Y FumenFault) (x : X) → Reads view fault r read → r ≡ Ok x → read ≡ Ok (view x)
 reads_ok {X = X} {E = E} view fault r read x reads e = let P : Result X E → Type 0 = λ q. Reads view fault q read in subst P e reads
 
-pub reads_err : {X Y E : Type 0} (view : X → Y) (fault : E → Fault) (r : Result X E) (read : Result Y Fault) (d : E) → Reads view fault r read → r ≡ Err d → read ≡ Err (fault d)
+pub reads_err : {X Y E : Type 0} (view : X → Y) (fault : E → FumenFault) (r : Result X E) (read : Result Y FumenFault) (d : E) → Reads view fault r read → r ≡ Err d → read ≡ Err (fault d)
 reads_err {X = X} {E = E} view fault r read d reads e = let P : Result X E → Type 0 = λ q. Reads view fault q read in subst P e reads
 
-pub ok_from_read : {X Y E : Type 0} (view : X → Y) (fault : E → Fault) (r : Result X E) (read : Result Y Fault) (y : Y) → Reads view fault r read → read ≡ Ok y → (x : X) × (r ≡ Ok x) × (view x ≡ y)
+pub ok_from_read : {X Y E : Type 0} (view : X → Y) (fault : E → FumenFault) (r : Result X E) (read : Result Y FumenFault) (y : Y) → Reads view fault r read → read ≡ Ok y → (x : X) × (r ≡ Ok x) × (view x ≡ y)
 ok_from_read view fault (Ok x) read y reads e = let same = sym reads ∙ e in (x, refl, cc)
 ok_from_read view fault (Err d) read y reads e = absurd (let bad = sym reads ∙ e in cc)
 
-pub err_from_read : {X Y E : Type 0} (view : X → Y) (fault : E → Fault) (r : Result X E) (read : Result Y Fault) (f : Fault) → Reads view fault r read → read ≡ Err f → (d : E) × (r ≡ Err d) × (fault d ≡ f)
+pub err_from_read : {X Y E : Type 0} (view : X → Y) (fault : E → FumenFault) (r : Result X E) (read : Result Y FumenFault) (f : FumenFault) → Reads view fault r read → read ≡ Err f → (d : E) × (r ≡ Err d) × (fault d ≡ f)
 err_from_read view fault (Ok x) read f reads e = absurd (let bad = sym reads ∙ e in cc)
 err_from_read view fault (Err d) read f reads e = let same = sym reads ∙ e in (d, refl, cc)
 
@@ -31,13 +32,13 @@ same_digit_fault (digit.Truncated j) (digit.Truncated k) e = let same : j ≡ k 
 
 -- ---- a reader that takes memory
 
-pub gives_found : {X Y E : Type 0} (view : X → Y) (fault : E → Fault) (P : Y → Type 0) (r : Result X (Refused E)) (read : Result Y Fault) → ((y : Y) → read ≡ Ok y → P y) → Gives view fault r read → IfOk r (λ x. P (view x))
+pub gives_found : {X Y E : Type 0} (view : X → Y) (fault : E → FumenFault) (P : Y → Type 0) (r : Result X (Refused E)) (read : Result Y FumenFault) → ((y : Y) → read ≡ Ok y → P y) → Gives view fault r read → IfOk r (λ x. P (view x))
 gives_found view fault P (Ok x) read means gives = means (view x) gives
 gives_found view fault P (Err e) read means gives = tt
 
-pub gives_fault : {X Y E : Type 0} (view : X → Y) (fault : E → Fault) (r : Result X (Refused E)) (read : Result Y Fault) (d : E) → Gives view fault r read → r ≡ Err (refused.Fault d) → read ≡ Err (fault d)
+pub gives_fault : {X Y E : Type 0} (view : X → Y) (fault : E → FumenFault) (r : Result X (Refused E)) (read : Result Y FumenFault) (d : E) → Gives view fault r read → r ≡ Err (refused.Fault d) → read ≡ Err (fault d)
 gives_fault {X = X} {E = E} view fault r read d gives e =
     let P : Result X (Refused E) → Type 0 = λ q. Gives view fault q read in subst P e gives
 
-pub gives_same : {X Y E : Type 0} (view : X → Y) (fault : E → Fault) (r : Result X (Refused E)) (read other : Result Y Fault) → read ≡ other → Gives view fault r read → Gives view fault r other
+pub gives_same : {X Y E : Type 0} (view : X → Y) (fault : E → FumenFault) (r : Result X (Refused E)) (read other : Result Y FumenFault) → read ≡ other → Gives view fault r read → Gives view fault r other
 gives_same view fault r read other same gives = subst (λ q. Gives view fault r q) same gives

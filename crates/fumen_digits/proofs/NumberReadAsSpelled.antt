@@ -3,10 +3,11 @@ use Rattle.std.proofs.Common.{◌≡◌, ℕ, zero, suc, ◌+◌, ◌*◌, ◌/�
 use Rattle.std.specs.Option.{ok_or}
 use Rattle.std.proofs.Math.Nat.{pow-succ'}
 use Rattle.std.proofs.lemmas.Bool.{cases_lt, lt-ltb, le-ltb}
-use Rattle.fumen_digits.specs.Digit.{digit, value_of, IsDigit, AreDigits}
+use Rattle.fumen_digits.specs.Digit.{digit, digit_value, IsDigit, AreDigits}
 use Rattle.fumen_digits.specs.Number.{digits, Stands, NumberStands, IsBadDigit, IsTruncated}
-use Rattle.fumen_digits.specs.Fault.{Fault, IsNumberFault}
-use Rattle.fumen_digits.specs.Fault.Fault.{NoFumen, BadDigit, Truncated, RunPastEnd, BadCell, BadAction, PieceOutside, BadComment, TooManyPages}
+use Rattle.fumen_digits.specs.declared.fault.FumenFault.{FumenFault}
+use Rattle.fumen_digits.specs.Fault.{IsNumberFault}
+use Rattle.fumen_digits.specs.declared.fault.FumenFault.TheVariants.{NoFumen, BadDigit, Truncated, RunPastEnd, BadCell, BadAction, PieceOutside, BadComment, TooManyPages}
 use Rattle.fumen_digits.specs.Reading.{◌>>=◌, value_at, number_from, number_at}
 use Rattle.fumen_digits.proofs.DigitTable.{value_of_digit, digit_of_value}
 use Rattle.fumen_digits.proofs.Binds.{bind_ok, bind_err, ok_bind, err_bind}
@@ -17,7 +18,7 @@ use Rattle.fumen_digits.proofs.Standing.{Stands-nil, Stands-head, Stands-cons}
 abbrev byte_at : List ℕ → ℕ → ℕ
 byte_at ds place = get_or ds place 0
 
-value_at_inside : (ds : List ℕ) (start place : ℕ) → place < length ds → value_at ds start place ≡ ok_or (value_of (byte_at ds place)) (BadDigit place)
+value_at_inside : (ds : List ℕ) (start place : ℕ) → place < length ds → value_at ds start place ≡ ok_or (digit_value (byte_at ds place)) (BadDigit place)
 unfolding value_at
 value_at_inside ds start place lt = rw (lt-ltb place (length ds) lt) refl
 
@@ -25,11 +26,11 @@ value_at_past : (ds : List ℕ) (start place : ℕ) → length ds ≤ place → 
 unfolding value_at
 value_at_past ds start place le = rw (le-ltb place (length ds) le) refl
 
-ok_or_some : (o : Option ℕ) (e : Fault) (v : ℕ) → ok_or o e ≡ Ok v → o ≡ Some v
+ok_or_some : (o : Option ℕ) (e : FumenFault) (v : ℕ) → ok_or o e ≡ Ok v → o ≡ Some v
 ok_or_some None e v is = absurd cc
 ok_or_some (Some x) e v is = let same : x ≡ v = cc in ap (λ (n : ℕ). Some n) same
 
-ok_or_none : (o : Option ℕ) (e d : Fault) → ok_or o e ≡ Err d → (o ≡ None) × (d ≡ e)
+ok_or_none : (o : Option ℕ) (e d : FumenFault) → ok_or o e ≡ Err d → (o ≡ None) × (d ≡ e)
 ok_or_none None e d is = (refl, let same : d ≡ e = cc in same)
 ok_or_none (Some x) e d is = absurd cc
 
@@ -43,7 +44,7 @@ value_at_ok : (ds : List ℕ) (start place v : ℕ) → value_at ds start place 
 value_at_ok ds start place v e =
     elim (cases_lt place (length ds)) [
       | inl lt ↦
-          let is = ok_or_some (value_of (byte_at ds place)) (BadDigit place) v (sym (value_at_inside ds start place lt) ∙ e) in
+          let is = ok_or_some (digit_value (byte_at ds place)) (BadDigit place) v (sym (value_at_inside ds start place lt) ∙ e) in
           let d = digit_of_value (byte_at ds place) v is in
           record { lt = lt; small = d.0; byte = sym d.1 }
       | inr le ↦ absurd (let bad = sym (value_at_past ds start place le) ∙ e in cc)
@@ -51,31 +52,31 @@ value_at_ok ds start place v e =
 
 value_at_here : (ds : List ℕ) (start place v : ℕ) → Here ds place v → value_at ds start place ≡ Ok v
 value_at_here ds start place v h =
-    value_at_inside ds start place h.lt ∙ ap (λ (o : Option ℕ). ok_or o (BadDigit place)) (ap value_of h.byte ∙ value_of_digit v h.small)
+    value_at_inside ds start place h.lt ∙ ap (λ (o : Option ℕ). ok_or o (BadDigit place)) (ap digit_value h.byte ∙ value_of_digit v h.small)
 
 -- why the byte at a place has no value
-abbrev Missing : List ℕ → ℕ → ℕ → Fault → Type 0
+abbrev Missing : List ℕ → ℕ → ℕ → FumenFault → Type 0
 Missing ds start place f =
     ((place < length ds) × (IsDigit (byte_at ds place) → ⊥) × (f ≡ BadDigit place)) ⊎ ((length ds ≤ place) × (f ≡ Truncated start))
 
-value_at_err : (ds : List ℕ) (start place : ℕ) (f : Fault) → value_at ds start place ≡ Err f → Missing ds start place f
+value_at_err : (ds : List ℕ) (start place : ℕ) (f : FumenFault) → value_at ds start place ≡ Err f → Missing ds start place f
 value_at_err ds start place f e =
     elim (cases_lt place (length ds)) [
       | inl lt ↦
-          let is = ok_or_none (value_of (byte_at ds place)) (BadDigit place) f (sym (value_at_inside ds start place lt) ∙ e) in
-          inl (lt, λ d. absurd (let both : None ≡ Some d.0 = sym is.0 ∙ (ap value_of d.2 ∙ value_of_digit d.0 d.1) in cc), is.1)
+          let is = ok_or_none (digit_value (byte_at ds place)) (BadDigit place) f (sym (value_at_inside ds start place lt) ∙ e) in
+          inl (lt, λ d. absurd (let both : None ≡ Some d.0 = sym is.0 ∙ (ap digit_value d.2 ∙ value_of_digit d.0 d.1) in cc), is.1)
       | inr le ↦ inr (le, let same = sym (value_at_past ds start place le) ∙ e in cc)
     ]
 
-no_value : (b : ℕ) → (IsDigit b → ⊥) → (o : Option ℕ) → value_of b ≡ o → value_of b ≡ None
+no_value : (b : ℕ) → (IsDigit b → ⊥) → (o : Option ℕ) → digit_value b ≡ o → digit_value b ≡ None
 no_value b not None e = e
 no_value b not (Some v) e = let d = digit_of_value b v e in absurd (not (v, d.0, sym d.1))
 
-value_at_missing : (ds : List ℕ) (start place : ℕ) (f : Fault) → Missing ds start place f → value_at ds start place ≡ Err f
+value_at_missing : (ds : List ℕ) (start place : ℕ) (f : FumenFault) → Missing ds start place f → value_at ds start place ≡ Err f
 value_at_missing ds start place f (inl m) =
-    let none = no_value (byte_at ds place) m.1 (value_of (byte_at ds place)) refl in
-    value_at_inside ds start place m.0 ∙ (ap (λ (o : Option ℕ). ok_or o (BadDigit place)) none ∙ ap (λ (d : Fault). Err d) (sym m.2))
-value_at_missing ds start place f (inr m) = value_at_past ds start place m.0 ∙ ap (λ (d : Fault). Err d) (sym m.1)
+    let none = no_value (byte_at ds place) m.1 (digit_value (byte_at ds place)) refl in
+    value_at_inside ds start place m.0 ∙ (ap (λ (o : Option ℕ). ok_or o (BadDigit place)) none ∙ ap (λ (d : FumenFault). Err d) (sym m.2))
+value_at_missing ds start place f (inr m) = value_at_past ds start place m.0 ∙ ap (λ (d : FumenFault). Err d) (sym m.1)
 
 -- ---- a number that is read
 
@@ -125,7 +126,7 @@ read_from_stands ds start place (suc count) n s =
 -- ---- the fault that is met first
 
 -- the fault of a number that begins at start, from a place in it on
-abbrev pub IsFaultFrom : List ℕ → ℕ → ℕ → ℕ → Fault → Type 0
+abbrev pub IsFaultFrom : List ℕ → ℕ → ℕ → ℕ → FumenFault → Type 0
 IsFaultFrom ds start place count f =
     ((there : ℕ) × IsBadDigit ds place count there × (f ≡ BadDigit there)) ⊎ (IsTruncated ds place count × (f ≡ Truncated start))
 
@@ -149,18 +150,18 @@ truncated_more ds place count v here cut =
       short = omega (arith, cut.short);
     }
 
-missing_here : (ds : List ℕ) (start place count : ℕ) (f : Fault) → place ≤ length ds → Missing ds start place f → IsFaultFrom ds start place (suc count) f
+missing_here : (ds : List ℕ) (start place count : ℕ) (f : FumenFault) → place ≤ length ds → Missing ds start place f → IsFaultFrom ds start place (suc count) f
 missing_here ds start place count f le (inl m) =
     inl (place, record { front = []; digits_stand = Stands-nil ds place le; each = tt; early = omega arith; there = m.0; none = m.1 }, m.2)
 missing_here ds start place count f le (inr m) =
     let end : place ≡ length ds = omega (arith, m.0) in
     inr (record { front = []; digits_stand = subst (λ (j : ℕ). Stands ds place [] j) end (Stands-nil ds place le); each = tt; short = omega arith }, m.1)
 
-fault_more : (ds : List ℕ) (start place count v : ℕ) (f : Fault) → Here ds place v → IsFaultFrom ds start (place + 1) count f → IsFaultFrom ds start place (suc count) f
+fault_more : (ds : List ℕ) (start place count v : ℕ) (f : FumenFault) → Here ds place v → IsFaultFrom ds start (place + 1) count f → IsFaultFrom ds start place (suc count) f
 fault_more ds start place count v f here (inl bad) = inl (bad.0, bad_more ds place count v bad.0 here bad.1, bad.2)
 fault_more ds start place count v f here (inr cut) = inr (truncated_more ds place count v here cut.0, cut.1)
 
-pub fault_from_read : (ds : List ℕ) (start place count : ℕ) (f : Fault) → place ≤ length ds → number_from ds start place count ≡ Err f → IsFaultFrom ds start place count f
+pub fault_from_read : (ds : List ℕ) (start place count : ℕ) (f : FumenFault) → place ≤ length ds → number_from ds start place count ≡ Err f → IsFaultFrom ds start place count f
 unfolding number_from
 fault_from_read ds start place zero f le e = absurd cc
 fault_from_read ds start place (suc count) f le e =
@@ -182,13 +183,13 @@ bad_cases ds place there (x ∷ behind) s each =
     let parts = Stands-head ds place x behind there s in
     inr (each.0.0, behind, record { lt = parts.0; small = each.0.1; byte = parts.1 ∙ each.0.2 }, parts.2, each.1)
 
-read_digit_fault : (ds : List ℕ) (start place count v : ℕ) (f : Fault) → Here ds place v → number_from ds start (place + 1) count ≡ Err f → number_from ds start place (suc count) ≡ Err f
+read_digit_fault : (ds : List ℕ) (start place count v : ℕ) (f : FumenFault) → Here ds place v → number_from ds start (place + 1) count ≡ Err f → number_from ds start place (suc count) ≡ Err f
 unfolding number_from
 read_digit_fault ds start place count v f here above =
     ok_bind (value_at ds start place) (λ value. number_from ds start (place + 1) count >>= λ high. Ok (value + 64 * high)) v (value_at_here ds start place v here)
     ∙ err_bind (number_from ds start (place + 1) count) (λ high. Ok (v + 64 * high)) f above
 
-read_missing : (ds : List ℕ) (start place count : ℕ) (f : Fault) → Missing ds start place f → number_from ds start place (suc count) ≡ Err f
+read_missing : (ds : List ℕ) (start place count : ℕ) (f : FumenFault) → Missing ds start place f → number_from ds start place (suc count) ≡ Err f
 unfolding number_from
 read_missing ds start place count f m =
     err_bind (value_at ds start place) (λ value. number_from ds start (place + 1) count >>= λ high. Ok (value + 64 * high)) f (value_at_missing ds start place f m)
@@ -214,14 +215,14 @@ read_from_truncated ds start place (suc count) cut =
 
 -- ---- a number at its own place
 
-pub number_fault_from_read : (ds : List ℕ) (place count : ℕ) (f : Fault) → place ≤ length ds → number_at ds place count ≡ Err f → IsNumberFault ds place count f
+pub number_fault_from_read : (ds : List ℕ) (place count : ℕ) (f : FumenFault) → place ≤ length ds → number_at ds place count ≡ Err f → IsNumberFault ds place count f
 number_fault_from_read ds place count f le e =
     elim (fault_from_read ds place place count f le e) [
-      | inl bad ↦ subst (λ (d : Fault). IsNumberFault ds place count d) (sym bad.2) bad.1
-      | inr cut ↦ subst (λ (d : Fault). IsNumberFault ds place count d) (sym cut.1) (refl, cut.0)
+      | inl bad ↦ subst (λ (d : FumenFault). IsNumberFault ds place count d) (sym bad.2) bad.1
+      | inr cut ↦ subst (λ (d : FumenFault). IsNumberFault ds place count d) (sym cut.1) (refl, cut.0)
     ]
 
-pub read_from_number_fault : (ds : List ℕ) (place count : ℕ) (f : Fault) → IsNumberFault ds place count f → number_at ds place count ≡ Err f
+pub read_from_number_fault : (ds : List ℕ) (place count : ℕ) (f : FumenFault) → IsNumberFault ds place count f → number_at ds place count ≡ Err f
 read_from_number_fault ds place count (BadDigit there) fault = read_from_bad ds place place count there fault
 read_from_number_fault ds place count (Truncated begin) fault =
     read_from_truncated ds place place count fault.1 ∙ ap (λ (k : ℕ). Err (Truncated k)) (sym fault.0)

@@ -1,12 +1,12 @@
 -- Reading a number digit by digit, as a loop does.
 use Rattle.std.proofs.Common.{◌≡◌, ℕ, suc, ◌+◌, ◌-◌, ◌*◌, ◌^◌, ◌<◌, ◌≤◌, List, Result, Ok, Err, refl, sym, ap, ◌∙◌, arith}
 use Rattle.std.proofs.Math.Nat.{pow-succ', pow-le-pow_right, mul-le-mul_left, mul-suc}
-use Rattle.fumen_digits.specs.Fault.{Fault}
+use Rattle.fumen_digits.specs.declared.fault.FumenFault.{FumenFault}
 use Rattle.fumen_digits.specs.Reading.{◌>>=◌, value_at, number_from, number_at}
 use Rattle.fumen_digits.proofs.Binds.{ok_bind, err_bind}
 
 -- the number of the digits read so far, and of those above them
-abbrev pub with_low : ℕ → ℕ → Result ℕ Fault → Result ℕ Fault
+abbrev pub with_low : ℕ → ℕ → Result ℕ FumenFault → Result ℕ FumenFault
 with_low number weight read = read >>= λ high. Ok (number + weight * high)
 
 -- so many digits are read, and what is left completes the number
@@ -15,7 +15,7 @@ pub record IsSoFar (ds : List ℕ) (place count i number weight : ℕ) : Type 0 
   pub below : number < weight
   pub completes : with_low number weight (number_from ds place (place + i) (count - i)) ≡ number_at ds place count
 
-regroup : (number weight value : ℕ) (read : Result ℕ Fault) → with_low number weight (read >>= λ high. Ok (value + 64 * high)) ≡ with_low (number + weight * value) (weight * 64) read
+regroup : (number weight value : ℕ) (read : Result ℕ FumenFault) → with_low number weight (read >>= λ high. Ok (value + 64 * high)) ≡ with_low (number + weight * value) (weight * 64) read
 regroup number weight value (Ok x) = let is : number + weight * (value + 64 * x) ≡ number + weight * value + weight * 64 * x = grind arith in ap (λ (n : ℕ). Ok n) is
 regroup number weight value (Err f) = refl
 
@@ -52,15 +52,15 @@ goes_on ds place count i number weight value lt most small read s =
     record {
       weight_is = omega (arith, power, s.weight_is);
       below = (fits ds place count i number weight value lt most small s).1;
-      completes = sym (regroup number weight value rest) ∙ (ap (λ (r : Result ℕ Fault). with_low number weight r) (sym (read_digit ds place count i value lt read)) ∙ s.completes);
+      completes = sym (regroup number weight value rest) ∙ (ap (λ (r : Result ℕ FumenFault). with_low number weight r) (sym (read_digit ds place count i value lt read)) ∙ s.completes);
     }
 
-pub stops : (ds : List ℕ) (place count i number weight : ℕ) (f : Fault) → i < count → value_at ds place (place + i) ≡ Err f → IsSoFar ds place count i number weight → number_at ds place count ≡ Err f
+pub stops : (ds : List ℕ) (place count i number weight : ℕ) (f : FumenFault) → i < count → value_at ds place (place + i) ≡ Err f → IsSoFar ds place count i number weight → number_at ds place count ≡ Err f
 unfolding number_from
 stops ds place count i number weight f lt read s =
     let k : count - i ≡ suc (count - (i + 1)) = omega arith in
     let failed : number_from ds place (place + i) (count - i) ≡ Err f = rw k (err_bind (value_at ds place (place + i)) (λ v. number_from ds place (place + i + 1) (count - (i + 1)) >>= λ high. Ok (v + 64 * high)) f read) in
-    sym s.completes ∙ ap (λ (r : Result ℕ Fault). with_low number weight r) failed
+    sym s.completes ∙ ap (λ (r : Result ℕ FumenFault). with_low number weight r) failed
 
 pub is_read : (ds : List ℕ) (place count i number weight : ℕ) → count ≤ i → IsSoFar ds place count i number weight → number_at ds place count ≡ Ok number
 unfolding number_from
@@ -68,4 +68,4 @@ is_read ds place count i number weight le s =
     let k : count - i ≡ 0 = omega arith in
     let none : number_from ds place (place + i) (count - i) ≡ Ok 0 = rw k refl in
     let is : number + weight * 0 ≡ number = omega arith in
-    sym s.completes ∙ (ap (λ (r : Result ℕ Fault). with_low number weight r) none ∙ ap (λ (n : ℕ). Ok n) is)
+    sym s.completes ∙ (ap (λ (r : Result ℕ FumenFault). with_low number weight r) none ∙ ap (λ (n : ℕ). Ok n) is)

@@ -3,25 +3,25 @@ use Rattle.std.proofs.Common.{◌≡◌, ◌∷◌, ◌++◌, replicate, Some, N
 use Rattle.std.specs.Prelude.{codes}
 use Rattle.fumen_digits.specs.declared.dialect.Dialect.TheVariants.{V110, V115}
 use Rattle.fumen_digits.specs.Number.{digits}
-use Rattle.fumen_digits.specs.Fault.Fault.{BadDigit, Truncated}
+use Rattle.fumen_digits.specs.declared.fault.FumenFault.TheVariants.{BadDigit, Truncated}
 use Rattle.fumen_digits.specs.Reading.{number_at, number_from, value_at}
 use Rattle.fumen_digits.specs.Framing.{digits_in, broken, kept}
-use Rattle.fumen_digits.specs.Digit.{digit, value_of}
+use Rattle.fumen_digits.specs.Digit.{digit, digit_value}
 
 written : digits 2 2159 ≡ codes "vh"
 unfolding digits digit
 written = refl
 
 read : number_at (codes "AvhA") 1 2 ≡ Ok 2159
-unfolding number_from value_at value_of
+unfolding number_from value_at digit_value
 read = refl
 
 truncated : number_at (codes "v") 0 2 ≡ Err (Truncated 0)
-unfolding number_from value_at value_of
+unfolding number_from value_at digit_value
 truncated = refl
 
 bad : number_at (codes "v-") 0 2 ≡ Err (BadDigit 1)
-unfolding number_from value_at value_of
+unfolding number_from value_at digit_value
 bad = refl
 
 no_fumen : digits_in (codes "V115@ v114@") ≡ None

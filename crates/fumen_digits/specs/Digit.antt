@@ -11,8 +11,8 @@ unfoldable pub digit : ℕ → ℕ
 digit value = slice_index alphabet value
 
 -- the value of a digit, and nothing for another byte
-unfoldable pub value_of : ℕ → Option ℕ
-value_of byte = position (λ d. d == byte) alphabet
+unfoldable pub digit_value : ℕ → Option ℕ
+digit_value byte = position (λ d. d == byte) alphabet
 
 -- one of the 64
 abbrev pub IsDigit : ℕ → Type 0

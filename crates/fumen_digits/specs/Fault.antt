@@ -1,28 +1,18 @@
--- The faults of a fumen text, for all crates that read one. A place is an index among the digits, a page is counted
--- from 1.
+-- The fault of a number, as one of a fumen text. A place is an index among the digits.
 use Rattle.std.specs.Prelude.{◌≡◌, ℕ, List}
+use Rattle.fumen_digits.specs.declared.fault.FumenFault.{FumenFault}
+use Rattle.fumen_digits.specs.declared.fault.FumenFault.TheVariants.{BadDigit, Truncated}
 use Rattle.fumen_digits.specs.declared.number.DigitFault.{DigitFault}
 use Rattle.fumen_digits.specs.declared.number.DigitFault.TheVariants as fault
 use Rattle.fumen_digits.specs.Number.{IsBadDigit, IsTruncated}
 
-pub data Fault : Type 0 where
-  NoFumen : Fault
-  BadDigit : (place : ℕ) → Fault
-  Truncated : (place : ℕ) → Fault
-  RunPastEnd : (place : ℕ) → Fault
-  BadCell : (place : ℕ) → Fault
-  BadAction : (place : ℕ) → Fault
-  PieceOutside : (page : ℕ) → Fault
-  BadComment : (place : ℕ) → Fault
-  TooManyPages : Fault
-
 -- the fault that the number of this count of digits at a place meets first
-abbrev pub IsNumberFault : List ℕ → ℕ → ℕ → Fault → Type 0
+abbrev pub IsNumberFault : List ℕ → ℕ → ℕ → FumenFault → Type 0
 IsNumberFault ds place count (BadDigit bad) = IsBadDigit ds place count bad
 IsNumberFault ds place count (Truncated begin) = (begin ≡ place) × IsTruncated ds place count
 IsNumberFault ds place count other = ⊥
 
 -- a fault of one number among those of a text
-abbrev pub digit_fault : DigitFault → Fault
+abbrev pub digit_fault : DigitFault → FumenFault
 digit_fault (fault.Bad place) = BadDigit place
 digit_fault (fault.Truncated place) = Truncated place

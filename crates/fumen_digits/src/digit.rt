@@ -1,6 +1,6 @@
 // One digit and its value.
 ghost use Rattle.std.specs.Prelude.{◌≡◌, ◌<◌, IfSome};
-ghost use Rattle.fumen_digits.specs.Digit.{digit, value_of};
+ghost use Rattle.fumen_digits.specs.Digit.{digit, digit_value};
 
 /// The digit of a value below 64: fumen has `A-Z`, `a-z`, `0-9`, `+` and `/`, in this order.
 #[tactic(auto, using(crate::proofs::DigitTable::digit_by_range))]
@@ -20,7 +20,7 @@ pub fn digit_of(value: u8) -> u8
 /// The value of a digit, or None where the byte is no digit.
 #[tactic(auto, using(crate::proofs::DigitTable::value_by_range))]
 pub fn digit_value(byte: u8) -> Option<u8>
-    ensures value { result ≡ value_of byte }
+    ensures value { result ≡ digit_value byte }
     ensures small { IfSome result (λ value. value < 64) }
 {
     match byte {

@@ -13,7 +13,7 @@ use Rattle.srs.specs.declared.placement.Placement.{Placement}
 use Rattle.srs.specs.Cells.{Cell, cells_of}
 use Rattle.srs.proofs.CallerLemmas.{cells_length}
 use Rattle.fumen_pages.specs.Cells.{missing_count, place_of}
-use Rattle.fumen_pages.specs.Next.{Rows, rows_in, rows_of, empty_row, marked, is_full_page_row, without_full, cleared, risen, mirrored}
+use Rattle.fumen_pages.specs.Next.{Rows, rows_in, rows_of, empty_row, marked, is_full_page_row, without_full, cleared, risen, mirrored_rows}
 use Rattle.fumen_pages.proofs.RowLaws.{flat, IsRow, length-flat, length-rows_in, rows_in_more, rows_in-flat, rows_in-front, IsDone, length-done, done_starts, old_row, row_there, done_more, done_lowered}
 
 -- ---- the cells of the operation
@@ -251,7 +251,7 @@ unfolding rows_of
 field_is dialect old i all = ap (λ (n : ℕ). rows_in n (drop (missing_count dialect) old)) all
 
 pub mirrored_all : (dialect : Dialect) (old page : List ℕ) (i : ℕ) → length old ≡ 240 → i ≡ page_row_count dialect → IsDone old page (missing_count dialect) i (mirrored_so_far dialect old i)
-    → (rows_of dialect page ≡ mirrored true (rows_of dialect old)) × (take (missing_count dialect) page ≡ take (missing_count dialect) old)
+    → (rows_of dialect page ≡ mirrored_rows true (rows_of dialect old)) × (take (missing_count dialect) page ≡ take (missing_count dialect) old)
 mirrored_all dialect old page i size all s =
     let done = rows_done dialect old page i (mirrored_so_far dialect old i) size all s in
     let garbage = (rows_of dialect old).garbage in

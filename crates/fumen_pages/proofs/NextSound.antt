@@ -18,7 +18,7 @@ use Rattle.fumen_pages.specs.declared.page.Page.{Page}
 use Rattle.fumen_pages.specs.Cells.{IsColour, missing_count, shown, AreCells, place_of}
 use Rattle.fumen_pages.specs.Action.{in_rows, is_inside_in}
 use Rattle.fumen_pages.specs.Sound.{IsSound}
-use Rattle.fumen_pages.specs.Next.{Rows, rows_in, rows_of, cells_of_rows, empty_row, marked, operation_filled, is_full_page_row, without_full, cleared, risen, mirrored, next}
+use Rattle.fumen_pages.specs.Next.{Rows, rows_in, rows_of, cells_of_rows, empty_row, marked, operation_filled, is_full_page_row, without_full, cleared, risen, mirrored_rows, next}
 use Rattle.fumen_pages.proofs.InsideLaws.{in_rows-place}
 use Rattle.fumen_pages.proofs.RowLaws.{flat, flat-rows_in, length-rows_in}
 use Rattle.fumen_pages.proofs.NextLaws.{rows_end, kept_least}
@@ -101,7 +101,7 @@ reverse-good row good = (
       subst IsColour (sym (get_or-reverse row i 0 inside)) (All-get_or IsColour row (length row - 1 - i) 0 there good.1)),
 )
 
-mirrored-good : (dialect : Dialect) (mirror : Bool) (rows : Rows) → AreRowsOf dialect rows → AreRowsOf dialect (mirrored mirror rows)
+mirrored-good : (dialect : Dialect) (mirror : Bool) (rows : Rows) → AreRowsOf dialect rows → AreRowsOf dialect (mirrored_rows mirror rows)
 mirrored-good dialect false rows good = good
 mirrored-good dialect true rows good =
     record {
@@ -201,12 +201,12 @@ filled-painted dialect (Some p) before inside =
 next_kept : (dialect : Dialect) (page : Page) → page.lock ≡ false → next dialect page ≡ page.cells
 unfolding next
 next_kept dialect page open_page =
-    ap (λ (b : Bool). cond b (cells_of_rows dialect (mirrored page.mirror (risen page.rise (cleared (rows_of dialect (operation_filled page.operation page.cells)))))) page.cells) open_page
+    ap (λ (b : Bool). cond b (cells_of_rows dialect (mirrored_rows page.mirror (risen page.rise (cleared (rows_of dialect (operation_filled page.operation page.cells)))))) page.cells) open_page
 
-next_locked : (dialect : Dialect) (page : Page) → page.lock ≡ true → next dialect page ≡ cells_of_rows dialect (mirrored page.mirror (risen page.rise (cleared (rows_of dialect (operation_filled page.operation page.cells)))))
+next_locked : (dialect : Dialect) (page : Page) → page.lock ≡ true → next dialect page ≡ cells_of_rows dialect (mirrored_rows page.mirror (risen page.rise (cleared (rows_of dialect (operation_filled page.operation page.cells)))))
 unfolding next
 next_locked dialect page locked =
-    ap (λ (b : Bool). cond b (cells_of_rows dialect (mirrored page.mirror (risen page.rise (cleared (rows_of dialect (operation_filled page.operation page.cells)))))) page.cells) locked
+    ap (λ (b : Bool). cond b (cells_of_rows dialect (mirrored_rows page.mirror (risen page.rise (cleared (rows_of dialect (operation_filled page.operation page.cells)))))) page.cells) locked
 
 -- a sound page leaves cells of the dialect
 pub next_cells_sound : (dialect : Dialect) (page : Page) → IsSound dialect page → AreCells dialect (next dialect page)
@@ -228,9 +228,9 @@ left_open dialect page e = sym (next_kept dialect page e)
 pub left_locked : (dialect : Dialect) (page : Page) (a b c d : List ℕ) → IsSound dialect page → page.lock ≡ true → length d ≡ 240 → a ≡ operation_filled page.operation page.cells
     → rows_of dialect b ≡ cleared (rows_of dialect a) → take (missing_count dialect) b ≡ take (missing_count dialect) a
     → rows_of dialect c ≡ risen page.rise (rows_of dialect b) → take (missing_count dialect) c ≡ take (missing_count dialect) b
-    → rows_of dialect d ≡ mirrored page.mirror (rows_of dialect c) → take (missing_count dialect) d ≡ take (missing_count dialect) c → d ≡ next dialect page
+    → rows_of dialect d ≡ mirrored_rows page.mirror (rows_of dialect c) → take (missing_count dialect) d ≡ take (missing_count dialect) c → d ≡ next dialect page
 left_locked dialect page a b c d sound locked size fill clear clear_kept rise rise_kept mirror mirror_kept =
     let painted = filled-painted dialect page.operation page.cells sound.inside in
     let empty : take (missing_count dialect) d ≡ replicate (missing_count dialect) 0 = mirror_kept ∙ (rise_kept ∙ (clear_kept ∙ (ap (λ (xs : List ℕ). take (missing_count dialect) xs) fill ∙ (painted.missing ∙ sound.cells.missing)))) in
-    let rows : rows_of dialect d ≡ mirrored page.mirror (risen page.rise (cleared (rows_of dialect (operation_filled page.operation page.cells)))) = mirror ∙ ap (λ (r : Rows). mirrored page.mirror r) (rise ∙ ap (λ (r : Rows). risen page.rise r) (clear ∙ ap (λ (xs : List ℕ). cleared (rows_of dialect xs)) fill)) in
+    let rows : rows_of dialect d ≡ mirrored_rows page.mirror (risen page.rise (cleared (rows_of dialect (operation_filled page.operation page.cells)))) = mirror ∙ ap (λ (r : Rows). mirrored_rows page.mirror r) (rise ∙ ap (λ (r : Rows). risen page.rise r) (clear ∙ ap (λ (xs : List ℕ). cleared (rows_of dialect xs)) fill)) in
     cells_of_rows-rows_of dialect d size empty ∙ (ap (λ (r : Rows). cells_of_rows dialect r) rows ∙ sym (next_locked dialect page locked))

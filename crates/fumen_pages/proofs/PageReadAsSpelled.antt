@@ -4,7 +4,7 @@ use Rattle.std.specs.Prelude.{IsTrue, is_some}
 use Rattle.std.specs.Option.{ForSome}
 use Rattle.fumen_digits.specs.declared.dialect.Dialect.{Dialect}
 use Rattle.fumen_digits.specs.Number.{digits, Stands, NumberStands}
-use Rattle.fumen_digits.specs.Fault.{Fault}
+use Rattle.fumen_digits.specs.declared.fault.FumenFault.{FumenFault}
 use Rattle.fumen_digits.specs.Reading.{◌>>=◌, number_at}
 use Rattle.fumen_digits.proofs.CallerLemmas.{bind_ok, bind_err, ok_bind, err_bind, length-digits, Stands-nil, Stands-then, Stands-parts, stands_from_read, read_from_stands, number_fault_from_read, read_from_number_fault}
 use Rattle.fumen_comment.specs.Reading.{comment_at}
@@ -33,11 +33,11 @@ seen_ok : (place page : ℕ) (read : Result Action ActionFault) (action : Action
 seen_ok place page (Ok a) action e = let same : a ≡ action = cc in ap (λ (x : Action). Ok x) same
 seen_ok place page (Err f) action e = absurd cc
 
-seen_err : (place page : ℕ) (read : Result Action ActionFault) (f : Fault) → seen_action place page read ≡ Err f → (g : ActionFault) × (read ≡ Err g) × (f ≡ action_fault place page g)
+seen_err : (place page : ℕ) (read : Result Action ActionFault) (f : FumenFault) → seen_action place page read ≡ Err f → (g : ActionFault) × (read ≡ Err g) × (f ≡ action_fault place page g)
 seen_err place page (Ok a) f e = absurd cc
 seen_err place page (Err g) f e = (g, refl, let same : f ≡ action_fault place page g = cc in same)
 
-abbrev seen_at : Dialect → ℕ → ℕ → ℕ → Result Action Fault
+abbrev seen_at : Dialect → ℕ → ℕ → ℕ → Result Action FumenFault
 seen_at dialect page place number = seen_action place page (action_in dialect number)
 
 action_from_read : (dialect : Dialect) (page : ℕ) (ds : List ℕ) (place : ℕ) (action : Action) → place ≤ length ds → action_at dialect page ds place ≡ Ok action → ActionStands dialect ds place action
@@ -61,7 +61,7 @@ record PartStands (has : Bool) (ds : List ℕ) (place : ℕ) (comment : Option (
   spells : SpellsPart comment text
   flagged : is_some comment ≡ has
 
-done_part : (x y : Option (List ℕ) × ℕ) → ◌≡◌ {A = Result (Option (List ℕ) × ℕ) Fault} (Ok x) (Ok y) → x ≡ y
+done_part : (x y : Option (List ℕ) × ℕ) → ◌≡◌ {A = Result (Option (List ℕ) × ℕ) FumenFault} (Ok x) (Ok y) → x ≡ y
 done_part x y e = cc
 
 part_from_read : (has : Bool) (ds : List ℕ) (place : ℕ) (part : Option (List ℕ) × ℕ) → place ≤ length ds → part_at has ds place ≡ Ok part → PartStands has ds place part.0 part.1
@@ -82,7 +82,7 @@ read_from_part None ds place end text stands spells =
 read_from_part (Some units) ds place end text stands spells =
     ok_bind (comment_at ds place) (λ comment. Ok (Some comment.0, comment.1)) (units, end) (read_from_comment ds place units end (record { text = text; stands = stands; spells = spells }))
 
-part_fault_from_read : (has : Bool) (ds : List ℕ) (place : ℕ) (f : Fault) → place ≤ length ds → part_at has ds place ≡ Err f → (has ≡ true) × IsCommentFault ds place f
+part_fault_from_read : (has : Bool) (ds : List ℕ) (place : ℕ) (f : FumenFault) → place ≤ length ds → part_at has ds place ≡ Err f → (has ≡ true) × IsCommentFault ds place f
 unfolding part_at
 part_fault_from_read false ds place f le e = absurd cc
 part_fault_from_read true ds place f le e =
@@ -91,20 +91,20 @@ part_fault_from_read true ds place f le e =
       | inr x ↦ absurd (let never = x.2 in cc)
     ]
 
-read_from_part_fault : (has : Bool) (ds : List ℕ) (place : ℕ) (f : Fault) → has ≡ true → IsCommentFault ds place f → part_at has ds place ≡ Err f
+read_from_part_fault : (has : Bool) (ds : List ℕ) (place : ℕ) (f : FumenFault) → has ≡ true → IsCommentFault ds place f → part_at has ds place ≡ Err f
 unfolding part_at
 read_from_part_fault has ds place f flagged bad =
     ap (λ (b : Bool). part_at b ds place) flagged ∙ err_bind (comment_at ds place) (λ comment. Ok (Some comment.0, comment.1)) f (read_from_comment_fault ds place f bad)
 
 -- ---- the page
 
-done_page : (x y : Page × ℕ) → ◌≡◌ {A = Result (Page × ℕ) Fault} (Ok x) (Ok y) → x ≡ y
+done_page : (x y : Page × ℕ) → ◌≡◌ {A = Result (Page × ℕ) FumenFault} (Ok x) (Ok y) → x ≡ y
 done_page x y e = cc
 
-abbrev then_page : List ℕ → Action → Option (List ℕ) × ℕ → Result (Page × ℕ) Fault
+abbrev then_page : List ℕ → Action → Option (List ℕ) × ℕ → Result (Page × ℕ) FumenFault
 then_page cells action part = Ok (page_of cells action part.0, part.1)
 
-abbrev then_part : List ℕ → List ℕ → ℕ → Action → Result (Page × ℕ) Fault
+abbrev then_part : List ℕ → List ℕ → ℕ → Action → Result (Page × ℕ) FumenFault
 then_part cells ds place action = part_at action.comment ds (place + 3) >>= λ part. then_page cells action part
 
 same_action : (cells : List ℕ) (action : Action) (comment : Option (List ℕ)) → is_some comment ≡ action.comment → action_of (page_of cells action comment) ≡ action
@@ -177,14 +177,14 @@ read_from_page dialect cells number ds place page end same t =
 
 -- ---- faults
 
-fault_of_action : (dialect : Dialect) (page : ℕ) (ds : List ℕ) (place number : ℕ) (f : Fault) (g : ActionFault) → NumberStands ds place 3 number → action_in dialect number ≡ Err g → f ≡ action_fault place page g → IsTailFault dialect page ds place f
+fault_of_action : (dialect : Dialect) (page : ℕ) (ds : List ℕ) (place number : ℕ) (f : FumenFault) (g : ActionFault) → NumberStands ds place 3 number → action_in dialect number ≡ Err g → f ≡ action_fault place page g → IsTailFault dialect page ds place f
 fault_of_action dialect page ds place number f g stands e is =
     elim (why_not dialect number g e) [
       | inl large ↦ inr (inl (record { number = number; stands = stands; large = large.0 }, is ∙ ap (λ (h : ActionFault). action_fault place page h) large.1))
       | inr outside ↦ inr (inr (inl (record { number = number; stands = stands; outside = outside.0 }, is ∙ ap (λ (h : ActionFault). action_fault place page h) outside.1)))
     ]
 
-action_fault_from_read : (dialect : Dialect) (page : ℕ) (ds : List ℕ) (place : ℕ) (f : Fault) → place ≤ length ds → action_at dialect page ds place ≡ Err f → IsTailFault dialect page ds place f
+action_fault_from_read : (dialect : Dialect) (page : ℕ) (ds : List ℕ) (place : ℕ) (f : FumenFault) → place ≤ length ds → action_at dialect page ds place ≡ Err f → IsTailFault dialect page ds place f
 unfolding action_at
 action_fault_from_read dialect page ds place f le e =
     elim (bind_err (number_at ds place 3) (λ number. seen_at dialect page place number) f e) [
@@ -194,7 +194,7 @@ action_fault_from_read dialect page ds place f le e =
           fault_of_action dialect page ds place n.0 f g.0 (stands_from_read ds place place 3 n.0 le n.1) g.1 g.2
     ]
 
-pub tail_fault_from_read : (dialect : Dialect) (cells : List ℕ) (number : ℕ) (ds : List ℕ) (place : ℕ) (f : Fault) → place ≤ length ds → page_at dialect cells number ds place ≡ Err f → IsTailFault dialect number ds place f
+pub tail_fault_from_read : (dialect : Dialect) (cells : List ℕ) (number : ℕ) (ds : List ℕ) (place : ℕ) (f : FumenFault) → place ≤ length ds → page_at dialect cells number ds place ≡ Err f → IsTailFault dialect number ds place f
 unfolding page_at
 tail_fault_from_read dialect cells number ds place f le e =
     elim (bind_err (action_at dialect number ds place) (λ action. then_part cells ds place action) f e) [
@@ -215,15 +215,15 @@ number_fault_read dialect cells number ds place n g stands e =
     err_bind (action_at dialect number ds place) (λ action. then_part cells ds place action) (action_fault place number g)
     (ok_bind (number_at ds place 3) (λ k. seen_at dialect number place k) n (read_from_stands ds place place 3 n stands) ∙ ap (λ (r : Result Action ActionFault). seen_action place number r) e)
 
-pub read_from_tail_fault : (dialect : Dialect) (cells : List ℕ) (number : ℕ) (ds : List ℕ) (place : ℕ) (f : Fault) → IsTailFault dialect number ds place f → page_at dialect cells number ds place ≡ Err f
+pub read_from_tail_fault : (dialect : Dialect) (cells : List ℕ) (number : ℕ) (ds : List ℕ) (place : ℕ) (f : FumenFault) → IsTailFault dialect number ds place f → page_at dialect cells number ds place ≡ Err f
 unfolding page_at action_at
 read_from_tail_fault dialect cells number ds place f (inl bad) =
     err_bind (action_at dialect number ds place) (λ action. then_part cells ds place action) f
     (err_bind (number_at ds place 3) (λ k. seen_at dialect number place k) f (read_from_number_fault ds place 3 f bad))
 read_from_tail_fault dialect cells number ds place f (inr (inl large)) =
-    number_fault_read dialect cells number ds place large.0.number fault.TooLarge large.0.stands (read_from_large dialect large.0.number large.0.large) ∙ ap (λ (g : Fault). Err g) (sym large.1)
+    number_fault_read dialect cells number ds place large.0.number fault.TooLarge large.0.stands (read_from_large dialect large.0.number large.0.large) ∙ ap (λ (g : FumenFault). Err g) (sym large.1)
 read_from_tail_fault dialect cells number ds place f (inr (inr (inl outside))) =
-    number_fault_read dialect cells number ds place outside.0.number fault.Outside outside.0.stands (read_from_outside dialect outside.0.number outside.0.outside) ∙ ap (λ (g : Fault). Err g) (sym outside.1)
+    number_fault_read dialect cells number ds place outside.0.number fault.Outside outside.0.stands (read_from_outside dialect outside.0.number outside.0.outside) ∙ ap (λ (g : FumenFault). Err g) (sym outside.1)
 read_from_tail_fault dialect cells number ds place f (inr (inr (inr due))) =
     let c = due.0 in
     ok_bind (action_at dialect number ds place) (λ action. then_part cells ds place action) c.action (read_from_action dialect number ds place c.action (record { number = c.number; stands = c.stands; says = c.says }))

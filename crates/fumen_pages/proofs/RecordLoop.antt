@@ -10,7 +10,7 @@ use borrow.Rule.Slice.PartMut.{put_mid, mid_of}
 use Rattle.lists.proofs.CallerLemmas.{list_all_each}
 use Rattle.fumen_digits.specs.declared.dialect.Dialect.{Dialect}
 use Rattle.fumen_digits.specs.Dialect.{page_cell_count}
-use Rattle.fumen_digits.specs.Fault.{Fault}
+use Rattle.fumen_digits.specs.declared.fault.FumenFault.{FumenFault}
 use Rattle.fumen_digits.specs.Reading.{◌>>=◌}
 use Rattle.fumen_digits.proofs.CallerLemmas.{ok_bind, err_bind}
 use Rattle.fumen_comment.proofs.CallerLemmas.{with_front, from_nothing, regroup}
@@ -139,7 +139,7 @@ read_more dialect ds place old cells start behind count shift moved k lt behind_
       missing = kept ∙ s.missing;
       completes = ap (λ (xs : List ℕ). with_front xs (runs_at n ds (behind + 2) more.less (drop (start + count) (put_mid start k cells moved)))) shown_front
           ∙ (ap (λ (xs : List ℕ). with_front (drop m front ++ moved_by shift (take count left)) (runs_at n ds (behind + 2) more.less xs)) last
-          ∙ (sym (regroup (drop m front) (moved_by shift (take count left)) after) ∙ (ap (λ (r : Result (List ℕ × ℕ) Fault). with_front (drop m front) r) (sym step) ∙ s.completes)));
+          ∙ (sym (regroup (drop m front) (moved_by shift (take count left)) after) ∙ (ap (λ (r : Result (List ℕ × ℕ) FumenFault). with_front (drop m front) r) (sym step) ∙ s.completes)));
     }
 
 -- whether the record begins with the run that changes no cell
@@ -147,11 +147,11 @@ pub same_front : (dialect : Dialect) (ds : List ℕ) (place : ℕ) (text : List 
 same_front dialect ds place text is =
     ap (λ (xs : List ℕ). starts_with nat_eq xs text) (take_rest ds place) ∙ ap (λ (xs : List ℕ). starts_with nat_eq (drop place ds) xs) is
 
-abbrev pub read_of : Dialect → List ℕ → ℕ → List ℕ × ℕ → Result CellsRead Fault
+abbrev pub read_of : Dialect → List ℕ → ℕ → List ℕ × ℕ → Result CellsRead FumenFault
 read_of dialect ds place new =
     Ok (record { cells = replicate (missing_count dialect) 0 ++ new.0; place = new.1; unchanged = starts_with nat_eq (drop place ds) (unchanged dialect) })
 
-pub read_stops : (dialect : Dialect) (ds : List ℕ) (place : ℕ) (old cells : List ℕ) (start behind : ℕ) (f : Fault) → start < 240 → run_at (page_cell_count dialect) ds behind (rest_cells cells start) ≡ Err f → AreReadSoFar dialect ds place old cells start behind
+pub read_stops : (dialect : Dialect) (ds : List ℕ) (place : ℕ) (old cells : List ℕ) (start behind : ℕ) (f : FumenFault) → start < 240 → run_at (page_cell_count dialect) ds behind (rest_cells cells start) ≡ Err f → AreReadSoFar dialect ds place old cells start behind
     → record_at dialect ds place old ≡ Err f
 unfolding record_at with_front
 read_stops dialect ds place old cells start behind f lt failed_run s =
@@ -160,7 +160,7 @@ read_stops dialect ds place old cells start behind f lt failed_run s =
     let more = one_more s.most start cells s.size lt s.room in
     let read : run_at n ds behind left ≡ Err f = ap (λ (xs : List ℕ). run_at n ds behind xs) (sym (rest_cells-all cells start s.size)) ∙ failed_run in
     let failed : runs_at n ds behind s.most left ≡ Err f = ap (λ (j : ℕ). runs_at n ds behind j left) more.is ∙ (runs_more n ds behind more.less left more.some ∙ err_bind (run_at n ds behind left) (λ run. rest_of n ds behind more.less left run) f read) in
-    err_bind (runs_at n ds place n (shown dialect old)) (λ new. read_of dialect ds place new) f (sym s.completes ∙ ap (λ (r : Result (List ℕ × ℕ) Fault). with_front (drop (missing_count dialect) (take start cells)) r) failed)
+    err_bind (runs_at n ds place n (shown dialect old)) (λ new. read_of dialect ds place new) f (sym s.completes ∙ ap (λ (r : Result (List ℕ × ℕ) FumenFault). with_front (drop (missing_count dialect) (take start cells)) r) failed)
 
 pub read_ends : (dialect : Dialect) (ds : List ℕ) (place : ℕ) (old cells : List ℕ) (start behind : ℕ) (same : Bool) → 240 ≤ start → same ≡ starts_with nat_eq (drop place ds) (unchanged dialect) → AreReadSoFar dialect ds place old cells start behind
     → record_at dialect ds place old ≡ Ok (record { cells = cells; place = behind; unchanged = same })
@@ -170,7 +170,7 @@ read_ends dialect ds place old cells start behind same end is s =
     let n = page_cell_count dialect in
     let none : length (drop start cells) ≡ 0 = length-drop start cells ∙ omega (arith, s.size) in
     let all : take start cells ≡ cells = sym (append-nil (take start cells)) ∙ (ap (λ (xs : List ℕ). take start cells ++ xs) (sym (drop_all start cells (omega (arith, s.size)))) ∙ take-append-drop start cells) in
-    let done : runs_at n ds place n (shown dialect old) ≡ Ok (drop m cells, behind) = sym s.completes ∙ (ap (λ (r : Result (List ℕ × ℕ) Fault). with_front (drop m (take start cells)) r) (runs_none n ds behind s.most (drop start cells) none) ∙ ap (λ (xs : List ℕ). Ok (xs, behind)) (append-nil (drop m (take start cells)) ∙ ap (λ (xs : List ℕ). drop m xs) all)) in
+    let done : runs_at n ds place n (shown dialect old) ≡ Ok (drop m cells, behind) = sym s.completes ∙ (ap (λ (r : Result (List ℕ × ℕ) FumenFault). with_front (drop m (take start cells)) r) (runs_none n ds behind s.most (drop start cells) none) ∙ ap (λ (xs : List ℕ). Ok (xs, behind)) (append-nil (drop m (take start cells)) ∙ ap (λ (xs : List ℕ). drop m xs) all)) in
     let whole : replicate m 0 ++ drop m cells ≡ cells = ap (λ (xs : List ℕ). xs ++ drop m cells) (sym s.missing) ∙ take-append-drop m cells in
     ok_bind (runs_at n ds place n (shown dialect old)) (λ new. read_of dialect ds place new) (drop m cells, behind) done
     ∙ (ap (λ (b : Bool). Ok (record { cells = replicate m 0 ++ drop m cells; place = behind; unchanged = b })) (sym is) ∙ ap (λ (xs : List ℕ). Ok (record { cells = xs; place = behind; unchanged = same })) whole)

@@ -10,11 +10,11 @@ use Rattle.fumen_digits.specs.declared.dialect.Dialect.{Dialect}
 use Rattle.fumen_digits.specs.declared.dialect.Dialect.TheVariants.{V110, V115}
 use Rattle.fumen_digits.specs.Dialect.{page_cell_count}
 use Rattle.fumen_digits.specs.Number.{digits, Stands}
-use Rattle.fumen_digits.specs.Fault.{Fault}
+use Rattle.fumen_digits.specs.declared.fault.FumenFault.{FumenFault}
 use Rattle.fumen_digits.proofs.CallerLemmas.{bind_ok, bind_err, ok_bind, err_bind, length-digits, Stands-is, Stands-same}
 use Rattle.fumen_pages.specs.declared.record.CellsRead.{CellsRead}
 use Rattle.fumen_pages.specs.Cells.{IsColour, missing_count, shown, AreCells}
-use Rattle.fumen_pages.specs.Record.{Run, IsRun, moved_by, stays_colour, run_digits, CutsInto, unchanged, IsRecord}
+use Rattle.fumen_pages.specs.Record.{Run, IsCellRun, moved_by, stays_colour, run_digits, CutsInto, unchanged, IsRecord}
 use Rattle.fumen_pages.specs.Reading.{runs_at, record_at}
 use Rattle.fumen_pages.specs.Faults.{RecordStands, IsRecordFault}
 use Rattle.fumen_pages.proofs.RunsReadAsSpelled.{RunsStand, old_cells, new_cells, runs_from_read, read_from_runs, runs_fault_from_read, read_from_runs_fault}
@@ -49,7 +49,7 @@ record AreMade (old new : List ℕ) : Type 0 where
   size : length new ≡ length old
   colours : All IsColour new
 
-runs_make : (n : ℕ) (runs : List Run) → AllByRecursion (IsRun n) runs → AreMade (old_cells runs) (new_cells runs)
+runs_make : (n : ℕ) (runs : List Run) → AllByRecursion (IsCellRun n) runs → AreMade (old_cells runs) (new_cells runs)
 runs_make n [] each = record { size = refl; colours = All-nil IsColour }
 runs_make n (run ∷ runs) each =
     let rest = runs_make n runs each.1 in
@@ -76,7 +76,7 @@ none-colours (cell ∷ cells) all =
 unfoldable pub whole_run : Dialect → List ℕ → Run
 whole_run dialect old = record { old = shown dialect old; shift = 8 }
 
-whole_run-is : (dialect : Dialect) (old : List ℕ) → AreCells dialect old → IsRun (page_cell_count dialect) (whole_run dialect old)
+whole_run-is : (dialect : Dialect) (old : List ℕ) → AreCells dialect old → IsCellRun (page_cell_count dialect) (whole_run dialect old)
 unfolding whole_run
 whole_run-is dialect old sound =
     let len = shown-length dialect old sound in
@@ -140,10 +140,10 @@ made dialect ds place new =
 same_read : (x y : CellsRead) → x.cells ≡ y.cells → x.place ≡ y.place → x.unchanged ≡ y.unchanged → x ≡ y
 same_read x y a b c = λ i. record { cells = a i; place = b i; unchanged = c i }
 
-done_read : (x y : CellsRead) → ◌≡◌ {A = Result CellsRead Fault} (Ok x) (Ok y) → x ≡ y
+done_read : (x y : CellsRead) → ◌≡◌ {A = Result CellsRead FumenFault} (Ok x) (Ok y) → x ≡ y
 done_read x y e = cc
 
-pub done_pair : (x y : List ℕ × ℕ) → ◌≡◌ {A = Result (List ℕ × ℕ) Fault} (Ok x) (Ok y) → x ≡ y
+pub done_pair : (x y : List ℕ × ℕ) → ◌≡◌ {A = Result (List ℕ × ℕ) FumenFault} (Ok x) (Ok y) → x ≡ y
 done_pair x y e = cc
 
 -- new cells of the dialect
@@ -255,7 +255,7 @@ read_from_record dialect ds place old read sound s = read_from_spelled dialect d
 
 -- ---- faults
 
-pub record_fault_from_read : (dialect : Dialect) (ds : List ℕ) (place : ℕ) (old : List ℕ) (f : Fault) → place ≤ length ds → AreCells dialect old → record_at dialect ds place old ≡ Err f → IsRecordFault dialect ds place old f
+pub record_fault_from_read : (dialect : Dialect) (ds : List ℕ) (place : ℕ) (old : List ℕ) (f : FumenFault) → place ≤ length ds → AreCells dialect old → record_at dialect ds place old ≡ Err f → IsRecordFault dialect ds place old f
 unfolding record_at made
 record_fault_from_read dialect ds place old f le sound e =
     let n = page_cell_count dialect in
@@ -266,7 +266,7 @@ record_fault_from_read dialect ds place old f le sound e =
       | inr x ↦ absurd (let never = x.2 in cc)
     ]
 
-pub read_from_record_fault : (dialect : Dialect) (ds : List ℕ) (place : ℕ) (old : List ℕ) (f : Fault) → AreCells dialect old → IsRecordFault dialect ds place old f → record_at dialect ds place old ≡ Err f
+pub read_from_record_fault : (dialect : Dialect) (ds : List ℕ) (place : ℕ) (old : List ℕ) (f : FumenFault) → AreCells dialect old → IsRecordFault dialect ds place old f → record_at dialect ds place old ≡ Err f
 unfolding record_at made
 read_from_record_fault dialect ds place old f sound bad =
     let n = page_cell_count dialect in

@@ -7,11 +7,11 @@ use Rattle.std.proofs.lemmas.List.{length-take-le, length-drop, length-append, t
 use Rattle.std.proofs.lemmas.Nat.{div-add-mod', mod-mul-add, div-mul-add}
 use Rattle.lists.proofs.CallerLemmas.{list_all_each}
 use Rattle.fumen_digits.specs.Number.{digits, Stands, NumberStands}
-use Rattle.fumen_digits.specs.Fault.{Fault}
-use Rattle.fumen_digits.specs.Fault.Fault.{RunPastEnd, BadCell}
+use Rattle.fumen_digits.specs.declared.fault.FumenFault.{FumenFault}
+use Rattle.fumen_digits.specs.declared.fault.FumenFault.TheVariants.{RunPastEnd, BadCell}
 use Rattle.fumen_digits.specs.Reading.{◌>>=◌, number_at}
 use Rattle.fumen_digits.proofs.CallerLemmas.{bind_ok, bind_err, ok_bind, err_bind, length-digits, Stands-nil, Stands-then, Stands-parts, stands_from_read, read_from_stands, number_fault_from_read, read_from_number_fault}
-use Rattle.fumen_pages.specs.Record.{Run, IsRun, moved_by, stays_colour, run_digits, CutsInto}
+use Rattle.fumen_pages.specs.Record.{Run, IsCellRun, moved_by, stays_colour, run_digits, CutsInto}
 use Rattle.fumen_pages.specs.Reading.{checked_run, run_at, runs_at}
 use Rattle.fumen_pages.specs.Faults.{RunStands, IsRunDue, IsRunFault, IsRunsFault}
 
@@ -54,21 +54,21 @@ shift_of n ds place count shift s =
 checked_ok : (place : ℕ) (left : List ℕ) (count shift : ℕ) (run : ℕ × ℕ) → checked_run place left count shift ≡ Ok run → (count ≤ length left) × (list_all (stays_colour shift) (take count left) ≡ true) × (◌≡◌ {A = ℕ × ℕ} run (count, shift))
 checked_ok place left count shift run e = go (ltb (length left) count) (list_all (stays_colour shift) (take count left)) refl refl e
   where
-    go : (long good : Bool) → ltb (length left) count ≡ long → list_all (stays_colour shift) (take count left) ≡ good → ◌≡◌ {A = Result (ℕ × ℕ) Fault} (cond long (Err (RunPastEnd place)) (cond good (Ok (count, shift)) (Err (BadCell place)))) (Ok run)
+    go : (long good : Bool) → ltb (length left) count ≡ long → list_all (stays_colour shift) (take count left) ≡ good → ◌≡◌ {A = Result (ℕ × ℕ) FumenFault} (cond long (Err (RunPastEnd place)) (cond good (Ok (count, shift)) (Err (BadCell place)))) (Ok run)
         → (count ≤ length left) × (list_all (stays_colour shift) (take count left) ≡ true) × (◌≡◌ {A = ℕ × ℕ} run (count, shift))
     go true good l g r = absurd cc
     go false false l g r = absurd cc
     go false true l g r = (ltb-false (length left) count l, g, cc)
 
 -- why a run is refused
-abbrev RunRefused : ℕ → List ℕ → ℕ → ℕ → Fault → Type 0
+abbrev RunRefused : ℕ → List ℕ → ℕ → ℕ → FumenFault → Type 0
 RunRefused place left count shift f =
     ((length left < count) × (f ≡ RunPastEnd place)) ⊎ ((count ≤ length left) × (list_all (stays_colour shift) (take count left) ≡ false) × (f ≡ BadCell place))
 
-checked_err : (place : ℕ) (left : List ℕ) (count shift : ℕ) (f : Fault) → checked_run place left count shift ≡ Err f → RunRefused place left count shift f
+checked_err : (place : ℕ) (left : List ℕ) (count shift : ℕ) (f : FumenFault) → checked_run place left count shift ≡ Err f → RunRefused place left count shift f
 checked_err place left count shift f e = go (ltb (length left) count) (list_all (stays_colour shift) (take count left)) refl refl e
   where
-    go : (long good : Bool) → ltb (length left) count ≡ long → list_all (stays_colour shift) (take count left) ≡ good → ◌≡◌ {A = Result (ℕ × ℕ) Fault} (cond long (Err (RunPastEnd place)) (cond good (Ok (count, shift)) (Err (BadCell place)))) (Err f) → RunRefused place left count shift f
+    go : (long good : Bool) → ltb (length left) count ≡ long → list_all (stays_colour shift) (take count left) ≡ good → ◌≡◌ {A = Result (ℕ × ℕ) FumenFault} (cond long (Err (RunPastEnd place)) (cond good (Ok (count, shift)) (Err (BadCell place)))) (Err f) → RunRefused place left count shift f
     go true good l g r = inl (ltb-true (length left) count l, cc)
     go false false l g r = inr (ltb-false (length left) count l, g, cc)
     go false true l g r = absurd cc
@@ -87,7 +87,7 @@ checked_bad place left count shift fits bad =
     ap (λ (b : Bool). cond b (Err (RunPastEnd place)) (cond (list_all (stays_colour shift) (take count left)) (Ok (count, shift)) (Err (BadCell place)))) (le-ltb (length left) count fits)
     ∙ ap (λ (b : Bool). cond b (Ok (count, shift)) (Err (BadCell place))) bad
 
-abbrev checked_number : ℕ → ℕ → List ℕ → ℕ → Result (ℕ × ℕ) Fault
+abbrev checked_number : ℕ → ℕ → List ℕ → ℕ → Result (ℕ × ℕ) FumenFault
 checked_number n place left number = checked_run place left (number % n + 1) (number / n)
 
 -- what stands is read as a run that is then checked
@@ -108,7 +108,7 @@ run_from_read n ds place left run some le e =
 pub read_from_run : (n : ℕ) (ds : List ℕ) (place : ℕ) (left : List ℕ) (count shift : ℕ) → RunFits n ds place left count shift → run_at n ds place left ≡ Ok (count, shift)
 read_from_run n ds place left count shift r = read_run n ds place left count shift r.stands ∙ checked_fits place left count shift r.fits r.colours
 
-run_fault_from_read : (n : ℕ) (ds : List ℕ) (place : ℕ) (left : List ℕ) (f : Fault) → 0 < n → place ≤ length ds → run_at n ds place left ≡ Err f → IsRunFault n ds place left f
+run_fault_from_read : (n : ℕ) (ds : List ℕ) (place : ℕ) (left : List ℕ) (f : FumenFault) → 0 < n → place ≤ length ds → run_at n ds place left ≡ Err f → IsRunFault n ds place left f
 unfolding run_at
 run_fault_from_read n ds place left f some le e =
     elim (bind_err (number_at ds place 2) (λ number. checked_number n place left number) f e) [
@@ -121,16 +121,16 @@ run_fault_from_read n ds place left f some le e =
           ]
     ]
 
-read_from_run_fault : (n : ℕ) (ds : List ℕ) (place : ℕ) (left : List ℕ) (f : Fault) → IsRunFault n ds place left f → run_at n ds place left ≡ Err f
+read_from_run_fault : (n : ℕ) (ds : List ℕ) (place : ℕ) (left : List ℕ) (f : FumenFault) → IsRunFault n ds place left f → run_at n ds place left ≡ Err f
 unfolding run_at
 read_from_run_fault n ds place left f (inl bad) =
     err_bind (number_at ds place 2) (λ number. checked_number n place left number) f (read_from_number_fault ds place 2 f bad)
 read_from_run_fault n ds place left f (inr (inl long)) =
     let r = long.0 in
-    read_run n ds place left r.count r.shift r.stands ∙ (checked_long place left r.count r.shift r.long ∙ ap (λ (g : Fault). Err g) (sym long.1))
+    read_run n ds place left r.count r.shift r.stands ∙ (checked_long place left r.count r.shift r.long ∙ ap (λ (g : FumenFault). Err g) (sym long.1))
 read_from_run_fault n ds place left f (inr (inr bad)) =
     let r = bad.0 in
-    read_run n ds place left r.count r.shift r.stands ∙ (checked_bad place left r.count r.shift r.fits r.bad ∙ ap (λ (g : Fault). Err g) (sym bad.1))
+    read_run n ds place left r.count r.shift r.stands ∙ (checked_bad place left r.count r.shift r.fits r.bad ∙ ap (λ (g : FumenFault). Err g) (sym bad.1))
 
 -- ---- runs
 
@@ -147,7 +147,7 @@ pub record RunsStand (n : ℕ) (ds : List ℕ) (place : ℕ) (old new : List ℕ
   pub stands : Stands ds place text end
   pub cut : CutsInto n runs old new text
 
-abbrev pub rest_of : ℕ → List ℕ → ℕ → ℕ → List ℕ → ℕ × ℕ → Result (List ℕ × ℕ) Fault
+abbrev pub rest_of : ℕ → List ℕ → ℕ → ℕ → List ℕ → ℕ × ℕ → Result (List ℕ × ℕ) FumenFault
 rest_of n ds place most left run = runs_at n ds (place + 2) most (drop run.0 left) >>= λ rest. Ok (moved_by run.1 (take run.0 left) ++ rest.0, rest.1)
 
 pub runs_more : (n : ℕ) (ds : List ℕ) (place most : ℕ) (left : List ℕ) → 1 ≤ length left → runs_at n ds place (suc most) left ≡ (run_at n ds place left >>= λ run. rest_of n ds place most left run)
@@ -165,7 +165,7 @@ runs_none n ds place (suc most) (cell ∷ others) none = absurd (omega arith)
 first_run : List ℕ → ℕ → ℕ → Run
 first_run left count shift = record { old = take count left; shift = shift }
 
-is_run : (n : ℕ) (ds : List ℕ) (place : ℕ) (left : List ℕ) (count shift : ℕ) → RunFits n ds place left count shift → IsRun n (first_run left count shift)
+is_run : (n : ℕ) (ds : List ℕ) (place : ℕ) (left : List ℕ) (count shift : ℕ) → RunFits n ds place left count shift → IsCellRun n (first_run left count shift)
 unfolding first_run
 is_run n ds place left count shift r =
     let len : length (take count left) ≡ count = length-take-le count left r.fits in
@@ -200,7 +200,7 @@ no_runs : (n : ℕ) (ds : List ℕ) (place : ℕ) (left : List ℕ) → place �
 no_runs n ds place left le none =
     record { runs = []; text = []; stands = Stands-nil ds place le; cut = record { each = tt; from = nil_from_length left none; to = refl; spelled = refl } }
 
-done_runs : (x y : List ℕ × ℕ) → ◌≡◌ {A = Result (List ℕ × ℕ) Fault} (Ok x) (Ok y) → x ≡ y
+done_runs : (x y : List ℕ × ℕ) → ◌≡◌ {A = Result (List ℕ × ℕ) FumenFault} (Ok x) (Ok y) → x ≡ y
 done_runs x y e = cc
 
 pub runs_from_read : (n : ℕ) (ds : List ℕ) (place most : ℕ) (left : List ℕ) (read : List ℕ × ℕ) → 0 < n → place ≤ length ds → length left ≤ most → runs_at n ds place most left ≡ Ok read → RunsStand n ds place left read.0 read.1
@@ -222,7 +222,7 @@ runs_from_read n ds place (suc most) (cell ∷ others) read some le room e =
     subst (λ (z : List ℕ × ℕ). RunsStand n ds place left z.0 z.1) (done_runs (moved_by run.1 (take run.0 left) ++ y.0.0, y.0.1) read y.2) (runs_cons n ds place left run.0 run.1 y.0.0 y.0.1 r rest)
 
 -- a run that stands before others fits them
-run_fits : (n : ℕ) (ds : List ℕ) (place : ℕ) (run : Run) (rest : List ℕ) (end : ℕ) → n ≤ 240 → IsRun n run → Stands ds place (run_digits n run) end → RunFits n ds place (run.old ++ rest) (length run.old) run.shift
+run_fits : (n : ℕ) (ds : List ℕ) (place : ℕ) (run : Run) (rest : List ℕ) (end : ℕ) → n ≤ 240 → IsCellRun n run → Stands ds place (run_digits n run) end → RunFits n ds place (run.old ++ rest) (length run.old) run.shift
 run_fits n ds place run rest end small is stands =
     let count = length run.old in
     let some = is.some in
@@ -240,7 +240,7 @@ run_fits n ds place run rest end small is stands =
       colours = good;
     }
 
-pub read_from_runs : (n : ℕ) (ds : List ℕ) (runs : List Run) (place end most : ℕ) → n ≤ 240 → AllByRecursion (IsRun n) runs → length (old_cells runs) ≤ most → Stands ds place (flat_map (run_digits n) runs) end
+pub read_from_runs : (n : ℕ) (ds : List ℕ) (runs : List Run) (place end most : ℕ) → n ≤ 240 → AllByRecursion (IsCellRun n) runs → length (old_cells runs) ≤ most → Stands ds place (flat_map (run_digits n) runs) end
     → runs_at n ds place most (old_cells runs) ≡ Ok (new_cells runs, end)
 read_from_runs n ds [] place end most small each room stands =
     let same : place ≡ end = omega (arith, stands.upto) in
@@ -279,7 +279,7 @@ due_more n ds place old count shift k left r due =
       runs_stand = Stands-then ds place (run_digits n run) (place + 2) (flat_map (run_digits n) due.runs) k (run_text n ds place old count shift r) due.runs_stand;
     }
 
-pub runs_fault_from_read : (n : ℕ) (ds : List ℕ) (place most : ℕ) (left : List ℕ) (f : Fault) → 0 < n → place ≤ length ds → length left ≤ most → runs_at n ds place most left ≡ Err f → IsRunsFault n ds place left f
+pub runs_fault_from_read : (n : ℕ) (ds : List ℕ) (place most : ℕ) (left : List ℕ) (f : FumenFault) → 0 < n → place ≤ length ds → length left ≤ most → runs_at n ds place most left ≡ Err f → IsRunsFault n ds place left f
 runs_fault_from_read n ds place zero left f some le room e =
     absurd (let bad = sym (runs_none n ds place zero left (omega arith)) ∙ e in cc)
 runs_fault_from_read n ds place (suc most) [] f some le room e =
@@ -303,7 +303,7 @@ runs_fault_from_read n ds place (suc most) (cell ∷ others) f some le room e =
     ]
 
 -- a fault over the cells that are left behind some runs
-fault_behind : (n : ℕ) (ds : List ℕ) (runs : List Run) (place k most : ℕ) (left : List ℕ) (f : Fault) → n ≤ 240 → AllByRecursion (IsRun n) runs → 1 ≤ length left → length (old_cells runs ++ left) ≤ most
+fault_behind : (n : ℕ) (ds : List ℕ) (runs : List Run) (place k most : ℕ) (left : List ℕ) (f : FumenFault) → n ≤ 240 → AllByRecursion (IsCellRun n) runs → 1 ≤ length left → length (old_cells runs ++ left) ≤ most
     → Stands ds place (flat_map (run_digits n) runs) k → IsRunFault n ds k left f → runs_at n ds place most (old_cells runs ++ left) ≡ Err f
 fault_behind n ds runs place k zero left f small each some room stands bad = absurd (omega (arith, length-append (old_cells runs) left))
 fault_behind n ds [] place k (suc most) left f small each some room stands bad =
@@ -328,7 +328,7 @@ fault_behind n ds (run ∷ runs) place k (suc most) left f small each some room 
     ∙ (ok_bind (run_at n ds place (run.old ++ behind_run)) (λ r. rest_of n ds place most (run.old ++ behind_run) r) (count, run.shift) (read_from_run n ds place (run.old ++ behind_run) count run.shift fits)
     ∙ err_bind (runs_at n ds (place + 2) most (drop count (run.old ++ behind_run))) (λ x. Ok (moved_by run.shift (take count (run.old ++ behind_run)) ++ x.0, x.1)) f others))
 
-pub read_from_runs_fault : (n : ℕ) (ds : List ℕ) (place most : ℕ) (old : List ℕ) (f : Fault) → n ≤ 240 → length old ≤ most → IsRunsFault n ds place old f → runs_at n ds place most old ≡ Err f
+pub read_from_runs_fault : (n : ℕ) (ds : List ℕ) (place most : ℕ) (old : List ℕ) (f : FumenFault) → n ≤ 240 → length old ≤ most → IsRunsFault n ds place old f → runs_at n ds place most old ≡ Err f
 read_from_runs_fault n ds place most old f small room bad =
     let due = bad.2 in
     let size : length (old_cells due.runs ++ bad.1) ≤ most = omega (arith, ap length due.from) in

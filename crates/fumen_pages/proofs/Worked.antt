@@ -2,9 +2,9 @@
 use Rattle.std.proofs.Common.{◌≡◌, ℕ, ◌+◌, ◌*◌, List, [], ◌∷◌, ◌++◌, true, false, Some, None, Ok, Err, refl}
 use Rattle.std.specs.Prelude.{codes, replicate}
 use Rattle.fumen_digits.specs.declared.dialect.Dialect.TheVariants.{V110, V115}
-use Rattle.fumen_digits.specs.Digit.{digit, value_of}
+use Rattle.fumen_digits.specs.Digit.{digit, digit_value}
 use Rattle.fumen_digits.specs.Number.{digits}
-use Rattle.fumen_digits.specs.Fault.Fault.{RunPastEnd, BadCell, BadAction, PieceOutside}
+use Rattle.fumen_digits.specs.declared.fault.FumenFault.TheVariants.{RunPastEnd, BadCell, BadAction, PieceOutside}
 use Rattle.fumen_digits.specs.Reading.{number_from, value_at}
 use Rattle.srs.specs.declared.piece.Piece.TheVariants.{O, T}
 use Rattle.srs.specs.declared.rotation.Rotation.TheVariants.{Spawn, Left}
@@ -14,7 +14,7 @@ use Rattle.fumen_pages.specs.declared.action.ActionFault.TheVariants.{TooLarge, 
 use Rattle.fumen_pages.specs.Action.{moved_back}
 use Rattle.fumen_pages.specs.Next.{rows_in, rows_of, cells_of_rows, marked, operation_filled, without_full, next}
 use Rattle.fumen_pages.specs.Record.{unchanged}
-use Rattle.fumen_pages.specs.Written.{extended, longest, written_record, number_of}
+use Rattle.fumen_pages.specs.Written.{extended, longest, written_record, action_number_of}
 use Rattle.fumen_pages.specs.Reading.{run_at, runs_at, record_at, action_in, action_at, page_at, part_at}
 
 -- ---- what a page leaves
@@ -63,17 +63,17 @@ empty = replicate 240 0
 
 -- a run of 230 empty cells and one of ten that become grey
 grey : record_at V115 (codes "lhJ8AgH") 0 empty ≡ Ok (record { cells = replicate 230 0 ++ replicate 10 8; place = 4; unchanged = false })
-unfolding record_at runs_at run_at number_from value_at value_of empty digits digit
+unfolding record_at runs_at run_at number_from value_at digit_value empty digits digit
 grey = refl
 
 -- 210 cells, and 11 where ten are left
 long_run : record_at V110 (codes "Axeqb") 1 empty ≡ Err (RunPastEnd 3)
-unfolding record_at runs_at run_at number_from value_at value_of empty digits digit
+unfolding record_at runs_at run_at number_from value_at digit_value empty digits digit
 long_run = refl
 
 -- 210 cells, and ten of the colour 9
 bad_cell : record_at V110 (codes "Axel6") 1 empty ≡ Err (BadCell 3)
-unfolding record_at runs_at run_at number_from value_at value_of empty digits digit
+unfolding record_at runs_at run_at number_from value_at digit_value empty digits digit
 bad_cell = refl
 
 -- ---- actions
@@ -94,15 +94,15 @@ outside = refl
 
 -- `VeI`: a T in row 0 of the 21 rows
 page_110 : page_at V110 empty 1 (codes "7eAVeI") 3 ≡ Ok (record { cells = empty; operation = Some (record { piece = T; rotation = Spawn; x = 4; y = 0 }); rise = false; mirror = false; colour = true; lock = true; comment = None }, 6)
-unfolding page_at action_at action_in part_at number_from value_at value_of moved moved_back
+unfolding page_at action_at action_in part_at number_from value_at digit_value moved moved_back
 page_110 = refl
 
 bad_page : page_at V110 empty 7 (codes "7eA//2") 3 ≡ Err (PieceOutside 7)
-unfolding page_at action_at action_in part_at number_from value_at value_of moved moved_back
+unfolding page_at action_at action_in part_at number_from value_at digit_value moved moved_back
 bad_page = refl
 
 bad_number : page_at V110 empty 7 (codes "7eAAA3") 3 ≡ Err (BadAction 3)
-unfolding page_at action_at action_in part_at number_from value_at value_of
+unfolding page_at action_at action_in part_at number_from value_at digit_value
 bad_number = refl
 
 -- ---- what is written
@@ -112,6 +112,6 @@ unfolding written_record longest extended empty digits digit
 written_grey = refl
 
 -- the T of the page above, with rise, mirror and colour
-written_number : number_of V115 (page holed low) ≡ 60949
-unfolding number_of page moved
+written_number : action_number_of V115 (page holed low) ≡ 60949
+unfolding action_number_of page moved
 written_number = refl

@@ -15,7 +15,7 @@ use Rattle.fumen_pages.specs.declared.page.Page.{Page}
 use Rattle.fumen_pages.specs.Action.{written_by, numbered_cell, in_rows, is_inside_in, flags_of, SaysOperation, SaysAction}
 use Rattle.fumen_pages.specs.Sound.{IsSound, action_of}
 use Rattle.fumen_pages.specs.Reading.{action_in}
-use Rattle.fumen_pages.specs.Written.{operation_number, number_of}
+use Rattle.fumen_pages.specs.Written.{operation_number, action_number_of}
 use Rattle.fumen_pages.specs.Cells.{place_of}
 use Rattle.fumen_pages.proofs.InsideLaws.{LiesIn, cell_in_rows, cell_inside, inside_well}
 use Rattle.fumen_pages.proofs.ActionReadAsSpelled.{read_from_says}
@@ -73,9 +73,9 @@ says_number dialect (Some p) flags inside =
     let there = numbered_lies dialect (written_pivot p) (written_lies dialect p (inside p refl)) in
     (record { place = place_of dialect (written_pivot p); within = there.within; written = there.back; number_is = refl }, inside p refl)
 
-pub number_says : (dialect : Dialect) (page : Page) → IsSound dialect page → SaysAction dialect (number_of dialect page) (action_of page)
-unfolding number_of
+pub number_says : (dialect : Dialect) (page : Page) → IsSound dialect page → SaysAction dialect (action_number_of dialect page) (action_of page)
+unfolding action_number_of
 number_says dialect page sound = says_number dialect page.operation (flags_of (action_of page)) sound.inside
 
-pub number_read : (dialect : Dialect) (page : Page) → IsSound dialect page → action_in dialect (number_of dialect page) ≡ Ok (action_of page)
-number_read dialect page sound = read_from_says dialect (number_of dialect page) (action_of page) (number_says dialect page sound)
+pub number_read : (dialect : Dialect) (page : Page) → IsSound dialect page → action_in dialect (action_number_of dialect page) ≡ Ok (action_of page)
+number_read dialect page sound = read_from_says dialect (action_number_of dialect page) (action_of page) (number_says dialect page sound)

@@ -12,7 +12,7 @@ use Rattle.fumen_digits.specs.Number.{Stands}
 use Rattle.fumen_digits.proofs.CallerLemmas.{AreDigits-digits, AreDigits-flat_map}
 use Rattle.fumen_pages.specs.declared.record.CellsRead.{CellsRead}
 use Rattle.fumen_pages.specs.Cells.{IsColour, missing_count, shown, AreCells}
-use Rattle.fumen_pages.specs.Record.{Run, IsRun, moved_by, stays_colour, run_digits, Cuts, unchanged, CutsOther}
+use Rattle.fumen_pages.specs.Record.{Run, IsCellRun, moved_by, stays_colour, run_digits, Cuts, unchanged, CutsOther}
 use Rattle.fumen_pages.specs.Reading.{runs_at, record_at}
 use Rattle.fumen_pages.specs.Written.{colour_difference, extended, longest, same_count, AreApart, written_record}
 use Rattle.fumen_pages.proofs.RunsReadAsSpelled.{old_cells, new_cells, read_from_runs}
@@ -43,20 +43,20 @@ extended_none cell shift = refl
 record IsExtended (n cell shift : ℕ) (runs made : List Run) : Type 0 where
   old_is : old_cells made ≡ cell ∷ old_cells runs
   new_is : new_cells made ≡ (cell + shift - 8) ∷ new_cells runs
-  each : AllByRecursion (IsRun n) runs → AllByRecursion (IsRun (suc n)) made
+  each : AllByRecursion (IsCellRun n) runs → AllByRecursion (IsCellRun (suc n)) made
   apart : AreApart runs → AreApart made
 
-run_longer : (n : ℕ) (run : Run) → IsRun n run → IsRun (suc n) run
+run_longer : (n : ℕ) (run : Run) → IsCellRun n run → IsCellRun (suc n) run
 run_longer n run r = let most = r.most in record { some = r.some; most = omega arith; colours = r.colours }
 
-runs_longer : (n : ℕ) (runs : List Run) → AllByRecursion (IsRun n) runs → AllByRecursion (IsRun (suc n)) runs
+runs_longer : (n : ℕ) (runs : List Run) → AllByRecursion (IsCellRun n) runs → AllByRecursion (IsCellRun (suc n)) runs
 runs_longer n [] each = tt
 runs_longer n (run ∷ runs) each = (run_longer n run each.0, runs_longer n runs each.1)
 
-single_run : (n cell shift : ℕ) → stays_colour shift cell ≡ true → IsRun (suc n) (single cell shift)
+single_run : (n cell shift : ℕ) → stays_colour shift cell ≡ true → IsCellRun (suc n) (single cell shift)
 single_run n cell shift good = record { some = omega arith; most = omega arith; colours = and_from (stays_colour shift cell) true good refl }
 
-longer_run : (n cell shift : ℕ) (run : Run) → run.shift ≡ shift → stays_colour shift cell ≡ true → IsRun n run → IsRun (suc n) (longer cell shift run)
+longer_run : (n cell shift : ℕ) (run : Run) → run.shift ≡ shift → stays_colour shift cell ≡ true → IsCellRun n run → IsCellRun (suc n) (longer cell shift run)
 longer_run n cell shift run same good r =
     let some = r.some in
     let most = r.most in
@@ -97,7 +97,7 @@ is_extended n cell shift (run ∷ runs) good = go (eqb run.shift shift) refl
 pub record AreLongest (n : ℕ) (old new : List ℕ) (runs : List Run) : Type 0 where
   pub old_is : old_cells runs ≡ old
   pub new_is : new_cells runs ≡ new
-  pub each : AllByRecursion (IsRun n) runs
+  pub each : AllByRecursion (IsCellRun n) runs
   pub apart : AreApart runs
 
 longest_cons : (cell value : ℕ) (old new : List ℕ) → longest (cell ∷ old) (value ∷ new) ≡ extended cell (colour_difference cell value) (longest old new)

@@ -4,19 +4,18 @@ use Rattle.std.specs.List.{list_all, flat_map, AllByRecursion}
 use Rattle.fumen_digits.specs.declared.dialect.Dialect.{Dialect}
 use Rattle.fumen_digits.specs.Dialect.{page_cell_count}
 use Rattle.fumen_digits.specs.Number.{Stands, NumberStands}
-use Rattle.fumen_digits.specs.Fault.{Fault, IsNumberFault}
-use Rattle.fumen_digits.specs.Fault.Fault.{BadDigit, Truncated, RunPastEnd, BadCell, BadAction, PieceOutside, BadComment}
+use Rattle.fumen_digits.specs.declared.fault.FumenFault.{FumenFault}
+use Rattle.fumen_digits.specs.Fault.{IsNumberFault}
+use Rattle.fumen_digits.specs.declared.fault.FumenFault.TheVariants.{BadDigit, Truncated, RunPastEnd, BadCell, BadAction, PieceOutside, BadComment}
 use Rattle.fumen_comment.specs.Faults.{IsCommentFault}
 use Rattle.fumen_pages.specs.declared.page.Page.{Page}
 use Rattle.fumen_pages.specs.declared.action.Action.{Action}
 use Rattle.fumen_pages.specs.declared.record.CellsRead.{CellsRead}
 use Rattle.fumen_pages.specs.declared.record.CellsFault.{CellsFault}
 use Rattle.fumen_pages.specs.declared.record.CellsFault.TheVariants as bad_cells
-use Rattle.fumen_pages.specs.declared.tail.TailFault.{TailFault}
-use Rattle.fumen_pages.specs.declared.tail.TailFault.TheVariants as bad_tail
 use Rattle.fumen_pages.specs.Cells.{shown}
 use Rattle.fumen_pages.specs.Action.{action_end, SaysAction, SaysOutside}
-use Rattle.fumen_pages.specs.Record.{Run, IsRun, stays_colour, run_digits, IsRecord}
+use Rattle.fumen_pages.specs.Record.{Run, IsCellRun, stays_colour, run_digits, IsRecord}
 use Rattle.fumen_pages.specs.Tail.{Tail}
 
 -- these cells are spelled by the record at a place, from the old ones
@@ -28,7 +27,7 @@ pub record RecordStands (dialect : Dialect) (ds : List ℕ) (place : ℕ) (old :
 -- some runs stand at a place, up to place k, and one more is due there, over the cells that are left of the old ones
 pub record IsRunDue (n : ℕ) (ds : List ℕ) (place : ℕ) (old : List ℕ) (k : ℕ) (left : List ℕ) : Type 0 where
   pub runs : List Run
-  pub each : AllByRecursion (IsRun n) runs
+  pub each : AllByRecursion (IsCellRun n) runs
   pub from : old ≡ flat_map (λ run. run.old) runs ++ left
   pub some : 1 ≤ length left
   pub runs_stand : Stands ds place (flat_map (run_digits n) runs) k
@@ -55,21 +54,21 @@ pub record IsBadRun (n : ℕ) (ds : List ℕ) (place : ℕ) (left : List ℕ) : 
   pub bad : list_all (stays_colour shift) (take count left) ≡ false
 
 -- the fault of a run that is due at a place: that of its number, or that it is too long, or makes a bad cell
-abbrev pub IsRunFault : ℕ → List ℕ → ℕ → List ℕ → Fault → Type 0
+abbrev pub IsRunFault : ℕ → List ℕ → ℕ → List ℕ → FumenFault → Type 0
 IsRunFault n ds place left f =
     IsNumberFault ds place 2 f ⊎ (IsLongRun n ds place left × (f ≡ RunPastEnd place))
     ⊎ (IsBadRun n ds place left × (f ≡ BadCell place))
 
 -- the fault of the runs at a place, over the old cells: that of a run that is due
-abbrev pub IsRunsFault : ℕ → List ℕ → ℕ → List ℕ → Fault → Type 0
+abbrev pub IsRunsFault : ℕ → List ℕ → ℕ → List ℕ → FumenFault → Type 0
 IsRunsFault n ds place old f = (k : ℕ) × (left : List ℕ) × IsRunDue n ds place old k left × IsRunFault n ds k left f
 
 -- the fault of the record at a place
-abbrev pub IsRecordFault : Dialect → List ℕ → ℕ → List ℕ → Fault → Type 0
+abbrev pub IsRecordFault : Dialect → List ℕ → ℕ → List ℕ → FumenFault → Type 0
 IsRecordFault dialect ds place old f = IsRunsFault (page_cell_count dialect) ds place (shown dialect old) f
 
 -- a fault of a record among those of a text
-abbrev pub cells_fault : CellsFault → Fault
+abbrev pub cells_fault : CellsFault → FumenFault
 cells_fault (bad_cells.BadDigit place) = BadDigit place
 cells_fault (bad_cells.Truncated place) = Truncated place
 cells_fault (bad_cells.RunPastEnd place) = RunPastEnd place
@@ -103,17 +102,9 @@ pub record IsCommentDue (dialect : Dialect) (ds : List ℕ) (place : ℕ) : Type
 
 -- the fault of the tail at a place, of a page counted from 1: that of its number, or of what the number says, or of the
 -- comment that is due
-abbrev pub IsTailFault : Dialect → ℕ → List ℕ → ℕ → Fault → Type 0
+abbrev pub IsTailFault : Dialect → ℕ → List ℕ → ℕ → FumenFault → Type 0
 IsTailFault dialect page ds place f =
     IsNumberFault ds place 3 f
     ⊎ (IsLargeAction dialect ds place × (f ≡ BadAction place))
     ⊎ (IsOutsideAction dialect ds place × (f ≡ PieceOutside page))
     ⊎ (IsCommentDue dialect ds place × IsCommentFault ds (place + 3) f)
-
--- a fault of a tail among those of a text
-abbrev pub tail_fault : TailFault → Fault
-tail_fault (bad_tail.BadDigit place) = BadDigit place
-tail_fault (bad_tail.Truncated place) = Truncated place
-tail_fault (bad_tail.BadAction place) = BadAction place
-tail_fault (bad_tail.PieceOutside page) = PieceOutside page
-tail_fault (bad_tail.BadComment place) = BadComment place

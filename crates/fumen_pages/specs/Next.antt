@@ -60,9 +60,9 @@ risen true rows = record { field = drop 1 rows.field ++ rows.garbage ∷ []; gar
 risen false rows = rows
 
 -- with a mirror each row is reversed, but not the garbage row
-abbrev pub mirrored : Bool → Rows → Rows
-mirrored true rows = record { field = map reverse rows.field; garbage = rows.garbage }
-mirrored false rows = rows
+abbrev pub mirrored_rows : Bool → Rows → Rows
+mirrored_rows true rows = record { field = map reverse rows.field; garbage = rows.garbage }
+mirrored_rows false rows = rows
 
 -- where the page locks: fill, removal of full rows, rise and mirror, in this order
 unfoldable pub next : Dialect → Page → List ℕ
@@ -70,6 +70,6 @@ next dialect page =
     if page.lock
     then (
     let before = rows_of dialect (operation_filled page.operation page.cells) in
-    cells_of_rows dialect (mirrored page.mirror (risen page.rise (cleared before)))
+    cells_of_rows dialect (mirrored_rows page.mirror (risen page.rise (cleared before)))
     )
     else page.cells

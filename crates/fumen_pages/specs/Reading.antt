@@ -3,8 +3,8 @@ use Rattle.std.specs.Prelude.{ℕ, zero, suc, ◌+◌, ◌*◌, ◌/◌, ◌%◌
 use Rattle.std.specs.List.{list_all, starts_with}
 use Rattle.fumen_digits.specs.declared.dialect.Dialect.{Dialect}
 use Rattle.fumen_digits.specs.Dialect.{page_cell_count}
-use Rattle.fumen_digits.specs.Fault.{Fault}
-use Rattle.fumen_digits.specs.Fault.Fault.{RunPastEnd, BadCell, BadAction, PieceOutside}
+use Rattle.fumen_digits.specs.declared.fault.FumenFault.{FumenFault}
+use Rattle.fumen_digits.specs.declared.fault.FumenFault.TheVariants.{RunPastEnd, BadCell, BadAction, PieceOutside}
 use Rattle.fumen_digits.specs.Reading.{◌>>=◌, number_at}
 use Rattle.fumen_comment.specs.Reading.{comment_at}
 use Rattle.srs.specs.declared.piece.Piece.{Piece}
@@ -25,19 +25,19 @@ use Rattle.fumen_pages.specs.Record.{moved_by, stays_colour, unchanged}
 -- ---- the record of the cells
 
 -- a run of this many cells, with their difference and 8, unless it has a fault
-abbrev pub checked_run : ℕ → List ℕ → ℕ → ℕ → Result (ℕ × ℕ) Fault
+abbrev pub checked_run : ℕ → List ℕ → ℕ → ℕ → Result (ℕ × ℕ) FumenFault
 checked_run place left count shift =
     if nat_lt (length left) count then Err (RunPastEnd place)
     else (if list_all (stays_colour shift) (take count left) then Ok (count, shift) else Err (BadCell place))
 
 -- the run at a place, over the cells that are left
-unfoldable pub run_at : ℕ → List ℕ → ℕ → List ℕ → Result (ℕ × ℕ) Fault
+unfoldable pub run_at : ℕ → List ℕ → ℕ → List ℕ → Result (ℕ × ℕ) FumenFault
 run_at n ds place left = do
   number ← number_at ds place 2
   checked_run place left (number % n + 1) (number / n)
 
 -- the new cells of those that are left, by this many runs at most, and the place behind them
-unfoldable pub runs_at : ℕ → List ℕ → ℕ → ℕ → List ℕ → Result (List ℕ × ℕ) Fault
+unfoldable pub runs_at : ℕ → List ℕ → ℕ → ℕ → List ℕ → Result (List ℕ × ℕ) FumenFault
 runs_at n ds place zero left = Ok ([], place)
 runs_at n ds place (suc most) [] = Ok ([], place)
 runs_at n ds place (suc most) (cell ∷ others) = do
@@ -46,7 +46,7 @@ runs_at n ds place (suc most) (cell ∷ others) = do
   Ok (moved_by run.1 (take run.0 (cell ∷ others)) ++ rest.0, rest.1)
 
 -- the cells of the record at a place
-unfoldable pub record_at : Dialect → List ℕ → ℕ → List ℕ → Result CellsRead Fault
+unfoldable pub record_at : Dialect → List ℕ → ℕ → List ℕ → Result CellsRead FumenFault
 record_at dialect ds place old = do
   new ← runs_at (page_cell_count dialect) ds place (page_cell_count dialect) (shown dialect old)
   Ok (record {
@@ -102,24 +102,24 @@ action_in dialect number =
     else Err bad_action.TooLarge
 
 -- a fault of an action among those of a text, where the number stands at a place, in a page counted from 1
-abbrev pub action_fault : ℕ → ℕ → ActionFault → Fault
+abbrev pub action_fault : ℕ → ℕ → ActionFault → FumenFault
 action_fault place page bad_action.TooLarge = BadAction place
 action_fault place page bad_action.Outside = PieceOutside page
 
 -- ---- the tail of a page
 
-abbrev pub seen_action : ℕ → ℕ → Result Action ActionFault → Result Action Fault
+abbrev pub seen_action : ℕ → ℕ → Result Action ActionFault → Result Action FumenFault
 seen_action place page (Ok action) = Ok action
 seen_action place page (Err fault) = Err (action_fault place page fault)
 
 -- the action at a place
-unfoldable pub action_at : Dialect → ℕ → List ℕ → ℕ → Result Action Fault
+unfoldable pub action_at : Dialect → ℕ → List ℕ → ℕ → Result Action FumenFault
 action_at dialect page ds place = do
   number ← number_at ds place 3
   seen_action place page (action_in dialect number)
 
 -- the comment at a place, where there is one, and the place behind it
-unfoldable pub part_at : Bool → List ℕ → ℕ → Result (Option (List ℕ) × ℕ) Fault
+unfoldable pub part_at : Bool → List ℕ → ℕ → Result (Option (List ℕ) × ℕ) FumenFault
 part_at false ds place = Ok (None, place)
 part_at true ds place = do
   comment ← comment_at ds place
@@ -139,7 +139,7 @@ page_of cells action comment =
     }
 
 -- the page of these cells whose tail stands at a place, counted from 1, and the place behind it
-unfoldable pub page_at : Dialect → List ℕ → ℕ → List ℕ → ℕ → Result (Page × ℕ) Fault
+unfoldable pub page_at : Dialect → List ℕ → ℕ → List ℕ → ℕ → Result (Page × ℕ) FumenFault
 page_at dialect cells page ds place = do
   action ← action_at dialect page ds place
   part ← part_at action.comment ds (place + 3)

@@ -20,7 +20,7 @@ abbrev pub stays_colour : ℕ → ℕ → Bool
 stays_colour shift cell = nat_le 8 (cell + shift) && nat_le (cell + shift) 16
 
 -- a run of 1 to n cells
-pub record IsRun (n : ℕ) (run : Run) : Type 0 where
+pub record IsCellRun (n : ℕ) (run : Run) : Type 0 where
   pub some : 1 ≤ length run.old
   pub most : length run.old ≤ n
   pub colours : IsTrue (list_all (stays_colour run.shift) run.old)
@@ -31,7 +31,7 @@ run_digits n run = digits 2 (run.shift * n + (length run.old - 1))
 
 -- ds cuts the old cells into runs, with these new cells
 pub record CutsInto (n : ℕ) (runs : List Run) (old new ds : List ℕ) : Type 0 where
-  pub each : AllByRecursion (IsRun n) runs
+  pub each : AllByRecursion (IsCellRun n) runs
   pub from : old ≡ flat_map (λ run. run.old) runs
   pub to : new ≡ flat_map (λ run. moved_by run.shift run.old) runs
   pub spelled : ds ≡ flat_map (run_digits n) runs

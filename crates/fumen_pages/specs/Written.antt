@@ -59,6 +59,6 @@ operation_number dialect (Some p) =
     + 32 * place_of dialect (moved (pivot_of p) (written_by p.piece p.rotation))
 
 -- the number that is written for a page's action
-unfoldable pub number_of : Dialect → Page → ℕ
-number_of dialect page =
+unfoldable pub action_number_of : Dialect → Page → ℕ
+action_number_of dialect page =
     operation_number dialect page.operation + 32 * page_cell_count dialect * flags_of (action_of page)

@@ -8,7 +8,7 @@ ghost use Rattle.fumen_pages.specs.declared.action.Action.{Action};
 ghost use Rattle.fumen_pages.specs.declared.page.Page.{Page};
 ghost use Rattle.fumen_pages.specs.Action.{SaysAction, SaysOutside, action_end, bit, flags_of, in_rows, is_inside_in, numbered_cell, rotation_code, written_by};
 ghost use Rattle.fumen_pages.specs.Sound.{IsSound, action_of};
-ghost use Rattle.fumen_pages.specs.Written.{number_of, operation_number};
+ghost use Rattle.fumen_pages.specs.Written.{action_number_of, operation_number};
 ghost use Rattle.fumen_pages.specs.Cells.{place_of};
 ghost use Rattle.fumen_pages.specs.Reading.{action_in, operation_of, placed, rotation_with_code};
 
@@ -164,7 +164,7 @@ fn placed(
 /// The number of a page's action. Without an operation its rotation and place are 0.
 pub fn action_number(dialect: Dialect, page: &Page) -> u32
     requires { IsSound dialect page.now }
-    ensures exact { result ≡ number_of dialect page.now }
+    ensures exact { result ≡ action_number_of dialect page.now }
     ensures below { result < 64 ^ 3 }
 {
     let cells = u32::from(dialect.cells());

@@ -5,7 +5,7 @@ ghost use Rattle.fumen_digits.specs.Digit.{AreDigits};
 ghost use Rattle.fumen_digits.specs.Number.{Stands};
 ghost use Rattle.fumen_pages.specs.Cells.{AreCells, shown};
 ghost use Rattle.fumen_pages.specs.Record.{CutsOther, unchanged};
-ghost use Rattle.fumen_pages.specs.Written.{AreApart, longest, written_record, number_of};
+ghost use Rattle.fumen_pages.specs.Written.{AreApart, longest, written_record, action_number_of};
 ghost use Rattle.fumen_pages.specs.Reading.{record_at, action_in};
 ghost use Rattle.fumen_pages.specs.declared.page.Page.{Page};
 ghost use Rattle.fumen_pages.specs.Action.{SaysAction};
@@ -34,7 +34,7 @@ pub fn write_cells_undone()
 /// whether it has a comment, and is read as these.
 pub fn action_number_undone()
     ensures says { (dialect : Dialect) (page : Page) → IsSound dialect page →
-        SaysAction dialect (number_of dialect page) (action_of page) }
+        SaysAction dialect (action_number_of dialect page) (action_of page) }
     ensures read { (dialect : Dialect) (page : Page) → IsSound dialect page →
-        action_in dialect (number_of dialect page) ≡ Ok (action_of page) }
+        action_in dialect (action_number_of dialect page) ≡ Ok (action_of page) }
 {}

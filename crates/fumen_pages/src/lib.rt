@@ -14,7 +14,7 @@ pub use inside::is_inside;
 pub use next::{mark, next_cells};
 pub use page::Page;
 pub use record::{CellsFault, CellsRead, read_cells, write_cells};
-pub use tail::{TailFault, read_page};
+pub use tail::read_page;
 
 #[cfg(test)]
 mod tests;

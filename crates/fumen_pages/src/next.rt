@@ -3,7 +3,7 @@ ghost use Rattle.std.specs.Prelude.{◌≡◌, ◌-◌, ◌≤◌, ◌++◌, len
 ghost use Rattle.std.specs.Option.{ForSome};
 ghost use Rattle.srs.specs.Cells.{in_well, is_inside_of};
 ghost use Rattle.fumen_pages.specs.Cells.{AreCells, missing_count, place_of};
-ghost use Rattle.fumen_pages.specs.Next.{cleared, operation_filled, is_full_page_row, marked, mirrored, next, risen, rows_of};
+ghost use Rattle.fumen_pages.specs.Next.{cleared, operation_filled, is_full_page_row, marked, mirrored_rows, next, risen, rows_of};
 ghost use Rattle.fumen_digits.specs.declared.dialect.Dialect.TheVariants.{V115};
 ghost use Rattle.fumen_pages.specs.Sound.{IsSound};
 
@@ -126,7 +126,7 @@ fn lift(rows: &mut [u8])
 
 /// With a mirror each row but the garbage row is reversed.
 fn mirror(dialect: Dialect, mirror: bool, page: &mut [u8; 240])
-    ensures rows { rows_of dialect page.new ≡ mirrored mirror (rows_of dialect page.old) }
+    ensures rows { rows_of dialect page.new ≡ mirrored_rows mirror (rows_of dialect page.old) }
     ensures missing { take (missing_count dialect) page.new ≡ take (missing_count dialect) page.old }
 {
     if !mirror {

@@ -13,7 +13,7 @@ ghost use Rattle.fumen_pages.specs.Written.{colour_difference, same_count, writt
 ghost use Rattle.fumen_pages.specs.Reading.{checked_run, record_at, run_at};
 ghost use Rattle.fumen_pages.specs.Faults.{IsRecordFault, RecordStands, cells_fault};
 
-use fumen_digits::{Dialect, DigitFault, push_number, read_number};
+use fumen_digits::{Dialect, DigitFault, FumenFault, push_number, read_number};
 use pc_outside::NoMemory;
 
 /// The cells that a record spells.
@@ -39,6 +39,19 @@ pub enum CellsFault {
     RunPastEnd { place: usize },
     /// The run at this place fits, and makes a cell below 0 or above 8.
     BadCell { place: usize },
+}
+
+impl From<CellsFault> for FumenFault {
+    ghost from_gives = { λ fault text. text ≡ cells_fault fault };
+
+    fn from(fault: CellsFault) -> FumenFault {
+        match fault {
+            CellsFault::BadDigit { place } => FumenFault::BadDigit { place },
+            CellsFault::Truncated { place } => FumenFault::Truncated { place },
+            CellsFault::RunPastEnd { place } => FumenFault::RunPastEnd { place },
+            CellsFault::BadCell { place } => FumenFault::BadCell { place },
+        }
+    }
 }
 
 /// Reads the record of a page's cells at a place, where the page before leaves the old ones.

@@ -4,32 +4,17 @@ ghost use Rattle.std.specs.Option.{ForSome};
 ghost use Rattle.fumen_digits.specs.Reading.{number_at};
 ghost use Rattle.fumen_digits.specs.Answers.{Gives};
 ghost use Rattle.fumen_pages.specs.declared.page.Page.{Page};
-ghost use Rattle.fumen_pages.specs.declared.tail.TailFault.{TailFault};
+ghost use Rattle.fumen_digits.specs.declared.fault.FumenFault.{FumenFault};
 ghost use Rattle.fumen_pages.specs.Action.{is_inside_in};
 ghost use Rattle.fumen_pages.specs.Reading.{action_at, page_at, part_at};
-ghost use Rattle.fumen_pages.specs.Faults.{IsTailFault, TailStands, tail_fault};
+ghost use Rattle.fumen_pages.specs.Faults.{IsTailFault, TailStands};
 
 use crate::action::{Action, ActionFault, read_action};
 use crate::page::Page;
-use fumen_comment::{Comment, CommentFault, read_comment};
-use fumen_digits::{Dialect, DigitFault, read_number};
+use fumen_comment::{Comment, read_comment};
+use fumen_digits::{Dialect, FumenFault, read_number};
 use pc_outside::Refused;
 use std::alloc::Global;
-
-/// Why a page can't be read behind its cells. A place is an index among the digits, a page is counted from 1.
-#[derive(Clone, Copy, Debug, PartialEq, Eq)]
-pub enum TailFault {
-    /// A byte that is no digit stands at this place.
-    BadDigit { place: usize },
-    /// The digits end within the number that begins at this place.
-    Truncated { place: usize },
-    /// The number at this place is 1,024 times the cells of a page or more.
-    BadAction { place: usize },
-    /// The operation of this page has a cell outside columns 0 to 9 or the dialect's rows.
-    PieceOutside { page: u32 },
-    /// The group at this place is 96^4 or more, or has a character of value 95 within the length.
-    BadComment { place: usize },
-}
 
 /// Reads a page behind its cells, from its action on: the page of these cells, and the place behind it. The
 /// page is counted from 1.
@@ -42,11 +27,11 @@ pub fn read_page(
     dialect: Dialect,
     cells: &[u8; 240],
     page: u32,
-) -> Result<(Page, usize), Refused<TailFault>>
+) -> Result<(Page, usize), Refused<FumenFault>>
     requires { place ≤ length digits.now }
 
     // What reading from the left gives.
-    ensures exact { Gives (λ x. x) tail_fault result (page_at dialect cells.now page digits.now place) }
+    ensures exact { Gives (λ x. x) (λ f. f) result (page_at dialect cells.now page digits.now place) }
 
     // The place behind it is among the digits, or at their end, and its operation lies inside.
     ensures within { IfOk result (λ x. x.1 ≤ length digits.now) }
@@ -56,13 +41,13 @@ pub fn read_page(
     ensures cells { IfOk result (λ x. x.0.cells ≡ cells.now) }
     ensures found { IfOk result (λ x. TailStands dialect digits.now place x.0 x.1) }
     ensures only { (read : Page) (end : ℕ) → read.cells ≡ cells.now → TailStands dialect digits.now place read end →
-        Gives (λ x. x) tail_fault result (Ok (read, end)) }
+        Gives (λ x. x) (λ f. f) result (Ok (read, end)) }
 
     // A fault is the first one there, and the first one there is answered, unless memory runs out.
-    ensures fault { (f : TailFault) → result ≡ Err (Refused.Fault f) →
-        IsTailFault dialect page digits.now place (tail_fault f) }
-    ensures fault_only { (f : TailFault) → IsTailFault dialect page digits.now place (tail_fault f) →
-        Gives (λ x. x) tail_fault result (Err (tail_fault f)) }
+    ensures fault { (f : FumenFault) → result ≡ Err (Refused.Fault f) →
+        IsTailFault dialect page digits.now place f }
+    ensures fault_only { (f : FumenFault) → IsTailFault dialect page digits.now place f →
+        Gives (λ x. x) (λ f. f) result (Err f) }
 {
     read_tail(alloc, digits, place, dialect, cells, page)
 }
@@ -75,9 +60,9 @@ fn read_tail(
     dialect: Dialect,
     cells: &[u8; 240],
     page: u32,
-) -> Result<(Page, usize), Refused<TailFault>>
+) -> Result<(Page, usize), Refused<FumenFault>>
     requires { place ≤ length digits.now }
-    ensures { Gives (λ x. x) tail_fault result (page_at dialect cells.now page digits.now place) }
+    ensures { Gives (λ x. x) (λ f. f) result (page_at dialect cells.now page digits.now place) }
 {
     let action = action_at(digits, place, dialect, page)?;
     let (comment, end) = part_at(alloc, digits, place + 3, action.comment)?;
@@ -93,36 +78,35 @@ fn read_tail(
     Ok((page, end))
 }
 
-/// The action at a place, its fault as one of a tail.
+/// The action at a place.
 #[tactic(auto, unfolding(crate::specs::Reading::action_at))]
 fn action_at(
     digits: &[u8],
     place: usize,
     dialect: Dialect,
     page: u32,
-) -> Result<Action, Refused<TailFault>>
+) -> Result<Action, Refused<FumenFault>>
     requires { place ≤ length digits.now }
-    ensures exact { Gives (λ action. action) tail_fault result (action_at dialect page digits.now place) }
+    ensures exact { Gives (λ action. action) (λ f. f) result (action_at dialect page digits.now place) }
     ensures within { IfOk result (λ _. place + 3 ≤ length digits.now) }
 {
     let number = number_at(digits, place)?;
     match read_action(dialect, number) {
         Ok(action) => Ok(action),
-        Err(ActionFault::TooLarge) => Err(Refused::Fault(TailFault::BadAction { place })),
-        Err(ActionFault::Outside) => Err(Refused::Fault(TailFault::PieceOutside { page })),
+        Err(ActionFault::TooLarge) => Err(Refused::Fault(FumenFault::BadAction { place })),
+        Err(ActionFault::Outside) => Err(Refused::Fault(FumenFault::PieceOutside { page })),
     }
 }
 
-/// The number of an action at a place, its fault as one of a tail.
-fn number_at(digits: &[u8], place: usize) -> Result<u32, Refused<TailFault>>
+/// The number of an action at a place.
+fn number_at(digits: &[u8], place: usize) -> Result<u32, Refused<FumenFault>>
     requires { place ≤ length digits.now }
-    ensures exact { Gives (λ n. n) tail_fault result (number_at digits.now place 3) }
+    ensures exact { Gives (λ n. n) (λ f. f) result (number_at digits.now place 3) }
     ensures within { IfOk result (λ _. place + 3 ≤ length digits.now) }
 {
     match read_number(digits, place, 3) {
         Ok(number) => Ok(number),
-        Err(DigitFault::Bad { place }) => Err(Refused::Fault(TailFault::BadDigit { place })),
-        Err(DigitFault::Truncated { place }) => Err(Refused::Fault(TailFault::Truncated { place })),
+        Err(fault) => Err(Refused::Fault(FumenFault::from(fault))),
     }
 }
 
@@ -133,24 +117,16 @@ fn part_at(
     digits: &[u8],
     place: usize,
     has_comment: bool,
-) -> Result<(Option<Comment>, usize), Refused<TailFault>>
+) -> Result<(Option<Comment>, usize), Refused<FumenFault>>
     requires { place ≤ length digits.now }
-    ensures { Gives (λ x. x) tail_fault result (part_at has_comment digits.now place) }
+    ensures { Gives (λ x. x) (λ f. f) result (part_at has_comment digits.now place) }
 {
     if !has_comment {
         return Ok((None, place));
     }
     match read_comment(alloc, digits, place) {
         Ok((comment, end)) => Ok((Some(comment), end)),
-        Err(Refused::Fault(CommentFault::BadDigit { place })) => {
-            Err(Refused::Fault(TailFault::BadDigit { place }))
-        }
-        Err(Refused::Fault(CommentFault::Truncated { place })) => {
-            Err(Refused::Fault(TailFault::Truncated { place }))
-        }
-        Err(Refused::Fault(CommentFault::BadComment { place })) => {
-            Err(Refused::Fault(TailFault::BadComment { place }))
-        }
+        Err(Refused::Fault(fault)) => Err(Refused::Fault(FumenFault::from(fault))),
         Err(Refused::NoMemory) => Err(Refused::NoMemory),
     }
 }

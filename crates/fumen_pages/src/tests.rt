@@ -1,6 +1,6 @@
 // Each call once, at texts that were written by hand and by other programs.
 use super::*;
-use fumen_digits::Dialect;
+use fumen_digits::{Dialect, FumenFault};
 use pc_outside::Refused;
 use srs::{Piece, Placement, Rotation};
 use std::test::Fail;
@@ -155,7 +155,7 @@ fn pages(rt: HostRuntime) -> Result<(), Fail> {
     let fault = read_page(rt.alloc(), b"7eA//2", 3, Dialect::V110, &[0; 240], 7).err();
     assert_eq!(rt;
         fault,
-        Some(Refused::Fault(TailFault::PieceOutside { page: 7 }))
+        Some(Refused::Fault(FumenFault::PieceOutside { page: 7 }))
     );
     // `v115@vhAJHYaAkeEfEXoC+BlvlzByEEfE03k2AlP5ABwvDfE`, of another program.
     let digits = b"vhAJHYaAkeEfEXoC+BlvlzByEEfE03k2AlP5ABwvDfE";

@@ -2,7 +2,7 @@
 use Rattle.std.proofs.Common.{◌≡◌, ℕ, zero, suc, ◌+◌, ◌<◌, ◌≤◌, Bool, true, false, cond, List, [], ◌++◌, length, Result, Ok, Err, refl, sym, ap, subst, ◌∙◌, inl, inr, arith}
 use Rattle.fumen_digits.specs.declared.dialect.Dialect.{Dialect}
 use Rattle.fumen_digits.specs.Number.{digits, Stands, NumberStands}
-use Rattle.fumen_digits.specs.Fault.{Fault}
+use Rattle.fumen_digits.specs.declared.fault.FumenFault.{FumenFault}
 use Rattle.fumen_digits.specs.Reading.{◌>>=◌, number_at}
 use Rattle.fumen_digits.proofs.CallerLemmas.{bind_ok, bind_err, ok_bind, err_bind, length-digits, Stands-nil, Stands-then, Stands-parts, stands_from_read, read_from_stands, number_fault_from_read, read_from_number_fault}
 use Rattle.fumen_pages.specs.declared.record.CellsRead.{CellsRead}
@@ -16,11 +16,11 @@ use Rattle.fumen_text.specs.Spells.{SpellsCells}
 use Rattle.fumen_text.specs.Faults.{CellsStand, IsCellsFault}
 use Rattle.fumen_text.specs.Reading.{position, promise_at, page_cells_at}
 
-done_position : (x y : Position) → ◌≡◌ {A = Result Position Fault} (Ok x) (Ok y) → x ≡ y
+done_position : (x y : Position) → ◌≡◌ {A = Result Position FumenFault} (Ok x) (Ok y) → x ≡ y
 done_position x y e = cc
 
 -- the place behind a record, by whether it is the unchanged run
-abbrev promise_by : List ℕ → CellsRead → Bool → Result Position Fault
+abbrev promise_by : List ℕ → CellsRead → Bool → Result Position FumenFault
 promise_by ds read unchanged =
     cond unchanged (number_at ds read.place 1 >>= λ after. Ok (position (read.place + 1) read.cells after)) (Ok (position read.place read.cells 0))
 
@@ -108,7 +108,7 @@ read_from_cells d ds place before promised j cells after sound s =
 
 -- ---- faults
 
-promise_fault_from_read : (d : Dialect) (ds : List ℕ) (place : ℕ) (before : List ℕ) (read : CellsRead) (f : Fault) (kind : Bool) → KindStands d ds place before read kind → promise_by ds read kind ≡ Err f
+promise_fault_from_read : (d : Dialect) (ds : List ℕ) (place : ℕ) (before : List ℕ) (read : CellsRead) (f : FumenFault) (kind : Bool) → KindStands d ds place before read kind → promise_by ds read kind ≡ Err f
     → IsCellsFault d ds place before 0 f
 promise_fault_from_read d ds place before read f true s e =
     elim (bind_err (number_at ds read.place 1) (λ after. Ok (position (read.place + 1) read.cells after)) f e) [
@@ -118,7 +118,7 @@ promise_fault_from_read d ds place before read f true s e =
     ]
 promise_fault_from_read d ds place before read f false s e = absurd cc
 
-pub cells_fault_from_read : (d : Dialect) (ds : List ℕ) (place : ℕ) (before : List ℕ) (promised : ℕ) (f : Fault) → place ≤ length ds → AreCells d before → page_cells_at d ds place before promised ≡ Err f
+pub cells_fault_from_read : (d : Dialect) (ds : List ℕ) (place : ℕ) (before : List ℕ) (promised : ℕ) (f : FumenFault) → place ≤ length ds → AreCells d before → page_cells_at d ds place before promised ≡ Err f
     → IsCellsFault d ds place before promised f
 unfolding page_cells_at
 cells_fault_from_read d ds place before zero f le cells e =
@@ -129,7 +129,7 @@ cells_fault_from_read d ds place before zero f le cells e =
     ]
 cells_fault_from_read d ds place before (suc left) f le cells e = absurd cc
 
-pub read_from_cells_fault : (d : Dialect) (ds : List ℕ) (place : ℕ) (before : List ℕ) (promised : ℕ) (f : Fault) → AreCells d before → IsCellsFault d ds place before promised f
+pub read_from_cells_fault : (d : Dialect) (ds : List ℕ) (place : ℕ) (before : List ℕ) (promised : ℕ) (f : FumenFault) → AreCells d before → IsCellsFault d ds place before promised f
     → page_cells_at d ds place before promised ≡ Err f
 unfolding page_cells_at
 read_from_cells_fault d ds place before zero f sound (inl bad) =

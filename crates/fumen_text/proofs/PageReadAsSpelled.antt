@@ -1,7 +1,7 @@
 -- One page: what is read stands there, and what stands there is read; a fault is the first one there.
 use Rattle.std.proofs.Common.{◌≡◌, ℕ, ◌≤◌, List, length, Result, Ok, Err, refl, sym, subst, ◌∙◌, inl, inr}
 use Rattle.fumen_digits.specs.declared.dialect.Dialect.{Dialect}
-use Rattle.fumen_digits.specs.Fault.{Fault}
+use Rattle.fumen_digits.specs.declared.fault.FumenFault.{FumenFault}
 use Rattle.fumen_digits.specs.Reading.{◌>>=◌}
 use Rattle.fumen_digits.proofs.CallerLemmas.{bind_ok, bind_err, ok_bind, err_bind}
 use Rattle.fumen_pages.specs.declared.page.Page.{Page}
@@ -28,10 +28,10 @@ pub record IsStep (d : Dialect) (ds : List ℕ) (place : ℕ) (before : List ℕ
   pub stands : PageStands d ds place before promised step.0 step.1.place step.1.promised
   pub leaves : step.1.cells ≡ next d step.0
 
-done_step : (x y : Page × Position) → ◌≡◌ {A = Result (Page × Position) Fault} (Ok x) (Ok y) → x ≡ y
+done_step : (x y : Page × Position) → ◌≡◌ {A = Result (Page × Position) FumenFault} (Ok x) (Ok y) → x ≡ y
 done_step x y e = cc
 
-abbrev then_tail : Dialect → List ℕ → ℕ → Position → Result (Page × Position) Fault
+abbrev then_tail : Dialect → List ℕ → ℕ → Position → Result (Page × Position) FumenFault
 then_tail d ds number at =
     page_at d at.cells number ds at.place >>= λ page. Ok (page.0, position page.1 (next d page.0) at.promised)
 
@@ -66,7 +66,7 @@ read_from_step d ds number place before promised page end after sound s =
     ok_bind (page_cells_at d ds place before promised) (λ at. then_tail d ds number at) (position s.middle page.cells after) (read_from_cells d ds place before promised s.middle page.cells after sound s.cells)
     ∙ ok_bind (page_at d page.cells number ds s.middle) (λ x. Ok (x.0, position x.1 (next d x.0) after)) (page, end) (read_from_page d page.cells number ds s.middle page end refl s.tail)
 
-pub step_fault_from_read : (d : Dialect) (ds : List ℕ) (number place : ℕ) (before : List ℕ) (promised : ℕ) (f : Fault) → place ≤ length ds → AreCells d before → next_page_at d ds number place before promised ≡ Err f
+pub step_fault_from_read : (d : Dialect) (ds : List ℕ) (number place : ℕ) (before : List ℕ) (promised : ℕ) (f : FumenFault) → place ≤ length ds → AreCells d before → next_page_at d ds number place before promised ≡ Err f
     → IsPageFault d ds number place before promised f
 unfolding next_page_at
 step_fault_from_read d ds number place before promised f le sound e =
@@ -81,7 +81,7 @@ step_fault_from_read d ds number place before promised f le sound e =
           ]
     ]
 
-pub read_from_step_fault : (d : Dialect) (ds : List ℕ) (number place : ℕ) (before : List ℕ) (promised : ℕ) (f : Fault) → AreCells d before → IsPageFault d ds number place before promised f
+pub read_from_step_fault : (d : Dialect) (ds : List ℕ) (number place : ℕ) (before : List ℕ) (promised : ℕ) (f : FumenFault) → AreCells d before → IsPageFault d ds number place before promised f
     → next_page_at d ds number place before promised ≡ Err f
 unfolding next_page_at
 read_from_step_fault d ds number place before promised f sound (inl bad) =

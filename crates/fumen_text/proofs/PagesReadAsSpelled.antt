@@ -1,8 +1,8 @@
 -- Pages one after the other: what is read stands there, and what stands there is read; a fault is the first one there.
 use Rattle.std.proofs.Common.{◌≡◌, ℕ, zero, suc, ◌+◌, ◌-◌, ◌<◌, ◌≤◌, Bool, true, false, cond, List, [], ◌∷◌, ◌++◌, length, Result, Ok, Err, refl, sym, ap, subst, ◌∙◌, ◌⊎◌, inl, inr, arith}
 use Rattle.fumen_digits.specs.declared.dialect.Dialect.{Dialect}
-use Rattle.fumen_digits.specs.Fault.{Fault}
-use Rattle.fumen_digits.specs.Fault.Fault.{TooManyPages}
+use Rattle.fumen_digits.specs.declared.fault.FumenFault.{FumenFault}
+use Rattle.fumen_digits.specs.declared.fault.FumenFault.TheVariants.{TooManyPages}
 use Rattle.fumen_digits.specs.Reading.{◌>>=◌}
 use Rattle.fumen_digits.proofs.CallerLemmas.{bind_ok, bind_err, ok_bind, err_bind}
 use Rattle.fumen_pages.specs.declared.page.Page.{Page}
@@ -16,22 +16,22 @@ use Rattle.fumen_text.proofs.PageReadAsSpelled.{PageStands, step_from_read, read
 use Rattle.fumen_text.proofs.WholePages.{due_cases, is_due-due, page_has_digits, whole_none, whole_more, whole_parts, whole_nothing}
 
 -- the pages read so far, and those still to come
-unfoldable pub with_front : List Page → Result (List Page) Fault → Result (List Page) Fault
+unfoldable pub with_front : List Page → Result (List Page) FumenFault → Result (List Page) FumenFault
 with_front front read = read >>= λ pages. Ok (front ++ pages)
 
-pub from_nothing : (read : Result (List Page) Fault) → with_front [] read ≡ read
+pub from_nothing : (read : Result (List Page) FumenFault) → with_front [] read ≡ read
 unfolding with_front
 from_nothing (Ok pages) = refl
 from_nothing (Err f) = refl
 
-pub one_in_front : (page : Page) (pages : List Page) (read : Result (List Page) Fault) → (with_front pages read >>= λ others. Ok (page ∷ others)) ≡ with_front (page ∷ pages) read
+pub one_in_front : (page : Page) (pages : List Page) (read : Result (List Page) FumenFault) → (with_front pages read >>= λ others. Ok (page ∷ others)) ≡ with_front (page ∷ pages) read
 unfolding with_front
 one_in_front page pages (Ok others) = refl
 one_in_front page pages (Err f) = refl
 
 -- ---- one turn
 
-abbrev pub others_at : Dialect → List ℕ → ℕ → ℕ → Page × Position → Result (List Page) Fault
+abbrev pub others_at : Dialect → List ℕ → ℕ → ℕ → Page × Position → Result (List Page) FumenFault
 others_at d ds room number step =
     pages_at d ds room (number + 1) step.1.place step.1.cells step.1.promised >>= λ pages. Ok (step.0 ∷ pages)
 
@@ -76,7 +76,7 @@ read_whole d ds (page ∷ pages) room total number behind place before promised 
     let rest = read_whole d ds pages room (length pages + room) (number + 1) behind parts.end (next d page) parts.between k cells after refl (omega arith) (next_cells_sound d page one.sound) parts.others in
     ap (λ (n : ℕ). pages_at d ds n number place before promised) more
     ∙ (read_page_first d ds (length pages + room) number place before promised page parts.end parts.between sound one
-    ∙ (ap (λ (r : Result (List Page) Fault). r >>= λ others. Ok (page ∷ others)) rest ∙ one_in_front page pages (pages_at d ds room behind k cells after)))
+    ∙ (ap (λ (r : Result (List Page) FumenFault). r >>= λ others. Ok (page ∷ others)) rest ∙ one_in_front page pages (pages_at d ds room behind k cells after)))
 
 -- what whole pages leave may be a page's cells
 pub whole_sound : (d : Dialect) (ds : List ℕ) (place : ℕ) (before : List ℕ) (promised : ℕ) (pages : List Page) (k : ℕ) (cells : List ℕ) (after : ℕ) → AreCells d before → PagesStand d ds place before promised pages k cells after → AreCells d cells
@@ -93,7 +93,7 @@ pub record ReadToEnd (d : Dialect) (ds : List ℕ) (room place : ℕ) (before : 
   pub stand : PagesStand d ds place before promised pages (length ds) cells 0
   pub few : length pages ≤ room
 
-done_pages : (x y : List Page) → ◌≡◌ {A = Result (List Page) Fault} (Ok x) (Ok y) → x ≡ y
+done_pages : (x y : List Page) → ◌≡◌ {A = Result (List Page) FumenFault} (Ok x) (Ok y) → x ≡ y
 done_pages x y e = cc
 
 ended : (d : Dialect) (ds : List ℕ) (room place : ℕ) (before : List ℕ) (promised : ℕ) → place ≤ length ds → length ds ≤ place → promised ≡ 0 → ReadToEnd d ds room place before promised []
@@ -154,7 +154,7 @@ pages_from_read d ds (suc room) number place before promised pages le sound e =
 -- ---- faults
 
 -- pages stand whole up to a place, and one more is due there, which is one too many, or has a fault
-pub record MeetsFault (d : Dialect) (ds : List ℕ) (room number place : ℕ) (before : List ℕ) (promised : ℕ) (f : Fault) : Type 0 where
+pub record MeetsFault (d : Dialect) (ds : List ℕ) (room number place : ℕ) (before : List ℕ) (promised : ℕ) (f : FumenFault) : Type 0 where
   pub pages : List Page
   pub k : ℕ
   pub cells : List ℕ
@@ -165,7 +165,7 @@ pub record MeetsFault (d : Dialect) (ds : List ℕ) (room number place : ℕ) (b
       ((length pages ≡ room) × (f ≡ TooManyPages))
       ⊎ ((length pages < room) × IsPageFault d ds (length pages + number) k cells after f)
 
-fault_here : (d : Dialect) (ds : List ℕ) (room number place : ℕ) (before : List ℕ) (promised : ℕ) (f : Fault) → place ≤ length ds → IsDue ds place promised
+fault_here : (d : Dialect) (ds : List ℕ) (room number place : ℕ) (before : List ℕ) (promised : ℕ) (f : FumenFault) → place ≤ length ds → IsDue ds place promised
     → ((0 ≡ room) × (f ≡ TooManyPages)) ⊎ ((0 < room) × IsPageFault d ds number place before promised f)
     → MeetsFault d ds room number place before promised f
 fault_here d ds room number place before promised f le due (inl full) =
@@ -182,7 +182,7 @@ fault_here d ds room number place before promised f le due (inr bad) =
       fault = inr (bad.0, subst (λ (n : ℕ). IsPageFault d ds n place before promised f) here bad.1);
     }
 
-fault_behind : (d : Dialect) (ds : List ℕ) (room number place : ℕ) (before : List ℕ) (promised : ℕ) (page : Page) (end between : ℕ) (f : Fault) → PageStands d ds place before promised page end between
+fault_behind : (d : Dialect) (ds : List ℕ) (room number place : ℕ) (before : List ℕ) (promised : ℕ) (page : Page) (end between : ℕ) (f : FumenFault) → PageStands d ds place before promised page end between
     → MeetsFault d ds room (number + 1) end (next d page) between f → MeetsFault d ds (suc room) number place before promised f
 fault_behind d ds room number place before promised page end between f one m =
     record {
@@ -200,14 +200,14 @@ fault_behind d ds room number place before promised page end between f one m =
       ];
     }
 
-same_fault : (f g : Fault) → ◌≡◌ {A = Result (List Page) Fault} (Err f) (Err g) → g ≡ f
+same_fault : (f g : FumenFault) → ◌≡◌ {A = Result (List Page) FumenFault} (Err f) (Err g) → g ≡ f
 same_fault f g e = cc
 
-no_fault : {A : Type 0} (d : Dialect) (ds : List ℕ) (room number place : ℕ) (before : List ℕ) (promised : ℕ) (f : Fault) → is_due ds place promised ≡ false → pages_at d ds room number place before promised ≡ Err f → A
+no_fault : {A : Type 0} (d : Dialect) (ds : List ℕ) (room number place : ℕ) (before : List ℕ) (promised : ℕ) (f : FumenFault) → is_due ds place promised ≡ false → pages_at d ds room number place before promised ≡ Err f → A
 no_fault d ds room number place before promised f not e =
     absurd (let never = sym (turn_ended d ds room number place before promised not) ∙ e in cc)
 
-pub pages_fault_from_read : (d : Dialect) (ds : List ℕ) (room number place : ℕ) (before : List ℕ) (promised : ℕ) (f : Fault) → place ≤ length ds → AreCells d before → pages_at d ds room number place before promised ≡ Err f
+pub pages_fault_from_read : (d : Dialect) (ds : List ℕ) (room number place : ℕ) (before : List ℕ) (promised : ℕ) (f : FumenFault) → place ≤ length ds → AreCells d before → pages_at d ds room number place before promised ≡ Err f
     → MeetsFault d ds room number place before promised f
 pages_fault_from_read d ds zero number place before promised f le sound e =
     elim (due_cases ds place promised) [
@@ -233,7 +233,7 @@ pages_fault_from_read d ds (suc room) number place before promised f le sound e 
     ]
 
 -- a fault that is met is read
-pub read_from_fault : (d : Dialect) (ds : List ℕ) (room number place : ℕ) (before : List ℕ) (promised : ℕ) (f : Fault) → AreCells d before → MeetsFault d ds room number place before promised f
+pub read_from_fault : (d : Dialect) (ds : List ℕ) (room number place : ℕ) (before : List ℕ) (promised : ℕ) (f : FumenFault) → AreCells d before → MeetsFault d ds room number place before promised f
     → pages_at d ds room number place before promised ≡ Err f
 unfolding with_front
 read_from_fault d ds room number place before promised f sound m =
@@ -242,12 +242,12 @@ read_from_fault d ds room number place before promised f sound m =
     elim m.fault [
       | inl full ↦
           read_whole d ds m.pages 0 room number (length m.pages + number) place before promised m.k m.cells m.after (omega (arith, full.0)) refl sound m.stand
-          ∙ (ap (λ (r : Result (List Page) Fault). with_front m.pages r) (turn_full d ds (length m.pages + number) m.k m.cells m.after due) ∙ ap (λ (x : Fault). Err x) (sym full.1))
+          ∙ (ap (λ (r : Result (List Page) FumenFault). with_front m.pages r) (turn_full d ds (length m.pages + number) m.k m.cells m.after due) ∙ ap (λ (x : FumenFault). Err x) (sym full.1))
       | inr bad ↦
           let left = room - length m.pages - 1 in
           let whole = read_whole d ds m.pages (suc left) room number (length m.pages + number) place before promised m.k m.cells m.after (omega (arith, bad.0)) refl sound m.stand in
           let failed : pages_at d ds (suc left) (length m.pages + number) m.k m.cells m.after ≡ Err f =
           turn_due d ds left (length m.pages + number) m.k m.cells m.after due
           ∙ err_bind (next_page_at d ds (length m.pages + number) m.k m.cells m.after) (λ step. others_at d ds left (length m.pages + number) step) f (read_from_step_fault d ds (length m.pages + number) m.k m.cells m.after f cells bad.1) in
-          whole ∙ ap (λ (r : Result (List Page) Fault). with_front m.pages r) failed
+          whole ∙ ap (λ (r : Result (List Page) FumenFault). with_front m.pages r) failed
     ]

@@ -4,8 +4,8 @@ use Rattle.std.proofs.lemmas.List.{append-nil, length-append}
 use Rattle.pc_outside.specs.declared.answers.Refused.{Refused}
 use Rattle.pc_outside.specs.declared.answers.Refused.TheVariants as refused
 use Rattle.fumen_digits.specs.declared.dialect.Dialect.{Dialect}
-use Rattle.fumen_digits.specs.Fault.{Fault}
-use Rattle.fumen_digits.specs.Fault.Fault.{TooManyPages}
+use Rattle.fumen_digits.specs.declared.fault.FumenFault.{FumenFault}
+use Rattle.fumen_digits.specs.declared.fault.FumenFault.TheVariants.{TooManyPages}
 use Rattle.fumen_digits.specs.Reading.{◌>>=◌}
 use Rattle.fumen_digits.specs.Answers.{IsRefusal}
 use Rattle.fumen_digits.proofs.CallerLemmas.{ok_bind, err_bind}
@@ -14,10 +14,8 @@ use Rattle.fumen_pages.specs.declared.record.CellsRead.{CellsRead}
 use Rattle.fumen_pages.specs.Cells.{AreCells}
 use Rattle.fumen_pages.specs.Reading.{record_at}
 use Rattle.fumen_text.specs.declared.position.Position.{Position}
-use Rattle.fumen_text.specs.declared.fault.FumenFault.{FumenFault}
-use Rattle.fumen_text.specs.Texts.{empty_cells}
+use Rattle.fumen_text.specs.Texts.{empty_page}
 use Rattle.fumen_text.specs.Reading.{page_cells_at, is_due, pages_at, position, promise_at, next_page_at}
-use Rattle.fumen_text.specs.Faults.{fumen_fault}
 use Rattle.fumen_text.proofs.PagesReadAsSpelled.{from_nothing, others_at, turn_due, turn_ended, turn_full, with_front}
 use Rattle.fumen_text.proofs.TextReadAsSpelled.{empty_sound}
 
@@ -35,9 +33,9 @@ unfolding page_cells_at
 cells_recorded d ds place before zero read none e = sym (ok_bind (record_at d ds place before) (λ r. promise_at ds r) read e)
 cells_recorded d ds place before (suc left) read none e = absurd (omega (arith, none))
 
-pub cells_refused : (e : Refused FumenFault) (d : Dialect) (ds : List ℕ) (place : ℕ) (before : List ℕ) (promised : ℕ) → promised ≡ 0 → IsRefusal fumen_fault e (record_at d ds place before) → IsRefusal fumen_fault e (page_cells_at d ds place before promised)
+pub cells_refused : (e : Refused FumenFault) (d : Dialect) (ds : List ℕ) (place : ℕ) (before : List ℕ) (promised : ℕ) → promised ≡ 0 → IsRefusal (λ (f : FumenFault). f) e (record_at d ds place before) → IsRefusal (λ (f : FumenFault). f) e (page_cells_at d ds place before promised)
 unfolding page_cells_at
-cells_refused (refused.Fault f) d ds place before zero none read = err_bind (record_at d ds place before) (λ r. promise_at ds r) (fumen_fault f) read
+cells_refused (refused.Fault f) d ds place before zero none read = err_bind (record_at d ds place before) (λ r. promise_at ds r) f read
 cells_refused (refused.Fault f) d ds place before (suc left) none read = absurd (omega (arith, none))
 cells_refused refused.NoMemory d ds place before promised none read = tt
 
@@ -50,19 +48,19 @@ pub record IsReadSoFar (d : Dialect) (ds : List ℕ) (most : ℕ) (pages : List 
   pub few : length pages ≤ most
   pub completes :
       with_front pages (pages_at d ds (most - length pages) (length pages + 1) at.place at.cells at.promised)
-      ≡ pages_at d ds most 1 0 empty_cells 0
+      ≡ pages_at d ds most 1 0 empty_page 0
 
-pub read_starts : (d : Dialect) (ds : List ℕ) (most : ℕ) → IsReadSoFar d ds most [] (position 0 empty_cells 0)
+pub read_starts : (d : Dialect) (ds : List ℕ) (most : ℕ) → IsReadSoFar d ds most [] (position 0 empty_page 0)
 read_starts d ds most =
     let all : most - 0 ≡ most = omega arith in
     record {
       within = omega arith;
       sound = empty_sound d;
       few = omega arith;
-      completes = from_nothing (pages_at d ds (most - 0) 1 0 empty_cells 0) ∙ ap (λ (n : ℕ). pages_at d ds n 1 0 empty_cells 0) all;
+      completes = from_nothing (pages_at d ds (most - 0) 1 0 empty_page 0) ∙ ap (λ (n : ℕ). pages_at d ds n 1 0 empty_page 0) all;
     }
 
-regroup : (pages : List Page) (page : Page) (read : Result (List Page) Fault) → with_front pages (read >>= λ others. Ok (page ∷ others)) ≡ with_front (pages ++ page ∷ []) read
+regroup : (pages : List Page) (page : Page) (read : Result (List Page) FumenFault) → with_front pages (read >>= λ others. Ok (page ∷ others)) ≡ with_front (pages ++ page ∷ []) read
 unfolding with_front
 regroup pages page (Ok others) = ap (λ (x : List Page). Ok x) (sym (append_assoc pages (page ∷ []) others))
 regroup pages page (Err f) = refl
@@ -90,38 +88,38 @@ read_more d ds most count pages at step due counted fewer read_counted within so
       sound = sound;
       few = omega (arith, more);
       completes =
-          ap (λ (r : Result (List Page) Fault). with_front (pages ++ step.0 ∷ []) r) behind
-          ∙ (sym (regroup pages step.0 others) ∙ (ap (λ (r : Result (List Page) Fault). with_front pages r) (sym turn) ∙ s.completes));
+          ap (λ (r : Result (List Page) FumenFault). with_front (pages ++ step.0 ∷ []) r) behind
+          ∙ (sym (regroup pages step.0 others) ∙ (ap (λ (r : Result (List Page) FumenFault). with_front pages r) (sym turn) ∙ s.completes));
     }
 
 pub read_stops : (e : Refused FumenFault) (d : Dialect) (ds : List ℕ) (most count : ℕ) (pages : List Page) (at : Position) → is_due ds at.place at.promised ≡ true → count ≡ length pages → count < most
-    → IsRefusal fumen_fault e (next_page_at d ds (count + 1) at.place at.cells at.promised) → IsReadSoFar d ds most pages at
-    → IsRefusal fumen_fault e (pages_at d ds most 1 0 empty_cells 0)
+    → IsRefusal (λ (f : FumenFault). f) e (next_page_at d ds (count + 1) at.place at.cells at.promised) → IsReadSoFar d ds most pages at
+    → IsRefusal (λ (f : FumenFault). f) e (pages_at d ds most 1 0 empty_page 0)
 unfolding with_front
 read_stops (refused.Fault f) d ds most count pages at due counted fewer read_counted s =
-    let read = subst (λ (n : ℕ). next_page_at d ds (n + 1) at.place at.cells at.promised ≡ Err (fumen_fault f)) counted read_counted in
+    let read = subst (λ (n : ℕ). next_page_at d ds (n + 1) at.place at.cells at.promised ≡ Err f) counted read_counted in
     let left = most - length pages - 1 in
     let room : most - length pages ≡ suc left = omega arith in
     let number = length pages + 1 in
-    let failed : pages_at d ds (most - length pages) number at.place at.cells at.promised ≡ Err (fumen_fault f) =
+    let failed : pages_at d ds (most - length pages) number at.place at.cells at.promised ≡ Err f =
     ap (λ (n : ℕ). pages_at d ds n number at.place at.cells at.promised) room
-    ∙ (turn_due d ds left number at.place at.cells at.promised due ∙ err_bind (next_page_at d ds number at.place at.cells at.promised) (λ x. others_at d ds left number x) (fumen_fault f) read) in
-    sym s.completes ∙ ap (λ (r : Result (List Page) Fault). with_front pages r) failed
+    ∙ (turn_due d ds left number at.place at.cells at.promised due ∙ err_bind (next_page_at d ds number at.place at.cells at.promised) (λ x. others_at d ds left number x) f read) in
+    sym s.completes ∙ ap (λ (r : Result (List Page) FumenFault). with_front pages r) failed
 read_stops refused.NoMemory d ds most count pages at due counted fewer read s = tt
 
 pub read_full : (d : Dialect) (ds : List ℕ) (most count : ℕ) (pages : List Page) (at : Position) → is_due ds at.place at.promised ≡ true → count ≡ length pages → count ≡ most → IsReadSoFar d ds most pages at
-    → pages_at d ds most 1 0 empty_cells 0 ≡ Err TooManyPages
+    → pages_at d ds most 1 0 empty_page 0 ≡ Err TooManyPages
 unfolding with_front
 read_full d ds most count pages at due counted full s =
     let none : most - length pages ≡ 0 = omega arith in
     let number = length pages + 1 in
     let failed : pages_at d ds (most - length pages) number at.place at.cells at.promised ≡ Err TooManyPages =
     ap (λ (n : ℕ). pages_at d ds n number at.place at.cells at.promised) none ∙ turn_full d ds number at.place at.cells at.promised due in
-    sym s.completes ∙ ap (λ (r : Result (List Page) Fault). with_front pages r) failed
+    sym s.completes ∙ ap (λ (r : Result (List Page) FumenFault). with_front pages r) failed
 
-pub read_ends : (d : Dialect) (ds : List ℕ) (most : ℕ) (pages : List Page) (at : Position) → is_due ds at.place at.promised ≡ false → IsReadSoFar d ds most pages at → pages_at d ds most 1 0 empty_cells 0 ≡ Ok pages
+pub read_ends : (d : Dialect) (ds : List ℕ) (most : ℕ) (pages : List Page) (at : Position) → is_due ds at.place at.promised ≡ false → IsReadSoFar d ds most pages at → pages_at d ds most 1 0 empty_page 0 ≡ Ok pages
 unfolding with_front
 read_ends d ds most pages at ended s =
     sym s.completes
-    ∙ (ap (λ (r : Result (List Page) Fault). with_front pages r) (turn_ended d ds (most - length pages) (length pages + 1) at.place at.cells at.promised ended)
+    ∙ (ap (λ (r : Result (List Page) FumenFault). with_front pages r) (turn_ended d ds (most - length pages) (length pages + 1) at.place at.cells at.promised ended)
     ∙ ap (λ (x : List Page). Ok x) (append-nil pages))

@@ -6,13 +6,13 @@ use Rattle.std.proofs.lemmas.List.Elements.{All-replicate}
 use Rattle.fumen_digits.specs.declared.dialect.Dialect.{Dialect}
 use Rattle.fumen_digits.specs.declared.dialect.Dialect.TheVariants.{V110, V115}
 use Rattle.fumen_digits.specs.Framing.{digits_in}
-use Rattle.fumen_digits.specs.Fault.{Fault}
-use Rattle.fumen_digits.specs.Fault.Fault.{NoFumen}
+use Rattle.fumen_digits.specs.declared.fault.FumenFault.{FumenFault}
+use Rattle.fumen_digits.specs.declared.fault.FumenFault.TheVariants.{NoFumen}
 use Rattle.fumen_digits.proofs.CallerLemmas.{bind_ok, bind_err, ok_bind, err_bind}
 use Rattle.fumen_pages.specs.declared.page.Page.{Page}
 use Rattle.fumen_pages.specs.Cells.{AreCells, IsColour}
 use Rattle.fumen_text.specs.Spells.{SpellsFumen}
-use Rattle.fumen_text.specs.Texts.{ReadsAs, empty_cells, most_pages}
+use Rattle.fumen_text.specs.Texts.{ReadsAs, empty_page, most_pages}
 use Rattle.fumen_text.specs.Faults.{IsDigitsFault, IsTextFault, PagesStand}
 use Rattle.fumen_text.specs.Reading.{framed_pages, pages_at, pages_of_digits, text_pages}
 use Rattle.fumen_text.proofs.WholePages.{all_stands, stands_all, spells_from_whole, whole_from_spells, is_due-ended}
@@ -23,7 +23,7 @@ use Rattle.fumen_text.proofs.PagesReadAsSpelled.{MeetsFault, pages_from_read, pa
 no_colours : (n : ℕ) → All IsColour (replicate n 0)
 no_colours n = All-replicate IsColour n 0 (omega arith)
 
-pub empty_sound : (d : Dialect) → AreCells d empty_cells
+pub empty_sound : (d : Dialect) → AreCells d empty_page
 empty_sound V110 = record { size = refl; colours = no_colours 240; missing = refl }
 empty_sound V115 = record { size = refl; colours = no_colours 240; missing = refl }
 
@@ -42,22 +42,22 @@ read_from_spells d ds room before pages sound spells few =
     let stand : PagesStand d ds 0 before 0 pages (length ds) whole.0 0 = record { text = ds; stands = stands_all ds; spells = whole.1 } in
     let left = room - length pages in
     read_whole d ds pages left room 1 (length pages + 1) 0 before 0 (length ds) whole.0 0 (omega arith) refl sound stand
-    ∙ (ap (λ (r : Result (List Page) Fault). with_front pages r) (turn_ended d ds left (length pages + 1) (length ds) whole.0 0 (is_due-ended ds (length ds) 0 (omega arith) refl))
+    ∙ (ap (λ (r : Result (List Page) FumenFault). with_front pages r) (turn_ended d ds left (length pages + 1) (length ds) whole.0 0 (is_due-ended ds (length ds) 0 (omega arith) refl))
     ∙ ap (λ (x : List Page). Ok x) (append-nil pages))
 
 -- ---- texts
 
-abbrev with_dialect : Dialect → List Page → Result (Dialect × List Page) Fault
+abbrev with_dialect : Dialect → List Page → Result (Dialect × List Page) FumenFault
 with_dialect d pages = Ok (d, pages)
 
-done_text : (x y : Dialect × List Page) → ◌≡◌ {A = Result (Dialect × List Page) Fault} (Ok x) (Ok y) → x ≡ y
+done_text : (x y : Dialect × List Page) → ◌≡◌ {A = Result (Dialect × List Page) FumenFault} (Ok x) (Ok y) → x ≡ y
 done_text x y e = cc
 
 framed_read : (text : List ℕ) (framed : Option (Dialect × List ℕ)) (x : Dialect × List Page) → digits_in text ≡ framed → framed_pages framed ≡ Ok x → ReadsAs text x.0 x.1
 framed_read text None x is e = absurd cc
 framed_read text (Some (d, ds)) x is e =
     let p = bind_ok (pages_of_digits d ds) (λ pages. with_dialect d pages) x e in
-    let spelled = spells_from_read d ds most_pages empty_cells p.0 (empty_sound d) p.1 in
+    let spelled = spells_from_read d ds most_pages empty_page p.0 (empty_sound d) p.1 in
     subst (λ (y : Dialect × List Page). ReadsAs text y.0 y.1) (done_text (d, p.0) x p.2) (record { ds = ds; framed = is; spelled = spelled.0; few = spelled.1 })
 
 pub text_from_read : (text : List ℕ) (x : Dialect × List Page) → text_pages text ≡ Ok x → ReadsAs text x.0 x.1
@@ -66,40 +66,40 @@ text_from_read text x e = framed_read text (digits_in text) x refl e
 pub read_from_text : (text : List ℕ) (d : Dialect) (pages : List Page) → ReadsAs text d pages → text_pages text ≡ Ok (d, pages)
 read_from_text text d pages reads =
     ap framed_pages reads.framed
-    ∙ ok_bind (pages_of_digits d reads.ds) (λ x. with_dialect d x) pages (read_from_spells d reads.ds most_pages empty_cells pages (empty_sound d) reads.spelled reads.few)
+    ∙ ok_bind (pages_of_digits d reads.ds) (λ x. with_dialect d x) pages (read_from_spells d reads.ds most_pages empty_page pages (empty_sound d) reads.spelled reads.few)
 
-same_fault : (f g : Fault) → ◌≡◌ {A = Result (Dialect × List Page) Fault} (Err f) (Err g) → g ≡ f
+same_fault : (f g : FumenFault) → ◌≡◌ {A = Result (Dialect × List Page) FumenFault} (Err f) (Err g) → g ≡ f
 same_fault f g e = cc
 
-met_in_digits : (d : Dialect) (ds : List ℕ) (f : Fault) → MeetsFault d ds most_pages 1 0 empty_cells 0 f → IsDigitsFault d ds f
+met_in_digits : (d : Dialect) (ds : List ℕ) (f : FumenFault) → MeetsFault d ds most_pages 1 0 empty_page 0 f → IsDigitsFault d ds f
 met_in_digits d ds f m =
     record { pages = m.pages; k = m.k; cells = m.cells; promised = m.after; stand = m.stand; due = m.due; fault = m.fault }
 
-framed_fault : (text : List ℕ) (framed : Option (Dialect × List ℕ)) (f : Fault) → digits_in text ≡ framed → framed_pages framed ≡ Err f → IsTextFault text f
+framed_fault : (text : List ℕ) (framed : Option (Dialect × List ℕ)) (f : FumenFault) → digits_in text ≡ framed → framed_pages framed ≡ Err f → IsTextFault text f
 framed_fault text None f is e = inl (is, same_fault NoFumen f e)
 framed_fault text (Some (d, ds)) f is e =
     elim (bind_err (pages_of_digits d ds) (λ pages. with_dialect d pages) f e) [
-      | inl bad ↦ inr (d, ds, is, met_in_digits d ds f (pages_fault_from_read d ds most_pages 1 0 empty_cells 0 f (omega arith) (empty_sound d) bad))
+      | inl bad ↦ inr (d, ds, is, met_in_digits d ds f (pages_fault_from_read d ds most_pages 1 0 empty_page 0 f (omega arith) (empty_sound d) bad))
       | inr p ↦ absurd (let never = p.2 in cc)
     ]
 
-pub text_fault_from_read : (text : List ℕ) (f : Fault) → text_pages text ≡ Err f → IsTextFault text f
+pub text_fault_from_read : (text : List ℕ) (f : FumenFault) → text_pages text ≡ Err f → IsTextFault text f
 text_fault_from_read text f e = framed_fault text (digits_in text) f refl e
 
-pub read_from_text_fault : (text : List ℕ) (f : Fault) → IsTextFault text f → text_pages text ≡ Err f
-read_from_text_fault text f (inl none) = ap framed_pages none.0 ∙ ap (λ (x : Fault). Err x) (sym none.1)
+pub read_from_text_fault : (text : List ℕ) (f : FumenFault) → IsTextFault text f → text_pages text ≡ Err f
+read_from_text_fault text f (inl none) = ap framed_pages none.0 ∙ ap (λ (x : FumenFault). Err x) (sym none.1)
 read_from_text_fault text f (inr bad) =
     let d = bad.0 in
     let ds = bad.1 in
     let b = bad.3 in
-    let met : MeetsFault d ds most_pages 1 0 empty_cells 0 f = record { pages = b.pages; k = b.k; cells = b.cells; after = b.promised; stand = b.stand; due = b.due; fault = b.fault } in
+    let met : MeetsFault d ds most_pages 1 0 empty_page 0 f = record { pages = b.pages; k = b.k; cells = b.cells; after = b.promised; stand = b.stand; due = b.due; fault = b.fault } in
     ap framed_pages bad.2
-    ∙ err_bind (pages_of_digits d ds) (λ pages. with_dialect d pages) f (read_from_fault d ds most_pages 1 0 empty_cells 0 f (empty_sound d) met)
+    ∙ err_bind (pages_of_digits d ds) (λ pages. with_dialect d pages) f (read_from_fault d ds most_pages 1 0 empty_page 0 f (empty_sound d) met)
 
 -- ---- one reading of each text
 
 -- a text reads as some pages, or has a fault
-pub text_is_read : (text : List ℕ) (read : Result (Dialect × List Page) Fault) → text_pages text ≡ read → ((d : Dialect) × (pages : List Page) × ReadsAs text d pages) ⊎ ((f : Fault) × IsTextFault text f)
+pub text_is_read : (text : List ℕ) (read : Result (Dialect × List Page) FumenFault) → text_pages text ≡ read → ((d : Dialect) × (pages : List Page) × ReadsAs text d pages) ⊎ ((f : FumenFault) × IsTextFault text f)
 text_is_read text (Ok x) e = inl (x.0, x.1, text_from_read text x e)
 text_is_read text (Err f) e = inr (f, text_fault_from_read text f e)
 
@@ -108,10 +108,10 @@ one_list text d pages other others one two =
     let same = done_text (d, pages) (other, others) (sym (read_from_text text d pages one) ∙ read_from_text text other others two) in
     (ap (λ (x : Dialect × List Page). x.0) same, ap (λ (x : Dialect × List Page). x.1) same)
 
-pub one_fault : (text : List ℕ) (f g : Fault) → IsTextFault text f → IsTextFault text g → f ≡ g
+pub one_fault : (text : List ℕ) (f g : FumenFault) → IsTextFault text f → IsTextFault text g → f ≡ g
 one_fault text f g one two =
     same_fault g f (sym (read_from_text_fault text g two) ∙ read_from_text_fault text f one)
 
-pub never_both : (text : List ℕ) (d : Dialect) (pages : List Page) (f : Fault) → ReadsAs text d pages → IsTextFault text f → ⊥
+pub never_both : (text : List ℕ) (d : Dialect) (pages : List Page) (f : FumenFault) → ReadsAs text d pages → IsTextFault text f → ⊥
 never_both text d pages f one two =
     absurd (let never = sym (read_from_text text d pages one) ∙ read_from_text_fault text f two in cc)

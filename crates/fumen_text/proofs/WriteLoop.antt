@@ -8,7 +8,7 @@ use Rattle.fumen_pages.specs.Cells.{AreCells}
 use Rattle.fumen_pages.specs.Next.{next}
 use Rattle.fumen_pages.specs.Record.{unchanged}
 use Rattle.fumen_pages.specs.Written.{written_record}
-use Rattle.fumen_text.specs.Texts.{empty_cells}
+use Rattle.fumen_text.specs.Texts.{empty_page}
 use Rattle.fumen_text.specs.Written.{cells_digits, keeps, pages_digits, promised_behind, tail_digits, unchanged_pages}
 use Rattle.fumen_pages.proofs.CallerLemmas.{written_same}
 use Rattle.fumen_text.proofs.WrittenIsSpelled.{keeps_decides}
@@ -61,9 +61,9 @@ pushed_unchanged d before (suc left) page after old middle new none sound e firs
 -- what is written so far, and what is left completes all
 pub record IsWrittenSoFar (d : Dialect) (pages : List Page) (written before : List ℕ) (promised i : ℕ) : Type 0 where
   pub sound : AreCells d before
-  pub completes : written ++ pages_digits d before promised (drop i pages) ≡ pages_digits d empty_cells 0 pages
+  pub completes : written ++ pages_digits d before promised (drop i pages) ≡ pages_digits d empty_page 0 pages
 
-pub write_starts : (d : Dialect) (pages : List Page) → IsWrittenSoFar d pages [] empty_cells 0 0
+pub write_starts : (d : Dialect) (pages : List Page) → IsWrittenSoFar d pages [] empty_page 0 0
 write_starts d pages = record { sound = empty_sound d; completes = refl }
 
 pub write_more : (d : Dialect) (pages : List Page) (written before : List ℕ) (promised i : ℕ) (page : Page) (after : ℕ) (middle new cells : List ℕ) → i < length pages → page ≡ get_or pages i page
@@ -87,7 +87,7 @@ write_more d pages written before promised i page after middle new cells lt is a
           ∙ (ap (λ (x : List ℕ). written ++ x) (append_assoc head (tail_digits d page) others ∙ sym one) ∙ s.completes)));
     }
 
-pub write_ends : (d : Dialect) (pages : List Page) (written before : List ℕ) (promised i : ℕ) → length pages ≤ i → IsWrittenSoFar d pages written before promised i → written ≡ pages_digits d empty_cells 0 pages
+pub write_ends : (d : Dialect) (pages : List Page) (written before : List ℕ) (promised i : ℕ) → length pages ≤ i → IsWrittenSoFar d pages written before promised i → written ≡ pages_digits d empty_page 0 pages
 unfolding pages_digits
 write_ends d pages written before promised i le s =
     sym (append-nil written) ∙ (ap (λ (x : List Page). written ++ pages_digits d before promised x) (sym (drop_all i pages le)) ∙ s.completes)

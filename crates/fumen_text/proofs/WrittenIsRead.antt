@@ -18,7 +18,7 @@ use Rattle.fumen_pages.specs.Cells.{IsColour, missing_count}
 use Rattle.fumen_pages.specs.Action.{is_inside_in}
 use Rattle.fumen_text.specs.declared.encode_fault.EncodeFault.{EncodeFault}
 use Rattle.fumen_text.specs.declared.encode_fault.EncodeFault.TheVariants as fault
-use Rattle.fumen_text.specs.Texts.{ReadsAs, empty_cells, most_pages}
+use Rattle.fumen_text.specs.Texts.{ReadsAs, empty_page, most_pages}
 use Rattle.fumen_text.specs.Written.{IsRefusedBy, HasTypes, IsWritable, is_short, list_encode_fault, page_encode_fault, pages_digits, pages_encode_fault, written}
 use Rattle.fumen_text.proofs.TextReadAsSpelled.{empty_sound}
 use Rattle.fumen_text.proofs.WrittenIsSpelled.{pages_are_digits, pages_spell}
@@ -110,9 +110,9 @@ few_pages n most rest e =
 fit_reads : (d : Dialect) (pages : List Page) → AllByRecursion (IsWritable d) pages → length pages ≤ most_pages → ReadsAs (written d pages) d pages
 fit_reads d pages fit few =
     record {
-      ds = pages_digits d empty_cells 0 pages;
-      framed = digits_in-broken d (pages_digits d empty_cells 0 pages) (pages_are_digits d empty_cells 0 pages);
-      spelled = pages_spell d empty_cells 0 pages (empty_sound d) fit (omega arith);
+      ds = pages_digits d empty_page 0 pages;
+      framed = digits_in-broken d (pages_digits d empty_page 0 pages) (pages_are_digits d empty_page 0 pages);
+      spelled = pages_spell d empty_page 0 pages (empty_sound d) fit (omega arith);
       few = few;
     }
 

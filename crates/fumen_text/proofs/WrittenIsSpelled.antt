@@ -17,7 +17,7 @@ use Rattle.fumen_pages.specs.Cells.{AreCells}
 use Rattle.fumen_pages.specs.Next.{next}
 use Rattle.fumen_pages.specs.Record.{unchanged, CutsOther}
 use Rattle.fumen_pages.specs.Tail.{Tail, SpellsPart}
-use Rattle.fumen_pages.specs.Written.{number_of, written_record}
+use Rattle.fumen_pages.specs.Written.{action_number_of, written_record}
 use Rattle.fumen_pages.proofs.CallerLemmas.{next_cells_sound, written_other, written_digits as record_digits, number_says}
 use Rattle.fumen_text.specs.Spells.{SpellsFumen, SpellsCells}
 use Rattle.fumen_text.specs.Written.{IsWritable, is_short, cells_digits, keeps, pages_digits, part_digits, promised_behind, tail_digits, unchanged_pages}
@@ -42,7 +42,7 @@ unfolding pages_digits
 pages_are_digits d before promised [] = tt
 pages_are_digits d before promised (page ∷ pages) =
     let after = promised_behind d before promised page pages in
-    let tail = AreDigits-append (digits 3 (number_of d page)) (part_digits page.comment) (AreDigits-digits 3 (number_of d page)) (part_is_digits page.comment) in
+    let tail = AreDigits-append (digits 3 (action_number_of d page)) (part_digits page.comment) (AreDigits-digits 3 (action_number_of d page)) (part_is_digits page.comment) in
     let others = AreDigits-append (tail_digits d page) (pages_digits d (next d page) after pages) tail (pages_are_digits d (next d page) after pages) in
     AreDigits-append (cells_digits d before promised page after) (tail_digits d page ++ pages_digits d (next d page) after pages) (cells_are_digits d before promised page after) others
 
@@ -55,7 +55,7 @@ part_spells (Some u) units short =
 
 tail_spells : (d : Dialect) (page : Page) → IsWritable d page → Tail d page (tail_digits d page)
 tail_spells d page fit =
-    record { number = number_of d page; says = number_says d page fit.sound; part = part_digits page.comment; comment = part_spells page.comment fit.units fit.short; spelled = refl }
+    record { number = action_number_of d page; says = number_says d page fit.sound; part = part_digits page.comment; comment = part_spells page.comment fit.units fit.short; spelled = refl }
 
 -- ---- some pages
 

@@ -3,8 +3,9 @@ use Rattle.std.specs.Prelude.{◌≡◌, ℕ, zero, suc, ◌+◌, ◌<◌, List,
 use Rattle.fumen_digits.specs.declared.dialect.Dialect.{Dialect}
 use Rattle.fumen_digits.specs.Framing.{digits_in}
 use Rattle.fumen_digits.specs.Number.{Stands}
-use Rattle.fumen_digits.specs.Fault.{Fault, IsNumberFault}
-use Rattle.fumen_digits.specs.Fault.Fault.{NoFumen, TooManyPages, BadDigit, Truncated, RunPastEnd, BadCell, BadAction, PieceOutside, BadComment}
+use Rattle.fumen_digits.specs.declared.fault.FumenFault.{FumenFault}
+use Rattle.fumen_digits.specs.Fault.{IsNumberFault}
+use Rattle.fumen_digits.specs.declared.fault.FumenFault.TheVariants.{NoFumen, TooManyPages}
 use Rattle.fumen_pages.specs.declared.page.Page.{Page}
 use Rattle.fumen_pages.specs.Next.{next}
 use Rattle.fumen_pages.specs.Record.{unchanged}
@@ -12,9 +13,7 @@ use Rattle.fumen_pages.specs.Sound.{IsSound}
 use Rattle.fumen_pages.specs.Tail.{Tail}
 use Rattle.fumen_pages.specs.Faults.{IsRecordFault, IsTailFault}
 use Rattle.fumen_text.specs.Spells.{Then, SpellsCells}
-use Rattle.fumen_text.specs.Texts.{empty_cells, most_pages}
-use Rattle.fumen_text.specs.declared.fault.FumenFault.{FumenFault}
-use Rattle.fumen_text.specs.declared.fault.FumenFault.TheVariants as fault
+use Rattle.fumen_text.specs.Texts.{empty_page, most_pages}
 
 -- ds spells these pages whole, which leave these cells, and so many pages promised
 unfoldable pub SpellsWhole : Dialect → List ℕ → ℕ → List Page → List ℕ → ℕ → List ℕ → Type 0
@@ -45,13 +44,13 @@ pub record CellsStand (d : Dialect) (ds : List ℕ) (k : ℕ) (before : List ℕ
 
 -- the fault of the cells of a page that is due at a place: that of its record, or of the digit behind the
 -- unchanged run. A promised page has none.
-abbrev pub IsCellsFault : Dialect → List ℕ → ℕ → List ℕ → ℕ → Fault → Type 0
+abbrev pub IsCellsFault : Dialect → List ℕ → ℕ → List ℕ → ℕ → FumenFault → Type 0
 IsCellsFault d ds k before zero f =
     IsRecordFault d ds k before f ⊎ ((j : ℕ) × Stands ds k (unchanged d) j × IsNumberFault ds j 1 f)
 IsCellsFault d ds k before (suc left) f = ⊥
 
 -- the fault of a page that is due at a place: that of its cells, or of its tail behind them
-abbrev pub IsPageFault : Dialect → List ℕ → ℕ → ℕ → List ℕ → ℕ → Fault → Type 0
+abbrev pub IsPageFault : Dialect → List ℕ → ℕ → ℕ → List ℕ → ℕ → FumenFault → Type 0
 IsPageFault d ds number k before promised f =
     IsCellsFault d ds k before promised f
     ⊎ ((j : ℕ) × (cells : List ℕ) × (after : ℕ) × CellsStand d ds k before promised j cells after
@@ -59,31 +58,19 @@ IsPageFault d ds number k before promised f =
 
 -- the fault of some digits: pages stand whole up to a place, and one more is due there, which is one too
 -- many, or has a fault
-pub record IsDigitsFault (d : Dialect) (ds : List ℕ) (f : Fault) : Type 0 where
+pub record IsDigitsFault (d : Dialect) (ds : List ℕ) (f : FumenFault) : Type 0 where
   pub pages : List Page
   pub k : ℕ
   pub cells : List ℕ
   pub promised : ℕ
-  pub stand : PagesStand d ds 0 empty_cells 0 pages k cells promised
+  pub stand : PagesStand d ds 0 empty_page 0 pages k cells promised
   pub due : IsDue ds k promised
   pub fault :
       ((length pages ≡ most_pages) × (f ≡ TooManyPages))
       ⊎ ((length pages < most_pages) × IsPageFault d ds (length pages + 1) k cells promised f)
 
 -- the fault of a text: no prefix stands in it, or its digits have a fault
-abbrev pub IsTextFault : List ℕ → Fault → Type 0
+abbrev pub IsTextFault : List ℕ → FumenFault → Type 0
 IsTextFault text f =
     ((digits_in text ≡ None) × (f ≡ NoFumen))
     ⊎ ((d : Dialect) × (ds : List ℕ) × (digits_in text ≡ Some (d, ds)) × IsDigitsFault d ds f)
-
--- a fault of a text as a refusal has it
-abbrev pub fumen_fault : FumenFault → Fault
-fumen_fault fault.NoFumen = NoFumen
-fumen_fault (fault.BadDigit place) = BadDigit place
-fumen_fault (fault.Truncated place) = Truncated place
-fumen_fault (fault.RunPastEnd place) = RunPastEnd place
-fumen_fault (fault.BadCell place) = BadCell place
-fumen_fault (fault.BadAction place) = BadAction place
-fumen_fault (fault.PieceOutside page) = PieceOutside page
-fumen_fault (fault.BadComment place) = BadComment place
-fumen_fault fault.TooManyPages = TooManyPages

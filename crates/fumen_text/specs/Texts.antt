@@ -6,8 +6,8 @@ use Rattle.fumen_pages.specs.declared.page.Page.{Page}
 use Rattle.fumen_text.specs.Spells.{SpellsFumen}
 
 -- the cells before the first page
-abbrev pub empty_cells : List ℕ
-empty_cells = replicate 240 0
+abbrev pub empty_page : List ℕ
+empty_page = replicate 240 0
 
 -- the most pages of one list
 abbrev pub most_pages : ℕ
@@ -17,5 +17,5 @@ most_pages = 10000
 pub record ReadsAs (text : List ℕ) (d : Dialect) (pages : List Page) : Type 0 where
   pub ds : List ℕ
   pub framed : digits_in text ≡ Some (d, ds)
-  pub spelled : SpellsFumen d empty_cells 0 pages ds
+  pub spelled : SpellsFumen d empty_page 0 pages ds
   pub few : length pages ≤ most_pages

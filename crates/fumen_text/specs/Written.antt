@@ -16,10 +16,10 @@ use Rattle.fumen_pages.specs.Action.{is_inside_in}
 use Rattle.fumen_pages.specs.Next.{next}
 use Rattle.fumen_pages.specs.Record.{unchanged}
 use Rattle.fumen_pages.specs.Sound.{IsSound}
-use Rattle.fumen_pages.specs.Written.{number_of, written_record}
+use Rattle.fumen_pages.specs.Written.{action_number_of, written_record}
 use Rattle.fumen_text.specs.declared.encode_fault.EncodeFault.{EncodeFault}
 use Rattle.fumen_text.specs.declared.encode_fault.EncodeFault.TheVariants as fault
-use Rattle.fumen_text.specs.Texts.{empty_cells, most_pages}
+use Rattle.fumen_text.specs.Texts.{empty_page, most_pages}
 
 -- ---- the digits
 
@@ -52,7 +52,7 @@ part_digits (Some units) = comment_digits (escaped units)
 
 -- the digits of the action and of the comment
 abbrev pub tail_digits : Dialect → Page → List ℕ
-tail_digits d page = digits 3 (number_of d page) ++ part_digits page.comment
+tail_digits d page = digits 3 (action_number_of d page) ++ part_digits page.comment
 
 -- the digits of some pages, where these cells are left before them and so many pages are promised
 unfoldable pub pages_digits : Dialect → List ℕ → ℕ → List Page → List ℕ
@@ -63,7 +63,7 @@ pages_digits d before promised (page ∷ pages) =
 
 -- the text of some pages
 abbrev pub written : Dialect → List Page → List ℕ
-written d pages = broken d (pages_digits d empty_cells 0 pages)
+written d pages = broken d (pages_digits d empty_page 0 pages)
 
 -- ---- the faults
 

@@ -5,12 +5,10 @@ ghost use Rattle.fumen_digits.specs.Answers.{Gives};
 ghost use Rattle.fumen_pages.specs.Cells.{AreCells};
 ghost use Rattle.fumen_pages.specs.Reading.{record_at};
 ghost use Rattle.fumen_text.specs.Reading.{page_cells_at, promise_at};
-ghost use Rattle.fumen_text.specs.Faults.{fumen_fault};
 
-use crate::fault::FumenFault;
 use crate::position::Position;
-use fumen_digits::{Dialect, DigitFault, read_number};
-use fumen_pages::{CellsFault, CellsRead, read_cells};
+use fumen_digits::{Dialect, FumenFault, read_number};
+use fumen_pages::{CellsRead, read_cells};
 use pc_outside::Refused;
 
 /// Goes behind what spells the cells of the page that is due: they are the cells before it where the page is
@@ -22,7 +20,7 @@ pub(crate) fn cells_at(
 ) -> Result<Position, Refused<FumenFault>>
     requires place { at.now.place ≤ length digits.now }
     requires cells { AreCells dialect at.now.cells }
-    ensures exact { Gives (λ x. x) fumen_fault result
+    ensures exact { Gives (λ x. x) (λ f. f) result
         (page_cells_at dialect digits.now at.now.place at.now.cells at.now.promised) }
     ensures within { IfOk result (λ x. x.place ≤ length digits.now) }
     ensures sound { IfOk result (λ x. AreCells dialect x.cells) }
@@ -41,7 +39,7 @@ pub(crate) fn cells_at(
 /// Behind a record: the digit of the unchanged run says how many pages it promises.
 fn promise_at(digits: &[u8], read: &CellsRead) -> Result<Position, Refused<FumenFault>>
     requires { read.now.place ≤ length digits.now }
-    ensures exact { Gives (λ x. x) fumen_fault result (promise_at digits.now read.now) }
+    ensures exact { Gives (λ x. x) (λ f. f) result (promise_at digits.now read.now) }
     ensures within { IfOk result (λ x. x.place ≤ length digits.now) }
     ensures cells { IfOk result (λ x. x.cells ≡ read.now.cells) }
 {
@@ -60,22 +58,19 @@ fn promise_at(digits: &[u8], read: &CellsRead) -> Result<Position, Refused<Fumen
     })
 }
 
-/// The value of the digit at a place, its fault as one of a text.
+/// The value of the digit at a place.
 fn digit_at(digits: &[u8], place: usize) -> Result<u32, Refused<FumenFault>>
     requires { place ≤ length digits.now }
-    ensures exact { Gives (λ n. n) fumen_fault result (number_at digits.now place 1) }
+    ensures exact { Gives (λ n. n) (λ f. f) result (number_at digits.now place 1) }
     ensures within { IfOk result (λ _. place + 1 ≤ length digits.now) }
 {
     match read_number(digits, place, 1) {
         Ok(value) => Ok(value),
-        Err(DigitFault::Bad { place }) => Err(Refused::Fault(FumenFault::BadDigit { place })),
-        Err(DigitFault::Truncated { place }) => {
-            Err(Refused::Fault(FumenFault::Truncated { place }))
-        }
+        Err(fault) => Err(Refused::Fault(FumenFault::from(fault))),
     }
 }
 
-/// The record at a place, its fault as one of a text.
+/// The record at a place.
 fn record_at(
     digits: &[u8],
     place: usize,
@@ -84,19 +79,12 @@ fn record_at(
 ) -> Result<CellsRead, Refused<FumenFault>>
     requires place { place ≤ length digits.now }
     requires old { AreCells dialect old.now }
-    ensures exact { Gives (λ read. read) fumen_fault result (record_at dialect digits.now place old.now) }
+    ensures exact { Gives (λ read. read) (λ f. f) result (record_at dialect digits.now place old.now) }
     ensures within { IfOk result (λ read. read.place ≤ length digits.now) }
     ensures sound { IfOk result (λ read. AreCells dialect read.cells) }
 {
     match read_cells(digits, place, dialect, old) {
         Ok(read) => Ok(read),
-        Err(CellsFault::BadDigit { place }) => Err(Refused::Fault(FumenFault::BadDigit { place })),
-        Err(CellsFault::Truncated { place }) => {
-            Err(Refused::Fault(FumenFault::Truncated { place }))
-        }
-        Err(CellsFault::RunPastEnd { place }) => {
-            Err(Refused::Fault(FumenFault::RunPastEnd { place }))
-        }
-        Err(CellsFault::BadCell { place }) => Err(Refused::Fault(FumenFault::BadCell { place })),
+        Err(fault) => Err(Refused::Fault(FumenFault::from(fault))),
     }
 }

@@ -7,7 +7,7 @@ ghost use Rattle.fumen_pages.specs.Action.{is_inside_in};
 ghost use Rattle.fumen_text.specs.Written.{IsRefusedBy, HasTypes, IsWritable, is_short, list_encode_fault, page_encode_fault};
 
 use crate::encode_fault::EncodeFault;
-use crate::fault::MOST_PAGES;
+use crate::pages::MOST_PAGES;
 use fumen_comment::{Comment, escape};
 use fumen_digits::Dialect;
 use fumen_pages::{Page, is_inside};

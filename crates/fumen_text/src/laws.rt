@@ -1,7 +1,7 @@
 // Laws of the definitions: functions with an empty body, whose contract is the law.
 ghost use Rattle.std.specs.Prelude.{◌≡◌, ℕ, List, ◌⊎◌, None};
 ghost use Rattle.fumen_digits.specs.declared.dialect.Dialect.{Dialect};
-ghost use Rattle.fumen_digits.specs.Fault.{Fault};
+ghost use Rattle.fumen_digits.specs.declared.fault.FumenFault.{FumenFault};
 ghost use Rattle.fumen_pages.specs.declared.page.Page.{Page};
 ghost use Rattle.fumen_text.specs.Texts.{ReadsAs};
 ghost use Rattle.fumen_text.specs.Faults.{IsTextFault};
@@ -12,11 +12,12 @@ ghost use Rattle.fumen_text.specs.Written.{HasTypes, list_encode_fault, written}
 /// no two faults.
 pub fn one_reading()
     ensures some { (text : List ℕ) →
-        ((dialect : Dialect) × (pages : List Page) × ReadsAs text dialect pages) ⊎ ((f : Fault) × IsTextFault text f) }
+        ((dialect : Dialect) × (pages : List Page) × ReadsAs text dialect pages)
+        ⊎ ((f : FumenFault) × IsTextFault text f) }
     ensures one_list { (text : List ℕ) (dialect other : Dialect) (pages others : List Page) →
         ReadsAs text dialect pages → ReadsAs text other others → (dialect ≡ other) × (pages ≡ others) }
-    ensures one_fault { (text : List ℕ) (f g : Fault) → IsTextFault text f → IsTextFault text g → f ≡ g }
-    ensures never_both { (text : List ℕ) (dialect : Dialect) (pages : List Page) (f : Fault) →
+    ensures one_fault { (text : List ℕ) (f g : FumenFault) → IsTextFault text f → IsTextFault text g → f ≡ g }
+    ensures never_both { (text : List ℕ) (dialect : Dialect) (pages : List Page) (f : FumenFault) →
         ReadsAs text dialect pages → IsTextFault text f → ⊥ }
 {}
 

@@ -4,7 +4,6 @@
 mod cells;
 mod checks;
 mod encode_fault;
-mod fault;
 pub mod laws;
 mod pages;
 mod position;
@@ -12,7 +11,7 @@ mod text;
 mod written;
 
 pub use encode_fault::EncodeFault;
-pub use fault::FumenFault;
+pub use fumen_digits::FumenFault;
 pub use text::decode;
 pub use written::encode;
 

@@ -4,17 +4,17 @@ ghost use Rattle.fumen_digits.specs.Answers.{Gives};
 ghost use Rattle.fumen_pages.specs.Cells.{AreCells};
 ghost use Rattle.fumen_pages.specs.Sound.{IsSound};
 ghost use Rattle.fumen_pages.specs.Reading.{page_at};
-ghost use Rattle.fumen_pages.specs.Faults.{tail_fault};
 ghost use Rattle.fumen_text.specs.Reading.{is_due, pages_of_digits, next_page_at};
-ghost use Rattle.fumen_text.specs.Faults.{fumen_fault};
 
 use crate::cells::cells_at;
-use crate::fault::{FumenFault, MOST_PAGES};
 use crate::position::Position;
-use fumen_digits::Dialect;
-use fumen_pages::{Page, TailFault, next_cells, read_page};
+use fumen_digits::{Dialect, FumenFault};
+use fumen_pages::{Page, next_cells, read_page};
 use pc_outside::Refused;
 use std::alloc::Global;
+
+/// The most pages of one list.
+pub(crate) const MOST_PAGES: usize = 10_000;
 
 /// All pages of some digits.
 pub(crate) fn read_pages(
@@ -22,7 +22,7 @@ pub(crate) fn read_pages(
     dialect: Dialect,
     digits: &[u8],
 ) -> Result<Vec<Page>, Refused<FumenFault>>
-    ensures { Gives (λ pages. pages.items) fumen_fault result (pages_of_digits dialect digits.now) }
+    ensures { Gives (λ pages. pages.items) (λ f. f) result (pages_of_digits dialect digits.now) }
 {
     let mut pages = Vec::new(alloc);
     let mut at = Position {
@@ -60,13 +60,13 @@ fn step_at(
 ) -> Result<(Page, Position), Refused<FumenFault>>
     requires place { at.now.place ≤ length digits.now }
     requires cells { AreCells dialect at.now.cells }
-    ensures exact { Gives (λ x. x) fumen_fault result
+    ensures exact { Gives (λ x. x) (λ f. f) result
         (next_page_at dialect digits.now number at.now.place at.now.cells at.now.promised) }
     ensures within { IfOk result (λ x. x.1.place ≤ length digits.now) }
     ensures sound { IfOk result (λ x. AreCells dialect x.1.cells) }
 {
     let tail = cells_at(digits, dialect, at)?;
-    let (page, place) = page_at(alloc, digits, dialect, &tail, number)?;
+    let (page, place) = read_page(alloc, digits, tail.place, dialect, &tail.cells, number)?;
     let cells = next_cells(dialect, &page);
     let promised = tail.promised;
     Ok((
@@ -77,38 +77,4 @@ fn step_at(
             promised,
         },
     ))
-}
-
-/// The page whose tail stands at a place, and the place behind it, its fault as one of a text.
-fn page_at(
-    alloc: Global,
-    digits: &[u8],
-    dialect: Dialect,
-    at: &Position,
-    number: u32,
-) -> Result<(Page, usize), Refused<FumenFault>>
-    requires place { at.now.place ≤ length digits.now }
-    requires cells { AreCells dialect at.now.cells }
-    ensures exact { Gives (λ x. x) fumen_fault result (page_at dialect at.now.cells number digits.now at.now.place) }
-    ensures within { IfOk result (λ x. x.1 ≤ length digits.now) }
-    ensures sound { IfOk result (λ x. IsSound dialect x.0) }
-{
-    match read_page(alloc, digits, at.place, dialect, &at.cells, number) {
-        Ok(read) => Ok(read),
-        Err(Refused::NoMemory) => Err(Refused::NoMemory),
-        Err(Refused::Fault(fault)) => Err(Refused::Fault(text_fault(fault))),
-    }
-}
-
-/// The fault of a tail as one of a text.
-fn text_fault(fault: TailFault) -> FumenFault
-    ensures { fumen_fault result ≡ tail_fault fault }
-{
-    match fault {
-        TailFault::BadDigit { place } => FumenFault::BadDigit { place },
-        TailFault::Truncated { place } => FumenFault::Truncated { place },
-        TailFault::BadAction { place } => FumenFault::BadAction { place },
-        TailFault::PieceOutside { page } => FumenFault::PieceOutside { page },
-        TailFault::BadComment { place } => FumenFault::BadComment { place },
-    }
 }

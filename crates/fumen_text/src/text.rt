@@ -1,17 +1,15 @@
 // Whole texts: the dialect and the pages of a fumen.
 ghost use Rattle.std.specs.Prelude.{◌≡◌, List, IfOk, Ok, Err};
 ghost use Rattle.fumen_digits.specs.declared.dialect.Dialect.{Dialect};
-ghost use Rattle.fumen_digits.specs.Fault.{Fault};
+ghost use Rattle.fumen_digits.specs.declared.fault.FumenFault.{FumenFault};
 ghost use Rattle.fumen_digits.specs.Answers.{Gives};
 ghost use Rattle.fumen_pages.specs.declared.page.Page.{Page};
-ghost use Rattle.fumen_text.specs.declared.fault.FumenFault.{FumenFault};
 ghost use Rattle.fumen_text.specs.Texts.{ReadsAs};
-ghost use Rattle.fumen_text.specs.Faults.{IsTextFault, fumen_fault};
+ghost use Rattle.fumen_text.specs.Faults.{IsTextFault};
 ghost use Rattle.fumen_text.specs.Reading.{text_pages};
 
-use crate::fault::FumenFault;
 use crate::pages::read_pages;
-use fumen_digits::{Dialect, digits_of};
+use fumen_digits::{Dialect, FumenFault, digits_of};
 use fumen_pages::Page;
 use pc_outside::Refused;
 use std::alloc::Global;
@@ -24,23 +22,23 @@ use std::alloc::Global;
 /// answered. A text with no digits has no pages, and no text has more than 10,000.
 pub fn decode(alloc: Global, text: &[u8]) -> Result<(Dialect, Vec<Page>), Refused<FumenFault>>
     // What reading from the left gives.
-    ensures exact { Gives (λ x. (x.0, x.1.items)) fumen_fault result (text_pages text.now) }
+    ensures exact { Gives (λ x. (x.0, x.1.items)) (λ f. f) result (text_pages text.now) }
 
     // The text reads as these pages, and the pages that it reads as are answered, unless memory runs out.
     ensures found { IfOk result (λ x. ReadsAs text.now x.0 x.1.items) }
     ensures only { (dialect : Dialect) (pages : List Page) → ReadsAs text.now dialect pages →
-        Gives {Y = Dialect × List Page} (λ x. (x.0, x.1.items)) fumen_fault result (Ok (dialect, pages)) }
+        Gives {Y = Dialect × List Page} (λ x. (x.0, x.1.items)) (λ f. f) result (Ok (dialect, pages)) }
 
     // A fault is that of the text, and the fault of the text is answered, unless memory runs out.
-    ensures fault { (f : FumenFault) → result ≡ Err (Refused.Fault f) → IsTextFault text.now (fumen_fault f) }
-    ensures fault_only { (f : FumenFault) → IsTextFault text.now (fumen_fault f) →
-        Gives {Y = Dialect × List Page} (λ x. (x.0, x.1.items)) fumen_fault result (Err (fumen_fault f)) }
+    ensures fault { (f : FumenFault) → result ≡ Err (Refused.Fault f) → IsTextFault text.now f }
+    ensures fault_only { (f : FumenFault) → IsTextFault text.now f →
+        Gives {Y = Dialect × List Page} (λ x. (x.0, x.1.items)) (λ f. f) result (Err f) }
 {
     read_text(alloc, text)
 }
 
 fn read_text(alloc: Global, text: &[u8]) -> Result<(Dialect, Vec<Page>), Refused<FumenFault>>
-    ensures { Gives (λ x. (x.0, x.1.items)) fumen_fault result (text_pages text.now) }
+    ensures { Gives (λ x. (x.0, x.1.items)) (λ f. f) result (text_pages text.now) }
 {
     let framed = digits_of(alloc, text)?;
     let Some((dialect, digits)) = framed else {

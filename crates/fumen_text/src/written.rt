@@ -4,7 +4,7 @@ ghost use Rattle.fumen_digits.specs.declared.dialect.Dialect.{Dialect};
 ghost use Rattle.fumen_pages.specs.declared.page.Page.{Page};
 ghost use Rattle.fumen_pages.specs.Cells.{AreCells};
 ghost use Rattle.fumen_pages.specs.Next.{next};
-ghost use Rattle.fumen_text.specs.Texts.{ReadsAs, empty_cells};
+ghost use Rattle.fumen_text.specs.Texts.{ReadsAs, empty_page};
 ghost use Rattle.fumen_text.specs.Written.{IsRefusedBy, IsWritable, cells_digits, keeps, list_encode_fault, pages_digits, promised_behind, tail_digits, unchanged_pages, written};
 
 use crate::checks::check_pages;
@@ -45,7 +45,7 @@ pub fn encode(
 /// The digits of all pages.
 fn write_pages(alloc: Global, dialect: Dialect, pages: &[Page]) -> Result<Vec<u8>, NoMemory>
     requires { All (IsWritable dialect) pages.now }
-    ensures { IfOk result (λ digits. digits.items ≡ pages_digits dialect empty_cells 0 pages.now) }
+    ensures { IfOk result (λ digits. digits.items ≡ pages_digits dialect empty_page 0 pages.now) }
 {
     let mut digits = Vec::new(alloc);
     let mut before = [0; 240];

@@ -4,3 +4,4 @@ pub use Rattle.page_list.proofs.PagesReadAsSpelled.{one_page_list, pages_spelled
 pub use Rattle.page_list.proofs.PrintedIsSpelled.{printed_pages}
 pub use Rattle.page_list.proofs.RowLemmas.{rows_left-end, rows_left-more, shown-left}
 unfoldable pub use Rattle.page_list.proofs.RowLemmas.{rows_left}
+pub use Rattle.page_list.proofs.SpelledCells.{cells_of_pages, units_of_pages}

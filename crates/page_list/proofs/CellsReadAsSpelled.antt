@@ -12,7 +12,7 @@ use Rattle.fumen_pages.specs.Cells.{IsColour}
 use Rattle.fumen_pages.proofs.CallerLemmas.{flat, length-flat}
 use Rattle.page_list.specs.CellsReading.{colour_in, with_front, rows_at, rows_colours, garbage_colours, cells_with_rows, cells_in, cut_at}
 use Rattle.page_list.specs.Letters.{colour_letter, letters_of}
-use Rattle.page_list.specs.LineSpelling.{IsRow, SpellsGarbage, left_out, written, SpellsLineCells}
+use Rattle.page_list.specs.LineSpelling.{IsPageRow, SpellsGarbage, left_out, written, SpellsLineCells}
 use Rattle.page_list.proofs.CutLaws.{cut_front, cut_is}
 use Rattle.page_list.proofs.ReadLemmas.{fronts}
 
@@ -49,19 +49,19 @@ pub joined : (row : List ℕ) (rows : List (List ℕ)) → join_with_byte 47 (ma
 joined row [] = sym (append-nil (letters_of row))
 joined row (next ∷ rows) = ap (λ (l : List ℕ). letters_of row ++ 47 ∷ l) (joined next rows)
 
-length-slash_rows : (rows : List (List ℕ)) → All IsRow rows → length (slash_rows rows) ≡ 11 * length rows
+length-slash_rows : (rows : List (List ℕ)) → All IsPageRow rows → length (slash_rows rows) ≡ 11 * length rows
 length-slash_rows [] each = refl
 length-slash_rows (row ∷ rows) each =
-    let later = length-slash_rows rows (All-tail IsRow row rows each) in
-    let size = (All-head IsRow row rows each).size in
+    let later = length-slash_rows rows (All-tail IsPageRow row rows each) in
+    let size = (All-head IsPageRow row rows each).size in
     omega (arith, length-append (letters_of row) (slash_rows rows), length-map row colour_letter, later, size)
 
-pub length_of_rows : (rows : List (List ℕ)) → All IsRow rows → length (flat rows) ≡ 10 * length rows
+pub length_of_rows : (rows : List (List ℕ)) → All IsPageRow rows → length (flat rows) ≡ 10 * length rows
 length_of_rows rows each = length-flat rows (tens rows each)
   where
-    tens : (rows : List (List ℕ)) → All IsRow rows → AllByRecursion (λ row. length row ≡ 10) rows
+    tens : (rows : List (List ℕ)) → All IsPageRow rows → AllByRecursion (λ row. length row ≡ 10) rows
     tens [] each = tt
-    tens (row ∷ rows) each = ((All-head IsRow row rows each).size, tens rows (All-tail IsRow row rows each))
+    tens (row ∷ rows) each = ((All-head IsPageRow row rows each).size, tens rows (All-tail IsPageRow row rows each))
 
 -- the rest of a row, and the rows behind it
 record RowsFrom (column : ℕ) (text colours : List ℕ) : Type 0 where
@@ -69,7 +69,7 @@ record RowsFrom (column : ℕ) (text colours : List ℕ) : Type 0 where
   rows : List (List ℕ)
   size : column + length first ≡ 10
   front : All IsColour first
-  each : All IsRow rows
+  each : All IsPageRow rows
   spelled : text ≡ letters_of first ++ slash_rows rows
   whole : colours ≡ first ++ flat rows
 
@@ -79,7 +79,7 @@ next_row rest byte column colours ten slash later = record {
   rows = later.first ∷ later.rows;
   size = omega (arith, ten);
   front = All-nil IsColour;
-  each = All-cons IsRow later.first later.rows (record { size = let size = later.size in omega arith; colours = later.front }) later.each;
+  each = All-cons IsPageRow later.first later.rows (record { size = let size = later.size in omega arith; colours = later.front }) later.each;
   spelled = ap (λ b. b ∷ rest) slash ∙ ap (λ (l : List ℕ). 47 ∷ l) later.spelled;
   whole = later.whole;
 }
@@ -101,7 +101,7 @@ rows_spelled [] column colours within is = elim (cases_Bool (column == 10)) [
   | inl ten ↦
       let none : [] ≡ colours = same_Some [] colours (rw ten at is) in
       let full = eqb-true column 10 ten in
-      record { first = []; rows = []; size = omega (arith, full); front = All-nil IsColour; each = All-nil IsRow; spelled = refl; whole = sym none }
+      record { first = []; rows = []; size = omega (arith, full); front = All-nil IsColour; each = All-nil IsPageRow; spelled = refl; whole = sym none }
   | inr short ↦ absurd (none-some colours (rw short at is))
 ]
 rows_spelled (byte ∷ rest) column colours within is = elim (cases_Bool (column == 10)) [
@@ -132,24 +132,24 @@ read_row (colour ∷ first) behind column size small =
     rw (short, colour_read colour (All-head IsColour colour first small)) (ap (with_front (colour ∷ [])) (read_row first behind (column + 1) (omega (arith, size)) (All-tail IsColour colour first small))
     ∙ fronts (colour ∷ []) first (rows_at 10 behind))
 
-read_rows : (rows : List (List ℕ)) → All IsRow rows → rows_at 10 (slash_rows rows) ≡ Some (flat rows)
+read_rows : (rows : List (List ℕ)) → All IsPageRow rows → rows_at 10 (slash_rows rows) ≡ Some (flat rows)
 unfolding rows_at
 read_rows [] each = refl
 read_rows (row ∷ rows) each =
-    let is = All-head IsRow row rows each in
-    read_row row (slash_rows rows) 0 (let size = is.size in omega arith) is.colours ∙ ap (with_front row) (read_rows rows (All-tail IsRow row rows each))
+    let is = All-head IsPageRow row rows each in
+    read_row row (slash_rows rows) 0 (let size = is.size in omega arith) is.colours ∙ ap (with_front row) (read_rows rows (All-tail IsPageRow row rows each))
 
-read_all : (row : List ℕ) (rows : List (List ℕ)) → All IsRow (row ∷ rows) → rows_at 0 (letters_of row ++ slash_rows rows) ≡ Some (flat (row ∷ rows))
+read_all : (row : List ℕ) (rows : List (List ℕ)) → All IsPageRow (row ∷ rows) → rows_at 0 (letters_of row ++ slash_rows rows) ≡ Some (flat (row ∷ rows))
 read_all row rows each =
-    let is = All-head IsRow row rows each in
-    read_row row (slash_rows rows) 0 (let size = is.size in omega arith) is.colours ∙ ap (with_front row) (read_rows rows (All-tail IsRow row rows each))
+    let is = All-head IsPageRow row rows each in
+    read_row row (slash_rows rows) 0 (let size = is.size in omega arith) is.colours ∙ ap (with_front row) (read_rows rows (All-tail IsPageRow row rows each))
 
 -- ---- up to 23 rows
 
 record SpellsRows (text colours : List ℕ) : Type 0 where
   rows : List (List ℕ)
   most : length rows ≤ 23
-  each : All IsRow rows
+  each : All IsPageRow rows
   spelled : text ≡ join_with_byte 47 (map letters_of rows)
   whole : colours ≡ flat rows
 
@@ -158,7 +158,7 @@ unfolding rows_colours
 rows_from_read text colours is = elim (cases_Bool (length text == 0)) [
   | inl empty ↦
       let none : [] ≡ colours = same_Some [] colours (rw empty at is) in
-      record { rows = []; most = omega arith; each = All-nil IsRow; spelled = nil_from_length text (eqb-true (length text) 0 empty); whole = sym none }
+      record { rows = []; most = omega arith; each = All-nil IsPageRow; spelled = nil_from_length text (eqb-true (length text) 0 empty); whole = sym none }
   | inr some ↦ elim (cases_Bool (nat_le (length text) 252)) [
     | inl few ↦
         let all = rows_spelled text 0 colours (omega arith) (rw (some, few) at is) in
@@ -167,7 +167,7 @@ rows_from_read text colours is = elim (cases_Bool (length text == 0)) [
         record {
           rows = all.first ∷ all.rows;
           most = omega (arith, most, size, all.size, length-map all.first colour_letter, length-slash_rows all.rows all.each);
-          each = All-cons IsRow all.first all.rows (record { size = let size = all.size in omega arith; colours = all.front }) all.each;
+          each = All-cons IsPageRow all.first all.rows (record { size = let size = all.size in omega arith; colours = all.front }) all.each;
           spelled = all.spelled ∙ sym (joined all.first all.rows);
           whole = all.whole;
         }
@@ -175,14 +175,14 @@ rows_from_read text colours is = elim (cases_Bool (length text == 0)) [
   ]
 ]
 
-read_from_rows : (rows : List (List ℕ)) → length rows ≤ 23 → All IsRow rows → rows_colours (join_with_byte 47 (map letters_of rows)) ≡ Some (flat rows)
+read_from_rows : (rows : List (List ℕ)) → length rows ≤ 23 → All IsPageRow rows → rows_colours (join_with_byte 47 (map letters_of rows)) ≡ Some (flat rows)
 unfolding rows_colours
 read_from_rows [] most each = refl
 read_from_rows (row ∷ rows) most each =
     let text = letters_of row ++ slash_rows rows in
-    let is = All-head IsRow row rows each in
+    let is = All-head IsPageRow row rows each in
     let size : length text ≡ 10 + 11 * length rows =
-    length-append (letters_of row) (slash_rows rows) ∙ omega (arith, is.size, length-map row colour_letter, length-slash_rows rows (All-tail IsRow row rows each)) in
+    length-append (letters_of row) (slash_rows rows) ∙ omega (arith, is.size, length-map row colour_letter, length-slash_rows rows (All-tail IsPageRow row rows each)) in
     let some : (length text == 0) ≡ false = ne_eqb (length text) 0 (λ e. omega (arith, e, size)) in
     let few : nat_le (length text) 252 ≡ true = le-leb (length text) 252 (omega (arith, most, size)) in
     ap rows_colours (joined row rows) ∙ chosen text some few ∙ read_all row rows each
@@ -216,7 +216,7 @@ unfolding garbage_colours
 read_from_garbage text garbage left_out = refl
 read_from_garbage text garbage (written {row = row} is) =
     let size : length (letters_of row) ≡ 10 = length-map row colour_letter ∙ is.size in
-    let one : rows_at 0 (letters_of row) ≡ Some row = ap (rows_at 0) (sym (append-nil (letters_of row))) ∙ read_all row [] (All-cons IsRow row [] is (All-nil IsRow)) ∙ ap (λ (l : List ℕ). Some l) (append-nil row) in
+    let one : rows_at 0 (letters_of row) ≡ Some row = ap (rows_at 0) (sym (append-nil (letters_of row))) ∙ read_all row [] (All-cons IsPageRow row [] is (All-nil IsPageRow)) ∙ ap (λ (l : List ℕ). Some l) (append-nil row) in
     rw (size) one
 
 -- ---- the whole field
@@ -247,13 +247,13 @@ cells_spelled text cells is =
 pub letters_all : (P : ℕ → Type 0) → ((colour : ℕ) → colour ≤ 8 → P (colour_letter colour)) → (row : List ℕ) → All IsColour row → All P (letters_of row)
 letters_all P each row small = All-map P colour_letter row (λ k d within. each _ (small k d within))
 
-pub rows_all : (P : ℕ → Type 0) → ((colour : ℕ) → colour ≤ 8 → P (colour_letter colour)) → P 47 → (rows : List (List ℕ)) → All IsRow rows → All P (join_with_byte 47 (map letters_of rows))
+pub rows_all : (P : ℕ → Type 0) → ((colour : ℕ) → colour ≤ 8 → P (colour_letter colour)) → P 47 → (rows : List (List ℕ)) → All IsPageRow rows → All P (join_with_byte 47 (map letters_of rows))
 rows_all P each slash [] are = All-nil P
-rows_all P each slash (row ∷ []) are = letters_all P each row (All-head IsRow row [] are).colours
+rows_all P each slash (row ∷ []) are = letters_all P each row (All-head IsPageRow row [] are).colours
 rows_all P each slash (row ∷ next ∷ rows) are =
     let later = join_with_byte 47 (map letters_of (next ∷ rows)) in
-    All-append P (letters_of row) (47 ∷ later) (letters_all P each row (All-head IsRow row (next ∷ rows) are).colours)
-    (All-cons P 47 later slash (rows_all P each slash (next ∷ rows) (All-tail IsRow row (next ∷ rows) are)))
+    All-append P (letters_of row) (47 ∷ later) (letters_all P each row (All-head IsPageRow row (next ∷ rows) are).colours)
+    (All-cons P 47 later slash (rows_all P each slash (next ∷ rows) (All-tail IsPageRow row (next ∷ rows) are)))
 
 pub spelled_cells_read : (text cells : List ℕ) → SpellsLineCells text cells → cells_in text ≡ Some cells
 unfolding cells_in

@@ -22,7 +22,7 @@ use Rattle.fumen_pages.proofs.CallerLemmas.{pivot_inside_in, page_row_count-most
 use Rattle.page_list.specs.Divided.{Four}
 use Rattle.page_list.specs.Letters.{colour_letter, letters_of, is_blank, shown_rows, garbage_row}
 use Rattle.page_list.specs.PrintedLine.{garbage_form, rows_form, operation_form, flags_form, comment_form, page_form}
-use Rattle.page_list.specs.LineSpelling.{IsRow, SpellsGarbage, left_out, written, SpellsLineCells, SpellsLineOperation, SpellsLineComment, SpellsPage, IsFirstLine, newline, SpellsFirst, none, more, SpellsPages}
+use Rattle.page_list.specs.LineSpelling.{IsPageRow, SpellsGarbage, left_out, written, SpellsLineCells, SpellsLineOperation, SpellsLineComment, SpellsPage, IsFirstLine, newline, SpellsFirst, none, more, SpellsPages}
 use Rattle.page_list.proofs.Marks.{HasMarks, marked_field, cells_marks, operation_marks, flags_marks, comment_marks}
 
 -- ---- rows
@@ -34,11 +34,11 @@ rows_in-letters (suc count) cells =
     ap (λ (l : List ℕ). l ∷ rows_in count (drop 10 (letters_of cells))) (take-map colour_letter 10 cells) ∙ ap (λ (l : List ℕ). letters_of (take 10 cells) ∷ rows_in count l) (drop-map colour_letter 10 cells)
     ∙ ap (λ (l : List (List ℕ)). letters_of (take 10 cells) ∷ l) (rows_in-letters count (drop 10 cells))
 
-are_rows : (count : ℕ) (cells : List ℕ) → 10 * count ≤ length cells → All IsColour cells → All IsRow (rows_in count cells)
+are_rows : (count : ℕ) (cells : List ℕ) → 10 * count ≤ length cells → All IsColour cells → All IsPageRow (rows_in count cells)
 unfolding rows_in
-are_rows zero cells room small = All-nil IsRow
+are_rows zero cells room small = All-nil IsPageRow
 are_rows (suc count) cells room small =
-    All-cons IsRow (take 10 cells) (rows_in count (drop 10 cells)) (record { size = length-take-le 10 cells (omega (arith, room)); colours = All-take IsColour 10 cells small })
+    All-cons IsPageRow (take 10 cells) (rows_in count (drop 10 cells)) (record { size = length-take-le 10 cells (omega (arith, room)); colours = All-take IsColour 10 cells small })
     (are_rows count (drop 10 cells) (omega (arith, room, length-drop 10 cells)) (All-drop IsColour 10 cells small))
 
 no_colour : (colour : ℕ) → colour ≤ 8 → (colour_letter colour == 95) ≡ (colour == 0)
@@ -54,7 +54,7 @@ blank_row (colour ∷ row) small blank =
     let empty : colour ≡ 0 = eqb-true colour 0 (sym (no_colour colour (All-head IsColour colour row small)) ∙ both.0) in
     ap (λ c. c ∷ row) empty ∙ ap (λ (l : List ℕ). 0 ∷ l) (blank_row row (All-tail IsColour colour row small) both.1)
 
-ten_zeros : (row : List ℕ) → IsRow row → is_blank (letters_of row) ≡ true → row ≡ replicate 10 0
+ten_zeros : (row : List ℕ) → IsPageRow row → is_blank (letters_of row) ≡ true → row ≡ replicate 10 0
 ten_zeros row is blank = blank_row row is.colours blank ∙ ap (λ n. replicate n 0) is.size
 
 -- the blank rows at the top are empty
@@ -67,17 +67,17 @@ one_blank row rows count next is zeros rest =
     subst (λ k. flat (take k (row ∷ rows)) ≡ replicate (10 * k) 0) (sym is)
     (ap (λ (l : List ℕ). l ++ flat (take count rows)) zeros ∙ ap (λ (l : List ℕ). replicate 10 0 ++ l) rest ∙ replicate-append-replicate 10 (10 * count) 0 ∙ ap (λ n. replicate n 0) size)
 
-blank_front : (rows : List (List ℕ)) → All IsRow rows → flat (take (blank_count rows) rows) ≡ replicate (10 * blank_count rows) 0
+blank_front : (rows : List (List ℕ)) → All IsPageRow rows → flat (take (blank_count rows) rows) ≡ replicate (10 * blank_count rows) 0
 blank_front [] each = refl
 blank_front (row ∷ rows) each = elim (cases_Bool (is_blank (letters_of row))) [
   | inl blank ↦
-      rw blank (one_blank row rows (blank_count rows) (1 + blank_count rows) (omega arith) (ten_zeros row (All-head IsRow row rows each) blank) (blank_front rows (All-tail IsRow row rows each)))
+      rw blank (one_blank row rows (blank_count rows) (1 + blank_count rows) (omega arith) (ten_zeros row (All-head IsPageRow row rows each) blank) (blank_front rows (All-tail IsPageRow row rows each)))
   | inr shown ↦ rw shown refl
 ]
 
 -- ---- the cells field
 
-garbage_spelled : (garbage : List ℕ) → IsRow garbage → SpellsGarbage (garbage_form (letters_of garbage)) garbage
+garbage_spelled : (garbage : List ℕ) → IsPageRow garbage → SpellsGarbage (garbage_form (letters_of garbage)) garbage
 garbage_spelled garbage is = elim (cases_Bool (is_blank (letters_of garbage))) [
   | inl blank ↦ rw blank (subst (SpellsGarbage []) (sym (ten_zeros garbage is blank)) left_out)
   | inr shown ↦ rw shown (written is)
@@ -92,7 +92,7 @@ garbage_letters cells size =
     ap (take 10) (drop-map colour_letter 230 cells) ∙ take_all 10 (letters_of (drop 230 cells)) (omega (arith, size, length-map (drop 230 cells) colour_letter))
 
 -- blank rows, and those from the first that isn't down
-parted : (rows : List (List ℕ)) (garbage : List ℕ) → All IsRow rows → length rows ≡ 23
+parted : (rows : List (List ℕ)) (garbage : List ℕ) → All IsPageRow rows → length rows ≡ 23
     → flat rows ++ garbage ≡ replicate (230 - 10 * length (drop (blank_count rows) rows)) 0 ++ (flat (drop (blank_count rows) rows) ++ garbage)
 parted rows garbage each size =
     let blank = blank_count rows in
@@ -110,11 +110,11 @@ printed_cells cells size small =
     let count = length-rows_in 23 cells in
     let garbage = drop 230 cells in
     let ten : length garbage ≡ 10 = omega (arith, size, length-drop 230 cells) in
-    let row : IsRow garbage = record { size = ten; colours = All-drop IsColour 230 cells small } in
+    let row : IsPageRow garbage = record { size = ten; colours = All-drop IsColour 230 cells small } in
     record {
       rows = drop (blank_count rows) rows;
       most = omega (arith, count, length-drop (blank_count rows) rows);
-      each = All-drop IsRow (blank_count rows) rows each;
+      each = All-drop IsPageRow (blank_count rows) rows each;
       garbage_text = garbage_form (letters_of garbage);
       garbage = garbage;
       garbage_spelled = garbage_spelled garbage row;

@@ -1,21 +1,24 @@
--- Cells that a text spells are a page's.
-use Rattle.std.proofs.Common.{◌≡◌, ℕ, ◌-◌, ◌*◌, List, [], ◌∷◌, ◌++◌, length, length-append, replicate, All, refl, ap, sym, subst, ◌∙◌, arith}
+-- Cells that a text spells are a page's, and so are the units of its comment.
+use Rattle.std.proofs.Common.{◌≡◌, ℕ, ◌-◌, ◌*◌, ◌^◌, ◌<◌, List, [], ◌∷◌, ◌++◌, length, length-append, replicate, All, Option, Some, None, refl, ap, sym, subst, ◌∙◌, arith}
 use Rattle.std.proofs.lemmas.List.{length-replicate}
 use Rattle.std.proofs.lemmas.List.Elements.{All-nil, All-cons, All-head, All-tail, All-append, All-replicate}
+use Rattle.std.proofs.lemmas.Option.{none-some, same_Some}
+use Rattle.fumen_comment.specs.Escape.{HasUnits}
+use Rattle.fumen_comment.proofs.CallerLemmas.{unescaped_fits}
 use Rattle.fumen_digits.specs.declared.dialect.Dialect.TheVariants.{V115}
 use Rattle.fumen_pages.specs.declared.page.Page.{Page}
 use Rattle.fumen_pages.specs.Cells.{IsColour, AreCells}
 use Rattle.fumen_pages.proofs.CallerLemmas.{flat}
-use Rattle.page_list.specs.LineSpelling.{IsRow, SpellsGarbage, left_out, written, SpellsLineCells, SpellsFirst, none, more, SpellsPages}
+use Rattle.page_list.specs.LineSpelling.{IsPageRow, SpellsGarbage, left_out, written, SpellsLineCells, SpellsLineComment, SpellsFirst, none, more, SpellsPages}
 use Rattle.page_list.proofs.CellsReadAsSpelled.{length_of_rows}
 
-garbage_row : (text garbage : List ℕ) → SpellsGarbage text garbage → IsRow garbage
+garbage_row : (text garbage : List ℕ) → SpellsGarbage text garbage → IsPageRow garbage
 garbage_row text garbage left_out = record { size = refl; colours = All-replicate IsColour 10 0 (omega arith) }
 garbage_row text garbage (written is) = is
 
-flat_colours : (rows : List (List ℕ)) → All IsRow rows → All IsColour (flat rows)
+flat_colours : (rows : List (List ℕ)) → All IsPageRow rows → All IsColour (flat rows)
 flat_colours [] each = All-nil IsColour
-flat_colours (row ∷ rows) each = All-append IsColour row (flat rows) (All-head IsRow row rows each).colours (flat_colours rows (All-tail IsRow row rows each))
+flat_colours (row ∷ rows) each = All-append IsColour row (flat rows) (All-head IsPageRow row rows each).colours (flat_colours rows (All-tail IsPageRow row rows each))
 
 spelled_cells : (text cells : List ℕ) → SpellsLineCells text cells → AreCells V115 cells
 spelled_cells text cells s =
@@ -35,3 +38,18 @@ spelled_first text rest (page ∷ pages) (more {behind = behind} first s others)
 
 pub cells_of_pages : (text : List ℕ) (pages : List Page) → SpellsPages text pages → All (λ page. AreCells V115 page.cells) pages
 cells_of_pages text pages s = spelled_first text [] pages s.spelled
+
+-- and the units of their comments have 16 bits
+comment_units : (text : List ℕ) (comment : Option (List ℕ)) → SpellsLineComment text comment → HasUnits comment
+comment_units text None s = λ units is. absurd (none-some units is)
+comment_units text (Some own) s = λ units is.
+    subst (All (λ unit. unit < 2 ^ 16)) (sym s.means ∙ same_Some own units is)
+    (unescaped_fits s.escaped (λ k d lt. let mark = s.marks k d lt in omega (arith, mark)))
+
+first_units : (text rest : List ℕ) (pages : List Page) → SpellsFirst text pages rest → All (λ page. HasUnits page.comment) pages
+first_units text rest [] none = All-nil (λ (page : Page). HasUnits page.comment)
+first_units text rest (page ∷ pages) (more {behind = behind} first s others) =
+    All-cons (λ (p : Page). HasUnits p.comment) page pages (comment_units s.four.comment page.comment s.comment) (first_units behind rest pages others)
+
+pub units_of_pages : (text : List ℕ) (pages : List Page) → SpellsPages text pages → All (λ page. HasUnits page.comment) pages
+units_of_pages text pages s = first_units text [] pages s.spelled

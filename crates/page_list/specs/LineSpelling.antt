@@ -14,20 +14,20 @@ use Rattle.page_list.specs.Letters.{letters_of}
 use Rattle.page_list.specs.PrintedLine.{flags_form}
 
 -- ten cells, each of a colour
-pub record IsRow (row : List ℕ) : Type 0 where
+pub record IsPageRow (row : List ℕ) : Type 0 where
   pub size : length row ≡ 10
   pub colours : All IsColour row
 
 -- the letters of the garbage row; where it is empty they may be left out
 pub data SpellsGarbage : List ℕ → List ℕ → Type 0 where
   left_out : SpellsGarbage [] (replicate 10 0)
-  written : {row : List ℕ} → IsRow row → SpellsGarbage (letters_of row) row
+  written : {row : List ℕ} → IsPageRow row → SpellsGarbage (letters_of row) row
 
 -- up to 23 rows down to row 0, divided by `/`, then a bar and the garbage row; the rows above those are empty
 pub record SpellsLineCells (text cells : List ℕ) : Type 0 where
   pub rows : List (List ℕ)
   pub most : length rows ≤ 23
-  pub each : All IsRow rows
+  pub each : All IsPageRow rows
   pub garbage_text : List ℕ
   pub garbage : List ℕ
   pub garbage_spelled : SpellsGarbage garbage_text garbage

@@ -36,8 +36,10 @@ pub fn printed_lines_spell_their_pages()
         All (λ page. HasUnits page.comment) pages → SpellsPages (flat_map page_form pages) pages }
 {}
 
-/// Each page that a text spells has 240 cells, each of a colour.
+/// Each page that a text spells has 240 cells, each of a colour, and the units of its comment have 16 bits.
 pub fn spelled_pages_have_cells()
-    ensures { (text : List ℕ) (pages : List Page) → SpellsPages text pages →
+    ensures cells { (text : List ℕ) (pages : List Page) → SpellsPages text pages →
         All (λ page. AreCells V115 page.cells) pages }
+    ensures units { (text : List ℕ) (pages : List Page) → SpellsPages text pages →
+        All (λ page. HasUnits page.comment) pages }
 {}

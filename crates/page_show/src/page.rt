@@ -36,7 +36,7 @@ fn write_title<O: Sink>(out: &mut O, number: u32) -> Result<(), Failed>
     write_pieces(out, &[b"page ", digits.format(number).as_bytes(), b"\n"])
 }
 
-// The letters of a page's cells, with those of its operation.
+/// The letters of a page's cells, with those of its operation.
 fn shown_letters(page: &Page) -> [u8; 240]
     requires colours { All IsColour page.now.cells }
     requires inside { ForSome page.now.operation (λ placement. IsTrue (is_inside_of placement)) }
@@ -49,7 +49,7 @@ fn shown_letters(page: &Page) -> [u8; 240]
     letters
 }
 
-// The rows from the highest one that isn't blank down to row 0, and the garbage row.
+/// The rows from the highest one that isn't blank down to row 0, and the garbage row.
 fn write_rows<O: Sink>(out: &mut O, letters: &[u8; 240]) -> Result<(), Failed>
     ensures written { WritesAll (O.written out.old) (O.written out.new) result (rows_lines letters.now) }
     ensures cause { HasCause (O.faults out.old) (O.faults out.new) result }
@@ -58,7 +58,7 @@ fn write_rows<O: Sink>(out: &mut O, letters: &[u8; 240]) -> Result<(), Failed>
     write_row(out, letters, 23)
 }
 
-// The rows from the highest one that isn't blank down to row 0.
+/// The rows from the highest one that isn't blank down to row 0.
 fn write_shown<O: Sink>(out: &mut O, letters: &[u8; 240]) -> Result<(), Failed>
     ensures written { WritesAll (O.written out.old) (O.written out.new) result
         (flat_map row_line (shown_rows letters.now)) }

@@ -3,13 +3,13 @@ use Rattle.std.proofs.Common.{◌≡◌, ℕ, ◌+◌, List, drop, sym, ap, subs
 use Rattle.std.proofs.lemmas.List.{take_rest}
 use Rattle.fumen_pages.specs.declared.page.Page.{Page}
 use Rattle.fumen_text.specs.Written.{promised_behind}
-use Rattle.fumen_text.specs.Texts.{empty_cells}
+use Rattle.fumen_text.specs.Texts.{empty_page}
 use Rattle.fumen_text.proofs.WriteLoop.{IsWrittenSoFar, write_starts, write_more, write_ends}
 use Rattle.fumen_text.proofs.written.write_pages.Goals as goal
 
 pub loop-i-init : goal.loop-i-init
 loop-i-init c =
-    subst (λ (xs : List ℕ). IsWrittenSoFar c.args.dialect c.args.pages.now xs empty_cells 0 0) (sym c.new-digits.ensures.items) (write_starts c.args.dialect c.args.pages.now)
+    subst (λ (xs : List ℕ). IsWrittenSoFar c.args.dialect c.args.pages.now xs empty_page 0 0) (sym c.new-digits.ensures.items) (write_starts c.args.dialect c.args.pages.now)
 
 pub loop-i-preserved : goal.loop-i-preserved
 loop-i-preserved c =

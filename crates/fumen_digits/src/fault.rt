@@ -1,7 +1,5 @@
-// The faults of a fumen text.
-
-/// The most pages of one list.
-pub(crate) const MOST_PAGES: usize = 10_000;
+// The faults of a fumen text, for all crates that read one.
+use crate::number::DigitFault;
 
 /// Why a text is no fumen. A place is an index among the digits, a page is counted from 1.
 #[derive(Clone, Copy, Debug, PartialEq, Eq)]
@@ -24,4 +22,18 @@ pub enum FumenFault {
     BadComment { place: usize },
     /// A page would be read after 10,000 pages.
     TooManyPages,
+}
+
+impl From<DigitFault> for FumenFault {
+    ghost use Rattle.std.specs.Prelude.{◌≡◌};
+    ghost use Rattle.fumen_digits.specs.Fault.{digit_fault};
+
+    ghost from_gives = { λ fault text. text ≡ digit_fault fault };
+
+    fn from(fault: DigitFault) -> FumenFault {
+        match fault {
+            DigitFault::Bad { place } => FumenFault::BadDigit { place },
+            DigitFault::Truncated { place } => FumenFault::Truncated { place },
+        }
+    }
 }
