@@ -1,5 +1,5 @@
 -- Lemmas that the crates above cite.
-pub use Rattle.hold_queue.proofs.PermitsTest.{queues_permit-decides}
+pub use Rattle.hold_queue.proofs.PermitsTest.{permits-decides, queues_permit-decides}
 pub use Rattle.hold_queue.proofs.SupplyLemmas.{supply-enough}
 pub use Rattle.hold_queue.proofs.AtHandLemmas.{permits-of_takes, takes-of_permits}
 pub use Rattle.hold_queue.proofs.CutLemmas.{takes-is_cut}

@@ -1,7 +1,7 @@
 -- The states stand for the played pieces: at the start, and after one more.
-use Rattle.std.proofs.Common.{◌≡◌, ℕ, ◌+◌, ◌*◌, ◌<◌, ◌≤◌, Bool, true, false, not, ◌&&◌, ◌||◌, ◌==◌, Option, Some, None, List, [], ◌∷◌, ◌++◌, length, length-append, append_assoc, Contains, set, refl, ap, ◌∙◌, sym, subst, inl, inr, ◌↔◌, arith, IsTrue, nat_le, leb-true}
+use Rattle.std.proofs.Common.{◌≡◌, ℕ, ◌+◌, ◌*◌, ◌<◌, ◌≤◌, Bool, true, false, not, ◌&&◌, ◌||◌, ◌==◌, Option, Some, None, List, [], ◌∷◌, ◌++◌, length, length-append, append_assoc, Contains, set, refl, ap, ◌∙◌, sym, subst, inl, inr, arith, nat_le, leb-true}
 use Rattle.std.specs.List.{list_any, list_all}
-use Rattle.std.proofs.lemmas.Bool.{agree_below_at, cases_Bool, and_parts, and_from, eqb-true}
+use Rattle.std.proofs.lemmas.Bool.{agree_below_at, and_parts, and_from, eqb-true, or_cases, or_left, or_right}
 use Rattle.std.proofs.lemmas.List.Folds.{list_any_at}
 use Rattle.srs.specs.declared.piece.Piece.{Piece}
 use Rattle.srs.specs.Piece.{all_pieces, piece_code}
@@ -12,7 +12,7 @@ use Rattle.hold_queue.specs.declared.hold.Hold.{Hold}
 use Rattle.hold_queue.specs.Family.{has_set, any_below}
 use Rattle.hold_queue.specs.Permits.{Permits, some_permits}
 use Rattle.hold_queue.specs.States.{rests, count_held, held_code, drawn_by, family_at, any_held, states_permit, IsRemainder, IsNextFamily, AreStatesAfter}
-use Rattle.hold_queue.proofs.DrawLemmas.{or_cases, or_left, or_right, any_below-from, any_below-to}
+use Rattle.hold_queue.proofs.DrawLemmas.{any_below-from, any_below-to}
 use Rattle.hold_queue.proofs.DrawnRests.{Contains-piece}
 use Rattle.hold_queue.proofs.PermitsTest.{some_permits-decides}
 use Rattle.hold_queue.proofs.RestLemmas.{rests-start}
@@ -196,43 +196,3 @@ follows-start elements hold start some = record {
   where
     start_rests : rests elements (drawn_by start 0 start) 0 ≡ queues elements
     start_rests = ap (λ n. rests elements n 0) (omega arith) ∙ rests-start elements
-
--- whether the states after a piece are any says whether the piece may be played
-pub may_play-is : (elements : List Element) (hold : Hold) (start : Option Piece) (states next : List ℕ) (played : List Piece) (piece : Piece)
-    → AreStatesAfter elements hold start states played → ((held : Option Piece) → IsNextFamily elements hold start states (length played) piece held (family_at next held))
-    → (empty : Bool) → IsTrue empty ↔ ((held : Option Piece) (set : ℕ) → set < 128 → has_set (family_at next held) set ≡ false)
-    → not empty ≡ some_permits hold (queues elements) start (played ++ piece ∷ [])
-may_play-is elements hold start states next played piece so_far steps empty decides = go empty refl
-  where
-    whole : some_permits hold (queues elements) start (played ++ piece ∷ []) ≡ states_permit elements hold start next (length played + 1) []
-    whole = so_far.permits_same (piece ∷ []) ∙ states_permit-next elements hold start states next (length played) piece steps []
-
-    go : (b : Bool) → empty ≡ b → not b ≡ some_permits hold (queues elements) start (played ++ piece ∷ [])
-    go true is = elim (cases_Bool (some_permits hold (queues elements) start (played ++ piece ∷ []))) [
-      | inl permitted ↦
-          let state = states_permit-from elements hold start next (length played + 1) [] (sym whole ∙ permitted) in
-          cc (decides.0 is state.held state.rest.drawn_set state.rest.within, state.rest.has)
-      | inr refused ↦ sym refused
-    ]
-    go false is = elim (cases_Bool (some_permits hold (queues elements) start (played ++ piece ∷ []))) [
-      | inl permitted ↦ sym permitted
-      | inr refused ↦ cc (
-        decides.1 (λ held set within. elim (cases_Bool (has_set (family_at next held) set)) [
-          | inr lacks ↦ lacks
-          | inl has ↦
-              let there = some_queue _ ((steps held).roomy.each set within has) in
-              let permitted = states_permit-to elements hold start next (length played + 1) [] (record {
-                held = held;
-                queue = there.0;
-                permitted = tt;
-                rest = record { drawn_set = set; within = within; has = has; there = there.1 };
-              }) in
-              cc (whole, permitted, refused)
-        ]),
-        is,
-      )
-    ]
-      where
-        some_queue : (qs : List (List Piece)) → 0 < length qs → (queue : List Piece) × Contains qs queue
-        some_queue [] some = absurd (omega arith)
-        some_queue (queue ∷ qs) some = (queue, (0, omega arith, refl))

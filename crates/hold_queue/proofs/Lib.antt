@@ -8,6 +8,7 @@ mod DrawnRests
 mod StepLemmas
 mod SetFacts
 mod FollowLemmas
+mod HoldingLemmas
 mod LengthLemmas
 mod SupplyLemmas
 mod AtHandLemmas

@@ -1,6 +1,6 @@
 -- The tests decide what queues permit.
 use Rattle.std.proofs.Common.{◌≡◌, Bool, true, false, ◌&&◌, ◌||◌, ◌↔◌, ◌⊎◌, inl, inr, List, [], ◌∷◌, Option, Some, None, refl, subst, arith}
-use Rattle.std.proofs.lemmas.Bool.{and_parts, and_from}
+use Rattle.std.proofs.lemmas.Bool.{and_parts, and_from, or_cases, or_left, or_right}
 use Rattle.std.proofs.lemmas.List.Folds.{Any-from_list_any, list_any-from_Any}
 use Rattle.std.proofs.lemmas.Bool.Decides.{nat_tests}
 use Rattle.srs.specs.declared.piece.Piece.{Piece}
@@ -15,18 +15,6 @@ same_piece-is p q same = piece_code-injective p q (grind (arith, nat_tests))
 
 pub same_piece-itself : (p : Piece) → same_piece p p ≡ true
 same_piece-itself p = grind (arith, nat_tests)
-
-or_cases : (a b : Bool) → (a || b) ≡ true → (a ≡ true) ⊎ (b ≡ true)
-or_cases true b h = inl refl
-or_cases false b h = inr h
-
-or_left : (a b : Bool) → a ≡ true → (a || b) ≡ true
-or_left true b h = refl
-or_left false b h = cc
-
-or_right : (a b : Bool) → b ≡ true → (a || b) ≡ true
-or_right true b h = refl
-or_right false b h = h
 
 -- a way and what it leaves, for which a test holds
 abbrev SomeWay : Hold → List Piece → Option Piece → Piece → (List Piece → Option Piece → Bool) → Type 0

@@ -1,15 +1,15 @@
 -- What holds of each queue set.
-use Rattle.std.proofs.Common.{◌≡◌, ℕ, ◌<◌, ◌≤◌, ◌+◌, length, length-append, take, List, [], ◌∷◌, ◌++◌, Bool, false, not, IsTrue, ◌↔◌, subst, sym, ap, arith, ◌∙◌, Option, Some, None, add-one, set as list_set}
+use Rattle.std.proofs.Common.{◌≡◌, ℕ, ◌<◌, ◌≤◌, ◌+◌, length, length-append, take, List, [], ◌∷◌, ◌++◌, true, false, subst, sym, ap, arith, ◌∙◌, Option, Some, None, add-one, set as list_set}
 use Rattle.std.proofs.Math.Seq.{take-suc-set}
 use Rattle.std.proofs.lemmas.List.{length-take}
 use Rattle.srs.specs.declared.piece.Piece.{Piece}
 use Rattle.queue_pattern.specs.Pattern.{elements_of}
 use Rattle.queue_pattern.proofs.CallerLemmas.{pattern-short}
 use Rattle.hold_queue.specs.declared.set.QueueSet.{QueueSet}
-use Rattle.hold_queue.specs.Family.{has_set}
 use Rattle.hold_queue.specs.QueueSet.{queues_in_play, QueuesPermit, queues_permit}
 use Rattle.hold_queue.specs.States.{AreStatesAfter, IsNextFamily, family_at, count_held}
-use Rattle.hold_queue.proofs.FollowLemmas.{may_play-is, follows-next}
+use Rattle.hold_queue.proofs.FollowLemmas.{follows-next}
+use Rattle.hold_queue.proofs.HoldingLemmas.{Comes, permitted-comes, refused-none}
 use Rattle.hold_queue.proofs.LengthLemmas.{permits-length, queue-length}
 use Rattle.hold_queue.proofs.StepLemmas.{Stands}
 
@@ -22,16 +22,20 @@ set-stands set = subst (λ n. Stands (elements_of set.pattern) set.held set.stat
   drawn_fits = set.follows.drawn_fits;
 })
 
--- the answer of `may_play`, from the states after the piece
-pub set-may_play : (set : QueueSet) (piece : Piece) (next : List ℕ)
-    → ((held : Option Piece) → IsNextFamily (elements_of set.pattern) set.hold set.held set.states set.number piece held (family_at next held))
-    → (empty : Bool) → IsTrue empty ↔ ((held : Option Piece) (drawn_set : ℕ) → drawn_set < 128 → has_set (family_at next held) drawn_set ≡ false)
-    → not empty ≡ queues_permit (queues_in_play set) ((queues_in_play set).played ++ piece ∷ [])
+-- a piece may be played exactly where it comes in some way
+pub set-comes : (set : QueueSet) (piece : Piece) → Comes (elements_of set.pattern) set.hold set.held set.states set.number piece
+    → queues_permit (queues_in_play set) ((queues_in_play set).played ++ piece ∷ []) ≡ true
 unfolding queues_in_play
-set-may_play set piece next steps empty decides =
-    may_play-is (elements_of set.pattern) set.hold set.held set.states next (take set.number set.played) piece set.follows
-    (λ held. subst (λ n. IsNextFamily (elements_of set.pattern) set.hold set.held set.states n piece held (family_at next held)) (sym (played-length set)) (steps held))
-    empty decides
+set-comes set piece comes =
+    permitted-comes (elements_of set.pattern) set.hold set.held set.states (take set.number set.played) piece set.follows
+    (subst (λ n. Comes (elements_of set.pattern) set.hold set.held set.states n piece) (sym (played-length set)) comes)
+
+pub set-refuses : (set : QueueSet) (piece : Piece) → (Comes (elements_of set.pattern) set.hold set.held set.states set.number piece → ⊥)
+    → queues_permit (queues_in_play set) ((queues_in_play set).played ++ piece ∷ []) ≡ false
+unfolding queues_in_play
+set-refuses set piece none =
+    refused-none (elements_of set.pattern) set.hold set.held set.states (take set.number set.played) piece set.follows
+    (λ comes. none (subst (λ n. Comes (elements_of set.pattern) set.hold set.held set.states n piece) (played-length set) comes))
 
 -- there is room for one more piece where it is permitted
 pub set-room : (set : QueueSet) (piece : Piece) → QueuesPermit (queues_in_play set) ((queues_in_play set).played ++ piece ∷ []) → set.number < 23

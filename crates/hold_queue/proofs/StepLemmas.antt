@@ -1,5 +1,6 @@
 -- The families after one more piece is played, by the four ways to play it.
 use Rattle.std.proofs.Common.{◌≡◌, ℕ, ◌+◌, ◌<◌, ◌≤◌, true, ◌||◌, Option, Some, None, List, [], ◌∷◌, Contains, refl, ap, ◌∙◌, sym, subst, inl, inr, ◌⊎◌, arith}
+use Rattle.std.proofs.lemmas.Bool.{or_cases, or_left, or_right}
 use Rattle.srs.specs.declared.piece.Piece.{Piece}
 use Rattle.srs.specs.declared.piece.Piece.TheVariants.{I, L, O, Z, T, J, S}
 use Rattle.lists.proofs.CallerLemmas.{some_same, Contains-cases, Contains-none}
@@ -11,7 +12,6 @@ use Rattle.hold_queue.specs.declared.hold.Hold.TheVariants.{Allowed, Avoided}
 use Rattle.hold_queue.specs.Family.{has_set, IsDrawn}
 use Rattle.hold_queue.specs.Permits.{Way, plain, exchange, first_hold, last}
 use Rattle.hold_queue.specs.States.{in_progress, rests, count_held, drawn_by, family_at, IsRemainder, IsRoomy, CameBy, IsNextFamily}
-use Rattle.hold_queue.proofs.DrawLemmas.{or_cases, or_left, or_right}
 use Rattle.hold_queue.proofs.RestLemmas.{stands, rests-done}
 use Rattle.hold_queue.proofs.DrawnRests.{moves-back, rest-on, rest-back, roomy-on, begins-none}
 
@@ -19,23 +19,23 @@ use Rattle.hold_queue.proofs.DrawnRests.{moves-back, rest-on, rest-back, roomy-o
 pub record IsUnion (f g both : Family) : Type 0 where
   pub each : (set : ℕ) → set < 128 → has_set both set ≡ (has_set f set || has_set g set)
 
-union-from : {elements : List Element} {drawn : ℕ} {queue : List Piece} (f g both : Family) → IsUnion f g both
+pub union-from : {elements : List Element} {drawn : ℕ} {queue : List Piece} (f g both : Family) → IsUnion f g both
     → IsRemainder elements drawn both queue → IsRemainder elements drawn f queue ⊎ IsRemainder elements drawn g queue
 union-from f g both union rest = elim (or_cases (has_set f rest.drawn_set) (has_set g rest.drawn_set) (sym (union.each rest.drawn_set rest.within) ∙ rest.has)) [
   | inl one ↦ inl (record { drawn_set = rest.drawn_set; within = rest.within; has = one; there = rest.there })
   | inr two ↦ inr (record { drawn_set = rest.drawn_set; within = rest.within; has = two; there = rest.there })
 ]
 
-union-left : {elements : List Element} {drawn : ℕ} {queue : List Piece} (f g both : Family) → IsUnion f g both → IsRemainder elements drawn f queue → IsRemainder elements drawn both queue
+pub union-left : {elements : List Element} {drawn : ℕ} {queue : List Piece} (f g both : Family) → IsUnion f g both → IsRemainder elements drawn f queue → IsRemainder elements drawn both queue
 union-left f g both union rest = record { drawn_set = rest.drawn_set; within = rest.within; has = union.each rest.drawn_set rest.within ∙ or_left _ _ rest.has; there = rest.there }
 
-union-right : {elements : List Element} {drawn : ℕ} {queue : List Piece} (f g both : Family) → IsUnion f g both → IsRemainder elements drawn g queue → IsRemainder elements drawn both queue
+pub union-right : {elements : List Element} {drawn : ℕ} {queue : List Piece} (f g both : Family) → IsUnion f g both → IsRemainder elements drawn g queue → IsRemainder elements drawn both queue
 union-right f g both union rest = record { drawn_set = rest.drawn_set; within = rest.within; has = union.each rest.drawn_set rest.within ∙ or_right _ _ rest.has; there = rest.there }
 
 union-cases : (f g both : Family) → IsUnion f g both → (set : ℕ) → set < 128 → has_set both set ≡ true → (has_set f set ≡ true) ⊎ (has_set g set ≡ true)
 union-cases f g both union set within has = or_cases (has_set f set) (has_set g set) (sym (union.each set within) ∙ has)
 
-union-roomy : (elements : List Element) (drawn : ℕ) (f g both : Family) → IsUnion f g both → IsRoomy elements drawn f → IsRoomy elements drawn g → IsRoomy elements drawn both
+pub union-roomy : (elements : List Element) (drawn : ℕ) (f g both : Family) → IsUnion f g both → IsRoomy elements drawn f → IsRoomy elements drawn g → IsRoomy elements drawn both
 union-roomy elements drawn f g both union one two = record {
   each = λ set within has. elim (union-cases f g both union set within has) [
     | inl left ↦ one.each set within left
@@ -53,13 +53,13 @@ module _ (elements : List Element) (start : Option Piece) (states : List ℕ) (p
   abbrev Counts : Option Piece → ℕ → Type 0
   Counts held next = (set : ℕ) → set < 128 → has_set (family_at states held) set ≡ true → next ≡ drawn_by start played held + 1
 
-  counts_same : (held : Option Piece) → Counts held (drawn_by start (played + 1) held)
+  pub counts_same : (held : Option Piece) → Counts held (drawn_by start (played + 1) held)
   counts_same held set within has = omega (arith, so_far.drawn_fits held set within has)
 
   counts_exchange : (piece first : Piece) → Counts (Some piece) (drawn_by start (played + 1) (Some first))
   counts_exchange piece first set within has = omega (arith, so_far.drawn_fits (Some piece) set within has)
 
-  counts_first : (first : Piece) → Counts None (drawn_by start played (Some first))
+  pub counts_first : (first : Piece) → Counts None (drawn_by start played (Some first))
   counts_first first set within has = omega (arith, so_far.drawn_fits None set within has)
 
   -- what has a set after a draw had one before it

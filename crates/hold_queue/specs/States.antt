@@ -1,12 +1,13 @@
 -- What the states of a queue set stand for: the queues that may follow, by what is held and which pieces of the element
 -- in progress are drawn.
-use Rattle.std.specs.Prelude.{Contains, ◌≡◌, ℕ, ◌+◌, ◌-◌, ◌*◌, ◌<◌, ◌≤◌, Bool, true, not, ◌&&◌, ◌||◌, ◌==◌, nat_lt, if◌then◌else◌, Option, Some, None, List, [], ◌∷◌, ◌++◌, filter, length, slice_index}
+use Rattle.std.specs.Prelude.{Contains, ◌≡◌, ◌⊎◌, ℕ, ◌+◌, ◌-◌, ◌*◌, ◌<◌, ◌≤◌, Bool, true, not, ◌&&◌, ◌||◌, ◌==◌, nat_lt, if◌then◌else◌, Option, Some, None, List, [], ◌∷◌, ◌++◌, filter, length, slice_index}
 use Rattle.std.specs.List.{list_any}
 use Rattle.srs.specs.declared.piece.Piece.{Piece}
 use Rattle.srs.specs.Piece.{all_pieces, piece_code}
 use Rattle.queue_pattern.specs.declared.element.Element.{Element}
 use Rattle.queue_pattern.specs.Queues.{is_in, pieces_in, queues, tails}
 use Rattle.hold_queue.specs.declared.hold.Hold.{Hold}
+use Rattle.hold_queue.specs.declared.hold.Hold.TheVariants.{Allowed}
 use Rattle.hold_queue.specs.declared.family.Family.{Family}
 use Rattle.hold_queue.specs.declared.family.Draw.{Draw}
 use Rattle.hold_queue.specs.Family.{has_set, any_below}
@@ -81,6 +82,32 @@ pub record IsNextFamily (elements : List Element) (hold : Hold) (start : Option 
       → IsRemainder elements (drawn_by start (played + 1) held) family queue
   pub roomy : IsRoomy elements (drawn_by start (played + 1) held) family
   pub drawn_fits : (set : ℕ) → set < 128 → has_set family set ≡ true → count_held start ≤ played + 1 + count_held held
+
+-- a queue that may follow where this piece is held before the next one is drawn: it is held, or hold is allowed and it is
+-- drawn where nothing is held
+abbrev pub FollowsHeld : List Element → Hold → Option Piece → List ℕ → ℕ → Piece → List Piece → Type 0
+FollowsHeld elements hold start states played first queue =
+    IsRemainder elements (drawn_by start played (Some first)) (family_at states (Some first)) queue
+    ⊎ ((hold ≡ Allowed) × IsRemainder elements (drawn_by start played None) (family_at states None) (first ∷ queue))
+
+-- the family of drawn sets with which this piece is held then
+pub record IsHeldFamily (elements : List Element) (hold : Hold) (start : Option Piece) (states : List ℕ)
+    (played : ℕ) (first : Piece) (family : Family) : Type 0 where
+  pub came : (queue : List Piece) → IsRemainder elements (drawn_by start played (Some first)) family queue
+      → FollowsHeld elements hold start states played first queue
+  pub goes : (queue : List Piece) → FollowsHeld elements hold start states played first queue
+      → IsRemainder elements (drawn_by start played (Some first)) family queue
+  pub roomy : IsRoomy elements (drawn_by start played (Some first)) family
+
+-- the family of drawn sets with which one of these pieces is held then
+pub record IsHolding (elements : List Element) (hold : Hold) (start : Option Piece) (states : List ℕ)
+    (played : ℕ) (pieces : List Piece) (family : Family) : Type 0 where
+  pub came : (other : Piece) (queue : List Piece) → IsRemainder elements (drawn_by start played (Some other)) family queue
+      → (first : Piece) × FollowsHeld elements hold start states played first queue
+  pub goes : (first : Piece) (queue : List Piece) → Contains pieces first
+      → FollowsHeld elements hold start states played first queue
+      → IsRemainder elements (drawn_by start played (Some first)) family queue
+  pub roomy : (other : Piece) → IsRoomy elements (drawn_by start played (Some other)) family
 
 -- some state leaves queues that permit the pieces
 unfoldable pub states_permit : List Element → Hold → Option Piece → List ℕ → ℕ → List Piece → Bool

@@ -1,9 +1,9 @@
 // The queues of a pattern after some played pieces.
-ghost use Rattle.std.specs.Prelude.{◌≡◌, ℕ, ◌*◌, ◌≤◌, ◌<◌, ◌↔◌, IsTrue, length, take, Option, Some, None, false};
+ghost use Rattle.std.specs.Prelude.{◌≡◌, ◌*◌, ◌≤◌, ◌↔◌, IsTrue, length, map, take, Option, Some, None};
 ghost use Rattle.srs.specs.declared.piece.Piece.{Piece};
+ghost use Rattle.srs.specs.Piece.{all_pieces};
 ghost use Rattle.queue_pattern.specs.Pattern.{elements_of};
 ghost use Rattle.hold_queue.specs.States.{AreStatesAfter};
-ghost use Rattle.hold_queue.specs.Family.{has_set};
 ghost use Rattle.hold_queue.specs.States;
 
 use crate::family::{Draw, Family, in_progress};
@@ -57,26 +57,10 @@ fn family_at(states: &[u64; 16], held: Option<Piece>) -> Family
     }
 }
 
-/// Whether there is no state.
-fn is_empty(states: &[u64; 16]) -> bool
-    ensures { IsTrue result ↔ ((held : Option Piece) (set : ℕ) → set < 128 →
-        has_set (States.family_at states.now held) set ≡ false) }
-{
-    if !family_at(states, None).is_empty() {
-        return false;
-    }
-    for piece in Piece::ALL {
-        if !family_at(states, Some(piece)).is_empty() {
-            return false;
-        }
-    }
-    true
-}
-
 impl QueueSet {
     ghost use Rattle.std.specs.Prelude.{◌+◌, List, [], ◌∷◌, ◌++◌};
     ghost use Rattle.hold_queue.specs.QueueSet.{QueuesInPlay, queues_in_play, singles, QueuesPermit, queues_permit};
-    ghost use Rattle.hold_queue.specs.States.{drawn_by, in_progress, IsNextFamily, family_at};
+    ghost use Rattle.hold_queue.specs.States.{drawn_by, in_progress, IsNextFamily, IsHeldFamily, IsHolding, family_at};
     ghost use Rattle.hold_queue.specs.Supply.{supplies, supply_of};
 
     /// The queues of a pattern, with nothing played.
@@ -195,6 +179,64 @@ impl QueueSet {
         ]
     }
 
+    /// The drawn sets with which a piece may be held before the next one is drawn: it is held, or it is drawn where
+    /// nothing is held.
+    fn with_held(&self, draws: Draws, first: Piece) -> Family
+        requires { draws.empty_handed ≡ in_progress (elements_of self.now.pattern)
+            (drawn_by self.now.held self.now.number None) }
+        ensures { IsHeldFamily (elements_of self.now.pattern) self.now.hold self.now.held self.now.states
+            self.now.number first result }
+    {
+        let held = family_at(&self.states, Some(first));
+        if let Hold::Avoided = self.hold {
+            return held;
+        }
+        held.or(family_at(&self.states, None).draw(draws.empty_handed, first))
+    }
+
+    /// The drawn sets with which some piece may be held before the next one is drawn.
+    fn holding(&self, draws: Draws) -> Family
+        requires { draws.empty_handed ≡ in_progress (elements_of self.now.pattern)
+            (drawn_by self.now.held self.now.number None) }
+        ensures { IsHolding (elements_of self.now.pattern) self.now.hold self.now.held self.now.states
+            self.now.number all_pieces result }
+    {
+        let held_i = self.with_held(draws, Piece::I);
+        let held_l = self.with_held(draws, Piece::L);
+        let held_o = self.with_held(draws, Piece::O);
+        let held_z = self.with_held(draws, Piece::Z);
+        let held_t = self.with_held(draws, Piece::T);
+        let held_j = self.with_held(draws, Piece::J);
+        let held_s = self.with_held(draws, Piece::S);
+        let four = held_i.or(held_l).or(held_o).or(held_z);
+        four.or(held_t).or(held_j).or(held_s)
+    }
+
+    /// Whether a piece may come next: it is drawn where nothing is held, or where a piece is held, or it is held.
+    fn permits(&self, draws: Draws, holding: Family, piece: Piece) -> bool
+        requires empty_handed { draws.empty_handed ≡ in_progress (elements_of self.now.pattern)
+            (drawn_by self.now.held self.now.number None) }
+        requires holding { (piece : Piece) → draws.holding
+            ≡ in_progress (elements_of self.now.pattern) (drawn_by self.now.held self.now.number (Some piece)) }
+        requires held { IsHolding (elements_of self.now.pattern) self.now.hold self.now.held self.now.states
+            self.now.number all_pieces holding }
+        ensures { result ≡ queues_permit (queues_in_play self.now)
+            ((queues_in_play self.now).played ++ piece ∷ []) }
+    {
+        let plain = family_at(&self.states, None).draw(draws.empty_handed, piece);
+        if !plain.is_empty() {
+            return true;
+        }
+        let second = holding.draw(draws.holding, piece);
+        if !second.is_empty() {
+            return true;
+        }
+        if let Hold::Avoided = self.hold {
+            return false;
+        }
+        !family_at(&self.states, Some(piece)).is_empty()
+    }
+
     /// Whether some queue permits the pieces played so far followed by this one.
     pub fn may_play(&self, piece: Piece) -> bool
         ensures permitted { IsTrue result ↔ QueuesPermit (queues_in_play self.now)
@@ -202,7 +244,26 @@ impl QueueSet {
         ensures value { result ≡ queues_permit (queues_in_play self.now)
             ((queues_in_play self.now).played ++ piece ∷ []) }
     {
-        !is_empty(&self.next(piece))
+        let draws = self.draws();
+        self.permits(draws, self.holding(draws), piece)
+    }
+
+    /// For each kind, in the order of codes, whether some queue permits the pieces played so far followed by it.
+    pub fn permitted(&self) -> [bool; 7]
+        ensures { result ≡ map (λ piece. queues_permit (queues_in_play self.now)
+            ((queues_in_play self.now).played ++ piece ∷ [])) all_pieces }
+    {
+        let draws = self.draws();
+        let holding = self.holding(draws);
+        [
+            self.permits(draws, holding, Piece::I),
+            self.permits(draws, holding, Piece::L),
+            self.permits(draws, holding, Piece::O),
+            self.permits(draws, holding, Piece::Z),
+            self.permits(draws, holding, Piece::T),
+            self.permits(draws, holding, Piece::J),
+            self.permits(draws, holding, Piece::S),
+        ]
     }
 
     /// The queues after one more piece.
@@ -240,8 +301,8 @@ impl QueueSet {
         ]
     }
 
-    #[tactic(auto, unfolding(crate::specs::QueueSet::queues_in_play))]
     /// The supply of one kind.
+    #[tactic(auto, unfolding(crate::specs::QueueSet::queues_in_play))]
     fn supply_of(&self, piece: Piece, left: u8) -> u8
         ensures { result ≡ supply_of (queues_in_play self.now) left piece }
     {

@@ -59,6 +59,10 @@ fn a_second_bag_begins_where_the_first_is_drawn(rt: HostRuntime) -> Result<(), F
     assert!(rt; !after_five.may_play(Piece::I));
     let after_six = played(&rt, after_five, &[Piece::J]);
     assert!(rt; after_six.may_play(Piece::I));
+    assert_eq!(rt;
+        after_three.permitted(),
+        [false, false, false, true, true, true, true]
+    );
     Ok(())
 }
 

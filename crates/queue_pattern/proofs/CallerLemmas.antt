@@ -4,3 +4,4 @@ pub use Rattle.queue_pattern.proofs.FallingLemmas.{falling_factor-more}
 pub use Rattle.queue_pattern.proofs.PatternFacts.{pattern-short, pattern-some}
 pub use Rattle.queue_pattern.proofs.QueueLemmas.{length-tails, queues-none, queues-tails, tails-more, tails-none}
 pub use Rattle.queue_pattern.proofs.SetLemmas.{filter_twice, same, same_true}
+pub use Rattle.queue_pattern.proofs.PatternMade.{pattern-made}

@@ -21,4 +21,9 @@ mod SingleLemmas
 mod RisingQueues
 mod ReadIsSpelled
 mod SpelledIsRead
+mod FaultForms
+mod FaultsRead
+mod FaultsFound
+mod FaultLaws
+mod PatternMade
 pub mod CallerLemmas

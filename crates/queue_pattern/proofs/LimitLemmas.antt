@@ -19,7 +19,7 @@ sound-some : (element : Element) → is_sound element ≡ true → 0 < element.c
 unfolding is_sound
 sound-some element sound = grind (arith, nat_tests)
 
-length-le-queue_len : (elements : List Element) → list_all is_sound elements ≡ true → length elements ≤ queue_len elements
+pub length-le-queue_len : (elements : List Element) → list_all is_sound elements ≡ true → length elements ≤ queue_len elements
 length-le-queue_len [] sound = omega arith
 length-le-queue_len (e ∷ elements) sound =
     let parts = and_parts (is_sound e) (list_all is_sound elements) sound in

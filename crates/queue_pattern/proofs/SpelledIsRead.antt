@@ -1,5 +1,5 @@
 -- The grammar as a relation and the function that reads a text agree: what is spelled is read.
-use Rattle.std.proofs.Common.{◌≡◌, ◌≢◌, ℕ, ◌+◌, ◌-◌, ◌≤◌, Bool, true, false, cond, ◌&&◌, ◌==◌, nat_lt, nat_le, lt-ltb, eqb-true, ne_eqb, List, [], ◌∷◌, ◌++◌, length, append_assoc, bit_or, refl, ap, sym, subst, ◌∙◌, arith, Some, None, Ok, Err, inl, inr, ◌⊎◌}
+use Rattle.std.proofs.Common.{◌≡◌, ◌≢◌, ℕ, ◌+◌, ◌-◌, ◌<◌, ◌≤◌, Bool, true, false, cond, ◌&&◌, ◌==◌, nat_lt, nat_le, lt-ltb, le-leb, eqb-true, ne_eqb, List, [], ◌∷◌, ◌++◌, length, append_assoc, append-nil, length-append, bit_or, refl, ap, sym, subst, ◌∙◌, arith, Some, None, Ok, Err, inl, inr, ◌⊎◌}
 use Rattle.std.proofs.lemmas.Bool.{cases_Bool, and_from}
 use Rattle.std.proofs.lemmas.Bool.Decides.{nat_tests}
 use Rattle.std.proofs.lemmas.Nat.{pow_pos, le_or_r}
@@ -8,11 +8,12 @@ use Rattle.srs.specs.Piece.{piece_code, piece_with_letter}
 use Rattle.queue_pattern.specs.declared.element.Element.{Element}
 use Rattle.queue_pattern.specs.declared.fault.PatternFault.TheVariants.{TooManyChosen}
 use Rattle.queue_pattern.specs.Queues.{pieces_in}
-use Rattle.queue_pattern.specs.Grammar.{TextPosition, outside, opened, listing, closed, choosing, choice, before, bracketed, is_gap, set_of, elements_from}
+use Rattle.queue_pattern.specs.Grammar.{Elements, outside, opened, listing, closed, choosing, choice, before, bracketed, is_gap, all_set, set_of, elements_from}
 use Rattle.queue_pattern.specs.Spelling.{SpellsLetters, SpellsSet, all, these, others, SpellsChosen, one, digit, every, SpellsElement, letter, chosen, SpellsElements, none, gap, element}
+use Rattle.queue_pattern.proofs.ParseLemmas.{after_front}
 
 -- a letter is no other byte that means something
-not_letter : (byte other : ℕ) (piece : Piece) → piece_with_letter byte ≡ Some piece → piece_with_letter other ≡ None → (byte == other) ≡ false
+pub not_letter : (byte other : ℕ) (piece : Piece) → piece_with_letter byte ≡ Some piece → piece_with_letter other ≡ None → (byte == other) ≡ false
 not_letter byte other piece is free = elim (cases_Bool (byte == other)) [
   | inl same ↦ let at : piece_with_letter other ≡ Some piece = subst (λ b. piece_with_letter b ≡ Some piece) (eqb-true byte other same) is in cc
   | inr differs ↦ differs
@@ -25,7 +26,7 @@ not_gap byte other is free = elim (cases_Bool (byte == other)) [
 ]
 
 -- the text does not go on with `p`, `P` or `!`
-abbrev NoMark : List ℕ → Type 0
+abbrev pub NoMark : List ℕ → Type 0
 NoMark [] = Unit {0}
 NoMark (byte ∷ bytes) = ((byte == 112) ≡ false) × ((byte == 80) ≡ false) × ((byte == 33) ≡ false)
 
@@ -46,11 +47,6 @@ unfolding elements_from
 ends_there [] start set place free = refl
 ends_there (byte ∷ bytes) start set place free = rw (free.0, free.1, free.2) refl
 
--- where a text is read on from
-record ReadsOn (position : TextPosition) (place : ℕ) (text : List ℕ) (next : TextPosition) (rest : List ℕ) : Type 0 where
-  later : ℕ
-  same : elements_from position place text ≡ elements_from next later rest
-
 or_some : (a b : ℕ) → b ≢ 0 → bit_or a b ≢ 0
 or_some a b some e = some (omega (arith, e, le_or_r a b))
 
@@ -61,45 +57,59 @@ letters_some : (letters : List ℕ) (so_far total : ℕ) → so_far ≢ 0 → Sp
 letters_some [] so_far total some spelled = subst (λ n. n ≢ 0) spelled some
 letters_some (byte ∷ letters) so_far total some spelled = letters_some letters (bit_or so_far (set_of spelled.0)) total (or_some so_far (set_of spelled.0) (set_some spelled.0)) spelled.3
 
-total_some : (letters : List ℕ) (total : ℕ) → letters ≢ [] → SpellsLetters 0 letters total → total ≢ 0
+pub total_some : (letters : List ℕ) (total : ℕ) → letters ≢ [] → SpellsLetters 0 letters total → total ≢ 0
 total_some [] total some spelled = absurd (some refl)
 total_some (byte ∷ letters) total some spelled = letters_some letters (bit_or 0 (set_of spelled.0)) total (or_some 0 (set_of spelled.0) (set_some spelled.0)) spelled.3
 
-read_letters : (letters rest : List ℕ) (start : ℕ) (except : Bool) (so_far total place : ℕ) → SpellsLetters so_far letters total → total ≢ 0
-    → ReadsOn (listing start except so_far) place (letters ++ 93 ∷ rest) (closed start (bracketed except total)) rest
+-- letters are read one after the other
+pub read_letters : (letters rest : List ℕ) (start : ℕ) (except : Bool) (so_far total place : ℕ) → SpellsLetters so_far letters total
+    → elements_from (listing start except so_far) place (letters ++ rest) ≡ elements_from (listing start except total) (place + length letters) rest
 unfolding elements_from
-read_letters [] rest start except so_far total place spelled some =
-    let at : (so_far == 0) ≡ false = ne_eqb so_far 0 (λ e. some (sym spelled ∙ e)) in
-    record { later = place + 1; same = rw at (ap (λ n. elements_from (closed start (bracketed except n)) (place + 1) rest) spelled) }
-read_letters (byte ∷ letters) rest start except so_far total place spelled some =
-    let on = read_letters letters rest start except (bit_or so_far (set_of spelled.0)) total (place + 1) spelled.3 some in
-    record { later = on.later; same = rw (not_letter byte 93 spelled.0 spelled.1 refl, spelled.1, spelled.2) on.same }
+read_letters [] rest start except so_far total place spelled =
+    ap (λ n. elements_from (listing start except n) place rest) spelled ∙ ap (λ p. elements_from (listing start except total) p rest) (omega arith)
+read_letters (byte ∷ letters) rest start except so_far total place spelled =
+    let on = read_letters letters rest start except (bit_or so_far (set_of spelled.0)) total (place + 1) spelled.3 in
+    rw (not_letter byte 93 spelled.0 spelled.1 refl, spelled.1, spelled.2)
+    (on ∙ ap (λ p. elements_from (listing start except total) p rest) (omega arith))
 
-read_set : (front rest : List ℕ) (set place : ℕ) → SpellsSet front set → ReadsOn outside place (front ++ rest) (closed place set) rest
+-- a bracket that has a letter is no `[^`
+pub read_first : (byte : ℕ) (bytes : List ℕ) (start place : ℕ) → (byte == 94) ≡ false
+    → elements_from (opened start) place (byte ∷ bytes) ≡ elements_from (listing start false 0) place (byte ∷ bytes)
 unfolding elements_from
-read_set front rest set place all = record { later = place + 1; same = refl }
+read_first byte bytes start place other = rw other refl
+
+closes : (rest : List ℕ) (start : ℕ) (except : Bool) (total place : ℕ) → total ≢ 0
+    → elements_from (listing start except total) place (93 ∷ rest) ≡ elements_from (closed start (bracketed except total)) (place + 1) rest
+unfolding elements_from
+closes rest start except total place some = rw (ne_eqb total 0 some) refl
+
+read_listed : (letters rest : List ℕ) (start : ℕ) (except : Bool) (total place : ℕ) → SpellsLetters 0 letters total → total ≢ 0
+    → elements_from (listing start except 0) place (letters ++ 93 ∷ rest) ≡ elements_from (closed start (bracketed except total)) (place + length letters + 1) rest
+read_listed letters rest start except total place spelled some =
+    read_letters letters (93 ∷ rest) start except 0 total place spelled ∙ closes rest start except total (place + length letters) some
+
+pub read_set : (front rest : List ℕ) (set place : ℕ) → SpellsSet front set → elements_from outside place (front ++ rest) ≡ elements_from (closed place set) (place + length front) rest
+unfolding elements_from
+read_set front rest set place all = refl
 read_set front rest set place (these {letters = letters} some spelled) = first letters some spelled
   where
-    first : (letters : List ℕ) → letters ≢ [] → SpellsLetters 0 letters set → ReadsOn outside place ((91 ∷ letters ++ 93 ∷ []) ++ rest) (closed place set) rest
+    first : (letters : List ℕ) → letters ≢ [] → SpellsLetters 0 letters set
+        → elements_from outside place ((91 ∷ letters ++ 93 ∷ []) ++ rest) ≡ elements_from (closed place set) (place + length (91 ∷ letters ++ 93 ∷ [])) rest
     first [] some spelled = absurd (some refl)
     first (byte ∷ letters) some spelled =
-        let on = read_letters (byte ∷ letters) rest place false 0 set (place + 1) spelled (total_some (byte ∷ letters) set some spelled) in
-        record {
-          later = on.later;
-          same = ap (λ t. elements_from (opened place) (place + 1) t) (append_assoc (byte ∷ letters) (93 ∷ []) rest)
-              ∙ rw (not_letter byte 94 spelled.0 spelled.1 refl) on.same;
-        }
+        ap (λ t. elements_from (opened place) (place + 1) t) (append_assoc (byte ∷ letters) (93 ∷ []) rest)
+        ∙ read_first byte (letters ++ 93 ∷ rest) place (place + 1) (not_letter byte 94 spelled.0 spelled.1 refl)
+        ∙ read_listed (byte ∷ letters) rest place false set (place + 1) spelled (total_some (byte ∷ letters) set some spelled)
+        ∙ ap (λ p. elements_from (closed place set) p rest) (omega (arith, length-append (byte ∷ letters) (93 ∷ [])))
 read_set front rest set place (others {letters = letters} total some spelled) =
-    let on = read_letters letters rest place true 0 total (place + 1 + 1) spelled (total_some letters total some spelled) in
-    record { later = on.later; same = ap (λ t. elements_from (listing place true 0) (place + 1 + 1) t) (append_assoc letters (93 ∷ []) rest) ∙ on.same }
+    ap (λ t. elements_from (listing place true 0) (place + 1 + 1) t) (append_assoc letters (93 ∷ []) rest)
+    ∙ read_listed letters rest place true total (place + 1 + 1) spelled (total_some letters total some spelled)
+    ∙ ap (λ p. elements_from (closed place (all_set - total)) p rest) (omega (arith, length-append letters (93 ∷ [])))
 
-record ReadsChoice (start set n place : ℕ) (text rest : List ℕ) : Type 0 where
-  later : ℕ
-  same : elements_from (closed start set) place text ≡ before (choice start set n) (elements_from outside later rest)
-
-read_chosen : (back rest : List ℕ) (start set n place : ℕ) → SpellsChosen (length (pieces_in set)) back n → NoMark rest → ReadsChoice start set n place (back ++ rest) rest
+pub read_chosen : (back rest : List ℕ) (start set n place : ℕ) → SpellsChosen (length (pieces_in set)) back n → (back ≡ [] → NoMark rest)
+    → elements_from (closed start set) place (back ++ rest) ≡ before (choice start set n) (elements_from outside (place + length back) rest)
 unfolding elements_from
-read_chosen back rest start set n place says free = go back n (length (pieces_in set)) refl says
+read_chosen back rest start set n place says free = go back n (length (pieces_in set)) refl says free
   where
     in_range : (n : ℕ) → 1 ≤ n → n ≤ 9 → (nat_le 49 (48 + n) && nat_le (48 + n) 57) ≡ true
     in_range n low high = grind (arith, nat_tests)
@@ -112,25 +122,78 @@ read_chosen back rest start set n place says free = go back n (length (pieces_in
     marked mark n (inl small) low high = rw small (digit_read n low high)
     marked mark n (inr capital) low high = rw capital (digit_read n low high)
 
-    go : (back : List ℕ) (n size : ℕ) → size ≡ length (pieces_in set) → SpellsChosen size back n → ReadsChoice start set n place (back ++ rest) rest
-    go back n size is one = record { later = place; same = ends_there rest start set place free }
-    go back n size is (digit {mark = mark} {n = k} mark_is low high) = record { later = place + 1 + 1; same = marked mark k mark_is low high }
-    go back n size is every = record { later = place + 1; same = ap (λ k. before (choice start set k) (elements_from outside (place + 1) rest)) (sym is) }
+    go : (back : List ℕ) (n size : ℕ) → size ≡ length (pieces_in set) → SpellsChosen size back n → (back ≡ [] → NoMark rest)
+        → elements_from (closed start set) place (back ++ rest) ≡ before (choice start set n) (elements_from outside (place + length back) rest)
+    go back n size is one free = ends_there rest start set place (free refl) ∙ ap (λ p. before (choice start set 1) (elements_from outside p rest)) (omega arith)
+    go back n size is (digit {mark = mark} {n = k} mark_is low high) free =
+        marked mark k mark_is low high ∙ ap (λ p. before (choice start set k) (elements_from outside p rest)) (omega arith)
+    go back n size is every free = ap (λ k. before (choice start set k) (elements_from outside (place + 1) rest)) (sym is)
+
+-- an element is read, where what follows a bare set does not say how many are chosen
+after_choice : (start set n : ℕ) (read : Elements) → 0 < length (pieces_in set) → n ≤ length (pieces_in set)
+    → before (choice start set n) read ≡ before (Ok (record { set = set; chosen = n })) read
+unfolding choice
+after_choice start set n read some enough =
+    ap (λ b. before (cond b (Ok (record { set = set; chosen = n })) (Err (TooManyChosen start))) read)
+    (and_from (nat_lt 0 (length (pieces_in set))) (nat_le n (length (pieces_in set))) (lt-ltb 0 (length (pieces_in set)) some) (le-leb n (length (pieces_in set)) enough))
+
+read_element : (front rest : List ℕ) (e : Element) (place : ℕ) → SpellsElement front e → ((set : ℕ) → SpellsSet front set → NoMark rest)
+    → elements_from outside place (front ++ rest) ≡ before (Ok e) (elements_from outside (place + length front) rest)
+unfolding elements_from
+read_element front rest e place (letter {byte = byte} {piece = piece} is) free =
+    rw (not_letter byte 32 piece is refl, not_letter byte 9 piece is refl, not_letter byte 44 piece is refl, not_letter byte 42 piece is refl, not_letter byte 91 piece is refl, is) refl
+read_element front rest e place (chosen {front = text} {back = back} {set = set} {n = n} spelled_set says some enough) free =
+    let bare : back ≡ [] → NoMark rest = λ none. free set (subst (λ t. SpellsSet t set) (sym (ap (λ b. text ++ b) none ∙ append-nil text)) spelled_set) in
+    ap (elements_from outside place) (append_assoc text back rest)
+    ∙ read_set text (back ++ rest) set place spelled_set
+    ∙ read_chosen back rest place set n (place + length text) says bare
+    ∙ after_choice place set n (elements_from outside (place + length text + length back) rest) some enough
+    ∙ ap (λ p. before (Ok (record { set = set; chosen = n })) (elements_from outside p rest)) (omega (arith, length-append text back))
+
+-- what follows elements: nothing that says how many are chosen, where they end with a bare set
+pub record Clear (whole rest : List ℕ) : Type 0 where
+  pub free : (done front : List ℕ) (es : List Element) (set : ℕ) → whole ≡ done ++ front → SpellsElements done es → SpellsSet front set → NoMark rest
+
+clear_front : (front more rest : List ℕ) (later : List Element) → SpellsElements more later → Clear (front ++ more) rest → (set : ℕ) → SpellsSet front set → NoMark (more ++ rest)
+clear_front front [] rest later spelled clear set is = clear.free [] front [] set (append-nil front) none is
+clear_front front (byte ∷ more) rest later spelled clear set is = no_mark (byte ∷ more) later spelled
+
+clear_gap : (byte : ℕ) (more rest : List ℕ) → is_gap byte ≡ true → Clear (byte ∷ more) rest → Clear more rest
+clear_gap byte more rest is clear = record { free = λ done front es set joined spelled. clear.free (byte ∷ done) front es set (ap (λ t. byte ∷ t) joined) (gap is spelled) }
+
+clear_element : (front more rest : List ℕ) (e : Element) → SpellsElement front e → Clear (front ++ more) rest → Clear more rest
+clear_element front more rest e first clear = record {
+  free = λ done set_text es set joined spelled. clear.free (front ++ done) set_text (e ∷ es) set
+      (ap (λ t. front ++ t) joined ∙ sym (append_assoc front done set_text)) (element first spelled);
+}
+
+one_before : (e : Element) (es : List Element) (read : Elements) → before (Ok e) (after_front es read) ≡ after_front (e ∷ es) read
+one_before e es (Ok found) = refl
+one_before e es (Err fault) = refl
+
+none_before : (read : Elements) → read ≡ after_front [] read
+none_before (Ok found) = refl
+none_before (Err fault) = refl
+
+-- elements are read before what follows them
+pub read_elements : (whole : List ℕ) (es : List Element) → SpellsElements whole es → (rest : List ℕ) → Clear whole rest → (place : ℕ)
+    → elements_from outside place (whole ++ rest) ≡ after_front es (elements_from outside (place + length whole) rest)
+unfolding elements_from
+read_elements whole es none rest clear place = ap (λ p. elements_from outside p rest) (omega arith) ∙ none_before (elements_from outside (place + 0) rest)
+read_elements whole es (gap {byte = byte} {text = later} is spelled) rest clear place =
+    rw is (read_elements later es spelled rest (clear_gap byte later rest is clear) (place + 1)
+    ∙ ap (λ p. after_front es (elements_from outside p rest)) (omega arith))
+read_elements whole es (element {front = front} {rest = more} {first = e} {elements = later} first spelled) rest clear place =
+    ap (elements_from outside place) (append_assoc front more rest)
+    ∙ read_element front (more ++ rest) e place first (clear_front front more rest later spelled clear)
+    ∙ ap (before (Ok e)) (read_elements more later spelled rest (clear_element front more rest e first clear) (place + length front)
+    ∙ ap (λ p. after_front later (elements_from outside p rest)) (omega (arith, length-append front more)))
+    ∙ one_before e later (elements_from outside (place + length (front ++ more)) rest)
 
 -- what a text spells, it is read as
 pub read-from_spelled : (text : List ℕ) (elements : List Element) → SpellsElements text elements → (place : ℕ) → elements_from outside place text ≡ Ok elements
-unfolding elements_from choice
-read-from_spelled text elements none place = refl
-read-from_spelled text elements (gap {byte = byte} {text = later} is spelled) place = rw is (read-from_spelled later elements spelled (place + 1))
-read-from_spelled text elements (element {rest = rest} {elements = later} (letter {byte = byte} {piece = piece} is) spelled) place =
-    rw (not_letter byte 32 piece is refl, not_letter byte 9 piece is refl, not_letter byte 44 piece is refl, not_letter byte 42 piece is refl, not_letter byte 91 piece is refl, is)
-    (ap (before (Ok (record { set = set_of piece; chosen = 1 }))) (read-from_spelled rest later spelled (place + 1)))
-read-from_spelled text elements (element {rest = rest} {elements = later} (chosen {front = front} {back = back} {set = set} {n = n} spelled_set says some enough) spelled) place =
-    let set_read = read_set front (back ++ rest) set place spelled_set in
-    let choice_read = read_chosen back rest place set n set_read.later says (no_mark rest later spelled) in
-    ap (elements_from outside place) (append_assoc front back rest) ∙ set_read.same ∙ choice_read.same
-    ∙ ap (before (choice place set n)) (read-from_spelled rest later spelled choice_read.later)
-    ∙ ap (λ b. before (cond b (Ok (record { set = set; chosen = n })) (Err (TooManyChosen place))) (Ok later)) (and_from (nat_lt 0 (length (pieces_in set))) (nat_le n (length (pieces_in set))) (lt-ltb 0 (length (pieces_in set)) some) (le_test n (length (pieces_in set)) enough))
-  where
-    le_test : (a b : ℕ) → a ≤ b → nat_le a b ≡ true
-    le_test a b h = grind (arith, nat_tests)
+unfolding elements_from
+read-from_spelled text elements spelled place =
+    ap (elements_from outside place) (sym (append-nil text))
+    ∙ read_elements text elements spelled [] (record { free = λ done front es set joined spelled is. tt }) place
+    ∙ ap Ok (append-nil elements)

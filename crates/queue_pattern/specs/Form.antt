@@ -1,8 +1,7 @@
--- The form of pattern texts, whatever pieces brackets list and however many of them are chosen, and where a text leaves it.
-use Rattle.std.specs.Prelude.{◌≡◌, ◌≢◌, ℕ, ◌+◌, ◌<◌, ◌≤◌, true, ◌⊎◌, Bool, is_some, List, [], ◌∷◌, ◌++◌, length, All}
+-- The form of pattern texts, whatever pieces brackets list and however many of them are chosen, and where a text
+-- leaves it.
+use Rattle.std.specs.Prelude.{◌≡◌, ◌≢◌, ℕ, ◌+◌, ◌≤◌, true, ◌⊎◌, Bool, is_some, List, [], ◌∷◌, ◌++◌, length, All}
 use Rattle.srs.specs.Piece.{piece_with_letter}
-use Rattle.queue_pattern.specs.declared.fault.PatternFault.{PatternFault}
-use Rattle.queue_pattern.specs.declared.fault.PatternFault.TheVariants.{Unexpected, RepeatedPiece, TooManyChosen}
 use Rattle.queue_pattern.specs.Grammar.{is_gap}
 
 abbrev pub is_letter : ℕ → Bool
@@ -45,7 +44,8 @@ abbrev pub IsStopped : List ℕ → List ℕ → Type 0
 IsStopped front [] = HasForm front → ⊥
 IsStopped front (byte ∷ rest) = IsFront (front ++ byte ∷ []) → ⊥
 
--- at this place stands the first byte that no text of the form goes on with, or the text ends there and isn't of the form
+-- at this place stands the first byte that no text of the form goes on with, or the text ends there and isn't of the
+-- form
 pub record LeavesForm (text : List ℕ) (place : ℕ) : Type 0 where
   pub front : List ℕ
   pub rest : List ℕ
@@ -53,10 +53,3 @@ pub record LeavesForm (text : List ℕ) (place : ℕ) : Type 0 where
   pub stands : place ≡ length front
   pub begins : IsFront front
   pub stops : IsStopped front rest
-
--- the fault of a text that leaves the form at a place: that byte, or a fault of pieces that stands before it
-abbrev pub IsFaultUpTo : ℕ → PatternFault → Type 0
-IsFaultUpTo place (Unexpected found) = found ≡ place
-IsFaultUpTo place (RepeatedPiece found) = found < place
-IsFaultUpTo place (TooManyChosen found) = found < place
-IsFaultUpTo place other = ⊥

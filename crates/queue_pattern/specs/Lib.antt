@@ -4,6 +4,7 @@ pub mod Order
 pub mod Spelling
 pub mod Grammar
 pub mod Form
+pub mod Faults
 pub mod Pattern
 -- What serves proofs alone
 pub mod Sound

@@ -40,8 +40,8 @@ fn falling_product(pieces: u8, chosen: u8) -> u64
     product
 }
 
-#[tactic(auto, unfolding(crate::specs::Sound::is_sound))]
 /// How many choices an element has.
+#[tactic(auto, unfolding(crate::specs::Sound::is_sound))]
 fn choice_count(element: Element) -> u64
     requires { IsTrue (is_sound element) }
     ensures value { result ≡ falling_factor (length (pieces_in element.set)) element.chosen }
@@ -54,8 +54,8 @@ fn choice_count(element: Element) -> u64
 impl Builder {
     ghost use Rattle.queue_pattern.specs.Builder.{Holds};
 
-    #[tactic(auto, unfolding(crate::specs::Queues::queue_count))]
     /// No elements yet.
+    #[tactic(auto, unfolding(crate::specs::Queues::queue_count))]
     pub fn new() -> Builder
         ensures { Holds result [] }
     {

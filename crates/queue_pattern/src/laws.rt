@@ -5,7 +5,8 @@ ghost use Rattle.queue_pattern.specs.declared.element.Element.{Element};
 ghost use Rattle.queue_pattern.specs.declared.fault.PatternFault.{PatternFault};
 ghost use Rattle.queue_pattern.specs.declared.fault.PatternFault.TheVariants.{Unexpected};
 ghost use Rattle.queue_pattern.specs.declared.pattern.Pattern.{Pattern};
-ghost use Rattle.queue_pattern.specs.Form.{IsFaultUpTo, LeavesForm};
+ghost use Rattle.queue_pattern.specs.Faults.{IsPatternFault, IsUnexpectedAt};
+ghost use Rattle.queue_pattern.specs.Form.{LeavesForm};
 ghost use Rattle.queue_pattern.specs.Grammar;
 ghost use Rattle.queue_pattern.specs.Order.{queue_cmp};
 ghost use Rattle.queue_pattern.specs.Pattern.{elements_of};
@@ -41,11 +42,25 @@ pub fn texts_are_read_as_they_spell()
         (Grammar.elements text ≡ Ok elements) ↔ SpellsElements text elements }
 {}
 
+/// Elements that are read within the limits are those of a pattern.
+pub fn texts_without_a_fault_have_a_pattern()
+    ensures { (text : List ℕ) (elements : List Element) → Grammar.limited (Grammar.elements text) ≡ Ok elements
+        → (pattern : Pattern) × (elements_of pattern ≡ elements) }
+{}
+
+/// A text is refused exactly by its first fault: an unexpected byte, a piece that is repeated or a choice of too many,
+/// whichever stands first behind whole elements; or else by a limit.
+pub fn texts_are_refused_by_their_first_fault()
+    ensures { (text : List ℕ) (fault : PatternFault) →
+        (Grammar.limited (Grammar.elements text) ≡ Err fault) ↔ IsPatternFault text fault }
+{}
+
 /// Unexpected is the fault of a text exactly at the first byte that no pattern text goes on with, whatever pieces are
-/// listed and chosen, or at its end where it ends within an element, unless a piece that is repeated or a choice of too
-/// many stands before.
+/// listed and chosen, or at its end where it ends within an element, where what stands before are whole elements and
+/// the beginning of one.
 pub fn unexpected_bytes_leave_the_form()
-    ensures only { (text : List ℕ) (place : ℕ) → Grammar.elements text ≡ Err (Unexpected place) → LeavesForm text place }
-    ensures all { (text : List ℕ) (place : ℕ) → LeavesForm text place
-        → (fault : PatternFault) × (Grammar.elements text ≡ Err fault) × IsFaultUpTo place fault }
+    ensures exact { (text : List ℕ) (place : ℕ) →
+        (Grammar.elements text ≡ Err (Unexpected place)) ↔ IsUnexpectedAt text place }
+    ensures only { (text : List ℕ) (place : ℕ) → Grammar.elements text ≡ Err (Unexpected place)
+        → LeavesForm text place }
 {}

@@ -71,8 +71,8 @@ impl Pattern {
         }
     }
 
-    #[tactic(auto, unfolding(crate::specs::Pattern::elements_of))]
     /// The pattern of a builder, where its elements are within the limits.
+    #[tactic(auto, unfolding(crate::specs::Pattern::elements_of))]
     fn within_limits(builder: Builder) -> Result<Pattern, PatternFault>
         requires { (elements : List Element) × Holds builder elements }
         ensures pattern { (elements : List Element) → Holds builder elements →
@@ -95,8 +95,8 @@ impl Pattern {
         })
     }
 
-    #[tactic(auto, unfolding(crate::specs::Pattern::elements_of))]
     /// How many queues the pattern stands for.
+    #[tactic(auto, unfolding(crate::specs::Pattern::elements_of))]
     pub fn count(&self) -> u32
         ensures number { result ≡ length (queues (elements_of self.now)) }
         ensures some { 0 < result }
@@ -105,8 +105,8 @@ impl Pattern {
         self.count
     }
 
-    #[tactic(auto, unfolding(crate::specs::Pattern::elements_of))]
     /// How many pieces each queue has.
+    #[tactic(auto, unfolding(crate::specs::Pattern::elements_of))]
     pub fn len(&self) -> u8
         ensures value { result ≡ queue_len (elements_of self.now) }
         ensures short { result ≤ 22 }
@@ -135,8 +135,8 @@ impl Pattern {
         queue
     }
 
-    #[tactic(auto, unfolding(crate::specs::Pattern::elements_of))]
     /// How many elements the pattern has.
+    #[tactic(auto, unfolding(crate::specs::Pattern::elements_of))]
     pub fn elements(&self) -> u8
         ensures number { result ≡ length (elements_of self.now) }
         ensures few { result ≤ 22 }
@@ -144,8 +144,8 @@ impl Pattern {
         self.number
     }
 
-    #[tactic(auto, unfolding(crate::specs::Pattern::elements_of))]
     /// The element with this number, from 0.
+    #[tactic(auto, unfolding(crate::specs::Pattern::elements_of))]
     pub fn element(&self, index: u8) -> Element
         requires { index < length (elements_of self.now) }
         ensures { slice_get (elements_of self.now) index ≡ Some result }

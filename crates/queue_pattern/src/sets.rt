@@ -24,8 +24,8 @@ pub fn set_of_one(piece: Piece) -> u8
     1 << (piece.code() - 1)
 }
 
-#[tactic(auto, unfolding(crate::specs::Queues::pieces_in))]
 /// How many pieces a set has.
+#[tactic(auto, unfolding(crate::specs::Queues::pieces_in))]
 pub fn size(set: u8) -> u8
     ensures number { result ≡ length (pieces_in set) }
     ensures few { result ≤ 7 }

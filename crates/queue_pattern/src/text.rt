@@ -13,8 +13,8 @@ use crate::fault::PatternFault;
 use crate::sets::{ALL, is_in, set_of_one, size};
 use srs::Piece;
 
-#[tactic(auto, unfolding(crate::specs::Grammar::choice, crate::specs::Sound::is_sound))]
 /// The choice of some pieces of a set, for an element that began at `start`.
+#[tactic(auto, unfolding(crate::specs::Grammar::choice, crate::specs::Sound::is_sound))]
 fn choice(start: usize, set: u8, chosen: u8) -> Result<Element, PatternFault>
     requires set { set < 128 }
     requires some { 0 < length (pieces_in set) → 0 < chosen }
