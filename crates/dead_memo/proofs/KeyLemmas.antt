@@ -5,7 +5,7 @@ use Rattle.std.specs.Cmp.Lexicographic.{pointwise, pointwise_decides}
 use Rattle.std.proofs.lemmas.Bool.{and_parts, and_from}
 use Rattle.lane_board.specs.Field.{Field}
 use Rattle.prune.specs.Tiling.{Tiling, supply_in}
-use Rattle.prune.proofs.CallerLemmas.{tiling_below}
+use Rattle.prune.proofs.CallerLemmas.{tiling-intersection}
 use Rattle.dead_memo.specs.Question.{Question, question, HasNoTiling}
 use Rattle.dead_memo.specs.Keys.{cells_in_bits, question_of}
 use Rattle.dead_memo.specs.declared.key.Key.{Key}
@@ -36,8 +36,8 @@ same_key-decides a b = (there, back)
 -- a question stands for its field: only the cells below the rows count
 pub question_dead : (F : Field) (rows : ℕ) (supply : List ℕ) → (Tiling F rows (supply_in supply) → ⊥) → HasNoTiling (question F rows supply)
 unfolding question
-question_dead F rows supply none t = none ((tiling_below F rows (supply_in supply)).1 t)
+question_dead F rows supply none t = none ((tiling-intersection F rows (supply_in supply)).1 t)
 
 pub dead_question : (F : Field) (rows : ℕ) (supply : List ℕ) → HasNoTiling (question F rows supply) → Tiling F rows (supply_in supply) → ⊥
 unfolding question
-dead_question F rows supply none t = none ((tiling_below F rows (supply_in supply)).0 t)
+dead_question F rows supply none t = none ((tiling-intersection F rows (supply_in supply)).0 t)

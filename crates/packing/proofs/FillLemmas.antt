@@ -29,7 +29,7 @@ not_not true = refl
 not_not false = refl
 
 -- which cells are empty where all but those of a set are filled
-empty_is : (height : ℕ) (E : Field) (a b : ℕ) → IsSmall height E → is_empty_below (all_but E) height (pos a, pos b) ≡ E a b
+pub empty_is : (height : ℕ) (E : Field) (a b : ℕ) → IsSmall height E → is_empty_below (all_but E) height (pos a, pos b) ≡ E a b
 unfolding is_empty_below all_but rows_below
 empty_is height E a b small = ap (λ t. (nat_lt a 10 && nat_lt b height) && t) (not_not (E a b)) ∙ inside (E a b) (nat_lt a 10 && nat_lt b height) (λ here. and_from _ _ (lt-ltb a 10 (small.column a b here)) (lt-ltb b height (small.row a b here)))
   where

@@ -18,12 +18,12 @@ use Rattle.packing.specs.declared.span.Span.{Span}
 use Rattle.packing.specs.Spans.{forms_of, has_span, without_span, IsEmpty}
 use Rattle.packing.specs.Stacks.{Stacks, CanFill, without_stack}
 use Rattle.packing.specs.HasTiling.{is_empty, can_stack, can_fill, has_tiling}
-use Rattle.packing.proofs.SupplyLemmas.{code_from_one, code_to_seven}
+use Rattle.packing.proofs.SupplyLemmas.{code_from_one, code_to_seven, piece_in_all}
 use Rattle.packing.proofs.StackLemmas.{IsSmall, Chosen, some_in_span}
 use Rattle.packing.proofs.ChosenLemmas.{was_there, chosen, stacked, follows-all}
 use Rattle.packing.proofs.FormLemmas.{form, form_at, rotation_at, form_within, form_of_place, left_in_stack}
 use Rattle.packing.proofs.FillLemmas.{fills_nothing, fills_chosen, FilledBy, filled_by}
-use Rattle.packing.proofs.SearchLemmas.{total, total-less_one, piece_in_all}
+use Rattle.packing.proofs.SearchLemmas.{total, total-less_one}
 use Rattle.packing.proofs.SameTilings.{tiling_below}
 
 -- an item that passes a test, and one that does not

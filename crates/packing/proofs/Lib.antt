@@ -8,6 +8,7 @@ mod StackLemmas
 mod ChosenLemmas
 mod FormLemmas
 mod FillLemmas
+mod MovedTilings
 mod SearchLemmas
 mod PlacedCells
 mod SameTilings

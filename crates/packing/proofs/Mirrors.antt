@@ -81,7 +81,7 @@ module _ (E G : Field) (turned : (x y : ℕ) → x ≤ 9 → G x y ≡ E (9 - x)
   shown (negsuc x, negsuc y) = refl
 
   pub to_mirror : (supply : Supply) → Tiling (all_but E) 8 supply → Tiling (all_but G) 8 (mirrored_supply supply)
-  to_mirror supply t = same_tiling (mirrored (all_but E)) (all_but G) 8 (mirrored_supply supply) shown (tiling_mirrored (all_but E) 8 supply t)
+  to_mirror supply t = same_tiling (mirrored (all_but E)) (all_but G) 8 8 (mirrored_supply supply) shown (tiling_mirrored (all_but E) 8 supply t)
 
   back : (x y : ℕ) → x ≤ 9 → E x y ≡ G (9 - x) y
   back x y near = sym (turned (9 - x) y (omega arith) ∙ ap (λ k. E k y) {x = 9 - (9 - x)} {y = x} (omega arith))

@@ -5,19 +5,11 @@ use Rattle.std.proofs.lemmas.Bool.{false≢true, and_right, lt-ltb, ltb-true}
 use Rattle.lane_board.specs.Field.{Field, rows_below, difference}
 use Rattle.srs.specs.Cells.{Cell, cells_of}
 use Rattle.prune.specs.Tiling.{is_empty_below, Tiling, Supply}
+use Rattle.prune.proofs.CallerLemmas.{same_tiling}
 use Rattle.srs.specs.declared.placement.Placement.{Placement}
 use Rattle.srs.specs.SameCells.{is_among}
 use Rattle.well.specs.Lock.{together}
 use Rattle.packing.specs.Empties.{all_but, without_placement}
-
--- a tiling of some empty cells is one wherever the same cells are empty
-pub same_tiling : (F G : Field) (n m : ℕ) (supply : Supply) → ((cell : Cell) → is_empty_below F n cell ≡ is_empty_below G m cell) → Tiling F n supply → Tiling G m supply
-same_tiling F G n m supply same t = record {
-  parts = t.parts;
-  generalized = t.generalized;
-  covered = λ cell. t.covered cell ∙ ap (λ b. cond b 1 0) (same cell);
-  supplied = t.supplied;
-}
 
 empties_same : (F : Field) (rows height : ℕ) → rows ≤ height → (cell : Cell) → is_empty_below (all_but (difference (rows_below rows) F)) height cell ≡ is_empty_below F rows cell
 unfolding is_empty_below all_but difference rows_below

@@ -1,11 +1,8 @@
 -- The search goes down: it has fewer pieces or fewer spans left, and what was tried in vain stays tried.
-use Rattle.std.proofs.Common.{◌≡◌, ℕ, ◌+◌, ◌-◌, ◌/◌, ◌^◌, bit_and, ◌<◌, ◌≤◌, Bool, true, List, [], ◌∷◌, length, get_or, refl, sym, ap, subst, ◌∙◌, arith}
-use Rattle.std.proofs.lemmas.Bool.{eq-eqb, eqb-true, both_ways}
-use Rattle.lane_board.proofs.CallerLemmas.{has_bit-zero}
-use Rattle.std.proofs.lemmas.Nat.Bits.{shr_and_one}
+use Rattle.std.proofs.Common.{◌≡◌, ℕ, ◌+◌, bit_and, ◌<◌, ◌≤◌, Bool, true, false, not, ◌&&◌, ◌==◌, nat_le, List, [], ◌∷◌, length, get_or, refl, sym, ap, ap₂, subst, ◌∙◌, inl, inr, arith}
+use Rattle.std.proofs.lemmas.Bool.{and_parts, and_from, both_ways, cases_eq, le-leb, leb-true, ne_eqb}
+use Rattle.lane_board.proofs.CallerLemmas.{has_bit-and, has_bit-zero}
 use Rattle.lane_board.specs.Lanes.{has_bit}
-use Rattle.srs.specs.Piece.{all_pieces, piece_code}
-use Rattle.packing.proofs.SupplyLemmas.{code_from_one, code_to_seven}
 use Rattle.packing.proofs.StackLemmas.{IsSmall, some_in_span}
 use Rattle.packing.proofs.FillLemmas.{stacked_first, fills_stacked}
 use Rattle.lane_board.specs.Field.{Field}
@@ -14,8 +11,8 @@ use Rattle.srs.specs.declared.piece.Piece.TheVariants.{I, L, O, Z, T, J, S}
 use Rattle.prune.specs.Tiling.{Supply}
 use Rattle.prune.specs.OnePart.{less_one}
 use Rattle.packing.specs.declared.span.Span.{Span}
-use Rattle.packing.specs.Spans.{forms_of, without_span, IsFirst}
-use Rattle.packing.specs.Stacks.{MayTake, StacksOver, StacksPiece, Stacks, is_allowed, CanFill}
+use Rattle.packing.specs.Spans.{forms_of, has_span, without_span, IsFirst}
+use Rattle.packing.specs.Stacks.{MayTake, StacksOver, StacksPiece, Stacks, Takes, is_allowed, CanFill}
 
 -- how many pieces there are
 abbrev pub total : Supply → ℕ
@@ -31,45 +28,33 @@ total-less_one supply T some = omega arith
 total-less_one supply J some = omega arith
 total-less_one supply S some = omega arith
 
--- no piece of this kind covers the first cell so that the rest can be filled
-pub record FailsBy (supply : Supply) (E : Field) (x y : ℕ) (piece : Piece) : Type 0 where
-  pub fails : 0 < supply piece → StacksPiece (less_one supply piece) E x y piece → ⊥
-
 -- spans can't be stacked with the lowest one in this row
 pub record FailsIn (supply : Supply) (E : Field) (x y floor : ℕ) (span : Span) (spans : List Span) (row : ℕ) : Type 0 where
   pub fails : MayTake (is_allowed y) E x floor span row → StacksOver supply (without_span E x span row) x y (row + 1) spans → ⊥
 
-pub piece_in_all : (piece : Piece) → get_or all_pieces (piece_code piece - 1) I ≡ piece
-piece_in_all I = refl
-piece_in_all L = refl
-piece_in_all O = refl
-piece_in_all Z = refl
-piece_in_all T = refl
-piece_in_all J = refl
-piece_in_all S = refl
+-- the supply fills a set that a piece of it takes
+pub fills_taken : (supply : Supply) (E : Field) (piece : Piece) (x y : ℕ) → IsSmall 8 E → Takes supply E x y piece → CanFill 8 supply E
+fills_taken supply E piece x y small takes = fills_stacked E supply piece x y small takes.has takes.stacks
 
--- where each kind fails, the set can't be filled
-pub all_fail : (supply : Supply) (E : Field) (x y count : ℕ) → IsSmall 8 E → IsFirst E x y → 7 ≤ count → ((k : ℕ) → k < count → FailsBy supply E x y (get_or all_pieces k I)) → CanFill 8 supply E → ⊥
-all_fail supply E x y count small first whole fails filling =
+-- one that is filled is taken by a piece of some kind: by an S where no other kind does
+pub some_takes : (supply : Supply) (E : Field) (x y : ℕ) → IsSmall 8 E → IsFirst E x y → (Takes supply E x y I → ⊥) → (Takes supply E x y L → ⊥) → (Takes supply E x y O → ⊥) →
+    (Takes supply E x y Z → ⊥) → (Takes supply E x y T → ⊥) → (Takes supply E x y J → ⊥) → CanFill 8 supply E → Takes supply E x y S
+some_takes supply E x y small first no_i no_l no_o no_z no_t no_j filling =
     let by = stacked_first E supply x y small first filling in
-    let here = fails (piece_code by.piece - 1) (omega (arith, code_to_seven by.piece, code_from_one by.piece)) in
-    (subst (λ p. FailsBy supply E x y p) (piece_in_all by.piece) here).fails by.some by.stacks
-
--- a row that has a bit
-pub has_row : (rows row : ℕ) → bit_and (rows / 2 ^ row) 1 ≡ 1 → has_bit rows row ≡ true
-unfolding has_bit
-has_row rows row e = eq-eqb _ 1 (sym (shr_and_one rows row) ∙ e)
-
-pub no_row : (rows row : ℕ) → (bit_and (rows / 2 ^ row) 1 ≡ 1 → ⊥) → has_bit rows row ≡ true → ⊥
-unfolding has_bit
-no_row rows row none here = none (shr_and_one rows row ∙ eqb-true _ 1 here)
+    last by.piece (record { has = by.some; stacks = by.stacks })
+  where
+    last : (piece : Piece) → Takes supply E x y piece → Takes supply E x y S
+    last I takes = absurd (no_i takes)
+    last L takes = absurd (no_l takes)
+    last O takes = absurd (no_o takes)
+    last Z takes = absurd (no_z takes)
+    last T takes = absurd (no_t takes)
+    last J takes = absurd (no_j takes)
+    last S takes = takes
 
 -- with one piece of this kind fewer
 pub fewer : (supply left : Supply) (piece : Piece) → left ≡ less_one supply piece → 0 < supply piece → total left + 1 ≡ total supply
 fewer supply left piece is some = ap (λ (s : Supply). total s + 1) is ∙ total-less_one supply piece some
-
-pub fills_left : (E : Field) (supply left : Supply) (piece : Piece) (x y : ℕ) → IsSmall 8 E → left ≡ less_one supply piece → 0 < supply piece → StacksPiece left E x y piece → CanFill 8 supply E
-fills_left E supply left piece x y small is some stacks = fills_stacked E supply piece x y small some (subst (λ (s : Supply). StacksPiece s E x y piece) is stacks)
 
 -- with no spans there is nothing to stack
 pub stacks_none : (supply : Supply) (E : Field) (x y floor : ℕ) (spans : List Span) (b : Bool) → length spans ≡ 0 → ((b ≡ true → CanFill 8 supply E) × (CanFill 8 supply E → b ≡ true)) →
@@ -96,8 +81,47 @@ stacks_fail supply E x y floor span spans all small is fails stacks = fail (subs
         let cell = some_in_span E x span taken.0 taken.1.has in
         (fails taken.0 taken.1.above (small.row cell.0 taken.0 cell.1) taken.1.permitted).fails taken.1 taken.2
 
-pub no_row_in_zero : (rows row : ℕ) → rows ≡ 0 → has_bit rows row ≡ true → ⊥
-no_row_in_zero rows row none here = both_ways _ (ap (λ n. has_bit n row) none ∙ has_bit-zero row) here
+-- The rows that are still to be tried: the lowest span may take each of them, and was tried in vain in every other one.
+pub record Tried (supply : Supply) (E : Field) (x y floor : ℕ) (span : Span) (spans : List Span) (rows : ℕ) : Type 0 where
+  pub may : (row : ℕ) → row < 8 → has_bit rows row ≡ true → MayTake (is_allowed y) E x floor span row
+  pub failed : (row : ℕ) → row < 8 → has_bit rows row ≡ false → FailsIn supply E x y floor span spans row
+
+pub tried-start : (supply : Supply) (E : Field) (x y floor : ℕ) (span : Span) (spans : List Span) (rows permitted : ℕ) →
+    ((row : ℕ) → row < 8 → has_bit rows row ≡ has_span E x span row) →
+    ((row : ℕ) → row < 8 → has_bit permitted row ≡ (nat_le floor row && is_allowed y floor span row)) →
+    Tried supply E x y floor span spans (bit_and rows permitted)
+tried-start supply E x y floor span spans rows permitted has allowed = record {
+  may = λ row low bit.
+      let both = and_parts _ _ (sym (bits row low) ∙ bit) in
+      let inner = and_parts _ _ both.1 in
+      record { above = leb-true floor row inner.0; permitted = inner.1; has = both.0 };
+  failed = λ row low none. record {
+    fails = λ may stacks. both_ways _ none (bits row low ∙ and_from _ _ may.has (and_from _ _ (le-leb floor row may.above) may.permitted));
+  };
+}
+  where
+    bits : (row : ℕ) → row < 8 → has_bit (bit_and rows permitted) row ≡ (has_span E x span row && (nat_le floor row && is_allowed y floor span row))
+    bits row low = has_bit-and rows permitted row ∙ ap₂ ◌&&◌ (has row low) (allowed row low)
+
+pub tried-next : (supply : Supply) (E : Field) (x y floor : ℕ) (span : Span) (spans : List Span) (rows less row : ℕ) → Tried supply E x y floor span spans rows →
+    FailsIn supply E x y floor span spans row → ((k : ℕ) → k < 8 → has_bit less k ≡ (has_bit rows k && not (k == row))) → Tried supply E x y floor span spans less
+tried-next supply E x y floor span spans rows less row tried fails others = record {
+  may = λ k low bit. tried.may k low (and_parts _ _ (sym (others k low) ∙ bit)).0;
+  failed = λ k low none. elim (cases_eq k row) [
+    | inl same ↦ subst (λ k. FailsIn supply E x y floor span spans k) (sym same) fails
+    | inr other ↦ tried.failed k low (before (has_bit rows k) (k == row) (ne_eqb k row other) (sym (others k low) ∙ none))
+  ];
+}
+  where
+    before : (p q : Bool) → q ≡ false → (p && not q) ≡ false → p ≡ false
+    before true q other left = absurd (both_ways true (ap (λ t. true && not t) (sym other) ∙ left) refl)
+    before false q other left = refl
+
+-- where no row is left, the spans can't be stacked
+pub all_tried : (supply : Supply) (E : Field) (x y floor : ℕ) (span : Span) (spans : List Span) (rows : ℕ) → IsSmall 8 E → rows ≡ 0 → Tried supply E x y floor span spans rows →
+    StacksOver supply E x y floor (span ∷ spans) → ⊥
+all_tried supply E x y floor span spans rows small none tried stacks =
+    stacks_fail supply E x y floor span spans _ small refl (λ row above low permitted. tried.failed row low (ap (λ n. has_bit n row) none ∙ has_bit-zero row)) stacks
 
 -- the third of the forms of a piece
 pub third_form : (supply : Supply) (E : Field) (x y : ℕ) (piece kind : Piece) → piece ≡ kind → 2 < length (forms_of kind) →

@@ -1,10 +1,10 @@
 -- One entry of a supply is one less.
-use Rattle.std.proofs.Common.{◌≡◌, ℕ, ◌-◌, ◌≤◌, List, length, get_or, set, ap, ◌∙◌, sym, inl, inr, arith, get_or-set_same, get_or-set_other}
+use Rattle.std.proofs.Common.{◌≡◌, ℕ, ◌-◌, ◌≤◌, List, length, get_or, set, refl, ap, ◌∙◌, sym, inl, inr, arith, get_or-set_same, get_or-set_other}
 use Rattle.std.proofs.Math.Path.{fun_ext}
 use Rattle.std.proofs.lemmas.Bool.{cases_eq, eq-eqb, ne_eqb, cond-true, cond-false}
 use Rattle.srs.specs.declared.piece.Piece.{Piece}
 use Rattle.srs.specs.declared.piece.Piece.TheVariants.{I, L, O, Z, T, J, S}
-use Rattle.srs.specs.Piece.{piece_code}
+use Rattle.srs.specs.Piece.{all_pieces, piece_code}
 use Rattle.prune.specs.Tiling.{supply_in}
 use Rattle.prune.specs.OnePart.{less_one}
 
@@ -25,6 +25,15 @@ code_to_seven Z = omega arith
 code_to_seven T = omega arith
 code_to_seven J = omega arith
 code_to_seven S = omega arith
+
+pub piece_in_all : (piece : Piece) → get_or all_pieces (piece_code piece - 1) I ≡ piece
+piece_in_all I = refl
+piece_in_all L = refl
+piece_in_all O = refl
+piece_in_all Z = refl
+piece_in_all T = refl
+piece_in_all J = refl
+piece_in_all S = refl
 
 pub one_less : (entries : List ℕ) (piece : Piece) → length entries ≡ 7 → supply_in (set entries (piece_code piece - 1) (get_or entries (piece_code piece - 1) 0 - 1)) ≡ less_one (supply_in entries) piece
 unfolding supply_in less_one

@@ -37,6 +37,10 @@ forms_of J = (FirstThree ∷ First ∷ []) ∷ (First ∷ First ∷ FirstTwo ∷
     ∷ (FirstTwo ∷ Second ∷ Second ∷ []) ∷ []
 forms_of S = (FirstTwo ∷ SecondTwo ∷ []) ∷ (Second ∷ FirstTwo ∷ First ∷ []) ∷ []
 
+-- the set with its columns counted from column x on
+unfoldable pub from_column : ℕ → Field → Field
+from_column x E a b = E (x + a) b
+
 -- the set has all cells of a span in row y, whose leftmost column is x
 unfoldable pub has_span : Field → ℕ → Span → ℕ → Bool
 has_span E x span y = list_all (λ column. E (x + column) y) (columns_of span)

@@ -5,6 +5,7 @@ use Rattle.lane_board.specs.Field.{Field}
 use Rattle.srs.specs.declared.piece.Piece.{Piece}
 use Rattle.packing.specs.declared.span.Span.{Span}
 use Rattle.prune.specs.Tiling.{Supply, Tiling}
+use Rattle.prune.specs.OnePart.{less_one}
 use Rattle.packing.specs.Empties.{all_but}
 use Rattle.packing.specs.Spans.{columns_of, has_first, forms_of, has_span, without_span}
 
@@ -38,6 +39,11 @@ pub record StacksPiece (supply : Supply) (E : Field) (x y : ℕ) (piece : Piece)
   pub place : ℕ
   pub known : place < length (forms_of piece)
   pub stacks : StacksOver supply E x y 0 (slice_index_or (forms_of piece) place [])
+
+-- the supply has a piece of this kind, and its spans can be stacked so that the others fill what they leave
+pub record Takes (supply : Supply) (E : Field) (x y : ℕ) (piece : Piece) : Type 0 where
+  pub has : 0 < supply piece
+  pub stacks : StacksPiece (less_one supply piece) E x y piece
 
 -- whether the cell (a, b) is one of the spans whose rows are these
 unfoldable pub in_stack : ℕ → (ℕ → ℕ) → List Span → ℕ → ℕ → Bool

@@ -18,7 +18,7 @@ impl Empties {
     ghost use Rattle.lane_board.specs.Lanes.{has_bit};
     ghost use Rattle.well.specs.Well.{filled};
     ghost use Rattle.packing.specs.Empties.{empty_cells};
-    ghost use Rattle.packing.specs.Spans.{has_span, without_span, IsEmpty, IsFirst};
+    ghost use Rattle.packing.specs.Spans.{from_column, has_span, without_span, IsEmpty, IsFirst};
 
     /// The empty set.
     pub(crate) fn empty() -> Empties
@@ -67,6 +67,17 @@ impl Empties {
         }
         let place = self.cells.trailing_zeros() as u8;
         Some((place / 8, place % 8))
+    }
+
+    /// The set with its columns counted from one of them on; what lies in those before it is dropped.
+    #[inline(always)]
+    pub(crate) fn from_column(&self, x: u8) -> Empties
+        requires { x ≤ 9 }
+        ensures { empty_cells result ≡ from_column x (empty_cells self.now) }
+    {
+        Empties {
+            cells: self.cells >> (8 * x),
+        }
     }
 
     /// The set with its columns counted from the right.

@@ -7,6 +7,7 @@ mod empties;
 pub mod laws;
 mod mirror;
 mod placed;
+mod rows;
 mod search;
 mod span;
 mod store;

@@ -1,12 +1,15 @@
 // The search for a tiling: some piece covers the lowest cell of the leftmost column.
-ghost use Rattle.std.specs.Prelude.{ℕ, ◌≡◌, ◌↔◌, ◌≤◌, ◌<◌, [], ◌∷◌, IsTrue, true};
+ghost use Rattle.std.specs.Prelude.{ℕ, ◌≡◌, ◌↔◌, ◌≤◌, ◌<◌, ◌&&◌, nat_le, [], ◌∷◌, IsTrue};
+ghost use Rattle.lane_board.specs.Lanes.{has_bit};
+ghost use Rattle.srs.specs.declared.piece.Piece.TheVariants.{I, L, O, Z, T, J, S};
 ghost use Rattle.prune.specs.Tiling.{supply_in, Tiling};
 ghost use Rattle.packing.specs.Empties.{empty_cells, all_but};
 ghost use Rattle.packing.specs.Spans.{IsFirst};
-ghost use Rattle.packing.specs.Stacks.{is_allowed, StacksOver, StacksPiece};
+ghost use Rattle.packing.specs.Stacks.{is_allowed, StacksOver, StacksPiece, Takes};
 
 use crate::decided::{Decided, place_of};
 use crate::empties::Empties;
+use crate::rows::{lowest_row, rows_from, rows_without, without_row};
 use crate::span::Span;
 use crate::supply::{count_of, without_one};
 use Span::{AllFour, First, FirstThree, FirstTwo, Second, SecondTwo, Third};
@@ -14,37 +17,30 @@ use srs::Piece;
 
 // Whether the lowest span can take an allowed row so that what follows holds of the cells that are left.
 macro_rules! some_row {
-    ($cells:expr, $at:expr, $floor:expr, $span:expr, $rest:ident, $row:ident => $others:expr) => {{
-        let rows = $cells.rows_with($at.0, $span);
-        if rows == 0 {
-            return false;
-        }
-        let (first, end) = allowed($at.1, $floor, $span);
-        for $row in first..end {
-            if rows >> $row & 1 == 1 {
-                let $rest = $cells.without_span($at.0, $span, $row);
-                if $others {
-                    return true;
-                }
+    ($cells:expr, $y:expr, $floor:expr, $span:expr, $rest:ident, $row:ident => $others:expr) => {{
+        let mut rows = $cells.rows_with(0, $span) & allowed($y, $floor, $span);
+        while rows > 0 {
+            let $row = lowest_row(rows);
+            let $rest = $cells.without_span(0, $span, $row);
+            if $others {
+                return true;
             }
+            rows = without_row(rows, $row);
         }
         false
     }};
 }
 
-// Whether one of four calls answers true; those behind it are not made.
+// Whether one of some calls answers true; those behind it are not made.
 macro_rules! any_of {
-    ($a:expr, $b:expr, $c:expr, $d:expr) => {{
-        if $a {
+    ($last:expr) => {
+        $last
+    };
+    ($first:expr, $($others:expr),+) => {{
+        if $first {
             return true;
         }
-        if $b {
-            return true;
-        }
-        if $c {
-            return true;
-        }
-        $d
+        any_of!($($others),+)
     }};
 }
 
@@ -65,107 +61,178 @@ impl Empties {
         let Some((x, y)) = self.first() else {
             return true;
         };
+        self.from_column(x).recall(y, supply, known)
+    }
+
+    /// The same of a set that has cells in column 0, the lowest of them in this row.
+    #[cycle(search)]
+    #[inline(always)]
+    fn recall(&self, y: u8, supply: &[u8; 7], known: &mut [Decided]) -> bool
+        requires { IsFirst (empty_cells self.now) 0 y }
+        ensures { IsTrue result ↔ Tiling (all_but (empty_cells self.now)) 8 (supply_in supply.now) }
+    {
         if known.is_empty() {
-            return self.covers(x, y, supply, known);
+            return self.covers(y, supply, known);
         }
         let place = place_of(self, supply, known.len());
         if let Some(answer) = known[place].answer_to(self, supply) {
             return answer;
         }
-        let answer = self.covers(x, y, supply, known);
+        let answer = self.covers(y, supply, known);
         known[place] = Decided::new(*self, *supply, answer);
         answer
     }
 
     /// Whether a piece of the supply can cover the first cell so that the others fill what it leaves.
     #[cycle(search)]
-    fn covers(&self, x: u8, y: u8, supply: &[u8; 7], known: &mut [Decided]) -> bool
-        requires { IsFirst (empty_cells self.now) x y }
+    fn covers(&self, y: u8, supply: &[u8; 7], known: &mut [Decided]) -> bool
+        requires { IsFirst (empty_cells self.now) 0 y }
         ensures { IsTrue result ↔ Tiling (all_but (empty_cells self.now)) 8 (supply_in supply.now) }
     {
-        for piece in Piece::ALL {
-            if count_of(supply, piece) > 0 {
-                let left = without_one(supply, piece);
-                if self.stacks_piece((x, y), piece, &left, known) {
-                    return true;
-                }
-            }
+        any_of!(
+            self.takes(y, Piece::I, supply, known),
+            self.takes(y, Piece::L, supply, known),
+            self.takes(y, Piece::O, supply, known),
+            self.takes(y, Piece::Z, supply, known),
+            self.takes(y, Piece::T, supply, known),
+            self.takes(y, Piece::J, supply, known),
+            self.takes(y, Piece::S, supply, known)
+        )
+    }
+
+    /// Whether the supply has a piece of this kind, which can cover the first cell so that the others fill what it
+    /// leaves.
+    #[cycle(search)]
+    #[inline(always)]
+    fn takes(&self, y: u8, piece: Piece, supply: &[u8; 7], known: &mut [Decided]) -> bool
+        requires { y ≤ 7 }
+        ensures { IsTrue result
+            ↔ Takes (supply_in supply.now) (empty_cells self.now) 0 y piece }
+    {
+        if count_of(supply, piece) == 0 {
+            return false;
         }
-        false
+        let left = without_one(supply, piece);
+        self.stacks_piece(y, piece, &left, known)
     }
 
     /// Whether a piece of this kind can cover the first cell so that the supply fills what it leaves.
     #[cycle(search)]
-    fn stacks_piece(
-        &self,
-        at: (u8, u8),
-        piece: Piece,
-        supply: &[u8; 7],
-        known: &mut [Decided],
-    ) -> bool
-        requires column { at.0 ≤ 9 }
-        requires row { at.1 ≤ 7 }
+    #[inline(always)]
+    fn stacks_piece(&self, y: u8, piece: Piece, supply: &[u8; 7], known: &mut [Decided]) -> bool
+        requires { y ≤ 7 }
         ensures { IsTrue result
-            ↔ StacksPiece (supply_in supply.now) (empty_cells self.now) at.0 at.1 piece }
+            ↔ StacksPiece (supply_in supply.now) (empty_cells self.now) 0 y piece }
     {
         match piece {
-            Piece::I => {
-                self.stacks_one(at, 0, AllFour, supply, known)
-                    || self.stacks_four(at, 0, First, First, First, First, supply, known)
-            }
-            Piece::L => {
-                any_of!(
-                    self.stacks_two(at, 0, FirstThree, Third, supply, known),
-                    self.stacks_three(at, 0, FirstTwo, First, First, supply, known),
-                    self.stacks_two(at, 0, First, FirstThree, supply, known),
-                    self.stacks_three(at, 0, Second, Second, FirstTwo, supply, known)
-                )
-            }
-            Piece::O => self.stacks_two(at, 0, FirstTwo, FirstTwo, supply, known),
-            Piece::Z => {
-                self.stacks_two(at, 0, SecondTwo, FirstTwo, supply, known)
-                    || self.stacks_three(at, 0, First, FirstTwo, Second, supply, known)
-            }
-            Piece::T => {
-                any_of!(
-                    self.stacks_two(at, 0, FirstThree, Second, supply, known),
-                    self.stacks_three(at, 0, First, FirstTwo, First, supply, known),
-                    self.stacks_two(at, 0, Second, FirstThree, supply, known),
-                    self.stacks_three(at, 0, Second, FirstTwo, Second, supply, known)
-                )
-            }
-            Piece::J => {
-                any_of!(
-                    self.stacks_two(at, 0, FirstThree, First, supply, known),
-                    self.stacks_three(at, 0, First, First, FirstTwo, supply, known),
-                    self.stacks_two(at, 0, Third, FirstThree, supply, known),
-                    self.stacks_three(at, 0, FirstTwo, Second, Second, supply, known)
-                )
-            }
-            Piece::S => {
-                self.stacks_two(at, 0, FirstTwo, SecondTwo, supply, known)
-                    || self.stacks_three(at, 0, Second, FirstTwo, First, supply, known)
-            }
+            Piece::I => self.stacks_i(y, supply, known),
+            Piece::L => self.stacks_l(y, supply, known),
+            Piece::O => self.stacks_o(y, supply, known),
+            Piece::Z => self.stacks_z(y, supply, known),
+            Piece::T => self.stacks_t(y, supply, known),
+            Piece::J => self.stacks_j(y, supply, known),
+            Piece::S => self.stacks_s(y, supply, known),
         }
+    }
+
+    /// Whether an I can cover the first cell so that the supply fills what it leaves.
+    #[cycle(search)]
+    fn stacks_i(&self, y: u8, supply: &[u8; 7], known: &mut [Decided]) -> bool
+        requires { y ≤ 7 }
+        ensures { IsTrue result
+            ↔ StacksPiece (supply_in supply.now) (empty_cells self.now) 0 y I }
+    {
+        self.stacks_one(y, 0, AllFour, supply, known)
+            || self.stacks_four(y, 0, First, First, First, First, supply, known)
+    }
+
+    /// Whether an L can cover the first cell so that the supply fills what it leaves.
+    #[cycle(search)]
+    fn stacks_l(&self, y: u8, supply: &[u8; 7], known: &mut [Decided]) -> bool
+        requires { y ≤ 7 }
+        ensures { IsTrue result
+            ↔ StacksPiece (supply_in supply.now) (empty_cells self.now) 0 y L }
+    {
+        any_of!(
+            self.stacks_two(y, 0, FirstThree, Third, supply, known),
+            self.stacks_three(y, 0, FirstTwo, First, First, supply, known),
+            self.stacks_two(y, 0, First, FirstThree, supply, known),
+            self.stacks_three(y, 0, Second, Second, FirstTwo, supply, known)
+        )
+    }
+
+    /// Whether an O can cover the first cell so that the supply fills what it leaves.
+    #[cycle(search)]
+    fn stacks_o(&self, y: u8, supply: &[u8; 7], known: &mut [Decided]) -> bool
+        requires { y ≤ 7 }
+        ensures { IsTrue result
+            ↔ StacksPiece (supply_in supply.now) (empty_cells self.now) 0 y O }
+    {
+        self.stacks_two(y, 0, FirstTwo, FirstTwo, supply, known)
+    }
+
+    /// Whether a Z can cover the first cell so that the supply fills what it leaves.
+    #[cycle(search)]
+    fn stacks_z(&self, y: u8, supply: &[u8; 7], known: &mut [Decided]) -> bool
+        requires { y ≤ 7 }
+        ensures { IsTrue result
+            ↔ StacksPiece (supply_in supply.now) (empty_cells self.now) 0 y Z }
+    {
+        self.stacks_two(y, 0, SecondTwo, FirstTwo, supply, known)
+            || self.stacks_three(y, 0, First, FirstTwo, Second, supply, known)
+    }
+
+    /// Whether a T can cover the first cell so that the supply fills what it leaves.
+    #[cycle(search)]
+    fn stacks_t(&self, y: u8, supply: &[u8; 7], known: &mut [Decided]) -> bool
+        requires { y ≤ 7 }
+        ensures { IsTrue result
+            ↔ StacksPiece (supply_in supply.now) (empty_cells self.now) 0 y T }
+    {
+        any_of!(
+            self.stacks_two(y, 0, FirstThree, Second, supply, known),
+            self.stacks_three(y, 0, First, FirstTwo, First, supply, known),
+            self.stacks_two(y, 0, Second, FirstThree, supply, known),
+            self.stacks_three(y, 0, Second, FirstTwo, Second, supply, known)
+        )
+    }
+
+    /// Whether a J can cover the first cell so that the supply fills what it leaves.
+    #[cycle(search)]
+    fn stacks_j(&self, y: u8, supply: &[u8; 7], known: &mut [Decided]) -> bool
+        requires { y ≤ 7 }
+        ensures { IsTrue result
+            ↔ StacksPiece (supply_in supply.now) (empty_cells self.now) 0 y J }
+    {
+        any_of!(
+            self.stacks_two(y, 0, FirstThree, First, supply, known),
+            self.stacks_three(y, 0, First, First, FirstTwo, supply, known),
+            self.stacks_two(y, 0, Third, FirstThree, supply, known),
+            self.stacks_three(y, 0, FirstTwo, Second, Second, supply, known)
+        )
+    }
+
+    /// Whether an S can cover the first cell so that the supply fills what it leaves.
+    #[cycle(search)]
+    fn stacks_s(&self, y: u8, supply: &[u8; 7], known: &mut [Decided]) -> bool
+        requires { y ≤ 7 }
+        ensures { IsTrue result
+            ↔ StacksPiece (supply_in supply.now) (empty_cells self.now) 0 y S }
+    {
+        self.stacks_two(y, 0, FirstTwo, SecondTwo, supply, known)
+            || self.stacks_three(y, 0, Second, FirstTwo, First, supply, known)
     }
 
     /// Whether a span in a row from `floor` on can cover the first cell so that the supply fills what it leaves.
     #[cycle(search)]
     #[inline(always)]
-    fn stacks_one(
-        &self,
-        at: (u8, u8),
-        floor: u8,
-        a: Span,
-        supply: &[u8; 7],
-        known: &mut [Decided],
-    ) -> bool
-        requires column { at.0 ≤ 9 }
-        requires row { at.1 ≤ 7 }
+    fn stacks_one(&self, y: u8, floor: u8, a: Span, supply: &[u8; 7], known: &mut [Decided]) -> bool
+        requires row { y ≤ 7 }
+        requires start { floor ≤ 8 }
         ensures { IsTrue result
-            ↔ StacksOver (supply_in supply.now) (empty_cells self.now) at.0 at.1 floor (a ∷ []) }
+            ↔ StacksOver (supply_in supply.now) (empty_cells self.now) 0 y floor (a ∷ []) }
     {
-        some_row!(self, at, floor, a, rest, row => rest.decide(supply, known))
+        some_row!(self, y, floor, a, rest, row => rest.decide(supply, known))
     }
 
     /// The same of two spans, one above the other.
@@ -173,19 +240,19 @@ impl Empties {
     #[inline(always)]
     fn stacks_two(
         &self,
-        at: (u8, u8),
+        y: u8,
         floor: u8,
         a: Span,
         b: Span,
         supply: &[u8; 7],
         known: &mut [Decided],
     ) -> bool
-        requires column { at.0 ≤ 9 }
-        requires row { at.1 ≤ 7 }
+        requires row { y ≤ 7 }
+        requires start { floor ≤ 8 }
         ensures { IsTrue result
-            ↔ StacksOver (supply_in supply.now) (empty_cells self.now) at.0 at.1 floor (a ∷ b ∷ []) }
+            ↔ StacksOver (supply_in supply.now) (empty_cells self.now) 0 y floor (a ∷ b ∷ []) }
     {
-        some_row!(self, at, floor, a, rest, row => rest.stacks_one(at, row + 1, b, supply, known))
+        some_row!(self, y, floor, a, rest, row => rest.stacks_one(y, row + 1, b, supply, known))
     }
 
     /// The same of three spans.
@@ -193,7 +260,7 @@ impl Empties {
     #[inline(always)]
     fn stacks_three(
         &self,
-        at: (u8, u8),
+        y: u8,
         floor: u8,
         a: Span,
         b: Span,
@@ -201,12 +268,12 @@ impl Empties {
         supply: &[u8; 7],
         known: &mut [Decided],
     ) -> bool
-        requires column { at.0 ≤ 9 }
-        requires row { at.1 ≤ 7 }
+        requires row { y ≤ 7 }
+        requires start { floor ≤ 8 }
         ensures { IsTrue result
-            ↔ StacksOver (supply_in supply.now) (empty_cells self.now) at.0 at.1 floor (a ∷ b ∷ c ∷ []) }
+            ↔ StacksOver (supply_in supply.now) (empty_cells self.now) 0 y floor (a ∷ b ∷ c ∷ []) }
     {
-        some_row!(self, at, floor, a, rest, row => rest.stacks_two(at, row + 1, b, c, supply, known))
+        some_row!(self, y, floor, a, rest, row => rest.stacks_two(y, row + 1, b, c, supply, known))
     }
 
     /// The same of four spans.
@@ -214,7 +281,7 @@ impl Empties {
     #[inline(always)]
     fn stacks_four(
         &self,
-        at: (u8, u8),
+        y: u8,
         floor: u8,
         a: Span,
         b: Span,
@@ -223,32 +290,31 @@ impl Empties {
         supply: &[u8; 7],
         known: &mut [Decided],
     ) -> bool
-        requires column { at.0 ≤ 9 }
-        requires row { at.1 ≤ 7 }
+        requires row { y ≤ 7 }
+        requires start { floor ≤ 8 }
         ensures { IsTrue result
-            ↔ StacksOver (supply_in supply.now) (empty_cells self.now) at.0 at.1 floor (a ∷ b ∷ c ∷ d ∷ []) }
+            ↔ StacksOver (supply_in supply.now) (empty_cells self.now) 0 y floor (a ∷ b ∷ c ∷ d ∷ []) }
     {
-        some_row!(self, at, floor, a, rest, row => rest.stacks_three(at, row + 1, b, c, d, supply, known))
+        some_row!(self, y, floor, a, rest, row => rest.stacks_three(y, row + 1, b, c, d, supply, known))
     }
 }
 
-/// From which row on, and below which one, a span may take a row so that the lowest span with the first column takes
-/// row `y`: until that one has come, so where `floor` is `y` or below.
+/// The rows from `floor` on that a span may take so that the lowest span with the first column takes row `y`: until that
+/// one has come, so where `floor` is `y` or below.
 #[inline(always)]
-fn allowed(y: u8, floor: u8, span: Span) -> (u8, u8)
-    requires { y ≤ 7 }
-    ensures inside { (row : ℕ) → result.0 ≤ row → row < result.1
-        → (floor ≤ row) × (is_allowed y floor span row ≡ true) }
-    ensures all { (row : ℕ) → floor ≤ row → row < 8 → is_allowed y floor span row ≡ true
-        → (result.0 ≤ row) × (row < result.1) }
-    ensures few { result.1 ≤ 8 }
+fn allowed(y: u8, floor: u8, span: Span) -> u8
+    requires row { y ≤ 7 }
+    requires start { floor ≤ 8 }
+    ensures { (row : ℕ) → row < 8
+        → has_bit result row ≡ (nat_le floor row && is_allowed y floor span row) }
 {
+    let rows = rows_from(floor);
     if y < floor {
-        return (floor, 8);
+        return rows;
     }
     if span.has_first() {
-        (y, y + 1)
+        rows_without(rows_from(y), rows_from(y + 1))
     } else {
-        (floor, y)
+        rows_without(rows, rows_from(y))
     }
 }

@@ -1,6 +1,6 @@
 -- What crates above cite: a tiling with one part more or fewer, one placement, a run that clears its rows, and counts.
 pub use Rattle.prune.proofs.ColumnCounts.{column_empties-le, column_empties-suc, column_empties-zero}
-pub use Rattle.prune.proofs.PartsOfTilings.{TakenPart, is_empty-with_cells, rises, rising-from_test, same_tiling, taken_part, tiling_below, with_part}
+pub use Rattle.prune.proofs.PartsOfTilings.{TakenPart, is_empty-with_cells, rises, rising-from_test, same_tiling, taken_part, tiling-intersection, with_part}
 pub use Rattle.prune.proofs.MirrorLemmas.{kind_again, tiling_mirrored}
 pub use Rattle.prune.proofs.RunLemmas.{Runs, ends, finds, goes_on, starts, stops}
 pub use Rattle.prune.proofs.RefusalLemmas.{none_refused}

@@ -158,9 +158,9 @@ rising-from_test row cells all c d has_c has_d lower =
     implied true b holds h = h
     implied false b holds h = absurd (false≢true holds)
 
--- fields with the same empty cells below a row have the same tilings there
-pub same_tiling : (F G : Field) (rows : ℕ) (supply : Supply) → ((cell : Cell) → is_empty_below F rows cell ≡ is_empty_below G rows cell) → Tiling F rows supply → Tiling G rows supply
-same_tiling F G rows supply same t = record {
+-- fields with the same empty cells below their rows have the same tilings there
+pub same_tiling : (F G : Field) (n m : ℕ) (supply : Supply) → ((cell : Cell) → is_empty_below F n cell ≡ is_empty_below G m cell) → Tiling F n supply → Tiling G m supply
+same_tiling F G n m supply same t = record {
   parts = t.parts;
   generalized = t.generalized;
   covered = λ cell. t.covered cell ∙ ap (λ b. cond b 1 0) (same cell);
@@ -180,5 +180,8 @@ is_empty-below F rows (negsuc x, pos y) = refl
 is_empty-below F rows (negsuc x, negsuc y) = refl
 
 -- cells at or above the rows don't count
-pub tiling_below : (F : Field) (rows : ℕ) (supply : Supply) → Tiling F rows supply ↔ Tiling (intersection F (rows_below rows)) rows supply
-tiling_below F rows supply = (same_tiling F (intersection F (rows_below rows)) rows supply (is_empty-below F rows), same_tiling (intersection F (rows_below rows)) F rows supply (λ cell. sym (is_empty-below F rows cell)))
+pub tiling-intersection : (F : Field) (rows : ℕ) (supply : Supply) → Tiling F rows supply ↔ Tiling (intersection F (rows_below rows)) rows supply
+tiling-intersection F rows supply = (
+  same_tiling F (intersection F (rows_below rows)) rows rows supply (is_empty-below F rows),
+  same_tiling (intersection F (rows_below rows)) F rows rows supply (λ cell. sym (is_empty-below F rows cell)),
+)

@@ -1,43 +1,78 @@
--- Pieces and spans are used up; what was tried failed.
-use Rattle.std.proofs.Common.{ℕ, ◌+◌, ◌*◌, ◌<◌, ◌≤◌, [], ◌∷◌, get_or}
-use Rattle.srs.specs.declared.piece.Piece.TheVariants.{I}
+-- Pieces and spans are used up; what was tried failed, and what is left may be taken.
+use Rattle.std.proofs.Common.{◌+◌, ◌*◌, [], ◌∷◌}
 use Rattle.prune.specs.Tiling.{supply_in}
 use Rattle.packing.specs.Empties.{empty_cells}
-use Rattle.packing.proofs.SearchLemmas.{total, FailsBy, FailsIn}
+use Rattle.packing.proofs.SearchLemmas.{total, Tried}
 use Rattle.packing.proofs.empties.Empties.+search.Given as goal
 
 abbrev pub decreases-decide : goal.decreases-decide
-decreases-decide l = 8 * total (supply_in l.supply.now) + 1
+decreases-decide l = 11 * total (supply_in l.supply.now) + 3
+
+abbrev pub decreases-recall : goal.decreases-recall
+decreases-recall l = 11 * total (supply_in l.supply.now) + 2
 
 abbrev pub decreases-covers : goal.decreases-covers
-decreases-covers l = 8 * total (supply_in l.supply.now)
+decreases-covers l = 11 * total (supply_in l.supply.now) + 1
+
+abbrev pub decreases-takes : goal.decreases-takes
+decreases-takes l = 11 * total (supply_in l.supply.now)
 
 abbrev pub decreases-stacks_piece : goal.decreases-stacks_piece
-decreases-stacks_piece l = 8 * total (supply_in l.supply.now) + 7
+decreases-stacks_piece l = 11 * total (supply_in l.supply.now) + 10
+
+abbrev pub decreases-stacks_i : goal.decreases-stacks_i
+decreases-stacks_i l = 11 * total (supply_in l.supply.now) + 9
+
+abbrev pub decreases-stacks_l : goal.decreases-stacks_l
+decreases-stacks_l l = 11 * total (supply_in l.supply.now) + 9
+
+abbrev pub decreases-stacks_o : goal.decreases-stacks_o
+decreases-stacks_o l = 11 * total (supply_in l.supply.now) + 9
+
+abbrev pub decreases-stacks_z : goal.decreases-stacks_z
+decreases-stacks_z l = 11 * total (supply_in l.supply.now) + 9
+
+abbrev pub decreases-stacks_t : goal.decreases-stacks_t
+decreases-stacks_t l = 11 * total (supply_in l.supply.now) + 9
+
+abbrev pub decreases-stacks_j : goal.decreases-stacks_j
+decreases-stacks_j l = 11 * total (supply_in l.supply.now) + 9
+
+abbrev pub decreases-stacks_s : goal.decreases-stacks_s
+decreases-stacks_s l = 11 * total (supply_in l.supply.now) + 9
 
 abbrev pub decreases-stacks_one : goal.decreases-stacks_one
-decreases-stacks_one l = 8 * total (supply_in l.supply.now) + 3
+decreases-stacks_one l = 11 * total (supply_in l.supply.now) + 5
 
 abbrev pub decreases-stacks_two : goal.decreases-stacks_two
-decreases-stacks_two l = 8 * total (supply_in l.supply.now) + 4
+decreases-stacks_two l = 11 * total (supply_in l.supply.now) + 6
 
 abbrev pub decreases-stacks_three : goal.decreases-stacks_three
-decreases-stacks_three l = 8 * total (supply_in l.supply.now) + 5
+decreases-stacks_three l = 11 * total (supply_in l.supply.now) + 7
 
 abbrev pub decreases-stacks_four : goal.decreases-stacks_four
-decreases-stacks_four l = 8 * total (supply_in l.supply.now) + 6
+decreases-stacks_four l = 11 * total (supply_in l.supply.now) + 8
 
-abbrev pub invariant-covers-loop-piece : goal.invariant-covers-loop-piece
-invariant-covers-loop-piece l = (k : ℕ) → k < l.piece-index → FailsBy (supply_in l.supply) (empty_cells l.self) l.x l.y (get_or l.piece-items k I)
+abbrev pub invariant-stacks_one-loop-rows : goal.invariant-stacks_one-loop-rows
+invariant-stacks_one-loop-rows l = Tried (supply_in l.supply) (empty_cells l.self) 0 l.y l.floor l.a [] l.rows
 
-abbrev pub invariant-stacks_one-loop-row : goal.invariant-stacks_one-loop-row
-invariant-stacks_one-loop-row l = (row : ℕ) → l.initial.first ≤ row → row < l.row → FailsIn (supply_in l.supply) (empty_cells l.self) l.at.0 l.at.1 l.floor l.a ([]) row
+abbrev pub decreases-stacks_one-loop-rows : goal.decreases-stacks_one-loop-rows
+decreases-stacks_one-loop-rows l = l.rows
 
-abbrev pub invariant-stacks_two-loop-row : goal.invariant-stacks_two-loop-row
-invariant-stacks_two-loop-row l = (row : ℕ) → l.initial.first ≤ row → row < l.row → FailsIn (supply_in l.supply) (empty_cells l.self) l.at.0 l.at.1 l.floor l.a (l.b ∷ []) row
+abbrev pub invariant-stacks_two-loop-rows : goal.invariant-stacks_two-loop-rows
+invariant-stacks_two-loop-rows l = Tried (supply_in l.supply) (empty_cells l.self) 0 l.y l.floor l.a (l.b ∷ []) l.rows
 
-abbrev pub invariant-stacks_three-loop-row : goal.invariant-stacks_three-loop-row
-invariant-stacks_three-loop-row l = (row : ℕ) → l.initial.first ≤ row → row < l.row → FailsIn (supply_in l.supply) (empty_cells l.self) l.at.0 l.at.1 l.floor l.a (l.b ∷ l.c ∷ []) row
+abbrev pub decreases-stacks_two-loop-rows : goal.decreases-stacks_two-loop-rows
+decreases-stacks_two-loop-rows l = l.rows
 
-abbrev pub invariant-stacks_four-loop-row : goal.invariant-stacks_four-loop-row
-invariant-stacks_four-loop-row l = (row : ℕ) → l.initial.first ≤ row → row < l.row → FailsIn (supply_in l.supply) (empty_cells l.self) l.at.0 l.at.1 l.floor l.a (l.b ∷ l.c ∷ l.d ∷ []) row
+abbrev pub invariant-stacks_three-loop-rows : goal.invariant-stacks_three-loop-rows
+invariant-stacks_three-loop-rows l = Tried (supply_in l.supply) (empty_cells l.self) 0 l.y l.floor l.a (l.b ∷ l.c ∷ []) l.rows
+
+abbrev pub decreases-stacks_three-loop-rows : goal.decreases-stacks_three-loop-rows
+decreases-stacks_three-loop-rows l = l.rows
+
+abbrev pub invariant-stacks_four-loop-rows : goal.invariant-stacks_four-loop-rows
+invariant-stacks_four-loop-rows l = Tried (supply_in l.supply) (empty_cells l.self) 0 l.y l.floor l.a (l.b ∷ l.c ∷ l.d ∷ []) l.rows
+
+abbrev pub decreases-stacks_four-loop-rows : goal.decreases-stacks_four-loop-rows
+decreases-stacks_four-loop-rows l = l.rows
