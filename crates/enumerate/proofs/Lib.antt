@@ -5,6 +5,7 @@ mod Solutions
 mod PermitLaws
 mod PlaceLaws
 mod TilingLaws
+mod KeptRows
 mod Counting
 mod Members
 mod Walks

@@ -1,9 +1,10 @@
 -- What is permitted begins with what is permitted, and one queue alone is the queues of its pieces.
-use Rattle.std.proofs.Common.{◌≡◌, List, [], ◌∷◌, ◌++◌, map, refl, ap, ◌∙◌}
+use Rattle.std.proofs.Common.{◌≡◌, ◌-◌, Bool, false, List, [], ◌∷◌, ◌++◌, map, refl, ap, ◌∙◌, get_or}
 use Rattle.std.specs.Prelude.{Option}
 use Rattle.std.specs.List.{flat_map}
 use Rattle.srs.specs.declared.piece.Piece.{Piece}
 use Rattle.srs.specs.declared.piece.Piece.TheVariants.{I, L, O, Z, T, J, S}
+use Rattle.srs.specs.Piece.{all_pieces, piece_code}
 use Rattle.queue_pattern.specs.Grammar.{set_of}
 use Rattle.queue_pattern.specs.Queues.{pieces_in, choices, queues}
 use Rattle.hold_queue.specs.declared.hold.Hold.{Hold}
@@ -38,3 +39,13 @@ unfolding queues
 queues-singles [] = refl
 queues-singles (piece ∷ queue) =
     (λ i. flat_map (λ choice. map (λ rest. choice ++ rest) (queues-singles queue i)) ((ap (λ l. choices l 1) (pieces_in-single piece) ∙ choices-single piece) i))
+
+-- the entry of a piece in a list with one for each
+pub entry-of : (f : Piece → Bool) (entries : List Bool) → entries ≡ map f all_pieces → (piece : Piece) → get_or entries (piece_code piece - 1) false ≡ f piece
+entry-of f entries is I = ap (λ l. get_or l 0 false) is
+entry-of f entries is L = ap (λ l. get_or l 1 false) is
+entry-of f entries is O = ap (λ l. get_or l 2 false) is
+entry-of f entries is Z = ap (λ l. get_or l 3 false) is
+entry-of f entries is T = ap (λ l. get_or l 4 false) is
+entry-of f entries is J = ap (λ l. get_or l 5 false) is
+entry-of f entries is S = ap (λ l. get_or l 6 false) is

@@ -1,8 +1,9 @@
 // One level of the search: a position, and which of its next placements are still to be walked.
-ghost use Rattle.std.specs.Prelude.{◌≡◌, ℕ, ◌+◌, ◌≤◌, IsTrue};
+ghost use Rattle.std.specs.Prelude.{◌≡◌, ℕ, ◌+◌, ◌≤◌, IsTrue, map};
 ghost use Rattle.std.specs.Option.{ForSome};
 ghost use Rattle.lane_board.specs.Field.{difference, rows_below};
 ghost use Rattle.srs.specs.declared.placement.Placement.{Placement};
+ghost use Rattle.srs.specs.Piece.{all_pieces};
 ghost use Rattle.well.specs.Well.{filled};
 ghost use Rattle.well.specs.LockLaws.{LiesBelow, is_below};
 ghost use Rattle.reach.specs.Places.{holds, piece_of};
@@ -16,7 +17,7 @@ ghost use Rattle.enumerate.specs.Standing.{may_lock};
 use hold_queue::QueueSet;
 use packing::Empties;
 use reach::Places;
-use srs::Placement;
+use srs::{Piece, Placement};
 use well::Well;
 
 /// A position, the kinds that were tried there, and the places of the last of them with the one that was entered last.
@@ -28,6 +29,8 @@ pub struct Frame {
     /// The empty cells of these rows.
     pub empties: Empties,
     pub queues: QueueSet,
+    /// Whether each kind may come next, in the order of codes.
+    pub may_come: [bool; 7],
     /// How many pieces of each kind may still be played, in the order of codes.
     pub supply: [u8; 7],
     /// How many placements come after the next one.
@@ -40,10 +43,20 @@ pub struct Frame {
     ghost few: { left ≤ 19 },
     ghost bounded: { LiesBelow (filled well) rows },
     ghost emptied: { empty_cells empties ≡ difference (rows_below rows) (filled well) },
+    ghost coming: { may_come ≡ map (may_play (queues_in_play queues)) all_pieces },
     ghost supplied: { supply_in supply ≡ supply_of (queues_in_play queues) (left + 1) },
     ghost lockable: { ForSome places (λ p. (q : Placement) → IsTrue (holds p q) →
         IsTrue (may_lock (filled well) (piece_of p) q)) },
     ghost held_below: { ForSome places (λ p. (q : Placement) → IsTrue (holds p q) → IsTrue (is_below rows q)) },
     ghost permitted: { ForSome places (λ p. IsTrue (may_play (queues_in_play queues) (piece_of p))) },
     ghost same_piece: { ForSome places (λ p. ForSome entered (λ q. q.piece ≡ piece_of p)) },
+}
+
+impl Frame {
+    /// Whether a kind may come next.
+    pub fn may_come(&self, piece: Piece) -> bool
+        ensures { result ≡ may_play (queues_in_play self.now.queues) piece }
+    {
+        self.may_come[piece.code() as usize - 1]
+    }
 }

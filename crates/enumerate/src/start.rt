@@ -78,6 +78,7 @@ fn first_frame(problem: &Problem, queue: &Option<Queue>) -> Frame
         rows: problem.height,
         empties: Empties::below(&problem.well, problem.height),
         queues,
+        may_come: queues.permitted(),
         supply: queues.supply(left + 1),
         left,
         tried: 0,

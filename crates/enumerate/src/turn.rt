@@ -5,6 +5,7 @@ ghost use Rattle.srs.specs.Cells.{is_inside_of};
 ghost use Rattle.srs.specs.Piece.{all_pieces};
 ghost use Rattle.srs.specs.Rules.{table_of};
 ghost use Rattle.srs.specs.Kick.{Table};
+ghost use Rattle.lane_board.specs.Field.{difference, rows_below};
 ghost use Rattle.well.specs.Well.{filled};
 ghost use Rattle.moves.specs.declared.key.DropMode.{DropMode};
 ghost use Rattle.reach.specs.Places.{piece_of};
@@ -12,6 +13,7 @@ ghost use Rattle.hold_queue.specs.QueueSet.{queues_in_play};
 ghost use Rattle.well.specs.Lock.{locked, rows_removed};
 ghost use Rattle.well.specs.LockLaws.{is_below};
 ghost use Rattle.prune.specs.Tiling.{supply_in};
+ghost use Rattle.packing.specs.Empties.{empty_cells};
 ghost use Rattle.packing.specs.HasTiling.{has_tiling};
 ghost use Rattle.enumerate.specs.Position.{may_play, is_live, places_at};
 ghost use Rattle.enumerate.specs.Standing.{may_lock};
@@ -28,6 +30,7 @@ use packing::Empties;
 use reach::{Steps, places};
 use srs::{Piece, Placement, Rules, cells};
 use std::sync::ledger::Ledger;
+use well::Well;
 
 /// From so many placements to come on, a position that is found to have no tiling is kept.
 const MANY: u8 = 8;
@@ -108,6 +111,20 @@ impl Frame {
         }
     }
 
+    /// The empty cells of the rows that a placement leaves. Where it removes none, only its own cells go.
+    fn empties_after(&self, placement: &Placement, well: &Well, rows: u8, removed: u8) -> Empties
+        requires lockable { IsTrue (may_lock (filled self.now.well) placement.now.piece placement.now) }
+        requires field { filled well.now ≡ locked (filled self.now.well) placement.now }
+        requires removed { removed ≡ rows_removed (filled self.now.well) placement.now }
+        requires rows { rows ≡ self.now.rows - removed }
+        ensures { empty_cells result ≡ difference (rows_below rows) (filled well.now) }
+    {
+        if removed == 0 {
+            return self.empties.without(placement);
+        }
+        Empties::below(well, rows)
+    }
+
     /// Enters a placement after which none is to come.
     fn complete(&self, placement: &Placement) -> Turn
         requires lockable { IsTrue (may_lock (filled self.now.well) placement.now.piece placement.now) }
@@ -138,11 +155,13 @@ impl Frame {
         }
         let (well, removed) = self.well.lock(placement);
         let rows = self.rows.saturating_sub(removed);
+        let queues = self.queues.after(placement.piece);
         Turn::Entered(Frame {
             well,
             rows,
-            empties: Empties::below(&well, rows),
-            queues: self.queues.after(placement.piece),
+            empties: self.empties_after(placement, &well, rows, removed),
+            queues,
+            may_come: queues.permitted(),
             supply,
             left: self.left - 1,
             tried: 0,
@@ -194,7 +213,7 @@ impl Frame {
             Some(piece) => piece,
         };
         self.tried += 1;
-        if !self.queues.may_play(piece) {
+        if !self.may_come(piece) {
             return Turn::Passed;
         }
         self.flood(piece, rules, drop_mode, floods, steps);

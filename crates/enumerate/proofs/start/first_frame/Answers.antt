@@ -4,7 +4,7 @@ use Rattle.hold_queue.specs.QueueSet.{queues_in_play}
 use Rattle.prune.specs.Tiling.{supply_in}
 use Rattle.enumerate.specs.Frames.{position_of}
 use Rattle.enumerate.specs.Items.{items_of}
-use Rattle.enumerate.specs.Position.{line_at}
+use Rattle.enumerate.specs.Position.{line_at, may_play}
 use Rattle.enumerate.proofs.Game.{filled-low}
 use Rattle.enumerate.proofs.SearchLemmas.{first-position}
 use Rattle.enumerate.proofs.TilingLaws.{supplies-read}
@@ -13,6 +13,10 @@ use Rattle.enumerate.proofs.start.first_frame.Goals.{in-None, in-Some}
 
 pub invariant_of-result-clause-bounded : goal.invariant_of-result-clause-bounded
 invariant_of-result-clause-bounded c = record { none = (filled-low c.args.problem.now.well c.args.problem.now.height (omega (arith, c.requires.low)) c.requires.below).none }
+
+pub invariant_of-result-clause-coming : goal.invariant_of-result-clause-coming
+unfolding may_play
+invariant_of-result-clause-coming c = c.permitted.ensures
 
 pub invariant_of-result-clause-supplied : goal.invariant_of-result-clause-supplied
 invariant_of-result-clause-supplied c = ap supply_in c.supply.ensures ∙ supplies-read (queues_in_play c.match-queue.queues) (c.saturating_sub-left.result + 1)

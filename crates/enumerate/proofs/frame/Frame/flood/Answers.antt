@@ -18,6 +18,7 @@ invariant_of-self g c = record {
   few = c.args.self.now.few;
   bounded = c.args.self.now.bounded;
   emptied = c.args.self.now.emptied;
+  coming = c.args.self.now.coming;
   supplied = c.args.self.now.supplied;
   lockable = λ x is. subst (λ p. Lockable (filled c.args.self.now.well) p) (some_same is)
       (flooded-lockable (table_of c.args.rules.now) (filled c.args.self.now.well) c.args.drop_mode c.args.piece c.places-reached.result c.below.result c.places-reached.ensures.piece c.places-reached.ensures.held c.below.ensures.piece c.args.self.now.rows c.below.ensures.held);

@@ -32,6 +32,7 @@ invariant_of-self-2 g c = record {
   few = c.flood.new.self.few;
   bounded = c.flood.new.self.bounded;
   emptied = c.flood.new.self.emptied;
+  coming = c.flood.new.self.coming;
   supplied = c.flood.new.self.supplied;
   lockable = c.flood.new.self.lockable;
   held_below = c.flood.new.self.held_below;

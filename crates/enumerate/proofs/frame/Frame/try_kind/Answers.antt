@@ -5,29 +5,29 @@ use Rattle.srs.specs.Piece.{all_pieces}
 use Rattle.srs.specs.Rules.{table_of}
 use Rattle.well.specs.LockLaws.{is_below}
 use Rattle.enumerate.specs.Position.{places_at}
-use Rattle.enumerate.proofs.TurnLemmas.{goes-over, goes-past_kind, goes-flooded, may_play-answer, record-same, same-position}
+use Rattle.enumerate.proofs.TurnLemmas.{goes-over, goes-past_kind, goes-flooded, record-same, same-position}
 use Rattle.enumerate.proofs.Counting.{counts-none}
 use Rattle.enumerate.proofs.frame.Frame.try_kind.Goals as goal
 
 pub returns-in-None-clause-turn : goal.returns-in-None-clause-turn
 returns-in-None-clause-turn g c = (goes-over _ _ c.args.self.now c.requires c.in-None.ensures, refl)
 
-pub returns-then-not-may_play-clause-turn : goal.returns-then-not-may_play-clause-turn
-returns-then-not-may_play-clause-turn g c = (
+pub returns-then-not-may_come-clause-turn : goal.returns-then-not-may_come-clause-turn
+returns-then-not-may_come-clause-turn g c = (
   goes-past_kind _ _ c.args.self.now _ record { well = refl; rows = refl; queues = refl; left = refl } c.in-Some.piece c.requires c.in-Some.ensures
-      (may_play-answer _ c.in-Some.piece c.may_play.result c.may_play.ensures.permitted ∙ c.if-not-may_play.true) c.requires,
+      (sym c.may_come.ensures ∙ c.if-not-may_come.true) c.requires,
   refl,
 )
 
 pub flood-requires : goal.flood-requires
-flood-requires g c = may_play-answer _ c.in-Some.piece c.may_play.result c.may_play.ensures.permitted ∙ c.if-not-may_play.false
+flood-requires g c = sym c.may_come.ensures ∙ c.if-not-may_come.false
 
 pub returns-clause-turn : goal.returns-clause-turn
 returns-clause-turn g c =
     let same = record-same c.args.self.now _ c.flood.new.self refl refl refl refl c.flood.ensures.same in (
       goes-flooded (table_of c.args.rules.now) c.args.drop_mode c.args.self.now c.flood.new.self same c.in-Some.piece c.requires
           (c.in-Some.ensures ∙ ap (λ k. c.in-Some.piece ∷ drop k all_pieces) (sym c.flood.ensures.tried))
-          (may_play-answer _ c.in-Some.piece c.may_play.result c.may_play.ensures.permitted ∙ c.if-not-may_play.false)
+          (sym c.may_come.ensures ∙ c.if-not-may_come.false)
           (c.flood.ensures.places ∙ ap (λ n. filter (is_below c.args.self.now.rows) (places_at n c.in-Some.piece)) (same-position (table_of c.args.rules.now) c.args.drop_mode c.args.self.now _ record { well = refl; rows = refl; queues = refl; left = refl })),
       c.flood.ensures.counted,
     )
@@ -35,5 +35,5 @@ returns-clause-turn g c =
 pub returns-in-None-clause-noted : goal.returns-in-None-clause-noted
 returns-in-None-clause-noted g c = counts-none c.args.floods.now c.args.steps.now
 
-pub returns-then-not-may_play-clause-noted : goal.returns-then-not-may_play-clause-noted
-returns-then-not-may_play-clause-noted g c = counts-none c.args.floods.now c.args.steps.now
+pub returns-then-not-may_come-clause-noted : goal.returns-then-not-may_come-clause-noted
+returns-then-not-may_come-clause-noted g c = counts-none c.args.floods.now c.args.steps.now

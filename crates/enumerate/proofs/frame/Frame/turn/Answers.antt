@@ -15,6 +15,7 @@ invariant_of-self g c = record {
   few = c.args.self.now.few;
   bounded = c.args.self.now.bounded;
   emptied = c.args.self.now.emptied;
+  coming = c.args.self.now.coming;
   supplied = c.args.self.now.supplied;
   lockable = c.args.self.now.lockable;
   held_below = c.args.self.now.held_below;

@@ -1,0 +1,65 @@
+-- A placement that removes no row only takes its cells from the empty ones.
+use Rattle.std.proofs.Common.{◌≡◌, ℕ, zero, suc, ◌+◌, ◌-◌, ◌<◌, ◌≤◌, Bool, true, false, not, ◌&&◌, nat_lt, refl, sym, ap, subst, ◌∙◌, ◌⊎◌, inl, inr, arith}
+use Rattle.std.proofs.lemmas.Bool.{cases_Bool, cases_lt, le-ltb}
+use Rattle.std.proofs.Math.Path.{fun_ext}
+use Rattle.lane_board.specs.Field.{Field, difference, rows_below}
+use Rattle.lane_board.specs.FullRows.{is_full, full_below, without_full_rows}
+use Rattle.lane_board.proofs.CallerLemmas.{full_below-full, full_below-other, lowered_from, lowered_to}
+use Rattle.srs.specs.declared.placement.Placement.{Placement}
+use Rattle.well.specs.Lock.{locked, rows_removed, together}
+
+same-answer : (a b : Bool) → (a ≡ true → b ≡ true) → (b ≡ true → a ≡ true) → a ≡ b
+same-answer true b on back = sym (on refl)
+same-answer false true on back = back refl
+same-answer false false on back = refl
+
+module _ (G : Field) (none : full_below G 23 ≡ 0) where
+  rises : (n : ℕ) → full_below G n ≤ full_below G (suc n)
+  rises n = elim (cases_Bool (is_full G n)) [
+    | inl full ↦ omega (arith, full_below-full G n full)
+    | inr other ↦ omega (arith, full_below-other G n other)
+  ]
+
+  none-below : (k n : ℕ) → n + k ≡ 23 → full_below G n ≡ 0
+  none-below zero n e =
+      let last : n ≡ 23 = omega (arith, e) in
+      ap (full_below G) last ∙ none
+  none-below (suc k) n e =
+      let next = none-below k (suc n) (omega (arith, e)) in
+      omega (arith, next, rises n)
+
+  not-full : (n : ℕ) → n < 23 → is_full G n ≡ false
+  not-full n below = elim (cases_Bool (is_full G n)) [
+    | inl full ↦ absurd (omega (arith, full_below-full G n full, none-below (23 - suc n) (suc n) (omega (arith, below))))
+    | inr other ↦ other
+  ]
+
+  all-stay : (x y : ℕ) → y < 23 → without_full_rows G 23 x y ≡ G x y
+  all-stay x y below = same-answer (without_full_rows G 23 x y) (G x y)
+      (λ left.
+      let was = lowered_from G 23 x y left in
+      let row : was.row ≡ y = omega (arith, was.lowered, none-below (23 - was.row) was.row (omega (arith, was.below))) in
+      subst (λ r. G x r ≡ true) row was.filled)
+      (λ has. lowered_to G 23 x y (record {
+        row = y;
+        below = below;
+        filled = has;
+        stays = not-full y below;
+        lowered = omega (arith, none-below (23 - y) y (omega (arith, below)));
+      }))
+
+dropped : (a b p q : Bool) → b ≡ false → ((a && b) && p) ≡ ((a && b) && q)
+dropped true true p q e = cc
+dropped true false p q e = refl
+dropped false b p q e = refl
+
+-- the empty cells below a height, before full rows go and after, where none goes
+pub kept-empties : (F : Field) (q : Placement) (rows : ℕ) → rows ≤ 8 → rows_removed F q ≡ 0 →
+    difference (rows_below rows) (together F q) ≡ difference (rows_below rows) (locked F q)
+unfolding difference rows_below locked rows_removed
+kept-empties F q rows low none = fun_ext (λ x. fun_ext (λ y. at x y (cases_lt y rows)))
+  where
+    at : (x y : ℕ) → (y < rows) ⊎ (rows ≤ y)
+        → ((nat_lt x 10 && nat_lt y rows) && not (together F q x y)) ≡ ((nat_lt x 10 && nat_lt y rows) && not (without_full_rows (together F q) 23 x y))
+    at x y (inl below) = ap (λ b. (nat_lt x 10 && nat_lt y rows) && not b) (sym (all-stay (together F q) none x y (omega (arith, below, low))))
+    at x y (inr above) = dropped (nat_lt x 10) (nat_lt y rows) _ _ (le-ltb y rows above)
