@@ -151,6 +151,11 @@ module _ (table : Table) (F : Field) (mode : DropMode) (target : Placement) wher
   trying_free free marks waiting state n trying =
       subst (λ s. is_free F s ≡ true) trying.at (found_free free trying.items (trying.x ∷ trying.front) trying.sought trying.x (trying.sought.among trying.x (Contains-here trying.x trying.front))).free
 
+  -- and of the piece
+  pub trying_kind : is_free F (spawn_of target.piece) ≡ true → (marks : List Mark) (waiting : List Placement) (state : Placement) (n : ℕ) → IsTrying table F mode target marks waiting state n → state.piece ≡ target.piece
+  trying_kind free marks waiting state n trying =
+      subst (λ (s : Placement). s.piece ≡ target.piece) trying.at (found_free free trying.items (trying.x ∷ trying.front) trying.sought trying.x (trying.sought.among trying.x (Contains-here trying.x trying.front))).kind
+
   -- a key that leads to no new state
   pub trying_same : is_free F (spawn_of target.piece) ≡ true → (marks : List Mark) (waiting : List Placement) (state : Placement) (n : ℕ) (key : Key) → key_place key ≡ n → new_state table F mode marks state key ≡ None → IsTrying table F mode target marks waiting state n → IsTrying table F mode target marks waiting state (n + 1)
   trying_same free marks waiting state n key place none trying = record {

@@ -5,6 +5,7 @@ mod AimLemmas
 mod MarkLemmas
 mod KeyWordLemmas
 mod NewStates
+mod FreeLemmas
 mod FindLemmas
 mod Worked
 pub mod CallerLemmas

@@ -5,3 +5,4 @@ pub mod LeastKeyWord
 pub mod Marks
 pub mod Search
 pub mod Known
+pub mod FreePivots

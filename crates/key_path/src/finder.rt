@@ -15,11 +15,12 @@ ghost use Rattle.key_path.specs.Marks.{is_unseen, new_state};
 ghost use Rattle.key_path.specs.Search.{IsFinding, IsTrying, IsReached};
 
 use crate::aim::rests_on;
+use crate::free::FreeStates;
 use crate::known::Known;
 use crate::marks::{Mark, Marks, STATES};
 use arrayvec::ArrayVec;
 use circular_buffer::HeapCircularBuffer;
-use moves::{DropMode, Key, spawn, step};
+use moves::{DropMode, Key, spawn};
 use pc_outside::NoMemory;
 use srs::{Placement, Rules, canonical};
 use std::alloc::Global;
@@ -68,6 +69,28 @@ impl Finder {
         self.named_word(well, rules, target, drop_mode)
     }
 
+    /// What `find` finds under the offsets of the Super Rotation System, for a caller who knows that these are the rules.
+    #[tactic(auto, using(crate::proofs::KeyWordLemmas::is_key_word))]
+    pub fn find_by_srs(
+        &mut self,
+        well: &Well,
+        target: &Placement,
+        drop_mode: DropMode,
+    ) -> Option<KeyWord>
+        requires { IsTrue (is_inside_of target.now) }
+        ensures { option_map (λ word. word.items) result
+            ≡ least_key_word srs_table (filled well.now) drop_mode target.now }
+    {
+        if let Some(word) = self.known.get(well, target, drop_mode) {
+            return Some(word);
+        }
+        let word = self.least_word(well, &Rules::srs(), target, drop_mode);
+        if let Some(word) = &word {
+            self.known.keep(well, target, drop_mode, word);
+        }
+        word
+    }
+
     /// The least key word, looked up where it was found before.
     #[tactic(auto, using(crate::proofs::KeyWordLemmas::is_key_word))]
     fn named_word(
@@ -84,31 +107,7 @@ impl Finder {
         if !rules.is_srs() {
             return self.least_word(well, rules, target, drop_mode);
         }
-        self.kept_word(well, rules, target, drop_mode)
-    }
-
-    /// The least key word under the offsets of the Super Rotation System, looked up where it was found before.
-    #[tactic(auto, using(crate::proofs::KeyWordLemmas::is_key_word))]
-    fn kept_word(
-        &mut self,
-        well: &Well,
-        rules: &Rules,
-        target: &Placement,
-        drop_mode: DropMode,
-    ) -> Option<KeyWord>
-        requires inside { IsTrue (is_inside_of target.now) }
-        requires table { table_of rules.now ≡ srs_table }
-        ensures { option_map (λ word. word.items) result
-            ≡ least_key_word srs_table (filled well.now) drop_mode target.now }
-    {
-        if let Some(word) = self.known.get(well, target, drop_mode) {
-            return Some(word);
-        }
-        let word = self.least_word(well, rules, target, drop_mode);
-        if let Some(word) = &word {
-            self.known.keep(well, target, drop_mode, word);
-        }
-        word
+        self.find_by_srs(well, target, drop_mode)
     }
 
     /// The least key word that leads to the target's cells.
@@ -131,22 +130,24 @@ impl Finder {
         if rests_on(well, &aim, &start) {
             return Some(KeyWord::new());
         }
-        self.word_from(well, rules, &aim, drop_mode)
+        let states = FreeStates::of(well, aim.piece);
+        self.word_from(&states, rules, &aim, drop_mode)
     }
 
     /// The least key word that leads from the spawn to a canonical placement, where at least one key is needed: the
     /// states are gone through in the order of their least key words.
     fn word_from(
         &mut self,
-        well: &Well,
+        states: &FreeStates,
         rules: &Rules,
         aim: &Placement,
         drop_mode: DropMode,
     ) -> Option<KeyWord>
-        requires free { IsTrue (is_free (filled well.now) (spawn_of aim.now.piece)) }
+        requires kind { states.now.piece ≡ aim.now.piece }
+        requires free { IsTrue (is_free (filled states.now.well) (spawn_of aim.now.piece)) }
         requires canonical { IsCanonical aim.now }
-        requires elsewhere { comes_to_rest (filled well.now) aim.now (spawn_of aim.now.piece) ≡ false }
-        ensures { IsLeastKeyWord (table_of rules.now) (filled well.now) drop_mode aim.now
+        requires elsewhere { comes_to_rest (filled states.now.well) aim.now (spawn_of aim.now.piece) ≡ false }
+        ensures { IsLeastKeyWord (table_of rules.now) (filled states.now.well) drop_mode aim.now
             (option_map (λ word. word.items) result) }
     {
         let start = spawn(aim.piece);
@@ -155,7 +156,7 @@ impl Finder {
         self.waiting.clear();
         self.waiting.push_back(start);
         while let Some(state) = self.waiting.pop_front() {
-            let reached = self.press_keys(&mut marks, &state, well, rules, aim, drop_mode);
+            let reached = self.press_keys(&mut marks, &state, states, rules, aim, drop_mode);
             if let Some(reached) = reached {
                 return Some(marks.word_to(&reached));
             }
@@ -169,28 +170,29 @@ impl Finder {
         &mut self,
         marks: &mut Marks,
         state: &Placement,
-        well: &Well,
+        states: &FreeStates,
         rules: &Rules,
         aim: &Placement,
         drop_mode: DropMode,
     ) -> Option<Placement>
-        requires free { IsTrue (is_free (filled well.now) (spawn_of aim.now.piece)) }
+        requires kind { states.now.piece ≡ aim.now.piece }
+        requires free { IsTrue (is_free (filled states.now.well) (spawn_of aim.now.piece)) }
         requires canonical { IsCanonical aim.now }
         requires trying { IsTrying (table_of rules.now)
-            (filled well.now) drop_mode aim.now marks.old.marks self.old.waiting.items state.now 0 }
+            (filled states.now.well) drop_mode aim.now marks.old.marks self.old.waiting.items state.now 0 }
         ensures { MatchOption result
-            (IsFinding (table_of rules.now) (filled well.now) drop_mode aim.now marks.new.marks self.new.waiting.items
+            (IsFinding (table_of rules.now) (filled states.now.well) drop_mode aim.now marks.new.marks self.new.waiting.items
             × (count_by is_unseen marks.new.marks + length self.new.waiting.items
             ≡ count_by is_unseen marks.old.marks + length self.old.waiting.items))
             (λ reached. IsPivot reached × IsReached (table_of rules.now)
-            (filled well.now) drop_mode aim.now marks.new.marks reached) }
+            (filled states.now.well) drop_mode aim.now marks.new.marks reached) }
     {
         for key in Key::ALL {
-            let Some(next) = new_state(well, rules, drop_mode, marks, state, key) else {
+            let Some(next) = new_state(states, rules, drop_mode, marks, state, key) else {
                 continue;
             };
             marks.set(&next, Mark::From(*state, key));
-            if rests_on(well, aim, &next) {
+            if rests_on(&states.well, aim, &next) {
                 return Some(next);
             }
             self.waiting.push_back(next);
@@ -201,19 +203,20 @@ impl Finder {
 
 /// The state to which an allowed key leads, where no key word led to it before.
 fn new_state(
-    well: &Well,
+    states: &FreeStates,
     rules: &Rules,
     drop_mode: DropMode,
     marks: &Marks,
     state: &Placement,
     key: Key,
 ) -> Option<Placement>
-    requires { IsTrue (is_free (filled well.now) state.now) }
-    ensures { result ≡ new_state (table_of rules.now) (filled well.now) drop_mode marks.now.marks state.now key }
+    requires kind { state.now.piece ≡ states.now.piece }
+    requires free { IsTrue (is_free (filled states.now.well) state.now) }
+    ensures { result ≡ new_state (table_of rules.now) (filled states.now.well) drop_mode marks.now.marks state.now key }
 {
     if !drop_mode.allows(key) {
         return None;
     }
-    let next = step(well, rules, state, key)?;
+    let next = states.step(rules, state, key)?;
     marks.is_unseen(&next).then_some(next)
 }

@@ -1,5 +1,5 @@
 // Key words that were found before, under the offsets of the Super Rotation System.
-ghost use Rattle.std.specs.Prelude.{◌≡◌, ◌<◌, Some, IfSome, true};
+ghost use Rattle.std.specs.Prelude.{◌≡◌, Some, IfSome, true};
 ghost use Rattle.srs.specs.Kick.{srs_table};
 ghost use Rattle.well.specs.Well.{filled};
 ghost use Rattle.key_path.specs.LeastKeyWord.{least_key_word};
@@ -12,8 +12,8 @@ use srs::Placement;
 use std::alloc::Global;
 use well::Well;
 
-/// How many words are kept.
-const MOST: usize = 48;
+/// How many words are kept at most.
+const PLACES: usize = 8192;
 
 /// A word that is kept, of at most so many keys.
 type ShortWord = ArrayVec<Key, 40>;
@@ -67,19 +67,33 @@ fn is_same_well(well: &Well, other: &Well) -> bool
     well.board().equal(&other.board())
 }
 
-/// The key words that were found last. Each is a true one; that one is not kept costs time alone.
+/// The place of a question among those of the words that are kept.
+fn place_of(well: &Well, target: &Placement) -> usize {
+    let board = well.board();
+    let [piece, rotation] = [target.piece.code(), target.rotation.place()];
+    let mut mixed = u64::from(u32::from_le_bytes([piece, rotation, target.x, target.y]));
+    for y in 0..8 {
+        mixed = (mixed ^ u64::from(board.row(y))).wrapping_mul(0x9e37_79b9_7f4a_7c15);
+    }
+    mixed = (mixed ^ mixed >> 32).wrapping_mul(0xd6e8_feb8_6659_fd93);
+    (mixed >> 32) as usize % PLACES
+}
+
+/// Key words that were found: each has one place, and a later one takes it from an earlier one. Each is a true one;
+/// that one is not kept costs time alone.
 #[derive(Drop)]
 pub(crate) struct Known {
-    found: Vec<Found>,
-    oldest: usize,
-    ghost within: { oldest < 48 },
+    places: Vec<Option<Found>>,
 }
 
 impl Known {
     /// No words, with memory for those that are found.
     pub(crate) fn new(alloc: Global) -> Result<Known, NoMemory> {
-        let found = Vec::with_capacity(alloc, MOST)?;
-        Ok(Known { found, oldest: 0 })
+        let mut places = Vec::with_capacity(alloc, PLACES)?;
+        for _ in 0..PLACES {
+            places.push(None)?;
+        }
+        Ok(Known { places })
     }
 
     /// The least key word of a placement in a well, where it is kept.
@@ -92,15 +106,13 @@ impl Known {
         ensures { IfSome result (λ word.
             least_key_word srs_table (filled well.now) drop_mode target.now ≡ Some word.items) }
     {
-        for found in &self.found {
-            if found.is_for(well, target, drop_mode) {
-                return Some(found.key_word());
-            }
+        match self.places.get(place_of(well, target)) {
+            Some(Some(found)) if found.is_for(well, target, drop_mode) => Some(found.key_word()),
+            _ => None,
         }
-        None
     }
 
-    /// Keeps the least key word of a placement in a well, in place of the oldest one where there are too many.
+    /// Keeps the least key word of a placement in a well, in place of the one before where there is one.
     pub(crate) fn keep(
         &mut self,
         well: &Well,
@@ -113,28 +125,14 @@ impl Known {
         let Some(word) = short_word(word) else {
             return;
         };
-        let found = Found {
-            well: *well,
-            target: *target,
-            drop_mode,
-            word,
-        };
-        self.put(found);
-    }
-
-    fn put(&mut self, found: Found) {
-        if self.found.len() < MOST {
-            let _ = self.found.push(found);
-            return;
+        if let Some(place) = self.places.get_mut(place_of(well, target)) {
+            *place = Some(Found {
+                well: *well,
+                target: *target,
+                drop_mode,
+                word,
+            });
         }
-        if let Some(place) = self.found.get_mut(self.oldest) {
-            *place = found;
-        }
-        self.oldest = if self.oldest + 1 < MOST {
-            self.oldest + 1
-        } else {
-            0
-        };
     }
 }
 

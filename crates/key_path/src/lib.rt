@@ -3,6 +3,7 @@
 
 mod aim;
 mod finder;
+mod free;
 mod known;
 pub mod laws;
 mod marks;

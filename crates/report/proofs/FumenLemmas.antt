@@ -24,7 +24,7 @@ use Rattle.report.specs.declared.write_fault.WriteFault.{WriteFault}
 use Rattle.report.specs.declared.write_fault.WriteFault.TheVariants as faults
 use Rattle.report.specs.WriteCause.{HasWriteCause}
 use Rattle.report.specs.Forms.{KeysOf, key_part}
-use Rattle.report.specs.FumenLine.{pages_from, placing_page, sequence_pages}
+use Rattle.report.specs.FumenLine.{placement_pages, placing_page, sequence_pages}
 use Rattle.report.proofs.LineFields.{AreShort, EndsEmpty, line_fault}
 
 -- a key word has few keys
@@ -54,22 +54,22 @@ fit_pages with table mode F rows s pages (Err e) plays few same = tt
 -- one more page is made
 pub page_more : (keys : KeysOf) (whole made : List Page) (page : Page) (cells : List ℕ) (colour : Bool) (F after : Field) (s : List Placement) (i : ℕ) (d : Placement) (word : Option (List Key)) → i < length s
     → page ≡ placing_page cells colour (get_or s i d) word → word ≡ keys F (get_or s i d) → after ≡ locked F (get_or s i d)
-    → whole ≡ made ++ pages_from keys cells colour F (drop i s)
-    → whole ≡ (made ++ page ∷ []) ++ pages_from keys (next V115 page) false after (drop (i + 1) s)
-unfolding pages_from
+    → whole ≡ made ++ placement_pages keys cells colour F (drop i s)
+    → whole ≡ (made ++ page ∷ []) ++ placement_pages keys (next V115 page) false after (drop (i + 1) s)
+unfolding placement_pages
 page_more keys whole made page cells colour F after s i d word within is named left so_far =
     let q = get_or s i d in
     let same : placing_page cells colour q (keys F q) ≡ page = sym (is ∙ ap (placing_page cells colour q) named) in
-    so_far ∙ ap (λ l. made ++ pages_from keys cells colour F l) (drop_more s i d within)
-    ∙ (λ k. made ++ (same k ∷ pages_from keys (next V115 (same k)) false (sym left k) (drop (i + 1) s)))
-    ∙ sym (append_assoc made (page ∷ []) (pages_from keys (next V115 page) false after (drop (i + 1) s)))
+    so_far ∙ ap (λ l. made ++ placement_pages keys cells colour F l) (drop_more s i d within)
+    ∙ (λ k. made ++ (same k ∷ placement_pages keys (next V115 (same k)) false (sym left k) (drop (i + 1) s)))
+    ∙ sym (append_assoc made (page ∷ []) (placement_pages keys (next V115 page) false after (drop (i + 1) s)))
 
 -- all pages are made
 pub pages_end : (keys : KeysOf) (whole made : List Page) (cells : List ℕ) (colour : Bool) (F : Field) (s : List Placement) (i : ℕ) → length s ≤ i
-    → whole ≡ made ++ pages_from keys cells colour F (drop i s) → made ≡ whole
-unfolding pages_from
+    → whole ≡ made ++ placement_pages keys cells colour F (drop i s) → made ≡ whole
+unfolding placement_pages
 pages_end keys whole made cells colour F s i past so_far =
-    sym (so_far ∙ ap (λ l. made ++ pages_from keys cells colour F l) (drop_all i s past) ∙ append-nil made)
+    sym (so_far ∙ ap (λ l. made ++ placement_pages keys cells colour F l) (drop_all i s past) ∙ append-nil made)
 
 -- ---- what the one write of a line answers
 

@@ -6,3 +6,4 @@ mod GridLemmas
 mod PageFields
 mod LineFields
 mod FumenLemmas
+mod HeldLemmas

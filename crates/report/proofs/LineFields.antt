@@ -30,10 +30,10 @@ use Rattle.fumen_pages.specs.Next.{rows_in, rows_of, cells_of_rows, operation_fi
 use Rattle.fumen_pages.proofs.CallerLemmas.{flat, flat-rows_in, next_cells_sound}
 use Rattle.fumen_text.specs.declared.encode_fault.EncodeFault.{EncodeFault}
 use Rattle.fumen_text.specs.declared.encode_fault.EncodeFault.TheVariants as fault
-use Rattle.fumen_text.specs.Texts.{empty_cells, most_pages}
+use Rattle.fumen_text.specs.Texts.{empty_page, most_pages}
 use Rattle.fumen_text.specs.Written.{HasTypes, is_short, list_encode_fault, page_encode_fault, pages_encode_fault}
 use Rattle.report.specs.Forms.{KeysOf}
-use Rattle.report.specs.FumenLine.{grey_cells, grey_row, grey_rows, keys_comment, left_after, pages_from, placing_page, sequence_pages}
+use Rattle.report.specs.FumenLine.{grey_cells, grey_row, grey_rows, keys_comment, left_after, placement_pages, placing_page, sequence_pages}
 use Rattle.report.proofs.PageFields.{Shows, blank_rows, cleared_rows, field_row, field_rows, length-field_rows, row_tests, shows_marked}
 
 -- ---- rows of ten
@@ -243,7 +243,7 @@ rows_none (row ∷ rows) (suc k) same =
     λ i. cells_none row 10 first i ∷ rows_none rows k rest i
 
 -- cells that show an empty field
-shows_none : (F : Field) (cells : List ℕ) → Shows cells F → ((x y : ℕ) → F x y ≡ false) → cells ≡ empty_cells
+shows_none : (F : Field) (cells : List ℕ) → Shows cells F → ((x y : ℕ) → F x y ≡ false) → cells ≡ empty_page
 unfolding field_rows
 shows_none F cells shows none =
     let rows : rows_in 23 cells ≡ replicate 23 empty_row = rows_none (rows_in 23 cells) 23 (shows.rows ∙ blank_rows F 23 0 (λ x y _. none x y) ∙ append-nil _) in
@@ -252,23 +252,23 @@ shows_none F cells shows none =
 pub record AreGoodPages (number : ℕ) (cells : List ℕ) (pages : List Page) : Type 0 where
   pub none : pages_encode_fault V115 number pages ≡ None
   pub types : AllByRecursion HasTypes pages
-  pub left : left_after cells pages ≡ empty_cells
+  pub left : left_after cells pages ≡ empty_page
 
 good_pages : (keys : KeysOf) → AreShort keys → (s : List Placement) (F : Field) (cells : List ℕ) (colour : Bool) (number : ℕ) → EndsEmpty F s → Shows cells F → AreCells V115 cells
-    → AreGoodPages number cells (pages_from keys cells colour F s)
-unfolding EndsEmpty pages_from pages_encode_fault
+    → AreGoodPages number cells (placement_pages keys cells colour F s)
+unfolding EndsEmpty placement_pages pages_encode_fault
 good_pages keys short [] F cells colour number ends shows are = record { none = refl; types = tt; left = shows_none F cells shows ends }
 good_pages keys short (q ∷ s) F cells colour number ends shows are =
     let page = placing_page cells colour q (keys F q) in
     let rest = good_pages keys short s (locked F q) (next V115 page) false (number + 1) ends.1 (shows_next F cells colour q (keys F q) shows are ends.0) (next_cells_sound V115 page (placing_sound cells colour q (keys F q) are ends.0)) in
     record {
-      none = ap (λ o. option_or o (pages_encode_fault V115 (number + 1) (pages_from keys (next V115 page) false (locked F q) s))) (no_page_fault number cells colour q (keys F q) are ends.0 (short.few F q)) ∙ rest.none;
+      none = ap (λ o. option_or o (pages_encode_fault V115 (number + 1) (placement_pages keys (next V115 page) false (locked F q) s))) (no_page_fault number cells colour q (keys F q) are ends.0 (short.few F q)) ∙ rest.none;
       types = (record { size = are.size; units = comment_units (keys F q) }, rest.types);
       left = rest.left;
     }
 
-pub length-pages : (keys : KeysOf) (s : List Placement) (F : Field) (cells : List ℕ) (colour : Bool) → length (pages_from keys cells colour F s) ≡ length s
-unfolding pages_from
+pub length-pages : (keys : KeysOf) (s : List Placement) (F : Field) (cells : List ℕ) (colour : Bool) → length (placement_pages keys cells colour F s) ≡ length s
+unfolding placement_pages
 length-pages keys [] F cells colour = refl
 length-pages keys (q ∷ s) F cells colour = ap suc (length-pages keys s (locked F q) (next V115 (placing_page cells colour q (keys F q))) false)
 

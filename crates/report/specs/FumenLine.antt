@@ -44,16 +44,16 @@ placing_page cells colour placement keys =
 
 -- A page for each placement that is played from a field on. The first one has these cells and this colour flag, and
 -- each later one the cells that the page before it leaves, and no colour flag.
-unfoldable pub pages_from : KeysOf → List ℕ → Bool → Field → List Placement → List Page
-pages_from keys cells colour F [] = []
-pages_from keys cells colour F (placement ∷ rest) =
+unfoldable pub placement_pages : KeysOf → List ℕ → Bool → Field → List Placement → List Page
+placement_pages keys cells colour F [] = []
+placement_pages keys cells colour F (placement ∷ rest) =
     let page = placing_page cells colour placement (keys F placement) in
-    page ∷ pages_from keys (next V115 page) false (locked F placement) rest
+    page ∷ placement_pages keys (next V115 page) false (locked F placement) rest
 
 -- the pages of a sequence that is played from a field on: the first one has the field as grey cells and the colour
 -- flag
 abbrev pub sequence_pages : KeysOf → Field → List Placement → List Page
-sequence_pages keys F sequence = pages_from keys (grey_cells F) true F sequence
+sequence_pages keys F sequence = placement_pages keys (grey_cells F) true F sequence
 
 -- their text, and a newline
 unfoldable pub fumen_form : KeysOf → Field → List Placement → List ℕ

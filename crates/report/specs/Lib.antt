@@ -5,3 +5,4 @@ pub mod FumenLine
 pub mod WriteCause
 -- What serves proofs alone.
 pub mod Played
+pub mod HandsOn

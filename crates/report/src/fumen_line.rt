@@ -67,7 +67,7 @@ impl FumenWriter {
         }
     }
 
-    // The text of a line, and a newline.
+    /// The text of a line, and a newline.
     #[tactic(auto, unfolding(crate::specs::FumenLine::fumen_form))]
     fn text(
         &mut self,
@@ -87,7 +87,7 @@ impl FumenWriter {
         text_of(alloc, &self.pages)
     }
 
-    // Makes the pages of placements.
+    /// Makes the pages of placements.
     fn set_pages(
         &mut self,
         alloc: Global,
@@ -159,7 +159,7 @@ impl FumenWriter {
         Ok(())
     }
 
-    // Appends the page of a placement, and gives the cells that the page leaves.
+    /// Appends the page of a placement, and gives the cells that the page leaves.
     fn push_page(
         &mut self,
         alloc: Global,
@@ -183,7 +183,7 @@ impl FumenWriter {
     }
 }
 
-// A page on which a placement locks, with its keys as the comment where there are some.
+/// A page on which a placement locks, with its keys as the comment where there are some.
 fn placing_page(
     alloc: Global,
     cells: [u8; 240],
@@ -209,7 +209,7 @@ fn placing_page(
     })
 }
 
-// The letters of the keys, and `H` for the hard drop at the end.
+/// The letters of the keys, and `H` for the hard drop at the end.
 fn keys_comment(alloc: Global, word: &KeyWord) -> Result<Comment, NoMemory>
     ensures { IfOk result (λ comment. comment ≡ map key_letter word.now.items ++ 72 ∷ []) }
 {
@@ -221,7 +221,7 @@ fn keys_comment(alloc: Global, word: &KeyWord) -> Result<Comment, NoMemory>
     Ok(Comment::from_units(units))
 }
 
-// The text of pages that can be written, and a newline.
+/// The text of pages that can be written, and a newline.
 fn text_of(alloc: Global, pages: &[Page]) -> Result<Vec<u8>, NoMemory>
     requires { list_encode_fault V115 pages.now ≡ None }
     ensures { IfOk result (λ text. text.items ≡ written V115 pages.now ++ 10 ∷ []) }

@@ -19,7 +19,6 @@ pub(crate) fn grey_cells(well: &Well) -> [u8; 240]
 }
 
 /// A row of the well, from left to right.
-
 fn grey_row(well: &Well, y: u8) -> [u8; 10]
     requires { y ≤ 22 }
     ensures { result ≡ grey_row (filled well.now) y }

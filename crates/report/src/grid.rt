@@ -20,7 +20,7 @@ use pc_outside::{Failed, Sink};
 use srs::{Placement, cells};
 use well::Well;
 
-// A newline behind those of the rows.
+/// A newline behind those of the rows.
 const EMPTY_LINE: u8 = b'\n';
 
 /// The rows of one picture, each with a newline, and an empty line.
@@ -48,7 +48,7 @@ pub fn write_grid<O: Sink>(
     write_pictures(out, problem, sequence.as_slice())
 }
 
-// The pictures of placements, one after the other.
+/// The pictures of placements, one after the other.
 fn write_pictures<O: Sink>(
     out: &mut O,
     problem: &Problem,
@@ -72,7 +72,7 @@ fn write_pictures<O: Sink>(
     Ok(())
 }
 
-// The rows below a height, the top one first, with a placement in them, and an empty line.
+/// The rows below a height, the top one first, with a placement in them, and an empty line.
 fn picture(well: &Well, placement: &Placement, rows: u8) -> Picture
     requires column { placement.now.x ≤ 31 }
     requires row { placement.now.y ≤ 31 }
@@ -87,8 +87,7 @@ fn picture(well: &Well, placement: &Placement, rows: u8) -> Picture
     picture
 }
 
-// Appends a row and a newline.
-
+/// Appends a row and a newline.
 fn push_row(picture: &mut Picture, well: &Well, placement: &Placement, y: u8)
     requires column { placement.now.x ≤ 31 }
     requires row { placement.now.y ≤ 31 }
@@ -104,7 +103,7 @@ fn push_row(picture: &mut Picture, well: &Well, placement: &Placement, y: u8)
     picture.push(b'\n');
 }
 
-// The letter of a cell.
+/// The letter of a cell.
 fn letter(well: &Well, placement: &Placement, cells: &[(i8, i8); 4], x: u8, y: u8) -> u8
     requires cells { cells.now ≡ cells_of placement.now }
     requires column { x ≤ 9 }
@@ -117,7 +116,7 @@ fn letter(well: &Well, placement: &Placement, cells: &[(i8, i8); 4], x: u8, y: u
     if well.cell(x, y) { b'X' } else { b'_' }
 }
 
-// Whether one of the cells is that in this column and row.
+/// Whether one of the cells is that in this column and row.
 #[tactic(auto, unfolding(srs::specs::SameCells::is_among))]
 fn has_cell(cells: &[(i8, i8); 4], x: u8, y: u8) -> bool
     requires column { x ≤ 9 }

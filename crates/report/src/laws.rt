@@ -6,7 +6,7 @@ ghost use Rattle.srs.specs.Kick.{Table};
 ghost use Rattle.moves.specs.declared.key.DropMode.{DropMode};
 ghost use Rattle.enumerate.specs.Plays.{Plays};
 ghost use Rattle.fumen_digits.specs.declared.dialect.Dialect.TheVariants.{V115};
-ghost use Rattle.fumen_text.specs.Texts.{ReadsAs, empty_cells, most_pages};
+ghost use Rattle.fumen_text.specs.Texts.{ReadsAs, empty_page, most_pages};
 ghost use Rattle.fumen_text.specs.Written.{written};
 ghost use Rattle.report.specs.Forms.{key_part};
 ghost use Rattle.report.specs.FumenLine.{grey_cells, left_after, sequence_pages};
@@ -22,7 +22,7 @@ pub fn fumen_lines_are_read()
         (sequence_pages (key_part keys table mode) F s) }
     ensures ends { (keys : Bool) (table : Table) (mode : DropMode) (F : Field) (rows : ℕ) (s : List Placement) →
         Plays table mode F rows s →
-        left_after (grey_cells F) (sequence_pages (key_part keys table mode) F s) ≡ empty_cells }
+        left_after (grey_cells F) (sequence_pages (key_part keys table mode) F s) ≡ empty_page }
 {
     encode_undone();
 }

@@ -1,12 +1,16 @@
 // The line of a sequence.
-ghost use Rattle.std.specs.Prelude.{◌≡◌, ◌++◌, [], ◌∷◌, ◌≤◌, true, length, is_some, option_map};
+ghost use Rattle.std.specs.Prelude.{◌≡◌, ◌++◌, [], ◌∷◌, ◌≤◌, true, length, is_some, option_map, IsTrue, OnOk, OnErr};
+ghost use Rattle.srs.specs.Cells.{is_inside_of};
+ghost use Rattle.srs.specs.Kick.{srs_table};
 ghost use Rattle.srs.specs.Rules.{table_of};
 ghost use Rattle.well.specs.Well.{filled};
 ghost use Rattle.pc_outside.specs.Counts.{HasCause};
-ghost use Rattle.pc_outside.specs.Writes.{WritesAll};
+ghost use Rattle.pc_outside.specs.Writes.{GrowsByFront, WritesAll};
+ghost use Rattle.key_path.specs.LeastKeyWord.{least_key_word};
 ghost use Rattle.enumerate.specs.Plays.{Plays};
 ghost use Rattle.sequence_text.specs.Written.{keyed_form, sequence_form, without_keys};
 ghost use Rattle.report.specs.Forms.{key_part, line_form};
+ghost use Rattle.report.specs.HandsOn.{HandsOn};
 ghost use Rattle.report.specs.Played.{AreFree};
 
 use enumerate::{Problem, Sequence};
@@ -17,7 +21,7 @@ use sequence_text::{SequenceText, placement_with_keys, push, sequence_text};
 use srs::{Placement, Rules};
 use well::Well;
 
-// A line without keys.
+/// A line without keys.
 fn line_of(placements: &[Placement]) -> SequenceText
     requires { length placements.now ≤ 38 }
     ensures { result.items ≡ sequence_form (without_keys placements.now) ++ 10 ∷ [] }
@@ -27,7 +31,7 @@ fn line_of(placements: &[Placement]) -> SequenceText
     line
 }
 
-// A placement after a divider, with its key word where there is one.
+/// A placement after a divider, with its key word where there is one.
 fn placement_text(divider: &[u8], placement: &Placement, word: &Option<KeyWord>) -> SequenceText
     requires { length divider.now ≤ 1 }
     ensures { result.items ≡ divider.now ++ keyed_form (placement.now, option_map (λ word. word.items) word.now) }
@@ -38,7 +42,46 @@ fn placement_text(divider: &[u8], placement: &Placement, word: &Option<KeyWord>)
     }
 }
 
-// Writes the line of placements with the key word of each in the field before it.
+/// Appends bytes to what is to be written. Where they don't fit behind it, it is written first.
+fn append<O: Sink>(out: &mut O, held: &mut SequenceText, bytes: &[u8]) -> Result<(), Failed>
+    requires { length bytes.now ≤ 1024 }
+    ensures done { OnOk result (HandsOn (O.written out.old) (O.written out.new)
+        held.old.items bytes.now held.new.items) }
+    ensures failed { OnErr result (GrowsByFront (O.written out.old) (O.written out.new) held.old.items) }
+    ensures cause { HasCause (O.faults out.old) (O.faults out.new) result }
+{
+    if bytes.len() <= held.remaining_capacity() {
+        push(held, bytes);
+        return Ok(());
+    }
+    out.write(held.as_slice())?;
+    held.clear();
+    push(held, bytes);
+    Ok(())
+}
+
+/// The key word of a placement in the field before it.
+fn word_of(
+    finder: &mut Finder,
+    well: &Well,
+    rules: &Rules,
+    is_srs: bool,
+    placement: &Placement,
+    drop_mode: DropMode,
+) -> Option<KeyWord>
+    requires inside { IsTrue (is_inside_of placement.now) }
+    requires known { IsTrue is_srs → table_of rules.now ≡ srs_table }
+    ensures { option_map (λ word. word.items) result
+        ≡ least_key_word (table_of rules.now) (filled well.now) drop_mode placement.now }
+{
+    if is_srs {
+        return finder.find_by_srs(well, placement, drop_mode);
+    }
+    finder.find(well, rules, placement, drop_mode)
+}
+
+/// Writes the line of placements with the key word of each in the field before it, by one write where it has no more
+/// bytes than a text.
 fn write_with_keys<O: Sink>(
     out: &mut O,
     well: &Well,
@@ -54,13 +97,20 @@ fn write_with_keys<O: Sink>(
 {
     let mut before = *well;
     let mut divider: &[u8] = b"";
+    let mut held = SequenceText::new();
+    let is_srs = rules.is_srs();
     for placement in placements {
-        let word = finder.find(&before, rules, placement, drop_mode);
-        out.write(placement_text(divider, placement, &word).as_slice())?;
+        let word = word_of(finder, &before, rules, is_srs, placement, drop_mode);
+        append(
+            out,
+            &mut held,
+            placement_text(divider, placement, &word).as_slice(),
+        )?;
         before = before.lock(placement).0;
         divider = b" ";
     }
-    out.write(b"\n")
+    append(out, &mut held, b"\n")?;
+    out.write(held.as_slice())
 }
 
 /// Writes the line of placements that are played from a well, with their key words where a finder is given.

@@ -9,20 +9,20 @@ use Rattle.key_path.proofs.NewStates.{new_not_allowed, new_no_move, new_move}
 use Rattle.key_path.proofs.finder.new_state.Goals as goal
 
 pub returns-then-not-allows : goal.returns-then-not-allows
-returns-then-not-allows c = new_not_allowed (table_of c.args.rules.now) (filled c.args.well.now) c.args.drop_mode c.args.marks.now.marks c.args.state.now c.args.key (sym c.allows.ensures ∙ c.if-not-allows.true)
+returns-then-not-allows c = new_not_allowed (table_of c.args.rules.now) (filled c.args.states.now.well) c.args.drop_mode c.args.marks.now.marks c.args.state.now c.args.key (sym c.allows.ensures ∙ c.if-not-allows.true)
 
 pub returns-in_err-next : goal.returns-in_err-next
 returns-in_err-next c =
     c.from_residual.ensures
-    ∙ new_no_move (table_of c.args.rules.now) (filled c.args.well.now) c.args.drop_mode c.args.marks.now.marks c.args.state.now c.args.key (sym c.allows.ensures ∙ c.if-not-allows.false) (sym c.step.ensures ∙ c.in_err-next.was)
+    ∙ new_no_move (table_of c.args.rules.now) (filled c.args.states.now.well) c.args.drop_mode c.args.marks.now.marks c.args.state.now c.args.key (sym c.allows.ensures ∙ c.if-not-allows.false) (sym c.step.ensures ∙ c.in_err-next.was)
 
 pub is_unseen-requires : goal.is_unseen-requires
 is_unseen-requires c =
-    let inside = free_pivot_inside (filled c.args.well.now) c.in_ok-next.next (step_of-free (table_of c.args.rules.now) (filled c.args.well.now) c.args.state.now c.args.key c.in_ok-next.next (sym c.step.ensures ∙ c.in_ok-next.was)).free in
+    let inside = free_pivot_inside (filled c.args.states.now.well) c.in_ok-next.next (step_of-free (table_of c.args.rules.now) (filled c.args.states.now.well) c.args.state.now c.args.key c.in_ok-next.next (sym c.step.ensures ∙ c.in_ok-next.was)).free in
     record { in_columns = inside.in_columns; in_rows = inside.in_rows }
 
 pub returns : goal.returns
 returns c =
     c.then_some.ensures
     ∙ ap (λ b. then_some b c.in_ok-next.next) c.is_unseen.ensures
-    ∙ new_move (table_of c.args.rules.now) (filled c.args.well.now) c.args.drop_mode c.args.marks.now.marks c.args.state.now c.args.key c.in_ok-next.next (sym c.allows.ensures ∙ c.if-not-allows.false) (sym c.step.ensures ∙ c.in_ok-next.was)
+    ∙ new_move (table_of c.args.rules.now) (filled c.args.states.now.well) c.args.drop_mode c.args.marks.now.marks c.args.state.now c.args.key c.in_ok-next.next (sym c.allows.ensures ∙ c.if-not-allows.false) (sym c.step.ensures ∙ c.in_ok-next.was)

@@ -1,5 +1,5 @@
--- The placements so far are written, and those that are left are free in the field that they leave.
-use Rattle.std.proofs.Common.{◌≡◌, ◌≤◌, true, length, drop}
+-- The placements so far are written or held, and those that are left are free in the field that they leave.
+use Rattle.std.proofs.Common.{◌≡◌, ◌++◌, ◌≤◌, true, length, drop}
 use Rattle.srs.specs.Rules.{table_of}
 use Rattle.well.specs.Well.{filled}
 use Rattle.pc_outside.specs.Writes.{GrowsUpTo}
@@ -12,7 +12,7 @@ abbrev pub invariant-loop-placement : goal.invariant-loop-placement
 invariant-loop-placement g l =
     GrowsUpTo (g.O.Sink.written l.initial.out) (g.O.Sink.written l.out)
     (line_form (key_part true (table_of l.rules) l.drop_mode) (filled l.well) l.placements)
-    (line_from (key_part true (table_of l.rules) l.drop_mode) l.divider (filled l.before) (drop l.placement-index l.placements))
+    (l.held.items ++ line_from (key_part true (table_of l.rules) l.drop_mode) l.divider (filled l.before) (drop l.placement-index l.placements))
     × AreFree (filled l.before) (drop l.placement-index l.placements)
     × (length l.divider ≤ 1)
     × (g.O.Sink.faults l.out ≡ g.O.Sink.faults l.initial.out)

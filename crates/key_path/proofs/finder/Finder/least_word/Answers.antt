@@ -4,6 +4,7 @@ use Rattle.std.specs.Prelude.{option_map}
 use Rattle.srs.specs.Rules.{table_of}
 use Rattle.well.specs.Free.{is_free}
 use Rattle.well.specs.Well.{filled}
+use Rattle.well.specs.declared.well.Well.{Well}
 use Rattle.moves.specs.Leads.{spawn_of}
 use Rattle.moves.specs.PlaceTest.{comes_to_rest}
 use Rattle.key_path.specs.LeastKeyWord.{IsLeastKeyWord}
@@ -26,4 +27,7 @@ returns-then-rests_on c =
     (spawn_word table F c.args.drop_mode aim (ap (is_free F) start ∙ sym c.is_free.ensures ∙ c.if-not-is_free.false) (ap (comes_to_rest F aim) start ∙ sym c.rests_on.ensures ∙ c.if-rests_on.true)))
 
 pub returns : goal.returns
-returns c = one_word (table_of c.args.rules.now) (filled c.args.well.now) c.args.drop_mode c.canonical-aim.result c.args.target.now c.canonical-aim.ensures.cells (option_map (λ word. word.items) c.word_from.result) c.word_from.ensures
+returns c =
+    let word = option_map (λ word. word.items) c.word_from.result in
+    one_word (table_of c.args.rules.now) (filled c.args.well.now) c.args.drop_mode c.canonical-aim.result c.args.target.now c.canonical-aim.ensures.cells word
+    (subst (λ (well : Well). IsLeastKeyWord (table_of c.args.rules.now) (filled well) c.args.drop_mode c.canonical-aim.result word) c.of-states.ensures.well c.word_from.ensures)

@@ -9,5 +9,5 @@ use Rattle.key_path.proofs.finder.Finder.press_keys.Given as goal
 
 abbrev pub invariant-loop-key : goal.invariant-loop-key
 invariant-loop-key l =
-    IsTrying (table_of l.rules) (filled l.well) l.drop_mode l.aim l.marks.marks l.self.waiting.items l.state l.key-index
+    IsTrying (table_of l.rules) (filled l.states.well) l.drop_mode l.aim l.marks.marks l.self.waiting.items l.state l.key-index
     × (count_by is_unseen l.marks.marks + length l.self.waiting.items ≡ count_by is_unseen l.initial.marks.marks + length l.initial.self.waiting.items)

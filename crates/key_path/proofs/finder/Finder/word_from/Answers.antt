@@ -16,21 +16,21 @@ pub loop-state-init : goal.loop-state-init
 loop-state-init c =
     let cleared : c.clear.new.self.items ≡ [] = ap (λ (b : Buffer Placement). b.items) c.clear.ensures in
     let room : c.clear.new.self.capacity ≡ 920 = ap (λ (b : Buffer Placement). b.capacity) c.clear.ensures ∙ c.args.self.now.room in
-    finding_first (table_of c.args.rules.now) (filled c.args.well.now) c.args.drop_mode c.args.aim.now c.set.new.self.marks c.push_back.new.self.items c.requires.free c.requires.elsewhere
+    finding_first (table_of c.args.rules.now) (filled c.args.states.now.well) c.args.drop_mode c.args.aim.now c.set.new.self.marks c.push_back.new.self.items c.requires.free c.requires.elsewhere
     (c.set.ensures ∙ (λ i. with_mark (c.new-marks.ensures i) (c.spawn-start.ensures i) Start))
     (pushed c.clear.new.self c.push_back.new.self c.spawn-start.result c.push_back.ensures.items (omega (arith, room, length-append c.clear.new.self.items (c.spawn-start.result ∷ []), ap (λ (xs : List Placement). length xs) cleared))
     ∙ (λ i. cleared i ++ c.spawn-start.ensures i ∷ []))
 
 pub press_keys-reached-requires-clause-trying : goal.press_keys-reached-requires-clause-trying
 press_keys-reached-requires-clause-trying c =
-    trying_first (table_of c.args.rules.now) (filled c.args.well.now) c.args.drop_mode c.args.aim.now c.loop-state.marks.marks c.loop-state.self.waiting.items c.pop_front.new.self.items c.in-Some.state
+    trying_first (table_of c.args.rules.now) (filled c.args.states.now.well) c.args.drop_mode c.args.aim.now c.loop-state.marks.marks c.loop-state.self.waiting.items c.pop_front.new.self.items c.in-Some.state
     (sym c.pop_front.ensures.value ∙ c.in-Some.is) (ap (λ (b : Buffer Placement). b.items) c.pop_front.ensures.items) c.loop-state.invariant
 
 pub returns-in-Some-reached : goal.returns-in-Some-reached
 returns-in-Some-reached c =
-    let reached : IsReached (table_of c.args.rules.now) (filled c.args.well.now) c.args.drop_mode c.args.aim.now c.press_keys-reached.new.marks.marks c.in-Some-reached.reached = c.in-Some-reached.ensures.1 in
-    subst (λ word. IsLeastKeyWord (table_of c.args.rules.now) (filled c.args.well.now) c.args.drop_mode c.args.aim.now (Some word)) (sym (c.word_to.ensures reached.traced)) (reached.least reached.traced)
+    let reached : IsReached (table_of c.args.rules.now) (filled c.args.states.now.well) c.args.drop_mode c.args.aim.now c.press_keys-reached.new.marks.marks c.in-Some-reached.reached = c.in-Some-reached.ensures.1 in
+    subst (λ word. IsLeastKeyWord (table_of c.args.rules.now) (filled c.args.states.now.well) c.args.drop_mode c.args.aim.now (Some word)) (sym (c.word_to.ensures reached.traced)) (reached.least reached.traced)
 
 pub returns : goal.returns
 returns c =
-    none_found (table_of c.args.rules.now) (filled c.args.well.now) c.args.drop_mode c.args.aim.now c.requires.free c.loop-state.marks.marks c.loop-state.self.waiting.items (sym c.pop_front.ensures.value ∙ c.in_default.is) c.loop-state.invariant
+    none_found (table_of c.args.rules.now) (filled c.args.states.now.well) c.args.drop_mode c.args.aim.now c.requires.free c.loop-state.marks.marks c.loop-state.self.waiting.items (sym c.pop_front.ensures.value ∙ c.in_default.is) c.loop-state.invariant

@@ -8,7 +8,7 @@ use Rattle.key_path.specs.Search.{IsFinding}
 use Rattle.key_path.proofs.finder.Finder.word_from.Given as goal
 
 abbrev pub invariant-loop-state : goal.invariant-loop-state
-invariant-loop-state l = IsFinding (table_of l.rules) (filled l.well) l.drop_mode l.aim l.marks.marks l.self.waiting.items
+invariant-loop-state l = IsFinding (table_of l.rules) (filled l.states.well) l.drop_mode l.aim l.marks.marks l.self.waiting.items
 
 abbrev pub decreases-loop-state : goal.decreases-loop-state
 decreases-loop-state l = count_by is_unseen l.marks.marks + length l.self.waiting.items

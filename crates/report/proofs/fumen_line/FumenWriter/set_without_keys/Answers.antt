@@ -8,7 +8,7 @@ use Rattle.well.specs.Well.{filled}
 use Rattle.fumen_digits.specs.declared.dialect.Dialect.TheVariants.{V115}
 use Rattle.fumen_pages.specs.Cells.{AreCells}
 use Rattle.report.specs.Forms.{key_part}
-use Rattle.report.specs.FumenLine.{pages_from, placing_page}
+use Rattle.report.specs.FumenLine.{placement_pages, placing_page}
 use Rattle.report.proofs.FumenLemmas.{page_more, pages_end}
 use Rattle.report.proofs.LineFields.{first_cells}
 use Rattle.report.proofs.LineLemmas.{PlaysOn, plays_free, plays_inside, plays_next}
@@ -23,7 +23,7 @@ loop-placement-init c =
     let keys = key_part false (table_of c.args.problem.now.rules) c.args.problem.now.drop_mode in
     let F = filled c.args.problem.now.well in
     let s = c.args.placements.now in (
-      (λ i. sym c.clear.ensures.items i ++ pages_from keys (sym c.grey_cells-cells.ensures i) true F s),
+      (λ i. sym c.clear.ensures.items i ++ placement_pages keys (sym c.grey_cells-cells.ensures i) true F s),
       record { rows = c.args.problem.now.height; plays = c.requires },
       subst (AreCells V115) (sym c.grey_cells-cells.ensures) (first_cells F),
     )
@@ -44,7 +44,7 @@ loop-placement-preserved c =
     let keys = key_part false table mode in
     let page = placing_page c.loop-placement.cells c.loop-placement.colour (get_or s i default) None in (
       page_more keys _ c.loop-placement.self.pages.items page c.loop-placement.cells c.loop-placement.colour F (filled c.lock.result.0) s i default None c.loop-placement-test.true refl refl c.lock.ensures.field c.loop-placement.invariant.0
-          ∙ (λ k. sym c.in_ok-cells.ensures.pushed k ++ pages_from keys (sym c.in_ok-cells.ensures.left k) false (filled c.lock.result.0) (drop (i + 1) s)),
+          ∙ (λ k. sym c.in_ok-cells.ensures.pushed k ++ placement_pages keys (sym c.in_ok-cells.ensures.left k) false (filled c.lock.result.0) (drop (i + 1) s)),
       subst (λ F. PlaysOn table mode F s (i + 1)) (sym c.lock.ensures.field) (plays_next table mode F s i default c.loop-placement-test.true c.loop-placement.invariant.1),
       c.in_ok-cells.ensures.sound,
     )
