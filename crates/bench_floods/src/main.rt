@@ -1,7 +1,7 @@
-// Floods fields as often as its first argument says, and prints a checksum of what was held. Without more arguments these
-// are three fixed fields with either drop. Further arguments are `ragged` or `played` fields, their number of rows, `soft`
-// or `hard`, and what is made of each flood: `first` looks at one placement, `list` takes all, and `rules` looks at one by
-// the call that looks at the table first.
+// Floods fields as often as its first argument says, and prints a checksum of what was held. Without more arguments
+// these are three fixed fields with either drop. Further arguments are `ragged` or `played` fields, their number of
+// rows, `soft` or `hard`, and what is made of each flood: `first` looks at one placement, `list` takes all, and `rules`
+// looks at one by the call that looks at the table first.
 #![tactic(auto)]
 
 ghost use Rattle.std.specs.Prelude.{◌≡◌, ◌<◌, ◌≤◌};

@@ -14,7 +14,7 @@ use Rattle.combo.specs.Runs.{Runs}
 use Rattle.combo.specs.Longest.{IsPermittedRun}
 use Rattle.combo.specs.Best.{AreNoLonger}
 use Rattle.combo.specs.declared.hand.Hand.{Hand}
-use Rattle.combo.specs.Turns.{held_count, hand_count}
+use Rattle.combo.specs.Turns.{held_piece_count, hand_count}
 use Rattle.combo.proofs.PlaceFree.{place-free}
 use Rattle.combo.proofs.TurnLemmas.{permitted_short}
 
@@ -29,11 +29,11 @@ runs_take_cells table mode F (q ∷ run) runs =
 
 -- and takes one of the pieces at hand
 pub permitted_length : (table : Table) (mode : DropMode) (F : Field) (hold : Hold) (queue : List Piece) (held : Option Piece) (run : List Placement)
-    → IsPermittedRun table mode F hold queue held run → length run ≤ length queue + held_count held
+    → IsPermittedRun table mode F hold queue held run → length run ≤ length queue + held_piece_count held
 permitted_length table mode F hold queue held run member =
     omega (arith, length-map run (λ (placement : Placement). placement.piece), permitted_short hold queue held (map (λ (placement : Placement). placement.piece) run) member.permitted)
 
-run_is_bounded : (table : Table) (mode : DropMode) (F : Field) (hold : Hold) (queue : List Piece) (held : Option Piece) (count : ℕ) → length queue + held_count held ≡ count
+run_is_bounded : (table : Table) (mode : DropMode) (F : Field) (hold : Hold) (queue : List Piece) (held : Option Piece) (count : ℕ) → length queue + held_piece_count held ≡ count
     → AreNoLonger (IsPermittedRun table mode F hold queue held) (min count (cell_count F 23 / 6))
 run_is_bounded table mode F hold queue held count same = record {
   each = λ run member. omega (arith, same, permitted_length table mode F hold queue held run member, runs_take_cells table mode F run member.runs);

@@ -2,8 +2,10 @@
 mod BestLemmas
 mod BoundLemmas
 pub mod CallerLemmas
+mod LongestExists
 mod LongestLemmas
 mod StoreLemmas
 mod TurnLemmas
 mod PlaceFree
 mod PlacesLeft
+mod Worked

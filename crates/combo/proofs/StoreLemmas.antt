@@ -14,11 +14,11 @@ use Rattle.combo.specs.declared.hand.Hand.{Hand}
 use Rattle.combo.specs.declared.known.Known.{Known}
 use Rattle.combo.specs.Longest.{IsPermittedRun}
 use Rattle.combo.specs.Best.{IsBest}
-use Rattle.combo.specs.Known.{Keeps, IsKnown}
+use Rattle.combo.specs.Known.{KeepsRun, IsKnown}
 
 -- what an entry keeps is the best run
 pub kept_best : (table : Table) (mode : DropMode) (hold : Hold) (queue : List Piece) (entry : Option Known) (F : Field) (hand : Hand) (run : List Placement)
-    → IfSome entry (IsKnown table mode hold queue) → Keeps entry F hand run → IsBest (IsPermittedRun table mode F hold (drop hand.taken queue) hand.held) run
+    → IfSome entry (IsKnown table mode hold queue) → KeepsRun entry F hand run → IsBest (IsPermittedRun table mode F hold (drop hand.taken queue) hand.held) run
 kept_best table mode hold queue entry F hand run true keeps =
     let known : IsKnown table mode hold queue keeps.known = subst (λ e. IfSome e (IsKnown table mode hold queue)) keeps.there true in
     let here : IsBest (IsPermittedRun table mode F hold (drop keeps.known.hand.taken queue) keeps.known.hand.held) (take keeps.known.count keeps.known.placements) =
@@ -38,7 +38,7 @@ may_keep table mode hold queue F hand run known field at_hand items best =
 -- an entry whose run is asked for
 pub keeps_run : (result : Option (ArrayVec Placement)) (entry : Option Known) (known : Known) (F : Field) (hand : Hand) → entry ≡ Some known
     → IfSome result (λ _. filled known.well ≡ F) → IfSome result (λ _. known.hand ≡ hand) → IfSome result (λ run. run.items ≡ take known.count known.placements)
-    → IfSome result (λ run. Keeps entry F hand run.items)
+    → IfSome result (λ run. KeepsRun entry F hand run.items)
 keeps_run None entry known F hand is field at_hand items = tt
 keeps_run (Some run) entry known F hand is field at_hand items = record { known = known; there = is; field = field; at_hand = at_hand; items = items }
 

@@ -8,7 +8,7 @@ use Rattle.hold_queue.specs.declared.hold.Hold.TheVariants.{Allowed, Avoided}
 use Rattle.hold_queue.specs.Permits.{Permits, Way, plain, exchange, first_hold, last}
 use Rattle.hold_queue.proofs.CallerLemmas.{permits-of_takes, takes-of_permits}
 use Rattle.combo.specs.declared.hand.Turn.{Turn}
-use Rattle.combo.specs.Turns.{Next, plain_next, hold_next, hand_count, held_count, turn_count}
+use Rattle.combo.specs.Turns.{Next, plain_next, hold_next, hand_count, held_piece_count, turn_count}
 
 abbrev pub made : Piece → List Piece → Option Piece → Next
 made piece queue held = record { piece = piece; queue = queue; held = held }
@@ -33,21 +33,21 @@ hold_way Allowed (first ∷ []) None next is = cc
 hold_way Allowed (first ∷ piece ∷ queue) None next is = subst (λ n. Way Allowed (first ∷ piece ∷ queue) None n.piece n.queue n.held) (same_Some _ next is) first_hold
 
 -- what is left after a turn is one piece less
-pub one_more : (queue : List Piece) (turn : Option Turn) (t : Turn) (count : ℕ) → turn ≡ Some t → turn_count queue turn ≤ 23 → count ≤ length (drop t.hand.taken queue) + held_count t.hand.held → count + 1 ≤ 23
+pub one_more : (queue : List Piece) (turn : Option Turn) (t : Turn) (count : ℕ) → turn ≡ Some t → turn_count queue turn ≤ 23 → count ≤ length (drop t.hand.taken queue) + held_piece_count t.hand.held → count + 1 ≤ 23
 one_more queue turn t count is few short =
     let few_left : hand_count queue t.hand + 1 ≤ 23 = subst (λ s. turn_count queue s ≤ 23) is few in
     omega (arith, short, few_left, length-drop t.hand.taken queue)
 
 -- each way takes one piece
 way_count : (hold : Hold) (queue : List Piece) (held : Option Piece) (piece : Piece) (rest : List Piece) (after : Option Piece) → Way hold queue held piece rest after
-    → suc (length rest + held_count after) ≤ length queue + held_count held
+    → suc (length rest + held_piece_count after) ≤ length queue + held_piece_count held
 way_count hold queue held piece rest after plain = omega arith
 way_count hold queue held piece rest after exchange = omega arith
 way_count hold queue held piece rest after first_hold = omega arith
 way_count hold queue held piece rest after last = omega arith
 
 -- no more pieces are played than are at hand
-pub permitted_short : (hold : Hold) (queue : List Piece) (held : Option Piece) (pieces : List Piece) → Permits hold queue held pieces → length pieces ≤ length queue + held_count held
+pub permitted_short : (hold : Hold) (queue : List Piece) (held : Option Piece) (pieces : List Piece) → Permits hold queue held pieces → length pieces ≤ length queue + held_piece_count held
 permitted_short hold queue held [] permitted = omega arith
 permitted_short hold queue held (piece ∷ pieces) permitted =
     omega (arith, way_count hold queue held piece permitted.0 permitted.1 permitted.2, permitted_short hold permitted.0 permitted.1 pieces permitted.3)

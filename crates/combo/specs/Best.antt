@@ -23,18 +23,19 @@ pub record IsBest (IsMember : List Placement → Type 0) (run : List Placement) 
   pub member : IsMember run
   pub first : (other : List Placement) → IsMember other → is_gt (run_cmp run other) ≡ false
 
--- no placement; or a first one of the next piece, not above a bound, and a run from what is left after it
+-- no placement; or first one of the next piece that removes a row, and then a permitted run from what it leaves
 abbrev pub GoesOn : Table → DropMode → Hold → Field → Next → List Placement → Type 0
 GoesOn table mode hold F next [] = Unit {0}
 GoesOn table mode hold F next (placement ∷ rest) =
     (placement.piece ≡ next.piece) × IsPlace table F mode placement × (1 ≤ rows_removed F placement)
     × IsPermittedRun table mode (locked F placement) hold next.queue next.held rest
 
--- the same with a first placement that is not above a bound
+-- no placement, or a first one that is not above a bound
 abbrev pub IsUpTo : Option Placement → List Placement → Type 0
 IsUpTo bound [] = Unit {0}
 IsUpTo bound (placement ∷ rest) = is_above placement_cmp bound placement ≡ false
 
+-- a run that goes on so, with a first placement that is not above a bound
 abbrev pub GoesOnUpTo : Table → DropMode → Hold → Field → Next → Option Placement → List Placement → Type 0
 GoesOnUpTo table mode hold F next bound run = GoesOn table mode hold F next run × IsUpTo bound run
 

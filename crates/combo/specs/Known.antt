@@ -13,7 +13,7 @@ use Rattle.combo.specs.Longest.{IsPermittedRun}
 use Rattle.combo.specs.Best.{IsBest}
 
 -- this run is kept for a field and the pieces at hand
-pub record Keeps (entry : Option Known) (F : Field) (hand : Hand) (run : List Placement) : Type 0 where
+pub record KeepsRun (entry : Option Known) (F : Field) (hand : Hand) (run : List Placement) : Type 0 where
   pub known : Known
   pub there : entry ≡ Some known
   pub field : filled known.well ≡ F

@@ -35,12 +35,12 @@ abbrev pub next_of : List Piece → Turn → Next
 next_of queue turn = record { piece = turn.piece; queue = drop turn.hand.taken queue; held = turn.hand.held }
 
 -- how many pieces are at hand
-abbrev pub held_count : Option Piece → ℕ
-held_count None = 0
-held_count (Some piece) = 1
+abbrev pub held_piece_count : Option Piece → ℕ
+held_piece_count None = 0
+held_piece_count (Some piece) = 1
 
 abbrev pub hand_count : List Piece → Hand → ℕ
-hand_count queue hand = (length queue - hand.taken) + held_count hand.held
+hand_count queue hand = (length queue - hand.taken) + held_piece_count hand.held
 
 -- how many pieces a turn plays and leaves at hand
 abbrev pub turn_count : List Piece → Option Turn → ℕ

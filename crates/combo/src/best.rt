@@ -8,7 +8,7 @@ ghost use Rattle.well.specs.Well.{filled};
 ghost use Rattle.combo.specs.Best.{IsBest, GoesOnIf, GoesOnEither, AreNoLonger};
 ghost use Rattle.combo.specs.Known.{AreKnown};
 ghost use Rattle.combo.specs.Longest.{IsLongest, IsPermittedRun};
-ghost use Rattle.combo.specs.Turns.{next_of, hand_count, held_count, turn_count};
+ghost use Rattle.combo.specs.Turns.{next_of, hand_count, held_piece_count, turn_count};
 
 use crate::bound::most;
 use crate::hand::{Hand, Turn, hold_turn, plain_turn};
@@ -108,8 +108,8 @@ fn best_of_two<L: Ledger>(
     requires second { turn_count queue.now second ≤ 23 }
     requires some { 0 < length store.old }
     requires known { AreKnown (table_of play.now.rules) play.now.drop_mode play.now.hold queue.now store.old }
-    requires most { AreNoLonger (GoesOnEither (table_of play.now.rules) play.now.drop_mode play.now.hold (filled well.now)
-        (option_map (next_of queue.now) first) (option_map (next_of queue.now) second)) most }
+    requires most { AreNoLonger (GoesOnEither (table_of play.now.rules) play.now.drop_mode play.now.hold
+        (filled well.now) (option_map (next_of queue.now) first) (option_map (next_of queue.now) second)) most }
     requires some_pieces { 0 < most }
     ensures best { IsBest (GoesOnEither (table_of play.now.rules) play.now.drop_mode play.now.hold (filled well.now)
         (option_map (next_of queue.now) first) (option_map (next_of queue.now) second)) result.items }
@@ -189,7 +189,8 @@ pub fn longest<L: Ledger>(
     held: Option<Piece>,
     steps: &mut Steps<L>,
 ) -> Run
-    ensures longest { IsLongest (table_of rules.now) drop_mode (filled well.now) hold queue.now.items held result.items }
+    ensures longest { IsLongest (table_of rules.now) drop_mode (filled well.now) hold queue.now.items held
+        result.items }
     ensures counted { steps.old ≤ steps.new }
 {
     let play = Play {

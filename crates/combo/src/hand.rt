@@ -4,7 +4,7 @@ ghost use Rattle.std.specs.Option.{option_map};
 ghost use Rattle.srs.specs.declared.piece.Piece.{Piece};
 ghost use Rattle.hold_queue.specs.declared.hold.Hold.{Hold};
 ghost use Rattle.hold_queue.specs.Permits.{Permits};
-ghost use Rattle.combo.specs.Turns.{plain_next, second_next, hold_next, next_of, hand_count, held_count, turn_count, ComesBefore};
+ghost use Rattle.combo.specs.Turns.{plain_next, second_next, hold_next, next_of, hand_count, held_piece_count, turn_count, ComesBefore};
 
 use hold_queue::Hold;
 use srs::Piece;
@@ -30,7 +30,7 @@ impl Hand {
     pub fn start(queue: &[Piece], hold: Hold, held: Option<Piece>) -> Hand
         ensures same { (pieces : List Piece) → Permits hold (drop result.taken queue.now) result.held pieces
             ↔ Permits hold queue.now held pieces }
-        ensures count { hand_count queue.now result ≤ length queue.now + held_count held }
+        ensures count { hand_count queue.now result ≤ length queue.now + held_piece_count held }
     {
         let at_start = Hand { taken: 0, held };
         match hold {
@@ -82,11 +82,11 @@ pub fn count(queue: &[Piece], hand: Hand) -> usize
     requires { hand_count queue.now hand ≤ 23 }
     ensures { result ≡ hand_count queue.now hand }
 {
-    queue.len().saturating_sub(hand.taken) + held_count(hand.held)
+    queue.len().saturating_sub(hand.taken) + held_piece_count(hand.held)
 }
 
-fn held_count(held: Option<Piece>) -> usize
-    ensures { result ≡ held_count held }
+fn held_piece_count(held: Option<Piece>) -> usize
+    ensures { result ≡ held_piece_count held }
 {
     match held {
         Some(_) => 1,

@@ -18,6 +18,12 @@ pub fn longest_runs_are_determined()
         → IsLongest table mode F hold queue held other → one ≡ other }
 {}
 
+/// And there is one.
+pub fn longest_runs_exist()
+    ensures { (table : Table) (mode : DropMode) (F : Field) (hold : Hold) (queue : List Piece) (held : Option Piece)
+        → (run : List Placement) × IsLongest table mode F hold queue held run }
+{}
+
 /// Each placement of a run takes six cells of the field: it adds four, and a removed row has ten.
 #[tactic(auto, using(crate::proofs::BoundLemmas::runs_take_cells))]
 pub fn runs_take_six_cells_each()

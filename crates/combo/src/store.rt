@@ -1,7 +1,7 @@
 // A store of fixed room for runs: each has one place, and a later one takes it from an earlier one.
 ghost use Rattle.std.specs.Prelude.{◌<◌, IfSome};
 ghost use Rattle.well.specs.Well.{filled};
-ghost use Rattle.combo.specs.Known.{Keeps};
+ghost use Rattle.combo.specs.Known.{KeepsRun};
 
 use crate::hand::Hand;
 use crate::known::Known;
@@ -13,7 +13,7 @@ pub const PLACES: usize = 4096;
 
 /// The run that is kept in a place, where it is of this field and of these pieces at hand.
 pub fn kept(entry: &Option<Known>, well: &Well, hand: Hand) -> Option<Run>
-    ensures { IfSome result (λ run. Keeps entry.now (filled well.now) hand run.items) }
+    ensures { IfSome result (λ run. KeepsRun entry.now (filled well.now) hand run.items) }
 {
     match entry {
         None => None,

@@ -1,2 +1,3 @@
 -- Lemmas that the crates above cite.
 pub use Rattle.cover.proofs.LawLemmas.{covered-solved, solved-permits}
+pub use Rattle.cover.proofs.CoveredExists.{covered-list}

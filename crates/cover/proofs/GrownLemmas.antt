@@ -1,13 +1,13 @@
 -- A tree with one node more below another one.
 use Rattle.std.proofs.Common.{◌≡◌, ℕ, zero, suc, ◌+◌, ◌-◌, ◌<◌, ◌≤◌, Bool, true, false, ◌&&◌, ◌||◌, ◌==◌, nat_lt, get_or, List, [], ◌∷◌, ◌++◌, length, Some, slice_get, set, refl, sym, ap, subst, ◌∙◌, inl, inr, arith, length-append}
-use Rattle.std.proofs.lemmas.Bool.{cases_eq, cases_lt, eq-eqb, ne_eqb}
+use Rattle.std.proofs.lemmas.Bool.{cases_eq, cases_lt, eq-eqb, ne_eqb, and_right, or_right}
 use Rattle.std.proofs.lemmas.List.{length-set}
 use Rattle.std.proofs.lemmas.Option.{slice_get_read}
 use Rattle.srs.specs.declared.piece.Piece.{Piece}
 use Rattle.srs.specs.Piece.{piece_code}
 use Rattle.srs.proofs.CallerLemmas.{piece_code-injective}
 use Rattle.cover.specs.declared.node.Node.{Node}
-use Rattle.cover.specs.Nodes.{child, child_of, ends_of, has_end, node_child, spells, Ends, Grows, IsBlank, IsTree, IsWith}
+use Rattle.cover.specs.Nodes.{child, child_of, ends_of, has_end, node_child, spells, Ends, HasGrown, IsBlank, IsTree, IsWith}
 use Rattle.cover.proofs.ReadLemmas.{get-written, get-others, get-before, get-pushed, get-past}
 
 pub child-at : (nodes : List Node) (at : ℕ) (node : Node) (kind : Piece) → slice_get nodes at ≡ Some node → child nodes at kind ≡ node_child node kind
@@ -203,17 +203,13 @@ module _ (old new : List Node) (at : ℕ) (kind : Piece) (tree : IsTree old) (wi
       grown.others (length old) k (λ same _. omega (arith, same, within)) ∙ child-past old (length old) k (omega arith) in
       ap (λ c. nat_lt 0 c && spells new c ks) none_below
 
-  both_false : (a b : Bool) → b ≡ false → (a && b) ≡ false
-  both_false true b e = e
-  both_false false b e = refl
-
   same-spells : (other : ℕ) (kinds : List Piece) → other < length old → spells new other kinds ≡ spells old other kinds
   unfolding spells
   same-spells other [] inside = grown.ends other
   same-spells other (k ∷ ks) inside = elim (child_is other k) [
     | fresh here is value ↦
         let before : child old other k ≡ 0 = ap (λ n. child old n k) here ∙ ap (λ p. child old at p) is ∙ none in
-        ap (λ c. nat_lt 0 c && spells new c ks) value ∙ both_false (nat_lt 0 (length old)) _ (fresh-spells ks)
+        ap (λ c. nat_lt 0 c && spells new c ks) value ∙ and_right (nat_lt 0 (length old)) _ (fresh-spells ks)
         ∙ sym (ap (λ c. nat_lt 0 c && spells old c ks) before)
     | known value ↦
         ap (λ c. nat_lt 0 c && spells new c ks) value
@@ -228,15 +224,15 @@ module _ (old new : List Node) (at : ℕ) (kind : Piece) (tree : IsTree old) (wi
     | known value ↦ value
   ]
 
-  pub grown-grows : Grows old new
+  pub grown-grows : HasGrown old new
   grown-grows = record {
     longer = omega (arith, grown.long);
     kept = same-children;
     spelled = same-spells;
   }
 
-pub grows-same : (old new : List Node) → new ≡ old → Grows old new
-grows-same old new same = subst (Grows old) (sym same) (record { longer = omega arith; kept = λ at kind some. refl; spelled = λ at kinds within. refl })
+pub grows-same : (old new : List Node) → new ≡ old → HasGrown old new
+grows-same old new same = subst (HasGrown old) (sym same) (record { longer = omega arith; kept = λ at kind some. refl; spelled = λ at kinds within. refl })
 
 -- a list ends at a node
 pub ended : (nodes : List Node) (at : ℕ) (first last : Node) → at < length nodes → slice_get nodes at ≡ Some first → last.below ≡ first.below → last.ends ≡ true → Ends nodes (set nodes at last) at
@@ -251,7 +247,7 @@ ended nodes at first last within there below ends = record {
   ends = λ other. elim (cases_eq other at) [
     | inl same ↦
         subst (λ n. has_end (set nodes at last) n ≡ (has_end nodes n || n == at)) (sym same)
-        (end-at (set nodes at last) at last (get-written nodes at last within) ∙ ends ∙ sym (or_true (has_end nodes at) (at == at) (eq-eqb at at refl)))
+        (end-at (set nodes at last) at last (get-written nodes at last within) ∙ ends ∙ sym (or_right (has_end nodes at) (at == at) (eq-eqb at at refl)))
     | inr apart ↦
         same-end nodes (set nodes at last) other (get-others nodes at other last apart)
         ∙ sym (or_false (has_end nodes other) (other == at) (ne_eqb other at apart))
@@ -259,10 +255,6 @@ ended nodes at first last within there below ends = record {
   long = length-set nodes at last;
 }
   where
-    or_true : (a b : Bool) → b ≡ true → (a || b) ≡ true
-    or_true true b e = refl
-    or_true false b e = e
-
     or_false : (a b : Bool) → b ≡ false → (a || b) ≡ a
     or_false true b e = refl
     or_false false b e = e

@@ -4,7 +4,7 @@ use Rattle.srs.specs.declared.piece.Piece.{Piece}
 use Rattle.cover.specs.declared.node.Node.{Node}
 use Rattle.cover.specs.Covered.{Keeps}
 use Rattle.cover.specs.Lists.{has_kinds}
-use Rattle.cover.specs.Nodes.{spells, Ends, Grows, IsTree, LeadsTo}
+use Rattle.cover.specs.Nodes.{spells, Ends, HasGrown, IsTree, LeadsTo}
 use Rattle.cover.proofs.KindLemmas.{both_pass, has-item, has-old, has-only}
 use Rattle.cover.proofs.WayLemmas.{spells-new, spells-only, spells-still}
 
@@ -12,7 +12,7 @@ use Rattle.cover.proofs.WayLemmas.{spells-new, spells-only, spells-still}
 pub record IsTreeOf (nodes : List Node) (lists : List (List Piece)) : Type 0 where
   pub each : (kinds : List Piece) → spells nodes 0 kinds ≡ has_kinds lists kinds
 
-pub grown-of : (old new : List Node) (lists : List (List Piece)) → IsTree old → Grows old new → IsTreeOf old lists → IsTreeOf new lists
+pub grown-of : (old new : List Node) (lists : List (List Piece)) → IsTree old → HasGrown old new → IsTreeOf old lists → IsTreeOf new lists
 grown-of old new lists tree grows of = record { each = λ kinds. grows.spelled 0 kinds tree.rooted ∙ of.each kinds }
 
 pub kept-of : (old new : List Node) (lists kept : List (List Piece)) (kinds : List Piece) (node : ℕ) → IsTree old → LeadsTo old (reverse kinds) node → Ends old new node → Keeps lists kept kinds

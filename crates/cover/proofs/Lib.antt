@@ -14,3 +14,5 @@ mod PlayLemmas
 mod NextLemmas
 mod LawLemmas
 pub mod CallerLemmas
+mod CoveredExists
+mod Worked

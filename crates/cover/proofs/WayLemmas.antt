@@ -1,27 +1,27 @@
 -- Lists that lead to nodes, and a list that ends at one node more.
 use Rattle.std.proofs.Common.{◌≡◌, ◌⊎◌, ℕ, ◌<◌, Bool, true, false, ◌&&◌, ◌||◌, ◌==◌, nat_lt, List, [], ◌∷◌, ◌++◌, length, reverse, refl, sym, ap, subst, ◌∙◌, inl, inr, arith, append_assoc, append-nil}
-use Rattle.std.proofs.lemmas.Bool.{ltb-true, lt-ltb, eqb-true, and_parts, and_from, eq-eqb}
+use Rattle.std.proofs.lemmas.Bool.{ltb-true, lt-ltb, eqb-true, and_parts, and_from, eq-eqb, or_cases, or_left, or_right}
 use Rattle.std.proofs.lemmas.List.{reverse-append, reverse-reverse}
 use Rattle.srs.specs.declared.piece.Piece.{Piece}
 use Rattle.srs.proofs.CallerLemmas.{piece_code-injective}
 use Rattle.cover.specs.declared.node.Node.{Node}
-use Rattle.cover.specs.Nodes.{child, has_end, spells, Ends, Grows, IsTree, LeadsTo}
+use Rattle.cover.specs.Nodes.{child, has_end, spells, Ends, HasGrown, IsTree, LeadsTo}
 
 -- what leads to a node still does after the tree has grown
-pub leads-grown : (old new : List Node) (kinds : List Piece) (node : ℕ) → Grows old new → LeadsTo old kinds node → LeadsTo new kinds node
+pub leads-grown : (old new : List Node) (kinds : List Piece) (node : ℕ) → HasGrown old new → LeadsTo old kinds node → LeadsTo new kinds node
 leads-grown old new [] node grows leads = leads
 leads-grown old new (kind ∷ kinds) node grows leads =
     let some : 0 < child old leads.0 kind = omega (arith, leads.2, leads.3) in
     (leads.0, leads-grown old new kinds leads.0 grows leads.1, grows.kept leads.0 kind some ∙ leads.2, leads.3)
 
-pub grows-twice : (first second third : List Node) → Grows first second → Grows second third → Grows first third
+pub grows-twice : (first second third : List Node) → HasGrown first second → HasGrown second third → HasGrown first third
 grows-twice first second third one two = record {
   longer = omega (arith, one.longer, two.longer);
   kept = λ at kind some. two.kept at kind (omega (arith, some, one.kept at kind some)) ∙ one.kept at kind some;
   spelled = λ at kinds within. two.spelled at kinds (omega (arith, within, one.longer)) ∙ one.spelled at kinds within;
 }
 
-pub grows-none : (nodes : List Node) → Grows nodes nodes
+pub grows-none : (nodes : List Node) → HasGrown nodes nodes
 grows-none nodes = record { longer = omega arith; kept = λ at kind some. refl; spelled = λ at kinds within. refl }
 
 pub leads-within : (nodes : List Node) (kinds : List Piece) (node : ℕ) → IsTree nodes → LeadsTo nodes kinds node → node < length nodes
@@ -66,22 +66,10 @@ ends-tree old new node tree ends = record {
 }
 
 module _ (old new : List Node) (kinds : List Piece) (node : ℕ) (tree : IsTree old) (leads : LeadsTo old (reverse kinds) node) (ends : Ends old new node) where
-  or_first : (a b : Bool) → a ≡ true → (a || b) ≡ true
-  or_first true b e = refl
-  or_first false b e = cc
-
-  or_second : (a b : Bool) → b ≡ true → (a || b) ≡ true
-  or_second true b e = refl
-  or_second false b e = e
-
-  or_parts : (a b : Bool) → (a || b) ≡ true → (a ≡ true) ⊎ (b ≡ true)
-  or_parts true b e = inl refl
-  or_parts false b e = inr e
-
   -- what was spelled is
   pub spells-still : (at : ℕ) (ks : List Piece) → spells old at ks ≡ true → spells new at ks ≡ true
   unfolding spells
-  spells-still at [] spelled = ends.ends at ∙ or_first (has_end old at) (at == node) spelled
+  spells-still at [] spelled = ends.ends at ∙ or_left (has_end old at) (at == node) spelled
   spells-still at (k ∷ ks) spelled =
       let parts = and_parts (nat_lt 0 (child old at k)) _ spelled in
       ap (λ c. nat_lt 0 c && spells new c ks) (ends.same at k) ∙ and_from _ _ parts.0 (spells-still (child old at k) ks parts.1)
@@ -98,12 +86,12 @@ module _ (old new : List Node) (kinds : List Piece) (node : ℕ) (tree : IsTree 
   unfolding spells
   spells-new =
       subst (λ ks. spells new 0 ks ≡ true) (onto-none kinds)
-      (spells-onto (reverse kinds) node [] leads (ends.ends node ∙ or_second (has_end old node) (node == node) (eq-eqb node node refl)))
+      (spells-onto (reverse kinds) node [] leads (ends.ends node ∙ or_right (has_end old node) (node == node) (eq-eqb node node refl)))
 
   -- and nothing else
   spells-more : (way : List Piece) (at : ℕ) (ks : List Piece) → LeadsTo old way at → spells new at ks ≡ true → (spells old at ks ≡ true) ⊎ (onto way ks ≡ kinds)
   unfolding spells onto
-  spells-more way at [] way_to spelled = elim (or_parts (has_end old at) (at == node) (sym (ends.ends at) ∙ spelled)) [
+  spells-more way at [] way_to spelled = elim (or_cases (has_end old at) (at == node) (sym (ends.ends at) ∙ spelled)) [
     | inl before ↦ inl before
     | inr here ↦
         let same : at ≡ node = eqb-true at node here in

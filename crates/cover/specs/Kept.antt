@@ -3,10 +3,10 @@ use Rattle.std.specs.Prelude.{List, map}
 use Rattle.srs.specs.declared.piece.Piece.{Piece}
 use Rattle.enumerate.specs.declared.problem.Problem.{Problem}
 use Rattle.cover.specs.declared.set.CoverSet.{CoverSet}
-use Rattle.cover.specs.Lists.{items_of}
+use Rattle.cover.specs.Lists.{listed_kinds}
 
-unfoldable pub problem_of : CoverSet → Problem
-problem_of set = set.problem
+unfoldable pub kept_problem : CoverSet → Problem
+kept_problem set = set.problem
 
 unfoldable pub lists_of : CoverSet → List (List Piece)
-lists_of set = map items_of set.lists.keys
+lists_of set = map listed_kinds set.lists.keys

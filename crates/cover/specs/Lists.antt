@@ -5,8 +5,8 @@ use Rattle.arrayvec.specs.ArrayVec.{ArrayVec}
 use Rattle.srs.specs.declared.piece.Piece.{Piece}
 use Rattle.srs.specs.Piece.{piece_code}
 
-abbrev pub items_of : ArrayVec Piece → List Piece
-items_of kinds = kinds.items
+abbrev pub listed_kinds : ArrayVec Piece → List Piece
+listed_kinds kinds = kinds.items
 
 -- whether two lists are the same, piece by piece
 unfoldable pub same_kinds : List Piece → List Piece → Bool

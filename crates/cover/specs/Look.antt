@@ -23,14 +23,15 @@ pub record IsFirstOf (queue : List Piece) (hand : Hand) (piece : Piece) (rest : 
   pub later : hand.place ≤ rest.place
   pub within : rest.place ≤ length queue
   pub none_kept : rest.kept ≡ None
-  pub each : (other : List Piece) → HasSameFront rest.place queue other → pieces_at other hand ≡ piece ∷ pieces_at other rest
+  pub each : (other : List Piece) → HasSameFront rest.place queue other
+      → pieces_at other hand ≡ piece ∷ pieces_at other rest
 
 pub record HasNoneAtHand (queue : List Piece) (hand : Hand) : Type 0 where
   pub each : (other : List Piece) → HasSameFront (hand.place + 1) queue other → pieces_at other hand ≡ []
 
-abbrev pub IsFirst : List Piece → Hand → Option (Piece × Hand) → Type 0
-IsFirst queue hand None = HasNoneAtHand queue hand
-IsFirst queue hand (Some first) = IsFirstOf queue hand first.0 first.1
+abbrev pub IsFirstAtHand : List Piece → Hand → Option (Piece × Hand) → Type 0
+IsFirstAtHand queue hand None = HasNoneAtHand queue hand
+IsFirstAtHand queue hand (Some first) = IsFirstOf queue hand first.0 first.1
 
 -- a list that ends below a node can be taken from these pieces
 pub record TakesOne (nodes : List Node) (hold : Hold) (at : ℕ) (pieces : List Piece) : Type 0 where
@@ -39,7 +40,8 @@ pub record TakesOne (nodes : List Node) (hold : Hold) (at : ℕ) (pieces : List 
   pub taken : Takes hold pieces kinds
 
 -- for no queue with the same front can one be taken
-pub record Misses (nodes : List Node) (hold : Hold) (at : ℕ) (queue : List Piece) (hand : Hand) (seen : ℕ) : Type 0 where
+pub record Misses (nodes : List Node) (hold : Hold) (at : ℕ) (queue : List Piece) (hand : Hand)
+    (seen : ℕ) : Type 0 where
   pub later : hand.place ≤ seen
   pub few : seen ≤ length queue + 1
   pub none : (other : List Piece) → HasSameFront seen queue other → TakesOne nodes hold at (pieces_at other hand) → ⊥

@@ -55,7 +55,7 @@ pub record IsWith (old : Node) (kind : Piece) (number : ℕ) (new : Node) : Type
   pub same_end : new.ends ≡ old.ends
 
 -- nodes at which no list ends may have come
-pub record Grows (old new : List Node) : Type 0 where
+pub record HasGrown (old new : List Node) : Type 0 where
   pub longer : length old ≤ length new
   pub kept : (at : ℕ) (kind : Piece) → 0 < child old at kind → child new at kind ≡ child old at kind
   pub spelled : (at : ℕ) (kinds : List Piece) → at < length old → spells new at kinds ≡ spells old at kinds

@@ -13,7 +13,7 @@ impl Hand {
     ghost use Rattle.std.specs.Prelude.{◌≡◌, ◌≤◌, List, length};
     ghost use Rattle.srs.specs.declared.piece.Piece.{Piece};
     ghost use Rattle.hold_queue.specs.AtHand.{at_hand};
-    ghost use Rattle.cover.specs.Look.{IsFirst, pieces_at};
+    ghost use Rattle.cover.specs.Look.{IsFirstAtHand, pieces_at};
 
     /// The pieces at hand at the start: a held piece, where it may be played, and the whole queue.
     pub fn start(hold: Hold, held: Option<Piece>) -> Hand
@@ -30,7 +30,7 @@ impl Hand {
     /// The first piece at hand, and the others. `None` exactly where there is none.
     pub fn first(self, queue: &[Piece]) -> Option<(Piece, Hand)>
         requires { self.place ≤ length queue.now }
-        ensures { IsFirst queue.now self result }
+        ensures { IsFirstAtHand queue.now self result }
     {
         let place = self.place;
         if let Some(piece) = self.kept {

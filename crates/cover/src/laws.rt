@@ -5,9 +5,10 @@ ghost use Rattle.srs.specs.declared.placement.Placement.{Placement};
 ghost use Rattle.queue_pattern.specs.Pattern.{elements_of};
 ghost use Rattle.queue_pattern.specs.Queues.{queues};
 ghost use Rattle.enumerate.specs.declared.problem.Problem.{Problem};
+ghost use Rattle.enumerate.specs.Problem.{IsFit};
 ghost use Rattle.enumerate.specs.Search.{IsList};
 ghost use Rattle.enumerate.specs.Solution.{IsSolution};
-ghost use Rattle.cover.specs.Covered.{IsCovered};
+ghost use Rattle.cover.specs.Covered.{IsCovered, IsCoveredList};
 
 /// Where the sequences are all solutions of a problem, a queue is covered exactly where some sequence is a solution for
 /// it alone.
@@ -17,4 +18,10 @@ pub fn all_solutions_cover_each_queue_that_has_one()
         slice_get (queues (elements_of problem.pattern)) number ≡ Some queue →
         IsCovered problem sequences number
         ↔ ((sequence : List Placement) × IsSolution problem (Some queue) sequence) }
+{}
+
+/// For a fit problem there is the rising list of the covered queues, whatever the sequences.
+pub fn covered_lists_exist()
+    ensures { (problem : Problem) (sequences : List (List Placement)) → IsFit problem
+        → (numbers : List ℕ) × IsCoveredList problem sequences numbers }
 {}

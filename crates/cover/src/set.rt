@@ -3,7 +3,7 @@ ghost use Rattle.std.specs.Prelude.{◌≡◌, List, OnErr, OnOk, map};
 ghost use Rattle.srs.specs.declared.piece.Piece.{Piece};
 ghost use Rattle.enumerate.specs.Problem.{IsFit};
 ghost use Rattle.cover.specs.Covered.{Keeps};
-ghost use Rattle.cover.specs.Lists.{has_kinds, items_of};
+ghost use Rattle.cover.specs.Lists.{has_kinds, listed_kinds};
 ghost use Rattle.cover.specs.Nodes.{spells};
 ghost use Rattle.cover.specs.Tree.{nodes_of};
 
@@ -28,15 +28,18 @@ pub struct CoverSet {
     lists: IndexSet<Kinds>,
     tree: Tree,
     ghost fit: { IsFit problem },
-    ghost listed: { (kinds : List Piece) → spells (nodes_of tree) 0 kinds ≡ has_kinds (map items_of lists.keys) kinds },
+    ghost listed: { (kinds : List Piece) →
+        spells (nodes_of tree) 0 kinds ≡ has_kinds (map listed_kinds lists.keys) kinds },
 }
 
 /// Keeps a list in a tree and in a set. Want of memory is the only refusal.
 fn keep(tree: &mut Tree, lists: &mut IndexSet<Kinds>, kinds: Kinds) -> Result<(), NoMemory>
-    requires { (other : List Piece) → spells (nodes_of tree.old) 0 other ≡ has_kinds (map items_of lists.old.keys) other }
-    ensures listed { (other : List Piece) → spells (nodes_of tree.new) 0 other ≡ has_kinds (map items_of lists.new.keys) other }
-    ensures kept { OnOk result (Keeps (map items_of lists.old.keys) (map items_of lists.new.keys) kinds.items) }
-    ensures err { OnErr result (map items_of lists.new.keys ≡ map items_of lists.old.keys) }
+    requires { (other : List Piece) →
+        spells (nodes_of tree.old) 0 other ≡ has_kinds (map listed_kinds lists.old.keys) other }
+    ensures listed { (other : List Piece) →
+        spells (nodes_of tree.new) 0 other ≡ has_kinds (map listed_kinds lists.new.keys) other }
+    ensures kept { OnOk result (Keeps (map listed_kinds lists.old.keys) (map listed_kinds lists.new.keys) kinds.items) }
+    ensures err { OnErr result (map listed_kinds lists.new.keys ≡ map listed_kinds lists.old.keys) }
 {
     let node = tree.way(kinds.as_slice())?;
     lists.insert(kinds)?;
@@ -45,17 +48,17 @@ fn keep(tree: &mut Tree, lists: &mut IndexSet<Kinds>, kinds: Kinds) -> Result<()
 }
 
 impl CoverSet {
-    ghost use Rattle.std.specs.Prelude.{ℕ, ◌+◌, ◌≤◌, ◌↔◌, [], IfOk, OnErr, IsTrue, length, if◌then◌else◌};
+    ghost use Rattle.std.specs.Prelude.{ℕ, ◌+◌, ◌≤◌, ◌↔◌, [], IfOk, IsOk, OnErr, IsTrue, length, if◌then◌else◌};
     ghost use Rattle.queue_pattern.specs.Pattern.{elements_of};
     ghost use Rattle.queue_pattern.specs.Queues.{queues};
     ghost use Rattle.enumerate.specs.Solution.{pieces_of};
     ghost use Rattle.cover.specs.Covered.{Adds, IsNextFrom, IsPermitted, PlaysIn};
-    ghost use Rattle.cover.specs.Kept.{lists_of, problem_of};
+    ghost use Rattle.cover.specs.Kept.{lists_of, kept_problem};
 
     /// A set that keeps nothing yet, for a fit problem. Want of memory is the only refusal.
     pub fn start(alloc: Global, problem: Problem) -> Result<CoverSet, NoMemory>
         requires { IsFit problem }
-        ensures problem { IfOk result (λ set. problem_of set ≡ problem) }
+        ensures problem { IfOk result (λ set. kept_problem set ≡ problem) }
         ensures none { IfOk result (λ set. lists_of set ≡ []) }
     {
         let tree = Tree::new(alloc)?;
@@ -67,17 +70,19 @@ impl CoverSet {
     }
 
     /// Keeps the kinds of a sequence where it clears the field of the problem, and says whether it does. Adds at most
-    /// one step for each placement. Want of memory is the only refusal, and then all is as before.
+    /// one step for each placement. Want of memory is the only refusal, and then all is as before; a sequence that leaves
+    /// cells takes none.
     pub fn add<L: Ledger>(
         &mut self,
         sequence: &Sequence,
         steps: &mut Steps<L>,
     ) -> Result<bool, NoMemory>
-        ensures problem { problem_of self.new ≡ problem_of self.old }
-        ensures plays { IfOk result (λ plays. IsTrue plays ↔ PlaysIn (problem_of self.old) sequence.now.items) }
+        ensures problem { kept_problem self.new ≡ kept_problem self.old }
+        ensures plays { IfOk result (λ plays. IsTrue plays ↔ PlaysIn (kept_problem self.old) sequence.now.items) }
         ensures kept { IfOk result (λ plays.
             Adds plays (lists_of self.old) (lists_of self.new) (pieces_of sequence.now.items)) }
         ensures err { OnErr result (lists_of self.new ≡ lists_of self.old) }
+        ensures none { (PlaysIn (kept_problem self.old) sequence.now.items → ⊥) → IsOk result }
         ensures counted { steps.old ≤ steps.new }
         ensures few { steps.new ≤ steps.old + length sequence.now.items }
     {
@@ -91,8 +96,8 @@ impl CoverSet {
     /// The least number, at or above one, of a queue that permits a kept list of kinds. `None` exactly where there is
     /// none.
     pub fn next_covered(&self, from: u32) -> Option<u32>
-        requires { from ≤ length (queues (elements_of (problem_of self.now).pattern)) }
-        ensures { IsNextFrom (IsPermitted (problem_of self.now) (lists_of self.now)) from result }
+        requires { from ≤ length (queues (elements_of (kept_problem self.now).pattern)) }
+        ensures { IsNextFrom (IsPermitted (kept_problem self.now) (lists_of self.now)) from result }
     {
         let pattern = &self.problem.pattern;
         let hold = self.problem.hold;

@@ -17,7 +17,7 @@ pub struct Tree {
 impl Tree {
     ghost use Rattle.std.specs.Prelude.{IfOk, List, false, reverse};
     ghost use Rattle.srs.specs.declared.piece.Piece.{Piece};
-    ghost use Rattle.cover.specs.Nodes.{Ends, Grows, LeadsTo, child, has_end, spells};
+    ghost use Rattle.cover.specs.Nodes.{Ends, HasGrown, LeadsTo, child, has_end, spells};
     ghost use Rattle.cover.specs.Tree.{nodes_of};
 
     /// The tree of no list. Want of memory is the only refusal.
@@ -29,8 +29,8 @@ impl Tree {
         Ok(Tree { nodes })
     }
 
-    #[tactic(auto, unfolding(crate::specs::Tree::nodes_of))]
     /// Whether a list ends at a node.
+    #[tactic(auto, unfolding(crate::specs::Tree::nodes_of))]
     pub fn ends(&self, at: usize) -> bool
         requires { at < length (nodes_of self.now) }
         ensures { result ≡ has_end (nodes_of self.now) at }
@@ -38,8 +38,8 @@ impl Tree {
         self.nodes[at].ends
     }
 
-    #[tactic(auto, unfolding(crate::specs::Tree::nodes_of))]
     /// The node below another one for a kind, or 0 where there is none.
+    #[tactic(auto, unfolding(crate::specs::Tree::nodes_of))]
     pub fn below(&self, at: usize, kind: Piece) -> usize
         requires { at < length (nodes_of self.now) }
         ensures { result ≡ child (nodes_of self.now) at kind }
@@ -50,7 +50,7 @@ impl Tree {
     /// The node below another one for a kind, which is made where there is none. Want of memory is the only refusal.
     fn grown(&mut self, at: usize, kind: Piece) -> Result<usize, NoMemory>
         requires { at < length (nodes_of self.old) }
-        ensures grows { Grows (nodes_of self.old) (nodes_of self.new) }
+        ensures grows { HasGrown (nodes_of self.old) (nodes_of self.new) }
         ensures some { IfOk result (λ node. 0 < node) }
         ensures below { IfOk result (λ node. node ≡ child (nodes_of self.new) at kind) }
     {
@@ -67,7 +67,7 @@ impl Tree {
     /// The node of a list, with those on the way there; no more lists end in the tree. Want of memory is the only
     /// refusal.
     pub fn way(&mut self, kinds: &[Piece]) -> Result<usize, NoMemory>
-        ensures grows { Grows (nodes_of self.old) (nodes_of self.new) }
+        ensures grows { HasGrown (nodes_of self.old) (nodes_of self.new) }
         ensures leads { IfOk result (λ node. LeadsTo (nodes_of self.new) (reverse kinds.now) node) }
     {
         let mut node = 0;

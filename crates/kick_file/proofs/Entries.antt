@@ -14,7 +14,7 @@ use Rattle.srs.specs.Rotation.{rotation_letter, rotation_place, rotation_with_le
 use Rattle.kick_file.specs.declared.fault.KickFault.TheVariants.{RepeatedEntry}
 use Rattle.kick_file.specs.declared.turned.TurnedPiece.{TurnedPiece}
 use Rattle.kick_file.specs.declared.position.Position.TheVariants.{Division, Letter, Letters, Columns}
-use Rattle.kick_file.specs.Form.{Entry, SpellsEntry, offset_form, offsets_form, is_among, table_with_entry}
+use Rattle.kick_file.specs.Form.{Entry, SpellsEntry, offset_form, offsets_form, is_repeated, table_with_entry}
 use Rattle.kick_file.specs.Reading.{Reading, entered, step, read_on, read_after}
 use Rattle.kick_file.proofs.Steps.{at, Passes, one_byte, both}
 use Rattle.kick_file.proofs.Numbers.{offset_passes, whole}
@@ -83,7 +83,7 @@ letters_step given table place start turned =
 
 -- an entry that stood before is refused at its second letter
 pub repeated_entry : (given : List TurnedPiece) (table : Table) (place letter : ℕ) (turned : TurnedPiece) (rest : List ℕ) → piece_with_letter letter ≡ Some turned.piece
-    → is_among given turned ≡ true
+    → is_repeated given turned ≡ true
     → read_on (at given table Division) place (letter ∷ rotation_letter turned.rotation ∷ rest) ≡ Err (RepeatedEntry place)
 unfolding read_on
 repeated_entry given table place letter turned rest named stood =
@@ -94,7 +94,7 @@ repeated_entry given table place letter turned rest named stood =
 
 -- another one is begun
 begun : (given : List TurnedPiece) (table : Table) (place letter : ℕ) (turned : TurnedPiece) (rest : List ℕ) → piece_with_letter letter ≡ Some turned.piece
-    → is_among given turned ≡ false
+    → is_repeated given turned ≡ false
     → read_on (at given table Division) place (letter ∷ rotation_letter turned.rotation ∷ rest) ≡ read_on (at (given ++ turned ∷ []) table (Letters turned place)) (place + 1 + 1) rest
 unfolding read_on
 begun given table place letter turned rest named fresh =
@@ -167,7 +167,7 @@ pub record ReadsEntry (given : List TurnedPiece) (table : Table) (front : List �
       ≡ read_on (at (given ++ entry.turned ∷ []) (table_with_entry table entry) (whole entry.turned 5 last)) (place + length front) rest
 
 pub reads_entry : (given : List TurnedPiece) (table : Table) (front : List ℕ) (entry : Entry) → HasFive table → SpellsEntry front entry
-    → is_among given entry.turned ≡ false → ReadsEntry given table front entry
+    → is_repeated given entry.turned ≡ false → ReadsEntry given table front entry
 reads_entry given table front entry five spelled fresh =
     let cells = five_of entry.offsets spelled.five spelled.small in
     let turned = entry.turned in

@@ -13,7 +13,7 @@ use Rattle.srs.specs.declared.rotation.Rotation.TheVariants.{Spawn, Right, Rever
 use Rattle.srs.specs.Piece.{piece_code}
 use Rattle.srs.specs.Rotation.{rotation_place}
 use Rattle.kick_file.specs.declared.turned.TurnedPiece.{TurnedPiece}
-use Rattle.kick_file.specs.Form.{is_same, is_among, are_distinct}
+use Rattle.kick_file.specs.Form.{is_same, is_repeated, are_distinct}
 
 -- the number of a piece in a rotation, from 0 to 27
 number_of : TurnedPiece → ℕ
@@ -64,11 +64,11 @@ pub neither : (a b : Bool) → (a || b) ≡ false → (a ≡ false) × (b ≡ fa
 neither true b h = cc
 neither false b h = (refl, h)
 
-apart : (turned : TurnedPiece) (given : List TurnedPiece) → is_among given turned ≡ false
+apart : (turned : TurnedPiece) (given : List TurnedPiece) → is_repeated given turned ≡ false
     → AllByRecursion (λ n. eqb (number_of turned) n ≡ false) (map number_of given)
 apart turned [] none = tt
 apart turned (other ∷ given) none =
-    let parts = neither (is_same turned other) (is_among given turned) none in
+    let parts = neither (is_same turned other) (is_repeated given turned) none in
     (sym (is_same-number turned other) ∙ parts.0, apart turned given parts.1)
 
 pub not_true : (b : Bool) → not b ≡ true → b ≡ false
@@ -79,8 +79,8 @@ numbers_distinct : (given : List TurnedPiece) → are_distinct given ≡ true �
 unfolding IsDistinct
 numbers_distinct [] distinct = tt
 numbers_distinct (turned ∷ given) distinct =
-    let parts = and_parts (not (is_among given turned)) (are_distinct given) distinct in
-    (apart turned given (not_true (is_among given turned) parts.0), numbers_distinct given parts.1)
+    let parts = and_parts (not (is_repeated given turned)) (are_distinct given) distinct in
+    (apart turned given (not_true (is_repeated given turned) parts.0), numbers_distinct given parts.1)
 
 below : (given : List TurnedPiece) (n : ℕ) → list_any (eqb n) (map number_of given) ≡ true → n < 28
 below [] n has = cc
@@ -90,7 +90,7 @@ below (turned ∷ given) n has = elim (or_cases (eqb n (number_of turned)) (list
 ]
 
 -- there are 28 at most
-pub room : (given : List TurnedPiece) (turned : TurnedPiece) → are_distinct given ≡ true → is_among given turned ≡ false → length given < 28
+pub room : (given : List TurnedPiece) (turned : TurnedPiece) → are_distinct given ≡ true → is_repeated given turned ≡ false → length given < 28
 room given turned distinct none =
     let all : are_distinct (turned ∷ given) ≡ true = rw (none, distinct) refl in
     let most = length-le_from_distinct_below (map number_of (turned ∷ given)) 28 (numbers_distinct (turned ∷ given) all) (below (turned ∷ given)) in
@@ -98,15 +98,15 @@ room given turned distinct none =
     omega (arith, most, same)
 
 -- one more that is not among them
-pub distinct_more : (given : List TurnedPiece) (turned : TurnedPiece) → are_distinct given ≡ true → is_among given turned ≡ false
+pub distinct_more : (given : List TurnedPiece) (turned : TurnedPiece) → are_distinct given ≡ true → is_repeated given turned ≡ false
     → are_distinct (given ++ turned ∷ []) ≡ true
 distinct_more [] turned distinct none = refl
 distinct_more (other ∷ given) turned distinct none =
-    let parts = and_parts (not (is_among given other)) (are_distinct given) distinct in
-    let apart_from = neither (is_same turned other) (is_among given turned) none in
+    let parts = and_parts (not (is_repeated given other)) (are_distinct given) distinct in
+    let apart_from = neither (is_same turned other) (is_repeated given turned) none in
     rw (
       list_any-append (is_same other) given (turned ∷ []),
-      not_true (is_among given other) parts.0,
+      not_true (is_repeated given other) parts.0,
       is_same-symmetric other turned ∙ apart_from.0,
       distinct_more given turned parts.1 apart_from.1,
     ) refl

@@ -13,7 +13,7 @@ use Rattle.srs.specs.Rotation.{rotation_letter, rotation_with_letter}
 use Rattle.kick_file.specs.declared.turned.TurnedPiece.{TurnedPiece}
 use Rattle.kick_file.specs.declared.position.Position.{Position}
 use Rattle.kick_file.specs.declared.position.Position.TheVariants.{Beginning, Division, Letter, Letters, Columns, Comma, Rows, Whole}
-use Rattle.kick_file.specs.Form.{Entry, number_form, offset_form, turned_of, table_of_entries}
+use Rattle.kick_file.specs.Form.{Entry, signed_digit, offset_form, turned_of, table_of_entries}
 use Rattle.kick_file.specs.Faults.{SpellsBefore}
 use Rattle.kick_file.specs.Reading.{is_small_number, number_with_digit, next}
 use Rattle.kick_file.proofs.GivenLemmas.{not_true}
@@ -133,12 +133,12 @@ columns_moved text byte place turned test is_negative entries given table to her
       let number = number_found is_negative byte found.a found.is in
       subst (Moved (text ++ byte ∷ []) given table) found.to (record {
         entries = entries;
-        here = (part_longer text entries given table turned test (sign is_negative) (number_form found.a) byte here number.form, number.small);
+        here = (part_longer text entries given table turned test (sign is_negative) (signed_digit found.a) byte here number.form, number.small);
       })
 ]
 
 comma_moved : (text : List ℕ) (byte place : ℕ) (turned : TurnedPiece) (test : ℕ) (dx : ℤ) (entries : List Entry) (given : List TurnedPiece) (table : Table) (to : Position)
-    → Part text entries given table turned test (number_form dx) → is_small_number dx ≡ true → cond (byte == 44) (Some (Rows turned test dx false)) None ≡ Some to
+    → Part text entries given table turned test (signed_digit dx) → is_small_number dx ≡ true → cond (byte == 44) (Some (Rows turned test dx false)) None ≡ Some to
     → Moved (text ++ byte ∷ []) given table to
 unfolding given_then table_then
 comma_moved text byte place turned test dx entries given table to here small next_is =
@@ -146,14 +146,14 @@ comma_moved text byte place turned test dx entries given table to here small nex
     subst (Moved (text ++ byte ∷ []) given table) found.1 (record {
       entries = entries;
       here = (
-        part_longer text entries given table turned test (number_form dx) (number_form dx ++ 44 ∷ []) byte here
-            (ap (λ b. number_form dx ++ b ∷ []) (eqb-true byte 44 found.0)),
+        part_longer text entries given table turned test (signed_digit dx) (signed_digit dx ++ 44 ∷ []) byte here
+            (ap (λ b. signed_digit dx ++ b ∷ []) (eqb-true byte 44 found.0)),
         small,
       );
     })
 
 rows_moved : (text : List ℕ) (byte place : ℕ) (turned : TurnedPiece) (test : ℕ) (dx : ℤ) (is_negative : Bool) (entries : List Entry) (given : List TurnedPiece) (table : Table) (to : Position)
-    → Part text entries given table turned test (number_form dx ++ 44 ∷ sign is_negative) → is_small_number dx ≡ true
+    → Part text entries given table turned test (signed_digit dx ++ 44 ∷ sign is_negative) → is_small_number dx ≡ true
     → cond (byte == 45 && not is_negative) (Some (Rows turned test dx true)) (option_map (λ dy. Whole turned test (record { dx = dx; dy = dy })) (number_with_digit is_negative byte)) ≡ Some to
     → Moved (text ++ byte ∷ []) given table to
 unfolding given_then table_then
@@ -165,9 +165,9 @@ rows_moved text byte place turned test dx is_negative entries given table to her
       subst (Moved (text ++ byte ∷ []) given table) to_is (record {
         entries = entries;
         here = (
-          part_longer text entries given table turned test (number_form dx ++ 44 ∷ sign is_negative) (number_form dx ++ 44 ∷ 45 ∷ []) byte here
-              (append_assoc (number_form dx) (44 ∷ sign is_negative) (byte ∷ [])
-              ∙ ap (λ n. number_form dx ++ 44 ∷ (sign n ++ byte ∷ [])) s.none ∙ ap (λ b. number_form dx ++ 44 ∷ b ∷ []) s.minus_sign),
+          part_longer text entries given table turned test (signed_digit dx ++ 44 ∷ sign is_negative) (signed_digit dx ++ 44 ∷ 45 ∷ []) byte here
+              (append_assoc (signed_digit dx) (44 ∷ sign is_negative) (byte ∷ [])
+              ∙ ap (λ n. signed_digit dx ++ 44 ∷ (sign n ++ byte ∷ [])) s.none ∙ ap (λ b. signed_digit dx ++ 44 ∷ b ∷ []) s.minus_sign),
           small,
         );
       })
@@ -179,8 +179,8 @@ rows_moved text byte place turned test dx is_negative entries given table to her
         entries = entries;
         here = record {
           old = table;
-          part = part_longer text entries given table turned test (number_form dx ++ 44 ∷ sign is_negative) (offset_form (dx, found.a)) byte here
-              (append_assoc (number_form dx) (44 ∷ sign is_negative) (byte ∷ []) ∙ ap (λ t. number_form dx ++ 44 ∷ t) number.form);
+          part = part_longer text entries given table turned test (signed_digit dx ++ 44 ∷ sign is_negative) (offset_form (dx, found.a)) byte here
+              (append_assoc (signed_digit dx) (44 ∷ sign is_negative) (byte ∷ []) ∙ ap (λ t. signed_digit dx ++ 44 ∷ t) number.form);
           small = small_offset dx found.a small number.small;
           is = refl;
         };

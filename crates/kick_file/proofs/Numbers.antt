@@ -8,7 +8,7 @@ use Rattle.lists.proofs.CallerLemmas.{and_first, and_second}
 use Rattle.kick_file.specs.declared.turned.TurnedPiece.{TurnedPiece}
 use Rattle.kick_file.specs.declared.position.Position.{Position}
 use Rattle.kick_file.specs.declared.position.Position.TheVariants.{Columns, Comma, Rows, Whole}
-use Rattle.kick_file.specs.Form.{number_form, offset_form}
+use Rattle.kick_file.specs.Form.{signed_digit, offset_form}
 use Rattle.kick_file.specs.Reading.{is_small_number, step, Reading}
 use Rattle.kick_file.proofs.Steps.{at, Passes, one_byte, both}
 
@@ -33,13 +33,13 @@ each_small P a b c d x y z (negsuc n) small = below_three (λ n. P (negsuc n)) x
 
 -- the columns of an offset
 pub columns_pass : (given : List TurnedPiece) (table : Table) (turned : TurnedPiece) (test : ℕ) (z : ℤ) → is_small_number z ≡ true
-    → Passes (at given table (Columns turned test false)) (number_form z) (at given table (Comma turned test z))
+    → Passes (at given table (Columns turned test false)) (signed_digit z) (at given table (Comma turned test z))
 unfolding step
 columns_pass given table turned test = each_small P (plain 48 (pos 0) (λ place. refl)) (plain 49 (pos 1) (λ place. refl)) (plain 50 (pos 2) (λ place. refl))
     (plain 51 (pos 3) (λ place. refl)) (below 49 (minus 1) (λ place. refl)) (below 50 (minus 2) (λ place. refl)) (below 51 (minus 3) (λ place. refl))
   where
     P : ℤ → Type 0
-    P z = Passes (at given table (Columns turned test false)) (number_form z) (at given table (Comma turned test z))
+    P z = Passes (at given table (Columns turned test false)) (signed_digit z) (at given table (Comma turned test z))
 
     plain : (byte : ℕ) (z : ℤ) → ((place : ℕ) → step (at given table (Columns turned test false)) place byte ≡ Ok (at given table (Comma turned test z)))
         → Passes (at given table (Columns turned test false)) (byte ∷ []) (at given table (Comma turned test z))
@@ -55,7 +55,7 @@ whole turned test cell = Whole turned test (record { dx = cell.0; dy = cell.1 })
 
 -- the rows of an offset
 pub rows_pass : (given : List TurnedPiece) (table : Table) (turned : TurnedPiece) (test : ℕ) (dx z : ℤ) → is_small_number z ≡ true
-    → Passes (at given table (Rows turned test dx false)) (number_form z)
+    → Passes (at given table (Rows turned test dx false)) (signed_digit z)
     (at given (table_with table turned.piece turned.rotation test (dx, z)) (whole turned test (dx, z)))
 unfolding step
 rows_pass given table turned test dx = each_small P (plain 48 (pos 0) (λ place. refl)) (plain 49 (pos 1) (λ place. refl)) (plain 50 (pos 2) (λ place. refl))
@@ -65,7 +65,7 @@ rows_pass given table turned test dx = each_small P (plain 48 (pos 0) (λ place.
     to z = at given (table_with table turned.piece turned.rotation test (dx, z)) (whole turned test (dx, z))
 
     P : ℤ → Type 0
-    P z = Passes (at given table (Rows turned test dx false)) (number_form z) (at given (table_with table turned.piece turned.rotation test (dx, z)) (whole turned test (dx, z)))
+    P z = Passes (at given table (Rows turned test dx false)) (signed_digit z) (at given (table_with table turned.piece turned.rotation test (dx, z)) (whole turned test (dx, z)))
 
     plain : (byte : ℕ) (z : ℤ) → ((place : ℕ) → step (at given table (Rows turned test dx false)) place byte ≡ Ok (to z))
         → Passes (at given table (Rows turned test dx false)) (byte ∷ []) (to z)
@@ -89,5 +89,5 @@ unfolding step
 offset_passes given table turned test cell small =
     let parts = small_parts (int_le (minus 3) cell.0) (int_le cell.0 (pos 3)) (int_le (minus 3) cell.1) (int_le cell.1 (pos 3)) small in
     let comma : Passes (at given table (Comma turned test cell.0)) (44 ∷ []) (at given table (Rows turned test cell.0 false)) = one_byte _ 44 _ (λ place. refl) in
-    both _ (number_form cell.0) _ (44 ∷ number_form cell.1) _ (columns_pass given table turned test cell.0 parts.0)
-    (both _ (44 ∷ []) _ (number_form cell.1) _ comma (rows_pass given table turned test cell.0 cell.1 parts.1))
+    both _ (signed_digit cell.0) _ (44 ∷ signed_digit cell.1) _ (columns_pass given table turned test cell.0 parts.0)
+    (both _ (44 ∷ []) _ (signed_digit cell.1) _ comma (rows_pass given table turned test cell.0 cell.1 parts.1))

@@ -9,7 +9,7 @@ use Rattle.kick_file.specs.declared.fault.KickFault.TheVariants.{Unexpected, Rep
 use Rattle.kick_file.specs.declared.turned.TurnedPiece.{TurnedPiece}
 use Rattle.kick_file.specs.declared.position.Position.{Position}
 use Rattle.kick_file.specs.declared.position.Position.TheVariants.{Beginning, Division, Letter, Letters, Columns, Comma, Rows, Whole}
-use Rattle.kick_file.specs.Form.{Entry, SpellsEntries, is_among, are_distinct, turned_of, table_of_entries}
+use Rattle.kick_file.specs.Form.{Entry, SpellsEntries, is_repeated, are_distinct, turned_of, table_of_entries}
 use Rattle.srs.specs.Rotation.{rotation_letter}
 use Rattle.kick_file.specs.Faults.{Repeats, IsFront, IsStopped, IsUnexpected, IsReadAs}
 use Rattle.kick_file.specs.Reading.{Reading, kick_text, entered, step, ended, next, read_on, read_after}
@@ -30,7 +30,7 @@ record At (text : List ℕ) (reading : Reading) : Type 0 where
 -- what follows a byte that may stand
 data Enters (given : List TurnedPiece) (table : Table) (position to : Position) : Result Reading KickFault → Type 0 where
   on : are_distinct (given_then given to) ≡ true → Enters given table position to (Ok (at (given_then given to) (table_then table to) to))
-  stood : (turned : TurnedPiece) (start : ℕ) → to ≡ Letters turned start → is_among given turned ≡ true → Enters given table position to (Err (RepeatedEntry start))
+  stood : (turned : TurnedPiece) (start : ℕ) → to ≡ Letters turned start → is_repeated given turned ≡ true → Enters given table position to (Err (RepeatedEntry start))
 
 enters : (given : List TurnedPiece) (table : Table) (position to : Position) (place : ℕ) → are_distinct given ≡ true
     → Enters given table position to (entered (at given table position) place (Some to))
@@ -38,7 +38,7 @@ unfolding given_then table_then
 enters given table position Beginning place distinct = on distinct
 enters given table position Division place distinct = on distinct
 enters given table position (Letter piece start) place distinct = on distinct
-enters given table position (Letters turned start) place distinct = elim (cases_Bool (is_among given turned)) [
+enters given table position (Letters turned start) place distinct = elim (cases_Bool (is_repeated given turned)) [
   | inl among ↦ subst (λ b. Enters given table position (Letters turned start) (cond b (Err (RepeatedEntry start)) (Ok (at (given ++ turned ∷ []) table (Letters turned start))))) (sym among)
       (stood turned start refl among)
   | inr fresh ↦ subst (λ b. Enters given table position (Letters turned start) (cond b (Err (RepeatedEntry start)) (Ok (at (given ++ turned ∷ []) table (Letters turned start))))) (sym fresh)
@@ -110,7 +110,7 @@ at_the_end text given table (Whole turned test offset) stands = whole_end text g
 
 -- an entry that stood before
 repeats : (text rest : List ℕ) (byte start : ℕ) (turned : TurnedPiece) (given : List TurnedPiece) (table : Table) (position : Position) (entries fresh : List Entry) → are_distinct given ≡ true
-    → Here text entries given table position → Here (text ++ byte ∷ []) fresh (given ++ turned ∷ []) table (Letters turned start) → is_among given turned ≡ true
+    → Here text entries given table position → Here (text ++ byte ∷ []) fresh (given ++ turned ∷ []) table (Letters turned start) → is_repeated given turned ≡ true
     → Repeats (text ++ byte ∷ rest) start
 repeats text rest byte start turned given table position entries fresh distinct here now among =
     let same = same_from_push given (turned_of fresh) turned turned now.1 in
@@ -124,7 +124,7 @@ repeats text rest byte start turned given table position entries fresh distinct 
       distinct = subst (λ g. are_distinct g ≡ true) same.0 distinct;
       named = now.0.named;
       whole = sym (append_assoc text (byte ∷ []) rest) ∙ ap (λ t. t ++ rest) now.0.whole ∙ append_assoc now.0.before (now.0.letter ∷ rotation_letter turned.rotation ∷ []) rest;
-      repeated = subst (λ g. is_among g turned ≡ true) same.0 among;
+      repeated = subst (λ g. is_repeated g turned ≡ true) same.0 among;
       starts = now.0.starts;
     }
 

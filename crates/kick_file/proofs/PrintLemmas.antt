@@ -3,7 +3,8 @@ use Rattle.std.proofs.Common.{◌≡◌, ℕ, ℤ, pos, ◌<◌, ◌-◌, ◌-�
 use Rattle.std.specs.List.{list_all, flat_map, AllByRecursion, join_with_byte}
 use Rattle.std.specs.Prelude.{option_to_list, IsSome, slice_index_or, int_le}
 use Rattle.std.proofs.Math.Path.{fun_ext}
-use Rattle.std.proofs.lemmas.List.{append-nil, length_push, same_from_push, take_all}
+use Rattle.std.proofs.lemmas.List.{append-nil, length_push, same_from_push, take-append-drop, take_all}
+use Rattle.std.proofs.Math.Seq.{take-append_seam}
 use Rattle.std.proofs.lemmas.List.Folds.{flat_map-map, list_all-map}
 use Rattle.std.proofs.lemmas.Grind.{flat_map-append}
 use Rattle.srs.specs.declared.piece.Piece.{Piece}
@@ -206,6 +207,17 @@ offsets_end now before base (o ∷ rest) first d index some is over begun writte
     ∙ append_assoc base (offset_form (pair_of o)) (flat_map (λ offset. 47 ∷ offset_form (pair_of offset)) rest)
     ∙ ap (λ t. base ++ (offset_form (pair_of o) ++ t)) (sym (flat_map-map (λ offset. 47 ∷ offset_form offset) pair_of rest))
     ∙ ap (λ t. base ++ t) (offsets_join (pair_of o) (map pair_of rest))
+
+-- a text that begins with more than the base, in three parts, begins with the base
+pub front_kept : (base mid text before now f g h : List ℕ) → mid ≡ base ++ f → text ≡ mid ++ g → before ≡ text ++ h
+    → take (length before) now ≡ before → take (length base) now ≡ base
+front_kept base mid text before now f g h first second third kept =
+    let rest = drop (length before) now in
+    let begins : before ≡ base ++ (f ++ (g ++ h)) =
+    third ∙ ap (λ t. t ++ h) (second ∙ ap (λ t. t ++ g) first) ∙ append_assoc (base ++ f) g h ∙ append_assoc base f (g ++ h) in
+    let whole : now ≡ base ++ ((f ++ (g ++ h)) ++ rest) =
+    sym (take-append-drop (length before) now) ∙ ap (λ t. t ++ rest) (kept ∙ begins) ∙ append_assoc base (f ++ (g ++ h)) rest in
+    ap (λ t. take (length base) t) whole ∙ take-append_seam base ((f ++ (g ++ h)) ++ rest)
 
 -- small numbers have one digit, and so have their differences
 short_number : (z : ℤ) → is_small_number z ≡ true → is_one_digit z ≡ true

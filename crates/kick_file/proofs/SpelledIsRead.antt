@@ -11,7 +11,7 @@ use Rattle.kick_file.specs.declared.fault.KickFault.{KickFault}
 use Rattle.kick_file.specs.declared.fault.KickFault.TheVariants.{Unexpected, RepeatedEntry}
 use Rattle.kick_file.specs.declared.turned.TurnedPiece.{TurnedPiece}
 use Rattle.kick_file.specs.declared.position.Position.TheVariants.{Division}
-use Rattle.kick_file.specs.Form.{Entry, SpellsEntry, SpellsEntries, offsets_form, is_same, is_among, are_distinct, turned_of, table_with_entry, table_of_entries}
+use Rattle.kick_file.specs.Form.{Entry, SpellsEntry, SpellsEntries, offsets_form, is_same, is_repeated, are_distinct, turned_of, table_with_entry, table_of_entries}
 use Rattle.kick_file.specs.Faults.{SpellsBefore, SpellsTable, Repeats}
 use Rattle.kick_file.specs.Reading.{beginning, kick_text, read_on, step}
 use Rattle.kick_file.proofs.Steps.{at}
@@ -24,13 +24,13 @@ pub srs_five : HasFive srs_table
 srs_five piece rotation = eqb-true _ 5 (each_state (λ p r. length (srs_table p r) == 5) refl piece rotation)
 
 -- what stands among distinct ones differs from those before it
-distinct_middle : (given : List TurnedPiece) (turned : TurnedPiece) (later : List TurnedPiece) → are_distinct (given ++ turned ∷ later) ≡ true → is_among given turned ≡ false
+distinct_middle : (given : List TurnedPiece) (turned : TurnedPiece) (later : List TurnedPiece) → are_distinct (given ++ turned ∷ later) ≡ true → is_repeated given turned ≡ false
 distinct_middle [] turned later distinct = refl
 distinct_middle (other ∷ given) turned later distinct =
-    let parts = and_parts (not (is_among (given ++ turned ∷ later) other)) (are_distinct (given ++ turned ∷ later)) distinct in
-    let apart = neither (is_among given other) (is_same other turned || is_among later other)
-    (sym (list_any-append (is_same other) given (turned ∷ later)) ∙ not_true (is_among (given ++ turned ∷ later) other) parts.0) in
-    let first = neither (is_same other turned) (is_among later other) apart.1 in
+    let parts = and_parts (not (is_repeated (given ++ turned ∷ later) other)) (are_distinct (given ++ turned ∷ later)) distinct in
+    let apart = neither (is_repeated given other) (is_same other turned || is_repeated later other)
+    (sym (list_any-append (is_same other) given (turned ∷ later)) ∙ not_true (is_repeated (given ++ turned ∷ later) other) parts.0) in
+    let first = neither (is_same other turned) (is_repeated later other) apart.1 in
     rw (is_same-symmetric turned other ∙ first.0) (distinct_middle given turned later parts.1)
 
 joined : (given : List TurnedPiece) (turned : TurnedPiece) (later : List TurnedPiece) → are_distinct (given ++ turned ∷ later) ≡ true
@@ -93,7 +93,7 @@ IsFine (Ok table) = Unit {0}
 IsFine (Err (Unexpected place)) = ⊥
 IsFine (Err (RepeatedEntry place)) = Unit {0}
 
-stood_fine : (given : List TurnedPiece) (table : Table) (place : ℕ) (front rest : List ℕ) (entry : Entry) → SpellsEntry front entry → is_among given entry.turned ≡ true
+stood_fine : (given : List TurnedPiece) (table : Table) (place : ℕ) (front rest : List ℕ) (entry : Entry) → SpellsEntry front entry → is_repeated given entry.turned ≡ true
     → IsFine (read_on (at given table Division) place (front ++ rest))
 unfolding IsFine
 stood_fine given table place front rest entry spelled stood =
@@ -104,14 +104,14 @@ stood_fine given table place front rest entry spelled stood =
 pub entries_fine : (given : List TurnedPiece) (table : Table) (place : ℕ) (text : List ℕ) (entry : Entry) (entries : List Entry) → HasFive table
     → SpellsEntries text (entry ∷ entries) → IsFine (read_on (at given table Division) place text)
 unfolding IsFine
-entries_fine given table place text entry [] five spelled = elim (cases_Bool (is_among given entry.turned)) [
+entries_fine given table place text entry [] five spelled = elim (cases_Bool (is_repeated given entry.turned)) [
   | inl stood ↦ subst (λ t. IsFine (read_on (at given table Division) place t)) (append-nil text) (stood_fine given table place text [] entry spelled stood)
   | inr fresh ↦
       let reads = reads_entry given table text entry five spelled fresh in
       subst IsFine (sym (ap (read_on (at given table Division) place) (sym (append-nil text)) ∙ reads.on place []
       ∙ at_end (given ++ entry.turned ∷ []) (table_with_entry table entry) entry.turned reads.last (place + length text))) tt
 ]
-entries_fine given table place text entry (next ∷ entries) five spelled = elim (cases_Bool (is_among given entry.turned)) [
+entries_fine given table place text entry (next ∷ entries) five spelled = elim (cases_Bool (is_repeated given entry.turned)) [
   | inl stood ↦ subst (λ t. IsFine (read_on (at given table Division) place t)) (sym spelled.2) (stood_fine given table place spelled.0 (59 ∷ spelled.1) entry spelled.3 stood)
   | inr fresh ↦
       let reads = reads_entry given table spelled.0 entry five spelled.3 fresh in

@@ -17,7 +17,7 @@ use Rattle.lists.proofs.CallerLemmas.{find-Contains, each-contained}
 use Rattle.kick_file.specs.declared.turned.TurnedPiece.{TurnedPiece}
 use Rattle.kick_file.specs.declared.position.Position.{Position}
 use Rattle.kick_file.specs.declared.position.Position.TheVariants.{Beginning, Division, Letter, Letters, Columns, Comma, Rows, Whole}
-use Rattle.kick_file.specs.Form.{Entry, SpellsEntry, SpellsEntries, number_form, offset_form, offsets_form, turned_of, table_with_entry, table_of_entries}
+use Rattle.kick_file.specs.Form.{Entry, SpellsEntry, SpellsEntries, signed_digit, offset_form, offsets_form, turned_of, table_with_entry, table_of_entries}
 use Rattle.kick_file.specs.Faults.{SpellsBefore, IsFront}
 use Rattle.kick_file.specs.Reading.{is_small_number, numbers, digit_of, number_with_digit}
 use Rattle.kick_file.proofs.Entries.{HasFive, put_from, put_five}
@@ -32,10 +32,10 @@ sign true = 45 ∷ []
 -- a number with this digit, after `-` or without
 pub record IsNumber (is_negative : Bool) (byte : ℕ) (z : ℤ) : Type 0 where
   pub small : is_small_number z ≡ true
-  pub form : sign is_negative ++ byte ∷ [] ≡ number_form z
+  pub form : sign is_negative ++ byte ∷ [] ≡ signed_digit z
 
 abbrev IsOne : Bool → ℤ → Type 0
-IsOne is_negative z = (is_small_number z ≡ true) × (sign is_negative ++ digit_of z ∷ [] ≡ number_form z)
+IsOne is_negative z = (is_small_number z ≡ true) × (sign is_negative ++ digit_of z ∷ [] ≡ signed_digit z)
 
 each_number : (is_negative : Bool) → AllByRecursion (IsOne is_negative) (numbers is_negative)
 each_number false = ((refl, refl), ((refl, refl), ((refl, refl), ((refl, refl), tt))))
@@ -105,9 +105,9 @@ Here text entries given table (Letter piece start) = AfterLetter text entries pi
 Here text entries given table (Letters turned start) =
     AfterLetters text entries turned start × (given ≡ turned_of entries ++ turned ∷ []) × (table ≡ table_of_entries entries)
 Here text entries given table (Columns turned test is_negative) = Part text entries given table turned test (sign is_negative)
-Here text entries given table (Comma turned test dx) = Part text entries given table turned test (number_form dx) × (is_small_number dx ≡ true)
+Here text entries given table (Comma turned test dx) = Part text entries given table turned test (signed_digit dx) × (is_small_number dx ≡ true)
 Here text entries given table (Rows turned test dx is_negative) =
-    Part text entries given table turned test (number_form dx ++ 44 ∷ sign is_negative) × (is_small_number dx ≡ true)
+    Part text entries given table turned test (signed_digit dx ++ 44 ∷ sign is_negative) × (is_small_number dx ≡ true)
 Here text entries given table (Whole turned test offset) = WholePart text entries given table turned test (pair_of offset)
 
 -- one more byte of a part
@@ -159,11 +159,11 @@ front_here text entries given table (Columns turned test false) here =
 front_here text entries given table (Columns turned test true) here =
     part_goes_on text entries given table turned test (45 ∷ []) (49 ∷ 44 ∷ 48 ∷ []) (minus 1, pos 0) here refl refl
 front_here text entries given table (Comma turned test dx) here =
-    part_goes_on text entries given table turned test (number_form dx) (44 ∷ 48 ∷ []) (dx, pos 0) here.0 refl (small_offset dx (pos 0) here.1 refl)
+    part_goes_on text entries given table turned test (signed_digit dx) (44 ∷ 48 ∷ []) (dx, pos 0) here.0 refl (small_offset dx (pos 0) here.1 refl)
 front_here text entries given table (Rows turned test dx false) here =
-    part_goes_on text entries given table turned test (number_form dx ++ 44 ∷ []) (48 ∷ []) (dx, pos 0) here.0 (append_assoc (number_form dx) (44 ∷ []) (48 ∷ [])) (small_offset dx (pos 0) here.1 refl)
+    part_goes_on text entries given table turned test (signed_digit dx ++ 44 ∷ []) (48 ∷ []) (dx, pos 0) here.0 (append_assoc (signed_digit dx) (44 ∷ []) (48 ∷ [])) (small_offset dx (pos 0) here.1 refl)
 front_here text entries given table (Rows turned test dx true) here =
-    part_goes_on text entries given table turned test (number_form dx ++ 44 ∷ 45 ∷ []) (49 ∷ []) (dx, minus 1) here.0 (append_assoc (number_form dx) (44 ∷ 45 ∷ []) (49 ∷ [])) (small_offset dx (minus 1) here.1 refl)
+    part_goes_on text entries given table turned test (signed_digit dx ++ 44 ∷ 45 ∷ []) (49 ∷ []) (dx, minus 1) here.0 (append_assoc (signed_digit dx) (44 ∷ 45 ∷ []) (49 ∷ [])) (small_offset dx (minus 1) here.1 refl)
 front_here text entries given table (Whole turned test offset) here =
     part_goes_on text entries given here.old turned test (offset_form (pair_of offset)) [] (pair_of offset) here.part (append-nil (offset_form (pair_of offset))) here.small
 

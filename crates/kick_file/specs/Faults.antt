@@ -6,13 +6,14 @@ use Rattle.srs.specs.Rotation.{rotation_letter}
 use Rattle.kick_file.specs.declared.fault.KickFault.{KickFault}
 use Rattle.kick_file.specs.declared.fault.KickFault.TheVariants.{Unexpected, RepeatedEntry}
 use Rattle.kick_file.specs.declared.turned.TurnedPiece.{TurnedPiece}
-use Rattle.kick_file.specs.Form.{Entry, SpellsEntry, SpellsEntries, turned_of, is_among, are_distinct, table_of_entries}
+use Rattle.kick_file.specs.Form.{Entry, SpellsEntry, SpellsEntries, turned_of, is_repeated, are_distinct, table_of_entries}
 
 -- some entries, each with a `;` after it
 abbrev pub SpellsBefore : List ℕ → List Entry → Type 0
 SpellsBefore text [] = text ≡ []
 SpellsBefore text (entry ∷ entries) =
-    (front : List ℕ) × (rest : List ℕ) × (text ≡ front ++ 59 ∷ rest) × SpellsEntry front entry × SpellsBefore rest entries
+    (front : List ℕ) × (rest : List ℕ) × (text ≡ front ++ 59 ∷ rest) × SpellsEntry front entry
+    × SpellsBefore rest entries
 
 -- the text spells entries of different pieces and rotations, and this is their table
 pub record SpellsTable (text : List ℕ) (table : Table) : Type 0 where
@@ -32,7 +33,7 @@ pub record Repeats (text : List ℕ) (place : ℕ) : Type 0 where
   pub distinct : IsTrue (are_distinct (turned_of entries))
   pub named : piece_with_letter letter ≡ Some turned.piece
   pub whole : text ≡ front ++ letter ∷ rotation_letter turned.rotation ∷ rest
-  pub repeated : IsTrue (is_among (turned_of entries) turned)
+  pub repeated : IsTrue (is_repeated (turned_of entries) turned)
   pub starts : place ≡ length front
 
 -- some text that begins with this one spells entries, equal pieces and rotations among them or not

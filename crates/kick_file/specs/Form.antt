@@ -7,14 +7,14 @@ use Rattle.srs.specs.Piece.{piece_code, piece_with_letter}
 use Rattle.srs.specs.Rotation.{rotation_place, rotation_letter}
 use Rattle.kick_file.specs.declared.turned.TurnedPiece.{TurnedPiece}
 
--- a number from -3 to 3 is its digit, after `-` where it is below 0
-abbrev pub number_form : ℤ → List ℕ
-number_form (pos n) = (48 + n) ∷ []
-number_form (negsuc n) = 45 ∷ (49 + n) ∷ []
+-- a number of an offset, which is small, is its digit, after `-` where it is below 0
+abbrev pub signed_digit : ℤ → List ℕ
+signed_digit (pos n) = (48 + n) ∷ []
+signed_digit (negsuc n) = 45 ∷ (49 + n) ∷ []
 
 -- an offset is its columns, a comma and its rows
 abbrev pub offset_form : Cell → List ℕ
-offset_form offset = number_form offset.0 ++ 44 ∷ number_form offset.1
+offset_form offset = signed_digit offset.0 ++ 44 ∷ signed_digit offset.1
 
 -- offsets are divided by `/`
 abbrev pub offsets_form : List Cell → List ℕ
@@ -51,14 +51,14 @@ is_same one other =
 abbrev pub turned_of : List Entry → List TurnedPiece
 turned_of entries = map (λ entry. entry.turned) entries
 
--- whether one of these is the same
-abbrev pub is_among : List TurnedPiece → TurnedPiece → Bool
-is_among given turned = list_any (is_same turned) given
+-- whether a piece in its rotation stands among these
+abbrev pub is_repeated : List TurnedPiece → TurnedPiece → Bool
+is_repeated given turned = list_any (is_same turned) given
 
 -- whether no two of them are the same
 abbrev pub are_distinct : List TurnedPiece → Bool
 are_distinct [] = true
-are_distinct (turned ∷ given) = not (is_among given turned) && are_distinct given
+are_distinct (turned ∷ given) = not (is_repeated given turned) && are_distinct given
 
 -- the table with the offsets of an entry
 abbrev pub table_with_entry : Table → Entry → Table

@@ -12,7 +12,7 @@ use Rattle.kick_file.specs.declared.fault.KickFault.TheVariants.{Unexpected, Rep
 use Rattle.kick_file.specs.declared.turned.TurnedPiece.{TurnedPiece}
 use Rattle.kick_file.specs.declared.position.Position.{Position}
 use Rattle.kick_file.specs.declared.position.Position.TheVariants.{Beginning, Division, Letter, Letters, Columns, Comma, Rows, Whole}
-use Rattle.kick_file.specs.Form.{is_among}
+use Rattle.kick_file.specs.Form.{is_repeated}
 
 -- the numbers that a digit may spell, after `-` or without
 abbrev pub numbers : Bool → List ℤ
@@ -75,7 +75,7 @@ beginning = record { given = []; table = srs_table; position = Beginning }
 abbrev pub entered : Reading → ℕ → Option Position → Result Reading KickFault
 entered reading place None = Err (Unexpected place)
 entered reading place (Some (Letters turned start)) =
-    if is_among reading.given turned then Err (RepeatedEntry start)
+    if is_repeated reading.given turned then Err (RepeatedEntry start)
     else Ok (record { given = reading.given ++ turned ∷ []; table = reading.table; position = Letters turned start })
 entered reading place (Some (Whole turned test offset)) =
     Ok (record {
@@ -110,11 +110,11 @@ abbrev pub kick_text : List ℕ → Result Table KickFault
 kick_text text = read_on beginning 0 text
 
 -- rules of this table, or this fault
-abbrev pub Gives : Result Rules KickFault → Result Table KickFault → Type 0
-Gives (Ok rules) read = read ≡ Ok (table_of rules)
-Gives (Err fault) read = read ≡ Err fault
+abbrev pub AnswersTable : Result Rules KickFault → Result Table KickFault → Type 0
+AnswersTable (Ok rules) read = read ≡ Ok (table_of rules)
+AnswersTable (Err fault) read = read ≡ Err fault
 
 -- what a call that takes more of a text answers, and what it leaves
-abbrev pub Takes : Result Unit KickFault → Result Reading KickFault → Reading → Type 0
-Takes (Ok done) read now = read ≡ Ok now
-Takes (Err fault) read now = read ≡ Err fault
+abbrev pub MovesOn : Result Unit KickFault → Result Reading KickFault → Reading → Type 0
+MovesOn (Ok done) read now = read ≡ Ok now
+MovesOn (Err fault) read now = read ≡ Err fault

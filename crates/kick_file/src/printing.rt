@@ -1,11 +1,11 @@
 // Printing a table.
-ghost use Rattle.std.specs.Prelude.{◌≡◌, ◌++◌, ◌∷◌, [], map, IfOk, OnOk, IsTrue, Ok};
+ghost use Rattle.std.specs.Prelude.{◌≡◌, ◌++◌, ◌∷◌, [], length, map, take, IfOk, OnOk, OnErr, IsTrue, Ok};
 ghost use Rattle.std.specs.List.{list_all};
 ghost use Rattle.srs.specs.Kick.{pair_of};
 ghost use Rattle.srs.specs.Piece.{piece_letter};
 ghost use Rattle.srs.specs.Rotation.{rotation_letter};
 ghost use Rattle.srs.specs.Rules.{table_of};
-ghost use Rattle.kick_file.specs.Form.{number_form, offset_form, offsets_form};
+ghost use Rattle.kick_file.specs.Form.{signed_digit, offset_form, offsets_form};
 ghost use Rattle.kick_file.specs.Printed.{entry_form, entry_of, table_form};
 ghost use Rattle.kick_file.specs.Printing.{is_one_digit, is_short_move, piece_form};
 ghost use Rattle.kick_file.specs.Reading.{kick_text, digit_of};
@@ -25,7 +25,8 @@ fn digit(number: i8) -> u8
 /// A number from -9 to 9.
 fn push_number(text: &mut Vec<u8>, number: i8) -> Result<(), NoMemory>
     requires { IsTrue (is_one_digit number) }
-    ensures { OnOk result (text.new.items ≡ text.old.items ++ number_form number) }
+    ensures ok { OnOk result (text.new.items ≡ text.old.items ++ signed_digit number) }
+    ensures err { OnErr result (text.new.items ≡ text.old.items) }
 {
     let digit = digit(number);
     if number < 0 {
@@ -36,20 +37,37 @@ fn push_number(text: &mut Vec<u8>, number: i8) -> Result<(), NoMemory>
     Ok(())
 }
 
-/// An offset, or a kick.
+/// An offset, or a kick, or a front of it.
 fn push_offset(text: &mut Vec<u8>, offset: Offset) -> Result<(), NoMemory>
     requires { IsTrue (is_short_move (pair_of offset)) }
-    ensures { OnOk result (text.new.items ≡ text.old.items ++ offset_form (pair_of offset)) }
+    ensures ok { OnOk result (text.new.items ≡ text.old.items ++ offset_form (pair_of offset)) }
+    ensures kept { take (length text.old.items) text.new.items ≡ text.old.items }
 {
     push_number(text, offset.dx)?;
     text.push(b',')?;
     push_number(text, offset.dy)
 }
 
-/// Appends offsets, or kicks, each of at most nine columns and nine rows, divided by `/`.
+/// Appends offsets, or kicks, each of at most nine columns and nine rows, divided by `/`. After NoMemory `text` is as
+/// before.
 pub fn push_offsets(text: &mut Vec<u8>, offsets: &[Offset]) -> Result<(), NoMemory>
     requires { IsTrue (list_all is_short_move (map pair_of offsets.now)) }
-    ensures { OnOk result (text.new.items ≡ text.old.items ++ offsets_form (map pair_of offsets.now)) }
+    ensures ok { OnOk result (text.new.items ≡ text.old.items ++ offsets_form (map pair_of offsets.now)) }
+    ensures err { OnErr result (text.new.items ≡ text.old.items) }
+{
+    let before = text.len();
+    let pushed = push_some_offsets(text, offsets);
+    if pushed.is_err() {
+        text.truncate(before);
+    }
+    pushed
+}
+
+/// Appends the offsets, or a front of them.
+fn push_some_offsets(text: &mut Vec<u8>, offsets: &[Offset]) -> Result<(), NoMemory>
+    requires { IsTrue (list_all is_short_move (map pair_of offsets.now)) }
+    ensures ok { OnOk result (text.new.items ≡ text.old.items ++ offsets_form (map pair_of offsets.now)) }
+    ensures kept { take (length text.old.items) text.new.items ≡ text.old.items }
 {
     let [first, rest @ ..] = offsets else {
         return Ok(());
@@ -75,15 +93,35 @@ fn offsets_of(rules: &Rules, piece: Piece, rotation: Rotation) -> [Offset; 5]
     ]
 }
 
-/// Appends the entry of a piece in a rotation.
+/// Appends the entry of a piece in a rotation. After NoMemory `text` is as before.
 pub fn push_entry(
     text: &mut Vec<u8>,
     rules: &Rules,
     piece: Piece,
     rotation: Rotation,
 ) -> Result<(), NoMemory>
-    ensures { OnOk result (text.new.items
+    ensures ok { OnOk result (text.new.items
         ≡ text.old.items ++ entry_form (entry_of (table_of rules.now) piece rotation)) }
+    ensures err { OnErr result (text.new.items ≡ text.old.items) }
+{
+    let before = text.len();
+    let appended = push_some_entry(text, rules, piece, rotation);
+    if appended.is_err() {
+        text.truncate(before);
+    }
+    appended
+}
+
+/// Appends the entry, or a front of it.
+fn push_some_entry(
+    text: &mut Vec<u8>,
+    rules: &Rules,
+    piece: Piece,
+    rotation: Rotation,
+) -> Result<(), NoMemory>
+    ensures ok { OnOk result (text.new.items
+        ≡ text.old.items ++ entry_form (entry_of (table_of rules.now) piece rotation)) }
+    ensures kept { take (length text.old.items) text.new.items ≡ text.old.items }
 {
     text.extend_from_slice(&[piece.letter(), rotation.letter(), b':'])?;
     push_offsets(text, &offsets_of(rules, piece, rotation))
@@ -100,8 +138,8 @@ fn push_piece(text: &mut Vec<u8>, rules: &Rules, piece: Piece) -> Result<(), NoM
     Ok(())
 }
 
-/// The text of a table: an entry for each piece, in the order of codes, and each rotation, in the order 0, R, 2, L. It is
-/// read as this table.
+/// The text of a table: an entry for each piece, in the order of codes, and each rotation, in the order 0, R, 2, L. It
+/// is read as this table.
 pub fn print(alloc: Global, rules: &Rules) -> Result<Vec<u8>, NoMemory>
     ensures form { IfOk result (λ text. text.items ≡ table_form (table_of rules.now)) }
     ensures read { IfOk result (λ text. kick_text text.items ≡ Ok (table_of rules.now)) }

@@ -1,8 +1,8 @@
 // Reading a table text.
 ghost use Rattle.std.specs.Prelude.{◌≡◌, IsOk, IsTrue, Ok, Err, Some};
 ghost use Rattle.srs.specs.Rules.{table_of};
-ghost use Rattle.kick_file.specs.Form.{are_distinct, is_among};
-ghost use Rattle.kick_file.specs.Reading.{beginning, step, entered, ended, kick_text, Takes, Gives, is_sound};
+ghost use Rattle.kick_file.specs.Form.{are_distinct, is_repeated};
+ghost use Rattle.kick_file.specs.Reading.{beginning, step, entered, ended, kick_text, MovesOn, AnswersTable, is_sound};
 
 use crate::fault::KickFault;
 use crate::position::Position;
@@ -37,7 +37,7 @@ impl Reader {
 
     /// Whether this piece in this rotation has an entry.
     fn has(&self, turned: TurnedPiece) -> bool
-        ensures { result ≡ is_among self.now.given.items turned }
+        ensures { result ≡ is_repeated self.now.given.items turned }
     {
         self.given.iter().any(|other| turned.is_same(*other))
     }
@@ -45,7 +45,7 @@ impl Reader {
     /// Takes the next byte, which is at a place of the text.
     #[tactic(auto, unfolding(crate::specs::Reading::step))]
     fn take(&mut self, place: usize, byte: u8) -> Result<(), KickFault>
-        ensures { Takes result (step (reading_of self.old) place byte) (reading_of self.new) }
+        ensures { MovesOn result (step (reading_of self.old) place byte) (reading_of self.new) }
     {
         match self.position.next(place, byte) {
             Some(position) => self.enter(position),
@@ -56,7 +56,7 @@ impl Reader {
     /// Goes on to where the text stands now.
     fn enter(&mut self, position: Position) -> Result<(), KickFault>
         requires { IsTrue (is_sound position) }
-        ensures { Takes result (entered (reading_of self.old) 0 (Some position)) (reading_of self.new) }
+        ensures { MovesOn result (entered (reading_of self.old) 0 (Some position)) (reading_of self.new) }
     {
         match position {
             Position::Letters { turned, start } => return self.begin(turned, start),
@@ -82,7 +82,7 @@ impl Reader {
 
     /// Begins the entry of this piece in this rotation, which stands at the place `start`.
     fn begin(&mut self, turned: TurnedPiece, start: usize) -> Result<(), KickFault>
-        ensures { Takes result (entered (reading_of self.old) 0 (Some (Position.Letters turned start)))
+        ensures { MovesOn result (entered (reading_of self.old) 0 (Some (Position.Letters turned start)))
             (reading_of self.new) }
     {
         if self.has(turned) {
@@ -95,7 +95,7 @@ impl Reader {
 
     /// The table of a text that ends at a place.
     fn end(&self, place: usize) -> Result<Rules, KickFault>
-        ensures { Gives result (ended (reading_of self.now).table place (reading_of self.now).position) }
+        ensures { AnswersTable result (ended (reading_of self.now).table place (reading_of self.now).position) }
     {
         match self.position {
             Position::Beginning => Ok(self.rules),
@@ -112,7 +112,7 @@ impl Reader {
 /// offset is columns to the right and rows up, from -3 to 3, divided by a comma. What has no entry has its offsets of
 /// the Super Rotation System.
 pub fn parse(text: &str) -> Result<Rules, KickFault>
-    ensures { Gives result (kick_text text.now) }
+    ensures { AnswersTable result (kick_text text.now) }
 {
     let bytes = text.as_bytes();
     let mut reader = Reader::new();

@@ -21,7 +21,7 @@ pub fn letters(queue: &Queue) -> ArrayVec<u8, 22>
     letters
 }
 
-/// 10,000 times the good ones divided by all, rounded down.
+/// The share of the good ones in ten-thousandths: 10,000 times the good ones divided by all, rounded down.
 pub fn rate(good: u32, all: u32) -> u32
     requires some { 0 < all }
     requires within { good ≤ all }
@@ -30,8 +30,8 @@ pub fn rate(good: u32, all: u32) -> u32
     (10_000 * u64::from(good) / u64::from(all)) as u32
 }
 
-#[tactic(auto, unfolding(crate::specs::Lines::queue_form))]
 /// Writes the letters of a queue and a newline.
+#[tactic(auto, unfolding(crate::specs::Lines::queue_form))]
 pub fn write_queue<O: Sink>(out: &mut O, queue: &Queue) -> Result<(), Failed>
     ensures written { WritesAll (O.written out.old) (O.written out.new) result (queue_form queue.now.items) }
     ensures cause { HasCause (O.faults out.old) (O.faults out.new) result }
@@ -39,8 +39,8 @@ pub fn write_queue<O: Sink>(out: &mut O, queue: &Queue) -> Result<(), Failed>
     write_pieces(out, &[letters(queue).as_slice(), b"\n"])
 }
 
-#[tactic(auto, unfolding(crate::specs::Lines::number_form))]
 /// Writes the line of a number behind its name and a blank: `good 12`.
+#[tactic(auto, unfolding(crate::specs::Lines::number_form))]
 pub fn write_number<O: Sink>(out: &mut O, name: &[u8], number: u32) -> Result<(), Failed>
     ensures written { WritesAll (O.written out.old) (O.written out.new) result (number_form name.now number) }
     ensures cause { HasCause (O.faults out.old) (O.faults out.new) result }

@@ -42,7 +42,7 @@ fn keys_step(placement: Placement, byte: u8) -> Option<Reading>
     })
 }
 
-// After a 0, or after two digits, no digit makes a row up to 22.
+/// After a 0, or after two digits, no digit makes a row up to 22.
 fn after_row_step(placement: Placement, byte: u8) -> Option<Reading>
     ensures { result ≡ after_row_step placement byte }
 {

@@ -9,14 +9,14 @@ use srs::Placement;
 
 type Sequence = ArrayVec<Placement, 22>;
 
-// A blank and a further placement may follow.
+/// A blank and a further placement may follow.
 fn goes_on(now: Reading, left: u8) -> bool
     ensures { result ≡ (may_end now.due && nat_lt 0 left) }
 {
     now.may_end() && left > 0
 }
 
-// All placements were read.
+/// All placements were read.
 fn is_whole(now: Reading, left: u8) -> bool
     ensures { result ≡ (may_end now.due && left == 0) }
 {

@@ -1,7 +1,7 @@
 -- The tree has the lists that are kept.
 use Rattle.std.proofs.Common.{◌∙◌, map, sym, ap, subst, reverse}
 use Rattle.cover.specs.Covered.{Keeps}
-use Rattle.cover.specs.Lists.{has_kinds, items_of}
+use Rattle.cover.specs.Lists.{has_kinds, listed_kinds}
 use Rattle.cover.specs.Nodes.{LeadsTo}
 use Rattle.cover.specs.Tree.{nodes_of}
 use Rattle.cover.proofs.KeepLemmas.{grown-of, kept-of}
@@ -12,12 +12,12 @@ use Rattle.cover.proofs.set.keep.Goals as goal
 
 pub returns-in_err-node-clause-listed : goal.returns-in_err-node-clause-listed
 returns-in_err-node-clause-listed c =
-    (grown-of (nodes_of c.args.tree.now) (nodes_of c.way.new.self) (map items_of c.args.lists.now.keys) (branches-of c.args.tree.now) c.in_err-node.ensures.grows (record { each = c.requires })).each
+    (grown-of (nodes_of c.args.tree.now) (nodes_of c.way.new.self) (map listed_kinds c.args.lists.now.keys) (branches-of c.args.tree.now) c.in_err-node.ensures.grows (record { each = c.requires })).each
 
 pub returns-in_err-insert-clause-listed : goal.returns-in_err-insert-clause-listed
 returns-in_err-insert-clause-listed c = λ other.
-    (grown-of (nodes_of c.args.tree.now) (nodes_of c.way.new.self) (map items_of c.args.lists.now.keys) (branches-of c.args.tree.now) c.in_ok-node.ensures.grows (record { each = c.requires })).each other
-    ∙ ap (λ keys. has_kinds (map items_of keys) other) (sym c.in_err-insert.ensures.err)
+    (grown-of (nodes_of c.args.tree.now) (nodes_of c.way.new.self) (map listed_kinds c.args.lists.now.keys) (branches-of c.args.tree.now) c.in_ok-node.ensures.grows (record { each = c.requires })).each other
+    ∙ ap (λ keys. has_kinds (map listed_kinds keys) other) (sym c.in_err-insert.ensures.err)
 
 pub end_at-requires : goal.end_at-requires
 end_at-requires c =
@@ -25,13 +25,13 @@ end_at-requires c =
 
 pub returns-clause-kept : goal.returns-clause-kept
 returns-clause-kept c =
-    subst (λ keys. Keeps (map items_of c.args.lists.now.keys) (map items_of keys) c.args.kinds.items) (sym c.in_ok-insert.ensures.keys) (keys-kept c.args.lists.now.keys c.args.kinds)
+    subst (λ keys. Keeps (map listed_kinds c.args.lists.now.keys) (map listed_kinds keys) c.args.kinds.items) (sym c.in_ok-insert.ensures.keys) (keys-kept c.args.lists.now.keys c.args.kinds)
 
 pub returns-clause-listed : goal.returns-clause-listed
 returns-clause-listed c =
-    let old = map items_of c.args.lists.now.keys in
+    let old = map listed_kinds c.args.lists.now.keys in
     let way = nodes_of c.way.new.self in
-    let keeps = subst (λ keys. Keeps old (map items_of keys) c.args.kinds.items) (sym c.in_ok-insert.ensures.keys) (keys-kept c.args.lists.now.keys c.args.kinds) in
+    let keeps = subst (λ keys. Keeps old (map listed_kinds keys) c.args.kinds.items) (sym c.in_ok-insert.ensures.keys) (keys-kept c.args.lists.now.keys c.args.kinds) in
     let grown = grown-of (nodes_of c.args.tree.now) way old (branches-of c.args.tree.now) c.in_ok-node.ensures.grows (record { each = c.requires }) in
     let leads = subst (λ kinds. LeadsTo way (reverse kinds) c.in_ok-node.node) c.as_slice.ensures.value c.in_ok-node.ensures.leads in
-    (kept-of way (nodes_of c.end_at.new.self) old (map items_of c.insert.new.self.keys) c.args.kinds.items c.in_ok-node.node (branches-of c.way.new.self) leads c.end_at.ensures keeps grown).each
+    (kept-of way (nodes_of c.end_at.new.self) old (map listed_kinds c.insert.new.self.keys) c.args.kinds.items c.in_ok-node.node (branches-of c.way.new.self) leads c.end_at.ensures keeps grown).each

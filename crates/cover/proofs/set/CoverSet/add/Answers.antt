@@ -4,7 +4,7 @@ use Rattle.std.specs.Result.{OnErr}
 use Rattle.std.specs.declared.result.Result.{Result}
 use Rattle.std.specs.declared.result.Result.TheVariants.{Ok, Err}
 use Rattle.cover.specs.Covered.{Keeps}
-use Rattle.cover.specs.Kept.{lists_of, problem_of}
+use Rattle.cover.specs.Kept.{lists_of, kept_problem}
 use Rattle.cover.proofs.set.CoverSet.add.Goals as goal
 
 on_err : {A E : Type 0} (r : Result A E) (P : Type 0) → P → OnErr r P
@@ -12,11 +12,11 @@ on_err (Ok v) P holds = tt
 on_err (Err e) P holds = holds
 
 pub returns-then-not-plays-clause-plays : goal.returns-then-not-plays-clause-plays
-unfolding problem_of
+unfolding kept_problem
 returns-then-not-plays-clause-plays g c = c.if-not-plays.ensures.exact
 
 pub returns-in_err-keep-clause-problem : goal.returns-in_err-keep-clause-problem
-unfolding problem_of
+unfolding kept_problem
 returns-in_err-keep-clause-problem g c = refl
 
 pub returns-in_err-keep-clause-err : goal.returns-in_err-keep-clause-err
@@ -24,13 +24,17 @@ unfolding lists_of
 returns-in_err-keep-clause-err g c = on_err _ _ c.in_err-keep.ensures.err
 
 pub returns-clause-problem : goal.returns-clause-problem
-unfolding problem_of
+unfolding kept_problem
 returns-clause-problem g c = refl
 
 pub returns-clause-plays : goal.returns-clause-plays
-unfolding problem_of
+unfolding kept_problem
 returns-clause-plays g c = c.if-not-plays.ensures.exact
 
 pub returns-clause-kept : goal.returns-clause-kept
 unfolding lists_of
 returns-clause-kept g c = subst (Keeps (lists_of c.args.self.now) _) c.kinds_of.ensures c.in_ok-keep.ensures.kept
+
+pub returns-in_err-keep-clause-none : goal.returns-in_err-keep-clause-none
+unfolding kept_problem
+returns-in_err-keep-clause-none g c = λ leaves. absurd (leaves (c.if-not-plays.ensures.exact.0 refl))

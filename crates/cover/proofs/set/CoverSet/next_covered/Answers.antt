@@ -1,6 +1,6 @@
 -- A queue permits a kept list, or those that begin like it permit none.
 use Rattle.std.proofs.Common.{subst, arith}
-use Rattle.cover.specs.Kept.{lists_of, problem_of}
+use Rattle.cover.specs.Kept.{lists_of, kept_problem}
 use Rattle.cover.specs.Look.{pieces_at, Misses, TakesOne}
 use Rattle.cover.specs.Tree.{nodes_of}
 use Rattle.cover.proofs.NextLemmas.{next-found, next-passed, none-at-all}
@@ -11,7 +11,7 @@ pub look_at-requires-clause-node : goal.look_at-requires-clause-node
 look_at-requires-clause-node c = (branches-of c.args.self.now.tree).rooted
 
 pub returns-in-Found : goal.returns-in-Found
-unfolding problem_of lists_of
+unfolding kept_problem lists_of
 returns-in-Found c =
     let set = c.args.self.now in
     let nodes = nodes_of set.tree in
@@ -20,11 +20,11 @@ returns-in-Found c =
     (subst (λ l. TakesOne nodes set.problem.hold 0 (pieces_at l c.start-hand.result)) c.as_slice.ensures.value one)
 
 pub loop-number-smaller : goal.loop-number-smaller
-unfolding problem_of
+unfolding kept_problem
 loop-number-smaller c = omega (arith, c.end_of_front-number.ensures.after, c.end_of_front-number.ensures.within)
 
 pub loop-number-preserved : goal.loop-number-preserved
-unfolding problem_of lists_of
+unfolding kept_problem lists_of
 loop-number-preserved c =
     let set = c.args.self.now in
     let nodes = nodes_of set.tree in
@@ -34,6 +34,6 @@ loop-number-preserved c =
     c.end_of_front-number.ensures.same c.end_of_front-number.ensures.after c.end_of_front-number.ensures.within
 
 pub returns : goal.returns
-unfolding problem_of lists_of
+unfolding kept_problem lists_of
 returns c =
     none-at-all c.args.self.now.problem (lists_of c.args.self.now) c.args.from c.loop-number.number c.loop-number.invariant (omega (arith, c.loop-number-test.false, c.count.ensures.number))

@@ -1,18 +1,18 @@
 -- Nothing is kept, and the tree has no list.
 use Rattle.std.proofs.Common.{◌∙◌, sym, ap, refl, map}
-use Rattle.cover.specs.Kept.{lists_of, problem_of}
-use Rattle.cover.specs.Lists.{has_kinds, items_of}
+use Rattle.cover.specs.Kept.{lists_of, kept_problem}
+use Rattle.cover.specs.Lists.{has_kinds, listed_kinds}
 use Rattle.cover.proofs.set.CoverSet.start.Goals as goal
 
 pub invariant_of-result-clause-listed : goal.invariant_of-result-clause-listed
 unfolding has_kinds
 invariant_of-result-clause-listed c = λ kinds.
-    c.in_ok-tree.ensures.none kinds ∙ sym (ap (λ keys. has_kinds (map items_of keys) kinds) c.new-2.ensures.empty)
+    c.in_ok-tree.ensures.none kinds ∙ sym (ap (λ keys. has_kinds (map listed_kinds keys) kinds) c.new-2.ensures.empty)
 
 pub returns-clause-problem : goal.returns-clause-problem
-unfolding problem_of
+unfolding kept_problem
 returns-clause-problem c = refl
 
 pub returns-clause-none : goal.returns-clause-none
 unfolding lists_of
-returns-clause-none c = ap (λ keys. map items_of keys) c.new-2.ensures.empty
+returns-clause-none c = ap (λ keys. map listed_kinds keys) c.new-2.ensures.empty

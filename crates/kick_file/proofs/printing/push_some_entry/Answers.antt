@@ -5,7 +5,7 @@ use Rattle.srs.specs.Rules.{table_of}
 use Rattle.srs.proofs.CallerLemmas.{table_of-small}
 use Rattle.kick_file.specs.Printing.{is_short_move}
 use Rattle.kick_file.proofs.PrintLemmas.{short_moves}
-use Rattle.kick_file.proofs.printing.push_entry.Goals as goal
+use Rattle.kick_file.proofs.printing.push_some_entry.Goals as goal
 
 pub push_offsets-requires : goal.push_offsets-requires
 push_offsets-requires c =
