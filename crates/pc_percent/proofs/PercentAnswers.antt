@@ -9,7 +9,7 @@ use Rattle.pc_faults.proofs.CallerLemmas.{first_stops, inner_first, second_left}
 use Rattle.std.specs.Prelude.{Some}
 use Rattle.percent_settings.specs.Request.{PercentRequest}
 use Rattle.pc_source.specs.Answers.{Answers}
-use Rattle.pc_source.specs.Faults.{cells_of, field_fault}
+use Rattle.pc_source.specs.Faults.{cells_asked, field_fault}
 use Rattle.pc_source.specs.Had.{HasField, IsRefusal}
 use Rattle.pc_source.specs.Sink.{SinkChange}
 use Rattle.pc_source.specs.Work.{Works}
@@ -32,7 +32,7 @@ field_refused request bytes r is = refusal_before (field_fault request.common.fi
 had_fault : (request : PercentRequest) (bytes : List ℕ) (F : Field) → HasField request.common.field request.common.page bytes F → percent_fault request bytes ≡ problem_fault request.common F
 unfolding percent_fault
 had_fault request bytes F has =
-    second_left (field_fault request.common.field request.common.page bytes) (problem_fault request.common (cells_of request.common.field request.common.page bytes)) has.none
+    second_left (field_fault request.common.field request.common.page bytes) (problem_fault request.common (cells_asked request.common.field request.common.page bytes)) has.none
     ∙ ap (problem_fault request.common) (field_cells request.common.field request.common.page bytes F has.is)
 
 module _ (request : PercentRequest) (bytes : List ℕ) (F : Field) (has : HasField request.common.field request.common.page bytes F) (sink : SinkChange) where
@@ -50,4 +50,4 @@ module _ (request : PercentRequest) (bytes : List ℕ) (F : Field) (has : HasFie
 pub inner_percent : (request : PercentRequest) (bytes : List ℕ) → IsInner (percent_fault request bytes)
 unfolding percent_fault
 inner_percent request bytes =
-    inner_first _ _ (inner_field request.common.field request.common.page bytes) (inner_first _ [] (inner_problem request.common (cells_of request.common.field request.common.page bytes)) tt)
+    inner_first _ _ (inner_field request.common.field request.common.page bytes) (inner_first _ [] (inner_problem request.common (cells_asked request.common.field request.common.page bytes)) tt)

@@ -15,23 +15,24 @@ ghost use Rattle.pc_source.specs.Answers.{Answers as AnswersOf};
 ghost use Rattle.pc_source.specs.Sink.{sink_change};
 ghost use Rattle.pc_source.specs.Work.{Works};
 ghost use Rattle.pc_percent.specs.AskedTask.{asked_task};
-ghost use Rattle.pc_percent.specs.Lines.{failed_lines, numbers_form, percent_form};
+ghost use Rattle.pc_percent.specs.Lines.{failed_lines, percent_form};
 ghost use Rattle.pc_percent.specs.PercentTask.{percent_task};
 
-use crate::lines::{write_failed, write_number};
+use crate::lines::write_failed;
 use enumerate::Problem;
 use pc_faults::Status;
 use pc_outside::{Failed, Sink};
 use pc_problem::problem_of;
 use pc_source::field;
-use percent::{Answers, rate};
+use percent::Answers;
 use percent_settings::PercentSettings;
+use queue_lines::write_numbers;
 use reach::Steps;
 use std::alloc::Global;
 use std::sync::ledger::Ledger;
 use well::Well;
 
-// Writes the lines of the first queues without a perfect clear, at most so many.
+/// Writes the lines of the first queues without a perfect clear, at most so many.
 fn write_all_failed<O: Sink>(
     out: &mut O,
     problem: &Problem,
@@ -54,19 +55,7 @@ fn write_all_failed<O: Sink>(
     Ok(())
 }
 
-// Writes how many queues there are, how many of them are good, and the rate.
-fn write_numbers<O: Sink>(out: &mut O, all: u32, good: u32) -> Result<(), Failed>
-    requires some { 0 < all }
-    requires within { good ≤ all }
-    ensures written { WritesAll (O.written out.old) (O.written out.new) result (numbers_form all good) }
-    ensures cause { HasCause (O.faults out.old) (O.faults out.new) result }
-{
-    write_number(out, b"queues ", all)?;
-    write_number(out, b"good ", good)?;
-    write_number(out, b"rate ", rate(good, all))
-}
-
-// Writes what is known of all queues.
+/// Writes what is known of all queues.
 fn write_answers<O: Sink>(
     out: &mut O,
     problem: &Problem,
@@ -109,7 +98,7 @@ pub fn run_percent<O: Sink, L: Ledger>(
     }
 }
 
-// Answers for all queues about a field.
+/// Answers for all queues about a field.
 fn answer_all<O: Sink, L: Ledger>(
     alloc: Global,
     well: Well,

@@ -1,5 +1,5 @@
 -- Good queues: those with a perfect clear.
-use Rattle.std.specs.Prelude.{ℕ, ◌*◌, ◌/◌, List}
+use Rattle.std.specs.Prelude.{List}
 use Rattle.srs.specs.declared.piece.Piece.{Piece}
 use Rattle.srs.specs.declared.placement.Placement.{Placement}
 use Rattle.srs.specs.Rules.{table_of}
@@ -14,7 +14,3 @@ pub record Good (problem : Problem) (queue : List Piece) : Type 0 where
   pub sequence : List Placement
   pub plays : Plays (table_of problem.rules) problem.drop_mode (filled problem.well) problem.height sequence
   pub permitted : Permits problem.hold queue problem.held (pieces_of sequence)
-
--- 10,000 times the good ones divided by all, rounded down
-abbrev pub rate_of : ℕ → ℕ → ℕ
-rate_of good all = 10000 * good / all

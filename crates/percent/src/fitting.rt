@@ -28,6 +28,8 @@ pub struct Verdict {
 #[derive(Drop)]
 struct Verdicts {
     cells: Empties,
+    /// A search for a tiling begins at the side that is nearer to this column.
+    near: u8,
     known: [Verdict; 64],
     ghost are_true: { All (IsTrueVerdict cells) known },
 }
@@ -69,12 +71,12 @@ fn greatest_counts(hands: &[u64], pieces: u8) -> Counts
     counts
 }
 
-/// Whether pieces with these counts fill the cells.
-fn fills(tilings: &mut TilingStore, cells: &Empties, counts: &Counts) -> bool
+/// Whether pieces with these counts fill the cells. The search begins at the side that is nearer to a column.
+fn fills(tilings: &mut TilingStore, cells: &Empties, near: u8, counts: &Counts) -> bool
     ensures { IsTrue result ↔ Tiling (all_but (empty_cells cells.now)) 8 (supply_by counts.now) }
 {
     let [_, i, l, o, z, t, j, s] = *counts;
-    tilings.has_tiling(cells, &[i, l, o, z, t, j, s])
+    tilings.has_tiling_near(cells, near, &[i, l, o, z, t, j, s])
 }
 
 /// The place of what was found of pieces with these counts.
@@ -87,7 +89,7 @@ fn place_of(counts: &Counts) -> usize
 
 impl Verdicts {
     /// Nothing was found of these cells.
-    fn new(cells: Empties) -> Verdicts
+    fn new(cells: Empties, near: u8) -> Verdicts
         ensures { result.cells ≡ cells }
     {
         let verdict = Verdict {
@@ -96,6 +98,7 @@ impl Verdicts {
         };
         Verdicts {
             cells,
+            near,
             known: [verdict; 64],
         }
     }
@@ -107,7 +110,7 @@ impl Verdicts {
     {
         let place = place_of(&counts);
         if self.known[place].counts != counts {
-            let may_fit = fills(tilings, &self.cells, &counts);
+            let may_fit = fills(tilings, &self.cells, self.near, &counts);
             self.known[place] = Verdict { counts, may_fit };
             return may_fit;
         }
@@ -136,10 +139,11 @@ pub fn fitting(
     }
     let cells = Empties::below(&position.well, position.rows);
     let pieces = left + 1;
-    if !fills(tilings, &cells, &greatest_counts(hands, pieces)) {
+    let near = position.near;
+    if !fills(tilings, &cells, near, &greatest_counts(hands, pieces)) {
         return Ok(v);
     }
-    let mut verdicts = Verdicts::new(cells);
+    let mut verdicts = Verdicts::new(cells, near);
     for hand in hands {
         if verdicts.may_fit(tilings, counts_of(*hand, pieces)) {
             v.push(*hand)?;

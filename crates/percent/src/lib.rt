@@ -10,11 +10,10 @@ mod kept;
 pub mod laws;
 mod order;
 mod position;
-mod share;
 mod start;
 #[cfg(test)]
 mod tests;
 
 pub use answers::Answers;
-pub use share::rate;
+pub use queue_lines::rate;
 pub use start::solvable;

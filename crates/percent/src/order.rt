@@ -8,7 +8,7 @@ use std::cmp::Reverse;
 use well::Well;
 
 /// How rough the surface of a well below some rows is: the sum of the differences of neighbouring heights, and four for
-/// each hole.
+/// each hole. Nothing is promised of it: it only says which position is tried first.
 pub fn roughness(well: &Well, rows: u8) -> u32
     requires { rows ≤ 8 }
 {

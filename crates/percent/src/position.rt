@@ -19,6 +19,8 @@ pub struct Position {
     pub well: Well,
     pub rows: u8,
     pub roughness: u32,
+    /// The column of the last placement.
+    pub near: u8,
     ghost few: { rows ≤ 8 },
     ghost below: { LiesBelow (filled well) rows },
 }
@@ -43,6 +45,7 @@ impl Position {
             well,
             rows,
             roughness: roughness(&well, rows),
+            near: placement.x,
         }
     }
 

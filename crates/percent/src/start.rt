@@ -42,6 +42,7 @@ fn first_position(problem: &Problem) -> Position
         well: problem.well,
         rows: problem.height,
         roughness: 0,
+        near: 0,
     }
 }
 

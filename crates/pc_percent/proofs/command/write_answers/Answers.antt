@@ -7,7 +7,8 @@ use Rattle.pc_outside.specs.WriteLaws.{after_piece, at_err, begins, failed_piece
 use Rattle.queue_pattern.specs.Pattern.{elements_of}
 use Rattle.queue_pattern.specs.Queues.{queues}
 use Rattle.percent.specs.GoodHands.{is_good_queue}
-use Rattle.pc_percent.specs.Lines.{numbers_form, percent_form}
+use Rattle.queue_lines.specs.Lines.{numbers_form}
+use Rattle.pc_percent.specs.Lines.{percent_form}
 use Rattle.pc_percent.proofs.command.write_answers.Goals as goal
 
 pub returns-in_err-write_all_failed-clause-written : goal.returns-in_err-write_all_failed-clause-written

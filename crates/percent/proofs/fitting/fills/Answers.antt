@@ -6,4 +6,4 @@ use Rattle.percent.proofs.FittingLemmas.{entries-supply}
 use Rattle.percent.proofs.fitting.fills.Goals as goal
 
 pub returns : goal.returns
-returns c = subst (λ s. IsTrue c.has_tiling.result ↔ Tiling (all_but (empty_cells c.args.cells.now)) 8 s) (entries-supply c.args.counts.now) c.has_tiling.ensures
+returns c = subst (λ s. IsTrue c.has_tiling_near.result ↔ Tiling (all_but (empty_cells c.args.cells.now)) 8 s) (entries-supply c.args.counts.now) c.has_tiling_near.ensures
