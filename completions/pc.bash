@@ -3,7 +3,7 @@ _pc() {
     local word=${COMP_WORDS[COMP_CWORD]} last=${COMP_WORDS[COMP_CWORD-1]} command=${COMP_WORDS[1]}
     COMPREPLY=()
     if [ "$COMP_CWORD" -eq 1 ]; then
-        COMPREPLY=($(compgen -W "path percent cover combo kicks decode encode show help --version try" -- "$word"))
+        COMPREPLY=($(compgen -W "path percent cover combo kicks selfrun decode encode show help --version try" -- "$word"))
         return
     fi
     case "$command $last" in
@@ -50,6 +50,8 @@ _pc() {
     "combo --keys") COMPREPLY=($(compgen -W "yes no" -- "$word"));;
     "combo --kicks") ;;
     "kicks --kicks") ;;
+    "selfrun --number") ;;
+    "selfrun --pages") ;;
     "encode --dialect") COMPREPLY=($(compgen -W "110 115" -- "$word"));;
     "show --page") ;;
     *)
@@ -59,6 +61,7 @@ _pc() {
         cover) COMPREPLY=($(compgen -W "--rows --tetfu --page --clear-line --patterns --hold --held --drop --kicks" -- "$word"));;
         combo) COMPREPLY=($(compgen -W "--rows --tetfu --page --patterns --hold --held --drop --keys --kicks" -- "$word"));;
         kicks) COMPREPLY=($(compgen -W "--kicks" -- "$word"));;
+        selfrun) COMPREPLY=($(compgen -W "--number --pages" -- "$word"));;
         decode) COMPREPLY=($(compgen -W "" -- "$word"));;
         encode) COMPREPLY=($(compgen -W "--dialect" -- "$word"));;
         show) COMPREPLY=($(compgen -W "--page" -- "$word"));;

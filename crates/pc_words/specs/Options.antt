@@ -4,7 +4,7 @@ use Rattle.std.specs.Str.{bytes_eq}
 use Rattle.pc_words.specs.declared.options.Command.{Command}
 use Rattle.pc_words.specs.declared.options.Command.TheVariants as commands
 use Rattle.pc_words.specs.declared.options.CommandOption.{CommandOption}
-use Rattle.pc_words.specs.declared.options.CommandOption.TheVariants.{Rows, Tetfu, Page, ClearLine, Patterns, Hold, Held, Drop, Kicks, After, Limit, Keys, Format, Dialect, Failed, Stats}
+use Rattle.pc_words.specs.declared.options.CommandOption.TheVariants.{Rows, Tetfu, Page, ClearLine, Patterns, Hold, Held, Drop, Kicks, After, Limit, Keys, Format, Dialect, Failed, Stats, Number, Pages}
 
 unfoldable pub command_in : List ℕ → Option Command
 command_in word =
@@ -16,7 +16,8 @@ command_in word =
     else (if bytes_eq word (codes "encode") then Some commands.Encode
     else (if bytes_eq word (codes "show") then Some commands.Show
     else (if bytes_eq word (codes "kicks") then Some commands.Kicks
-    else None)))))))
+    else (if bytes_eq word (codes "selfrun") then Some commands.Selfrun
+    else None))))))))
 
 -- the word that names an option
 abbrev pub option_name : CommandOption → List ℕ
@@ -36,6 +37,8 @@ option_name Format = codes "--format"
 option_name Dialect = codes "--dialect"
 option_name Failed = codes "--failed"
 option_name Stats = codes "--stats"
+option_name Number = codes "--number"
+option_name Pages = codes "--pages"
 
 abbrev pub options_of : Command → List CommandOption
 options_of commands.Path =
@@ -48,6 +51,7 @@ options_of commands.Decode = []
 options_of commands.Encode = Dialect ∷ []
 options_of commands.Show = Page ∷ []
 options_of commands.Kicks = Kicks ∷ []
+options_of commands.Selfrun = Number ∷ Pages ∷ []
 
 -- the one of these options that has this name
 unfoldable pub named_in : List ℕ → List CommandOption → Option CommandOption

@@ -16,6 +16,7 @@ pub data Request : Type 0 where
   encode : Dialect → Request
   show : (page : Option ℕ) → Request
   kicks : (text : List ℕ) → Request
+  selfrun : (number pages : ℕ) → Request
 
 -- the text of the table of offsets that is asked for, which is empty where there is none
 abbrev pub table_asked : Request → List ℕ
@@ -27,3 +28,4 @@ table_asked decode = []
 table_asked (encode dialect) = []
 table_asked (show page) = []
 table_asked (kicks text) = text
+table_asked (selfrun number pages) = []

@@ -31,6 +31,14 @@ limit_in text = number_in 1 1000000000 text
 abbrev pub failed_in : List ℕ → Option ℕ
 failed_in text = number_in 0 10000000 text
 
+-- the number that pages are made from
+abbrev pub seed_in : List ℕ → Option ℕ
+seed_in text = number_in 0 4294967295 text
+
+-- how many pages are made
+abbrev pub page_count_in : List ℕ → Option ℕ
+page_count_in text = number_in 1 10000 text
+
 unfoldable pub hold_in : List ℕ → Option Hold
 hold_in text =
     if bytes_eq text (codes "use") then Some holds.Allowed
@@ -83,3 +91,5 @@ takes options.Format text = is_some (format_in text)
 takes options.Dialect text = is_some (dialect_in text)
 takes options.Failed text = is_some (failed_in text)
 takes options.Stats text = is_some (yes_in text)
+takes options.Number text = is_some (seed_in text)
+takes options.Pages text = is_some (page_count_in text)

@@ -7,8 +7,8 @@ use Rattle.percent_settings.specs.Views.{percent_view}
 use Rattle.pc_settings.specs.Request.{IsInRange}
 use Rattle.pc_settings.specs.Views.{field_view}
 use Rattle.pc_words.specs.declared.settings.Settings.{Settings}
-use Rattle.pc_words.specs.declared.settings.Settings.TheVariants.{Path, Percent, Combo, Cover, Decode, Encode, Show, Kicks}
-use Rattle.pc_words.specs.Request.{Request, combo, cover, decode, encode, kicks, path, percent, show}
+use Rattle.pc_words.specs.declared.settings.Settings.TheVariants.{Path, Percent, Combo, Cover, Decode, Encode, Show, Kicks, Selfrun}
+use Rattle.pc_words.specs.Request.{Request, combo, cover, decode, encode, kicks, path, percent, selfrun, show}
 
 abbrev pub settings_view : Settings → Request
 settings_view (Path settings) = path (path_view settings)
@@ -19,6 +19,7 @@ settings_view Decode = decode
 settings_view (Encode dialect) = encode dialect
 settings_view (Show page) = show page
 settings_view (Kicks text) = kicks text.now
+settings_view (Selfrun number pages) = selfrun number pages
 
 abbrev pub settings_reading : Result Settings WordsFault → Result Request WordsFault
 settings_reading (Ok settings) = Ok (settings_view settings)
@@ -38,3 +39,4 @@ AsksInRange decode = Unit {0}
 AsksInRange (encode dialect) = Unit {0}
 AsksInRange (show page) = HasNumber page
 AsksInRange (kicks text) = Unit {0}
+AsksInRange (selfrun number pages) = (1 ≤ pages) × (pages ≤ 10000)

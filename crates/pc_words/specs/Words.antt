@@ -17,10 +17,10 @@ use Rattle.percent_settings.specs.Request.{PercentRequest}
 use Rattle.pc_words.specs.declared.options.Command.{Command}
 use Rattle.pc_words.specs.declared.options.Command.TheVariants as commands
 use Rattle.pc_words.specs.declared.options.CommandOption.{CommandOption}
-use Rattle.pc_words.specs.declared.options.CommandOption.TheVariants.{Rows, Tetfu, Page, ClearLine, Patterns, Hold, Held, Drop, Kicks, After, Limit, Keys, Format, Dialect, Failed, Stats}
+use Rattle.pc_words.specs.declared.options.CommandOption.TheVariants.{Rows, Tetfu, Page, ClearLine, Patterns, Hold, Held, Drop, Kicks, After, Limit, Keys, Format, Dialect, Failed, Stats, Number, Pages}
 use Rattle.pc_words.specs.Options.{command_in, option_name, option_of}
-use Rattle.pc_words.specs.Request.{Request, combo, cover, decode, encode, kicks, path, percent, show}
-use Rattle.pc_words.specs.Values.{dialect_in, drop_in, failed_in, format_in, height_in, held_in, hold_in, limit_in, page_in, takes, yes_in}
+use Rattle.pc_words.specs.Request.{Request, combo, cover, decode, encode, kicks, path, percent, selfrun, show}
+use Rattle.pc_words.specs.Values.{dialect_in, drop_in, failed_in, format_in, height_in, held_in, hold_in, limit_in, page_count_in, page_in, seed_in, takes, yes_in}
 
 -- the texts of the words
 abbrev pub texts : {Z : Type 0} → List (String Z) → List (List ℕ)
@@ -137,6 +137,15 @@ unfoldable pub combo_request : List (List ℕ) → Option ComboRequest
 combo_request pairs = combo_request_with pairs (field_given (value_of Rows pairs) (value_of Tetfu pairs))
     (value_of Patterns pairs)
 
+abbrev pub selfrun_with : Option ℕ → Option ℕ → Option Request
+selfrun_with (Some number) (Some pages) = Some (selfrun number pages)
+selfrun_with _ _ = None
+
+-- how many pages are made, and from which number; both are required
+unfoldable pub selfrun_request : List (List ℕ) → Option Request
+selfrun_request pairs = selfrun_with (option_and_then seed_in (value_of Number pairs))
+    (option_and_then page_count_in (value_of Pages pairs))
+
 -- a request, or that a required option is absent
 abbrev pub or_missing : List (List ℕ) → Option Request → Result Request WordsFault
 or_missing pairs None = Err (fault_at MissingOption (length pairs + 1))
@@ -154,6 +163,7 @@ request_of commands.Decode pairs = Ok decode
 request_of commands.Encode pairs = Ok (encode (given_or V115 dialect_in (value_of Dialect pairs)))
 request_of commands.Show pairs = Ok (show (option_and_then page_in (value_of Page pairs)))
 request_of commands.Kicks pairs = Ok (kicks (table_given pairs))
+request_of commands.Selfrun pairs = or_missing pairs (selfrun_request pairs)
 
 abbrev pub request_where : Option WordsFault → Command → List (List ℕ) → Result Request WordsFault
 request_where None command pairs = request_of command pairs

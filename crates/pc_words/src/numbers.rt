@@ -2,7 +2,7 @@
 ghost use Rattle.std.specs.Prelude.{◌≡◌, ◌≤◌, length, IfSome, IsTrue};
 ghost use Rattle.pc_words.specs.Numbers.{is_digits, is_number, digits_value, number_in};
 
-// The number that digits spell.
+/// The number that digits spell.
 #[tactic(auto, unfolding(crate::specs::Numbers::digits_value))]
 fn value_of(digits: &[u8]) -> u64
     requires digits { IsTrue (is_digits digits.now) }

@@ -13,6 +13,7 @@ pub enum Command {
     Encode,
     Show,
     Kicks,
+    Selfrun,
 }
 
 /// An option of some command.
@@ -34,6 +35,8 @@ pub enum CommandOption {
     Dialect,
     Failed,
     Stats,
+    Number,
+    Pages,
 }
 
 const PATH: [CommandOption; 14] = [
@@ -104,6 +107,7 @@ pub fn command_named(word: &str) -> Option<Command>
         "encode" => Some(Command::Encode),
         "show" => Some(Command::Show),
         "kicks" => Some(Command::Kicks),
+        "selfrun" => Some(Command::Selfrun),
         _ => None,
     }
 }
@@ -130,6 +134,8 @@ impl CommandOption {
             CommandOption::Dialect => "--dialect",
             CommandOption::Failed => "--failed",
             CommandOption::Stats => "--stats",
+            CommandOption::Number => "--number",
+            CommandOption::Pages => "--pages",
         }
     }
 }
@@ -146,6 +152,7 @@ fn options_of(command: Command) -> &'static [CommandOption]
         Command::Encode => &[CommandOption::Dialect],
         Command::Show => &[CommandOption::Page],
         Command::Kicks => &[CommandOption::Kicks],
+        Command::Selfrun => &[CommandOption::Number, CommandOption::Pages],
     }
 }
 

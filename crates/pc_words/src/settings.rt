@@ -6,16 +6,16 @@ ghost use Rattle.pc_settings.specs.Views.{field_view, text_view};
 ghost use Rattle.combo_settings.specs.Views.{combo_view};
 ghost use Rattle.path_settings.specs.Views.{path_view};
 ghost use Rattle.percent_settings.specs.Views.{percent_view};
-ghost use Rattle.pc_words.specs.Values.{dialect_in, drop_in, failed_in, format_in, height_in, held_in, hold_in, limit_in, page_in, yes_in};
+ghost use Rattle.pc_words.specs.Values.{dialect_in, drop_in, failed_in, format_in, height_in, held_in, hold_in, limit_in, page_count_in, page_in, seed_in, yes_in};
 ghost use Rattle.pc_words.specs.Request.{table_asked};
 ghost use Rattle.pc_words.specs.Views.{AsksInRange, HasNumber, settings_reading, settings_view};
 ghost use Rattle.pc_faults.specs.declared.words_fault.WordsKind.TheVariants.{MissingOption};
-ghost use Rattle.pc_words.specs.Words.{combo_request, fault_at, field_given, field_request, given_or, path_request, percent_request, request_of, table_given, texts, value_of};
+ghost use Rattle.pc_words.specs.Words.{combo_request, fault_at, field_given, field_request, given_or, path_request, percent_request, request_of, selfrun_request, table_given, texts, value_of};
 
 use crate::options::{Command, CommandOption};
 use crate::values::{
     MOST_SEQUENCES, dialect_in, drop_in, failed_in, format_in, height_in, held_in, hold_in,
-    limit_in, page_in, yes_in,
+    limit_in, page_count_in, page_in, seed_in, yes_in,
 };
 use crate::words::value_of;
 use combo_settings::ComboSettings;
@@ -48,6 +48,12 @@ pub enum Settings<'a> {
         /// The text of the table of offsets that is written.
         kicks: &'a str,
     },
+    Selfrun {
+        /// The number that pages are made from.
+        number: u32,
+        /// How many pages are made.
+        pages: u32,
+    },
 }
 
 impl Settings<'_> {
@@ -64,6 +70,7 @@ impl Settings<'_> {
             Settings::Encode { .. } => "",
             Settings::Show { .. } => "",
             Settings::Kicks { kicks } => kicks,
+            Settings::Selfrun { .. } => "",
         }
     }
 }
@@ -124,7 +131,7 @@ fn keys_of(pairs: &[String]) -> bool
         .unwrap_or(false)
 }
 
-// The field of the pairs, of which one at most gives it.
+/// The field of the pairs, of which one at most gives it.
 fn field_words(pairs: &[String]) -> Option<FieldWords<'_>>
     ensures { option_map text_view result ≡ field_given
         (value_of CommandOption.Rows (texts pairs.entry.now)) (value_of CommandOption.Tetfu (texts pairs.entry.now)) }
@@ -139,7 +146,7 @@ fn field_words(pairs: &[String]) -> Option<FieldWords<'_>>
     }
 }
 
-// What is asked about a field, or None where the field or the pattern is absent.
+/// What is asked about a field, or None where the field or the pattern is absent.
 #[tactic(auto, unfolding(crate::specs::Words::field_request))]
 fn field_settings(pairs: &[String]) -> Option<FieldSettings<'_>>
     ensures value { option_map field_view result ≡ field_request (texts pairs.entry.now) }
@@ -187,7 +194,7 @@ fn percent_settings<'a>(pairs: &'a [String], common: FieldSettings<'a>) -> Perce
     }
 }
 
-// What is asked about a run, or None where the field or the pattern is absent.
+/// What is asked about a run, or None where the field or the pattern is absent.
 #[tactic(auto, unfolding(crate::specs::Words::combo_request))]
 fn combo_settings(pairs: &[String]) -> Option<ComboSettings<'_>>
     ensures value { option_map combo_view result ≡ combo_request (texts pairs.entry.now) }
@@ -202,6 +209,18 @@ fn combo_settings(pairs: &[String]) -> Option<ComboSettings<'_>>
         drop_mode: drop_of(pairs),
         kicks: table_given(pairs),
         keys: keys_of(pairs),
+    })
+}
+
+/// How many pages are made, and from which number, or None where one of both is absent.
+#[tactic(auto, unfolding(crate::specs::Words::selfrun_request))]
+fn selfrun_settings(pairs: &[String]) -> Option<Settings<'_>>
+    ensures value { option_map settings_view result ≡ selfrun_request (texts pairs.entry.now) }
+    ensures range { IfSome result (λ settings. AsksInRange (settings_view settings)) }
+{
+    Some(Settings::Selfrun {
+        number: value_of(CommandOption::Number, pairs).and_then(seed_in)?,
+        pages: value_of(CommandOption::Pages, pairs).and_then(page_count_in)?,
     })
 }
 
@@ -250,5 +269,9 @@ pub fn settings_of(command: Command, pairs: &[String]) -> Result<Settings<'_>, W
         Command::Kicks => Ok(Settings::Kicks {
             kicks: table_given(pairs),
         }),
+        Command::Selfrun => match selfrun_settings(pairs) {
+            Some(settings) => Ok(settings),
+            None => Err(missing(pairs)),
+        },
     }
 }

@@ -1,6 +1,6 @@
 // The values that options take, each in its option's list or range.
 ghost use Rattle.std.specs.Prelude.{◌≡◌, ◌≤◌, IfSome};
-ghost use Rattle.pc_words.specs.Values.{dialect_in, drop_in, failed_in, format_in, height_in, held_in, hold_in, limit_in, page_in, takes, yes_in};
+ghost use Rattle.pc_words.specs.Values.{dialect_in, drop_in, failed_in, format_in, height_in, held_in, hold_in, limit_in, page_count_in, page_in, seed_in, takes, yes_in};
 
 use crate::numbers::number_in;
 use crate::options::CommandOption;
@@ -53,6 +53,21 @@ pub fn failed_in(text: &str) -> Option<u32>
     ensures { result ≡ failed_in text.now }
 {
     number_in(0, MOST_FAILED, text.as_bytes())
+}
+
+/// The number that pages are made from: 0 to 4,294,967,295.
+pub fn seed_in(text: &str) -> Option<u32>
+    ensures { result ≡ seed_in text.now }
+{
+    number_in(0, u32::MAX, text.as_bytes())
+}
+
+/// How many pages are made: 1 to 10,000.
+pub fn page_count_in(text: &str) -> Option<u32>
+    ensures value { result ≡ page_count_in text.now }
+    ensures range { IfSome result (λ pages. (1 ≤ pages) × (pages ≤ 10000)) }
+{
+    number_in(1, MOST_PAGES, text.as_bytes())
 }
 
 /// Whether pieces may be held: `use` or `avoid`.
@@ -147,5 +162,7 @@ pub fn takes(option: CommandOption, text: &str) -> bool
         CommandOption::Dialect => dialect_in(text).is_some(),
         CommandOption::Failed => failed_in(text).is_some(),
         CommandOption::Stats => yes_in(text).is_some(),
+        CommandOption::Number => seed_in(text).is_some(),
+        CommandOption::Pages => page_count_in(text).is_some(),
     }
 }

@@ -29,7 +29,7 @@ fn is_given(option: CommandOption, pairs: &[String]) -> bool
     value_of(option, pairs).is_some()
 }
 
-// Whether the option gives the field, and pairs before it give the field in the other way.
+/// Whether the option gives the field, and pairs before it give the field in the other way.
 fn is_other_field(option: CommandOption, before: &[String]) -> bool
     ensures { result ≡ is_other_field option (texts before.now) }
 {
@@ -59,7 +59,7 @@ fn value_fault(index: usize, option: CommandOption, value: Option<&str>) -> Opti
     })
 }
 
-// The first fault of a name and the value after it, where there is one, behind these pairs and the command.
+/// The first fault of a name and the value after it, where there is one, behind these pairs and the command.
 #[tactic(auto, unfolding(crate::specs::Words::pair_fault))]
 fn pair_fault(
     command: Command,
@@ -101,7 +101,7 @@ fn word_at(words: &[String], index: usize) -> Option<&str>
     }
 }
 
-// The first fault of the pairs behind a command.
+/// The first fault of the pairs behind a command.
 fn pairs_fault(command: Command, pairs: &[String]) -> Option<WordsFault>
     ensures { result ≡ pairs_fault command [] (texts pairs.now) }
 {

@@ -1,2 +1,4 @@
 -- Lemmas on drawn pages.
+pub mod CallerLemmas
+mod DrawnPages
 mod PageLemmas

@@ -35,7 +35,7 @@ fn operation_drawn(state: u64) -> Placement
     }
 }
 
-// One of the cells takes a colour.
+/// One of the cells takes a colour.
 #[tactic(auto, unfolding(crate::specs::Pages::cells_drawn))]
 fn cells_drawn(state: u64, cells: &[u8; 240]) -> [u8; 240]
     requires { AreCells V115 cells.now }
@@ -72,7 +72,7 @@ fn comment_drawn(alloc: Global, state: u64) -> Result<Option<Comment>, NoMemory>
     Ok(Some(Comment::from_units(units)))
 }
 
-// The page that is drawn from a state, over the cells that the page before it leaves.
+/// The page that is drawn from a state, over the cells that the page before it leaves.
 #[tactic(auto, unfolding(crate::specs::Pages::page_drawn))]
 fn page_drawn(alloc: Global, state: u64, colour: bool, cells: &[u8; 240]) -> Result<Page, NoMemory>
     requires { AreCells V115 cells.now }
@@ -90,7 +90,7 @@ fn page_drawn(alloc: Global, state: u64, colour: bool, cells: &[u8; 240]) -> Res
     })
 }
 
-// The state behind a page.
+/// The state behind a page.
 #[tactic(auto, unfolding(crate::specs::Pages::state_behind))]
 fn state_behind(state: u64) -> u64
     ensures { result ≡ state_behind state }

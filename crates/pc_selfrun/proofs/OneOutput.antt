@@ -1,0 +1,61 @@
+-- What `selfrun` writes is determined by its number and the number of pages.
+use Rattle.std.proofs.Common.{◌≡◌, ◌∙◌, ℕ, List, true, length, None, sym, ap, subst}
+use Rattle.lists.proofs.CallerLemmas.{IsRisingListOf-unique}
+use Rattle.srs.specs.declared.placement.Placement.{Placement}
+use Rattle.srs.specs.Order.{sequence_cmp}
+use Rattle.srs.specs.Rules.{table_of}
+use Rattle.srs.proofs.CallerLemmas.{sequence_cmp-total}
+use Rattle.fumen_digits.specs.declared.dialect.Dialect.TheVariants.{V115}
+use Rattle.fumen_text.specs.Written.{written}
+use Rattle.well.specs.Well.{filled}
+use Rattle.queue_pattern.specs.Pattern.{elements_of}
+use Rattle.queue_pattern.specs.Queues.{queues}
+use Rattle.hold_queue.specs.Permits.{SomePermits}
+use Rattle.sample_pages.specs.Pages.{column_drawn, sample_pages}
+use Rattle.enumerate.specs.declared.problem.Problem.{Problem}
+use Rattle.enumerate.specs.Plays.{Plays}
+use Rattle.enumerate.specs.Search.{IsList, IsSolutionAbove, View}
+use Rattle.enumerate.specs.Solution.{pieces_of}
+use Rattle.pc_selfrun.specs.Lines.{selfrun_form}
+use Rattle.pc_selfrun.specs.Output.{IsSelfrunOutput}
+use Rattle.pc_selfrun.specs.Problem.{IsColumnProblem}
+use Rattle.pc_selfrun.proofs.ColumnProblem.{elements_are}
+
+abbrev all_of : Problem → View
+all_of problem = record { problem = problem; queue = None; bound = None }
+
+-- two problems of one column have the same solutions
+solution_of_same : (column : ℕ) (one other : Problem) → IsColumnProblem column one → IsColumnProblem column other → (s : List Placement) → IsSolutionAbove (all_of one) s → IsSolutionAbove (all_of other) s
+solution_of_same column one other first second s m = record {
+  solution = record {
+    plays =
+        subst (λ t. Plays t other.drop_mode (filled other.well) other.height s) (first.rules ∙ sym second.rules)
+        (subst (λ d. Plays (table_of one.rules) d (filled other.well) other.height s) (first.drop ∙ sym second.drop)
+        (subst (λ F. Plays (table_of one.rules) one.drop_mode F other.height s) (first.field ∙ sym second.field)
+        (subst (λ h. Plays (table_of one.rules) one.drop_mode (filled one.well) h s) (first.height ∙ sym second.height) m.solution.plays)));
+    permitted =
+        subst (λ h. SomePermits h (queues (elements_of other.pattern)) other.held (pieces_of s)) (first.hold ∙ sym second.hold)
+        (subst (λ e. SomePermits one.hold (queues e) other.held (pieces_of s)) (elements_are column one first ∙ sym (elements_are column other second))
+        (subst (λ p. SomePermits one.hold (queues (elements_of one.pattern)) p (pieces_of s)) (first.held ∙ sym second.held) m.solution.permitted));
+  };
+  above = m.above;
+}
+
+list_of_same : (column : ℕ) (one other : Problem) → IsColumnProblem column one → IsColumnProblem column other → (xs : List (List Placement)) → IsList (all_of one) xs → IsList (all_of other) xs
+list_of_same column one other first second xs list = record {
+  rising = list.rising;
+  members = λ s. (
+    λ among. solution_of_same column one other first second s ((list.members s).0 among),
+    λ m. (list.members s).1 (solution_of_same column other one second first s m),
+  );
+}
+
+pub one_selfrun_output : (number pages : ℕ) (a b : List ℕ) → IsSelfrunOutput number pages a → IsSelfrunOutput number pages b → a ≡ b
+one_selfrun_output number pages a b first second =
+    let column = column_drawn number pages in
+    let list = list_of_same column first.problem second.problem first.named second.named first.sequences first.list in
+    let same : first.sequences ≡ second.sequences =
+    IsRisingListOf-unique sequence_cmp sequence_cmp-total (IsSolutionAbove (all_of second.problem)) first.sequences second.sequences list second.list in
+    first.lines
+    ∙ ap (λ (xs : List (List Placement)). selfrun_form (length (sample_pages number pages)) (length (written V115 (sample_pages number pages))) true column (length xs)) same
+    ∙ sym second.lines

@@ -1,0 +1,158 @@
+-- A rising list of sequences of four placements in the well has at most 2 ^ 63 members: each sequence has a number of its
+-- own below 6440 ^ 4.
+use Rattle.std.proofs.Common.{◌≡◌, ◌≢◌, ◌∙◌, ℕ, ◌+◌, ◌-◌, ◌*◌, ◌^◌, ◌<◌, ◌≤◌, true, false, eqb, eqb-true, List, [], ◌∷◌, length, map, refl, sym, subst, arith, inl, inr}
+use Rattle.std.specs.Prelude.{Contains}
+use Rattle.std.specs.List.{list_any, IsDistinct, AllByRecursion}
+use Rattle.std.specs.List.Sorted.{IsStrictlySortedBy}
+use Rattle.std.specs.Cmp.{tied_itself}
+use Rattle.std.specs.declared.cmp.Ordering.TheVariants.{Less, Equal}
+use Rattle.std.proofs.lemmas.Bool.{ne_eqb, or_cases}
+use Rattle.std.proofs.lemmas.List.{length-map}
+use Rattle.std.proofs.lemmas.Map.Steps.{length-le_from_distinct_below}
+use Rattle.lists.proofs.CallerLemmas.{Contains-here, Contains-there, rising-first, rising-rest}
+use Rattle.srs.specs.declared.piece.Piece.{Piece}
+use Rattle.srs.specs.declared.piece.Piece.TheVariants.{I, L, O, Z, T, J, S}
+use Rattle.srs.specs.declared.rotation.Rotation.{Rotation}
+use Rattle.srs.specs.declared.rotation.Rotation.TheVariants.{Spawn, Right, Reverse, Left}
+use Rattle.srs.specs.declared.placement.Placement.{Placement}
+use Rattle.srs.specs.Piece.{piece_code}
+use Rattle.srs.specs.Rotation.{rotation_place}
+use Rattle.srs.specs.Order.{sequence_cmp}
+use Rattle.srs.proofs.CallerLemmas.{PivotInside, piece_code-injective, rotation_place-injective, sequence_cmp-total}
+
+-- ---- the number of a sequence
+
+record IsCode (code : ℕ) : Type 0 where
+  some : 1 ≤ code
+  most : code ≤ 7
+
+piece_code-within : (piece : Piece) → IsCode (piece_code piece)
+piece_code-within I = record { some = omega arith; most = omega arith }
+piece_code-within L = record { some = omega arith; most = omega arith }
+piece_code-within O = record { some = omega arith; most = omega arith }
+piece_code-within Z = record { some = omega arith; most = omega arith }
+piece_code-within T = record { some = omega arith; most = omega arith }
+piece_code-within J = record { some = omega arith; most = omega arith }
+piece_code-within S = record { some = omega arith; most = omega arith }
+
+rotation_place-within : (rotation : Rotation) → rotation_place rotation ≤ 3
+rotation_place-within Spawn = omega arith
+rotation_place-within Right = omega arith
+rotation_place-within Reverse = omega arith
+rotation_place-within Left = omega arith
+
+-- the number of four coordinates, of a placement, and of a sequence
+number_with : (code rotation x y : ℕ) → ℕ
+number_with code rotation x y = x + 10 * (y + 23 * (rotation + 4 * (code - 1)))
+
+placement_number : Placement → ℕ
+placement_number q = number_with (piece_code q.piece) (rotation_place q.rotation) q.x q.y
+
+sequence_number : List Placement → ℕ
+sequence_number [] = 0
+sequence_number (q ∷ rest) = placement_number q + 6440 * sequence_number rest
+
+with_below : (code rotation x y : ℕ) → 1 ≤ code → code ≤ 7 → rotation ≤ 3 → x ≤ 9 → y ≤ 22 → number_with code rotation x y < 6440
+unfolding number_with
+with_below code rotation x y some most few column row = omega arith
+
+number_below : (q : Placement) → PivotInside q → placement_number q < 6440
+unfolding placement_number
+number_below q inside =
+    let code = piece_code-within q.piece in
+    with_below (piece_code q.piece) (rotation_place q.rotation) q.x q.y code.some code.most (rotation_place-within q.rotation) inside.in_columns inside.in_rows
+
+record IsSameWith (a b r s x u y v : ℕ) : Type 0 where
+  code : a ≡ b
+  rotation : r ≡ s
+  column : x ≡ u
+  row : y ≡ v
+
+with_same : (a b r s x u y v : ℕ) → 1 ≤ a → 1 ≤ b → r ≤ 3 → s ≤ 3 → x ≤ 9 → u ≤ 9 → y ≤ 22 → v ≤ 22 → number_with a r x y ≡ number_with b s u v → IsSameWith a b r s x u y v
+unfolding number_with
+with_same a b r s x u y v a-some b-some r-few s-few x-few u-few y-few v-few same =
+    let column : x ≡ u = omega arith in
+    let row : y ≡ v = omega arith in
+    let rotation : r ≡ s = omega arith in
+    record { code = omega arith; rotation = rotation; column = column; row = row }
+
+made : Piece → Rotation → ℕ → ℕ → Placement
+made piece rotation x y = record { piece = piece; rotation = rotation; x = x; y = y }
+
+same_placement : (q r : Placement) → PivotInside q → PivotInside r → placement_number q ≡ placement_number r → q ≡ r
+unfolding placement_number made
+same_placement q r one other same =
+    let code = piece_code-within q.piece in
+    let code' = piece_code-within r.piece in
+    let is = with_same _ _ _ _ _ _ _ _ code.some code'.some (rotation_place-within q.rotation) (rotation_place-within r.rotation) one.in_columns other.in_columns one.in_rows other.in_rows same in
+    let piece = piece_code-injective q.piece r.piece is.code in
+    let rotation = rotation_place-injective q.rotation r.rotation is.rotation in
+    λ i. made (piece i) (rotation i) (is.column i) (is.row i)
+
+-- four placements whose pivots lie in the well
+pub record AreFour (s : List Placement) : Type 0 where
+  pub four : length s ≡ 4
+  pub inside : AllByRecursion PivotInside s
+
+same_sequence : (s t : List Placement) → AllByRecursion PivotInside s → AllByRecursion PivotInside t → length s ≡ length t → sequence_number s ≡ sequence_number t → s ≡ t
+unfolding sequence_number
+same_sequence [] [] one other long same = refl
+same_sequence [] (r ∷ t) one other long same = absurd (omega (arith, long))
+same_sequence (q ∷ s) [] one other long same = absurd (omega (arith, long))
+same_sequence (q ∷ s) (r ∷ t) one other long same =
+    let a = number_below q one.0 in
+    let b = number_below r other.0 in
+    let rest : sequence_number s ≡ sequence_number t = omega (arith, a, b, same) in
+    let first : placement_number q ≡ placement_number r = omega (arith, same, rest) in
+    λ i. same_placement q r one.0 other.0 first i ∷ same_sequence s t one.1 other.1 (omega (arith, long)) rest i
+
+four_below : (s : List Placement) → AreFour s → sequence_number s < 2 ^ 63
+unfolding sequence_number
+four_below [] are = let four = are.four in absurd (omega (arith, four))
+four_below (a ∷ []) are = let four = are.four in absurd (omega (arith, four))
+four_below (a ∷ b ∷ []) are = let four = are.four in absurd (omega (arith, four))
+four_below (a ∷ b ∷ c ∷ []) are = let four = are.four in absurd (omega (arith, four))
+four_below (a ∷ b ∷ c ∷ d ∷ []) are =
+    let inside = are.inside in
+    let first = number_below a inside.0 in
+    let second = number_below b inside.1.0 in
+    let third = number_below c inside.1.1.0 in
+    let fourth = number_below d inside.1.1.1.0 in
+    omega (arith, first, second, third, fourth)
+four_below (a ∷ b ∷ c ∷ d ∷ e ∷ s) are = let four = are.four in absurd (omega (arith, four))
+
+-- ---- a list of different sequences
+
+apart : (s : List Placement) (xs : List (List Placement)) → ((t : List Placement) → Contains xs t → sequence_number s ≢ sequence_number t)
+    → AllByRecursion (λ n. eqb (sequence_number s) n ≡ false) (map sequence_number xs)
+apart s [] other = tt
+apart s (t ∷ xs) other =
+    (ne_eqb (sequence_number s) (sequence_number t) (other t (Contains-here t xs)), apart s xs (λ u among. other u (Contains-there t xs u among)))
+
+never_less : (s t : List Placement) → sequence_cmp s t ≡ Less → s ≡ t → ⊥
+never_less s t less same =
+    let tied : sequence_cmp t t ≡ Equal = tied_itself sequence_cmp-total t in
+    let before : sequence_cmp t t ≡ Less = subst (λ s. sequence_cmp s t ≡ Less) same less in
+    cc
+
+numbers_distinct : (xs : List (List Placement)) → IsStrictlySortedBy sequence_cmp xs → ((s : List Placement) → Contains xs s → AreFour s) → IsDistinct eqb (map sequence_number xs)
+unfolding IsDistinct
+numbers_distinct [] rising four = tt
+numbers_distinct (s ∷ xs) rising four =
+    let one = four s (Contains-here s xs) in (
+      apart s xs (λ t among same.
+          let other = four t (Contains-there s xs t among) in
+          never_less s t (rising-first sequence_cmp s xs rising t among) (same_sequence s t one.inside other.inside (one.four ∙ sym other.four) same)),
+      numbers_distinct xs (rising-rest sequence_cmp s xs rising) (λ t among. four t (Contains-there s xs t among)),
+    )
+
+numbers_below : (xs : List (List Placement)) → ((s : List Placement) → Contains xs s → AreFour s) → (n : ℕ) → list_any (eqb n) (map sequence_number xs) ≡ true → n < 2 ^ 63
+numbers_below [] four n has = cc
+numbers_below (s ∷ xs) four n has = elim (or_cases (eqb n (sequence_number s)) (list_any (eqb n) (map sequence_number xs)) has) [
+  | inl first ↦ let is = eqb-true n (sequence_number s) first in subst (λ n. n < 2 ^ 63) (sym is) (four_below s (four s (Contains-here s xs)))
+  | inr later ↦ numbers_below xs (λ t among. four t (Contains-there s xs t among)) n later
+]
+
+pub few_sequences : (xs : List (List Placement)) → IsStrictlySortedBy sequence_cmp xs → ((s : List Placement) → Contains xs s → AreFour s) → length xs ≤ 2 ^ 63
+few_sequences xs rising four =
+    subst (λ n. n ≤ 2 ^ 63) (length-map xs sequence_number) (length-le_from_distinct_below (map sequence_number xs) (2 ^ 63) (numbers_distinct xs rising four) (numbers_below xs four))

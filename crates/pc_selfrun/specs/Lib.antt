@@ -1,0 +1,6 @@
+-- What a reader must believe.
+pub mod Lines
+pub mod Output
+pub mod Problem
+pub mod SelfrunTask
+pub mod Work

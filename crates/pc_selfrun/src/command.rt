@@ -1,0 +1,61 @@
+// The command `selfrun`: the pages, their text, the solutions of a problem, and then the lines.
+ghost use Rattle.std.specs.Prelude.{◌≡◌, ◌-◌, ◌≤◌, []};
+ghost use Rattle.pc_source.specs.Answers.{Answers};
+ghost use Rattle.pc_source.specs.Sink.{sink_change};
+ghost use Rattle.pc_source.specs.Work.{Works};
+ghost use Rattle.pc_selfrun.specs.SelfrunTask.{selfrun_task};
+
+use crate::count::count_solutions;
+use crate::lines::{Findings, write_findings};
+use crate::problem::column_problem;
+use crate::text::checked_text;
+use enumerate::Search;
+use pc_faults::Status;
+use pc_outside::Sink;
+use reach::Steps;
+use sample_pages::sample_of;
+use std::alloc::Global;
+use std::sync::ledger::Ledger;
+
+/// Makes so many pages from a number, writes them as a fumen text, reads it and compares, counts the solutions of the
+/// problem of the column that is drawn behind the pages, and writes what was found. All memory is taken before floods
+/// are made.
+pub fn run_selfrun<O: Sink, L: Ledger>(
+    alloc: Global,
+    number: u32,
+    pages: u32,
+    out: &mut O,
+    steps: &mut Steps<L>,
+) -> Status
+    requires least { 1 ≤ pages }
+    requires most { pages ≤ 10000 }
+    ensures answers { let sink = sink_change (O.written out.old) (O.written out.new)
+        (O.faults out.old) (O.faults out.new) in
+        Answers (selfrun_task number pages) [] sink (out.new ≡ out.old) (steps.new - steps.old) result }
+    ensures works { let task = selfrun_task number pages in
+        let sink = sink_change (O.written out.old) (O.written out.new) (O.faults out.old) (O.faults out.new) in
+        Works task (task.fault []) [] sink (steps.new - steps.old) result }
+    ensures counted { steps.old ≤ steps.new }
+{
+    let sample = match sample_of(alloc, number, pages) {
+        Ok(sample) => sample,
+        Err(_) => return Status::NoMemory,
+    };
+    let check = match checked_text(alloc, &sample.pages) {
+        Ok(check) => check,
+        Err(_) => return Status::NoMemory,
+    };
+    let mut search = match Search::start(alloc, column_problem(sample.column), None) {
+        Ok(search) => search,
+        Err(_) => return Status::NoMemory,
+    };
+    let solutions = count_solutions(&mut search, steps);
+    let found = Findings {
+        pages,
+        bytes: check.bytes,
+        same: check.same,
+        column: sample.column,
+        solutions,
+    };
+    Status::after_writes(write_findings(out, &found))
+}

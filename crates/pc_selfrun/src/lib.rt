@@ -1,0 +1,12 @@
+// The command `selfrun`: pages that are made from a number, written, read again and compared, and the solutions of a
+// problem that is drawn behind them.
+#![tactic(auto)]
+
+mod command;
+mod count;
+pub mod laws;
+mod lines;
+mod problem;
+mod text;
+
+pub use command::run_selfrun;
