@@ -9,7 +9,8 @@ use Rattle.pc_percent.proofs.CallerLemmas.{inner_percent, one_percent_output}
 use Rattle.pc_cover.proofs.CallerLemmas.{inner_cover, one_cover_output}
 use Rattle.pc_pages.proofs.CallerLemmas.{inner_encode, one_decode_output, one_encode_output, one_show_output}
 use Rattle.pc_kicks.proofs.CallerLemmas.{one_kicks_output}
-use Rattle.pc_words.specs.Request.{Request, combo, cover, decode, encode, kicks, path, percent, show}
+use Rattle.pc_selfrun.proofs.CallerLemmas.{one_selfrun_output}
+use Rattle.pc_words.specs.Request.{Request, combo, cover, decode, encode, kicks, path, percent, selfrun, show}
 use Rattle.pc_combo.proofs.CallerLemmas.{inner_combo, one_combo_output}
 use Rattle.pc_words.specs.Words.{request_in}
 use Rattle.pc_app.specs.Tasks.{asked_in, task_for, task_in, task_of, tells_floods, tells_floods_in}
@@ -24,6 +25,7 @@ one_for decode bytes floods others same = one_decode_output bytes
 one_for (encode dialect) bytes floods others same = one_encode_output dialect bytes
 one_for (show asked) bytes floods others same = one_show_output asked bytes
 one_for (kicks text) bytes floods others same = one_kicks_output text
+one_for (selfrun number pages) bytes floods others same = one_selfrun_output number pages
 
 one_in : (asked : Result Request Fault) (bytes : List ℕ) (floods others : ℕ) → (tells_floods_in asked ≡ true → floods ≡ others) → (a b : List ℕ)
     → (task_in asked).IsOutput bytes floods a → (task_in asked).IsOutput bytes others b → a ≡ b
@@ -44,3 +46,4 @@ inner_for decode bytes = inner_text None bytes
 inner_for (encode dialect) bytes = inner_encode dialect bytes
 inner_for (show asked) bytes = inner_text asked bytes
 inner_for (kicks text) bytes = tt
+inner_for (selfrun number pages) bytes = tt

@@ -13,7 +13,8 @@ use Rattle.pc_percent.specs.PercentTask.{percent_task}
 use Rattle.pc_cover.specs.CoverTask.{cover_task}
 use Rattle.pc_pages.specs.Tasks.{decode_task, encode_task, show_task}
 use Rattle.pc_kicks.specs.KicksTask.{kicks_task}
-use Rattle.pc_words.specs.Request.{Request, combo, cover, decode, encode, kicks, path, percent, show, table_asked}
+use Rattle.pc_selfrun.specs.SelfrunTask.{selfrun_task}
+use Rattle.pc_words.specs.Request.{Request, combo, cover, decode, encode, kicks, path, percent, selfrun, show, table_asked}
 use Rattle.pc_combo.specs.ComboTask.{combo_task}
 use Rattle.pc_words.specs.Words.{request_in}
 
@@ -26,6 +27,7 @@ task_for decode = decode_task
 task_for (encode dialect) = encode_task dialect
 task_for (show asked) = show_task asked
 task_for (kicks text) = kicks_task text
+task_for (selfrun number pages) = selfrun_task number pages
 
 -- whether the number of floods is written
 abbrev pub tells_floods : Request → Bool

@@ -11,4 +11,5 @@ pub use pc_faults::{Fault, Status, WordsFault, WordsKind};
 pub use pc_settings::{FieldSettings, FieldWords};
 pub use pc_words::{Settings, read_words};
 pub use percent_settings::PercentSettings;
+pub use sample_pages::sample_pages;
 pub use top::run;

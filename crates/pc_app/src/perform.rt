@@ -17,6 +17,7 @@ use pc_outside::Sink;
 use pc_pages::{run_decode, run_encode, run_show};
 use pc_path::run_path;
 use pc_percent::run_percent;
+use pc_selfrun::run_selfrun;
 use pc_source::is_of_source;
 use pc_words::Settings;
 use reach::Steps;
@@ -36,6 +37,7 @@ pub fn reads_source(settings: &Settings<'_>) -> bool
         Settings::Encode { .. } => true,
         Settings::Show { .. } => true,
         Settings::Kicks { .. } => false,
+        Settings::Selfrun { .. } => false,
     }
 }
 
@@ -67,5 +69,6 @@ pub fn perform<O: Sink, L: Ledger>(
         Settings::Encode { dialect } => run_encode(alloc, *dialect, bytes, out),
         Settings::Show { page } => run_show(alloc, *page, bytes, out),
         Settings::Kicks { kicks } => run_kicks(alloc, kicks, out),
+        Settings::Selfrun { number, pages } => run_selfrun(alloc, *number, *pages, out, steps),
     }
 }

@@ -30,7 +30,7 @@ use reach::Steps;
 use std::alloc::Global;
 use std::sync::ledger::Ledger;
 
-// What the words ask for, or the first fault of the words, or of the table of offsets that they give.
+/// What the words ask for, or the first fault of the words, or of the table of offsets that they give.
 fn asked(words: &[String]) -> Result<Settings<'_>, Fault>
     ensures value { asked_reading result ≡ asked_in (request_in (texts words.entry.now)) }
     ensures range { IfOk result (λ settings. AsksInRange (settings_view settings)) }
@@ -46,7 +46,7 @@ fn asked(words: &[String]) -> Result<Settings<'_>, Fault>
     }
 }
 
-// The status, before a fault is reported.
+/// The status, before a fault is reported.
 fn answer<S: Source, O: Sink, L: Ledger>(
     alloc: Global,
     words: &[String],

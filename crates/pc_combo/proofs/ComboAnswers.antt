@@ -14,7 +14,7 @@ use Rattle.pc_faults.specs.Inner.{IsInner}
 use Rattle.pc_faults.proofs.CallerLemmas.{first_stops, inner_first, inner_test, second_left}
 use Rattle.combo_settings.specs.Request.{ComboRequest}
 use Rattle.pc_source.specs.Answers.{Answers}
-use Rattle.pc_source.specs.Faults.{cells_of, field_fault}
+use Rattle.pc_source.specs.Faults.{cells_asked, field_fault}
 use Rattle.pc_source.specs.Had.{HasField, IsRefusal}
 use Rattle.pc_source.specs.Sink.{SinkChange}
 use Rattle.pc_source.specs.Work.{Works}
@@ -37,7 +37,7 @@ field_refused request bytes r is = refusal_before (field_fault request.field req
 had_fault : (request : ComboRequest) (bytes : List ℕ) (F : Field) → HasField request.field request.page bytes F → combo_fault request bytes ≡ run_fault request F
 unfolding combo_fault
 had_fault request bytes F has =
-    second_left (field_fault request.field request.page bytes) (run_fault request (cells_of request.field request.page bytes)) has.none
+    second_left (field_fault request.field request.page bytes) (run_fault request (cells_asked request.field request.page bytes)) has.none
     ∙ ap (run_fault request) (field_cells request.field request.page bytes F has.is)
 
 module _ (request : ComboRequest) (bytes : List ℕ) (F : Field) (has : HasField request.field request.page bytes F) (sink : SinkChange) where
@@ -69,4 +69,4 @@ inner_run request F =
 pub inner_combo : (request : ComboRequest) (bytes : List ℕ) → IsInner (combo_fault request bytes)
 unfolding combo_fault
 inner_combo request bytes =
-    inner_first _ _ (inner_field request.field request.page bytes) (inner_first _ [] (inner_run request (cells_of request.field request.page bytes)) tt)
+    inner_first _ _ (inner_field request.field request.page bytes) (inner_first _ [] (inner_run request (cells_asked request.field request.page bytes)) tt)

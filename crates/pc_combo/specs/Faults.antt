@@ -8,7 +8,7 @@ use Rattle.queue_pattern.specs.Queues.{queues}
 use Rattle.pc_faults.specs.declared.fault.Fault.{Fault}
 use Rattle.pc_faults.specs.declared.fault.Fault.TheVariants as faults
 use Rattle.pc_faults.specs.FirstFault.{first_of_these}
-use Rattle.pc_source.specs.Faults.{cells_of, field_fault}
+use Rattle.pc_source.specs.Faults.{cells_asked, field_fault}
 use Rattle.pc_problem.specs.Faults.{full_row_fault, pattern_fault}
 use Rattle.combo_settings.specs.Request.{ComboRequest}
 
@@ -31,5 +31,5 @@ run_fault request F = first_of_these (
 unfoldable pub combo_fault : ComboRequest → List ℕ → Option Fault
 combo_fault request bytes = first_of_these (
     field_fault request.field request.page bytes
-    ∷ run_fault request (cells_of request.field request.page bytes)
+    ∷ run_fault request (cells_asked request.field request.page bytes)
     ∷ [])

@@ -27,7 +27,8 @@ pub record IsOneQueue (text : List ℕ) (queue : List Piece) : Type 0 where
   pub read : limited (elements_in text) ≡ Ok elements
   pub only : queues elements ≡ queue ∷ []
 
--- the longest run of this field that is asked for, by the table of offsets that the text spells, and each placement with its key word where keys are asked for
+-- the longest run of this field that is asked for, by the table of offsets that the text spells, and each placement
+-- with its key word where keys are asked for
 pub record IsRunFor (request : ComboRequest) (F : Field) (output : List ℕ) : Type 0 where
   pub table : Table
   pub rules : Ok table ≡ kick_text request.kicks

@@ -32,8 +32,8 @@ use std::alloc::Global;
 use std::sync::ledger::Ledger;
 use well::Well;
 
+/// Writes how many placements there are: `combo 12`.
 #[tactic(auto, unfolding(crate::specs::Output::count_form))]
-// Writes how many placements there are: `combo 12`.
 fn write_count<O: Sink>(out: &mut O, count: usize) -> Result<(), Failed>
     ensures written { WritesAll (O.written out.old) (O.written out.new) result (count_form count) }
     ensures cause { HasCause (O.faults out.old) (O.faults out.new) result }
@@ -42,7 +42,7 @@ fn write_count<O: Sink>(out: &mut O, count: usize) -> Result<(), Failed>
     write_pieces(out, &[b"combo ", digits.format(count).as_bytes(), b"\n"])
 }
 
-// Writes the line of a run, with keys where there is a finder.
+/// Writes the line of a run, with keys where there is a finder.
 fn write_line<O: Sink>(
     out: &mut O,
     well: &Well,
@@ -62,7 +62,7 @@ fn write_line<O: Sink>(
     }
 }
 
-// Writes the lines of a run.
+/// Writes the lines of a run.
 fn write_lines<O: Sink>(
     out: &mut O,
     well: &Well,
@@ -106,7 +106,7 @@ pub fn run_combo<O: Sink, L: Ledger>(
     }
 }
 
-// Writes the longest run of a field.
+/// Writes the longest run of a field.
 fn write_longest<O: Sink, L: Ledger>(
     alloc: Global,
     well: &Well,

@@ -13,7 +13,8 @@ use pc_problem::{open_rows, pattern_of};
 use queue_pattern::{Pattern, Queue};
 use well::Well;
 
-// The one queue of a pattern.
+/// The one queue of a pattern.
+#[tactic(auto, using(crate::proofs::OneQueue::only_one))]
 fn only_queue(pattern: &Pattern) -> Result<Queue, Fault>
     ensures fault { IfErr result (λ fault. one_queue (length (queues (elements_of pattern.now))) ≡ Some fault) }
     ensures none { OnOk result (one_queue (length (queues (elements_of pattern.now))) ≡ None) }
@@ -26,9 +27,9 @@ fn only_queue(pattern: &Pattern) -> Result<Queue, Fault>
     Ok(pattern.queue(0))
 }
 
-#[tactic(auto, unfolding(crate::specs::Faults::run_fault))]
 /// The queue that the settings name, or the first fault of what they ask about a field: a full row, the pattern, the
 /// number of its queues.
+#[tactic(auto, unfolding(crate::specs::Faults::run_fault))]
 pub fn queue_of(well: &Well, settings: &ComboSettings<'_>) -> Result<Queue, Fault>
     ensures fault { IfErr result (λ fault. run_fault (combo_view settings.now) (filled well.now) ≡ Some fault) }
     ensures none { OnOk result (run_fault (combo_view settings.now) (filled well.now) ≡ None) }

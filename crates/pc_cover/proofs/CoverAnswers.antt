@@ -14,7 +14,7 @@ use Rattle.pc_faults.specs.Inner.{IsInner}
 use Rattle.pc_faults.proofs.CallerLemmas.{first_stops, inner_first, second_left}
 use Rattle.pc_settings.specs.Request.{FieldRequest}
 use Rattle.pc_source.specs.Answers.{Answers}
-use Rattle.pc_source.specs.Faults.{cells_of, field_fault}
+use Rattle.pc_source.specs.Faults.{cells_asked, field_fault}
 use Rattle.pc_source.specs.Had.{HasField, IsRefusal}
 use Rattle.pc_source.specs.Sink.{SinkChange}
 use Rattle.pc_source.specs.Task.{nothing, source_bytes}
@@ -42,7 +42,7 @@ field_refused request bytes r is = refusal_before (field_fault request.field req
 had_fault : (request : FieldRequest) (bytes : List ℕ) (F : Field) → HasField request.field request.page dash F → cover_fault request bytes ≡ covering_fault request F bytes
 unfolding cover_fault
 had_fault request bytes F has =
-    second_left (field_fault request.field request.page dash) (covering_fault request (cells_of request.field request.page dash) bytes) has.none
+    second_left (field_fault request.field request.page dash) (covering_fault request (cells_asked request.field request.page dash) bytes) has.none
     ∙ ap (λ G. covering_fault request G bytes) (field_cells request.field request.page dash F has.is)
 
 module _ (request : FieldRequest) (bytes : List ℕ) (F : Field) (has : HasField request.field request.page dash F) (sink : SinkChange) where
@@ -99,7 +99,7 @@ inner_covering request F bytes =
 pub inner_cover : (request : FieldRequest) (bytes : List ℕ) → IsInner (cover_fault request bytes)
 unfolding cover_fault
 inner_cover request bytes =
-    inner_first _ _ (inner_field request.field request.page dash) (inner_first _ [] (inner_covering request (cells_of request.field request.page dash) bytes) tt)
+    inner_first _ _ (inner_field request.field request.page dash) (inner_first _ [] (inner_covering request (cells_asked request.field request.page dash) bytes) tt)
 
 -- the lines are refused
 pub lines_answers : (request : FieldRequest) (F : Field) (bytes : List ℕ) (needed : ℕ) (sink : SinkChange) (Kept : Type 0) (floods : ℕ) (r : Refused CoverFault) → problem_fault request F ≡ None

@@ -8,9 +8,10 @@ use Rattle.fumen_digits.specs.Reading.{◌>>=◌}
 use Rattle.page_list.specs.ListReading.{first_line, lines_of}
 use Rattle.page_list.proofs.CallerLemmas.{lines-more, none-left}
 use Rattle.pc_faults.specs.declared.cover_fault.CoverFault.{CoverFault}
-use Rattle.pc_cover.specs.Given.{Given, given_from, given_in, is_tail, numbered_sequence, with_front, GoesOn, Stops}
+use Rattle.pc_cover.specs.Given.{Given, given_from, given_in, is_tail, numbered_sequence}
+use Rattle.pc_cover.specs.LineSteps.{behind_front, ReadsLine, RefusesLine}
 
-pub front-none : (read : Given) → with_front [] read ≡ read
+pub front-none : (read : Given) → behind_front [] read ≡ read
 front-none (Ok sequences) = refl
 front-none (Err fault) = refl
 
@@ -28,33 +29,33 @@ pub given-refused : (needed number count : ℕ) (line : List ℕ) (lines : List 
 unfolding given_from
 given-refused needed number count line lines fault taken read = rw (taken, read) refl
 
-in_front : (front : List (List Placement)) (sequence : List Placement) (read : Given) → with_front front (read >>= (λ sequences. Ok (sequence ∷ sequences))) ≡ with_front (front ++ sequence ∷ []) read
+in_front : (front : List (List Placement)) (sequence : List Placement) (read : Given) → behind_front front (read >>= (λ sequences. Ok (sequence ∷ sequences))) ≡ behind_front (front ++ sequence ∷ []) read
 in_front front sequence (Ok sequences) = ap (λ (l : List (List Placement)). Ok l) (sym (append_assoc front (sequence ∷ []) sequences))
 in_front front sequence (Err fault) = refl
 
-pub line-passed : (needed number : ℕ) (line : List ℕ) (before : List (List Placement)) → is_tail line ≡ true → GoesOn needed number line before before
-line-passed needed number line before tail = record { each = λ lines. ap (with_front before) (given-passed needed number (length before) line lines tail) }
+pub line-passed : (needed number : ℕ) (line : List ℕ) (before : List (List Placement)) → is_tail line ≡ true → ReadsLine needed number line before before
+line-passed needed number line before tail = record { each = λ lines. ap (behind_front before) (given-passed needed number (length before) line lines tail) }
 
 pub line-taken : (needed number count : ℕ) (line : List ℕ) (before after : List (List Placement)) (sequence : List Placement) → is_tail line ≡ false → count ≡ length before
-    → numbered_sequence needed number count line ≡ Ok sequence → after ≡ before ++ sequence ∷ [] → GoesOn needed number line before after
+    → numbered_sequence needed number count line ≡ Ok sequence → after ≡ before ++ sequence ∷ [] → ReadsLine needed number line before after
 line-taken needed number count line before after sequence taken counted read is = record {
   each = λ lines.
       let long : length before + 1 ≡ length after = sym (ap length is ∙ length-append before (sequence ∷ [])) in
       let here = subst (λ n. numbered_sequence needed number n line ≡ Ok sequence) counted read in
-      ap (with_front before) (given-taken needed number (length before) line lines sequence taken here)
+      ap (behind_front before) (given-taken needed number (length before) line lines sequence taken here)
       ∙ in_front before sequence (given_from needed (number + 1) (length before + 1) lines)
-      ∙ ap (λ l. with_front l (given_from needed (number + 1) (length before + 1) lines)) (sym is)
-      ∙ ap (λ n. with_front after (given_from needed (number + 1) n lines)) long;
+      ∙ ap (λ l. behind_front l (given_from needed (number + 1) (length before + 1) lines)) (sym is)
+      ∙ ap (λ n. behind_front after (given_from needed (number + 1) n lines)) long;
 }
 
 pub line-refused : (needed number count : ℕ) (line : List ℕ) (before : List (List Placement)) (fault : CoverFault) → is_tail line ≡ false → count ≡ length before
-    → numbered_sequence needed number count line ≡ Err fault → Stops needed number line before (refused.Fault fault)
+    → numbered_sequence needed number count line ≡ Err fault → RefusesLine needed number line before (refused.Fault fault)
 line-refused needed number count line before fault taken counted read = λ lines.
-    ap (with_front before) (given-refused needed number (length before) line lines fault taken (subst (λ n. numbered_sequence needed number n line ≡ Err fault) counted read))
+    ap (behind_front before) (given-refused needed number (length before) line lines fault taken (subst (λ n. numbered_sequence needed number n line ≡ Err fault) counted read))
 
 -- the sequences so far, and the text that is left, make the whole
 pub record Reading (needed : ℕ) (text : List ℕ) (so_far : List (List Placement)) (number : ℕ) (rest : List ℕ) : Type 0 where
-  pub whole : with_front so_far (given_from needed (number + 1) (length so_far) (lines_of rest)) ≡ given_in needed text
+  pub whole : behind_front so_far (given_from needed (number + 1) (length so_far) (lines_of rest)) ≡ given_in needed text
   pub short : number + length rest ≤ length text
 
 pub reading-starts : (needed : ℕ) (text : List ℕ) → Reading needed text [] 0 text
@@ -65,24 +66,24 @@ module _ (needed : ℕ) (text : List ℕ) (so_far : List (List Placement)) (numb
   split : lines_of rest ≡ line ∷ lines_of behind
   split = lines-more rest some ∙ ap (λ (l : List ℕ × List ℕ). l.0 ∷ lines_of l.1) cut
 
-  pub reading-goes_on : (after : List (List Placement)) → GoesOn needed (number + 1) line so_far after → length behind < length rest → Reading needed text after (number + 1) behind
+  pub reading-goes_on : (after : List (List Placement)) → ReadsLine needed (number + 1) line so_far after → length behind < length rest → Reading needed text after (number + 1) behind
   reading-goes_on after goes shorter = record {
     whole =
-        sym (goes.each (lines_of behind)) ∙ ap (λ l. with_front so_far (given_from needed (number + 1) (length so_far) l)) (sym split) ∙ reading.whole;
+        sym (goes.each (lines_of behind)) ∙ ap (λ l. behind_front so_far (given_from needed (number + 1) (length so_far) l)) (sym split) ∙ reading.whole;
     short = omega (arith, reading.short, shorter);
   }
 
-  pub reading-stops : (fault : CoverFault) → Stops needed (number + 1) line so_far (refused.Fault fault) → given_in needed text ≡ Err fault
+  pub reading-stops : (fault : CoverFault) → RefusesLine needed (number + 1) line so_far (refused.Fault fault) → given_in needed text ≡ Err fault
   reading-stops fault stops =
-      sym reading.whole ∙ ap (λ l. with_front so_far (given_from needed (number + 1) (length so_far) l)) split ∙ stops (lines_of behind)
+      sym reading.whole ∙ ap (λ l. behind_front so_far (given_from needed (number + 1) (length so_far) l)) split ∙ stops (lines_of behind)
 
-  pub reading-refused : (r : Refused CoverFault) → Stops needed (number + 1) line so_far r → IsRefusal (λ fault. fault) r (given_in needed text)
+  pub reading-refused : (r : Refused CoverFault) → RefusesLine needed (number + 1) line so_far r → IsRefusal (λ fault. fault) r (given_in needed text)
   reading-refused (refused.Fault fault) stops = reading-stops fault stops
   reading-refused refused.NoMemory stops = tt
 
 pub reading-ends : (needed : ℕ) (text : List ℕ) (so_far : List (List Placement)) (number : ℕ) (rest : List ℕ) → Reading needed text so_far number rest → rest ≡ [] → given_in needed text ≡ Ok so_far
 unfolding given_from
 reading-ends needed text so_far number rest reading none =
-    sym reading.whole ∙ ap (λ t. with_front so_far (given_from needed (number + 1) (length so_far) (lines_of t))) none
-    ∙ ap (λ l. with_front so_far (given_from needed (number + 1) (length so_far) l)) none-left
+    sym reading.whole ∙ ap (λ t. behind_front so_far (given_from needed (number + 1) (length so_far) (lines_of t))) none
+    ∙ ap (λ l. behind_front so_far (given_from needed (number + 1) (length so_far) l)) none-left
     ∙ ap (λ (l : List (List Placement)). Ok l) (append-nil so_far)

@@ -4,7 +4,7 @@ use Rattle.std.specs.Prelude.{All, codes}
 use Rattle.std.specs.List.{list_all}
 use Rattle.std.specs.Str.{bytes_eq}
 use Rattle.std.specs.Cmp.Lexicographic.{bytes_decides}
-use Rattle.std.proofs.lemmas.Bool.{cases_Bool, and_parts, and_from, both_ways, le-leb, leb-true}
+use Rattle.std.proofs.lemmas.Bool.{cases_Bool, and_parts, and_from, both_ways, le-leb, leb-true, or_cases, or_left, or_right}
 use Rattle.std.proofs.lemmas.List.{take-append-drop}
 use Rattle.srs.specs.declared.placement.Placement.{Placement}
 use Rattle.fumen_digits.specs.Reading.{◌>>=◌}
@@ -15,8 +15,8 @@ use Rattle.sequence_text.proofs.CallerLemmas.{read_is_spelled, spelled_is_read}
 use Rattle.pc_faults.specs.declared.cover_fault.CoverFault.{CoverFault}
 use Rattle.pc_faults.specs.declared.cover_fault.CoverKind.{CoverKind}
 use Rattle.pc_faults.specs.declared.cover_fault.CoverKind.TheVariants.{BadSequence, TooManySequences}
-use Rattle.pc_cover.specs.Given.{Given, fault_at, given_from, given_in, is_count, is_counted, is_digit, is_tail, numbered, numbered_sequence}
-use Rattle.pc_cover.specs.Spelling.{IsCount, IsFaultBehind, IsGivenFault, IsName, IsTail, SpellsGiven, SpellsLines, none, passed, more}
+use Rattle.pc_cover.specs.Given.{Given, fault_in_line, given_from, given_in, is_count, is_counted, is_digit, is_tail, read_in_line, numbered_sequence}
+use Rattle.pc_cover.specs.Spelling.{IsCount, IsFaultOfLine, IsGivenFault, IsName, IsTail, SpellsGiven, SpellsLines, none, passed, more}
 use Rattle.pc_cover.proofs.GivenLemmas.{given-passed, given-taken, given-refused}
 
 -- ---- lines that are passed over
@@ -80,23 +80,11 @@ tail-counted line tail =
     let back = ap (drop (length tail.name)) tail.joined ∙ drop-front tail.name tail.count in
     and_from _ _ ((bytes_decides (take (length tail.name) line) tail.name).1 front) (ap is_count back ∙ is-count tail.count tail.counts)
 
-or_parts : (a b : Bool) → (a || b) ≡ true → (a ≡ true) ⊎ (b ≡ true)
-or_parts true b e = inl refl
-or_parts false b e = inr e
-
-or_first : (a b : Bool) → a ≡ true → (a || b) ≡ true
-or_first true b e = refl
-or_first false b e = cc
-
-or_second : (a b : Bool) → b ≡ true → (a || b) ≡ true
-or_second true b e = refl
-or_second false b e = e
-
 pub tail-is : (line : List ℕ) → is_tail line ≡ true → IsTail line
 unfolding is_tail
-tail-is line tail = elim (or_parts (is_counted (codes "end ") line) _ tail) [
+tail-is line tail = elim (or_cases (is_counted (codes "end ") line) _ tail) [
   | inl one ↦ counted-tail (codes "end ") line (inl refl) one
-  | inr others ↦ elim (or_parts (is_counted (codes "limit ") line) _ others) [
+  | inr others ↦ elim (or_cases (is_counted (codes "limit ") line) _ others) [
     | inl one ↦ counted-tail (codes "limit ") line (inr (inl refl)) one
     | inr one ↦ counted-tail (codes "floods ") line (inr (inr refl)) one
   ]
@@ -107,10 +95,10 @@ unfolding is_tail
 is-tail line tail =
     let counted = tail-counted line tail in
     elim tail.named [
-      | inl one ↦ or_first _ _ (ap (λ n. is_counted n line) (sym one) ∙ counted)
+      | inl one ↦ or_left _ _ (ap (λ n. is_counted n line) (sym one) ∙ counted)
       | inr others ↦ elim others [
-        | inl one ↦ or_second (is_counted (codes "end ") line) _ (or_first _ _ (ap (λ n. is_counted n line) (sym one) ∙ counted))
-        | inr one ↦ or_second (is_counted (codes "end ") line) _ (or_second (is_counted (codes "limit ") line) _ (ap (λ n. is_counted n line) (sym one) ∙ counted))
+        | inl one ↦ or_right (is_counted (codes "end ") line) _ (or_left _ _ (ap (λ n. is_counted n line) (sym one) ∙ counted))
+        | inr one ↦ or_right (is_counted (codes "end ") line) _ (or_right (is_counted (codes "limit ") line) _ (ap (λ n. is_counted n line) (sym one) ∙ counted))
       ]
     ]
 
@@ -128,7 +116,7 @@ same_sequence one other e = cc
 same_fault : (one other : CoverFault) → ◌≡◌ {A = Result (List Placement) CoverFault} (Err one) (Err other) → one ≡ other
 same_fault one other e = cc
 
-numbered-ok : (number : ℕ) (read : Result (List Placement) ℕ) (sequence : List Placement) → numbered number read ≡ Ok sequence → read ≡ Ok sequence
+numbered-ok : (number : ℕ) (read : Result (List Placement) ℕ) (sequence : List Placement) → read_in_line number read ≡ Ok sequence → read ≡ Ok sequence
 numbered-ok number (Ok one) sequence is = ap Ok (same_sequence one sequence is)
 numbered-ok number (Err place) sequence is = cc
 
@@ -148,12 +136,12 @@ is-sequence needed number count line sequence few spelled = rw (lt-ltb count 100
 -- the fault of a line behind so many sequences
 record IsFaultOf (needed number count : ℕ) (line : List ℕ) (fault : CoverFault) : Type 0 where
   place : fault.line ≡ number
-  kind : IsFaultBehind needed count line fault.kind
+  kind : IsFaultOfLine needed count line fault.kind
 
-bad-is : (needed number count : ℕ) (line : List ℕ) (fault : CoverFault) (read : Result (List Placement) ℕ) → count < 100000 → sequence_in needed line ≡ read → numbered number read ≡ Err fault → IsFaultOf needed number count line fault
+bad-is : (needed number count : ℕ) (line : List ℕ) (fault : CoverFault) (read : Result (List Placement) ℕ) → count < 100000 → sequence_in needed line ≡ read → read_in_line number read ≡ Err fault → IsFaultOf needed number count line fault
 bad-is needed number count line fault (Ok sequence) few read is = cc
 bad-is needed number count line fault (Err place) few read is =
-    subst (IsFaultOf needed number count line) (same_fault (fault_at number BadSequence) fault is)
+    subst (IsFaultOf needed number count line) (same_fault (fault_in_line number BadSequence) fault is)
     (record { place = refl; kind = (few, λ sequence spelled. no_read (sym read ∙ spelled_is_read needed line sequence spelled)) })
   where
     no_read : {sequence : List Placement} → ◌≡◌ {A = Result (List Placement) ℕ} (Err place) (Ok sequence) → ⊥
@@ -164,18 +152,18 @@ unfolding numbered_sequence
 fault-is needed number count line fault most is = elim (cases_Bool (nat_lt count 100000)) [
   | inl few ↦ bad-is needed number count line fault (sequence_in needed line) (ltb-true count 100000 few) refl (rw few at is)
   | inr past ↦
-      subst (IsFaultOf needed number count line) (same_fault (fault_at number TooManySequences) fault (rw past at is))
+      subst (IsFaultOf needed number count line) (same_fault (fault_in_line number TooManySequences) fault (rw past at is))
       (record { place = refl; kind = omega (arith, most, ltb-false count 100000 past) })
 ]
 
-fault-of : (number : ℕ) (kind : CoverKind) (fault : CoverFault) → fault.line ≡ number → kind ≡ fault.kind → fault_at number kind ≡ fault
-fault-of number kind fault line is = ap (λ n. fault_at n kind) (sym line) ∙ ap (λ k. fault_at fault.line k) is
+fault-of : (number : ℕ) (kind : CoverKind) (fault : CoverFault) → fault.line ≡ number → kind ≡ fault.kind → fault_in_line number kind ≡ fault
+fault-of number kind fault line is = ap (λ n. fault_in_line n kind) (sym line) ∙ ap (λ k. fault_in_line fault.line k) is
 
-bad-read : (needed number count : ℕ) (line : List ℕ) (read : Result (List Placement) ℕ) → sequence_in needed line ≡ read → ((sequence : List Placement) → Spells needed line sequence → ⊥) → numbered number read ≡ Err (fault_at number BadSequence)
+bad-read : (needed number count : ℕ) (line : List ℕ) (read : Result (List Placement) ℕ) → sequence_in needed line ≡ read → ((sequence : List Placement) → Spells needed line sequence → ⊥) → read_in_line number read ≡ Err (fault_in_line number BadSequence)
 bad-read needed number count line (Ok sequence) read never = absurd (never sequence (read_is_spelled needed line sequence read))
 bad-read needed number count line (Err place) read never = refl
 
-is-fault : (needed number count line_number : ℕ) (line : List ℕ) (kind : CoverKind) → IsFaultBehind needed count line kind → numbered_sequence needed number count line ≡ Err (fault_at number kind)
+is-fault : (needed number count line_number : ℕ) (line : List ℕ) (kind : CoverKind) → IsFaultOfLine needed count line kind → numbered_sequence needed number count line ≡ Err (fault_in_line number kind)
 unfolding numbered_sequence
 is-fault needed number count line_number line BadSequence behind =
     rw (lt-ltb count 100000 behind.0) (bad-read needed number count line (sequence_in needed line) refl behind.1)
@@ -307,25 +295,25 @@ read-fault needed (line ∷ lines) number count fault most is = elim (cases_Bool
       }
 
 fault-read : (needed : ℕ) (before : List (List ℕ)) (number count : ℕ) (sequences : List (List Placement)) (line : List ℕ) (behind : List (List ℕ)) (kind : CoverKind) → SpellsLines needed before sequences → count + length sequences ≤ 100000
-    → (IsTail line → ⊥) → IsFaultBehind needed (count + length sequences) line kind → given_from needed number count (before ++ line ∷ behind) ≡ Err (fault_at (number + length before) kind)
+    → (IsTail line → ⊥) → IsFaultOfLine needed (count + length sequences) line kind → given_from needed number count (before ++ line ∷ behind) ≡ Err (fault_in_line (number + length before) kind)
 fault-read needed [] number count (sequence ∷ sequences) line behind kind spelled most other is = elim spelled [ ]
 fault-read needed [] number count [] line behind kind none most other is =
     let place : number ≡ number + 0 = omega arith in
     let size : count + 0 ≡ count = omega arith in
-    given-refused needed number count line behind (fault_at number kind) (no-tail line other) (is-fault needed number count number line kind (subst (λ m. IsFaultBehind needed m line kind) size is))
-    ∙ ap (λ (n : ℕ). Err (fault_at n kind)) place
+    given-refused needed number count line behind (fault_in_line number kind) (no-tail line other) (is-fault needed number count number line kind (subst (λ m. IsFaultOfLine needed m line kind) size is))
+    ∙ ap (λ (n : ℕ). Err (fault_in_line n kind)) place
 fault-read needed (first ∷ before) number count sequences line behind kind (passed tail spelled) most other is =
     let place : number + 1 + length before ≡ number + suc (length before) = omega arith in
     given-passed needed number count first (before ++ line ∷ behind) (is-tail first tail)
     ∙ fault-read needed before (number + 1) count sequences line behind kind spelled most other is
-    ∙ ap (λ (n : ℕ). Err (fault_at n kind)) place
+    ∙ ap (λ (n : ℕ). Err (fault_in_line n kind)) place
 fault-read needed (first ∷ before) number count (sequence ∷ sequences) line behind kind (more taken one spelled) most other is =
     let place : number + 1 + length before ≡ number + suc (length before) = omega arith in
     let size : count + suc (length sequences) ≡ count + 1 + length sequences = omega arith in
     given-taken needed number count first (before ++ line ∷ behind) sequence (no-tail first taken) (is-sequence needed number count first sequence (omega (arith, most)) one)
     ∙ ap (λ (r : Given). r >>= (λ others. Ok (sequence ∷ others)))
-    (fault-read needed before (number + 1) (count + 1) sequences line behind kind spelled (omega (arith, most)) other (subst (λ m. IsFaultBehind needed m line kind) size is))
-    ∙ ap (λ (n : ℕ). Err (fault_at n kind)) place
+    (fault-read needed before (number + 1) (count + 1) sequences line behind kind spelled (omega (arith, most)) other (subst (λ m. IsFaultOfLine needed m line kind) size is))
+    ∙ ap (λ (n : ℕ). Err (fault_in_line n kind)) place
 
 -- ---- the laws
 
@@ -336,7 +324,7 @@ sequences-law needed text sequences = (
   λ given. spelled-read needed (lines_of text) 1 0 sequences given.spelled (omega (arith, given.most)),
 )
 
-behind-most : (needed count : ℕ) (line : List ℕ) (kind : CoverKind) → IsFaultBehind needed count line kind → count ≤ 100000
+behind-most : (needed count : ℕ) (line : List ℕ) (kind : CoverKind) → IsFaultOfLine needed count line kind → count ≤ 100000
 behind-most needed count line BadSequence behind = omega (arith, behind.0)
 behind-most needed count line TooManySequences behind = omega (arith, behind)
 
@@ -355,12 +343,12 @@ fault-law needed text fault = (
         divided = found.divided;
         taken = found.taken;
         number = omega (arith, found.is.place);
-        kind = subst (λ m. IsFaultBehind needed m found.line fault.kind) size found.is.kind;
+        kind = subst (λ m. IsFaultOfLine needed m found.line fault.kind) size found.is.kind;
       },
   λ given.
       let most = behind-most needed (length given.sequences) given.line fault.kind given.kind in
       let size : length given.sequences ≡ 0 + length given.sequences = omega arith in
       ap (given_from needed 1 0) given.divided
-      ∙ fault-read needed given.before 1 0 given.sequences given.line given.behind fault.kind given.spelled (omega (arith, most)) given.taken (subst (λ m. IsFaultBehind needed m given.line fault.kind) size given.kind)
+      ∙ fault-read needed given.before 1 0 given.sequences given.line given.behind fault.kind given.spelled (omega (arith, most)) given.taken (subst (λ m. IsFaultOfLine needed m given.line fault.kind) size given.kind)
       ∙ ap (λ (f : CoverFault). Err f) (fault-of (1 + length given.before) fault.kind fault (omega (arith, given.number)) refl),
 )

@@ -18,7 +18,8 @@ pub record AreKinds (problem : Problem) (sequences : List (List Placement)) (kin
   pub are : pieces_of sequence ≡ kinds
 
 -- just the kinds of those that clear the field are kept
-pub record KeepsKindsOf (problem : Problem) (lists : List (List Piece)) (sequences : List (List Placement)) : Type 0 where
+pub record KeepsKindsOf (problem : Problem) (lists : List (List Piece))
+    (sequences : List (List Placement)) : Type 0 where
   pub each : (kinds : List Piece) → Contains lists kinds ↔ AreKinds problem sequences kinds
 
 -- the queue with this number permits one of these lists

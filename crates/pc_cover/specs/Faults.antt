@@ -1,4 +1,5 @@
--- The first fault of `cover`: that of its field, then of what is asked about the field, then of the lines of the source.
+-- The first fault of `cover`: that of its field, then of what is asked about the field, then of the lines of the
+-- source.
 use Rattle.std.specs.Prelude.{ℕ, ◌/◌, List, [], ◌∷◌, Option, Some, None, Result, Ok, Err, codes}
 use Rattle.lane_board.specs.Field.{Field}
 use Rattle.well.specs.Counts.{empties_below}
@@ -6,7 +7,7 @@ use Rattle.pc_faults.specs.declared.fault.Fault.{Fault}
 use Rattle.pc_faults.specs.declared.fault.Fault.TheVariants as faults
 use Rattle.pc_faults.specs.FirstFault.{first_of_these}
 use Rattle.pc_settings.specs.Request.{FieldRequest}
-use Rattle.pc_source.specs.Faults.{cells_of, field_fault}
+use Rattle.pc_source.specs.Faults.{cells_asked, field_fault}
 use Rattle.pc_problem.specs.Faults.{problem_fault}
 use Rattle.pc_cover.specs.Given.{Given, given_in}
 
@@ -28,5 +29,5 @@ covering_fault request F bytes = first_of_these (
 unfoldable pub cover_fault : FieldRequest → List ℕ → Option Fault
 cover_fault request bytes = first_of_these (
     field_fault request.field request.page dash
-    ∷ covering_fault request (cells_of request.field request.page dash) bytes
+    ∷ covering_fault request (cells_asked request.field request.page dash) bytes
     ∷ [])

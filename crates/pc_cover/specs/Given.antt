@@ -1,10 +1,8 @@
 -- How the lines of the source are read. The law `lines_are_read_as_they_spell` says that what is read is what they
 -- spell, and that the fault is that of the first line that spells nothing.
-use Rattle.std.specs.Prelude.{◌≡◌, ℕ, ◌+◌, ◌++◌, Bool, ◌&&◌, ◌||◌, nat_le, nat_lt, if◌then◌else◌, List, [], ◌∷◌, codes, drop, length, take, Result, Ok, Err}
+use Rattle.std.specs.Prelude.{◌≡◌, ℕ, ◌+◌, Bool, ◌&&◌, ◌||◌, nat_le, nat_lt, if◌then◌else◌, List, [], ◌∷◌, codes, drop, length, take, Result, Ok, Err}
 use Rattle.std.specs.List.{list_all}
 use Rattle.std.specs.Str.{bytes_eq}
-use Rattle.pc_outside.specs.declared.answers.Refused.{Refused}
-use Rattle.pc_outside.specs.declared.answers.Refused.TheVariants as refused
 use Rattle.srs.specs.declared.placement.Placement.{Placement}
 use Rattle.fumen_digits.specs.Reading.{◌>>=◌}
 use Rattle.page_list.specs.ListReading.{lines_of}
@@ -28,17 +26,18 @@ is_counted name line = bytes_eq (take (length name) line) name && is_count (drop
 unfoldable pub is_tail : List ℕ → Bool
 is_tail line = is_counted (codes "end ") line || (is_counted (codes "limit ") line || is_counted (codes "floods ") line)
 
-abbrev pub fault_at : ℕ → CoverKind → CoverFault
-fault_at number kind = record { line = number; kind = kind }
+abbrev pub fault_in_line : ℕ → CoverKind → CoverFault
+fault_in_line number kind = record { line = number; kind = kind }
 
-abbrev pub numbered : ℕ → Result (List Placement) ℕ → Result (List Placement) CoverFault
-numbered number (Ok sequence) = Ok sequence
-numbered number (Err place) = Err (fault_at number BadSequence)
+abbrev pub read_in_line : ℕ → Result (List Placement) ℕ → Result (List Placement) CoverFault
+read_in_line number (Ok sequence) = Ok sequence
+read_in_line number (Err place) = Err (fault_in_line number BadSequence)
 
 -- the sequence of the line of this number, counted from 1, behind so many sequences
 unfoldable pub numbered_sequence : ℕ → ℕ → ℕ → List ℕ → Result (List Placement) CoverFault
 numbered_sequence needed number count line =
-    if nat_lt count 100000 then numbered number (sequence_in needed line) else Err (fault_at number TooManySequences)
+    if nat_lt count 100000 then read_in_line number (sequence_in needed line)
+    else Err (fault_in_line number TooManySequences)
 
 abbrev pub Given : Type 0
 Given = Result (List (List Placement)) CoverFault
@@ -54,19 +53,3 @@ given_from needed number count (line ∷ lines) =
 -- the sequences of a text, or its first fault
 unfoldable pub given_in : ℕ → List ℕ → Given
 given_in needed text = given_from needed 1 0 (lines_of text)
-
--- these sequences before those that are read
-abbrev pub with_front : List (List Placement) → Given → Given
-with_front front (Ok sequences) = Ok (front ++ sequences)
-with_front front (Err fault) = Err fault
-
--- a line is read: what its text gives is given by the sequences after it and the lines behind it
-pub record GoesOn (needed number : ℕ) (line : List ℕ) (before after : List (List Placement)) : Type 0 where
-  pub each : (lines : List (List ℕ)) → with_front before (given_from needed number (length before) (line ∷ lines))
-      ≡ with_front after (given_from needed (number + 1) (length after) lines)
-
--- or it is refused: its text has this fault
-abbrev pub Stops : ℕ → ℕ → List ℕ → List (List Placement) → Refused CoverFault → Type 0
-Stops needed number line before (refused.Fault fault) =
-    (lines : List (List ℕ)) → with_front before (given_from needed number (length before) (line ∷ lines)) ≡ Err fault
-Stops needed number line before refused.NoMemory = Unit {0}

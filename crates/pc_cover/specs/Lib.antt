@@ -1,11 +1,12 @@
 -- What a reader must believe.
 pub mod Spelling
+pub mod Given
 pub mod Faults
 pub mod Lines
 pub mod Output
 pub mod CoverTask
 -- What serves proofs alone.
-pub mod Given
+pub mod LineSteps
 pub mod Sequences
 pub mod Covering
 pub mod CoveringTask

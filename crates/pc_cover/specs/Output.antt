@@ -16,7 +16,8 @@ use Rattle.pc_cover.specs.Lines.{cover_form}
 
 -- the lines about the queues of the problem that is asked about this field, by the rising list of those that these
 -- sequences cover
-pub record IsCoverFor (request : FieldRequest) (F : Field) (sequences : List (List Placement)) (output : List ℕ) : Type 0 where
+pub record IsCoverFor (request : FieldRequest) (F : Field) (sequences : List (List Placement))
+    (output : List ℕ) : Type 0 where
   pub problem : Problem
   pub named : IsProblemOf request F problem
   pub numbers : List ℕ

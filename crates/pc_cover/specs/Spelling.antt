@@ -39,9 +39,9 @@ pub record SpellsGiven (needed : ℕ) (text : List ℕ) (sequences : List (List 
   pub spelled : SpellsLines needed (lines_of text) sequences
 
 -- behind 100,000 sequences a line that isn't passed over is too many, whatever it holds; else it spells no sequence
-abbrev pub IsFaultBehind : ℕ → ℕ → List ℕ → CoverKind → Type 0
-IsFaultBehind needed count line TooManySequences = count ≡ 100000
-IsFaultBehind needed count line BadSequence =
+abbrev pub IsFaultOfLine : ℕ → ℕ → List ℕ → CoverKind → Type 0
+IsFaultOfLine needed count line TooManySequences = count ≡ 100000
+IsFaultOfLine needed count line BadSequence =
     (count < 100000) × ((sequence : List Placement) → Spells needed line sequence → ⊥)
 
 -- lines that spell sequences stand before the first line with a fault, which is counted from 1
@@ -54,4 +54,4 @@ pub record IsGivenFault (needed : ℕ) (text : List ℕ) (fault : CoverFault) : 
   pub divided : lines_of text ≡ before ++ line ∷ behind
   pub taken : IsTail line → ⊥
   pub number : fault.line ≡ length before + 1
-  pub kind : IsFaultBehind needed (length sequences) line fault.kind
+  pub kind : IsFaultOfLine needed (length sequences) line fault.kind

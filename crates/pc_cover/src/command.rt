@@ -5,7 +5,7 @@ ghost use Rattle.pc_outside.specs.Counts.{HasCause};
 ghost use Rattle.pc_outside.specs.Writes.{WritesAll};
 ghost use Rattle.queue_pattern.specs.Pattern.{elements_of};
 ghost use Rattle.queue_pattern.specs.Queues.{queues};
-ghost use Rattle.cover.specs.Kept.{lists_of, problem_of as problem_kept};
+ghost use Rattle.cover.specs.Kept.{lists_of, kept_problem};
 ghost use Rattle.kick_file.specs.Reading.{kick_text};
 ghost use Rattle.pc_settings.specs.Request.{IsInRange};
 ghost use Rattle.pc_settings.specs.Views.{field_view};
@@ -33,9 +33,9 @@ use std::alloc::Global;
 use std::sync::ledger::Ledger;
 use well::Well;
 
-// Writes the covered queues, and then the numbers of all.
+/// Writes the covered queues, and then the numbers of all.
 fn write_answers<O: Sink>(out: &mut O, problem: &Problem, set: &CoverSet) -> Result<(), Failed>
-    requires { problem_kept set.now ≡ problem.now }
+    requires { kept_problem set.now ≡ problem.now }
     ensures written { WritesAll (O.written out.old) (O.written out.new) result
         (cover_form (queues (elements_of problem.now.pattern)) (numbers_from problem.now (lists_of set.now) 0)) }
     ensures cause { HasCause (O.faults out.old) (O.faults out.new) result }
@@ -71,7 +71,7 @@ pub fn run_cover<O: Sink, L: Ledger>(
     }
 }
 
-// How a run ends where the lines of the source are refused.
+/// How a run ends where the lines of the source are refused.
 fn refused_by(refused: Refused<CoverFault>) -> Status
     ensures { result ≡ status_of_lines refused }
 {
@@ -81,7 +81,7 @@ fn refused_by(refused: Refused<CoverFault>) -> Status
     }
 }
 
-// Answers for all queues about a field.
+/// Answers for all queues about a field.
 fn cover_all<O: Sink, L: Ledger>(
     alloc: Global,
     well: Well,

@@ -6,10 +6,10 @@ ghost use Rattle.queue_pattern.specs.Pattern.{elements_of};
 ghost use Rattle.queue_pattern.specs.Queues.{queues};
 ghost use Rattle.enumerate.specs.Problem.{IsFit};
 ghost use Rattle.cover.specs.Covered.{IsCoveredList};
-ghost use Rattle.cover.specs.Kept.{lists_of, problem_of};
+ghost use Rattle.cover.specs.Kept.{lists_of, kept_problem};
 ghost use Rattle.pc_cover.specs.Covering.{numbers_from};
 ghost use Rattle.pc_cover.specs.Lines.{queues_form};
-ghost use Rattle.pc_cover.specs.Sequences.{placements_of};
+ghost use Rattle.pc_cover.specs.Sequences.{listed_placements};
 
 use cover::CoverSet;
 use enumerate::{Problem, Sequence};
@@ -28,8 +28,8 @@ pub fn covering<L: Ledger>(
     steps: &mut Steps<L>,
 ) -> Result<CoverSet, NoMemory>
     requires { IsFit problem.now }
-    ensures problem { IfOk result (λ set. problem_of set ≡ problem.now) }
-    ensures covered { IfOk result (λ set. IsCoveredList problem.now (map placements_of sequences.now)
+    ensures problem { IfOk result (λ set. kept_problem set ≡ problem.now) }
+    ensures covered { IfOk result (λ set. IsCoveredList problem.now (map listed_placements sequences.now)
         (numbers_from problem.now (lists_of set) 0)) }
     ensures counted { steps.old ≤ steps.new }
 {
@@ -43,7 +43,7 @@ pub fn covering<L: Ledger>(
 
 /// Writes the covered queues in order, and counts them.
 pub fn write_covered<O: Sink>(out: &mut O, problem: &Problem, set: &CoverSet) -> Result<u32, Failed>
-    requires { problem_of set.now ≡ problem.now }
+    requires { kept_problem set.now ≡ problem.now }
     ensures written { WritesAll (O.written out.old) (O.written out.new) result
         (queues_form (queues (elements_of problem.now.pattern)) (numbers_from problem.now (lists_of set.now) 0)) }
     ensures count { IfOk result (λ count. count ≡ length (numbers_from problem.now (lists_of set.now) 0)) }

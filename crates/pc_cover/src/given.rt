@@ -2,8 +2,9 @@
 ghost use Rattle.std.specs.Prelude.{◌≡◌, ◌<◌, ◌≤◌, ◌^◌, IfErr, OnOk, length, map};
 ghost use Rattle.std.specs.List.{list_all};
 ghost use Rattle.fumen_digits.specs.Answers.{Gives, Reads};
-ghost use Rattle.pc_cover.specs.Given.{GoesOn, Stops, given_in, is_count, is_counted, is_digit, is_tail, numbered_sequence};
-ghost use Rattle.pc_cover.specs.Sequences.{placements_of};
+ghost use Rattle.pc_cover.specs.Given.{given_in, is_count, is_counted, is_digit, is_tail, numbered_sequence};
+ghost use Rattle.pc_cover.specs.LineSteps.{ReadsLine, RefusesLine};
+ghost use Rattle.pc_cover.specs.Sequences.{listed_placements};
 
 use enumerate::Sequence;
 use page_list::first_line;
@@ -15,14 +16,14 @@ use std::alloc::Global;
 /// The most sequences that are taken.
 const MOST_SEQUENCES: usize = 100_000;
 
-// Whether all bytes are decimal digits.
+/// Whether all bytes are decimal digits.
 fn are_digits(text: &[u8]) -> bool
     ensures { result ≡ list_all is_digit text.now }
 {
     text.iter().all(|byte| matches!(*byte, b'0'..=b'9'))
 }
 
-// Whether a text is one to twenty decimal digits.
+/// Whether a text is one to twenty decimal digits.
 fn is_count(text: &[u8]) -> bool
     ensures { result ≡ is_count text.now }
 {
@@ -35,7 +36,7 @@ fn is_count(text: &[u8]) -> bool
     are_digits(text)
 }
 
-// Whether a line is a name with its blank, and a count.
+/// Whether a line is a name with its blank, and a count.
 fn is_counted(name: &[u8], line: &[u8]) -> bool
     ensures { result ≡ is_counted name.now line.now }
 {
@@ -45,7 +46,7 @@ fn is_counted(name: &[u8], line: &[u8]) -> bool
     }
 }
 
-// Whether a line is one that `path` writes behind its sequences.
+/// Whether a line is one that `path` writes behind its sequences.
 #[tactic(auto, unfolding(crate::specs::Given::is_tail))]
 fn is_tail(line: &[u8]) -> bool
     ensures { result ≡ is_tail line.now }
@@ -59,7 +60,7 @@ fn is_tail(line: &[u8]) -> bool
     is_counted(b"floods ", line)
 }
 
-// The sequence of a line that isn't passed over, behind so many other sequences.
+/// The sequence of a line that isn't passed over, behind so many other sequences.
 #[tactic(auto, unfolding(crate::specs::Given::numbered_sequence))]
 fn sequence_at(number: u32, count: usize, needed: u8, line: &[u8]) -> Result<Sequence, CoverFault>
     requires { needed ≤ 22 }
@@ -81,7 +82,7 @@ fn sequence_at(number: u32, count: usize, needed: u8, line: &[u8]) -> Result<Seq
     }
 }
 
-// Reads a line behind others: it is passed over, or its sequence is taken.
+/// Reads a line behind others: it is passed over, or its sequence is taken.
 fn read_line(
     sequences: &mut Vec<Sequence>,
     number: u32,
@@ -89,9 +90,9 @@ fn read_line(
     line: &[u8],
 ) -> Result<(), Refused<CoverFault>>
     requires { needed ≤ 22 }
-    ensures goes_on { OnOk result (GoesOn needed number line.now
-        (map placements_of sequences.old.items) (map placements_of sequences.new.items)) }
-    ensures stops { IfErr result (Stops needed number line.now (map placements_of sequences.old.items)) }
+    ensures goes_on { OnOk result (ReadsLine needed number line.now
+        (map listed_placements sequences.old.items) (map listed_placements sequences.new.items)) }
+    ensures stops { IfErr result (RefusesLine needed number line.now (map listed_placements sequences.old.items)) }
 {
     if is_tail(line) {
         return Ok(());
@@ -114,7 +115,7 @@ pub fn sequences_in(
 ) -> Result<Vec<Sequence>, Refused<CoverFault>>
     requires needed { needed ≤ 22 }
     requires short { length text.now < 2 ^ 32 }
-    ensures { Gives (λ sequences. map placements_of sequences.items) (λ fault. fault) result
+    ensures { Gives (λ sequences. map listed_placements sequences.items) (λ fault. fault) result
         (given_in needed text.now) }
 {
     let mut sequences = Vec::new(alloc);

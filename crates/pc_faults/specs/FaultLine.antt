@@ -7,8 +7,8 @@ use Rattle.queue_pattern.specs.declared.fault.PatternFault.{PatternFault}
 use Rattle.queue_pattern.specs.declared.fault.PatternFault.TheVariants.{Unexpected, RepeatedPiece, TooManyChosen, PatternTooLong, TooManyQueues}
 use Rattle.kick_file.specs.declared.fault.KickFault.{KickFault}
 use Rattle.kick_file.specs.declared.fault.KickFault.TheVariants as kick
-use Rattle.fumen_text.specs.declared.fault.FumenFault.{FumenFault}
-use Rattle.fumen_text.specs.declared.fault.FumenFault.TheVariants as fumen
+use Rattle.fumen_digits.specs.declared.fault.FumenFault.{FumenFault}
+use Rattle.fumen_digits.specs.declared.fault.FumenFault.TheVariants as fumen
 use Rattle.fumen_text.specs.declared.encode_fault.EncodeFault.{EncodeFault}
 use Rattle.fumen_text.specs.declared.encode_fault.EncodeFault.TheVariants as unwritten
 use Rattle.page_list.specs.declared.fault.ListKind.{ListKind}

@@ -1,5 +1,6 @@
 -- Lemmas of this crate.
 pub mod CallerLemmas
 mod EncodeFaults
+mod EncodedText
 mod OneOutput
 mod ShownPages

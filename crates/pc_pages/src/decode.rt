@@ -56,7 +56,7 @@ pub fn run_decode<O: Sink>(alloc: Global, bytes: &[u8], out: &mut O) -> Status
     }
 }
 
-// Writes the lines of pages, one after the other.
+/// Writes the lines of pages, one after the other.
 fn write_lines<O: Sink>(alloc: Global, out: &mut O, pages: &[Page]) -> Result<(), WriteFault>
     requires { All IsShowable pages.now }
     ensures written { WritesAll (O.written out.old) (O.written out.new) result (flat_map page_form pages.now) }

@@ -28,7 +28,7 @@ pub fn run_encode<O: Sink>(alloc: Global, dialect: Dialect, bytes: &[u8], out: &
     }
 }
 
-// The pages whose lines the bytes are, or the first fault, or that there is no memory.
+/// The pages whose lines the bytes are, or the first fault, or that there is no memory.
 fn list_pages(alloc: Global, bytes: &[u8]) -> Result<Vec<Page>, Refused<Fault>>
     ensures pages { IfOk result (λ pages. SpellsPages bytes.now pages.items) }
     ensures refused { IfErr result (λ refused. IsRefusal (lines_fault (pages_in bytes.now)) refused) }
@@ -40,7 +40,7 @@ fn list_pages(alloc: Global, bytes: &[u8]) -> Result<Vec<Page>, Refused<Fault>>
     }
 }
 
-// The fumen text of the pages whose lines the bytes are, or the first fault, or that there is no memory.
+/// The fumen text of the pages whose lines the bytes are, or the first fault, or that there is no memory.
 fn encoded(alloc: Global, dialect: Dialect, bytes: &[u8]) -> Result<Vec<u8>, Refused<Fault>>
     ensures text { IfOk result (λ text. IsEncodeOutput dialect bytes.now (text.items ++ 10 ∷ [])) }
     ensures none { OnOk result (encode_fault dialect bytes.now ≡ None) }

@@ -1,17 +1,19 @@
 // Laws of the definitions: functions with an empty body, whose contract is the law.
 ghost use Rattle.std.specs.Prelude.{◌≡◌, ◌≤◌, ◌<◌, ℕ, List, length, Option, option_map, Some, None};
+ghost use Rattle.std.specs.List.{flat_map};
 ghost use Rattle.fumen_digits.specs.declared.dialect.Dialect.{Dialect};
-ghost use Rattle.fumen_digits.specs.Fault.{Fault as TextFault};
+ghost use Rattle.fumen_digits.specs.declared.fault.FumenFault.{FumenFault};
 ghost use Rattle.fumen_pages.specs.declared.page.Page.{Page};
 ghost use Rattle.fumen_text.specs.Faults.{IsTextFault};
 ghost use Rattle.fumen_text.specs.Texts.{ReadsAs};
 ghost use Rattle.fumen_text.specs.Written.{list_encode_fault};
 ghost use Rattle.page_list.specs.declared.fault.ListFault.{ListFault};
 ghost use Rattle.page_list.specs.LineSpelling.{IsListFault, SpellsPages};
+ghost use Rattle.page_list.specs.PrintedLine.{page_form};
 ghost use Rattle.pc_faults.specs.declared.fault.Fault.TheVariants as faults;
 ghost use Rattle.pc_source.specs.Faults.{page_fault};
-ghost use Rattle.pc_source.specs.FumenFaults.{named};
 ghost use Rattle.pc_source.specs.Task.{first_fault, most_bytes};
+ghost use Rattle.pc_pages.specs.Faults.{encode_fault};
 ghost use Rattle.pc_pages.specs.Output.{IsDecodeOutput, IsEncodeOutput, IsShowOutput};
 ghost use Rattle.pc_pages.specs.Tasks.{decode_task, encode_task, show_task};
 
@@ -48,16 +50,29 @@ pub fn encode_faults_are_those_of_the_lines()
 pub fn source_faults_are_those_of_the_text()
     ensures decode_too_long { (bytes : List ℕ) → most_bytes < length bytes
         → first_fault decode_task bytes ≡ Some faults.SourceTooLong }
-    ensures decode_text { (bytes : List ℕ) (fault : TextFault) → length bytes ≤ most_bytes → IsTextFault bytes fault
-        → first_fault decode_task bytes ≡ Some (faults.Fumen (named fault)) }
+    ensures decode_text { (bytes : List ℕ) (fault : FumenFault) → length bytes ≤ most_bytes → IsTextFault bytes fault
+        → first_fault decode_task bytes ≡ Some (faults.Fumen fault) }
     ensures decode_pages { (bytes : List ℕ) (dialect : Dialect) (pages : List Page) → length bytes ≤ most_bytes
         → ReadsAs bytes dialect pages → first_fault decode_task bytes ≡ None }
     ensures show_too_long { (asked : Option ℕ) (bytes : List ℕ) → most_bytes < length bytes
         → first_fault (show_task asked) bytes ≡ Some faults.SourceTooLong }
-    ensures show_text { (asked : Option ℕ) (bytes : List ℕ) (fault : TextFault) → length bytes ≤ most_bytes
+    ensures show_text { (asked : Option ℕ) (bytes : List ℕ) (fault : FumenFault) → length bytes ≤ most_bytes
         → IsTextFault bytes fault
-        → first_fault (show_task asked) bytes ≡ Some (faults.Fumen (named fault)) }
+        → first_fault (show_task asked) bytes ≡ Some (faults.Fumen fault) }
     ensures show_page { (asked : Option ℕ) (bytes : List ℕ) (dialect : Dialect) (pages : List Page)
         → length bytes ≤ most_bytes
         → ReadsAs bytes dialect pages → first_fault (show_task asked) bytes ≡ page_fault asked pages }
+{}
+
+/// What `encode` writes, with the newline at its end, may be given to `decode`: it reads as the pages whose lines were
+/// given to `encode`. So `decode` writes their lines where this text has at most 4,194,304 bytes, and else says that
+/// it is too long.
+pub fn encoded_texts_are_decoded()
+    ensures reads { (dialect : Dialect) (bytes output : List ℕ) (encoded : IsEncodeOutput dialect bytes output)
+        → encode_fault dialect bytes ≡ None → ReadsAs output dialect encoded.pages }
+    ensures decoded { (dialect : Dialect) (bytes output : List ℕ) (encoded : IsEncodeOutput dialect bytes output)
+        → encode_fault dialect bytes ≡ None → length output ≤ most_bytes
+        → (first_fault decode_task output ≡ None) × IsDecodeOutput output (flat_map page_form encoded.pages) }
+    ensures too_long { (dialect : Dialect) (bytes output : List ℕ) → IsEncodeOutput dialect bytes output
+        → most_bytes < length output → first_fault decode_task output ≡ Some faults.SourceTooLong }
 {}

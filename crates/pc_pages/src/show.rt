@@ -36,7 +36,7 @@ pub fn run_show<O: Sink>(alloc: Global, asked: Option<u32>, bytes: &[u8], out: &
     }
 }
 
-// Writes all pages as they are shown, one after the other, with their numbers from 1.
+/// Writes all pages as they are shown, one after the other, with their numbers from 1.
 fn show_all<O: Sink>(out: &mut O, pages: &[Page]) -> Result<(), Failed>
     requires showable { All IsShowable pages.now }
     requires few { length pages.now ≤ 10000 }

@@ -14,7 +14,7 @@ use Rattle.pc_faults.specs.Inner.{IsInner}
 use Rattle.pc_faults.proofs.CallerLemmas.{first_stops, inner_first, second_left}
 use Rattle.path_settings.specs.Request.{PathRequest}
 use Rattle.pc_source.specs.Answers.{Answers}
-use Rattle.pc_source.specs.Faults.{cells_of, field_fault}
+use Rattle.pc_source.specs.Faults.{cells_asked, field_fault}
 use Rattle.pc_source.specs.FieldText.{field_needs}
 use Rattle.pc_source.specs.Had.{HasField, IsRefusal}
 use Rattle.pc_source.specs.Sink.{SinkChange}
@@ -40,7 +40,7 @@ field_refused request bytes r is = refusal_before (field_fault request.common.fi
 had_fault : (request : PathRequest) (bytes : List ℕ) (F : Field) → HasField request.common.field request.common.page bytes F → path_fault request bytes ≡ listing_fault request F
 unfolding path_fault
 had_fault request bytes F has =
-    second_left (field_fault request.common.field request.common.page bytes) (listing_fault request (cells_of request.common.field request.common.page bytes)) has.none
+    second_left (field_fault request.common.field request.common.page bytes) (listing_fault request (cells_asked request.common.field request.common.page bytes)) has.none
     ∙ ap (listing_fault request) (field_cells request.common.field request.common.page bytes F has.is)
 
 module _ (request : PathRequest) (bytes : List ℕ) (F : Field) (has : HasField request.common.field request.common.page bytes F) (sink : SinkChange) where
@@ -91,7 +91,7 @@ inner_listing request F = inner_first _ _ (inner_problem request.common F) (inne
 pub inner_path : (request : PathRequest) (bytes : List ℕ) → IsInner (path_fault request bytes)
 unfolding path_fault
 inner_path request bytes =
-    inner_first _ _ (inner_field request.common.field request.common.page bytes) (inner_first _ [] (inner_listing request (cells_of request.common.field request.common.page bytes)) tt)
+    inner_first _ _ (inner_field request.common.field request.common.page bytes) (inner_first _ [] (inner_listing request (cells_asked request.common.field request.common.page bytes)) tt)
 
 pub path_fault_unread : (request : PathRequest) (one other : List ℕ) → is_source (field_needs request.common.field) ≡ false → path_fault request one ≡ path_fault request other
 unfolding path_fault

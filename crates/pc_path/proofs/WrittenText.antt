@@ -1,6 +1,6 @@
 -- What a report writes for a solution spells it.
-use Rattle.std.proofs.Common.{◌≡◌, ℕ, zero, suc, ◌-◌, ◌<◌, ◌≤◌, List, [], ◌∷◌, length, map, Bool, None, All, get_or, refl, ap, subst, ◌∙◌, sym, arith}
-use Rattle.std.proofs.lemmas.List.{length-map}
+use Rattle.std.proofs.Common.{◌≡◌, ℕ, zero, suc, ◌-◌, ◌<◌, ◌≤◌, List, [], ◌∷◌, ◌++◌, length, map, Bool, None, All, get_or, refl, ap, subst, ◌∙◌, sym, arith}
+use Rattle.std.proofs.lemmas.List.{append_cancel_right, length-map}
 use Rattle.srs.specs.declared.placement.Placement.{Placement}
 use Rattle.srs.specs.Kick.{Table}
 use Rattle.srs.specs.Rules.{table_of}
@@ -14,7 +14,7 @@ use Rattle.enumerate.specs.Plays.{Plays}
 use Rattle.enumerate.specs.Problem.{IsFit, needed_of}
 use Rattle.enumerate.specs.Solution.{IsSolution}
 use Rattle.enumerate.proofs.CallerLemmas.{long-needed, place-free, free-inside}
-use Rattle.report.specs.Forms.{KeysOf, key_part, keyed}
+use Rattle.report.specs.Forms.{KeysOf, key_part, keyed, line_form}
 use Rattle.sequence_text.specs.Form.{Spells}
 use Rattle.sequence_text.specs.Written.{Keyed, sequence_form}
 use Rattle.sequence_text.proofs.CallerLemmas.{written_is_spelled}
@@ -40,7 +40,7 @@ played_inside table mode keys (q ∷ s) F rows plays =
     let pivot = pivot_inside q (free-inside F q (place-free table F mode q plays.0)) in
     more_inside (q, keys F q) (keyed keys (locked F q) s) (pivot.in_columns, pivot.in_rows) (played_inside table mode keys s (locked F q) (rows - rows_removed F q) plays.2)
 
-pub solution_spelled : (problem : Problem) (sequence : List Placement) (keys : Bool) → IsFit problem → IsSolution problem None sequence
+solution_spelled : (problem : Problem) (sequence : List Placement) (keys : Bool) → IsFit problem → IsSolution problem None sequence
     → Spells (needed_of problem) (sequence_form (keyed (key_part keys (table_of problem.rules) problem.drop_mode) (filled problem.well) sequence)) sequence
 solution_spelled problem sequence keys fit solution =
     let part = key_part keys (table_of problem.rules) problem.drop_mode in
@@ -50,3 +50,12 @@ solution_spelled problem sequence keys fit solution =
     let count : length items ≡ needed_of problem = sym (length-map items (λ item. item.0)) ∙ ap length same ∙ long-needed problem fit sequence solution.plays in
     let written = written_is_spelled items (played_inside (table_of problem.rules) problem.drop_mode part sequence F problem.height solution.plays) in
     subst (λ n. Spells n (sequence_form items) sequence) count (subst (Spells (length items) (sequence_form items)) same written)
+
+-- its line without the newline
+pub line_spelled : (problem : Problem) (sequence : List Placement) (keys : Bool) (text : List ℕ) → IsFit problem → IsSolution problem None sequence
+    → line_form (key_part keys (table_of problem.rules) problem.drop_mode) (filled problem.well) sequence ≡ text ++ 10 ∷ [] → Spells (needed_of problem) text sequence
+unfolding line_form
+line_spelled problem sequence keys text fit solution is =
+    subst (λ t. Spells (needed_of problem) t sequence)
+    (append_cancel_right (sequence_form (keyed (key_part keys (table_of problem.rules) problem.drop_mode) (filled problem.well) sequence)) text (10 ∷ []) is)
+    (solution_spelled problem sequence keys fit solution)

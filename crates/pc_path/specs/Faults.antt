@@ -7,7 +7,7 @@ use Rattle.sequence_text.specs.Reading.{sequence_in}
 use Rattle.pc_faults.specs.declared.fault.Fault.{Fault}
 use Rattle.pc_faults.specs.declared.fault.Fault.TheVariants as faults
 use Rattle.pc_faults.specs.FirstFault.{first_of_these}
-use Rattle.pc_source.specs.Faults.{cells_of, field_fault}
+use Rattle.pc_source.specs.Faults.{cells_asked, field_fault}
 use Rattle.pc_problem.specs.Faults.{problem_fault}
 use Rattle.path_settings.specs.Request.{PathRequest}
 
@@ -32,5 +32,5 @@ listing_fault request F = first_of_these (
 unfoldable pub path_fault : PathRequest → List ℕ → Option Fault
 path_fault request bytes = first_of_these (
     field_fault request.common.field request.common.page bytes
-    ∷ listing_fault request (cells_of request.common.field request.common.page bytes)
+    ∷ listing_fault request (cells_asked request.common.field request.common.page bytes)
     ∷ [])

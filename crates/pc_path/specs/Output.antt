@@ -38,7 +38,8 @@ stats_form true floods = floods_form (as_count floods)
 stats_form false floods = []
 
 -- The report of what is listed: as many of the sequences as the limit allows, each in the form that is asked for, and
--- each placement with its key word where keys are asked for. Behind it stands the number of floods that were made, where it is asked for.
+-- each placement with its key word where keys are asked for. Behind it stands the number of floods that were made,
+-- where it is asked for.
 pub record IsReportOf (request : PathRequest) (F : Field) (floods : ℕ) (output : List ℕ) : Type 0 where
   pub listed : Listed request F
   pub report : output ≡ report_form (solution_form request.format request.keys listed.problem) request.limit

@@ -32,8 +32,8 @@ pub record GrowsFrom (held holds : Option (List ℕ)) (text : List ℕ) : Type 0
   pub more : List ℕ
   pub grown : Grows held holds (text ++ more)
 
--- A write failed, or memory was wanting: so many sequences are written whole, at most one more was begun, and these are left
--- behind what was begun.
+-- A write failed, or memory was wanting: so many sequences are written whole, at most one more was begun, and these are
+-- left behind what was begun.
 pub record StoppedBefore (line : List Placement → List ℕ) (sequences left : List (List Placement))
     (held holds : Option (List ℕ)) : Type 0 where
   pub whole : ℕ

@@ -1,14 +1,13 @@
 // Laws of the definitions: functions with an empty body, whose contract is the law.
-ghost use Rattle.std.specs.Prelude.{◌≡◌, ◌↔◌, ℕ, Bool, true, false, List, Some, None};
+ghost use Rattle.std.specs.Prelude.{◌≡◌, ◌↔◌, ◌++◌, ℕ, Bool, true, false, List, [], ◌∷◌, Some, None};
 ghost use Rattle.srs.specs.declared.placement.Placement.{Placement};
 ghost use Rattle.srs.specs.Rules.{table_of};
 ghost use Rattle.well.specs.Well.{filled};
 ghost use Rattle.enumerate.specs.declared.problem.Problem.{Problem};
 ghost use Rattle.enumerate.specs.Problem.{IsFit, needed_of};
 ghost use Rattle.enumerate.specs.Solution.{IsSolution};
-ghost use Rattle.report.specs.Forms.{key_part, keyed};
+ghost use Rattle.report.specs.Forms.{key_part, line_form};
 ghost use Rattle.sequence_text.specs.Form.{IsRefusedAt, Spells};
-ghost use Rattle.sequence_text.specs.Written.{sequence_form};
 ghost use Rattle.path_settings.specs.Request.{PathRequest};
 ghost use Rattle.pc_faults.specs.declared.fault.Fault.TheVariants.{BadAfter};
 ghost use Rattle.pc_source.specs.FieldText.{field_needs};
@@ -42,12 +41,12 @@ pub fn bad_after_is_at_the_longest_front()
         (after_fault needed (Some text) ≡ Some (BadAfter place)) ↔ IsRefusedAt needed text place }
 {}
 
-/// What a report writes for a solution of a fit problem, with keys or without, may be given as `--after`: it spells
-/// this solution.
+/// What a report writes for a solution of a fit problem, with keys or without, may be given as `--after`: its line
+/// without the newline spells this solution.
 pub fn written_solutions_may_be_given()
-    ensures { (problem : Problem) (sequence : List Placement) (keys : Bool) → IsFit problem
+    ensures { (problem : Problem) (sequence : List Placement) (keys : Bool) (text : List ℕ) → IsFit problem
         → IsSolution problem None sequence
-        → Spells (needed_of problem)
-        (sequence_form (keyed (key_part keys (table_of problem.rules) problem.drop_mode)
-        (filled problem.well) sequence)) sequence }
+        → line_form (key_part keys (table_of problem.rules) problem.drop_mode) (filled problem.well) sequence
+        ≡ text ++ 10 ∷ []
+        → Spells (needed_of problem) text sequence }
 {}

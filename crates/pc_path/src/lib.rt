@@ -1,4 +1,4 @@
-// The command `path`: all solutions of a problem, one line each.
+// The command `path`: the solutions of a problem, each as a line, a fumen text or a grid.
 #![tactic(auto)]
 
 pub mod laws;

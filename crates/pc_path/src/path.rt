@@ -33,8 +33,8 @@ use std::alloc::Global;
 use std::sync::ledger::Ledger;
 use well::Well;
 
-// Writes the solutions that are still to come, at most so many, and the line that ends the report. With a finder each
-// placement has its key word.
+/// Writes the solutions that are still to come, at most so many, and the line that ends the report. With a finder each
+/// placement has its key word.
 fn write_report<O: Sink, L: Ledger>(
     alloc: Global,
     out: &mut O,
@@ -72,7 +72,7 @@ fn write_report<O: Sink, L: Ledger>(
     as_line(write_tail(out, Tail::Limit, u64::from(limit)))
 }
 
-// Writes the report, and behind it how many floods the search made, where that is asked for.
+/// Writes the report, and behind it how many floods the search made, where that is asked for.
 fn write_listing<O: Sink, L: Ledger>(
     alloc: Global,
     out: &mut O,
@@ -140,7 +140,7 @@ pub fn run_path<O: Sink, L: Ledger>(
     }
 }
 
-// Lists the sequences that clear a field, as the settings ask for.
+/// Lists the sequences that clear a field, as the settings ask for.
 fn list_clears<O: Sink, L: Ledger>(
     alloc: Global,
     well: Well,

@@ -1,5 +1,5 @@
 // Writing a solution in the form that is asked for.
-ghost use Rattle.std.specs.Prelude.{◌≡◌, ◌≤◌, Err, IfOk, is_some};
+ghost use Rattle.std.specs.Prelude.{◌≡◌, ◌≢◌, ◌≤◌, Err, IfOk, IsOk, is_some};
 ghost use Rattle.srs.specs.Rules.{table_of};
 ghost use Rattle.well.specs.Well.{filled};
 ghost use Rattle.pc_outside.specs.Counts.{HasCause};
@@ -25,9 +25,10 @@ pub enum FormWriter {
     Grid,
 }
 
-/// The writer of a form. `NoMemory` where memory for the pages of a fumen text is refused.
+/// The writer of a form. `NoMemory` where memory for the pages of a fumen text is refused; the other forms take none.
 pub fn writer_for(alloc: Global, format: Format) -> Result<FormWriter, NoMemory>
-    ensures { IfOk result (λ writer. format_of writer ≡ format) }
+    ensures form { IfOk result (λ writer. format_of writer ≡ format) }
+    ensures none { format ≢ Format.Fumen → IsOk result }
 {
     match format {
         Format::Text => Ok(FormWriter::Text),

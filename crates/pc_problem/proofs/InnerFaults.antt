@@ -10,13 +10,13 @@ use Rattle.pc_faults.specs.declared.fault.Fault.TheVariants as faults
 use Rattle.pc_faults.specs.Inner.{IsInner}
 use Rattle.pc_faults.proofs.CallerLemmas.{inner_first, inner_map, inner_test}
 use Rattle.pc_settings.specs.Request.{FieldRequest}
-use Rattle.pc_problem.specs.Faults.{elements_asked, full_row_fault, pattern_fault, pieces_fault, problem_fault, rows_fault, too_few}
+use Rattle.pc_problem.specs.Faults.{elements_asked, full_row_fault, pattern_fault, pieces_fault, problem_fault, filled_rows_fault, too_few}
 
 pub inner_full : (F : Field) → IsInner (full_row_fault F)
 inner_full F = inner_map (λ row. faults.FullRow row) (lowest_full F) (λ row. refl)
 
-inner_rows : (F : Field) (height : ℕ) → IsInner (rows_fault F height)
-unfolding rows_fault
+inner_rows : (F : Field) (height : ℕ) → IsInner (filled_rows_fault F height)
+unfolding filled_rows_fault
 inner_rows F height =
     inner_first _ _ (inner_map (λ row. faults.FieldTooHigh row) (lowest_filled_from F height) (λ row. refl))
     (inner_first _ [] (inner_full F) tt)

@@ -17,8 +17,8 @@ abbrev pub full_row_fault : Field → Option Fault
 full_row_fault F = option_map (λ row. faults.FullRow row) (lowest_full F)
 
 -- of a field with these cells: a cell at or above the height, a full row
-unfoldable pub rows_fault : Field → ℕ → Option Fault
-rows_fault F height = first_of_these (
+unfoldable pub filled_rows_fault : Field → ℕ → Option Fault
+filled_rows_fault F height = first_of_these (
     option_map (λ row. faults.FieldTooHigh row) (lowest_filled_from F height)
     ∷ full_row_fault F
     ∷ [])
@@ -45,7 +45,7 @@ pieces_fault empties held (Err fault) = None
 -- hand, which are those of a queue and the held one where it may be played
 unfoldable pub problem_fault : FieldRequest → Field → Option Fault
 problem_fault request F = first_of_these (
-    rows_fault F request.height
+    filled_rows_fault F request.height
     ∷ pattern_fault (elements_asked request)
     ∷ pieces_fault (empties_below F request.height) (held_count request.hold request.held) (elements_asked request)
     ∷ [])

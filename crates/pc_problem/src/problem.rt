@@ -8,7 +8,7 @@ ghost use Rattle.queue_pattern.specs.Queues.{queue_len};
 ghost use Rattle.enumerate.specs.Problem.{IsFit, held_count};
 ghost use Rattle.kick_file.specs.Reading.{kick_text};
 ghost use Rattle.pc_settings.specs.Views.{field_view};
-ghost use Rattle.pc_problem.specs.Faults.{rows_fault, full_row_fault, pattern_fault, too_few, problem_fault};
+ghost use Rattle.pc_problem.specs.Faults.{filled_rows_fault, full_row_fault, pattern_fault, too_few, problem_fault};
 ghost use Rattle.pc_problem.specs.Problem.{IsProblemOf};
 
 use enumerate::Problem;
@@ -20,12 +20,12 @@ use queue_pattern::Pattern;
 use srs::Piece;
 use well::Well;
 
-// The field has no cell at or above the height and no full row.
-#[tactic(auto, unfolding(crate::specs::Faults::rows_fault))]
+/// The field has no cell at or above the height and no full row.
+#[tactic(auto, unfolding(crate::specs::Faults::filled_rows_fault))]
 fn rows(well: &Well, height: u8) -> Result<(), Fault>
     requires { height ≤ 8 }
-    ensures fault { IfErr result (λ fault. rows_fault (filled well.now) height ≡ Some fault) }
-    ensures none { OnOk result (rows_fault (filled well.now) height ≡ None) }
+    ensures fault { IfErr result (λ fault. filled_rows_fault (filled well.now) height ≡ Some fault) }
+    ensures none { OnOk result (filled_rows_fault (filled well.now) height ≡ None) }
     ensures below { OnOk result (lowest_filled_from (filled well.now) height ≡ None) }
     ensures open_rows { OnOk result (lowest_full (filled well.now) ≡ None) }
 {
@@ -58,7 +58,7 @@ pub fn pattern_of(text: &str) -> Result<Pattern, Fault>
     }
 }
 
-// How many pieces are held and may be played.
+/// How many pieces are held and may be played.
 fn held_count(hold: Hold, held: Option<Piece>) -> u8
     ensures value { result ≡ held_count hold held }
     ensures most { result ≤ 1 }
@@ -69,7 +69,7 @@ fn held_count(hold: Hold, held: Option<Piece>) -> u8
     }
 }
 
-// There are enough pieces at hand for these empty cells.
+/// There are enough pieces at hand for these empty cells.
 fn pieces(empties: u8, pattern: &Pattern, held: u8) -> Result<(), Fault>
     requires { held ≤ 1 }
     ensures fault { IfErr result (λ fault. too_few empties (queue_len (elements_of pattern.now) + held) ≡ Some fault) }
@@ -84,9 +84,9 @@ fn pieces(empties: u8, pattern: &Pattern, held: u8) -> Result<(), Fault>
     Ok(())
 }
 
-#[tactic(auto, unfolding(crate::specs::Faults::problem_fault))]
 /// The problem that the settings name about a field, or the first fault of what they name: a cell at or above the
 /// height, a full row, the pattern, too few pieces at hand.
+#[tactic(auto, unfolding(crate::specs::Faults::problem_fault))]
 pub fn problem_of(well: Well, settings: &FieldSettings<'_>) -> Result<Problem, Fault>
     requires least { 1 ≤ settings.now.height }
     requires most { settings.now.height ≤ 8 }

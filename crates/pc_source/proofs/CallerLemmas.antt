@@ -3,7 +3,7 @@ use Rattle.std.proofs.Common.{◌≡◌, ◌≢◌, ℕ, ◌-◌, ◌<◌, ◌�
 use Rattle.std.proofs.lemmas.Bool.{lt-ltb, le-ltb}
 use Rattle.lane_board.specs.Field.{Field}
 use Rattle.fumen_digits.specs.declared.dialect.Dialect.{Dialect}
-use Rattle.fumen_digits.specs.Fault.{Fault as TextFault}
+use Rattle.fumen_digits.specs.declared.fault.FumenFault.{FumenFault}
 use Rattle.fumen_text.specs.Faults.{IsTextFault}
 use Rattle.fumen_text.specs.Texts.{ReadsAs}
 use Rattle.fumen_text.specs.Reading.{text_pages}
@@ -21,10 +21,9 @@ use Rattle.pc_faults.proofs.CallerLemmas.{second_left}
 use Rattle.pc_faults.specs.Codes.{refused_status, written_status}
 use Rattle.pc_settings.specs.Request.{FieldText, fumen_text, rows_text}
 use Rattle.pc_source.specs.Answers.{Answers}
-use Rattle.pc_source.specs.Faults.{cells_of, cells_read, field_fault, page_fault, pages_fault, text_fault}
+use Rattle.pc_source.specs.Faults.{cells_asked, cells_read, field_fault, page_fault, pages_fault, text_fault}
 use Rattle.pc_source.specs.FieldText.{IsFieldOf, IsFumenField, field_needs, is_of_source, text_given}
 use Rattle.pc_source.specs.Had.{HasText, IsRefusal}
-use Rattle.pc_source.specs.FumenFaults.{named}
 use Rattle.pc_source.specs.Sink.{SinkChange}
 use Rattle.pc_source.specs.Task.{Needs, Task, first_fault, is_source, memory, most_bytes, nothing, source_bytes, source_fault}
 use Rattle.pc_source.specs.Work.{Works}
@@ -128,7 +127,7 @@ pub text_refused : (asked : Option ℕ) (text : List ℕ) (r : Refused Fault) �
 text_refused = texts.text_refused
 
 -- the cells of the field are those that faults speak of
-pub field_cells : (field : FieldText) (number : ℕ) (bytes : List ℕ) (F : Field) → IsFieldOf field number bytes F → cells_of field number bytes ≡ F
+pub field_cells : (field : FieldText) (number : ℕ) (bytes : List ℕ) (F : Field) → IsFieldOf field number bytes F → cells_asked field number bytes ≡ F
 field_cells = fields.field_cells
 
 pub one_field : (field : FieldText) (number : ℕ) (bytes : List ℕ) (F G : Field) → IsFieldOf field number bytes F → IsFieldOf field number bytes G → F ≡ G
@@ -158,7 +157,7 @@ pub not_too_long : (task : Task) (bytes : List ℕ) → length bytes ≤ most_by
 unfolding first_fault
 not_too_long task bytes within = second_left (source_fault task.needs bytes) (task.fault bytes) (fits task.needs bytes within)
 
-pub text_faulty : (asked : Option ℕ) (text : List ℕ) (f : TextFault) → IsTextFault text f → text_fault asked text ≡ Some (Fumen (named f))
+pub text_faulty : (asked : Option ℕ) (text : List ℕ) (f : FumenFault) → IsTextFault text f → text_fault asked text ≡ Some (Fumen f)
 text_faulty = texts.text_faulty
 
 pub text_page : (asked : Option ℕ) (text : List ℕ) (dialect : Dialect) (pages : List Page) → ReadsAs text dialect pages → text_fault asked text ≡ page_fault asked pages
@@ -177,7 +176,7 @@ module _ (number : ℕ) (one other : List ℕ) where
   fault_unread (rows_text text) own = refl
   fault_unread (fumen_text word) own = ap (text_fault (Some number)) (own_text word one other own)
 
-  pub cells_unread : (field : FieldText) → is_source (field_needs field) ≡ false → cells_of field number one ≡ cells_of field number other
+  pub cells_unread : (field : FieldText) → is_source (field_needs field) ≡ false → cells_asked field number one ≡ cells_asked field number other
   cells_unread (rows_text text) own = refl
   cells_unread (fumen_text word) own = ap (λ t. cells_read number (text_pages t)) (own_text word one other own)
 

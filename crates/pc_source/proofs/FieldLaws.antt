@@ -5,7 +5,7 @@ use Rattle.std.proofs.lemmas.Bool.{lt-ltb}
 use Rattle.std.proofs.lemmas.Option.{same_Some, slice_get_cases}
 use Rattle.lane_board.specs.Field.{Field}
 use Rattle.fumen_digits.specs.declared.dialect.Dialect.{Dialect}
-use Rattle.fumen_digits.specs.Fault.{Fault as TextFault}
+use Rattle.fumen_digits.specs.declared.fault.FumenFault.{FumenFault}
 use Rattle.fumen_pages.specs.declared.page.Page.{Page}
 use Rattle.fumen_text.specs.Reading.{text_pages}
 use Rattle.fumen_text.proofs.CallerLemmas.{read_from_text, text_from_read, one_list}
@@ -13,7 +13,7 @@ use Rattle.pc_faults.specs.declared.fault.Fault.{Fault}
 use Rattle.pc_faults.specs.declared.fault.Fault.TheVariants.{NoPage}
 use Rattle.pc_faults.proofs.CallerLemmas.{none_first, none_last}
 use Rattle.pc_settings.specs.Request.{FieldText, rows_text, fumen_text}
-use Rattle.pc_source.specs.Faults.{asked_fault, cells_of, cells_read, cells_shown, field_fault, page_fault, pages_fault, text_fault}
+use Rattle.pc_source.specs.Faults.{asked_fault, cells_asked, cells_read, cells_shown, field_fault, page_fault, pages_fault, text_fault}
 use Rattle.pc_source.specs.FieldText.{page_cells, text_given, IsPageField, IsFumenField, IsFieldOf}
 
 one_page_field : (pages : List Page) (number : ℕ) (F G : Field) → IsPageField pages number F → IsPageField pages number G → F ≡ G
@@ -30,7 +30,7 @@ one_field (rows_text text) number bytes F G one other = one ∙ sym other
 one_field (fumen_text word) number bytes F G one other = one_fumen_field (text_given word bytes) number F G one other
 
 -- the cells of the field are those that faults speak of
-pub field_cells : (field : FieldText) (number : ℕ) (bytes : List ℕ) (F : Field) → IsFieldOf field number bytes F → cells_of field number bytes ≡ F
+pub field_cells : (field : FieldText) (number : ℕ) (bytes : List ℕ) (F : Field) → IsFieldOf field number bytes F → cells_asked field number bytes ≡ F
 field_cells (rows_text text) number bytes F is = sym is
 field_cells (fumen_text word) number bytes F is = rw (read_from_text (text_given word bytes) is.dialect is.pages is.reads, is.field.there) (sym is.field.cells)
 
@@ -44,7 +44,7 @@ page_there pages number first none = elim (slice_get_cases pages (number - 1)).1
       cc
 ]
 
-text_there : (text : List ℕ) (number : ℕ) (read : Result (Dialect × List Page) TextFault) → 1 ≤ number → text_pages text ≡ read → pages_fault read ≡ None → asked_fault (Some number) read ≡ None
+text_there : (text : List ℕ) (number : ℕ) (read : Result (Dialect × List Page) FumenFault) → 1 ≤ number → text_pages text ≡ read → pages_fault read ≡ None → asked_fault (Some number) read ≡ None
     → IsFumenField text number (cells_read number read)
 text_there text number (Ok (dialect, pages)) first is reads none =
     record { dialect = dialect; pages = pages; reads = text_from_read text (dialect, pages) is; field = page_there pages number first none }
@@ -56,6 +56,6 @@ asked_there number text first none =
     text_there text number (text_pages text) first refl (none_first (pages_fault (text_pages text)) _ none).0 (none_last (pages_fault (text_pages text)) (asked_fault (Some number) (text_pages text)) none)
 
 -- a text with no fault gives a field
-pub field_there : (field : FieldText) (number : ℕ) (bytes : List ℕ) → 1 ≤ number → field_fault field number bytes ≡ None → IsFieldOf field number bytes (cells_of field number bytes)
+pub field_there : (field : FieldText) (number : ℕ) (bytes : List ℕ) → 1 ≤ number → field_fault field number bytes ≡ None → IsFieldOf field number bytes (cells_asked field number bytes)
 field_there (rows_text text) number bytes first none = refl
 field_there (fumen_text word) number bytes first none = asked_there number (text_given word bytes) first none

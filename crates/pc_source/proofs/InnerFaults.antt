@@ -2,7 +2,7 @@
 use Rattle.std.proofs.Common.{ℕ, List, [], length, nat_lt, Option, Some, None, Result, Ok, Err, refl}
 use Rattle.well.specs.Rows.{rows_fault}
 use Rattle.fumen_digits.specs.declared.dialect.Dialect.{Dialect}
-use Rattle.fumen_digits.specs.Fault.{Fault as TextFault}
+use Rattle.fumen_digits.specs.declared.fault.FumenFault.{FumenFault}
 use Rattle.fumen_pages.specs.declared.page.Page.{Page}
 use Rattle.fumen_text.specs.Reading.{text_pages}
 use Rattle.pc_faults.specs.declared.fault.Fault.{Fault}
@@ -13,7 +13,7 @@ use Rattle.pc_settings.specs.Request.{FieldText, rows_text, fumen_text}
 use Rattle.pc_source.specs.Faults.{asked_fault, field_fault, page_fault, pages_fault, text_fault}
 use Rattle.pc_source.specs.FieldText.{text_given}
 
-inner_pages : (read : Result (Dialect × List Page) TextFault) → IsInner (pages_fault read)
+inner_pages : (read : Result (Dialect × List Page) FumenFault) → IsInner (pages_fault read)
 inner_pages (Ok pages) = tt
 inner_pages (Err f) = refl
 
@@ -21,7 +21,7 @@ inner_page : (asked : Option ℕ) (pages : List Page) → IsInner (page_fault as
 inner_page None pages = tt
 inner_page (Some asked) pages = inner_test (nat_lt (length pages) asked) (faults.NoPage asked (length pages)) refl
 
-inner_asked : (asked : Option ℕ) (read : Result (Dialect × List Page) TextFault) → IsInner (asked_fault asked read)
+inner_asked : (asked : Option ℕ) (read : Result (Dialect × List Page) FumenFault) → IsInner (asked_fault asked read)
 inner_asked asked (Ok (dialect, pages)) = inner_page asked pages
 inner_asked asked (Err f) = tt
 

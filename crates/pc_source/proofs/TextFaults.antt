@@ -3,11 +3,9 @@ use Rattle.std.proofs.Common.{◌≡◌, ◌∙◌, ℕ, List, [], ◌∷◌, Op
 use Rattle.pc_outside.specs.declared.answers.Refused.{Refused}
 use Rattle.pc_outside.specs.declared.answers.Refused.TheVariants as refused
 use Rattle.fumen_digits.specs.declared.dialect.Dialect.{Dialect}
-use Rattle.fumen_digits.specs.Fault.{Fault as TextFault}
+use Rattle.fumen_digits.specs.declared.fault.FumenFault.{FumenFault}
 use Rattle.fumen_pages.specs.declared.page.Page.{Page}
-use Rattle.fumen_text.specs.declared.fault.FumenFault.{FumenFault}
-use Rattle.fumen_text.specs.declared.fault.FumenFault.TheVariants as fault
-use Rattle.fumen_text.specs.Faults.{IsTextFault, fumen_fault}
+use Rattle.fumen_text.specs.Faults.{IsTextFault}
 use Rattle.fumen_text.specs.Reading.{text_pages}
 use Rattle.fumen_text.specs.Texts.{ReadsAs}
 use Rattle.fumen_text.proofs.CallerLemmas.{read_from_text, read_from_text_fault}
@@ -16,22 +14,10 @@ use Rattle.pc_faults.specs.declared.fault.Fault.TheVariants as faults
 use Rattle.pc_faults.proofs.CallerLemmas.{first_stops, second_left}
 use Rattle.pc_source.specs.Faults.{asked_fault, page_fault, pages_fault, text_fault}
 use Rattle.pc_source.specs.Had.{HasText, IsRefusal}
-use Rattle.pc_source.specs.FumenFaults.{named}
-
-named_fault : (f : FumenFault) → named (fumen_fault f) ≡ f
-named_fault fault.NoFumen = refl
-named_fault (fault.BadDigit place) = refl
-named_fault (fault.Truncated place) = refl
-named_fault (fault.RunPastEnd place) = refl
-named_fault (fault.BadCell place) = refl
-named_fault (fault.BadAction place) = refl
-named_fault (fault.PieceOutside page) = refl
-named_fault (fault.BadComment place) = refl
-named_fault fault.TooManyPages = refl
 
 -- the text is no fumen text
-pub has_fault : (text : List ℕ) (f : FumenFault) → text_pages text ≡ Err (fumen_fault f) → pages_fault (text_pages text) ≡ Some (faults.Fumen f)
-has_fault text f read = rw (read) (ap (λ g. Some (faults.Fumen g)) (named_fault f))
+pub has_fault : (text : List ℕ) (f : FumenFault) → text_pages text ≡ Err f → pages_fault (text_pages text) ≡ Some (faults.Fumen f)
+has_fault text f read = ap pages_fault read
 
 -- its fault comes before that of the page
 pub text_stops : (asked : Option ℕ) (text : List ℕ) (f : Fault) → pages_fault (text_pages text) ≡ Some f → text_fault asked text ≡ Some f
@@ -45,8 +31,8 @@ text_reads asked text pages has =
     let read = read_from_text text has.dialect pages has.reads in
     second_left (pages_fault (text_pages text)) (asked_fault asked (text_pages text)) (ap pages_fault read) ∙ ap (asked_fault asked) read
 
-pub text_faulty : (asked : Option ℕ) (text : List ℕ) (f : TextFault) → IsTextFault text f → text_fault asked text ≡ Some (faults.Fumen (named f))
-text_faulty asked text f is = text_stops asked text (faults.Fumen (named f)) (ap pages_fault (read_from_text_fault text f is))
+pub text_faulty : (asked : Option ℕ) (text : List ℕ) (f : FumenFault) → IsTextFault text f → text_fault asked text ≡ Some (faults.Fumen f)
+text_faulty asked text f is = text_stops asked text (faults.Fumen f) (ap pages_fault (read_from_text_fault text f is))
 
 pub text_page : (asked : Option ℕ) (text : List ℕ) (dialect : Dialect) (pages : List Page) → ReadsAs text dialect pages → text_fault asked text ≡ page_fault asked pages
 text_page asked text dialect pages reads = text_reads asked text pages (record { dialect = dialect; reads = reads })

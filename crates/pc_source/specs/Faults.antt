@@ -3,7 +3,7 @@ use Rattle.std.specs.Prelude.{ℕ, ◌-◌, nat_lt, if◌then◌else◌, List, [
 use Rattle.lane_board.specs.Field.{Field, empty_field}
 use Rattle.well.specs.Rows.{rows_fault, written_cells}
 use Rattle.fumen_digits.specs.declared.dialect.Dialect.{Dialect}
-use Rattle.fumen_digits.specs.Fault.{Fault as TextFault}
+use Rattle.fumen_digits.specs.declared.fault.FumenFault.{FumenFault}
 use Rattle.fumen_pages.specs.declared.page.Page.{Page}
 use Rattle.fumen_text.specs.Reading.{text_pages}
 use Rattle.pc_faults.specs.declared.fault.Fault.{Fault}
@@ -11,18 +11,17 @@ use Rattle.pc_faults.specs.declared.fault.Fault.TheVariants as faults
 use Rattle.pc_faults.specs.FirstFault.{first_of_these}
 use Rattle.pc_settings.specs.Request.{FieldText, fumen_text, rows_text}
 use Rattle.pc_source.specs.FieldText.{page_cells, text_given}
-use Rattle.pc_source.specs.FumenFaults.{named}
 
-abbrev pub pages_fault : Result (Dialect × List Page) TextFault → Option Fault
+abbrev pub pages_fault : Result (Dialect × List Page) FumenFault → Option Fault
 pages_fault (Ok pages) = None
-pages_fault (Err fault) = Some (faults.Fumen (named fault))
+pages_fault (Err fault) = Some (faults.Fumen fault)
 
 -- a page that is asked for stands in the list
 abbrev pub page_fault : Option ℕ → List Page → Option Fault
 page_fault None pages = None
 page_fault (Some asked) pages = if nat_lt (length pages) asked then Some (faults.NoPage asked (length pages)) else None
 
-abbrev pub asked_fault : Option ℕ → Result (Dialect × List Page) TextFault → Option Fault
+abbrev pub asked_fault : Option ℕ → Result (Dialect × List Page) FumenFault → Option Fault
 asked_fault asked (Ok (dialect, pages)) = page_fault asked pages
 asked_fault asked (Err fault) = None
 
@@ -42,12 +41,12 @@ cells_shown None = empty_field
 cells_shown (Some page) = page_cells page
 
 -- the cells of the page with this number, counted from 1, of a text that was read
-abbrev pub cells_read : ℕ → Result (Dialect × List Page) TextFault → Field
+abbrev pub cells_read : ℕ → Result (Dialect × List Page) FumenFault → Field
 cells_read number (Ok (dialect, pages)) = cells_shown (slice_get pages (number - 1))
 cells_read number (Err fault) = empty_field
 
 -- The cells of the field, where its text has no fault. The law `fields_are_read_as_they_are_asked` says that they are
 -- those of `IsFieldOf`.
-abbrev pub cells_of : FieldText → ℕ → List ℕ → Field
-cells_of (rows_text text) number bytes = written_cells text
-cells_of (fumen_text word) number bytes = cells_read number (text_pages (text_given word bytes))
+abbrev pub cells_asked : FieldText → ℕ → List ℕ → Field
+cells_asked (rows_text text) number bytes = written_cells text
+cells_asked (fumen_text word) number bytes = cells_read number (text_pages (text_given word bytes))

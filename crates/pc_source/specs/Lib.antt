@@ -2,7 +2,6 @@
 pub mod Answers
 pub mod Faults
 pub mod FieldText
-pub mod FumenFaults
 pub mod Sink
 pub mod Source
 pub mod Task

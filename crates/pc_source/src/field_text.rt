@@ -63,7 +63,7 @@ fn rows_field(text: &str) -> Result<Well, Fault>
     }
 }
 
-// The text that a word gives, where the source has these bytes.
+/// The text that a word gives, where the source has these bytes.
 fn text_given<'a>(word: &'a str, bytes: &'a [u8]) -> &'a [u8]
     ensures { result.now ≡ text_given word.entry.now bytes.entry.now }
 {
@@ -73,7 +73,7 @@ fn text_given<'a>(word: &'a str, bytes: &'a [u8]) -> &'a [u8]
     }
 }
 
-// The field of the page with this number of a fumen text.
+/// The field of the page with this number of a fumen text.
 fn fumen_field(alloc: Global, text: &[u8], number: u32) -> Result<Well, Refused<Fault>>
     requires { 1 ≤ number }
     ensures field { IfOk result (λ well. HasFumenField text.now number (filled well)) }

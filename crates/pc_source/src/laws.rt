@@ -2,30 +2,29 @@
 ghost use Rattle.std.specs.Prelude.{◌≡◌, ◌≤◌, ℕ, List, Option, Some, None};
 ghost use Rattle.lane_board.specs.Field.{Field};
 ghost use Rattle.fumen_digits.specs.declared.dialect.Dialect.{Dialect};
-ghost use Rattle.fumen_digits.specs.Fault.{Fault as TextFault};
+ghost use Rattle.fumen_digits.specs.declared.fault.FumenFault.{FumenFault};
 ghost use Rattle.fumen_pages.specs.declared.page.Page.{Page};
 ghost use Rattle.fumen_text.specs.Faults.{IsTextFault};
 ghost use Rattle.fumen_text.specs.Texts.{ReadsAs};
 ghost use Rattle.pc_faults.specs.declared.fault.Fault.TheVariants.{Fumen};
 ghost use Rattle.pc_settings.specs.Request.{FieldText, fumen_text};
-ghost use Rattle.pc_source.specs.Faults.{cells_of, field_fault, page_fault, text_fault};
+ghost use Rattle.pc_source.specs.Faults.{cells_asked, field_fault, page_fault, text_fault};
 ghost use Rattle.pc_source.specs.FieldText.{IsFieldOf, text_given};
-ghost use Rattle.pc_source.specs.FumenFaults.{named};
 
 /// A text of the field that has no fault asks for one field, the one whose cells the later faults are about.
 pub fn fields_are_read_as_they_are_asked()
     ensures there { (field : FieldText) (number : ℕ) (bytes : List ℕ) → 1 ≤ number
         → field_fault field number bytes ≡ None
-        → IsFieldOf field number bytes (cells_of field number bytes) }
+        → IsFieldOf field number bytes (cells_asked field number bytes) }
     ensures only { (field : FieldText) (number : ℕ) (bytes : List ℕ) (F : Field) → IsFieldOf field number bytes F
-        → cells_of field number bytes ≡ F }
+        → cells_asked field number bytes ≡ F }
 {}
 
 /// The first fault of a fumen text with a page that is asked for is the one fault of this text, or else that the page
 /// is none of those that it reads as.
 pub fn text_faults_are_those_of_the_text()
-    ensures text { (asked : Option ℕ) (text : List ℕ) (fault : TextFault) → IsTextFault text fault
-        → text_fault asked text ≡ Some (Fumen (named fault)) }
+    ensures text { (asked : Option ℕ) (text : List ℕ) (fault : FumenFault) → IsTextFault text fault
+        → text_fault asked text ≡ Some (Fumen fault) }
     ensures page { (asked : Option ℕ) (text : List ℕ) (dialect : Dialect) (pages : List Page)
         → ReadsAs text dialect pages
         → text_fault asked text ≡ page_fault asked pages }
@@ -34,9 +33,9 @@ pub fn text_faults_are_those_of_the_text()
 /// The fault of a fumen text that gives the field, the source's or another, is the one fault of this text, or else
 /// that the page which is asked for is none of those that it reads as.
 pub fn field_faults_are_those_of_the_text()
-    ensures text { (word : List ℕ) (number : ℕ) (bytes : List ℕ) (fault : TextFault)
+    ensures text { (word : List ℕ) (number : ℕ) (bytes : List ℕ) (fault : FumenFault)
         → IsTextFault (text_given word bytes) fault
-        → field_fault (fumen_text word) number bytes ≡ Some (Fumen (named fault)) }
+        → field_fault (fumen_text word) number bytes ≡ Some (Fumen fault) }
     ensures page { (word : List ℕ) (number : ℕ) (bytes : List ℕ) (dialect : Dialect) (pages : List Page)
         → ReadsAs (text_given word bytes) dialect pages
         → field_fault (fumen_text word) number bytes ≡ page_fault (Some number) pages }

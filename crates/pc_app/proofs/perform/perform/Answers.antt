@@ -3,7 +3,7 @@ use Rattle.std.proofs.Common.{ap, refl}
 use Rattle.combo_settings.specs.Views.{combo_view}
 use Rattle.path_settings.specs.Views.{path_view}
 use Rattle.percent_settings.specs.Views.{percent_view}
-use Rattle.pc_words.specs.Request.{combo, cover, decode, encode, kicks, path, percent, show}
+use Rattle.pc_words.specs.Request.{combo, cover, decode, encode, kicks, path, percent, selfrun, show}
 use Rattle.pc_settings.specs.Views.{field_view}
 use Rattle.pc_words.specs.Views.{settings_view}
 use Rattle.pc_app.proofs.Answering.{for_request, idle_answers, idle_works_for, works_for}
@@ -72,3 +72,11 @@ returns-in-Kicks-clause-answers g c =
 pub returns-in-Kicks-clause-works : goal.returns-in-Kicks-clause-works
 returns-in-Kicks-clause-works g c =
     idle_works_for (kicks c.in-Kicks.kicks.now) (settings_view c.args.settings.now) c.args.bytes.now _ _ _ c.run_kicks.result (ap settings_view c.in-Kicks.is) refl (λ status. refl)
+
+pub returns-in-Selfrun-clause-answers : goal.returns-in-Selfrun-clause-answers
+returns-in-Selfrun-clause-answers g c =
+    for_request (selfrun c.in-Selfrun.number c.in-Selfrun.pages) (settings_view c.args.settings.now) c.args.bytes.now _ _ _ c.run_selfrun.result (ap settings_view c.in-Selfrun.is) c.run_selfrun.ensures.answers
+
+pub returns-in-Selfrun-clause-works : goal.returns-in-Selfrun-clause-works
+returns-in-Selfrun-clause-works g c =
+    works_for (selfrun c.in-Selfrun.number c.in-Selfrun.pages) (settings_view c.args.settings.now) c.args.bytes.now _ _ c.run_selfrun.result (ap settings_view c.in-Selfrun.is) c.run_selfrun.ensures.works

@@ -12,7 +12,7 @@ use Rattle.pc_cover.specs.Covering.{numbers_from}
 use Rattle.pc_cover.specs.CoveringTask.{covering_task}
 use Rattle.pc_cover.specs.Given.{given_in}
 use Rattle.pc_cover.specs.Lines.{cover_form}
-use Rattle.pc_cover.specs.Sequences.{placements_of}
+use Rattle.pc_cover.specs.Sequences.{listed_placements}
 use Rattle.pc_cover.proofs.CoverAnswers.{lines_refused, lines_read, problem_first}
 use Rattle.pc_cover.proofs.command.cover_all.Goals as goal
 
@@ -26,7 +26,7 @@ returns-in-Err-clause-works g c = none_added c.args.steps.now c.args.steps.now r
 pub returns-in-Err-covering-clause-works : goal.returns-in-Err-covering-clause-works
 returns-in-Err-covering-clause-works g c =
     inr (
-      lines_read (field_view c.args.settings.now) (filled c.args.well) c.args.bytes.now (c.empties_below-needed.result / 4) (map placements_of c.in-Ok-sequences_in.sequences.items) c.in-Ok.ensures.none
+      lines_read (field_view c.args.settings.now) (filled c.args.well) c.args.bytes.now (c.empties_below-needed.result / 4) (map listed_placements c.in-Ok-sequences_in.sequences.items) c.in-Ok.ensures.none
           (ap (λ n. n / 4) c.empties_below-needed.ensures) c.in-Ok-sequences_in.ensures,
       tt,
     )
@@ -37,9 +37,9 @@ returns-clause-answers g c =
     let F = filled c.args.well in
     let problem = c.in-Ok.problem in
     let numbers = numbers_from problem (lists_of c.in-Ok-covering.set) 0 in
-    let sequences = map placements_of c.in-Ok-sequences_in.sequences.items in
+    let sequences = map listed_placements c.in-Ok-sequences_in.sequences.items in
     let is = ap (λ n. n / 4) c.empties_below-needed.ensures in
-    let covered = subst (λ l. IsCoveredList problem (map placements_of l) numbers) c.as_slice.ensures.value c.in-Ok-covering.ensures.covered in
+    let covered = subst (λ l. IsCoveredList problem (map listed_placements l) numbers) c.as_slice.ensures.value c.in-Ok-covering.ensures.covered in
     written_answers (covering_task request F) c.args.bytes.now (cover_form (queues (elements_of problem.pattern)) numbers) _ _ (c.covering.new.steps - c.args.steps.now) c.write_answers.result c.after_writes.result c.after_writes.ensures
     (lines_read request F c.args.bytes.now (c.empties_below-needed.result / 4) sequences c.in-Ok.ensures.none is c.in-Ok-sequences_in.ensures)
     (record {

@@ -4,7 +4,7 @@ use Rattle.std.proofs.lemmas.List.{map_more, take_all}
 use Rattle.cover.specs.Covered.{PlaysIn}
 use Rattle.cover.specs.Kept.{lists_of}
 use Rattle.pc_cover.specs.Covering.{KeepsKindsOf}
-use Rattle.pc_cover.specs.Sequences.{placements_of}
+use Rattle.pc_cover.specs.Sequences.{listed_placements}
 use Rattle.pc_cover.proofs.CoveringLemmas.{covered-list, kinds-added, kinds-none}
 use Rattle.pc_cover.proofs.covering.covering.Goals as goal
 
@@ -14,13 +14,13 @@ loop-sequence-preserved g c =
     let sequences = c.args.sequences.now in
     let i = c.loop-sequence.sequence-index in
     let item = c.sequence-item.result in
-    let before = map placements_of (take i sequences) in
-    let split : map placements_of (take (i + 1) sequences) ≡ before ++ placements_of item ∷ [] =
-    map_more placements_of sequences i item c.loop-sequence-test.true ∙ ap (λ s. before ++ placements_of s ∷ []) (sym c.sequence-item.is) in
-    let plays = subst (λ p. IsTrue c.in_ok-add.field-0 ↔ PlaysIn p (placements_of item)) c.loop-sequence.invariant.0 c.in_ok-add.ensures.plays in (
+    let before = map listed_placements (take i sequences) in
+    let split : map listed_placements (take (i + 1) sequences) ≡ before ++ listed_placements item ∷ [] =
+    map_more listed_placements sequences i item c.loop-sequence-test.true ∙ ap (λ s. before ++ listed_placements s ∷ []) (sym c.sequence-item.is) in
+    let plays = subst (λ p. IsTrue c.in_ok-add.field-0 ↔ PlaysIn p (listed_placements item)) c.loop-sequence.invariant.0 c.in_ok-add.ensures.plays in (
       c.in_ok-add.ensures.problem ∙ c.loop-sequence.invariant.0,
       subst (KeepsKindsOf problem (lists_of c.add.new.self)) (sym split)
-          (kinds-added problem (lists_of c.loop-sequence.set) (lists_of c.add.new.self) before (placements_of item) c.loop-sequence.invariant.1 c.in_ok-add.field-0 plays c.in_ok-add.ensures.kept),
+          (kinds-added problem (lists_of c.loop-sequence.set) (lists_of c.add.new.self) before (listed_placements item) c.loop-sequence.invariant.1 c.in_ok-add.field-0 plays c.in_ok-add.ensures.kept),
       omega (arith, c.loop-sequence.invariant.2, c.in_ok-add.ensures.counted),
     )
 
@@ -28,5 +28,5 @@ pub returns-clause-covered : goal.returns-clause-covered
 returns-clause-covered g c =
     let sequences = c.args.sequences.now in
     let all : take c.loop-sequence.sequence-index sequences ≡ sequences = take_all c.loop-sequence.sequence-index sequences c.loop-sequence-test.false in
-    covered-list c.permits_is_decided.ensures.queue c.args.problem.now (lists_of c.loop-sequence.set) (map placements_of sequences)
-    (subst (λ l. KeepsKindsOf c.args.problem.now (lists_of c.loop-sequence.set) (map placements_of l)) all c.loop-sequence.invariant.1)
+    covered-list c.permits_is_decided.ensures.queue c.args.problem.now (lists_of c.loop-sequence.set) (map listed_placements sequences)
+    (subst (λ l. KeepsKindsOf c.args.problem.now (lists_of c.loop-sequence.set) (map listed_placements l)) all c.loop-sequence.invariant.1)

@@ -1,6 +1,6 @@
 -- Pages that a text reads as are sound, and lines of sound pages spell them.
 use Rattle.std.proofs.Common.{List, ℕ, subst, sym}
-use Rattle.fumen_text.specs.Texts.{empty_cells}
+use Rattle.fumen_text.specs.Texts.{empty_page}
 use Rattle.fumen_text.proofs.CallerLemmas.{spelled_sound, spelled_units}
 use Rattle.page_list.specs.LineSpelling.{SpellsPages}
 use Rattle.page_list.proofs.CallerLemmas.{printed_pages}
@@ -11,7 +11,7 @@ decoded : (bytes output : List ℕ) (d : IsDecodeOutput bytes output) → Spells
 decoded bytes output d =
     let s = d.reads.spelled in
     subst (λ t. SpellsPages t d.pages) (sym d.lines)
-    (printed_pages d.dialect d.pages d.reads.few (spelled_sound d.dialect empty_cells 0 d.pages d.reads.ds s) (spelled_units d.dialect empty_cells 0 d.pages d.reads.ds s))
+    (printed_pages d.dialect d.pages d.reads.few (spelled_sound d.dialect empty_page 0 d.pages d.reads.ds s) (spelled_units d.dialect empty_page 0 d.pages d.reads.ds s))
 
 pub returns : goal.returns
 returns c = decoded

@@ -66,11 +66,11 @@ returns-clause-answers g c =
     let listed = listed_of request F problem (items_of c.in-Ok.listing.after) search c.in-Ok.ensures.problem c.in-Ok.ensures.after c.in-Ok-start.ensures.view c.in-Ok-start.ensures.list in
     let report = report_form (solution_form request.format request.keys problem) request.limit (solutions search) ++ stats_form request.stats floods in
     let written = subst (λ format. WritesAll {T = Unit {0}} {E = WriteFault} (g.O.Sink.written c.args.out.now) (g.O.Sink.written c.write_listing-written.new.out) c.write_listing-written.result (report_form (solution_form format request.keys problem) c.args.settings.now.limit (solutions search) ++ stats_form c.args.settings.now.stats floods))
-    c.in-Ok-writer_for.ensures
+    c.in-Ok-writer_for.ensures.form
     (subst (λ keys. WritesAll {T = Unit {0}} {E = WriteFault} (g.O.Sink.written c.args.out.now) (g.O.Sink.written c.write_listing-written.new.out) c.write_listing-written.result (report_form (solution_form (format_of c.in-Ok-writer_for.writer) keys problem) c.args.settings.now.limit (solutions search) ++ stats_form c.args.settings.now.stats floods))
     c.in-Ok-finder_for.ensures.finder c.write_listing-written.ensures.written) in
     report_answers request F (sink_change _ _ _ _) floods c.in-Ok.ensures.none _ report (record { listed = listed; report = refl }) c.write_listing-written.result c.line_status.result c.line_status.ensures written c.write_listing-written.ensures.cause
-    (λ is. sym c.in-Ok-writer_for.ensures ∙ c.write_listing-written.ensures.memory is)
+    (λ is. sym c.in-Ok-writer_for.ensures.form ∙ c.write_listing-written.ensures.memory is)
 
 pub returns-clause-works : goal.returns-clause-works
 returns-clause-works g c =
@@ -84,7 +84,7 @@ returns-clause-works g c =
     let listed = listed_of request F problem (items_of c.in-Ok.listing.after) before c.in-Ok.ensures.problem c.in-Ok.ensures.after c.in-Ok-start.ensures.view c.in-Ok-start.ensures.list in
     let searched = subst (λ after. IsSearchOf problem after search floods) c.in-Ok-start.ensures.after c.write_listing-written.ensures.searched in
     let stopped = subst (λ format. OnErr {T = Unit {0}} {E = WriteFault} c.write_listing-written.result (StoppedBefore (solution_form format request.keys problem) (solutions before) (solutions search) sink.held sink.holds))
-    c.in-Ok-writer_for.ensures
+    c.in-Ok-writer_for.ensures.form
     (subst (λ keys. OnErr {T = Unit {0}} {E = WriteFault} c.write_listing-written.result (StoppedBefore (solution_form (format_of c.in-Ok-writer_for.writer) keys problem) (solutions before) (solutions search) sink.held sink.holds))
     c.in-Ok-finder_for.ensures.finder c.write_listing-written.ensures.stopped) in
     report_works request F sink floods c.in-Ok.ensures.none c.write_listing-written.result c.line_status.result c.line_status.ensures
@@ -109,6 +109,6 @@ returns-clause-works g c =
       search = search;
       searched = searched;
       left = failed_by c.write_listing-written.result faults.NoMemory is stopped;
-      late = λ _. sym c.in-Ok-writer_for.ensures ∙ c.write_listing-written.ensures.memory is;
+      late = λ _. sym c.in-Ok-writer_for.ensures.form ∙ c.write_listing-written.ensures.memory is;
       ended = λ done none short. cc;
     })

@@ -1,0 +1,194 @@
+-- A problem for what is asked about a field, where nothing is wrong with it.
+use Rattle.std.proofs.Common.{◌≡◌, ◌∙◌, ◌↔◌, ℕ, zero, suc, ◌+◌, ◌-◌, ◌/◌, ◌%◌, ◌<◌, ◌≤◌, Bool, true, false, ◌&&◌, ◌==◌, nat_lt, length, get_or, List, [], ◌∷◌, All, Option, Some, None, Result, Ok, Err, refl, ap, sym, subst, arith, inl, inr}
+use Rattle.std.specs.Prelude.{option_map, reverse, slice_index, slice_index_or}
+use Rattle.std.specs.List.{slice_split}
+use Rattle.std.proofs.lemmas.Bool.{and_parts, cases_Bool, cases_lt, ltb-true}
+use Rattle.std.proofs.lemmas.Bool.Decides.{nat_tests}
+use Rattle.std.proofs.lemmas.List.{get_or-reverse, length-reverse}
+use Rattle.lane_board.specs.Field.{Field, rows_below}
+use Rattle.srs.specs.Kick.{Table}
+use Rattle.srs.specs.Rules.{table_of}
+use Rattle.well.specs.Counts.{empties_below, lowest_filled_from, lowest_full}
+use Rattle.well.specs.Rows.{IsRow, IsRowsText, is_filled_char, is_slash, rows_fault, written_cells}
+use Rattle.well.specs.Well.{filled}
+use Rattle.fumen_pages.specs.declared.page.Page.{Page}
+use Rattle.kick_file.specs.Faults.{IsReadAs}
+use Rattle.kick_file.specs.Reading.{kick_text}
+use Rattle.kick_file.specs.declared.fault.KickFault.{KickFault}
+use Rattle.queue_pattern.specs.declared.element.Element.{Element}
+use Rattle.queue_pattern.specs.declared.fault.PatternFault.{PatternFault}
+use Rattle.queue_pattern.specs.declared.pattern.Pattern.{Pattern}
+use Rattle.queue_pattern.specs.Grammar.{elements, limited}
+use Rattle.queue_pattern.specs.Pattern.{elements_of}
+use Rattle.queue_pattern.specs.Queues.{queue_len}
+use Rattle.enumerate.specs.declared.problem.Problem.{Problem}
+use Rattle.enumerate.specs.Problem.{IsFit, held_count}
+use Rattle.pc_faults.specs.declared.fault.Fault.{Fault}
+use Rattle.pc_faults.specs.declared.fault.Fault.TheVariants as faults
+use Rattle.pc_faults.specs.FirstFault.{first_of_these}
+use Rattle.pc_settings.specs.Request.{FieldRequest, FieldText, IsInRange, fumen_text, rows_text}
+use Rattle.pc_source.specs.Faults.{cells_asked, field_fault}
+use Rattle.pc_source.specs.FieldText.{IsFieldOf, page_cells, text_given}
+use Rattle.pc_problem.specs.Faults as asked
+use Rattle.pc_problem.specs.Problem.{IsProblemOf}
+use Rattle.pc_app.proofs.Tables.{rules-made, spelled_small}
+use Rattle.pc_app.proofs.Wells.{LiesInWell, well-made}
+
+no_some : {A B : Type 0} (f : A → B) (o : Option A) → option_map f o ≡ None → o ≡ None
+no_some f None none = refl
+no_some f (Some x) none = let bad : Some (f x) ≡ None = none in cc
+
+-- of faults none of which stands
+pub both_none : (one two : Option Fault) → first_of_these (one ∷ two ∷ []) ≡ None → (one ≡ None) × (two ≡ None)
+both_none None None none = (refl, refl)
+both_none None (Some f) none = let bad : Some f ≡ None = none in cc
+both_none (Some f) two none = let bad : Some f ≡ None = none in cc
+
+pub three_none : (one two three : Option Fault) → first_of_these (one ∷ two ∷ three ∷ []) ≡ None → (one ≡ None) × (two ≡ None) × (three ≡ None)
+three_none None two three none = let rest = both_none two three none in (refl, rest.0, rest.1)
+three_none (Some f) two three none = let bad : Some f ≡ None = none in cc
+
+-- ---- the cells of a field that is asked about lie in the well
+
+filled_byte : (byte : ℕ) → byte ≡ 0 → is_filled_char byte ≡ true → ⊥
+filled_byte byte none is = let bad : is_filled_char 0 ≡ true = subst (λ b. is_filled_char b ≡ true) none is in cc
+
+beyond : (row : List ℕ) (k : ℕ) → length row ≤ k → slice_index row k ≡ 0
+beyond [] k past = refl
+beyond (x ∷ row) zero past = absurd (omega (arith, past))
+beyond (x ∷ row) (suc k) past = beyond row k (omega (arith, past))
+
+no_row : (rows : List (List ℕ)) (k : ℕ) → length rows ≤ k → slice_index_or rows k [] ≡ []
+no_row [] k past = refl
+no_row (row ∷ rows) zero past = absurd (omega (arith, past))
+no_row (row ∷ rows) (suc k) past = no_row rows k (omega (arith, past))
+
+module _ (text : List ℕ) (few : length (slice_split is_slash text) ≤ 23) (each : All (λ row. length row ≤ 10) (slice_split is_slash text)) where
+  rows : List (List ℕ)
+  rows = slice_split is_slash text
+
+  in_row : (y : ℕ) → length (slice_index_or (reverse rows) y []) ≤ 10
+  unfolding rows
+  in_row y = elim (cases_lt y (length rows)) [
+    | inl there ↦ subst (λ row. length row ≤ 10) (sym (get_or-reverse rows y [] there)) (each (length rows - 1 - y) [] (omega (arith, there)))
+    | inr past ↦ subst (λ row. length row ≤ 10) (sym (no_row (reverse rows) y (omega (arith, past, length-reverse rows)))) (omega arith)
+  ]
+
+  rows_lie : LiesInWell (written_cells text)
+  unfolding written_cells rows
+  rows_lie = record {
+    column = λ x y is. elim (cases_lt x 10) [
+      | inl below ↦ below
+      | inr past ↦ absurd (filled_byte _ (beyond (slice_index_or (reverse rows) y []) x (omega (arith, past, in_row y))) is)
+    ];
+    row = λ x y is. elim (cases_lt y 23) [
+      | inl below ↦ below
+      | inr past ↦ absurd (filled_byte _ (ap (λ row. slice_index row x) (no_row (reverse rows) y (omega (arith, past, few, length-reverse rows)))) is)
+    ];
+  }
+
+text_lies : (text : List ℕ) → IsRowsText text → LiesInWell (written_cells text)
+text_lies [] is = rows_lie [] one_row none_long
+  where
+    one_row : 1 ≤ 23
+    one_row = omega arith
+
+    no_bytes : 0 ≤ 10
+    no_bytes = omega arith
+
+    none_long : (k : ℕ) (d : List ℕ) → k < 1 → length (get_or ([] ∷ []) k d) ≤ 10
+    none_long zero d below = no_bytes
+    none_long (suc k) d below = absurd (omega (arith, below))
+text_lies (byte ∷ bytes) is = rows_lie (byte ∷ bytes) is.0 (λ k d below. let ten = (is.1 k d below).ten in omega (arith, ten))
+
+page_lies : (page : Page) → LiesInWell (page_cells page)
+unfolding page_cells rows_below
+page_lies page = record {
+  column = λ x y is. ltb-true x 10 (and_parts (nat_lt x 10) (nat_lt y 23) (and_parts (nat_lt x 10 && nat_lt y 23) _ is).0).0;
+  row = λ x y is. ltb-true y 23 (and_parts (nat_lt x 10) (nat_lt y 23) (and_parts (nat_lt x 10 && nat_lt y 23) _ is).0).1;
+}
+
+pub field_lies : ((text : List ℕ) → (rows_fault text ≡ None) ↔ IsRowsText text) → (field : FieldText) (number : ℕ) (bytes : List ℕ) (F : Field)
+    → field_fault field number bytes ≡ None → IsFieldOf field number bytes F → LiesInWell F
+field_lies known (rows_text text) number bytes F none is =
+    subst LiesInWell (sym is) (text_lies text ((known text).0 (no_some (λ fault. faults.Rows fault) (rows_fault text) none)))
+field_lies known (fumen_text word) number bytes F none is = subst LiesInWell (sym is.field.cells) (page_lies is.field.page)
+
+-- ---- a problem
+
+record IsRight (request : FieldRequest) (F : Field) (es : List Element) : Type 0 where
+  read : asked.elements_asked request ≡ Ok es
+  below : lowest_filled_from F request.height ≡ None
+  open_rows : lowest_full F ≡ None
+  enough : empties_below F request.height % 4 ≡ 0 → empties_below F request.height / 4 ≤ queue_len es + held_count request.hold request.held
+
+enough_of : (empties have : ℕ) → asked.too_few empties have ≡ None → empties % 4 ≡ 0 → empties / 4 ≤ have
+enough_of empties have none four = elim (cases_Bool (nat_lt have (empties / 4))) [
+  | inl few ↦
+      let made : asked.too_few empties have ≡ Some (faults.TooFewPieces have (empties / 4)) = rw (four, few) refl in
+      let bad : Some (faults.TooFewPieces have (empties / 4)) ≡ None = sym made ∙ none in cc
+  | inr many ↦ grind (arith, nat_tests, many)
+]
+
+asked_by : (request : FieldRequest) (F : Field) (read : Result (List Element) PatternFault) → asked.elements_asked request ≡ read
+    → lowest_filled_from F request.height ≡ None → lowest_full F ≡ None → asked.pattern_fault read ≡ None
+    → asked.pieces_fault (empties_below F request.height) (held_count request.hold request.held) read ≡ None
+    → (es : List Element) × IsRight request F es
+asked_by request F (Err fault) is below open_rows pattern pieces = let bad : Some (faults.Pattern fault) ≡ None = pattern in cc
+asked_by request F (Ok es) is below open_rows pattern pieces =
+    (es, record { read = is; below = below; open_rows = open_rows; enough = enough_of (empties_below F request.height) (queue_len es + held_count request.hold request.held) pieces })
+
+asked_of : (request : FieldRequest) (F : Field) → asked.problem_fault request F ≡ None → (es : List Element) × IsRight request F es
+unfolding asked.problem_fault asked.filled_rows_fault
+asked_of request F none =
+    let parts = three_none (asked.filled_rows_fault F request.height) (asked.pattern_fault (asked.elements_asked request))
+    (asked.pieces_fault (empties_below F request.height) (held_count request.hold request.held) (asked.elements_asked request)) none in
+    let rows = both_none (option_map (λ row. faults.FieldTooHigh row) (lowest_filled_from F request.height)) (asked.full_row_fault F) parts.0 in
+    asked_by request F (asked.elements_asked request) refl
+    (no_some (λ row. faults.FieldTooHigh row) (lowest_filled_from F request.height) rows.0)
+    (no_some (λ row. faults.FullRow row) (lowest_full F) rows.1)
+    parts.1 parts.2
+
+pub record Made (request : FieldRequest) (F : Field) : Type 0 where
+  pub problem : Problem
+  pub named : IsProblemOf request F problem
+  pub fit : IsFit problem
+
+pub problem-made : ((text : List ℕ) (read : Result Table KickFault) → (kick_text text ≡ read) ↔ IsReadAs text read)
+    → ((text : List ℕ) (es : List Element) → limited (elements text) ≡ Ok es → (pattern : Pattern) × (elements_of pattern ≡ es))
+    → (request : FieldRequest) (F : Field) (table : Table) → IsInRange request → LiesInWell F → kick_text request.kicks ≡ Ok table → asked.problem_fault request F ≡ None → Made request F
+problem-made tables patterns request F table range lies spelled none =
+    let found = asked_of request F none in
+    let well = well-made F lies in
+    let pattern = patterns request.patterns found.0 found.1.read in
+    let rules = rules-made table (spelled_small request.kicks table ((tables request.kicks (Ok table)).0 spelled)) in
+    let problem : Problem = record {
+      well = well.0;
+      height = request.height;
+      pattern = pattern.0;
+      hold = request.hold;
+      held = request.held;
+      drop_mode = request.drop_mode;
+      rules = rules.0;
+    } in
+    record {
+      problem = problem;
+      named = record {
+        field = well.1;
+        height = refl;
+        queues = ap Ok pattern.1 ∙ sym found.1.read;
+        hold = refl;
+        held = refl;
+        drop = refl;
+        rules = ap Ok rules.1 ∙ sym spelled;
+      };
+      fit = record {
+        some = range.some;
+        low = range.low;
+        below = ap (λ G. lowest_filled_from G request.height) well.1 ∙ found.1.below;
+        open_rows = ap lowest_full well.1 ∙ found.1.open_rows;
+        enough = λ four. subst (λ es. empties_below (filled well.0) request.height / 4 ≤ queue_len es + held_count request.hold request.held) (sym pattern.1)
+            (subst (λ G. empties_below G request.height / 4 ≤ queue_len found.0 + held_count request.hold request.held) (sym well.1)
+            (found.1.enough (subst (λ G. empties_below G request.height % 4 ≡ 0) well.1 four)));
+      };
+    }

@@ -1,0 +1,105 @@
+-- Rules for each table that a text of offsets spells.
+use Rattle.std.proofs.Common.{◌≡◌, ℕ, suc, Bool, true, false, cond, ◌&&◌, ◌==◌, eqb-true, List, [], ◌∷◌, ◌++◌, length, map, refl, ap, sym, subst, ◌∙◌}
+use Rattle.std.specs.Prelude.{Ok, Result, fold}
+use Rattle.std.specs.List.{list_all}
+use Rattle.std.proofs.Math.Path.{fun_ext}
+use Rattle.std.proofs.lemmas.Bool.{and_from, and_parts}
+use Rattle.srs.specs.declared.offset.Offset.{Offset}
+use Rattle.srs.specs.declared.piece.Piece.{Piece}
+use Rattle.srs.specs.declared.piece.Piece.TheVariants.{I, L, O, Z, T, J, S}
+use Rattle.srs.specs.declared.rotation.Rotation.{Rotation}
+use Rattle.srs.specs.declared.rotation.Rotation.TheVariants.{Spawn, Right, Reverse, Left}
+use Rattle.srs.specs.declared.rules.Rules.{Rules}
+use Rattle.srs.specs.declared.rules.Tests.{Tests}
+use Rattle.srs.specs.declared.rules.Turns.{Turns}
+use Rattle.srs.specs.Cells.{Cell}
+use Rattle.srs.specs.Kick.{IsSmallTable, Table, is_small, is_small_move, pair_of, srs_table}
+use Rattle.srs.specs.Rules.{table_of, turns_table}
+use Rattle.srs.proofs.CallerLemmas.{each_state}
+use Rattle.kick_file.specs.Faults.{SpellsTable}
+use Rattle.kick_file.specs.Form.{Entry, SpellsEntries, SpellsEntry, is_same, table_of_entries, table_with_entry}
+use Rattle.kick_file.specs.declared.turned.TurnedPiece.{TurnedPiece}
+
+-- ---- a table that a text spells has five small offsets for each piece and rotation
+
+pub srs_small : IsSmallTable srs_table
+srs_small = record {
+  five = λ p r. eqb-true _ _ (each_state (λ p r. length (srs_table p r) == 5) refl p r);
+  small = λ p r. each_state (λ p r. list_all is_small_move (srs_table p r)) refl p r;
+}
+
+with_small : (table : Table) (entry : Entry) (text : List ℕ) → SpellsEntry text entry → IsSmallTable table → IsSmallTable (table_with_entry table entry)
+with_small table entry text spelled small = record {
+  five = λ p r. elim (is_same (record { piece = p; rotation = r }) entry.turned) as (λ b. length (cond b entry.offsets (table p r)) ≡ 5) [
+    | true ↦ spelled.five
+    | false ↦ small.five p r
+  ];
+  small = λ p r. elim (is_same (record { piece = p; rotation = r }) entry.turned) as (λ b. list_all is_small_move (cond b entry.offsets (table p r)) ≡ true) [
+    | true ↦ spelled.small
+    | false ↦ small.small p r
+  ];
+}
+
+entries_small : (table : Table) (entries : List Entry) (text : List ℕ) → SpellsEntries text entries → IsSmallTable table → IsSmallTable (fold table_with_entry table entries)
+entries_small table [] text spelled small = small
+entries_small table (entry ∷ []) text spelled small = with_small table entry text spelled small
+entries_small table (entry ∷ next ∷ entries) text spelled small =
+    entries_small (table_with_entry table entry) (next ∷ entries) spelled.1 spelled.4 (with_small table entry spelled.0 spelled.3 small)
+
+pub spelled_small : (text : List ℕ) (table : Table) → SpellsTable text table → IsSmallTable table
+spelled_small text table spelled = subst IsSmallTable (sym spelled.is) (entries_small srs_table spelled.entries text spelled.spelled srs_small)
+
+-- ---- so there are rules that keep it
+
+offset_of : Cell → Offset
+offset_of (dx, dy) = record { dx = dx; dy = dy }
+
+pairs_same : (cells : List Cell) → map pair_of (map offset_of cells) ≡ cells
+unfolding offset_of
+pairs_same [] = refl
+pairs_same ((dx, dy) ∷ cells) = ap (λ l. (dx, dy) ∷ l) (pairs_same cells)
+
+offsets_count : (cells : List Cell) → length (map offset_of cells) ≡ length cells
+offsets_count [] = refl
+offsets_count (cell ∷ cells) = ap (λ n. suc n) (offsets_count cells)
+
+offsets_small : (cells : List Cell) → list_all is_small_move cells ≡ true → list_all is_small (map offset_of cells) ≡ true
+unfolding offset_of
+offsets_small [] small = refl
+offsets_small ((dx, dy) ∷ cells) small =
+    let parts = and_parts (is_small_move (dx, dy)) (list_all is_small_move cells) small in
+    and_from (is_small_move (dx, dy)) (list_all is_small (map offset_of cells)) parts.0 (offsets_small cells parts.1)
+
+module _ (table : Table) (small : IsSmallTable table) where
+  tests_at : Piece → Rotation → Tests
+  tests_at p r = record {
+    offsets = map offset_of (table p r);
+    five = offsets_count (table p r) ∙ small.five p r;
+    small = offsets_small (table p r) (small.small p r);
+  }
+
+  turns_at : Piece → Turns
+  turns_at p = record { spawn = tests_at p Spawn; right = tests_at p Right; reverse = tests_at p Reverse; left = tests_at p Left }
+
+  made : Rules
+  made = record { i = turns_at I; l = turns_at L; o = turns_at O; z = turns_at Z; t = turns_at T; j = turns_at J; s = turns_at S }
+
+  turns_same : (p : Piece) (r : Rotation) → turns_table (turns_at p) r ≡ table p r
+  unfolding turns_at tests_at
+  turns_same p Spawn = pairs_same (table p Spawn)
+  turns_same p Right = pairs_same (table p Right)
+  turns_same p Reverse = pairs_same (table p Reverse)
+  turns_same p Left = pairs_same (table p Left)
+
+  at_piece : (p : Piece) (r : Rotation) → table_of made p r ≡ table p r
+  unfolding table_of made
+  at_piece I r = turns_same I r
+  at_piece L r = turns_same L r
+  at_piece O r = turns_same O r
+  at_piece Z r = turns_same Z r
+  at_piece T r = turns_same T r
+  at_piece J r = turns_same J r
+  at_piece S r = turns_same S r
+
+  pub rules-made : (rules : Rules) × (table_of rules ≡ table)
+  rules-made = (made, fun_ext (λ p. fun_ext (λ r. at_piece p r)))
