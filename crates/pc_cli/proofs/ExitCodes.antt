@@ -4,7 +4,9 @@ use Rattle.pc_faults.specs.declared.fault.Fault.{Fault}
 use Rattle.pc_faults.specs.declared.status.Status.{Status}
 use Rattle.pc_faults.specs.declared.status.Status.TheVariants.{Done, Input, SourceFault, SinkFault, NoMemory}
 use Rattle.pc_faults.specs.Codes.{status_code}
-use Rattle.pc_cli.specs.Edge.{IsExitStatus}
+use Rattle.pc_source.specs.Answers.{EndsBy}
+use Rattle.pc_source.specs.Task.{Needs, memory, nothing, source_bytes}
+use Rattle.pc_cli.specs.Edge.{EndsByCode, IsExitStatus}
 
 pub one_of_five : (status : Status) → IsExitStatus (status_code status)
 one_of_five Done = inl refl
@@ -43,3 +45,25 @@ sink_at_4 NoMemory is = absurd (omega (arith, is))
 
 pub no_input : (status : Status) → status_code status ≢ 2 → (fault : Fault) → status ≢ Input fault
 no_input status other fault is = other (ap status_code is)
+
+pub no_source : (status : Status) → status_code status ≢ 3 → status ≢ SourceFault
+no_source status other is = other (ap status_code is)
+
+pub no_sink : (status : Status) → status_code status ≢ 4 → status ≢ SinkFault
+no_sink status other is = other (ap status_code is)
+
+pub no_memory_at_5 : (status : Status) → status_code status ≡ 5 → status ≡ NoMemory
+no_memory_at_5 Done is = absurd (omega (arith, is))
+no_memory_at_5 (Input fault) is = absurd (omega (arith, is))
+no_memory_at_5 SourceFault is = absurd (omega (arith, is))
+no_memory_at_5 SinkFault is = absurd (omega (arith, is))
+no_memory_at_5 NoMemory is = refl
+
+-- where a fault stands, the code is one of those of the status
+pub ends_by_code : (needs : Needs) (fault : Fault) (status : Status) → EndsBy needs fault status → EndsByCode needs (status_code status)
+ends_by_code nothing fault status is = ap status_code is
+ends_by_code memory fault status (inl is) = inl (ap status_code is)
+ends_by_code memory fault status (inr is) = inr (ap status_code is)
+ends_by_code source_bytes fault status (inl is) = inl (ap status_code is)
+ends_by_code source_bytes fault status (inr (inl is)) = inr (inl (ap status_code is))
+ends_by_code source_bytes fault status (inr (inr is)) = inr (inr (ap status_code is))
