@@ -1,7 +1,5 @@
 // Runs of `cover`: which queues given sequences answer.
 use crate::asserts::{over, refused, writes};
-use crate::run_words;
-use pc_outside::MemorySource;
 use std::process::Abort;
 use std::test::Fail;
 
@@ -84,7 +82,7 @@ fn faults_of_the_field_come_first(rt: HostRuntime) -> Result<(), Fail> {
     )
 }
 
-// What `path` lists of the words behind its name, read by `cover` with the same words, and counted by `percent`.
+/// What `path` lists of the words behind its name, read by `cover` with the same words, and counted by `percent`.
 fn piped(rt: &(impl AllocGlobal + Abort), more: &[&str], numbers: &[u8]) -> Result<(), Fail> {
     let listed = over(rt, "path", more, b"")?;
     let covered = over(rt, "cover", more, listed.out.bytes())?;
@@ -121,21 +119,6 @@ fn sequences_with_other_kicks(rt: HostRuntime) -> Result<(), Fail> {
     let fixed =
         "cover --rows XXXXXXXXX_/XXXXXXX___ --clear-line 2 --patterns L --kicks LR:0,0/0,0/0,0/0,0/0,0;LL:0,0/0,0/0,0/0,0/0,0";
     writes(&rt, fixed, b"L0:8,0\n", b"queues 1\ngood 0\nrate 0\n")
-}
-
-#[test]
-fn each_read_fails_in_turn(rt: HostRuntime) -> Result<(), Fail> {
-    let text = b"I0:7,0\nend 1\n";
-    for failing in 1..15 {
-        let bytes = Vec::from_slice(rt.alloc(), text)?;
-        let source = MemorySource::new(bytes, vec![in rt.alloc(); failing]?).with_piece(1);
-        let ended = run_words(rt.alloc(), ONE_ROW, &[], source, &[])
-            .ok()
-            .ok_or("no memory")?;
-        assert_eq!(rt; ended.status.code(), 3);
-        assert_eq!(rt; ended.out.bytes(), b"".as_slice());
-    }
-    Ok(())
 }
 
 fn sequences(rt: &(impl AllocGlobal + Abort), count: usize) -> Result<Vec<u8>, Fail> {

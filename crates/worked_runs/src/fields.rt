@@ -1,7 +1,6 @@
 // Runs of `path` whose field is a page of a fumen text.
 use crate::asserts::{lists, over, refused, writes};
-use crate::run_words;
-use pc_outside::{MemorySource, Source};
+use pc_outside::Source;
 use std::process::Abort;
 use std::test::Fail;
 
@@ -133,22 +132,6 @@ fn sources_that_are_not_read(rt: HostRuntime) -> Result<(), Fail> {
     )?;
     leaves(&rt, "path --tetfu hello --patterns I")?;
     leaves(&rt, "path --tetfu -")
-}
-
-#[test]
-fn sources_that_fail(rt: HostRuntime) -> Result<(), Fail> {
-    let line = "path --tetfu - --clear-line 1 --patterns I";
-    let bytes = Vec::from_slice(rt.alloc(), b"v115@bhF8NeAgH")?;
-    let source = MemorySource::new(bytes, vec![in rt.alloc(); 2]?);
-    let ended = run_words(rt.alloc(), line, &[], source, &[])
-        .ok()
-        .ok_or("no memory")?;
-    assert_eq!(rt; ended.status.code(), 3);
-    assert_eq!(rt; ended.out.bytes(), b"".as_slice());
-    assert_eq!(rt; ended.err.bytes(), b"".as_slice());
-    let blanks = vec![in rt.alloc(); b' '; 4_194_305]?;
-    refused(&rt, line, &[], &blanks[1..], b"input: Fumen.NoFumen\n")?;
-    refused(&rt, line, &[], &blanks, b"input: SourceTooLong\n")
 }
 
 #[test]

@@ -1,8 +1,5 @@
 // Solutions as fumen texts and as grids.
 use crate::asserts::{lists, over};
-use crate::run_words;
-use pc_outside::MemorySource;
-use std::process::Abort;
 use std::test::Fail;
 
 const ONE: &str = "path --rows XXXXXX____ --clear-line 1 --patterns I --hold avoid --format";
@@ -83,37 +80,6 @@ fn what_is_no_form(rt: HostRuntime) -> Result<(), Fail> {
     assert_eq!(rt; ended.status.code(), 2);
     assert_eq!(rt; ended.err.bytes(), b"input: Words.BadValue 10\n".as_slice());
     Ok(())
-}
-
-/// Asserts that a run of which one of so many writes fails leaves a front of this output.
-fn fails_in_each_write(
-    rt: &(impl AllocGlobal + Abort),
-    line: &str,
-    more: &[&str],
-    whole: &[u8],
-    writes: u32,
-) -> Result<(), Fail> {
-    for before in 0..writes {
-        let source = MemorySource::new(Vec::new(rt.alloc()), Vec::new(rt.alloc()));
-        let ended = run_words(rt.alloc(), line, more, source, &[before + 1])
-            .ok()
-            .ok_or("no memory")?;
-        assert_eq!(rt; ended.status.code(), 4);
-        assert!(rt; whole.starts_with(ended.out.bytes()));
-        assert!(rt; ended.out.bytes().len() < whole.len());
-    }
-    Ok(())
-}
-
-#[test]
-fn a_failed_write_leaves_a_front(rt: HostRuntime) -> Result<(), Fail> {
-    let fumen = b"v115@bhF8NexRJ\nend 1\n";
-    fails_in_each_write(&rt, ONE, &["fumen"], fumen, 4)?;
-    let keyed = b"v115@bhF8NexRYEAyrxIC\nend 1\n";
-    fails_in_each_write(&rt, ONE, &["fumen", "--keys", "yes"], keyed, 4)?;
-    let two = b"v115@RhF8DeF8NexRJvhAxxB\nend 1\n";
-    fails_in_each_write(&rt, TWO, &["fumen"], two, 4)?;
-    fails_in_each_write(&rt, OVERHANG, &["grid"], OVERHANG_GRID, 6)
 }
 
 fn newlines(bytes: &[u8]) -> usize {

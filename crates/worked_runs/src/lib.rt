@@ -17,7 +17,11 @@ mod combos;
 #[cfg(test)]
 mod covers;
 #[cfg(test)]
+mod cut_texts;
+#[cfg(test)]
 mod encodes;
+#[cfg(test)]
+mod failing_calls;
 #[cfg(test)]
 mod faults;
 #[cfg(test)]
@@ -35,9 +39,17 @@ mod kicks;
 #[cfg(test)]
 mod limits;
 #[cfg(test)]
+mod long_sources;
+#[cfg(test)]
 mod pages;
 #[cfg(test)]
 mod percents;
+#[cfg(test)]
+mod pieces_of_reads;
+#[cfg(test)]
+mod ranges;
+#[cfg(test)]
+mod selfruns;
 #[cfg(test)]
 mod solutions;
 #[cfg(test)]
@@ -69,14 +81,15 @@ fn counted<L: Ledger>(
     run(alloc, words, source, out, err, &mut steps)
 }
 
-/// Runs the words over a source, where these writes of the output fail. The words are those of the line, divided by
-/// single blanks, and after them these more, which may have blanks.
-pub fn run_words(
+/// Runs the words over a source, into these sinks. The words are those of the line, divided by single blanks, and after
+/// them these more, which may have blanks.
+pub fn run_into(
     alloc: Global,
     line: &str,
     more: &[&str],
     mut source: MemorySource,
-    failing: &[u32],
+    mut out: MemorySink,
+    mut err: MemorySink,
 ) -> Result<Outcome, NoMemory> {
     let mut words = Vec::new(alloc);
     if !line.is_empty() {
@@ -87,8 +100,6 @@ pub fn run_words(
     for word in more {
         words.push(String::from_str(alloc, word)?)?;
     }
-    let mut out = MemorySink::new(alloc, 1_000_000, Vec::from_slice(alloc, failing)?)?;
-    let mut err = MemorySink::new(alloc, 1_000, Vec::new(alloc))?;
     let status = counted::<Brand>(
         alloc,
         Blank::new(1),
@@ -103,4 +114,17 @@ pub fn run_words(
         err,
         source,
     })
+}
+
+/// The same, where these writes of the output fail.
+pub fn run_words(
+    alloc: Global,
+    line: &str,
+    more: &[&str],
+    source: MemorySource,
+    failing: &[u32],
+) -> Result<Outcome, NoMemory> {
+    let out = MemorySink::new(alloc, 1_000_000, Vec::from_slice(alloc, failing)?)?;
+    let err = MemorySink::new(alloc, 1_000, Vec::new(alloc))?;
+    run_into(alloc, line, more, source, out, err)
 }

@@ -1,7 +1,5 @@
-// Long lists: their limit, resuming after a sequence, and writes that fail.
+// Long lists: their limit, and resuming after a sequence.
 use crate::asserts::over;
-use crate::run_words;
-use pc_outside::MemorySource;
 use std::process::Abort;
 use std::test::Fail;
 
@@ -63,21 +61,4 @@ fn an_earlier_empty_field(rt: HostRuntime) -> Result<(), Fail> {
         b"I0:7,0 O0:0,0 O0:2,0 O0:4,0 O0:6,0 O0:8,0\n",
         b"\nend 120\n",
     )
-}
-
-#[test]
-fn a_failed_write_leaves_a_front(rt: HostRuntime) -> Result<(), Fail> {
-    let line = "path --rows XXXXXX____/XXXXXX____ --clear-line 2 --patterns OO";
-    let whole = b"O0:6,0 O0:8,0\nO0:8,0 O0:6,0\nend 2\n";
-    for write in 1..6 {
-        let source = MemorySource::new(Vec::new(rt.alloc()), Vec::new(rt.alloc()));
-        let ended = run_words(rt.alloc(), line, &[], source, &[write])
-            .ok()
-            .ok_or("no memory")?;
-        assert_eq!(rt; ended.status.code(), 4);
-        assert!(rt; whole.as_slice().starts_with(ended.out.bytes()));
-        assert!(rt; ended.out.bytes().len() < whole.len());
-        assert_eq!(rt; ended.err.bytes(), b"".as_slice());
-    }
-    Ok(())
 }

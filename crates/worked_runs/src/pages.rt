@@ -5,10 +5,10 @@ use pc_outside::MemorySource;
 use std::process::Abort;
 use std::test::Fail;
 
-/// Runs `decode` over a source that gives byte by byte, where these reads fail.
-fn slowly(rt: &(impl AllocGlobal + Abort), text: &[u8], failing: &[u32]) -> Result<Outcome, Fail> {
+/// Runs `decode` over a source that gives byte by byte.
+fn slowly(rt: &(impl AllocGlobal + Abort), text: &[u8]) -> Result<Outcome, Fail> {
     let bytes = Vec::from_slice(rt.alloc(), text)?;
-    let source = MemorySource::new(bytes, Vec::from_slice(rt.alloc(), failing)?).with_piece(1);
+    let source = MemorySource::new(bytes, Vec::new(rt.alloc())).with_piece(1);
     Ok(
         run_words(rt.alloc(), "decode", &[], source, &[])
             .ok()
@@ -19,7 +19,7 @@ fn slowly(rt: &(impl AllocGlobal + Abort), text: &[u8], failing: &[u32]) -> Resu
 /// Asserts what `decode` writes, also where the source gives byte by byte.
 fn decodes(rt: &(impl AllocGlobal + Abort), text: &[u8], output: &[u8]) -> Result<(), Fail> {
     writes(rt, "decode", text, output)?;
-    let same = slowly(rt, text, &[])?;
+    let same = slowly(rt, text)?;
     assert_eq!(rt; same.status.code(), 0);
     assert_eq!(rt; same.out.bytes(), output);
     Ok(())
@@ -125,114 +125,6 @@ fn words_of_the_commands(rt: HostRuntime) -> Result<(), Fail> {
     ];
     for (line, fault) in rows {
         refused(&rt, line, &[], b"v115@vhAAgH", fault)?;
-    }
-    Ok(())
-}
-
-#[test]
-fn long_sources(rt: HostRuntime) -> Result<(), Fail> {
-    let blanks = vec![in rt.alloc(); b' '; 4_194_305]?;
-    refused(&rt, "decode", &[], &blanks[1..], b"input: Fumen.NoFumen\n")?;
-    refused(&rt, "decode", &[], &blanks, b"input: SourceTooLong\n")
-}
-
-/// The fumen of this many pages that are all unchanged.
-fn unchanged(rt: &impl AllocGlobal, pages: usize) -> Result<Vec<u8>, Fail> {
-    let digits = b"ABCDEFGHIJKLMNOPQRSTUVWXYZabcdefghijklmnopqrstuvwxyz0123456789+/";
-    let mut text = Vec::new(rt.alloc());
-    text.extend_from_slice(b"v115@")?;
-    for page in 0..pages {
-        if page % 64 == 0 {
-            text.extend_from_slice(b"vh")?;
-            text.push(digits[(pages - page - 1).min(63)])?;
-        }
-        text.extend_from_slice(if page == 0 { b"AgH" } else { b"AAA" })?;
-    }
-    Ok(text)
-}
-
-#[test]
-fn unchanged_pages(rt: HostRuntime) -> Result<(), Fail> {
-    let few = over(&rt, "decode", &[], &unchanged(&rt, 65)?)?;
-    assert_eq!(rt; few.status.code(), 0);
-    assert_eq!(rt; few.out.bytes().len(), 65 * 11);
-    let most = over(&rt, "decode", &[], &unchanged(&rt, 10_000)?)?;
-    assert_eq!(rt; most.status.code(), 0);
-    assert_eq!(rt; most.out.bytes().len(), 10_000 * 11);
-    refused(
-        &rt,
-        "decode",
-        &[],
-        &unchanged(&rt, 10_001)?,
-        b"input: Fumen.TooManyPages\n",
-    )
-}
-
-/// Asserts the fault line of a text that is cut to its first digits, which is empty where the text is whole: each step
-/// holds from so many digits on.
-fn cut(
-    rt: &(impl AllocGlobal + Abort),
-    digits: &[u8],
-    steps: &[(usize, &[u8])],
-) -> Result<(), Fail> {
-    let mut fault: &[u8] = b"";
-    for count in 0..=digits.len() {
-        for (from, line) in steps {
-            if *from == count {
-                fault = *line;
-            }
-        }
-        let mut text = Vec::from_slice(rt.alloc(), b"v115@")?;
-        text.extend_from_slice(&digits[..count])?;
-        let ended = over(rt, "decode", &[], &text)?;
-        assert_eq!(rt; ended.err.bytes(), fault);
-    }
-    Ok(())
-}
-
-#[test]
-fn cut_texts(rt: HostRuntime) -> Result<(), Fail> {
-    let comment: [(usize, &[u8]); 7] = [
-        (1, b"input: Fumen.Truncated 0\n"),
-        (2, b"input: Fumen.Truncated 2\n"),
-        (3, b"input: Fumen.Truncated 3\n"),
-        (6, b"input: Fumen.Truncated 6\n"),
-        (8, b"input: Fumen.Truncated 8\n"),
-        (13, b"input: Fumen.Truncated 13\n"),
-        (18, b""),
-    ];
-    cut(&rt, b"vhAAgWFAooMDEPBAAA", &comment)?;
-    let promised: [(usize, &[u8]); 5] = [
-        (1, b"input: Fumen.Truncated 0\n"),
-        (2, b"input: Fumen.Truncated 2\n"),
-        (3, b"input: Fumen.Truncated 3\n"),
-        (6, b"input: Fumen.Truncated 6\n"),
-        (9, b""),
-    ];
-    cut(&rt, b"vhBVQJAAA", &promised)?;
-    let runs: [(usize, &[u8]); 11] = [
-        (1, b"input: Fumen.Truncated 0\n"),
-        (2, b"input: Fumen.Truncated 2\n"),
-        (4, b"input: Fumen.Truncated 4\n"),
-        (6, b"input: Fumen.Truncated 6\n"),
-        (8, b"input: Fumen.Truncated 8\n"),
-        (10, b"input: Fumen.Truncated 10\n"),
-        (13, b""),
-        (14, b"input: Fumen.Truncated 13\n"),
-        (15, b"input: Fumen.Truncated 15\n"),
-        (16, b"input: Fumen.Truncated 16\n"),
-        (19, b""),
-    ];
-    cut(&rt, b"RhF8DeF8NexRJvhAxxB", &runs)
-}
-
-#[test]
-fn failing_reads(rt: HostRuntime) -> Result<(), Fail> {
-    for call in 1..=15 {
-        let ended = slowly(&rt, b"v115@vhBVQJAAA", &[call])?;
-        assert_eq!(rt; ended.status.code(), 3);
-        assert_eq!(rt; ended.out.bytes(), b"".as_slice());
-        assert_eq!(rt; ended.err.bytes(), b"".as_slice());
     }
     Ok(())
 }
