@@ -1,4 +1,5 @@
 -- Lemmas that the crates above cite.
+pub use Rattle.moves.proofs.PlaceFree.{place-free}
 pub use Rattle.moves.proofs.PlaceTest.{is_place-decides}
 pub use Rattle.moves.proofs.RestLemmas.{rest_of-is, rest_of-only}
 pub use Rattle.moves.proofs.RestTest.{from_tests, leads-free, leads_to_rest-decides, to_tests}

@@ -5,6 +5,7 @@ mod StateLemmas
 mod StepLemmas
 mod TurnLemmas
 mod RestLemmas
+mod PlaceFree
 mod PlaceTest
 mod Worked
 pub mod CallerLemmas

@@ -1,7 +1,7 @@
 -- Worked cases of the definitions.
 use Rattle.std.proofs.Common.{◌≡◌, ◌-◌, ◌^◌, [], ◌∷◌, Some, refl, arith, lit≤}
 use Rattle.pc_outside.specs.Counts.{next_count, Rose}
-use Rattle.pc_outside.specs.MemorySink.{MemorySinkState, fitting}
+use Rattle.pc_outside.specs.MemorySink.{MemorySinkState, front_with_room}
 use Rattle.pc_outside.specs.Reads.{Takes}
 use Rattle.pc_outside.specs.WriteLaws.{front_taken}
 use Rattle.pc_outside.specs.Writes.{Grows, GrowsByFront}
@@ -34,6 +34,6 @@ sink : MemorySinkState
 sink = record { bytes = 1 ∷ 2 ∷ []; room = 3; failing = []; calls = 0; faults = 0 }
 
 -- of the first two bytes one fits
-one_fits : fitting sink 2 (5 ∷ 6 ∷ 7 ∷ []) ≡ 5 ∷ []
+one_fits : front_with_room sink 2 (5 ∷ 6 ∷ 7 ∷ []) ≡ 5 ∷ []
 unfolding sink
 one_fits = refl

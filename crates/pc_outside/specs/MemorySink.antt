@@ -13,5 +13,5 @@ pub record MemorySinkState : Type 0 where
   pub faults : ℕ
 
 -- the first n of these bytes, as far as the sink has room for them
-abbrev pub fitting : MemorySinkState → ℕ → List ℕ → List ℕ
-fitting s n bytes = take (min n (s.room - length s.bytes)) bytes
+abbrev pub front_with_room : MemorySinkState → ℕ → List ℕ → List ℕ
+front_with_room s n bytes = take (min n (s.room - length s.bytes)) bytes

@@ -1,7 +1,7 @@
 // A sink in memory with a fixed room, whose writes fail where they are told to or where room is wanting.
 ghost use Rattle.std.specs.Prelude.{◌≡◌, ℕ, ◌+◌, ◌-◌, ◌/◌, ◌<◌, ◌≤◌, ◌↔◌, ◌⊎◌, ◌++◌, [], min, length, take, Some, IsOk, IsErr, IfOk, OnOk, OnErr, Contains};
 ghost use Rattle.pc_outside.specs.Counts.{next_count, HasCause};
-ghost use Rattle.pc_outside.specs.MemorySink.{fitting};
+ghost use Rattle.pc_outside.specs.MemorySink.{front_with_room};
 ghost use Rattle.pc_outside.specs.Writes.{GrowsByFront, WritesAll};
 
 use crate::counts::{is_listed, next_count};
@@ -73,13 +73,15 @@ impl MemorySink {
         requires { most ≤ length bytes.now }
         ensures fails { IsErr result }
         ensures appended { self.new ≡ record self.old {
-          bytes = self.old.bytes ++ fitting self.old most bytes.now;
+          bytes = self.old.bytes ++ front_with_room self.old most bytes.now;
           faults = next_count self.old.faults;
         } }
         ensures front { GrowsByFront (Some self.old.bytes) (Some self.new.bytes) bytes.now }
     {
-        let fitting = most.min(self.room - self.content.len());
-        self.content.extend_from_slice(&bytes[..fitting]).unwrap();
+        let front_with_room = most.min(self.room - self.content.len());
+        self.content
+            .extend_from_slice(&bytes[..front_with_room])
+            .unwrap();
         self.faults = next_count(self.faults);
         Err(Failed)
     }
@@ -106,14 +108,14 @@ impl Sink for MemorySink {
         // A listed write appends the half that comes first, as far as it fits.
         ensures listed { Contains self.old.failing (next_count self.old.calls)
             → OnErr result (self.new ≡ record self.old {
-              bytes = self.old.bytes ++ fitting self.old (length bytes.now / 2) bytes.now;
+              bytes = self.old.bytes ++ front_with_room self.old (length bytes.now / 2) bytes.now;
               calls = next_count self.old.calls;
               faults = next_count self.old.faults;
             }) }
         // One for which room is wanting appends what fits.
         ensures full { (Contains self.old.failing (next_count self.old.calls) → ⊥)
             → OnErr result (self.new ≡ record self.old {
-              bytes = self.old.bytes ++ fitting self.old (length bytes.now) bytes.now;
+              bytes = self.old.bytes ++ front_with_room self.old (length bytes.now) bytes.now;
               calls = next_count self.old.calls;
               faults = next_count self.old.faults;
             }) }

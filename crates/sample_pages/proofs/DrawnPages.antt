@@ -14,12 +14,12 @@ use Rattle.fumen_pages.specs.Action.{is_inside_in}
 use Rattle.fumen_pages.specs.Cells.{AreCells, IsColour}
 use Rattle.fumen_pages.specs.Next.{next}
 use Rattle.fumen_pages.specs.Sound.{IsSound}
-use Rattle.sample_pages.specs.Draws.{draw, state_after}
+use Rattle.sample_pages.specs.Draws.{draw, state_after_draws}
 use Rattle.sample_pages.specs.Pages.{cells_drawn, comment_drawn, has_comment, operation_drawn, page_drawn, pages_drawn, state_behind}
 use Rattle.sample_pages.proofs.PageLemmas.{drawn_inside}
 
 pub draw_below : (state number below : ℕ) → 0 < below → draw state number below < below
-draw_below state number below some = mod-lt (state_after number state / 2 ^ 33) some
+draw_below state number below some = mod-lt (state_after_draws number state / 2 ^ 33) some
 
 pub cells_drawn-sound : (state : ℕ) (cells : List ℕ) → AreCells V115 cells → AreCells V115 (cells_drawn state cells)
 unfolding cells_drawn

@@ -14,7 +14,7 @@ use Rattle.fumen_pages.specs.declared.page.Page.{Page}
 use Rattle.fumen_pages.specs.Action.{is_inside_in}
 use Rattle.fumen_pages.specs.Cells.{AreCells, IsColour}
 use Rattle.fumen_pages.specs.Next.{next}
-use Rattle.sample_pages.specs.Draws.{next_state, state_after}
+use Rattle.sample_pages.specs.Draws.{next_state, state_after_draws}
 use Rattle.sample_pages.specs.Pages.{page_drawn, pages_drawn, sample_pages, state_behind, state_behind_pages}
 
 -- every piece that may be drawn lies inside
@@ -35,9 +35,9 @@ drawn_inside piece rotation x y column row =
     agree_below_at (λ y. is_inside_in V115 (placed piece rotation x y)) yes 10 y rows row
 
 -- one more draw
-pub draw_more : (after count state : ℕ) → after ≡ state_after count state → next_state after ≡ state_after (count + 1) state
-unfolding state_after
-draw_more after count state is = ap next_state is ∙ ap (λ n. state_after n state) (sym (add-one count))
+pub draw_more : (after count state : ℕ) → after ≡ state_after_draws count state → next_state after ≡ state_after_draws (count + 1) state
+unfolding state_after_draws
+draw_more after count state is = ap next_state is ∙ ap (λ n. state_after_draws n state) (sym (add-one count))
 
 -- before the first page
 pub pages_start : (made : List Page) (cells : List ℕ) (count state number : ℕ) → made ≡ [] → state ≡ number → cells ≡ replicate 240 0

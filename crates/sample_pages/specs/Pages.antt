@@ -8,7 +8,7 @@ use Rattle.srs.specs.Piece.{all_pieces}
 use Rattle.srs.specs.Rotation.{all_rotations}
 use Rattle.fumen_pages.specs.declared.page.Page.{Page}
 use Rattle.fumen_pages.specs.Next.{next}
-use Rattle.sample_pages.specs.Draws.{draw, state_after}
+use Rattle.sample_pages.specs.Draws.{draw, state_after_draws}
 
 -- draws 1 to 4: a piece, a rotation, and the pivot, in columns 3 to 6 and rows 2 to 11
 unfoldable pub operation_drawn : ℕ → Placement
@@ -46,7 +46,7 @@ page_drawn state colour cells = record {
 
 -- the state behind a page
 unfoldable pub state_behind : ℕ → ℕ
-state_behind state = if has_comment state then state_after 13 state else state_after 10 state
+state_behind state = if has_comment state then state_after_draws 13 state else state_after_draws 10 state
 
 -- so many pages
 unfoldable pub pages_drawn : ℕ → ℕ → Bool → List ℕ → List Page

@@ -1,6 +1,6 @@
 // Numbers that are drawn from a state of 64 bits: a linear congruential generator with Knuth's multiplier for MMIX.
 ghost use Rattle.std.specs.Prelude.{◌≡◌, ◌<◌};
-ghost use Rattle.sample_pages.specs.Draws.{draw, next_state, state_after};
+ghost use Rattle.sample_pages.specs.Draws.{draw, next_state, state_after_draws};
 
 /// The state after one draw.
 fn next_state(state: u64) -> u64
@@ -12,8 +12,8 @@ fn next_state(state: u64) -> u64
 }
 
 /// The state after so many draws.
-pub fn state_after(count: u8, state: u64) -> u64
-    ensures { result ≡ state_after count state }
+pub fn state_after_draws(count: u8, state: u64) -> u64
+    ensures { result ≡ state_after_draws count state }
 {
     let mut after = state;
     for _ in 0..count {
@@ -28,5 +28,5 @@ pub fn draw(state: u64, number: u8, below: u32) -> u32
     ensures value { result ≡ draw state number below }
     ensures within { result < below }
 {
-    ((state_after(number, state) >> 33) % u64::from(below)) as u32
+    ((state_after_draws(number, state) >> 33) % u64::from(below)) as u32
 }

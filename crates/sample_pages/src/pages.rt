@@ -6,7 +6,7 @@ ghost use Rattle.fumen_pages.specs.Cells.{AreCells};
 ghost use Rattle.fumen_pages.specs.Sound.{IsSound};
 ghost use Rattle.sample_pages.specs.Pages.{cells_drawn, column_drawn, comment_drawn, has_comment, operation_drawn, page_drawn, sample_pages, state_behind};
 
-use crate::draws::{draw, state_after};
+use crate::draws::{draw, state_after_draws};
 use fumen_comment::Comment;
 use fumen_digits::Dialect;
 use fumen_pages::{Page, next_cells};
@@ -96,9 +96,9 @@ fn state_behind(state: u64) -> u64
     ensures { result ≡ state_behind state }
 {
     if has_comment(state) {
-        state_after(13, state)
+        state_after_draws(13, state)
     } else {
-        state_after(10, state)
+        state_after_draws(10, state)
     }
 }
 

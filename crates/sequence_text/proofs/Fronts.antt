@@ -69,27 +69,27 @@ completes due.AfterKeys read left placement place = after_placement left read du
 record Stops (read : List Placement) (left : ℕ) (now : Reading) (place byte : ℕ) : Type 0 where
   stops : (bytes : List ℕ) → read_from read left now place (byte ∷ bytes) ≡ Err place
 
-record GoesOn (read : List Placement) (left : ℕ) (now : Reading) (place byte : ℕ) : Type 0 where
+record ReadsFurther (read : List Placement) (left : ℕ) (now : Reading) (place byte : ℕ) : Type 0 where
   more : List Placement
   fewer : ℕ
   next : Reading
   goes : (bytes : List ℕ) → read_from read left now place (byte ∷ bytes) ≡ read_from more fewer next (place + 1) bytes
 
 at_other : (read : List Placement) (left : ℕ) (now : Reading) (place byte : ℕ) (next : Option Reading) → (byte == 32) ≡ false → step now byte ≡ next
-    → Stops read left now place byte ⊎ GoesOn read left now place byte
+    → Stops read left now place byte ⊎ ReadsFurther read left now place byte
 unfolding read_from
 at_other read left now place byte None no_blank stepped = inl (record { stops = λ bytes. rw (no_blank, stepped) refl })
 at_other read left now place byte (Some next) no_blank stepped =
     inr (record { more = read; fewer = left; next = next; goes = λ bytes. rw (no_blank, stepped) refl })
 
 at_blank : (read : List Placement) (left : ℕ) (now : Reading) (place byte : ℕ) (on : Bool) → (byte == 32) ≡ true → (may_end now.due && nat_lt 0 left) ≡ on
-    → Stops read left now place byte ⊎ GoesOn read left now place byte
+    → Stops read left now place byte ⊎ ReadsFurther read left now place byte
 unfolding read_from
 at_blank read left now place byte true blank on =
     inr (record { more = read ++ now.placement ∷ []; fewer = left - 1; next = unread; goes = λ bytes. rw (blank, on) refl })
 at_blank read left now place byte false blank on = inl (record { stops = λ bytes. rw (blank, on) refl })
 
-at_byte : (read : List Placement) (left : ℕ) (now : Reading) (place byte : ℕ) (blank : Bool) → (byte == 32) ≡ blank → Stops read left now place byte ⊎ GoesOn read left now place byte
+at_byte : (read : List Placement) (left : ℕ) (now : Reading) (place byte : ℕ) (blank : Bool) → (byte == 32) ≡ blank → Stops read left now place byte ⊎ ReadsFurther read left now place byte
 at_byte read left now place byte true is = at_blank read left now place byte (may_end now.due && nat_lt 0 left) is refl
 at_byte read left now place byte false is = at_other read left now place byte (step now byte) is refl
 
@@ -145,7 +145,7 @@ fails (byte ∷ bytes) read left now start place refused = elim (at_byte read le
   stopped s same zero above within more = absurd (omega arith)
   stopped s same (suc k) above within more = s.stops (take k bytes ++ more) ∙ ap (λ p. Err p) same
 
-  gone_on : (g : GoesOn read left now start byte) → Fails g.more g.fewer g.next (start + 1) bytes place → (k : ℕ) → place < start + k → k ≤ length (byte ∷ bytes) → (more : List ℕ)
+  gone_on : (g : ReadsFurther read left now start byte) → Fails g.more g.fewer g.next (start + 1) bytes place → (k : ℕ) → place < start + k → k ≤ length (byte ∷ bytes) → (more : List ℕ)
       → read_from read left now start (take k (byte ∷ bytes) ++ more) ≡ Err place
   gone_on g f zero above within more = let low = f.low in absurd (omega arith)
   gone_on g f (suc k) above within more = g.goes (take k bytes ++ more) ∙ f.longer k (omega arith) (omega arith) more

@@ -11,7 +11,7 @@ use Rattle.srs.specs.declared.rotation.Rotation.TheVariants as Turn
 use Rattle.srs.specs.declared.placement.Placement.{Placement}
 use Rattle.srs.specs.Cells.{Cell, minus, moved, shape, cells_of, pivot_of, is_inside_of}
 use Rattle.srs.specs.SameCells.{cell_eq, is_among}
-use Rattle.srs.specs.Kick.{srs_table}
+use Rattle.srs.specs.Kick.{srs_table, kicks_of}
 use Rattle.srs.specs.Rotation.{clockwise_of, anticlockwise_of}
 use Rattle.srs.proofs.CallerLemmas.{same_cells-piece, cell_eq-decides, less, is_among-moved, is_among-all, each_state, each_piece}
 use Rattle.well.specs.Free.{is_free_at, is_free}
@@ -25,7 +25,6 @@ use Rattle.moves.specs.Place.{IsPlace}
 use Rattle.moves.specs.Step.{state_at, first_free, shifted, turned, step_of}
 use Rattle.moves.specs.Walk.{led}
 use Rattle.moves.proofs.CallerLemmas.{step_of-free, pivot_of_free, some_same, not_some, led_none}
-use Rattle.sky.specs.Kicks.{kicks_of}
 use Rattle.sky.specs.Height.{rise, upright}
 use Rattle.sky.specs.Sky.{IsClearFrom, IsUnderSky}
 use Rattle.sky.specs.Rests.{IsKeyed, IsRestWhere}

@@ -13,7 +13,7 @@ use Rattle.srs.specs.declared.piece.Piece.{Piece}
 use Rattle.srs.specs.declared.rotation.Rotation.{Rotation}
 use Rattle.srs.specs.declared.placement.Placement.{Placement}
 use Rattle.srs.specs.Cells.{Cell, minus, moved, shape}
-use Rattle.srs.specs.Kick.{srs_table}
+use Rattle.srs.specs.Kick.{srs_table, kicks_of}
 use Rattle.srs.specs.Rotation.{clockwise_of, anticlockwise_of}
 use Rattle.well.specs.Free.{is_open, is_free_at}
 use Rattle.well.proofs.CallerLemmas.{open_at, open_in_well}
@@ -22,9 +22,8 @@ use Rattle.moves.specs.declared.key.Key.TheVariants.{Left, Right, Down, Clockwis
 use Rattle.moves.specs.Step.{state_at, first_free, shifted, turned, step_of}
 use Rattle.moves.specs.Walk.{led}
 use Rattle.moves.proofs.CallerLemmas.{some_same, not_some}
-use Rattle.sky.specs.Kicks.{kicks_of}
 use Rattle.sky.specs.Height.{depth, rise, is_column, fits_column}
-use Rattle.sky.specs.Band.{Spot, spot_in, first_fitting, level, open_turn, open_shift, open_key, open_led}
+use Rattle.sky.specs.Band.{Spot, spot_in, first_fitting, level_kick, open_turn, open_shift, open_key, open_led}
 use Rattle.sky.specs.Sky.{IsClearFrom}
 use Rattle.srs.proofs.CallerLemmas.{each_state}
 use Rattle.sky.proofs.TableFacts.{is_level, shape_level, is_not_deep, shape_not_deep, depth_small}
@@ -191,7 +190,7 @@ module _ (F : Field) (r : ℕ) (clear : IsClearFrom r F) (h : ℕ) (piece : Piec
     first : first_fitting piece to (pos x) (kicks_of srs_table piece from to) ≡ Some kick
     keeps : kick.1 +ℤ rise piece to ≡ rise piece from
 
-  level_keeps : (from to : Rotation) (kick taken : Cell) → level piece from to kick ≡ Some taken → (kick ≡ taken) × (kick.1 +ℤ rise piece to ≡ rise piece from)
+  level_keeps : (from to : Rotation) (kick taken : Cell) → level_kick piece from to kick ≡ Some taken → (kick ≡ taken) × (kick.1 +ℤ rise piece to ≡ rise piece from)
   level_keeps from to kick taken e = elim (cases_Bool (int_eq (kick.1 +ℤ rise piece to) (rise piece from))) [
     | inl same ↦ (some_same (sym (cond-true _ (Some kick) None same) ∙ e), (signed_Decides (kick.1 +ℤ rise piece to) (rise piece from)).0 same)
     | inr other ↦ absurd (not_some (sym (cond-false _ (Some kick) None other) ∙ e))
@@ -199,7 +198,7 @@ module _ (F : Field) (r : ℕ) (clear : IsClearFrom r F) (h : ℕ) (piece : Piec
 
   is_kick : (from to : Rotation) (x : ℕ) (kick : Cell) → open_turn piece from to x ≡ Some kick → IsKick from to x kick
   is_kick from to x kick e =
-      let parts = and_then_some (level piece from to) (first_fitting piece to (pos x) (kicks_of srs_table piece from to)) kick e in
+      let parts = and_then_some (level_kick piece from to) (first_fitting piece to (pos x) (kicks_of srs_table piece from to)) kick e in
       let keeps = level_keeps from to parts.a kick parts.gives in
       subst (IsKick from to x) keeps.0 (record { first = parts.is; keeps = keeps.1 })
 

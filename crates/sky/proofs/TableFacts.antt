@@ -7,9 +7,8 @@ use Rattle.srs.specs.declared.piece.Piece.{Piece}
 use Rattle.srs.specs.declared.rotation.Rotation.{Rotation}
 use Rattle.srs.specs.Cells.{Cell, minus, shape}
 use Rattle.srs.specs.Rotation.{clockwise_of, anticlockwise_of}
-use Rattle.srs.specs.Kick.{srs_table}
+use Rattle.srs.specs.Kick.{srs_table, kicks_of}
 use Rattle.srs.proofs.CallerLemmas.{each_state, each_piece}
-use Rattle.sky.specs.Kicks.{kicks_of}
 use Rattle.sky.specs.Height.{depth, rise}
 use Rattle.sky.specs.Band.{path_leads, turns_stay}
 

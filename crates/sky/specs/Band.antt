@@ -5,11 +5,10 @@ use Rattle.srs.specs.declared.piece.Piece.{Piece}
 use Rattle.srs.specs.declared.rotation.Rotation.{Rotation}
 use Rattle.srs.specs.declared.rotation.Rotation.TheVariants as Turn
 use Rattle.srs.specs.Cells.{Cell, minus}
-use Rattle.srs.specs.Kick.{srs_table}
+use Rattle.srs.specs.Kick.{srs_table, kicks_of}
 use Rattle.srs.specs.Rotation.{clockwise_of, anticlockwise_of, rotation_place}
 use Rattle.moves.specs.declared.key.Key.{Key}
 use Rattle.moves.specs.declared.key.Key.TheVariants.{Left, Right, Down, Clockwise, Anti}
-use Rattle.sky.specs.Kicks.{kicks_of}
 use Rattle.sky.specs.Height.{rise, fits_column}
 
 -- a rotation and a column, at some upright height
@@ -28,11 +27,11 @@ first_fitting piece to x (kick ∷ kicks) = if fits_column piece to (x +ℤ kick
     else first_fitting piece to x kicks
 
 -- the kick, where it keeps the upright height
-abbrev pub level : Piece → Rotation → Rotation → Cell → Option Cell
-level piece from to kick = if int_eq (kick.1 +ℤ rise piece to) (rise piece from) then Some kick else None
+abbrev pub level_kick : Piece → Rotation → Rotation → Cell → Option Cell
+level_kick piece from to kick = if int_eq (kick.1 +ℤ rise piece to) (rise piece from) then Some kick else None
 
 abbrev pub open_turn : Piece → Rotation → Rotation → ℕ → Option Cell
-open_turn piece from to x = option_and_then (level piece from to)
+open_turn piece from to x = option_and_then (level_kick piece from to)
     (first_fitting piece to (pos x) (kicks_of srs_table piece from to))
 
 abbrev pub open_shift : Piece → Rotation → ℤ → Option Spot

@@ -4,7 +4,6 @@ pub mod Sky
 pub mod Rests
 pub mod Window
 pub mod SkyLaws
--- What serves proofs alone: the open as rotations and columns, kicks, and floods below a lane.
-pub mod Kicks
+-- What serves proofs alone: the open as rotations and columns, and floods below a lane.
 pub mod Band
 pub mod Lanes

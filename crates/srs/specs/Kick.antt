@@ -42,6 +42,12 @@ kick_in table piece from to test =
     let reached : Cell = offset_in table piece to test in
     (left.0 -ℤ reached.0, left.1 -ℤ reached.1)
 
+-- the kicks of the five tests of a turn, in the order in which they are tried
+abbrev pub kicks_of : Table → Piece → Rotation → Rotation → List Cell
+kicks_of table piece from to =
+    kick_in table piece from to 1 ∷ kick_in table piece from to 2 ∷ kick_in table piece from to 3
+    ∷ kick_in table piece from to 4 ∷ kick_in table piece from to 5 ∷ []
+
 -- the offsets of one piece with one of them changed
 abbrev pub turns_with : (Rotation → List Cell) → Rotation → ℕ → Cell → Rotation → List Cell
 turns_with turns rotation test offset r =

@@ -11,7 +11,7 @@ raised F x zero = false
 raised F x (suc y) = F x y
 
 -- a slash raises what was read, and a character adds its cell to row 0
-pub record GoesOn (before : RowsReader) (byte : ℕ) (next : RowsReader) : Type 0 where
+pub record ReadsByte (before : RowsReader) (byte : ℕ) (next : RowsReader) : Type 0 where
   pub row : next.row ≡ (if is_slash byte then before.row + 1 else before.row)
   pub characters : next.characters ≡ (if is_slash byte then 0 else before.characters + 1)
   pub cells : filled next.well ≡ (if is_slash byte then raised (filled before.well) else

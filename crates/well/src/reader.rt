@@ -24,7 +24,7 @@ impl RowsReader {
     ghost use Rattle.std.specs.Prelude.{◌+◌, ◌<◌, ◌==◌, if◌then◌else◌, MatchOption, IfOk, IfErr, Some, None};
     ghost use Rattle.lane_board.specs.Field.{empty_field, with_cell};
     ghost use Rattle.well.specs.Rows.{fault_at_byte, fault_at_end};
-    ghost use Rattle.well.specs.RowsReading.{GoesOn, raised};
+    ghost use Rattle.well.specs.RowsReading.{ReadsByte, raised};
 
     /// Nothing is read.
     pub(crate) fn start() -> RowsReader
@@ -41,7 +41,7 @@ impl RowsReader {
 
     /// One more byte is read, which stands at this place of the text. A refusal is the fault at this byte.
     pub(crate) fn read(&self, place: usize, byte: u8) -> Result<RowsReader, RowsFault>
-        ensures next { IfOk result (λ next. GoesOn self.now byte next) }
+        ensures next { IfOk result (λ next. ReadsByte self.now byte next) }
         ensures form { IfOk result (λ _. fault_at_byte self.now.row self.now.characters place byte ≡ None) }
         ensures fault { IfErr result (λ fault. fault_at_byte self.now.row self.now.characters place byte ≡ Some fault) }
     {
