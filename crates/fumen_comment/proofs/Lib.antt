@@ -7,6 +7,7 @@ mod EscapeLaws
 mod ReadLoop
 mod Groups
 mod CommentReadAsSpelled
+mod FirstGroup
 mod WrittenIsSpelled
 mod Worked
 mod UnitLaws

@@ -1,5 +1,5 @@
 -- Reading the groups of a text one after the other, as a loop does.
-use Rattle.std.proofs.Common.{◌≡◌, ℕ, suc, ◌+◌, ◌-◌, ◌<◌, ◌≤◌, List, [], ◌++◌, length, take, Result, Ok, Err, refl, sym, ap, ◌∙◌, append_assoc, arith}
+use Rattle.std.proofs.Common.{◌≡◌, ℕ, suc, ◌+◌, ◌-◌, ◌<◌, ◌≤◌, ◌⊎◌, inl, inr, List, [], ◌++◌, length, take, Result, Ok, Err, refl, sym, ap, ◌∙◌, append_assoc, arith}
 use Rattle.std.proofs.lemmas.List.{append-nil}
 use Rattle.pc_outside.specs.declared.answers.Refused.{Refused}
 use Rattle.pc_outside.specs.declared.answers.Refused.TheVariants as refused
@@ -9,7 +9,7 @@ use Rattle.fumen_digits.specs.Answers.{IsRefusal}
 use Rattle.fumen_digits.proofs.CallerLemmas.{ok_bind, err_bind}
 use Rattle.fumen_comment.specs.declared.part.CommentFault.{CommentFault}
 use Rattle.fumen_comment.specs.Part.{unpacked, group_count}
-use Rattle.fumen_comment.specs.Reading.{group_at, text_at}
+use Rattle.fumen_comment.specs.Reading.{HasFirst, group_at, text_at}
 use Rattle.fumen_comment.specs.Faults.{comment_fault}
 
 -- what is read so far, before what is still to come
@@ -23,6 +23,7 @@ rest_at ds place left = text_at ds place left (group_count left)
 pub record IsReadSoFar (ds : List ℕ) (start count : ℕ) (text : List ℕ) (place left : ℕ) : Type 0 where
   pub within : place ≤ length ds
   pub completes : with_front text (rest_at ds place left) ≡ rest_at ds start count
+  pub begun : ((place ≡ start) × (left ≡ count)) ⊎ HasFirst ds start count
 
 pub from_nothing : (read : Result (List ℕ × ℕ) FumenFault) → with_front [] read ≡ read
 unfolding with_front
@@ -30,7 +31,14 @@ from_nothing (Ok x) = refl
 from_nothing (Err f) = refl
 
 pub text_starts : (ds : List ℕ) (start count : ℕ) → start ≤ length ds → IsReadSoFar ds start count [] start count
-text_starts ds start count le = record { within = le; completes = from_nothing (rest_at ds start count) }
+text_starts ds start count le = record { within = le; completes = from_nothing (rest_at ds start count); begun = inl (refl, refl) }
+
+-- where a group was read, the first one was
+pub first_read : (ds : List ℕ) (start count : ℕ) (text : List ℕ) (place left group : ℕ) → 0 < left → group_at ds place left ≡ Ok group → IsReadSoFar ds start count text place left → HasFirst ds start count
+first_read ds start count text place left group some read s = elim s.begun [
+  | inl same ↦ rw (sym same.0, sym same.1) (some, group, read)
+  | inr has ↦ has
+]
 
 pub regroup : (front more : List ℕ) (read : Result (List ℕ × ℕ) FumenFault) → with_front front (read >>= λ x. Ok (more ++ x.0, x.1)) ≡ with_front (front ++ more) read
 unfolding with_front
@@ -55,6 +63,7 @@ text_more ds start count text place left group more some room read more_is s =
     record {
       within = room;
       completes = ap (λ (x : List ℕ). with_front (text ++ x) rest) more_is ∙ (sym (regroup text (take left (unpacked 4 group)) rest) ∙ (ap (λ (r : Result (List ℕ × ℕ) FumenFault). with_front text r) (sym (read_group ds place left group some read)) ∙ s.completes));
+      begun = inr (first_read ds start count text place left group some read s);
     }
 
 pub text_stops : (e : Refused CommentFault) (ds : List ℕ) (start count : ℕ) (text : List ℕ) (place left : ℕ) → 0 < left → IsRefusal comment_fault e (group_at ds place left)

@@ -1,5 +1,5 @@
 -- Unescaping a text unit by unit, as a loop does.
-use Rattle.std.proofs.Common.{◌≡◌, ℕ, zero, suc, ◌<◌, List, [], ◌∷◌, ◌++◌, length, get_or, drop, refl, sym, ap, ◌∙◌, append_assoc, arith}
+use Rattle.std.proofs.Common.{◌≡◌, ℕ, zero, suc, ◌<◌, ◌≤◌, List, [], ◌∷◌, ◌++◌, length, get_or, drop, refl, sym, ap, ◌∙◌, append_assoc, arith}
 use Rattle.std.proofs.lemmas.List.{append-nil, drop_more, nil_from_length}
 use Rattle.fumen_comment.specs.Unescape.{unit_of, unescaped_behind, unescaped}
 
@@ -28,3 +28,10 @@ unfolding unescaped_behind
 units_all units rest total none so_far =
     let empty = nil_from_length rest (omega arith) in
     sym (append-nil units) ∙ (ap (λ (x : List ℕ). units ++ unescaped x) (sym empty) ∙ so_far)
+
+-- a text that has a character is no empty one
+pub units_none : (units rest : List ℕ) → 1 ≤ length rest → units ++ unescaped rest ≡ [] → ⊥
+unfolding unescaped_behind
+units_none [] [] some none = absurd (omega (arith, some))
+units_none [] (c ∷ rest) some none = cc
+units_none (unit ∷ units) rest some none = cc

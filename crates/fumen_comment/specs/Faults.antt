@@ -1,5 +1,5 @@
 -- The first fault of a comment part, by what stands before it, and where a comment stands.
-use Rattle.std.specs.Prelude.{◌≡◌, ℕ, ◌+◌, ◌-◌, ◌*◌, ◌<◌, List, length, false, ◌⊎◌}
+use Rattle.std.specs.Prelude.{◌≡◌, ℕ, ◌+◌, ◌-◌, ◌*◌, ◌<◌, List, length, false, ◌⊎◌, IsTrue}
 use Rattle.std.specs.List.{flat_map}
 use Rattle.fumen_digits.specs.Number.{digits, Stands, NumberStands}
 use Rattle.fumen_digits.specs.declared.fault.FumenFault.{FumenFault}
@@ -44,3 +44,12 @@ pub record CommentStands (ds : List ℕ) (place : ℕ) (units : List ℕ) (end :
   pub text : List ℕ
   pub stands : Stands ds place text end
   pub spells : SpellsComment units text
+
+-- a length above 0 stands at a place, and a group of its characters behind it
+pub record HasGroup (ds : List ℕ) (place : ℕ) : Type 0 where
+  pub total : ℕ
+  pub some : 0 < total
+  pub total_stands : NumberStands ds place 2 total
+  pub group : ℕ
+  pub group_stands : NumberStands ds (place + 2) 5 group
+  pub good : IsTrue (is_group total group)

@@ -1,5 +1,5 @@
 -- Reading a comment part from a place on, with the first fault that is met.
-use Rattle.std.specs.Prelude.{ℕ, zero, suc, ◌+◌, ◌-◌, List, [], ◌++◌, length, take, if◌then◌else◌, Result, Ok, Err}
+use Rattle.std.specs.Prelude.{◌≡◌, ℕ, zero, suc, ◌+◌, ◌-◌, ◌<◌, List, [], ◌++◌, length, take, if◌then◌else◌, Result, Ok, Err}
 use Rattle.fumen_digits.specs.declared.fault.FumenFault.{FumenFault}
 use Rattle.fumen_digits.specs.declared.fault.FumenFault.TheVariants.{BadComment}
 use Rattle.fumen_digits.specs.Reading.{◌>>=◌, number_at}
@@ -11,6 +11,10 @@ unfoldable pub group_at : List ℕ → ℕ → ℕ → Result ℕ FumenFault
 group_at ds place left = do
   group ← number_at ds place 5
   if is_group left group then Ok group else Err (BadComment place)
+
+-- characters are still to come, this many, and the group at the place is read
+abbrev pub HasFirst : List ℕ → ℕ → ℕ → Type 0
+HasFirst ds place left = (0 < left) × (group : ℕ) × (group_at ds place left ≡ Ok group)
 
 -- the characters still to come, this many, from this number of groups, and the place behind them
 unfoldable pub text_at : List ℕ → ℕ → ℕ → ℕ → Result (List ℕ × ℕ) FumenFault

@@ -1,5 +1,5 @@
 // Escaped text from units.
-ghost use Rattle.std.specs.Prelude.{◌≡◌, ℕ, ◌<◌, ◌++◌, All, IfOk, OnOk};
+ghost use Rattle.std.specs.Prelude.{◌≡◌, ℕ, ◌<◌, ◌++◌, [], All, IsOk, IfOk, OnOk};
 ghost use Rattle.fumen_comment.specs.Escape.{escaped, escaped_unit, hex_byte, hex_digit, IsPrintable, stays};
 
 use pc_outside::NoMemory;
@@ -8,17 +8,19 @@ use std::alloc::Global;
 /// The escaped text of some units, as ECMAScript's `escape` (Annex B) gives it.
 ///
 /// Letters, digits and `@ * _ + - . /` stay. Another unit below 256 is `%` and two capital hexadecimal
-/// digits, and every other one is `%u` and four.
+/// digits, and every other one is `%u` and four. Of no units want of memory is not answered.
 pub fn escape(alloc: Global, units: &[u16]) -> Result<Vec<u8>, NoMemory>
     ensures exact { IfOk result (λ text. text.items ≡ escaped units.now) }
     ensures printable { IfOk result (λ text. All IsPrintable text.items) }
+    ensures none { units.now ≡ [] → IsOk result }
 {
     escape_units(alloc, units)
 }
 
 #[tactic(auto, unfolding(crate::specs::Escape::escaped))]
 fn escape_units(alloc: Global, units: &[u16]) -> Result<Vec<u8>, NoMemory>
-    ensures { IfOk result (λ text. text.items ≡ escaped units.now) }
+    ensures exact { IfOk result (λ text. text.items ≡ escaped units.now) }
+    ensures none { units.now ≡ [] → IsOk result }
 {
     let mut text = Vec::new(alloc);
     for unit in units {

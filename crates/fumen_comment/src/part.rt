@@ -1,14 +1,15 @@
 // The comment part of a page: the length of the escaped text, and its characters in groups of four.
-ghost use Rattle.std.specs.Prelude.{◌≡◌, ℕ, ◌+◌, ◌^◌, ◌<◌, ◌≤◌, ◌++◌, List, length, take, nat_lt, All, IfOk, OnOk, OnErr, Ok, Err};
+ghost use Rattle.std.specs.Prelude.{◌≡◌, ◌≢◌, ℕ, ◌+◌, ◌^◌, ◌<◌, ◌≤◌, ◌++◌, List, length, take, nat_lt, All, IfOk, OnOk, OnErr, Ok, Err};
 ghost use Rattle.std.specs.List.{list_all};
 ghost use Rattle.fumen_digits.specs.Number.{digits};
 ghost use Rattle.fumen_digits.specs.Reading.{number_at};
 ghost use Rattle.fumen_digits.specs.Answers.{Gives};
+ghost use Rattle.pc_outside.specs.declared.answers.Refused.{Refused};
 ghost use Rattle.fumen_comment.specs.declared.part.CommentFault.{CommentFault};
 ghost use Rattle.fumen_comment.specs.Escape.{IsPrintable};
 ghost use Rattle.fumen_comment.specs.Part.{comment_digits, group_count, is_group, packed, unpacked};
-ghost use Rattle.fumen_comment.specs.Reading.{comment_at, group_at, text_at};
-ghost use Rattle.fumen_comment.specs.Faults.{CommentStands, IsCommentFault, comment_fault};
+ghost use Rattle.fumen_comment.specs.Reading.{HasFirst, comment_at, group_at, text_at};
+ghost use Rattle.fumen_comment.specs.Faults.{CommentStands, HasGroup, IsCommentFault, comment_fault};
 
 use crate::comment::Comment;
 use crate::unescaping::unescape;
@@ -122,6 +123,9 @@ pub fn read_comment(
         IsCommentFault digits.now place (comment_fault f) }
     ensures fault_only { (f : CommentFault) → IsCommentFault digits.now place (comment_fault f) →
         Gives (λ x. x) comment_fault result (Err (comment_fault f)) }
+
+    // Want of memory is answered neither for an empty comment nor in place of a fault of the length or the first group.
+    ensures memory { result ≡ Err Refused.NoMemory → HasGroup digits.now place }
 {
     read_part(alloc, digits, place)
 }
@@ -133,7 +137,8 @@ fn read_part(
     place: usize,
 ) -> Result<(Comment, usize), Refused<CommentFault>>
     requires { place ≤ length digits.now }
-    ensures { Gives (λ x. x) comment_fault result (comment_at digits.now place) }
+    ensures exact { Gives (λ x. x) comment_fault result (comment_at digits.now place) }
+    ensures memory { result ≡ Err Refused.NoMemory → HasGroup digits.now place }
 {
     let length = number_at(digits, place, 2)?;
     let (text, end) = read_text(alloc, digits, place + 2, length as usize)?;
@@ -149,7 +154,9 @@ fn read_text(
     count: usize,
 ) -> Result<(Vec<u8>, usize), Refused<CommentFault>>
     requires { place ≤ length digits.now }
-    ensures { Gives (λ x. (x.0.items, x.1)) comment_fault result (text_at digits.now place count (group_count count)) }
+    ensures exact { Gives (λ x. (x.0.items, x.1)) comment_fault result
+        (text_at digits.now place count (group_count count)) }
+    ensures memory { result ≡ Err Refused.NoMemory → HasFirst digits.now place count }
 {
     let mut text = Vec::new(alloc);
     let mut place = place;
@@ -170,6 +177,7 @@ fn group_at(digits: &[u8], place: usize, left: usize) -> Result<u32, Refused<Com
     requires { place ≤ length digits.now }
     ensures exact { Gives (λ group. group) comment_fault result (group_at digits.now place left) }
     ensures within { IfOk result (λ _. place + 5 ≤ length digits.now) }
+    ensures memory { result ≢ Err Refused.NoMemory }
 {
     let group = number_at(digits, place, 5)?;
     if !is_group(left, group) {
@@ -214,6 +222,7 @@ fn number_at(digits: &[u8], place: usize, count: u8) -> Result<u32, Refused<Comm
     requires most { count ≤ 5 }
     ensures exact { Gives (λ n. n) comment_fault result (number_at digits.now place count) }
     ensures within { IfOk result (λ _. place + count ≤ length digits.now) }
+    ensures memory { result ≢ Err Refused.NoMemory }
 {
     match read_number(digits, place, count) {
         Ok(number) => Ok(number),

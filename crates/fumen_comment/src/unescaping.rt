@@ -1,5 +1,5 @@
 // Units from escaped text.
-ghost use Rattle.std.specs.Prelude.{◌≡◌, ◌<◌, ◌≤◌, length, IfOk, IfSome};
+ghost use Rattle.std.specs.Prelude.{◌≡◌, ◌<◌, ◌≤◌, [], length, IsOk, IfOk, IfSome};
 ghost use Rattle.fumen_comment.specs.Unescape.{hex_byte_at, hex_unit_at, hex_value, unescaped, unit_of};
 
 use crate::comment::Comment;
@@ -9,9 +9,10 @@ use std::alloc::Global;
 /// The units of an escaped text, as ECMAScript's `unescape` (Annex B) gives them.
 ///
 /// `%u` with four hexadecimal digits, or else `%` with two, of either case, is one unit. Every other
-/// character stands for its own code, a malformed `%` too.
+/// character stands for its own code, a malformed `%` too. Of an empty text want of memory is not answered.
 pub fn unescape(alloc: Global, text: &[u8]) -> Result<Comment, NoMemory>
-    ensures { IfOk result (λ comment. comment ≡ unescaped text.now) }
+    ensures units { IfOk result (λ comment. comment ≡ unescaped text.now) }
+    ensures none { text.now ≡ [] → IsOk result }
 {
     let mut units = Vec::new(alloc);
     let mut rest = text;

@@ -42,3 +42,7 @@ gives_fault {X = X} {E = E} view fault r read d gives e =
 
 pub gives_same : {X Y E : Type 0} (view : X → Y) (fault : E → FumenFault) (r : Result X (Refused E)) (read other : Result Y FumenFault) → read ≡ other → Gives view fault r read → Gives view fault r other
 gives_same view fault r read other same gives = subst (λ q. Gives view fault r q) same gives
+
+-- the error of a step is that of the whole
+pub err_passed : {T U E : Type 0} {r : Result T E} {y z w : E} → r ≡ Err y → y ≡ z → r ≡ Err w → ◌≡◌ {A = Result U E} (Err z) (Err w)
+err_passed here same there = cc

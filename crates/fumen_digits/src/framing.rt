@@ -1,5 +1,5 @@
 // The text round the digits: the prefix, the line breaks, and the end.
-ghost use Rattle.std.specs.Prelude.{◌≡◌, ◌≤◌, length, Some, IfOk, IsSome, IsTrue};
+ghost use Rattle.std.specs.Prelude.{◌≡◌, ◌≤◌, ◌↔◌, length, None, Some, Ok, IfOk, IsSome, IsTrue};
 ghost use Rattle.std.specs.Option.{option_map};
 ghost use Rattle.fumen_digits.specs.declared.dialect.Dialect.{Dialect};
 ghost use Rattle.fumen_digits.specs.Framing.{begins_line, broken, dialect_at, digits_in, has_prefix, is_dropped, kept, version};
@@ -14,7 +14,10 @@ use std::alloc::Global;
 /// behind it goes to the first `&`, or to the end, and its bytes 9 to 13, 32 and `?` are dropped. The
 /// other bytes are kept as they are: not each of them need be a digit.
 pub fn digits_of(alloc: Global, text: &[u8]) -> Result<Option<(Dialect, Vec<u8>)>, NoMemory>
-    ensures { IfOk result (λ found. option_map (λ x. (x.0, x.1.items)) found ≡ digits_in text.now) }
+    ensures found { IfOk result (λ found. option_map (λ x. (x.0, x.1.items)) found ≡ digits_in text.now) }
+
+    // Want of memory is not answered for a text without a prefix.
+    ensures none { (result ≡ Ok None) ↔ (digits_in text.now ≡ None) }
 {
     for place in 0..text.len() {
         let rest = &text[place..];

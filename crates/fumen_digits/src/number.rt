@@ -1,13 +1,15 @@
 // Numbers of a fixed count of digits, the least digit first.
-ghost use Rattle.std.specs.Prelude.{◌≡◌, ℕ, ◌+◌, ◌^◌, ◌<◌, ◌≤◌, ◌↔◌, ◌++◌, length, take, IfOk, OnOk, OnErr, Ok, Err};
+ghost use Rattle.std.specs.Prelude.{◌≡◌, ◌≢◌, ℕ, ◌+◌, ◌^◌, ◌<◌, ◌≤◌, ◌↔◌, ◌++◌, length, take, IfOk, OnOk, OnErr, Ok, Err};
 ghost use Rattle.fumen_digits.specs.declared.number.DigitFault.{DigitFault};
 ghost use Rattle.fumen_digits.specs.Number.{digits, NumberStands};
 ghost use Rattle.fumen_digits.specs.Reading.{value_at, number_at};
 ghost use Rattle.fumen_digits.specs.Fault.{digit_fault, IsNumberFault};
-ghost use Rattle.fumen_digits.specs.Answers.{Reads};
+ghost use Rattle.fumen_digits.specs.Answers.{Gives, Reads};
+ghost use Rattle.pc_outside.specs.declared.answers.Refused.{Refused};
 
 use crate::digit::{digit_of, digit_value};
-use pc_outside::NoMemory;
+use crate::fault::FumenFault;
+use pc_outside::{NoMemory, Refused};
 
 /// Why a number can't be read. A place is an index among the digits.
 #[derive(Clone, Copy, Debug, PartialEq, Eq)]
@@ -65,6 +67,20 @@ pub fn read_number(digits: &[u8], place: usize, count: u8) -> Result<u32, DigitF
     ensures fault { (f : DigitFault) → (result ≡ Err f) ↔ IsNumberFault digits.now place count (digit_fault f) }
 {
     read_digits(digits, place, count)
+}
+
+/// The same, with the fault as one of a fumen text. Want of memory is never answered.
+pub fn number_at(digits: &[u8], place: usize, count: u8) -> Result<u32, Refused<FumenFault>>
+    requires place { place ≤ length digits.now }
+    requires most { count ≤ 5 }
+    ensures exact { Gives (λ n. n) (λ f. f) result (number_at digits.now place count) }
+    ensures within { IfOk result (λ _. place + count ≤ length digits.now) }
+    ensures memory { result ≢ Err Refused.NoMemory }
+{
+    match read_number(digits, place, count) {
+        Ok(number) => Ok(number),
+        Err(fault) => Err(Refused::Fault(FumenFault::from(fault))),
+    }
 }
 
 /// The number, digit by digit.

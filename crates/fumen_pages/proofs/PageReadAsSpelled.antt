@@ -18,7 +18,7 @@ use Rattle.fumen_pages.specs.Action.{is_inside_in, SaysAction}
 use Rattle.fumen_pages.specs.Sound.{action_of}
 use Rattle.fumen_pages.specs.Tail.{SpellsPart}
 use Rattle.fumen_pages.specs.Reading.{action_in, action_fault, seen_action, action_at, part_at, page_of, page_at}
-use Rattle.fumen_pages.specs.Faults.{TailStands, IsTailFault}
+use Rattle.fumen_pages.specs.Faults.{TailStands, IsCommentDue, IsTailFault}
 use Rattle.fumen_pages.proofs.ActionReadAsSpelled.{says_from_read, read_from_says, says_below, says_inside, why_not, read_from_large, read_from_outside}
 
 -- ---- the action
@@ -45,6 +45,12 @@ unfolding action_at
 action_from_read dialect page ds place action le e =
     let n = bind_ok (number_at ds place 3) (λ number. seen_at dialect page place number) action e in
     record { number = n.0; stands = stands_from_read ds place place 3 n.0 le n.1; says = says_from_read dialect n.0 action (seen_ok place page (action_in dialect n.0) action n.2) }
+
+-- an action with a comment was read
+pub comment_due : (dialect : Dialect) (page : ℕ) (ds : List ℕ) (place : ℕ) (action : Action) → place ≤ length ds → action_at dialect page ds place ≡ Ok action → action.comment ≡ true → IsCommentDue dialect ds place
+comment_due dialect page ds place action le read flagged =
+    let s = action_from_read dialect page ds place action le read in
+    record { number = s.number; stands = s.stands; action = action; says = s.says; flagged = flagged }
 
 read_from_action : (dialect : Dialect) (page : ℕ) (ds : List ℕ) (place : ℕ) (action : Action) → ActionStands dialect ds place action → action_at dialect page ds place ≡ Ok action
 unfolding action_at

@@ -6,7 +6,7 @@ use Rattle.fumen_digits.specs.Dialect.{page_cell_count}
 use Rattle.fumen_digits.specs.Number.{Stands, NumberStands}
 use Rattle.fumen_digits.specs.declared.fault.FumenFault.{FumenFault}
 use Rattle.fumen_digits.specs.Fault.{IsNumberFault}
-use Rattle.fumen_digits.specs.declared.fault.FumenFault.TheVariants.{BadDigit, Truncated, RunPastEnd, BadCell, BadAction, PieceOutside, BadComment}
+use Rattle.fumen_digits.specs.declared.fault.FumenFault.TheVariants.{BadDigit, Truncated, RunPastEnd, BadCell, BadAction, PieceOutside}
 use Rattle.fumen_comment.specs.Faults.{IsCommentFault}
 use Rattle.fumen_pages.specs.declared.page.Page.{Page}
 use Rattle.fumen_pages.specs.declared.action.Action.{Action}

@@ -1,18 +1,19 @@
 // What stands behind the cells of a page: its action, and its comment.
-ghost use Rattle.std.specs.Prelude.{◌≡◌, ℕ, ◌+◌, ◌≤◌, length, IfOk, Ok, Err, IsTrue};
+ghost use Rattle.std.specs.Prelude.{◌≡◌, ◌≢◌, ℕ, ◌+◌, ◌≤◌, length, IfOk, Ok, Err, IsTrue};
 ghost use Rattle.std.specs.Option.{ForSome};
-ghost use Rattle.fumen_digits.specs.Reading.{number_at};
 ghost use Rattle.fumen_digits.specs.Answers.{Gives};
+ghost use Rattle.fumen_comment.specs.Faults.{HasGroup};
+ghost use Rattle.pc_outside.specs.declared.answers.Refused.{Refused};
 ghost use Rattle.fumen_pages.specs.declared.page.Page.{Page};
 ghost use Rattle.fumen_digits.specs.declared.fault.FumenFault.{FumenFault};
 ghost use Rattle.fumen_pages.specs.Action.{is_inside_in};
 ghost use Rattle.fumen_pages.specs.Reading.{action_at, page_at, part_at};
-ghost use Rattle.fumen_pages.specs.Faults.{IsTailFault, TailStands};
+ghost use Rattle.fumen_pages.specs.Faults.{IsCommentDue, IsTailFault, TailStands};
 
 use crate::action::{Action, ActionFault, read_action};
 use crate::page::Page;
 use fumen_comment::{Comment, read_comment};
-use fumen_digits::{Dialect, FumenFault, read_number};
+use fumen_digits::{Dialect, FumenFault, number_at};
 use pc_outside::Refused;
 use std::alloc::Global;
 
@@ -48,6 +49,11 @@ pub fn read_page(
         IsTailFault dialect page digits.now place f }
     ensures fault_only { (f : FumenFault) → IsTailFault dialect page digits.now place f →
         Gives (λ x. x) (λ f. f) result (Err f) }
+
+    // Want of memory is answered neither for a page without a comment nor in place of a fault up to the first group of
+    // the comment.
+    ensures memory { result ≡ Err Refused.NoMemory →
+        IsCommentDue dialect digits.now place × HasGroup digits.now (place + 3) }
 {
     read_tail(alloc, digits, place, dialect, cells, page)
 }
@@ -62,7 +68,9 @@ fn read_tail(
     page: u32,
 ) -> Result<(Page, usize), Refused<FumenFault>>
     requires { place ≤ length digits.now }
-    ensures { Gives (λ x. x) (λ f. f) result (page_at dialect cells.now page digits.now place) }
+    ensures exact { Gives (λ x. x) (λ f. f) result (page_at dialect cells.now page digits.now place) }
+    ensures memory { result ≡ Err Refused.NoMemory →
+        IsCommentDue dialect digits.now place × HasGroup digits.now (place + 3) }
 {
     let action = action_at(digits, place, dialect, page)?;
     let (comment, end) = part_at(alloc, digits, place + 3, action.comment)?;
@@ -89,24 +97,13 @@ fn action_at(
     requires { place ≤ length digits.now }
     ensures exact { Gives (λ action. action) (λ f. f) result (action_at dialect page digits.now place) }
     ensures within { IfOk result (λ _. place + 3 ≤ length digits.now) }
+    ensures memory { result ≢ Err Refused.NoMemory }
 {
-    let number = number_at(digits, place)?;
+    let number = number_at(digits, place, 3)?;
     match read_action(dialect, number) {
         Ok(action) => Ok(action),
         Err(ActionFault::TooLarge) => Err(Refused::Fault(FumenFault::BadAction { place })),
         Err(ActionFault::Outside) => Err(Refused::Fault(FumenFault::PieceOutside { page })),
-    }
-}
-
-/// The number of an action at a place.
-fn number_at(digits: &[u8], place: usize) -> Result<u32, Refused<FumenFault>>
-    requires { place ≤ length digits.now }
-    ensures exact { Gives (λ n. n) (λ f. f) result (number_at digits.now place 3) }
-    ensures within { IfOk result (λ _. place + 3 ≤ length digits.now) }
-{
-    match read_number(digits, place, 3) {
-        Ok(number) => Ok(number),
-        Err(fault) => Err(Refused::Fault(FumenFault::from(fault))),
     }
 }
 
@@ -119,7 +116,8 @@ fn part_at(
     has_comment: bool,
 ) -> Result<(Option<Comment>, usize), Refused<FumenFault>>
     requires { place ≤ length digits.now }
-    ensures { Gives (λ x. x) (λ f. f) result (part_at has_comment digits.now place) }
+    ensures exact { Gives (λ x. x) (λ f. f) result (part_at has_comment digits.now place) }
+    ensures memory { result ≡ Err Refused.NoMemory → IsTrue has_comment × HasGroup digits.now place }
 {
     if !has_comment {
         return Ok((None, place));

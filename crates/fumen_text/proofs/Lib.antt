@@ -7,6 +7,7 @@ mod TextReadAsSpelled
 mod ReadLoop
 mod WrittenIsSpelled
 mod WrittenIsRead
+mod FoundFirst
 mod WriteLoop
 mod Worked
 mod SpelledPages

@@ -136,7 +136,7 @@ pub record IsCheckedSoFar (d : Dialect) (pages : List Page) (i : ℕ) : Type 0 w
 pub check_starts : (d : Dialect) (pages : List Page) → IsCheckedSoFar d pages 0
 check_starts d pages = record { fit = λ k other lt. absurd (omega arith); left = refl }
 
-one_left : (d : Dialect) (pages : List Page) (i : ℕ) (page : Page) → i < length pages → page ≡ get_or pages i page
+pub one_left : (d : Dialect) (pages : List Page) (i : ℕ) (page : Page) → i < length pages → page ≡ get_or pages i page
     → pages_encode_fault d (i + 1) (drop i pages) ≡ option_or (page_encode_fault d (i + 1) page) (pages_encode_fault d (i + 1 + 1) (drop (i + 1) pages))
 unfolding pages_encode_fault
 one_left d pages i page lt is =

@@ -5,3 +5,4 @@ pub mod Faults
 pub mod Written
 -- What serves proofs alone
 pub mod Reading
+pub mod Checking

@@ -1,7 +1,7 @@
 -- The text that is written for a list of pages, and why none is.
-use Rattle.std.specs.Prelude.{◌≡◌, ℕ, zero, suc, ◌+◌, List, [], ◌∷◌, ◌++◌, length, take, min, Bool, IsTrue, not, nat_eq, nat_le, nat_lt, ◌==◌, true, if◌then◌else◌, Option, Some, None, Result, Ok, Err}
+use Rattle.std.specs.Prelude.{◌≡◌, ℕ, zero, suc, ◌+◌, ◌-◌, ◌≤◌, All, List, [], ◌∷◌, ◌++◌, length, take, min, Bool, IsTrue, not, nat_eq, nat_le, nat_lt, ◌==◌, true, if◌then◌else◌, Option, Some, None, Result, Ok, Err}
 use Rattle.std.specs.List.{list_all}
-use Rattle.std.specs.Option.{option_or, option_map_or}
+use Rattle.std.specs.Option.{ForSome, option_or, option_map_or}
 use Rattle.std.specs.Cmp.Lexicographic.{pointwise}
 use Rattle.pc_outside.specs.declared.answers.Refused.{Refused}
 use Rattle.pc_outside.specs.declared.answers.Refused.TheVariants as refused
@@ -89,6 +89,22 @@ pages_encode_fault d number (page ∷ pages) =
 abbrev pub list_encode_fault : Dialect → List Page → Option EncodeFault
 list_encode_fault d pages =
     if nat_lt most_pages (length pages) then Some fault.TooManyPages else pages_encode_fault d 1 pages
+
+-- a comment that needs no escaping to be known as short: a unit is escaped by at most six characters
+abbrev pub HasFewUnits : Page → Type 0
+HasFewUnits page = ForSome page.comment (λ units. length units ≤ 682)
+
+-- the pages before this number, counted from 1, have only such comments
+abbrev pub AreFewBefore : List Page → ℕ → Type 0
+AreFewBefore pages number = All HasFewUnits (take (number - 1) pages)
+
+-- the fault of some pages that is found before any comment is escaped
+abbrev pub IsFoundFirst : List Page → EncodeFault → Type 0
+IsFoundFirst pages fault.TooManyPages = Unit {0}
+IsFoundFirst pages (fault.BadCell number) = AreFewBefore pages number
+IsFoundFirst pages (fault.RowTooHigh number) = AreFewBefore pages number
+IsFoundFirst pages (fault.PieceOutside number) = AreFewBefore pages number
+IsFoundFirst pages (fault.CommentTooLong number) = ⊥
 
 -- A refusal is this fault, and there is none where something else is answered. Want of memory may come at any time.
 abbrev pub IsRefusedBy : {X : Type 0} → Result X (Refused EncodeFault) → Option EncodeFault → Type 0

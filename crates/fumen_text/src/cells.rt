@@ -1,13 +1,12 @@
 // The cells of a page: those that are promised, or those of a record, and the digit behind the unchanged run.
 ghost use Rattle.std.specs.Prelude.{◌≡◌, ◌+◌, ◌≤◌, length, IfOk};
-ghost use Rattle.fumen_digits.specs.Reading.{number_at};
 ghost use Rattle.fumen_digits.specs.Answers.{Gives};
 ghost use Rattle.fumen_pages.specs.Cells.{AreCells};
 ghost use Rattle.fumen_pages.specs.Reading.{record_at};
 ghost use Rattle.fumen_text.specs.Reading.{page_cells_at, promise_at};
 
 use crate::position::Position;
-use fumen_digits::{Dialect, FumenFault, read_number};
+use fumen_digits::{Dialect, FumenFault, number_at};
 use fumen_pages::{CellsRead, read_cells};
 use pc_outside::Refused;
 
@@ -50,24 +49,12 @@ fn promise_at(digits: &[u8], read: &CellsRead) -> Result<Position, Refused<Fumen
             promised: 0,
         });
     }
-    let promised = digit_at(digits, read.place)?;
+    let promised = number_at(digits, read.place, 1)?;
     Ok(Position {
         place: read.place + 1,
         cells: read.cells,
         promised,
     })
-}
-
-/// The value of the digit at a place.
-fn digit_at(digits: &[u8], place: usize) -> Result<u32, Refused<FumenFault>>
-    requires { place ≤ length digits.now }
-    ensures exact { Gives (λ n. n) (λ f. f) result (number_at digits.now place 1) }
-    ensures within { IfOk result (λ _. place + 1 ≤ length digits.now) }
-{
-    match read_number(digits, place, 1) {
-        Ok(value) => Ok(value),
-        Err(fault) => Err(Refused::Fault(FumenFault::from(fault))),
-    }
 }
 
 /// The record at a place.

@@ -1,10 +1,13 @@
 // The first fault of pages that are to be written.
-ghost use Rattle.std.specs.Prelude.{◌≡◌, ◌+◌, ◌^◌, ◌<◌, ◌≤◌, length, nat_le, nat_lt, All, OnOk, IfOk, take, ◌==◌, true};
+ghost use Rattle.std.specs.Prelude.{◌≡◌, ◌+◌, ◌^◌, ◌<◌, ◌≤◌, length, nat_le, nat_lt, All, OnOk, IsOk, IfOk, take, ◌==◌, true, Err, Some};
 ghost use Rattle.std.specs.List.{list_all};
-ghost use Rattle.std.specs.Option.{option_map_or};
+ghost use Rattle.std.specs.Option.{ForSome, option_map_or};
 ghost use Rattle.fumen_comment.specs.Escape.{escaped, HasUnits};
 ghost use Rattle.fumen_pages.specs.Action.{is_inside_in};
-ghost use Rattle.fumen_text.specs.Written.{IsRefusedBy, HasTypes, IsWritable, is_short, list_encode_fault, page_encode_fault};
+ghost use Rattle.pc_outside.specs.declared.answers.Refused.{Refused};
+ghost use Rattle.fumen_text.specs.declared.encode_fault.EncodeFault.{EncodeFault};
+ghost use Rattle.fumen_text.specs.Checking.{IsMeasured};
+ghost use Rattle.fumen_text.specs.Written.{IsFoundFirst, IsRefusedBy, HasTypes, IsWritable, is_short, list_encode_fault, page_encode_fault};
 
 use crate::encode_fault::EncodeFault;
 use crate::pages::MOST_PAGES;
@@ -23,6 +26,8 @@ pub(crate) fn check_pages(
 ) -> Result<(), Refused<EncodeFault>>
     ensures fault { IsRefusedBy result (list_encode_fault dialect pages.now) }
     ensures fit { OnOk result (All (IsWritable dialect) pages.now) }
+    ensures memory { result ≡ Err Refused.NoMemory → (f : EncodeFault) →
+        list_encode_fault dialect pages.now ≡ Some f → IsFoundFirst pages.now f → ⊥ }
 {
     if pages.len() > MOST_PAGES {
         return Err(Refused::Fault(EncodeFault::TooManyPages));
@@ -42,6 +47,7 @@ fn check_page(
 ) -> Result<(), Refused<EncodeFault>>
     ensures fault { IsRefusedBy result (page_encode_fault dialect number page.now) }
     ensures fit { OnOk result (IsWritable dialect page.now) }
+    ensures memory { result ≡ Err Refused.NoMemory → IsMeasured dialect number page.now }
 {
     check_parts(alloc, dialect, number, page)
 }
@@ -55,6 +61,7 @@ fn check_parts(
 ) -> Result<(), Refused<EncodeFault>>
     ensures fault { IsRefusedBy result (page_encode_fault dialect number page.now) }
     ensures types { OnOk result (HasTypes page.now) }
+    ensures memory { result ≡ Err Refused.NoMemory → IsMeasured dialect number page.now }
 {
     if !are_colours(&page.cells) {
         return Err(Refused::Fault(EncodeFault::BadCell { page: number }));
@@ -98,6 +105,7 @@ fn is_placed(dialect: Dialect, operation: &Option<Placement>) -> bool
 fn is_short(alloc: Global, comment: &Option<Comment>) -> Result<bool, NoMemory>
     ensures short { IfOk result (λ short. short ≡ is_short comment.now) }
     ensures units { OnOk result (HasUnits comment.now) }
+    ensures few { ForSome comment.now (λ units. length units ≤ 682) → IsOk result }
 {
     match comment {
         Some(comment) => has_short_text(alloc, comment.units()),
@@ -110,6 +118,7 @@ fn is_short(alloc: Global, comment: &Option<Comment>) -> Result<bool, NoMemory>
 fn has_short_text(alloc: Global, units: &[u16]) -> Result<bool, NoMemory>
     ensures short { IfOk result (λ short. short ≡ nat_le (length (escaped units.now)) 4095) }
     ensures units { All (λ unit. unit < 2 ^ 16) units.now }
+    ensures few { length units.now ≤ 682 → IsOk result }
 {
     // A unit is escaped by at most six characters.
     if units.len() <= 4095 / 6 {

@@ -1,8 +1,10 @@
 // Whole texts: the dialect and the pages of a fumen.
-ghost use Rattle.std.specs.Prelude.{◌≡◌, List, IfOk, Ok, Err};
+ghost use Rattle.std.specs.Prelude.{◌≡◌, ◌≢◌, List, None, IfOk, Ok, Err};
 ghost use Rattle.fumen_digits.specs.declared.dialect.Dialect.{Dialect};
 ghost use Rattle.fumen_digits.specs.declared.fault.FumenFault.{FumenFault};
 ghost use Rattle.fumen_digits.specs.Answers.{Gives};
+ghost use Rattle.fumen_digits.specs.Framing.{digits_in};
+ghost use Rattle.pc_outside.specs.declared.answers.Refused.{Refused};
 ghost use Rattle.fumen_pages.specs.declared.page.Page.{Page};
 ghost use Rattle.fumen_text.specs.Texts.{ReadsAs};
 ghost use Rattle.fumen_text.specs.Faults.{IsTextFault};
@@ -33,12 +35,16 @@ pub fn decode(alloc: Global, text: &[u8]) -> Result<(Dialect, Vec<Page>), Refuse
     ensures fault { (f : FumenFault) → result ≡ Err (Refused.Fault f) → IsTextFault text.now f }
     ensures fault_only { (f : FumenFault) → IsTextFault text.now f →
         Gives {Y = Dialect × List Page} (λ x. (x.0, x.1.items)) (λ f. f) result (Err f) }
+
+    // Want of memory is not answered for a text without a prefix.
+    ensures memory { result ≡ Err Refused.NoMemory → digits_in text.now ≢ None }
 {
     read_text(alloc, text)
 }
 
 fn read_text(alloc: Global, text: &[u8]) -> Result<(Dialect, Vec<Page>), Refused<FumenFault>>
-    ensures { Gives (λ x. (x.0, x.1.items)) (λ f. f) result (text_pages text.now) }
+    ensures exact { Gives (λ x. (x.0, x.1.items)) (λ f. f) result (text_pages text.now) }
+    ensures memory { result ≡ Err Refused.NoMemory → digits_in text.now ≢ None }
 {
     let framed = digits_of(alloc, text)?;
     let Some((dialect, digits)) = framed else {

@@ -1,11 +1,13 @@
 // Pages as a fumen text.
-ghost use Rattle.std.specs.Prelude.{◌≡◌, ℕ, ◌<◌, ◌++◌, min, nat_eq, All, IfOk, OnOk};
+ghost use Rattle.std.specs.Prelude.{◌≡◌, ℕ, ◌<◌, ◌++◌, min, nat_eq, All, IfOk, OnOk, Err, Some};
 ghost use Rattle.fumen_digits.specs.declared.dialect.Dialect.{Dialect};
 ghost use Rattle.fumen_pages.specs.declared.page.Page.{Page};
 ghost use Rattle.fumen_pages.specs.Cells.{AreCells};
 ghost use Rattle.fumen_pages.specs.Next.{next};
+ghost use Rattle.pc_outside.specs.declared.answers.Refused.{Refused};
+ghost use Rattle.fumen_text.specs.declared.encode_fault.EncodeFault.{EncodeFault};
 ghost use Rattle.fumen_text.specs.Texts.{ReadsAs, empty_page};
-ghost use Rattle.fumen_text.specs.Written.{IsRefusedBy, IsWritable, cells_digits, keeps, list_encode_fault, pages_digits, promised_behind, tail_digits, unchanged_pages, written};
+ghost use Rattle.fumen_text.specs.Written.{IsFoundFirst, IsRefusedBy, IsWritable, cells_digits, keeps, list_encode_fault, pages_digits, promised_behind, tail_digits, unchanged_pages, written};
 
 use crate::checks::check_pages;
 use crate::encode_fault::EncodeFault;
@@ -35,6 +37,10 @@ pub fn encode(
     // The text that is written for these pages, and it reads as them.
     ensures text { IfOk result (λ text. text.items ≡ written dialect pages.now) }
     ensures reads { IfOk result (λ text. ReadsAs text.items dialect pages.now) }
+
+    // Want of memory is not answered in place of a fault that is found before any comment is escaped.
+    ensures memory { result ≡ Err Refused.NoMemory → (f : EncodeFault) →
+        list_encode_fault dialect pages.now ≡ Some f → IsFoundFirst pages.now f → ⊥ }
 {
     check_pages(alloc, dialect, pages)?;
     let digits = write_pages(alloc, dialect, pages)?;

@@ -1,6 +1,6 @@
 -- Lines that are read one after the other.
-use Rattle.std.proofs.Common.{◌≡◌, ℕ, ◌+◌, ◌-◌, ◌<◌, ◌==◌, Bool, false, List, [], ◌∷◌, ◌++◌, length, length-drop, take, drop, refl, ap, sym, ◌∙◌, append_assoc, append-nil, inl, inr, lt-ltb, le-ltb, ne_eqb, if◌then◌else◌, arith}
-use Rattle.std.specs.Prelude.{All, nat_lt, Result, Ok, Err}
+use Rattle.std.proofs.Common.{◌≡◌, ℕ, ◌+◌, ◌-◌, ◌<◌, ◌==◌, Bool, false, List, [], ◌∷◌, ◌++◌, length, length-drop, take, drop, refl, ap, sym, subst, ◌∙◌, append_assoc, append-nil, inl, inr, lt-ltb, le-ltb, ne_eqb, if◌then◌else◌, arith}
+use Rattle.std.specs.Prelude.{All, IsOk, ◌⊎◌, nat_lt, Result, Ok, Err}
 use Rattle.std.specs.List.{slice_split, position_or_len}
 use Rattle.std.proofs.lemmas.Bool.{cases_lt}
 use Rattle.std.proofs.lemmas.List.Splits.{slice_split_none, slice_split_first, length-slice_split}
@@ -10,7 +10,7 @@ use Rattle.pc_outside.specs.declared.answers.Refused.TheVariants as refused
 use Rattle.fumen_pages.specs.declared.page.Page.{Page}
 use Rattle.page_list.specs.declared.fault.ListFault.{ListFault}
 use Rattle.page_list.specs.CellsReading.{cut_at}
-use Rattle.page_list.specs.ListReading.{without_return, whole_lines, lines_of, first_line, numbered_page, pages_from}
+use Rattle.page_list.specs.ListReading.{without_return, whole_lines, lines_of, first_line, numbered_page, pages_from, HasFirstPage}
 use Rattle.fumen_digits.specs.Reading.{◌>>=◌}
 use Rattle.fumen_digits.specs.Answers.{Gives}
 
@@ -119,3 +119,16 @@ behind_shorter text line rest some cut = elim (cases_lt (place text) (length tex
 ] where
   dropped : (l : List ℕ) (n : ℕ) → length (drop n l) ≡ length l - n
   dropped l n = length-drop n l
+
+-- no page is read yet, or the first line was read as one
+abbrev pub HasBegun : List ℕ → List Page → List ℕ → Type 0
+HasBegun text done rest = ((length done ≡ 0) × (rest ≡ text)) ⊎ HasFirstPage text
+
+-- where a line is that of a page, the first one is
+pub first_page : (text rest line later : List ℕ) (done : List Page) (number : ℕ) → number ≡ length done + 1 → 0 < length rest → first_line rest ≡ (line, later) → IsOk (numbered_page number line)
+    → HasBegun text done rest → HasFirstPage text
+first_page text rest line later done number count some cut read (inl begun) =
+    let start : number ≡ 1 = count ∙ ap (λ n. n + 1) begun.0 in
+    let here : (first_line text).0 ≡ line = ap (λ (l : List ℕ). (first_line l).0) (sym begun.1) ∙ ap (λ (l : List ℕ × List ℕ). l.0) cut in
+    (subst (λ (t : List ℕ). 0 < length t) begun.1 some, subst (λ (l : List ℕ). IsOk (numbered_page 1 l)) (sym here) (subst (λ (n : ℕ). IsOk (numbered_page n line)) start read))
+first_page text rest line later done number count some cut read (inr has) = has

@@ -1,5 +1,6 @@
 -- Texts of many lines and the function that reads them agree, in the pages that are read and in the first fault.
 use Rattle.std.proofs.Common.{◌≡◌, ℕ, suc, ◌+◌, ◌<◌, ◌≤◌, nat_lt, List, [], ◌∷◌, length, Result, Ok, Err, refl, ap, sym, subst, ◌∙◌, ◌⊎◌, inl, inr, ltb-true, ltb-false, lt-ltb, le-ltb, append-nil, arith}
+use Rattle.std.specs.Prelude.{IsOk}
 use Rattle.std.proofs.lemmas.Bool.{cases_Bool}
 use Rattle.fumen_pages.specs.declared.page.Page.{Page}
 use Rattle.page_list.specs.declared.fault.ListFault.{ListFault}
@@ -253,6 +254,22 @@ spelled_fault_read text fault f =
     most : (count : ℕ) (line : List ℕ) (kind : ListKind) → IsFaultBehind count line kind → count ≤ 10000
     most count line kind (inl last) = omega (arith, last.0)
     most count line kind (inr less) = omega (arith, less.0)
+
+-- where the first line is that of a page, a fault is in a line behind it
+pub later_fault : (text : List ℕ) (fault : ListFault) → IsListFault text fault → IsOk (numbered_page 1 (first_line text).0) → 1 < fault.line
+later_fault text fault f read =
+    let some = behind_first text f.rest f.pages f.line f.behind fault f.before f.first f.number f.kind read in
+    omega (arith, f.number, some)
+  where
+    never : (read : Result Page ListFault) (found : ListFault) → read ≡ Err found → IsOk read → ⊥
+    never (Ok page) found e ok = cc
+    never (Err other) found e ok = cc
+
+    behind_first : (text rest : List ℕ) (pages : List Page) (line later : List ℕ) (found : ListFault) → SpellsFirst text pages rest → IsFirstLine rest line later → found.line ≡ length pages + 1
+        → IsFaultBehind (length pages) line found.kind → IsOk (numbered_page 1 (first_line text).0) → 0 < length pages
+    behind_first text rest [] line later found none first number kind read =
+        absurd (never (numbered_page 1 (first_line text).0) found (ap (λ (l : List ℕ × List ℕ). numbered_page 1 l.0) (first_line_read text line later first) ∙ fault_read 0 line found number kind) read)
+    behind_first text rest (page ∷ pages) line later found before first number kind read = omega arith
 
 -- ---- one answer
 

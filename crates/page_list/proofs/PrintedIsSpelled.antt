@@ -1,5 +1,5 @@
 -- Lines that are printed spell their pages.
-use Rattle.std.proofs.Common.{◌≡◌, ℕ, zero, suc, ◌+◌, ◌-◌, ◌*◌, ◌^◌, ◌<◌, ◌≤◌, true, ◌==◌, List, [], ◌∷◌, ◌++◌, length, length-drop, length-take-le, take, drop, map, replicate, take-append-drop, Option, Some, None, All, refl, ap, sym, subst, ◌∙◌, inl, inr, append_assoc, eqb-true, ne_eqb, arith}
+use Rattle.std.proofs.Common.{◌≡◌, ℕ, zero, suc, ◌+◌, ◌-◌, ◌*◌, ◌≤◌, true, ◌==◌, List, [], ◌∷◌, ◌++◌, length, length-drop, length-take-le, take, drop, map, replicate, take-append-drop, Option, Some, None, All, refl, ap, sym, subst, ◌∙◌, inl, inr, append_assoc, eqb-true, ne_eqb, arith}
 use Rattle.std.specs.Option.{ForSome}
 use Rattle.std.specs.Prelude.{nat_abs}
 use Rattle.std.specs.List.{flat_map, join_with_byte, prefix_len, list_all}

@@ -1,5 +1,5 @@
 -- Lists of pages, a line for each.
-use Rattle.std.specs.Prelude.{ℕ, ◌+◌, ◌-◌, nat_lt, List, [], ◌∷◌, length, take, slice_index, ◌&&◌, ◌==◌, if◌then◌else◌, Result, Ok, Err}
+use Rattle.std.specs.Prelude.{ℕ, ◌+◌, ◌-◌, ◌<◌, nat_lt, IsOk, List, [], ◌∷◌, length, take, slice_index, ◌&&◌, ◌==◌, if◌then◌else◌, Result, Ok, Err}
 use Rattle.std.specs.Option.{option_map_or}
 use Rattle.std.specs.List.{slice_split}
 use Rattle.fumen_pages.specs.declared.page.Page.{Page}
@@ -48,3 +48,7 @@ pages_in text = pages_from 1 (lines_of text)
 -- the first line of a text that has any byte, and the text behind it
 unfoldable pub first_line : List ℕ → List ℕ × List ℕ
 first_line text = option_map_or (λ cut. (without_return cut.0, cut.1)) (cut_at 10 text) (text, [])
+
+-- the first line of a text is that of a page
+abbrev pub HasFirstPage : List ℕ → Type 0
+HasFirstPage text = (0 < length text) × IsOk (numbered_page 1 (first_line text).0)

@@ -1,10 +1,11 @@
 // The fields of a page's line, read one by one.
-ghost use Rattle.std.specs.Prelude.{◌≡◌};
+ghost use Rattle.std.specs.Prelude.{◌≡◌, Err, IsOk};
 ghost use Rattle.std.specs.List.{list_all};
 ghost use Rattle.std.specs.Option.{ok_or};
 ghost use Rattle.page_list.specs.declared.fault.ListKind.TheVariants.{BadComment};
 ghost use Rattle.page_list.specs.FieldsReading.{comment_in, flag_in, flags_in, is_dash, is_mark, operation_in};
 ghost use Rattle.fumen_digits.specs.Answers.{Gives};
+ghost use Rattle.pc_outside.specs.declared.answers.Refused.{Refused};
 
 use crate::fault::ListKind;
 use fumen_comment::{Comment, unescape};
@@ -93,7 +94,8 @@ fn all_marks(text: &[u8]) -> bool
 /// the text is neither `-` nor `#` and bytes from `!` to `~`.
 #[tactic(auto, unfolding(crate::specs::FieldsReading::comment_in, crate::specs::FieldsReading::units_in))]
 pub fn comment_in(alloc: Global, text: &[u8]) -> Result<Option<Comment>, Refused<ListKind>>
-    ensures { Gives (λ comment. comment) (λ fault. fault) result (ok_or (comment_in text.now) BadComment) }
+    ensures exact { Gives (λ comment. comment) (λ fault. fault) result (ok_or (comment_in text.now) BadComment) }
+    ensures memory { result ≡ Err Refused.NoMemory → IsOk (ok_or (comment_in text.now) BadComment) }
 {
     if is_dash(text) {
         return Ok(None);

@@ -1,10 +1,11 @@
 // Lists of pages, a line for each.
-ghost use Rattle.std.specs.Prelude.{◌≡◌, ◌≤◌, IfOk, List, Ok, Err};
+ghost use Rattle.std.specs.Prelude.{◌≡◌, ◌≢◌, ◌<◌, ◌≤◌, [], IsOk, IfOk, List, Ok, Err};
 ghost use Rattle.fumen_pages.specs.declared.page.Page.{Page};
 ghost use Rattle.page_list.specs.declared.fault.ListFault.{ListFault};
 ghost use Rattle.page_list.specs.LineSpelling.{IsListFault, SpellsPages};
-ghost use Rattle.page_list.specs.ListReading.{first_line, numbered_page, pages_in, without_return};
+ghost use Rattle.page_list.specs.ListReading.{HasFirstPage, first_line, numbered_page, pages_in, without_return};
 ghost use Rattle.fumen_digits.specs.Answers.{Gives};
+ghost use Rattle.pc_outside.specs.declared.answers.Refused.{Refused};
 
 use crate::cells::cut_at;
 use crate::fault::{ListFault, ListKind};
@@ -42,6 +43,7 @@ pub fn first_line(text: &[u8]) -> (&[u8], &[u8])
 fn page_at(alloc: Global, number: u32, line: &[u8]) -> Result<Page, Refused<ListFault>>
     ensures exact { Gives (λ page. page) (λ fault. fault) result (numbered_page number line.now) }
     ensures few { IfOk result (λ _. number ≤ 10000) }
+    ensures memory { result ≡ Err Refused.NoMemory → IsOk (numbered_page number line.now) }
 {
     if number > 10_000 {
         return Err(Refused::Fault(ListFault {
@@ -73,13 +75,18 @@ pub fn parse(alloc: Global, text: &[u8]) -> Result<Vec<Page>, Refused<ListFault>
     ensures fault { (f : ListFault) → result ≡ Err (Refused.Fault f) → IsListFault text.now f }
     ensures fault_only { (f : ListFault) → IsListFault text.now f →
         Gives (λ pages. pages.items) (λ fault. fault) result (Err f) }
+
+    // Want of memory is answered neither for an empty text nor in place of a fault of the first line.
+    ensures memory { result ≡ Err Refused.NoMemory →
+        (text.now ≢ []) × ((f : ListFault) → IsListFault text.now f → 1 < f.line) }
 {
     read_pages(alloc, text)
 }
 
 /// The pages of the lines, one after the other.
 fn read_pages(alloc: Global, text: &[u8]) -> Result<Vec<Page>, Refused<ListFault>>
-    ensures { Gives (λ pages. pages.items) (λ fault. fault) result (pages_in text.now) }
+    ensures exact { Gives (λ pages. pages.items) (λ fault. fault) result (pages_in text.now) }
+    ensures memory { result ≡ Err Refused.NoMemory → HasFirstPage text.now }
 {
     let mut pages = Vec::new(alloc);
     let mut rest = text;

@@ -1,8 +1,9 @@
 // Reading a line.
-ghost use Rattle.std.specs.Prelude.{◌≡◌, ◌==◌, not, None, Some, MatchOption};
+ghost use Rattle.std.specs.Prelude.{◌≡◌, ◌==◌, not, None, Some, MatchOption, Err, IsOk};
 ghost use Rattle.std.specs.List.{list_all};
 ghost use Rattle.page_list.specs.LineReading.{divided, four_in, is_field, line_in};
 ghost use Rattle.fumen_digits.specs.Answers.{Gives};
+ghost use Rattle.pc_outside.specs.declared.answers.Refused.{Refused};
 
 use crate::cells::{cells_in, cut_at};
 use crate::fault::ListKind;
@@ -79,7 +80,8 @@ fn four_in(line: &[u8]) -> Option<Four<'_>>
 /// The page of a line without its newline, or the line's first fault.
 #[tactic(auto, unfolding(crate::specs::LineReading::line_in))]
 pub(crate) fn read_line(alloc: Global, line: &[u8]) -> Result<Page, Refused<ListKind>>
-    ensures { Gives (λ page. page) (λ fault. fault) result (line_in line.now) }
+    ensures exact { Gives (λ page. page) (λ fault. fault) result (line_in line.now) }
+    ensures memory { result ≡ Err Refused.NoMemory → IsOk (line_in line.now) }
 {
     let Some(four) = four_in(line) else {
         return Err(Refused::Fault(ListKind::BadLine));

@@ -10,4 +10,4 @@ pub returns-clause-printable : goal.returns-clause-printable
 returns-clause-printable c =
     let units = c.args.units.now in
     let fits : All (λ u. u < 2 ^ 16) units = All-from_get_or (λ u. u < 2 ^ 16) units 0 (λ i lt. omega (arith, c.type_inv.units i)) in
-    IfOk-weaker c.escape_units.result _ _ (λ text is. subst (λ (x : List ℕ). All IsPrintable x) (sym is) (escaped_printable units fits)) c.escape_units.ensures
+    IfOk-weaker c.escape_units.result _ _ (λ text is. subst (λ (x : List ℕ). All IsPrintable x) (sym is) (escaped_printable units fits)) c.escape_units.ensures.exact

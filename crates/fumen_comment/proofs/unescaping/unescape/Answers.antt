@@ -2,7 +2,7 @@
 use Rattle.std.proofs.Common.{◌++◌, ◌-◌, refl, ap, ◌∙◌, List, ℕ, length, get_or, drop, take}
 use Rattle.std.proofs.lemmas.List.{take_rest}
 use Rattle.fumen_comment.specs.Unescape.{unescaped}
-use Rattle.fumen_comment.proofs.UnescapeLoop.{units_more, units_all}
+use Rattle.fumen_comment.proofs.UnescapeLoop.{units_more, units_none, units_all}
 use Rattle.fumen_comment.proofs.unescaping.unescape.Goals as goal
 
 pub loop-rest-preserved : goal.loop-rest-preserved
@@ -14,6 +14,11 @@ loop-rest-preserved c =
     ap (λ (x : List ℕ). x ++ unescaped next) c.in_ok-push.ensures.items
     ∙ units_more c.loop-rest.units.items rest behind next (get_or rest 0 0) c.unit_of-unit.result.0 passed (unescaped c.args.text.now) c.in-len1-up.len_at_least refl (take_rest rest 1) c.unit_of-unit.ensures.unit c.unit_of-unit.ensures.passed (take_rest behind passed) c.loop-rest.invariant
 
-pub returns : goal.returns
-returns c =
+pub returns-clause-units : goal.returns-clause-units
+returns-clause-units c =
     c.from_units.ensures ∙ units_all c.loop-rest.units.items c.loop-rest.rest.now (unescaped c.args.text.now) c.in_default.len_below c.loop-rest.invariant
+
+pub returns-in_err-push-clause-none : goal.returns-in_err-push-clause-none
+unfolding Rattle.fumen_comment.specs.Unescape.unescaped_behind
+returns-in_err-push-clause-none c = λ none.
+    absurd (units_none c.loop-rest.units.items c.loop-rest.rest.now c.in-len1-up.len_at_least (c.loop-rest.invariant ∙ ap unescaped none))

@@ -18,40 +18,40 @@ pub returns-clause-within : goal.returns-clause-within
 returns-clause-within c =
     let ds = c.args.digits.now in
     let read = page_at c.args.dialect c.args.cells.now c.args.page ds c.args.place in
-    gives_found pair (λ (f : FumenFault). f) (λ x. x.1 ≤ length ds) c.read_tail.result read (λ x e. (page_from_read c.args.dialect c.args.cells.now c.args.page ds c.args.place x.0 x.1 c.requires e).stands.stands.within) c.read_tail.ensures
+    gives_found pair (λ (f : FumenFault). f) (λ x. x.1 ≤ length ds) c.read_tail.result read (λ x e. (page_from_read c.args.dialect c.args.cells.now c.args.page ds c.args.place x.0 x.1 c.requires e).stands.stands.within) c.read_tail.ensures.exact
 
 pub returns-clause-inside : goal.returns-clause-inside
 returns-clause-inside c =
     let ds = c.args.digits.now in
     let dialect = c.args.dialect in
     let read = page_at dialect c.args.cells.now c.args.page ds c.args.place in
-    gives_found pair (λ (f : FumenFault). f) (λ x. ForSome x.0.operation (λ placement. IsTrue (is_inside_in dialect placement))) c.read_tail.result read (λ x e. (page_from_read dialect c.args.cells.now c.args.page ds c.args.place x.0 x.1 c.requires e).inside) c.read_tail.ensures
+    gives_found pair (λ (f : FumenFault). f) (λ x. ForSome x.0.operation (λ placement. IsTrue (is_inside_in dialect placement))) c.read_tail.result read (λ x e. (page_from_read dialect c.args.cells.now c.args.page ds c.args.place x.0 x.1 c.requires e).inside) c.read_tail.ensures.exact
 
 pub returns-clause-cells : goal.returns-clause-cells
 returns-clause-cells c =
     let ds = c.args.digits.now in
     let cells = c.args.cells.now in
     let read = page_at c.args.dialect cells c.args.page ds c.args.place in
-    gives_found pair (λ (f : FumenFault). f) (λ x. x.0.cells ≡ cells) c.read_tail.result read (λ x e. (page_from_read c.args.dialect cells c.args.page ds c.args.place x.0 x.1 c.requires e).same_cells) c.read_tail.ensures
+    gives_found pair (λ (f : FumenFault). f) (λ x. x.0.cells ≡ cells) c.read_tail.result read (λ x e. (page_from_read c.args.dialect cells c.args.page ds c.args.place x.0 x.1 c.requires e).same_cells) c.read_tail.ensures.exact
 
 pub returns-clause-found : goal.returns-clause-found
 returns-clause-found c =
     let ds = c.args.digits.now in
     let dialect = c.args.dialect in
     let read = page_at dialect c.args.cells.now c.args.page ds c.args.place in
-    gives_found pair (λ (f : FumenFault). f) (λ x. TailStands dialect ds c.args.place x.0 x.1) c.read_tail.result read (λ x e. (page_from_read dialect c.args.cells.now c.args.page ds c.args.place x.0 x.1 c.requires e).stands) c.read_tail.ensures
+    gives_found pair (λ (f : FumenFault). f) (λ x. TailStands dialect ds c.args.place x.0 x.1) c.read_tail.result read (λ x e. (page_from_read dialect c.args.cells.now c.args.page ds c.args.place x.0 x.1 c.requires e).stands) c.read_tail.ensures.exact
 
 pub returns-clause-only : goal.returns-clause-only
 returns-clause-only c = λ page end same stands.
     let read = page_at c.args.dialect c.args.cells.now c.args.page c.args.digits.now c.args.place in
-    gives_same pair (λ (f : FumenFault). f) c.read_tail.result read (Ok (page, end)) (read_from_page c.args.dialect c.args.cells.now c.args.page c.args.digits.now c.args.place page end same stands) c.read_tail.ensures
+    gives_same pair (λ (f : FumenFault). f) c.read_tail.result read (Ok (page, end)) (read_from_page c.args.dialect c.args.cells.now c.args.page c.args.digits.now c.args.place page end same stands) c.read_tail.ensures.exact
 
 pub returns-clause-fault : goal.returns-clause-fault
 returns-clause-fault c = λ f e.
     let read = page_at c.args.dialect c.args.cells.now c.args.page c.args.digits.now c.args.place in
-    tail_fault_from_read c.args.dialect c.args.cells.now c.args.page c.args.digits.now c.args.place f c.requires (gives_fault pair (λ (f : FumenFault). f) c.read_tail.result read f c.read_tail.ensures e)
+    tail_fault_from_read c.args.dialect c.args.cells.now c.args.page c.args.digits.now c.args.place f c.requires (gives_fault pair (λ (f : FumenFault). f) c.read_tail.result read f c.read_tail.ensures.exact e)
 
 pub returns-clause-fault_only : goal.returns-clause-fault_only
 returns-clause-fault_only c = λ f bad.
     let read = page_at c.args.dialect c.args.cells.now c.args.page c.args.digits.now c.args.place in
-    gives_same pair (λ (f : FumenFault). f) c.read_tail.result read (Err f) (read_from_tail_fault c.args.dialect c.args.cells.now c.args.page c.args.digits.now c.args.place f bad) c.read_tail.ensures
+    gives_same pair (λ (f : FumenFault). f) c.read_tail.result read (Err f) (read_from_tail_fault c.args.dialect c.args.cells.now c.args.page c.args.digits.now c.args.place f bad) c.read_tail.ensures.exact

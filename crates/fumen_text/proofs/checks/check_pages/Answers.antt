@@ -1,6 +1,8 @@
 -- One more page is fit, or has the first fault; and then all are fit.
 use Rattle.std.proofs.Common.{arith}
 use Rattle.std.proofs.lemmas.Result.{err_from_is_err_and}
+use Rattle.fumen_digits.proofs.CallerLemmas.{err_passed}
+use Rattle.fumen_text.proofs.FoundFirst.{none_first}
 use Rattle.fumen_text.proofs.WrittenIsRead.{check_starts, check_more, check_stops, check_ends}
 use Rattle.fumen_text.proofs.checks.check_pages.Goals as goal
 
@@ -21,3 +23,8 @@ returns-clause-fault c = (check_ends c.args.dialect c.args.pages.now c.loop-i.i 
 
 pub returns-clause-fit : goal.returns-clause-fit
 returns-clause-fit c = (check_ends c.args.dialect c.args.pages.now c.loop-i.i (omega arith) (omega (arith, c.if-pages-gt-MOST_PAGES.false)) c.loop-i.invariant).1
+
+pub returns-in_err-check_page-clause-memory : goal.returns-in_err-check_page-clause-memory
+returns-in_err-check_page-clause-memory c = λ none f found first.
+    let p = err_from_is_err_and c.from_residual.result c.from_residual.ensures.1 in
+    none_first c.args.dialect c.args.pages.now c.loop-i.i c.index-pages-i.result f (omega arith) (omega (arith, c.if-pages-gt-MOST_PAGES.false)) c.index-pages-i.is (c.in_err-check_page.ensures.memory (err_passed p.1 p.2 none)) c.loop-i.invariant found first

@@ -15,19 +15,19 @@ seen x = (x.0, x.1.items)
 pub returns-clause-found : goal.returns-clause-found
 returns-clause-found c =
     let text = c.args.text.now in
-    gives_found seen (λ (f : FumenFault). f) (λ x. ReadsAs text x.0 x.1) c.read_text.result (text_pages text) (λ x read. text_from_read text x read) c.read_text.ensures
+    gives_found seen (λ (f : FumenFault). f) (λ x. ReadsAs text x.0 x.1) c.read_text.result (text_pages text) (λ x read. text_from_read text x read) c.read_text.ensures.exact
 
 pub returns-clause-only : goal.returns-clause-only
 returns-clause-only c = λ dialect pages reads.
     let text = c.args.text.now in
-    gives_same seen (λ (f : FumenFault). f) c.read_text.result (text_pages text) (Ok (dialect, pages)) (read_from_text text dialect pages reads) c.read_text.ensures
+    gives_same seen (λ (f : FumenFault). f) c.read_text.result (text_pages text) (Ok (dialect, pages)) (read_from_text text dialect pages reads) c.read_text.ensures.exact
 
 pub returns-clause-fault : goal.returns-clause-fault
 returns-clause-fault c = λ f e.
     let text = c.args.text.now in
-    text_fault_from_read text f (gives_fault seen (λ (f : FumenFault). f) c.read_text.result (text_pages text) f c.read_text.ensures e)
+    text_fault_from_read text f (gives_fault seen (λ (f : FumenFault). f) c.read_text.result (text_pages text) f c.read_text.ensures.exact e)
 
 pub returns-clause-fault_only : goal.returns-clause-fault_only
 returns-clause-fault_only c = λ f fault.
     let text = c.args.text.now in
-    gives_same seen (λ (f : FumenFault). f) c.read_text.result (text_pages text) (Err f) (read_from_text_fault text f fault) c.read_text.ensures
+    gives_same seen (λ (f : FumenFault). f) c.read_text.result (text_pages text) (Err f) (read_from_text_fault text f fault) c.read_text.ensures.exact

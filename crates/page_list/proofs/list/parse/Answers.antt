@@ -1,5 +1,5 @@
 -- What the text spells, and its fault, from what reading gives.
-use Rattle.std.proofs.Common.{◌≡◌, List, Result, Ok, Err, Vec, Global, subst}
+use Rattle.std.proofs.Common.{◌≡◌, ◌<◌, ℕ, arith, length, [], ◌∷◌, List, Result, Ok, Err, Vec, Global, subst}
 use Rattle.std.specs.Prelude.{IfOk}
 use Rattle.pc_outside.specs.declared.answers.Refused.{Refused}
 use Rattle.pc_outside.specs.declared.answers.Refused.TheVariants as refused
@@ -8,7 +8,7 @@ use Rattle.page_list.specs.declared.fault.ListFault.{ListFault}
 use Rattle.fumen_digits.specs.Answers.{Gives}
 use Rattle.page_list.specs.ListReading.{pages_in}
 use Rattle.page_list.specs.LineSpelling.{SpellsPages}
-use Rattle.page_list.proofs.PagesReadAsSpelled.{pages_spelled, spelled_pages_read, fault_spelled, spelled_fault_read}
+use Rattle.page_list.proofs.PagesReadAsSpelled.{pages_spelled, spelled_pages_read, fault_spelled, later_fault, spelled_fault_read}
 use Rattle.page_list.proofs.list.parse.Goals as goal
 
 abbrev Answer : Type 0
@@ -24,15 +24,26 @@ found (Err e) read P spells given = tt
 fault : (answer : Answer) (read : Result (List Page) ListFault) (f : ListFault) → answer ≡ Err (refused.Fault f) → Given answer read → read ≡ Err f
 fault answer read f is given = subst (λ a. Given a read) is given
 
+some_byte : (text : List ℕ) → 0 < length text → text ≡ [] → ⊥
+some_byte [] some empty = absurd (omega (arith, some))
+some_byte (byte ∷ text) some empty = cc
+
 pub returns-clause-found : goal.returns-clause-found
 returns-clause-found c =
-    found c.read_pages.result (pages_in c.args.text.now) (SpellsPages c.args.text.now) (pages_spelled c.args.text.now) c.read_pages.ensures
+    found c.read_pages.result (pages_in c.args.text.now) (SpellsPages c.args.text.now) (pages_spelled c.args.text.now) c.read_pages.ensures.exact
 
 pub returns-clause-only : goal.returns-clause-only
-returns-clause-only c = λ pages s. subst (Given c.read_pages.result) (spelled_pages_read c.args.text.now pages s) c.read_pages.ensures
+returns-clause-only c = λ pages s. subst (Given c.read_pages.result) (spelled_pages_read c.args.text.now pages s) c.read_pages.ensures.exact
 
 pub returns-clause-fault : goal.returns-clause-fault
-returns-clause-fault c = λ f is. fault_spelled c.args.text.now f (fault c.read_pages.result (pages_in c.args.text.now) f is c.read_pages.ensures)
+returns-clause-fault c = λ f is. fault_spelled c.args.text.now f (fault c.read_pages.result (pages_in c.args.text.now) f is c.read_pages.ensures.exact)
 
 pub returns-clause-fault_only : goal.returns-clause-fault_only
-returns-clause-fault_only c = λ f s. subst (Given c.read_pages.result) (spelled_fault_read c.args.text.now f s) c.read_pages.ensures
+returns-clause-fault_only c = λ f s. subst (Given c.read_pages.result) (spelled_fault_read c.args.text.now f s) c.read_pages.ensures.exact
+
+pub returns-clause-memory : goal.returns-clause-memory
+returns-clause-memory c = λ none.
+    let first = c.read_pages.ensures.memory none in (
+      λ empty. some_byte c.args.text.now first.0 empty,
+      λ f is. later_fault c.args.text.now f is first.1,
+    )
