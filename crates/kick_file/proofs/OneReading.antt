@@ -185,14 +185,14 @@ read_as text = reads_on text [] [] srs_table Beginning (record {
 })
 
 -- of two fronts of a text the longer one goes on from the shorter one
-record GoesOn (front rest longer : List ℕ) : Type 0 where
+record GoesFurther (front rest longer : List ℕ) : Type 0 where
   byte : ℕ
   more : List ℕ
   after : List ℕ
   rest_is : rest ≡ byte ∷ after
   longer_is : longer ≡ (front ++ byte ∷ []) ++ more
 
-goes_on_from : (front rest longer later : List ℕ) → front ++ rest ≡ longer ++ later → length front < length longer → GoesOn front rest longer
+goes_on_from : (front rest longer later : List ℕ) → front ++ rest ≡ longer ++ later → length front < length longer → GoesFurther front rest longer
 goes_on_from [] rest [] later same short = absurd (omega (arith, short))
 goes_on_from [] rest (byte ∷ longer) later same short = record { byte = byte; more = longer; after = longer ++ later; rest_is = same; longer_is = refl }
 goes_on_from (first ∷ front) rest [] later same short = absurd (omega (arith, short))

@@ -1,5 +1,5 @@
 // Printing a table.
-ghost use Rattle.std.specs.Prelude.{◌≡◌, ◌++◌, ◌∷◌, [], length, map, take, IfOk, OnOk, OnErr, IsTrue, Ok};
+ghost use Rattle.std.specs.Prelude.{◌≡◌, ◌++◌, ◌∷◌, [], length, map, take, IsOk, IfOk, OnOk, OnErr, IsTrue, Ok};
 ghost use Rattle.std.specs.List.{list_all};
 ghost use Rattle.srs.specs.Kick.{pair_of};
 ghost use Rattle.srs.specs.Piece.{piece_letter};
@@ -49,11 +49,12 @@ fn push_offset(text: &mut Vec<u8>, offset: Offset) -> Result<(), NoMemory>
 }
 
 /// Appends offsets, or kicks, each of at most nine columns and nine rows, divided by `/`. After NoMemory `text` is as
-/// before.
+/// before; where there are no offsets it is not answered.
 pub fn push_offsets(text: &mut Vec<u8>, offsets: &[Offset]) -> Result<(), NoMemory>
     requires { IsTrue (list_all is_short_move (map pair_of offsets.now)) }
     ensures ok { OnOk result (text.new.items ≡ text.old.items ++ offsets_form (map pair_of offsets.now)) }
     ensures err { OnErr result (text.new.items ≡ text.old.items) }
+    ensures none { offsets.now ≡ [] → IsOk result }
 {
     let before = text.len();
     let pushed = push_some_offsets(text, offsets);
@@ -68,6 +69,7 @@ fn push_some_offsets(text: &mut Vec<u8>, offsets: &[Offset]) -> Result<(), NoMem
     requires { IsTrue (list_all is_short_move (map pair_of offsets.now)) }
     ensures ok { OnOk result (text.new.items ≡ text.old.items ++ offsets_form (map pair_of offsets.now)) }
     ensures kept { take (length text.old.items) text.new.items ≡ text.old.items }
+    ensures none { offsets.now ≡ [] → IsOk result }
 {
     let [first, rest @ ..] = offsets else {
         return Ok(());

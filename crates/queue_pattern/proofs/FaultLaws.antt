@@ -7,7 +7,8 @@ use Rattle.queue_pattern.specs.declared.fault.PatternFault.TheVariants.{Unexpect
 use Rattle.queue_pattern.specs.Faults.{IsPatternFault}
 use Rattle.queue_pattern.specs.Grammar.{Elements, elements, limited}
 use Rattle.queue_pattern.specs.Queues.{queue_count, queue_len}
-use Rattle.queue_pattern.proofs.FaultsFound.{never_long, never_many, on_if, repeated_found, same_fault, too_many_found, unexpected_found}
+use Rattle.queue_pattern.proofs.FaultExplained.{on_if, same_fault}
+use Rattle.queue_pattern.proofs.FaultsFound.{never_long, never_many, repeated_found, too_many_found, unexpected_found}
 use Rattle.queue_pattern.proofs.FaultsRead.{repeated_read, too_many_read, unexpected_read}
 use Rattle.queue_pattern.proofs.ReadIsSpelled.{spelled-from_read}
 use Rattle.queue_pattern.proofs.SpelledIsRead.{read-from_spelled}

@@ -1,144 +1,20 @@
 -- A fault that is read stands in the text.
-use Rattle.std.proofs.Common.{◌≡◌, ◌≢◌, ℕ, ◌+◌, ◌-◌, ◌<◌, ◌≤◌, Bool, true, false, not, cond, ◌&&◌, ◌||◌, ◌==◌, nat_lt, nat_le, eqb-true, leb-true, ltb-true, List, [], ◌∷◌, ◌++◌, length, append_assoc, append-nil, length-append, bit_or, refl, ap, sym, subst, ◌∙◌, arith, Option, Some, None, Ok, Err, inl, inr, ◌⊎◌}
-use Rattle.std.proofs.lemmas.Bool.{cases_Bool, and_parts, or_cases}
-use Rattle.std.proofs.lemmas.Bool.Decides.{nat_tests}
+use Rattle.std.proofs.Common.{◌≡◌, ◌≢◌, ℕ, ◌+◌, ◌-◌, ◌<◌, ◌≤◌, Bool, true, false, not, ◌&&◌, ◌||◌, ◌==◌, nat_le, eqb-true, leb-true, List, [], ◌∷◌, ◌++◌, length, append_assoc, append-nil, length-append, bit_or, refl, ap, sym, subst, ◌∙◌, arith, Option, Some, None, Ok, Err, inl, inr, ◌⊎◌}
+use Rattle.std.proofs.lemmas.Bool.{and_parts, or_cases}
 use Rattle.srs.specs.declared.piece.Piece.{Piece}
 use Rattle.srs.specs.Piece.{piece_with_letter}
 use Rattle.queue_pattern.specs.declared.element.Element.{Element}
 use Rattle.queue_pattern.specs.declared.fault.PatternFault.{PatternFault}
 use Rattle.queue_pattern.specs.declared.fault.PatternFault.TheVariants.{Unexpected, RepeatedPiece, TooManyChosen, PatternTooLong, TooManyQueues}
 use Rattle.queue_pattern.specs.Queues.{is_in, pieces_in}
-use Rattle.queue_pattern.specs.Grammar.{Elements, TextPosition, outside, opened, listing, closed, choosing, choice, before, bracketed, is_gap, set_of, all_set, position_step, outside_step, letter_step, listing_step, listed_step, opened_step, closed_step, choosing_step, end, elements, elements_from}
-use Rattle.queue_pattern.specs.Spelling.{SpellsLetters, SpellsSet, all, these, others, SpellsChosen, one, digit, every, SpellsElement, letter, chosen, SpellsElements, none, gap, element}
+use Rattle.queue_pattern.specs.Grammar.{Elements, TextPosition, outside, opened, listing, closed, choosing, bracketed, is_gap, set_of, all_set, position_step, outside_step, letter_step, listing_step, listed_step, opened_step, closed_step, choosing_step, end, elements, elements_from}
+use Rattle.queue_pattern.specs.Spelling.{SpellsLetters, SpellsSet, all, these, others, SpellsChosen, one, digit, every, letter, chosen, SpellsElements, none}
 use Rattle.queue_pattern.specs.Form.{IsStopped}
 use Rattle.queue_pattern.specs.Faults.{BeginsSet, BeginsElement, IsUnexpectedAt, IsRepeatedAt, IsTooManyAt, IsUnmarked}
 use Rattle.queue_pattern.specs.Faults as fault
 use Rattle.queue_pattern.proofs.FormLeft.{left-from_unexpected}
 use Rattle.queue_pattern.proofs.SpelledIsRead.{total_some}
-
--- ---- one more byte of what stands
-
-elements_more : (whole text : List ℕ) (es : List Element) (e : Element) → SpellsElements whole es → SpellsElement text e → SpellsElements (whole ++ text) (es ++ e ∷ [])
-elements_more whole text es e none one_more = subst (λ t. SpellsElements t (e ∷ [])) (append-nil text) (element one_more none)
-elements_more whole text es e (gap {text = later} is spelled) one_more = gap is (elements_more later text es e spelled one_more)
-elements_more whole text es e (element {front = front} {rest = rest} {elements = later} first spelled) one_more =
-    subst (λ t. SpellsElements t (es ++ e ∷ [])) (sym (append_assoc front rest text)) (element first (elements_more rest text later e spelled one_more))
-
-gap_more : (whole : List ℕ) (byte : ℕ) (es : List Element) → SpellsElements whole es → is_gap byte ≡ true → SpellsElements (whole ++ byte ∷ []) es
-gap_more whole byte es none is_one = gap is_one none
-gap_more whole byte es (gap {text = later} is spelled) is_one = gap is (gap_more later byte es spelled is_one)
-gap_more whole byte es (element {front = front} {rest = rest} {elements = later} first spelled) is_one =
-    subst (λ t. SpellsElements t es) (sym (append_assoc front rest (byte ∷ []))) (element first (gap_more rest byte later spelled is_one))
-
-letters_more : (letters : List ℕ) (so_far listed byte : ℕ) (piece : Piece) → SpellsLetters so_far letters listed → piece_with_letter byte ≡ Some piece → is_in piece listed ≡ false
-    → SpellsLetters so_far (letters ++ byte ∷ []) (bit_or listed (set_of piece))
-letters_more [] so_far listed byte piece spelled is new =
-    (piece, is, ap (is_in piece) spelled ∙ new, ap (λ n. bit_or n (set_of piece)) spelled)
-letters_more (first ∷ letters) so_far listed byte piece spelled is new =
-    (spelled.0, spelled.1, spelled.2, letters_more letters (bit_or so_far (set_of spelled.0)) listed byte piece spelled.3 is new)
-
--- ---- what stands before a position
-
--- whole elements
-record Whole (front : List ℕ) : Type 0 where
-  elements : List Element
-  spelled : SpellsElements front elements
-
-abbrev opening : Bool → List ℕ
-opening true = 91 ∷ 94 ∷ []
-opening false = 91 ∷ []
-
--- whole elements and a bracket with letters
-record Listing (front : List ℕ) (start : ℕ) (except : Bool) (listed : ℕ) : Type 0 where
-  whole : List ℕ
-  is : Whole whole
-  begins : start ≡ length whole
-  letters : List ℕ
-  spelled : SpellsLetters 0 letters listed
-  joined : front ≡ whole ++ (opening except ++ letters)
-
--- whole elements and a set
-record Closed (front : List ℕ) (start set : ℕ) : Type 0 where
-  whole : List ℕ
-  is : Whole whole
-  begins : start ≡ length whole
-  text : List ℕ
-  spelled : SpellsSet text set
-  joined : front ≡ whole ++ text
-
--- and `p`
-record Choosing (front : List ℕ) (start set : ℕ) : Type 0 where
-  whole : List ℕ
-  is : Whole whole
-  begins : start ≡ length whole
-  text : List ℕ
-  spelled : SpellsSet text set
-  mark : ℕ
-  marks : (mark ≡ 112) ⊎ (mark ≡ 80)
-  joined : front ≡ whole ++ (text ++ mark ∷ [])
-
-abbrev Stands : TextPosition → List ℕ → Type 0
-Stands outside front = Whole front
-Stands (opened start) front = Listing front start false 0
-Stands (listing start except listed) front = Listing front start except listed
-Stands (closed start set) front = Closed front start set
-Stands (choosing start set) front = Choosing front start set
-
--- ---- the fault that stands in a text, but for that the form ends at an unexpected byte
-
-record Begun (text : List ℕ) (place : ℕ) : Type 0 where
-  whole : List ℕ
-  begun : List ℕ
-  rest : List ℕ
-  divided : text ≡ (whole ++ begun) ++ rest
-  is : Whole whole
-  begins : BeginsElement begun
-  stands : place ≡ length (whole ++ begun)
-
-abbrev Explains : List ℕ → PatternFault → Type 0
-Explains text (Unexpected place) = Begun text place
-Explains text (RepeatedPiece place) = IsRepeatedAt text place
-Explains text (TooManyChosen place) = IsTooManyAt text place
-Explains text other = ⊥
-
-pub same_fault : (f other : PatternFault) → ◌≡◌ {A = Elements} (Err f) (Err other) → f ≡ other
-same_fault f other e = cc
-
-no_fault : (es : List Element) (f : PatternFault) → ◌≡◌ {A = Elements} (Ok es) (Err f) → ⊥
-no_fault es f e = cc
-
-explained : (text : List ℕ) (g f : PatternFault) → ◌≡◌ {A = Elements} (Err g) (Err f) → Explains text g → Explains text f
-explained text g f e is = subst (Explains text) (same_fault g f e) is
-
--- a choice by a test
-pub on_if : {A : Type 0} (b : Bool) (x y z : A) → cond b x y ≡ z → ((b ≡ true) × (x ≡ z)) ⊎ ((b ≡ false) × (y ≡ z))
-on_if true x y z h = inl (refl, h)
-on_if false x y z h = inr (refl, h)
-
-before-err : (e : Element) (read : Elements) (f : PatternFault) → before (Ok e) read ≡ Err f → read ≡ Err f
-before-err e (Ok later) f h = cc
-before-err e (Err other) f h = h
-
-few_of : (n size : ℕ) → (nat_lt 0 size && nat_le n size) ≡ false → (size ≡ 0) ⊎ (size < n)
-few_of n size wrong = elim (cases_Bool (nat_lt 0 size)) [
-  | inl some ↦ inr (grind (arith, nat_tests, some, wrong))
-  | inr empty ↦ inl (grind (arith, nat_tests, empty))
-]
-
--- a choice is wrong, or what follows has the fault
-choice-err : (start set n : ℕ) (read : Elements) (f : PatternFault) → before (choice start set n) read ≡ Err f
-    → (((length (pieces_in set) ≡ 0) ⊎ (length (pieces_in set) < n)) × (◌≡◌ {A = Elements} (Err (TooManyChosen start)) (Err f)))
-    ⊎ ((0 < length (pieces_in set)) × (n ≤ length (pieces_in set)) × (read ≡ Err f))
-unfolding choice
-choice-err start set n read f h =
-    let size = length (pieces_in set) in
-    let made : Bool → Elements = λ b. before (cond b (Ok (record { set = set; chosen = n })) (Err (TooManyChosen start))) read in
-    elim (cases_Bool (nat_lt 0 size && nat_le n size)) [
-      | inl fits ↦
-          let parts = and_parts (nat_lt 0 size) (nat_le n size) fits in
-          inr (ltb-true 0 size parts.0, leb-true n size parts.1, before-err (record { set = set; chosen = n }) read f (sym (ap made fits) ∙ h))
-      | inr wrong ↦ inl (few_of n size wrong, sym (ap made wrong) ∙ h)
-    ]
+use Rattle.queue_pattern.proofs.FaultExplained.{Begun, Choosing, Closed, Explains, Listing, Stands, Whole, before-err, choice-err, elements_more, explained, gap_more, letters_more, no_fault, on_if, opening}
 
 -- ---- step by step
 

@@ -23,6 +23,7 @@ mod ReadIsSpelled
 mod SpelledIsRead
 mod FaultForms
 mod FaultsRead
+mod FaultExplained
 mod FaultsFound
 mod FaultLaws
 mod PatternMade

@@ -17,7 +17,7 @@ use Rattle.queue_pattern.specs.Queues.{pieces_in, queue_count, queue_len}
 use Rattle.queue_pattern.specs.Sound.{is_sound}
 use Rattle.queue_pattern.specs.Spelling.{SpellsLetters, SpellsSet, all, these, others, SpellsChosen, one, digit, every, SpellsElement, letter, chosen, SpellsElements, none, gap, element}
 use Rattle.queue_pattern.proofs.FaultLaws.{at_most}
-use Rattle.queue_pattern.proofs.FaultsFound.{on_if}
+use Rattle.queue_pattern.proofs.FaultExplained.{on_if}
 use Rattle.queue_pattern.proofs.LimitLemmas.{length-le-queue_len, queue_count-some}
 use Rattle.queue_pattern.proofs.ReadIsSpelled.{spelled-from_read}
 

@@ -21,8 +21,8 @@ pub data BeginsElement : List ℕ → Type 0 where
   choosing : {front : List ℕ} {set mark : ℕ} → SpellsSet front set → (mark ≡ 112) ⊎ (mark ≡ 80)
       → BeginsElement (front ++ mark ∷ [])
 
--- Whole elements and the beginning of one stand before the first byte that no text of the form goes on with, or the text
--- ends there and isn't of the form.
+-- Whole elements and the beginning of one stand before the first byte that no text of the form goes on with, or the
+-- text ends there and isn't of the form.
 pub record IsUnexpectedAt (text : List ℕ) (place : ℕ) : Type 0 where
   pub whole : List ℕ
   pub begun : List ℕ

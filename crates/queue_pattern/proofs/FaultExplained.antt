@@ -1,0 +1,137 @@
+-- What stands before a position in a text, and how a fault there is explained by it.
+use Rattle.std.proofs.Common.{◌≡◌, ℕ, ◌<◌, ◌≤◌, Bool, true, false, cond, ◌&&◌, nat_lt, nat_le, leb-true, ltb-true, List, [], ◌∷◌, ◌++◌, length, append_assoc, append-nil, bit_or, refl, ap, sym, subst, ◌∙◌, arith, Some, Ok, Err, inl, inr, ◌⊎◌}
+use Rattle.std.proofs.lemmas.Bool.{cases_Bool, and_parts}
+use Rattle.std.proofs.lemmas.Bool.Decides.{nat_tests}
+use Rattle.srs.specs.declared.piece.Piece.{Piece}
+use Rattle.srs.specs.Piece.{piece_with_letter}
+use Rattle.queue_pattern.specs.declared.element.Element.{Element}
+use Rattle.queue_pattern.specs.declared.fault.PatternFault.{PatternFault}
+use Rattle.queue_pattern.specs.declared.fault.PatternFault.TheVariants.{Unexpected, RepeatedPiece, TooManyChosen}
+use Rattle.queue_pattern.specs.Queues.{is_in, pieces_in}
+use Rattle.queue_pattern.specs.Grammar.{Elements, TextPosition, outside, opened, listing, closed, choosing, choice, before, is_gap, set_of}
+use Rattle.queue_pattern.specs.Spelling.{SpellsLetters, SpellsSet, SpellsElement, SpellsElements, none, gap, element}
+use Rattle.queue_pattern.specs.Faults.{BeginsElement, IsRepeatedAt, IsTooManyAt}
+
+-- ---- one more byte of what stands
+
+pub elements_more : (whole text : List ℕ) (es : List Element) (e : Element) → SpellsElements whole es → SpellsElement text e → SpellsElements (whole ++ text) (es ++ e ∷ [])
+elements_more whole text es e none one_more = subst (λ t. SpellsElements t (e ∷ [])) (append-nil text) (element one_more none)
+elements_more whole text es e (gap {text = later} is spelled) one_more = gap is (elements_more later text es e spelled one_more)
+elements_more whole text es e (element {front = front} {rest = rest} {elements = later} first spelled) one_more =
+    subst (λ t. SpellsElements t (es ++ e ∷ [])) (sym (append_assoc front rest text)) (element first (elements_more rest text later e spelled one_more))
+
+pub gap_more : (whole : List ℕ) (byte : ℕ) (es : List Element) → SpellsElements whole es → is_gap byte ≡ true → SpellsElements (whole ++ byte ∷ []) es
+gap_more whole byte es none is_one = gap is_one none
+gap_more whole byte es (gap {text = later} is spelled) is_one = gap is (gap_more later byte es spelled is_one)
+gap_more whole byte es (element {front = front} {rest = rest} {elements = later} first spelled) is_one =
+    subst (λ t. SpellsElements t es) (sym (append_assoc front rest (byte ∷ []))) (element first (gap_more rest byte later spelled is_one))
+
+pub letters_more : (letters : List ℕ) (so_far listed byte : ℕ) (piece : Piece) → SpellsLetters so_far letters listed → piece_with_letter byte ≡ Some piece → is_in piece listed ≡ false
+    → SpellsLetters so_far (letters ++ byte ∷ []) (bit_or listed (set_of piece))
+letters_more [] so_far listed byte piece spelled is new =
+    (piece, is, ap (is_in piece) spelled ∙ new, ap (λ n. bit_or n (set_of piece)) spelled)
+letters_more (first ∷ letters) so_far listed byte piece spelled is new =
+    (spelled.0, spelled.1, spelled.2, letters_more letters (bit_or so_far (set_of spelled.0)) listed byte piece spelled.3 is new)
+
+-- ---- what stands before a position
+
+-- whole elements
+pub record Whole (front : List ℕ) : Type 0 where
+  pub elements : List Element
+  pub spelled : SpellsElements front elements
+
+abbrev pub opening : Bool → List ℕ
+opening true = 91 ∷ 94 ∷ []
+opening false = 91 ∷ []
+
+-- whole elements and a bracket with letters
+pub record Listing (front : List ℕ) (start : ℕ) (except : Bool) (listed : ℕ) : Type 0 where
+  pub whole : List ℕ
+  pub is : Whole whole
+  pub begins : start ≡ length whole
+  pub letters : List ℕ
+  pub spelled : SpellsLetters 0 letters listed
+  pub joined : front ≡ whole ++ (opening except ++ letters)
+
+-- whole elements and a set
+pub record Closed (front : List ℕ) (start set : ℕ) : Type 0 where
+  pub whole : List ℕ
+  pub is : Whole whole
+  pub begins : start ≡ length whole
+  pub text : List ℕ
+  pub spelled : SpellsSet text set
+  pub joined : front ≡ whole ++ text
+
+-- and `p`
+pub record Choosing (front : List ℕ) (start set : ℕ) : Type 0 where
+  pub whole : List ℕ
+  pub is : Whole whole
+  pub begins : start ≡ length whole
+  pub text : List ℕ
+  pub spelled : SpellsSet text set
+  pub mark : ℕ
+  pub marks : (mark ≡ 112) ⊎ (mark ≡ 80)
+  pub joined : front ≡ whole ++ (text ++ mark ∷ [])
+
+abbrev pub Stands : TextPosition → List ℕ → Type 0
+Stands outside front = Whole front
+Stands (opened start) front = Listing front start false 0
+Stands (listing start except listed) front = Listing front start except listed
+Stands (closed start set) front = Closed front start set
+Stands (choosing start set) front = Choosing front start set
+
+-- ---- the fault that stands in a text, but for that the form ends at an unexpected byte
+
+pub record Begun (text : List ℕ) (place : ℕ) : Type 0 where
+  pub whole : List ℕ
+  pub begun : List ℕ
+  pub rest : List ℕ
+  pub divided : text ≡ (whole ++ begun) ++ rest
+  pub is : Whole whole
+  pub begins : BeginsElement begun
+  pub stands : place ≡ length (whole ++ begun)
+
+abbrev pub Explains : List ℕ → PatternFault → Type 0
+Explains text (Unexpected place) = Begun text place
+Explains text (RepeatedPiece place) = IsRepeatedAt text place
+Explains text (TooManyChosen place) = IsTooManyAt text place
+Explains text other = ⊥
+
+pub same_fault : (f other : PatternFault) → ◌≡◌ {A = Elements} (Err f) (Err other) → f ≡ other
+same_fault f other e = cc
+
+pub no_fault : (es : List Element) (f : PatternFault) → ◌≡◌ {A = Elements} (Ok es) (Err f) → ⊥
+no_fault es f e = cc
+
+pub explained : (text : List ℕ) (g f : PatternFault) → ◌≡◌ {A = Elements} (Err g) (Err f) → Explains text g → Explains text f
+explained text g f e is = subst (Explains text) (same_fault g f e) is
+
+-- a choice by a test
+pub on_if : {A : Type 0} (b : Bool) (x y z : A) → cond b x y ≡ z → ((b ≡ true) × (x ≡ z)) ⊎ ((b ≡ false) × (y ≡ z))
+on_if true x y z h = inl (refl, h)
+on_if false x y z h = inr (refl, h)
+
+pub before-err : (e : Element) (read : Elements) (f : PatternFault) → before (Ok e) read ≡ Err f → read ≡ Err f
+before-err e (Ok later) f h = cc
+before-err e (Err other) f h = h
+
+pub few_of : (n size : ℕ) → (nat_lt 0 size && nat_le n size) ≡ false → (size ≡ 0) ⊎ (size < n)
+few_of n size wrong = elim (cases_Bool (nat_lt 0 size)) [
+  | inl some ↦ inr (grind (arith, nat_tests, some, wrong))
+  | inr empty ↦ inl (grind (arith, nat_tests, empty))
+]
+
+-- a choice is wrong, or what follows has the fault
+pub choice-err : (start set n : ℕ) (read : Elements) (f : PatternFault) → before (choice start set n) read ≡ Err f
+    → (((length (pieces_in set) ≡ 0) ⊎ (length (pieces_in set) < n)) × (◌≡◌ {A = Elements} (Err (TooManyChosen start)) (Err f)))
+    ⊎ ((0 < length (pieces_in set)) × (n ≤ length (pieces_in set)) × (read ≡ Err f))
+unfolding choice
+choice-err start set n read f h =
+    let size = length (pieces_in set) in
+    let made : Bool → Elements = λ b. before (cond b (Ok (record { set = set; chosen = n })) (Err (TooManyChosen start))) read in
+    elim (cases_Bool (nat_lt 0 size && nat_le n size)) [
+      | inl fits ↦
+          let parts = and_parts (nat_lt 0 size) (nat_le n size) fits in
+          inr (ltb-true 0 size parts.0, leb-true n size parts.1, before-err (record { set = set; chosen = n }) read f (sym (ap made fits) ∙ h))
+      | inr wrong ↦ inl (few_of n size wrong, sym (ap made wrong) ∙ h)
+    ]
