@@ -5,4 +5,3 @@ pub mod LeastKeyWord
 pub mod Marks
 pub mod Search
 pub mod Known
-pub mod FreePivots

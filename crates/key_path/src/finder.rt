@@ -69,7 +69,8 @@ impl Finder {
         self.named_word(well, rules, target, drop_mode)
     }
 
-    /// What `find` finds under the offsets of the Super Rotation System, for a caller who knows that these are the rules.
+    /// What `find` finds under the offsets of the Super Rotation System, for a caller who knows that these are the
+    /// rules.
     #[tactic(auto, using(crate::proofs::KeyWordLemmas::is_key_word))]
     pub fn find_by_srs(
         &mut self,
@@ -181,7 +182,8 @@ impl Finder {
         requires trying { IsTrying (table_of rules.now)
             (filled states.now.well) drop_mode aim.now marks.old.marks self.old.waiting.items state.now 0 }
         ensures { MatchOption result
-            (IsFinding (table_of rules.now) (filled states.now.well) drop_mode aim.now marks.new.marks self.new.waiting.items
+            (IsFinding (table_of rules.now) (filled states.now.well) drop_mode aim.now marks.new.marks
+            self.new.waiting.items
             × (count_by is_unseen marks.new.marks + length self.new.waiting.items
             ≡ count_by is_unseen marks.old.marks + length self.old.waiting.items))
             (λ reached. IsPivot reached × IsReached (table_of rules.now)

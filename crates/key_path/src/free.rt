@@ -1,9 +1,7 @@
 // The states that a well leaves free, at hand as boards, and keys that nothing hinders.
-ghost use Rattle.std.specs.Prelude.{◌≡◌, ◌≤◌, ◌<◌, ◌⊎◌, IfSome, IsTrue, true, pos, neg_ℤ, List, ◌∷◌};
-ghost use Rattle.std.specs.List.{list_all};
+ghost use Rattle.std.specs.Prelude.{◌≡◌, ◌≤◌, ◌<◌, ◌⊎◌, IfSome, IsTrue, true, pos, List, ◌∷◌};
 ghost use Rattle.lane_board.specs.Board.{field_of};
-ghost use Rattle.lane_board.specs.Field.{moved_within};
-ghost use Rattle.srs.specs.Cells.{Cell, is_near, moved, pivot_of, shape};
+ghost use Rattle.srs.specs.Cells.{Cell, moved, pivot_of};
 ghost use Rattle.srs.specs.Kick.{pair_of};
 ghost use Rattle.srs.specs.declared.rotation.Rotation.TheVariants.{Spawn, Right, Reverse, Left};
 ghost use Rattle.srs.specs.Rotation.{clockwise_of, anticlockwise_of};
@@ -12,11 +10,12 @@ ghost use Rattle.well.specs.Free.{is_free, is_free_at};
 ghost use Rattle.well.specs.Well.{filled};
 ghost use Rattle.moves.specs.States.{IsPivot};
 ghost use Rattle.moves.specs.Step.{IsShort, first_free, step_of, turned};
-ghost use Rattle.key_path.specs.FreePivots.{AreFreePivots, with_blank};
+ghost use Rattle.reach.specs.FreePivots.{AreFreePivots};
 
 use lane_board::LaneBoard;
 use moves::{Key, step};
-use srs::{Offset, Piece, Placement, Rotation, Rules, cells, kick};
+use reach::free_pivots;
+use srs::{Offset, Piece, Placement, Rotation, Rules, kick};
 use well::Well;
 
 /// A well, and boards of the pivots at which it leaves a piece free, one for each rotation.
@@ -43,10 +42,10 @@ impl FreeStates {
         FreeStates {
             well: *well,
             piece,
-            spawn: free_pivots(well, piece, Rotation::Spawn),
-            right: free_pivots(well, piece, Rotation::Right),
-            reverse: free_pivots(well, piece, Rotation::Reverse),
-            left: free_pivots(well, piece, Rotation::Left),
+            spawn: pivots_in(well, piece, Rotation::Spawn),
+            right: pivots_in(well, piece, Rotation::Right),
+            reverse: pivots_in(well, piece, Rotation::Reverse),
+            left: pivots_in(well, piece, Rotation::Left),
         }
     }
 
@@ -138,44 +137,9 @@ impl FreeStates {
     }
 }
 
-/// Pivots at which a well leaves a piece free in a rotation.
-fn free_pivots(well: &Well, piece: Piece, rotation: Rotation) -> LaneBoard<24>
+/// The pivots at which a well leaves a piece free in a rotation.
+fn pivots_in(well: &Well, piece: Piece, rotation: Rotation) -> LaneBoard<24>
     ensures { AreFreePivots (filled well.now) piece rotation (field_of result) }
 {
-    let blank = LaneBoard::rows_below(23).minus(&well.board());
-    pivots_on(&blank, piece, rotation)
-}
-
-/// The pivots at which all cells of the piece are blank.
-#[tactic(auto, unfolding(crate::specs::FreePivots::with_blank))]
-fn pivots_on(blank: &LaneBoard<24>, piece: Piece, rotation: Rotation) -> LaneBoard<24>
-    ensures { field_of result ≡ with_blank (field_of blank.now) (shape piece rotation) (field_of blank.now) }
-{
-    let [a, b, c, d] = offsets(piece, rotation);
-    let first = blank.and(&blank_at(blank, a));
-    let second = first.and(&blank_at(blank, b));
-    let third = second.and(&blank_at(blank, c));
-    third.and(&blank_at(blank, d))
-}
-
-/// The offsets of the four cells of a piece from its pivot.
-fn offsets(piece: Piece, rotation: Rotation) -> [(i8, i8); 4]
-    ensures shape { result ≡ shape piece rotation }
-    ensures near { IsTrue (list_all is_near result) }
-{
-    cells(&Placement {
-        piece,
-        rotation,
-        x: 0,
-        y: 0,
-    })
-}
-
-/// The pivots from which the offset leads to a blank cell.
-#[inline(always)]
-fn blank_at(blank: &LaneBoard<24>, offset: (i8, i8)) -> LaneBoard<24>
-    requires { IsTrue (is_near offset) }
-    ensures { field_of result ≡ moved_within (field_of blank.now) 24 (neg_ℤ offset.0) (neg_ℤ offset.1) }
-{
-    blank.moved(0 - offset.0, 0 - offset.1)
+    free_pivots(&well.board(), piece, rotation)
 }

@@ -10,7 +10,7 @@ use Rattle.srs.specs.declared.piece.Piece.TheVariants.{I}
 use Rattle.srs.specs.declared.placement.Placement.{Placement}
 use Rattle.reach.specs.States.{States, has_state, states_with}
 use Rattle.reach.specs.Folded.{no_states}
-use Rattle.reach.specs.Flood.{Ground, Includes, AreReached, IsCovered, IsSettled, IsFlood}
+use Rattle.reach.specs.Flood.{Ground, Includes, AreReached, IsLeftWithin, IsSettled, IsFlood}
 use Rattle.reach.proofs.FieldLemmas.{LiesWithin, IsWithin, cell_count-more, fields-same}
 use Rattle.reach.proofs.StateSets.{state_of, with_cases, ChangedIn, includes_trans}
 use Rattle.reach.proofs.ReachedLemmas.{none_more, closed_has}
@@ -20,7 +20,7 @@ pub record Progress (ground : Ground) (start done reached : States) : Type 0 whe
   pub kept : Includes reached start
   pub sound : AreReached ground start reached
   pub behind : Includes reached done
-  pub covered : (s : Placement) → s.piece ≡ ground.piece → has_state done s ≡ true → IsCovered ground reached s
+  pub covered : (s : Placement) → s.piece ≡ ground.piece → has_state done s ≡ true → IsLeftWithin ground reached s
 
 pub begins : (ground : Ground) (start : States) → Progress ground start no_states start
 unfolding has_state empty_field
@@ -47,7 +47,7 @@ goes_on ground r start done reached next before is = record {
     behind s (inl changed) = in_next s changed
     behind s (inr old) = is.kept.has s (before.behind.has s old)
 
-    covered : (s : Placement) → s.piece ≡ ground.piece → ChangedIn done r (next r) s ⊎ (has_state done s ≡ true) → IsCovered ground next s
+    covered : (s : Placement) → s.piece ≡ ground.piece → ChangedIn done r (next r) s ⊎ (has_state done s ≡ true) → IsLeftWithin ground next s
     covered s kind (inl changed) = is.covers s kind changed.here (in_next s changed)
     covered s kind (inr old) = record { covered = λ key t allowed e. is.kept.has t ((before.covered s kind old).covered key t allowed e) }
 

@@ -4,8 +4,7 @@ use Rattle.lane_board.specs.Field.{Field, union}
 use Rattle.srs.specs.declared.piece.Piece.{Piece}
 use Rattle.srs.specs.declared.rotation.Rotation.{Rotation}
 use Rattle.srs.specs.Cells.{Cell}
-use Rattle.srs.specs.Kick.{Table, kick_in}
-use Rattle.sky.specs.Kicks.{kicks_of}
+use Rattle.srs.specs.Kick.{Table, kick_in, kicks_of}
 use Rattle.reach.specs.Kicks.{kicked_to, left_by, turned_from}
 
 -- the tests that are left begin with the one that is due

@@ -10,7 +10,7 @@ use Rattle.srs.specs.declared.rotation.Rotation.{Rotation}
 use Rattle.srs.specs.declared.placement.Placement.{Placement}
 use Rattle.srs.specs.Cells.{Cell, minus, moved, shape, pivot_of}
 use Rattle.srs.specs.Canonical.{canonical_rotation, canonical_move}
-use Rattle.srs.specs.Kick.{srs_table}
+use Rattle.srs.specs.Kick.{srs_table, kicks_of}
 use Rattle.srs.proofs.CallerLemmas.{canonical_pivot, found_cells, same_cells-sym}
 use Rattle.well.proofs.CallerLemmas.{free_inside}
 use Rattle.srs.specs.Rotation.{clockwise_of, anticlockwise_of}
@@ -20,7 +20,6 @@ use Rattle.moves.specs.declared.key.Key.TheVariants.{Left, Right, Down, Clockwis
 use Rattle.moves.specs.declared.key.DropMode.TheVariants.{Soft}
 use Rattle.moves.specs.Step.{first_free, shifted, turned, step_of}
 use Rattle.moves.proofs.CallerLemmas.{step_of-free}
-use Rattle.sky.specs.Kicks.{kicks_of}
 use Rattle.reach.specs.Shifts.{sideways, lower}
 use Rattle.reach.proofs.FieldLemmas.{LiesWithin}
 use Rattle.reach.proofs.MovedCells.{moved_to}

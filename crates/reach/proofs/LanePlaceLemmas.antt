@@ -18,7 +18,7 @@ use Rattle.sky.specs.Rests.{IsResting, IsRestWhere}
 use Rattle.sky.specs.Lanes.{lowest, lane}
 use Rattle.sky.proofs.CallerLemmas.{hard_places, lowest_near, near, rest_lane, sky_free}
 use Rattle.reach.specs.LaneMap.{free_lanes, resting_lanes}
-use Rattle.reach.specs.LanePlaces.{raised, has_own_cells, hard_board}
+use Rattle.reach.specs.LanePlaces.{lane_pivots, has_own_cells, hard_board}
 use Rattle.reach.specs.SkyBoard.{IsLaneMap, inside_lanes, sky_board}
 use Rattle.reach.proofs.ClassLemmas.{rests_same, sky_same}
 use Rattle.reach.proofs.FieldLemmas.{LiesWithin}
@@ -33,9 +33,9 @@ pub record HasPlace (S : Field) (s : Placement) : Type 0 where
   pub at : lane s ≡ pos y
   pub held : S s.x y ≡ true
 
-pub raised-from : (S : Field) (q : Placement) → raised q.piece q.rotation S q.x q.y ≡ true → HasPlace S q
-unfolding raised intersection moved
-raised-from S q filled =
+pub lane_pivots-from : (S : Field) (q : Placement) → lane_pivots q.piece q.rotation S q.x q.y ≡ true → HasPlace S q
+unfolding lane_pivots intersection moved
+lane_pivots-from S q filled =
     let up = neg_ℤ (lowest (shape q.piece q.rotation)) in
     let way = moved_from (intersection S (rows_below 24)) 24 (pos 0, up) q.x q.y filled in
     let p : pos way.from_x +ℤ pos 0 ≡ pos q.x = ap (λ (c : Cell). c.0) way.there in
@@ -44,9 +44,9 @@ raised-from S q filled =
     let held = (and_parts (S way.from_x way.from_y) (rows_below 24 way.from_x way.from_y) way.filled).0 in
     record { y = way.from_y; at = omega (arith, ints); held = subst (λ (x : ℕ). S x way.from_y ≡ true) column held }
 
-pub raised-to : (S : Field) (N : ℕ) (q : Placement) → N ≤ 16 → LiesWithin S N → HasPlace S q → raised q.piece q.rotation S q.x q.y ≡ true
-unfolding raised intersection moved
-raised-to S N q few lies here =
+pub lane_pivots-to : (S : Field) (N : ℕ) (q : Placement) → N ≤ 16 → LiesWithin S N → HasPlace S q → lane_pivots q.piece q.rotation S q.x q.y ≡ true
+unfolding lane_pivots intersection moved
+lane_pivots-to S N q few lies here =
     let up = neg_ℤ (lowest (shape q.piece q.rotation)) in
     let place = lies.inside q.x here.y here.held in
     let at = here.at in
@@ -106,7 +106,7 @@ module _ (F : Field) (r N : ℕ) (clear : IsClearFrom r F) (over : r + 2 ≤ N) 
           subst (λ (y : ℕ). is_free F (record { piece = q.piece; rotation = q.rotation; x = q.x; y = y }) ≡ true) none (sky_free F q under 0 (omega (arith, ints, by.low)))
 
   abbrev board : Field
-  board = raised q.piece q.rotation (resting_lanes N free sky)
+  board = lane_pivots q.piece q.rotation (resting_lanes N free sky)
 
   pub hard_held : (hard_board q.piece N F q.rotation q.x q.y ≡ true) ↔ IsPlace srs_table F Hard q
   unfolding hard_board empty_field free sky
@@ -118,7 +118,7 @@ module _ (F : Field) (r N : ℕ) (clear : IsClearFrom r F) (over : r + 2 ≤ N) 
       there : hard_board q.piece N F q.rotation q.x q.y ≡ true → IsPlace srs_table F Hard q
       there held = elim (cases_Bool (has_own_cells q.piece q.rotation)) [
         | inl own ↦
-            let here = raised-from (resting_lanes N free sky) q (sym (ap (λ (G : Field). G q.x q.y) (cond-true _ board empty_field own)) ∙ held) in
+            let here = lane_pivots-from (resting_lanes N free sky) q (sym (ap (λ (G : Field). G q.x q.y) (cond-true _ board empty_field own)) ∙ held) in
             let place = (resting_within N free sky (sky_within q.piece q.rotation N free)).inside q.x here.y here.held in
             let found = (rests_in_sky here.y here.at place.1).0 here.held in
             law.1 (record { canonical = IsCanonical-from_test q own; state = q; rests = found.0; holds = found.1; same_cells = record { same = λ cell. refl } })
@@ -132,4 +132,4 @@ module _ (F : Field) (r N : ℕ) (clear : IsClearFrom r F) (over : r + 2 ≤ N) 
           let at = at_lane rests in
           let held = (rests_in_sky at.0 at.1 at.2).1 (rests, sky_same F found.state q found.same_cells found.holds) in
           ap (λ (G : Field). G q.x q.y) (cond-true _ board empty_field (is_canonical-from q found.canonical))
-          ∙ raised-to (resting_lanes N free sky) N q few (resting_within N free sky (sky_within q.piece q.rotation N free)) (record { y = at.0; at = at.1; held = held })
+          ∙ lane_pivots-to (resting_lanes N free sky) N q few (resting_within N free sky (sky_within q.piece q.rotation N free)) (record { y = at.0; at = at.1; held = held })

@@ -9,7 +9,7 @@ use Rattle.srs.specs.declared.rotation.Rotation.{Rotation}
 use Rattle.srs.specs.declared.placement.Placement.{Placement}
 use Rattle.srs.specs.Canonical.{canonical_rotation, canonical_move}
 use Rattle.srs.specs.Cells.{Cell, minus, moved, shape, pivot_of}
-use Rattle.srs.specs.Kick.{srs_table}
+use Rattle.srs.specs.Kick.{srs_table, kicks_of}
 use Rattle.srs.proofs.CallerLemmas.{canonical_pivot, found_cells}
 use Rattle.well.specs.Free.{is_free_at, is_free}
 use Rattle.well.proofs.CallerLemmas.{free_inside, free_pivot}
@@ -20,7 +20,6 @@ use Rattle.moves.specs.Leads.{state_after}
 use Rattle.moves.specs.Step.{state_at, first_free, shifted, turned, step_of}
 use Rattle.moves.specs.Walk.{led}
 use Rattle.moves.proofs.CallerLemmas.{step_of-free}
-use Rattle.sky.specs.Kicks.{kicks_of}
 use Rattle.sky.specs.Sky.{IsClearFrom}
 use Rattle.sky.specs.Rests.{IsKeyed}
 use Rattle.sky.specs.Lanes.{lowest, lane}

@@ -15,14 +15,13 @@ use Rattle.srs.specs.declared.placement.Placement.{Placement}
 use Rattle.srs.specs.Cells.{Cell, minus, moved, shape, pivot_of, is_inside_of}
 use Rattle.srs.specs.SameCells.{is_among as cells_have}
 use Rattle.srs.specs.Canonical.{canonical_rotation, canonical_move}
-use Rattle.srs.specs.Kick.{srs_table}
+use Rattle.srs.specs.Kick.{srs_table, kicks_of}
 use Rattle.srs.specs.Rotation.{clockwise_of, anticlockwise_of}
 use Rattle.srs.proofs.CallerLemmas.{LiesAt, in_well-place, inside_cell, is_among-all, each_state}
 use Rattle.well.specs.Free.{is_open, is_free_at}
 use Rattle.well.proofs.CallerLemmas.{open_in_well, free_pivot}
 use Rattle.moves.specs.Step.{state_at, first_free}
 use Rattle.moves.proofs.CallerLemmas.{some_same, not_some}
-use Rattle.sky.specs.Kicks.{kicks_of}
 use Rattle.reach.proofs.FieldLemmas.{LiesWithin}
 use Rattle.reach.proofs.MovedCells.{moved_from, moved_to, MovedFrom}
 use Rattle.sky.specs.Height.{rise, fits_column}

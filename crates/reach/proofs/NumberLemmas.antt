@@ -1,7 +1,7 @@
 -- The numbers of a set, word by word.
-use Rattle.std.proofs.Common.{◌≡◌, ℕ, ◌+◌, ◌-◌, ◌*◌, ◌/◌, ◌%◌, ◌<◌, ◌≤◌, Bool, true, false, not, ◌&&◌, ◌==◌, nat_lt, nat_le, List, length, length-set, set, get_or, Some, refl, sym, ap, subst, ◌∙◌, inl, inr, arith, get_or-set_other, get_or-set_same, ◌≢◌}
+use Rattle.std.proofs.Common.{◌≡◌, ℕ, zero, suc, ◌+◌, ◌-◌, ◌*◌, ◌/◌, ◌%◌, ◌<◌, ◌≤◌, Bool, true, false, not, ◌&&◌, ◌==◌, nat_lt, nat_le, List, length, length-set, set, get_or, Option, Some, None, refl, sym, ap, subst, ◌∙◌, inl, inr, arith, get_or-set_other, get_or-set_same, ◌≢◌}
 use Rattle.std.proofs.Math.Path.{fun_ext}
-use Rattle.std.proofs.lemmas.Bool.{cases_lt, cases_eq, and_parts, and_from, leb-true, le-leb, lt-ltb, ltb-true, eq-eqb, ne_eqb, both_ways}
+use Rattle.std.proofs.lemmas.Bool.{cases_lt, cases_eq, and_parts, and_from, leb-true, le-leb, lt-ltb, le-ltb, ltb-true, eq-eqb, ne_eqb, both_ways}
 use Rattle.lane_board.specs.Lanes.{has_bit}
 use Rattle.lane_board.proofs.CallerLemmas.{same_from_both, has_bit-zero}
 use Rattle.srs.specs.declared.rotation.Rotation.{Rotation}
@@ -9,7 +9,7 @@ use Rattle.srs.specs.Rotation.{rotation_place}
 use Rattle.srs.proofs.CallerLemmas.{rotation_place-injective}
 use Rattle.reach.specs.declared.numbers.Numbers.{Numbers}
 use Rattle.reach.specs.FourRows.{IsFourRows}
-use Rattle.reach.specs.Numbers.{has_number, number_at, is_number, states_in, IsFirstNumber, NoNumber}
+use Rattle.reach.specs.Numbers.{has_number, number_at, is_number, states_in, IsFirstNumber, NoNumber, IsNumberFrom}
 use Rattle.reach.specs.States.{States}
 use Rattle.reach.proofs.FieldLemmas.{LiesWithin}
 
@@ -58,6 +58,37 @@ module _ (numbers : Numbers) (from at word : ℕ) (is : IsWordFrom numbers from 
           ]
         ];
       }
+
+-- all bits of a word, from that of an earlier one on
+pub word_whole : (numbers : Numbers) (start at : ℕ) → start ≤ at → IsWordFrom numbers (64 * start) at (get_or numbers.words at 0)
+word_whole numbers start at after = record { bits = λ k within. ap (λ b. b && has_bit (get_or numbers.words at 0) k) {x = true} (sym (le-leb (64 * start - 64 * at) k (omega arith))) }
+
+-- the bits of the word of a number
+pub word_at : (numbers : Numbers) (from at word : ℕ) → at ≡ from / 64 → ((k : ℕ) → k < 64 → has_bit word k ≡ (nat_le (from % 64) k && has_bit (get_or numbers.words at 0) k)) → IsWordFrom numbers from at word
+word_at numbers from at word is bits =
+    let low : from % 64 ≡ from - 64 * at = omega (arith, is) in
+    record { bits = λ k within. bits k within ∙ ap (λ low. nat_le low k && has_bit (get_or numbers.words at 0) k) low }
+
+pub none_before : (numbers : Numbers) (from at : ℕ) → at ≡ from / 64 → (m : ℕ) → from ≤ m → m < 64 * at → has_number numbers m ≡ true → ⊥
+none_before numbers from at is m after within has = absurd (omega (arith, is, after, within))
+
+-- where none lies before a later number, the least one from there on is the least one
+pub number_later : (numbers : Numbers) (from later : ℕ) (n : Option ℕ) → ((m : ℕ) → from ≤ m → m < later → has_number numbers m ≡ true → ⊥) → from ≤ later → IsNumberFrom numbers later n → IsNumberFrom numbers from n
+number_later numbers from later None none after is = record {
+  none = λ m few from_there has. elim (cases_lt m later) [
+    | inl before ↦ none m from_there before has
+    | inr beyond ↦ is.none m few beyond has
+  ];
+}
+number_later numbers from later (Some n) none after is = record {
+  has = is.has;
+  small = is.small;
+  after = omega (arith, is.after, after);
+  first = λ m few from_there has. elim (cases_lt m later) [
+    | inl before ↦ absurd (none m from_there before has)
+    | inr beyond ↦ is.first m few beyond has
+  ];
+}
 
 -- the least number of all is in the first word that has a bit
 module _ (numbers : Numbers) (at : ℕ) (before : (w : ℕ) → w < at → get_or numbers.words w 0 ≡ 0) where
@@ -172,6 +203,15 @@ four_more P words at a b c d size small before is_a is_b is_c is_d w below withi
     three : length (set (set (set words at a) (at + 6) b) (at + 12) c) ≡ 24
     three = length-set (set (set words at a) (at + 6) b) (at + 12) c ∙ two
 
+-- the words of later rows stay
+pub four_later : (words : List ℕ) (at a b c d w : ℕ) → at + 1 ≤ w % 6 → get_or (four_set words at a b c d) w 0 ≡ get_or words w 0
+four_later words at a b c d w later =
+    let n1 : w ≢ at = omega (arith, later) in
+    let n2 : w ≢ at + 6 = omega (arith, later) in
+    let n3 : w ≢ at + 12 = omega (arith, later) in
+    let n4 : w ≢ at + 18 = omega (arith, later) in
+    rw (get_or-set_other, get_or-set_other, get_or-set_other, get_or-set_other) refl
+
 -- the word has the four rows of its rotation
 abbrev pub HasRows : States → ℕ → ℕ → Type 0
 HasRows S w word = (r : Rotation) → rotation_place r ≡ w / 6 → IsFourRows (S r) (4 * (w % 6)) word
@@ -191,6 +231,23 @@ keeps_here old rows w at place word is small bits k within =
     let turn : place ≡ w / 6 = omega arith in
     let row : at ≡ w % 6 = omega arith in
     bits k within ∙ (λ i. has_bit (get_or old.words w 0) k && nat_lt k (16 * (get_or rows (turn i) 0 - 4 * row i)))
+
+pub under_all : (rows : List ℕ) (top : ℕ) → get_or rows 0 0 ≤ top → get_or rows 1 0 ≤ top → get_or rows 2 0 ≤ top → get_or rows 3 0 ≤ top → (place : ℕ) → place < 4 → get_or rows place 0 ≤ top
+under_all rows top a b c d zero few = a
+under_all rows top a b c d (suc zero) few = b
+under_all rows top a b c d (suc (suc zero)) few = c
+under_all rows top a b c d (suc (suc (suc zero))) few = d
+under_all rows top a b c d (suc (suc (suc (suc place)))) few = absurd (omega arith)
+
+-- no row that is kept is in a later word
+pub keeps_none : (old : Numbers) (rows : List ℕ) (w word : ℕ) → word ≡ 0 → get_or rows (w / 6) 0 ≤ 4 * (w % 6) → KeepsRows old rows w word
+keeps_none old rows w word none low k within =
+    let nothing : get_or rows (w / 6) 0 - 4 * (w % 6) ≡ 0 = omega (arith, low) in
+    ap (λ word. has_bit word k) none ∙ has_bit-zero k ∙ and_none (has_bit (get_or old.words w 0) k) ∙ ap (λ left. has_bit (get_or old.words w 0) k && nat_lt k (16 * left)) (sym nothing)
+  where
+    and_none : (b : Bool) → false ≡ (b && nat_lt k 0)
+    and_none true = sym (le-ltb k 0 (omega arith))
+    and_none false = refl
 
 pub keeps_rows : (old new : Numbers) (rows : List ℕ) → ((w : ℕ) → w < 24 → KeepsRows old rows w (get_or new.words w 0)) → (place y x : ℕ) → place < 4 → y < 24 → x < 16 → has_number new (number_at place y x) ≡ (has_number old (number_at place y x) && nat_lt y (get_or rows place 0))
 unfolding has_number

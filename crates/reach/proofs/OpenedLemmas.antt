@@ -13,6 +13,7 @@ use Rattle.srs.proofs.CallerLemmas.{LiesAt}
 use Rattle.well.specs.Free.{is_open, is_free_at}
 use Rattle.well.proofs.CallerLemmas.{free_pivot, free_pivot_open}
 use Rattle.reach.specs.States.{States, has_pivot}
+use Rattle.reach.specs.FreePivots.{AreFreePivots}
 use Rattle.reach.specs.Opened.{opened, opened_at, IsFreeMap}
 use Rattle.reach.proofs.MovedCells.{moved_from, moved_to, moved_back, moved_forth, same_column, same_row}
 use Rattle.reach.proofs.StateSets.{PivotAt}
@@ -70,39 +71,45 @@ module _ (F : Field) where
       (and_from _ _ held (moved_to blank N (neg_ℤ offset.0, neg_ℤ offset.1) at.x at.y x y at.filled (moved_back x y at.x at.y offset at.is) column row))
       column row parts.1
 
-  free_exact : (piece : Piece) (free : States) (r : Rotation) → free r ≡ opened_at blank 24 (shape piece r) blank → (pivot : Cell) → is_free_at F piece r pivot ≡ has_pivot free r pivot
-  unfolding has_pivot has_cell is_free_at
-  free_exact piece free r e (pos x, pos y) = same_from_both _ _ there back
+  free_exact : (piece : Piece) (r : Rotation) (G : Field) → G ≡ opened_at blank 24 (shape piece r) blank → (pivot : Cell) → is_free_at F piece r pivot ≡ has_cell G pivot.0 pivot.1
+  unfolding has_cell is_free_at
+  free_exact piece r G e (pos x, pos y) = same_from_both _ _ there back
     where
-      back : free r x y ≡ true → list_all (is_open F) (map (moved (pos x, pos y)) (shape piece r)) ≡ true
+      back : G x y ≡ true → list_all (is_open F) (map (moved (pos x, pos y)) (shape piece r)) ≡ true
       back held = (all_open 24 (shape piece r) blank x y (sym (ap (λ (G : Field). G x y) e) ∙ held)).1
 
-      there : is_free_at F piece r (pos x, pos y) ≡ true → free r x y ≡ true
+      there : is_free_at F piece r (pos x, pos y) ≡ true → G x y ≡ true
       there free_here =
           let at = blank_from_open (pos x, pos y) (free_pivot_open F piece r (pos x, pos y) free_here) in
           let filled = subst (λ x. blank x at.y ≡ true) (sym (same_column x y at.x at.y at.is)) at.filled in
           let here = subst (λ y. blank x y ≡ true) (sym (same_row x y at.x at.y at.is)) filled in
           let inside = blank_inside x y here in
           ap (λ (G : Field). G x y) e ∙ opens_all 24 (shape piece r) blank x y here inside.0 inside.1 free_here
-  free_exact piece free r e (pos x, negsuc y) = false_from_ne_true _ (λ free_here. not_there (free_pivot F piece r (pos x, negsuc y) free_here))
+  free_exact piece r G e (pos x, negsuc y) = false_from_ne_true _ (λ free_here. not_there (free_pivot F piece r (pos x, negsuc y) free_here))
     where
       not_there : LiesAt (pos x, negsuc y) → ⊥
       not_there lies = let e : negsuc y ≡ pos lies.y = ap (λ (c : Cell). c.1) lies.is in cc
-  free_exact piece free r e (negsuc x, pos y) = false_from_ne_true _ (λ free_here. not_there (free_pivot F piece r (negsuc x, pos y) free_here))
+  free_exact piece r G e (negsuc x, pos y) = false_from_ne_true _ (λ free_here. not_there (free_pivot F piece r (negsuc x, pos y) free_here))
     where
       not_there : LiesAt (negsuc x, pos y) → ⊥
       not_there lies = let e : negsuc x ≡ pos lies.x = ap (λ (c : Cell). c.0) lies.is in cc
-  free_exact piece free r e (negsuc x, negsuc y) = false_from_ne_true _ (λ free_here. not_there (free_pivot F piece r (negsuc x, negsuc y) free_here))
+  free_exact piece r G e (negsuc x, negsuc y) = false_from_ne_true _ (λ free_here. not_there (free_pivot F piece r (negsuc x, negsuc y) free_here))
     where
       not_there : LiesAt (negsuc x, negsuc y) → ⊥
       not_there lies = let e : negsuc x ≡ pos lies.x = ap (λ (c : Cell). c.0) lies.is in cc
 
--- four boards made so hold the free states
-pub free_map : (F B : Field) (piece : Piece) (free : States) → B ≡ difference (rows_below 23) F →
-    free Spawn ≡ opened_at B 24 (shape piece Spawn) B → free Right ≡ opened_at B 24 (shape piece Right) B → free Reverse ≡ opened_at B 24 (shape piece Reverse) B → free Left ≡ opened_at B 24 (shape piece Left) B → IsFreeMap F piece free
-free_map F B piece free is a b c d = record { exact = λ r. free_exact F piece free r (each r ∙ ap (λ (B : Field). opened_at B 24 (shape piece r) B) is) }
+-- a board made so holds the free pivots
+pub free_pivots-exact : (F B : Field) (piece : Piece) (r : Rotation) (G : Field) → B ≡ difference (rows_below 23) F → G ≡ opened_at B 24 (shape piece r) B → AreFreePivots F piece r G
+free_pivots-exact F B piece r G is made =
+    record { exact = free_exact F piece r G (made ∙ ap (λ (B : Field). opened_at B 24 (shape piece r) B) is) }
+
+-- four such boards hold the free states
+pub free_map : (F : Field) (piece : Piece) (free : States) →
+    AreFreePivots F piece Spawn (free Spawn) → AreFreePivots F piece Right (free Right) → AreFreePivots F piece Reverse (free Reverse) → AreFreePivots F piece Left (free Left) → IsFreeMap F piece free
+unfolding has_pivot
+free_map F piece free a b c d = record { exact = λ r. (each r).exact }
   where
-    each : (r : Rotation) → free r ≡ opened_at B 24 (shape piece r) B
+    each : (r : Rotation) → AreFreePivots F piece r (free r)
     each Spawn = a
     each Right = b
     each Reverse = c

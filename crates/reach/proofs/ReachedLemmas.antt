@@ -18,7 +18,7 @@ use Rattle.moves.specs.Step.{state_at}
 use Rattle.moves.specs.Walk.{led}
 use Rattle.moves.proofs.CallerLemmas.{some_same, not_some, led_none}
 use Rattle.reach.specs.States.{States, has_state, has_pivot, states_with}
-use Rattle.reach.specs.Flood.{Ground, IsReached, AreReached, IsCovered, first_in, shifted_in, turned_in, step_in}
+use Rattle.reach.specs.Flood.{Ground, IsReached, AreReached, IsLeftWithin, first_in, shifted_in, turned_in, step_in}
 use Rattle.reach.proofs.StateSets.{state_of, ChangedIn, with_cases, pivot_at, PivotAt}
 
 -- one more key
@@ -90,7 +90,7 @@ step_in-kind table free s Anti t e = (first_in-lands free s.piece _ _ t e).kind
 
 -- each state of the set leads into the set
 pub record IsClosed (ground : Ground) (S : States) : Type 0 where
-  pub closed : (s : Placement) → s.piece ≡ ground.piece → has_state S s ≡ true → IsCovered ground S s
+  pub closed : (s : Placement) → s.piece ≡ ground.piece → has_state S s ≡ true → IsLeftWithin ground S s
 
 -- keys lead from a closed set nowhere else
 pub stays_in : (ground : Ground) (S : States) → IsClosed ground S → (keys : List Key) (s t : Placement) → s.piece ≡ ground.piece → has_state S s ≡ true → All (λ key. IsTrue (allows ground.mode key)) keys → led (step_in ground.table ground.free) (Some s) keys ≡ Some t → has_state S t ≡ true

@@ -9,7 +9,7 @@ use Rattle.srs.specs.declared.rotation.Rotation.TheVariants as Turn
 use Rattle.srs.specs.declared.placement.Placement.{Placement}
 use Rattle.srs.specs.Cells.{minus}
 use Rattle.srs.specs.Rotation.{rotation_place, clockwise_of, anticlockwise_of}
-use Rattle.srs.specs.Kick.{Table}
+use Rattle.srs.specs.Kick.{Table, kicks_of}
 use Rattle.moves.specs.declared.key.Key.{Key}
 use Rattle.moves.specs.declared.key.Key.TheVariants.{Left, Right, Down, Clockwise, Anti}
 use Rattle.moves.specs.declared.key.DropMode.{DropMode}
@@ -18,7 +18,6 @@ use Rattle.moves.specs.Keys.{allows}
 use Rattle.reach.specs.declared.spread.Shifts.{Shifts}
 use Rattle.reach.specs.States.{States, has_state, states_with}
 use Rattle.reach.specs.Shifts.{IsSpread, shifts_in}
-use Rattle.sky.specs.Kicks.{kicks_of}
 use Rattle.reach.specs.Kicks.{turned_from}
 use Rattle.reach.specs.Flood.{Ground, Includes, IsReached, AreReached, IsSettled, turned_in, step_in}
 use Rattle.reach.proofs.FieldLemmas.{LiesWithin}

@@ -12,7 +12,7 @@ use Rattle.srs.specs.declared.rotation.Rotation.TheVariants.{Spawn, Right, Rever
 use Rattle.srs.specs.declared.placement.Placement.{Placement}
 use Rattle.srs.specs.Canonical.{IsCanonical, canonical_rotation, canonical_move}
 use Rattle.srs.specs.Cells.{Cell, moved, shape, pivot_of}
-use Rattle.srs.specs.Kick.{srs_table}
+use Rattle.srs.specs.Kick.{srs_table, kicks_of}
 use Rattle.srs.specs.Rotation.{rotation_place, clockwise_of, anticlockwise_of}
 use Rattle.srs.specs.SameCells.{HasSameCells}
 use Rattle.srs.proofs.CallerLemmas.{IsCanonical-from_test, is_canonical-from, canonical_pivot, canonical_unique, found_cells, found_canonical, same_cells-piece, same_cells-sym, same_cells-trans, rotation_place-injective, each_state}
@@ -22,13 +22,12 @@ use Rattle.moves.specs.declared.key.Key.TheVariants.{Clockwise, Anti}
 use Rattle.moves.specs.declared.key.DropMode.TheVariants.{Soft}
 use Rattle.moves.specs.Place.{IsPlace}
 use Rattle.moves.specs.Step.{turned}
-use Rattle.sky.specs.Kicks.{kicks_of}
 use Rattle.sky.specs.Sky.{IsClearFrom}
 use Rattle.sky.specs.Rests.{IsResting, IsKeyed}
 use Rattle.sky.specs.Lanes.{lowest, lane}
 use Rattle.sky.proofs.CallerLemmas.{soft_places, rest_lane, keyed_in}
 use Rattle.reach.specs.LaneFlood.{Lanes, IsInLanes, IsLanesClosed}
-use Rattle.reach.specs.LanePlaces.{raised, has_own_cells}
+use Rattle.reach.specs.LanePlaces.{lane_pivots, has_own_cells}
 use Rattle.reach.specs.LaneTurns.{arrivals}
 use Rattle.reach.specs.PlaceSets.{ArePlaces}
 use Rattle.reach.specs.SkyBoard.{IsLaneMap}
@@ -38,7 +37,7 @@ use Rattle.reach.proofs.ClassLemmas.{class_lane, rests_same}
 use Rattle.reach.proofs.FieldLemmas.{LiesWithin}
 use Rattle.reach.proofs.LaneClosed.{lanes_flood}
 use Rattle.reach.proofs.LaneMaps.{free_lanes-exact, resting_lanes-exact, free_here}
-use Rattle.reach.proofs.LanePlaceLemmas.{raised-from, raised-to, free_within, resting_within}
+use Rattle.reach.proofs.LanePlaceLemmas.{lane_pivots-from, lane_pivots-to, free_within, resting_within}
 use Rattle.reach.proofs.LaneSound.{IsAt, IsSoundBoard, state_at_place, spread_sound, union_sound, sky_sound, arrivals_sound}
 use Rattle.reach.proofs.LaneTurns.{free_lane, clockwise_low, anti_low, is_low_move}
 use Rattle.reach.proofs.SoftLemmas.{begun_grows, round_closes, sky_is_free, IsPlaceOf, places_of-from, places_of-has, in_rotation}
@@ -159,16 +158,16 @@ module _ (F : Field) (rows N : ℕ) (clear : IsClearFrom rows F) (over : rows + 
     free_q own y at below q_free = free_here F N q y at below (free q.rotation) (map_q own) ∙ q_free
 
     abbrev board : Field
-    board = raised piece q.rotation (intersection (rests_in N free q.rotation) (places_of piece S q.rotation))
+    board = lane_pivots piece q.rotation (intersection (rests_in N free q.rotation) (places_of piece S q.rotation))
 
     there : soft_board piece N free S q.rotation q.x q.y ≡ true → IsPlace srs_table F Soft q
     unfolding soft_board empty_field intersection moved
     there held = elim (cases_Bool (has_own_cells piece q.rotation)) [
       | inr other ↦ absurd (false≢true (sym (ap (λ (G : Field). G q.x q.y) (cond-false _ board empty_field other)) ∙ held))
       | inl own ↦
-          let on_board : raised q.piece q.rotation (intersection (rests_in N free q.rotation) (places_of piece S q.rotation)) q.x q.y ≡ true =
-          ap (λ (p : Piece). raised p q.rotation (intersection (rests_in N free q.rotation) (places_of piece S q.rotation)) q.x q.y) kind ∙ sym (ap (λ (G : Field). G q.x q.y) (cond-true _ board empty_field own)) ∙ held in
-          let here = raised-from (intersection (rests_in N free q.rotation) (places_of piece S q.rotation)) q on_board in
+          let on_board : lane_pivots q.piece q.rotation (intersection (rests_in N free q.rotation) (places_of piece S q.rotation)) q.x q.y ≡ true =
+          ap (λ (p : Piece). lane_pivots p q.rotation (intersection (rests_in N free q.rotation) (places_of piece S q.rotation)) q.x q.y) kind ∙ sym (ap (λ (G : Field). G q.x q.y) (cond-true _ board empty_field own)) ∙ held in
+          let here = lane_pivots-from (intersection (rests_in N free q.rotation) (places_of piece S q.rotation)) q on_board in
           let parts = and_parts (rests_in N free q.rotation q.x here.y) (places_of piece S q.rotation q.x here.y) here.held in
           from_place own here.y here.at (places_of-from piece S q.rotation q.x here.y parts.1) parts.0
     ]
@@ -218,8 +217,8 @@ module _ (F : Field) (rows N : ℕ) (clear : IsClearFrom rows F) (over : rows + 
           inside = λ x y both. (resting_within N (free q.rotation) (free q.rotation) (lies q.rotation)).inside x y (and_parts (rests_in N free q.rotation x y) _ both).0;
         } in
         ap (λ (G : Field). G q.x q.y) (cond-true _ board empty_field own)
-        ∙ ap (λ (p : Piece). raised p q.rotation (intersection (rests_in N free q.rotation) (places_of piece S q.rotation)) q.x q.y) (sym kind)
-        ∙ raised-to (intersection (rests_in N free q.rotation) (places_of piece S q.rotation)) N q few in_lanes (record { y = n.n; at = is_n; held = and_from _ _ rests held })
+        ∙ ap (λ (p : Piece). lane_pivots p q.rotation (intersection (rests_in N free q.rotation) (places_of piece S q.rotation)) q.x q.y) (sym kind)
+        ∙ lane_pivots-to (intersection (rests_in N free q.rotation) (places_of piece S q.rotation)) N q few in_lanes (record { y = n.n; at = is_n; held = and_from _ _ rests held })
       where
         held_there : (s : Placement) → is_free F s ≡ true → HasSameCells s q → IsCanonical q → IsKeyed srs_table F Soft s → (y : ℕ) → lane q ≡ pos y → y < N → rests_in N free q.rotation q.x y ≡ true → has_own_cells piece q.rotation ≡ true → places_of piece S q.rotation q.x y ≡ true
         held_there s s_free same canonical keyed y at below rests own = elim (flood_ends S flood) [

@@ -58,7 +58,7 @@ pub record AreReached (ground : Ground) (start S : States) : Type 0 where
       → IsReached ground start state
 
 -- S has the states to which an allowed key leads from the state
-pub record IsCovered (ground : Ground) (S : States) (state : Placement) : Type 0 where
+pub record IsLeftWithin (ground : Ground) (S : States) (state : Placement) : Type 0 where
   pub covered : (key : Key) (next : Placement) → IsTrue (allows ground.mode key)
       → step_in ground.table ground.free state key ≡ Some next → has_state S next ≡ true
 
@@ -72,7 +72,7 @@ pub record IsSettled (ground : Ground) (rotation : Rotation) (before after : Sta
   pub kept : Includes after before
   pub sound : (start : States) → AreReached ground start before → AreReached ground start after
   pub covers : (state : Placement) → state.piece ≡ ground.piece → state.rotation ≡ rotation → has_state after state
-      ≡ true → IsCovered ground after state
+      ≡ true → IsLeftWithin ground after state
 
 -- the set has the states that are reached, and no others
 pub record IsFlood (ground : Ground) (start result : States) : Type 0 where

@@ -11,8 +11,8 @@ use Rattle.reach.specs.LaneMap.{free_lanes, resting_lanes}
 use Rattle.reach.specs.SkyBoard.{sky_board}
 
 -- the pivots of the places
-unfoldable pub raised : Piece → Rotation → Field → Field
-raised piece rotation S = moved_within (intersection S (rows_below 24)) 24 (pos 0)
+unfoldable pub lane_pivots : Piece → Rotation → Field → Field
+lane_pivots piece rotation S = moved_within (intersection S (rows_below 24)) 24 (pos 0)
     (neg_ℤ (lowest (shape piece rotation)))
 
 -- whether the placements of a rotation are canonical
@@ -23,5 +23,5 @@ has_own_cells piece rotation = nat_lt (rotation_place rotation) (rotation_count 
 unfoldable pub hard_board : Piece → ℕ → Field → Rotation → Field
 hard_board piece N cells rotation =
     let free : Field = free_lanes piece rotation N cells in
-    if has_own_cells piece rotation then raised piece rotation (resting_lanes N free (sky_board piece rotation N free))
+    if has_own_cells piece rotation then lane_pivots piece rotation (resting_lanes N free (sky_board piece rotation N free))
     else empty_field

@@ -6,8 +6,7 @@ use Rattle.srs.specs.declared.piece.Piece.{Piece}
 use Rattle.srs.specs.declared.rotation.Rotation.{Rotation}
 use Rattle.srs.specs.Canonical.{canonical_rotation, canonical_move}
 use Rattle.srs.specs.Cells.{Cell, shape}
-use Rattle.srs.specs.Kick.{srs_table}
-use Rattle.sky.specs.Kicks.{kicks_of}
+use Rattle.srs.specs.Kick.{srs_table, kicks_of}
 use Rattle.sky.specs.Height.{fits_column}
 use Rattle.sky.specs.Lanes.{lowest}
 

@@ -9,7 +9,7 @@ use Rattle.srs.specs.Rotation.{rotation_place, clockwise_of, anticlockwise_of}
 use Rattle.reach.specs.declared.spread.Shifts.TheVariants.{All}
 use Rattle.reach.specs.LaneFlood.{Lanes}
 use Rattle.reach.specs.LaneMap.{free_lanes, resting_lanes}
-use Rattle.reach.specs.LanePlaces.{has_own_cells, raised}
+use Rattle.reach.specs.LanePlaces.{has_own_cells, lane_pivots}
 use Rattle.reach.specs.LaneTurns.{arrivals}
 use Rattle.reach.specs.Shifts.{IsSpread}
 use Rattle.reach.specs.SkyBoard.{sky_board}
@@ -42,7 +42,7 @@ rests_in N free rotation = resting_lanes N (free rotation) (free rotation)
 -- the canonical placements in a rotation that rest at one of the places
 unfoldable pub soft_board : Piece → ℕ → Lanes → Lanes → Rotation → Field
 soft_board piece N free S rotation =
-    if has_own_cells piece rotation then raised piece rotation
+    if has_own_cells piece rotation then lane_pivots piece rotation
     (intersection (rests_in N free rotation) (places_of piece S rotation))
     else empty_field
 

@@ -8,6 +8,7 @@ ghost use Rattle.moves.specs.Place.{IsPlace};
 ghost use Rattle.sky.specs.Sky.{IsClearFrom};
 ghost use Rattle.sky.specs.Window.{IsWindowPlace};
 ghost use Rattle.reach.specs.Places.{holds, piece_of};
+ghost use Rattle.reach.specs.SameOffsets.{HaveSameOffsets};
 
 use crate::held::Places;
 use crate::low::{is_clear_from, low_places};
@@ -33,7 +34,26 @@ pub fn places<L: Ledger>(
         ↔ ((q.piece ≡ piece) × IsPlace (table_of rules.now) (filled well.now) drop_mode q) }
     ensures counted { steps.new ≡ steps.old + 1 }
 {
-    if is_low(well) && has_srs_offsets(rules, piece) {
+    let srs = has_srs_offsets(rules, piece);
+    places_where(well, rules, srs, piece, drop_mode, steps)
+}
+
+/// The same placements. `srs` is true at most where all offsets of the piece are those of the Super Rotation System.
+pub(crate) fn places_where<L: Ledger>(
+    well: &Well,
+    rules: &Rules,
+    srs: bool,
+    piece: Piece,
+    drop_mode: DropMode,
+    steps: &mut Steps<L>,
+) -> Places
+    requires { IsTrue srs → HaveSameOffsets (table_of rules.now) srs_table piece }
+    ensures piece { piece_of result ≡ piece }
+    ensures held { (q : Placement) → (IsTrue (holds result q))
+        ↔ ((q.piece ≡ piece) × IsPlace (table_of rules.now) (filled well.now) drop_mode q) }
+    ensures counted { steps.new ≡ steps.old + 1 }
+{
+    if srs && is_low(well) {
         return window_places(well, piece, drop_mode, steps);
     }
     steps.tick();

@@ -4,7 +4,7 @@ ghost use Rattle.lane_board.specs.Field.{empty_field, union};
 ghost use Rattle.srs.specs.Rotation.{clockwise_of, anticlockwise_of};
 ghost use Rattle.srs.specs.Rules.{table_of};
 ghost use Rattle.reach.specs.Flood.{IsSettled, IsFlood};
-ghost use Rattle.sky.specs.Kicks.{kicks_of};
+ghost use Rattle.srs.specs.Kick.{kicks_of};
 ghost use Rattle.reach.specs.Kicks.{turned_from};
 ghost use Rattle.reach.specs.Shifts.{shifts_in};
 ghost use Rattle.reach.specs.States.{states_of, states_with};

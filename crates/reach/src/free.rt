@@ -3,6 +3,7 @@ ghost use Rattle.std.specs.Prelude.{◌≡◌, pos, ◌≤ℤ◌, IsTrue};
 ghost use Rattle.std.specs.List.{list_all};
 ghost use Rattle.lane_board.specs.Board.{field_of};
 ghost use Rattle.srs.specs.Cells.{shape, is_near};
+ghost use Rattle.reach.specs.FreePivots.{AreFreePivots};
 ghost use Rattle.reach.specs.Opened.{opened, opened_at, IsFreeMap};
 ghost use Rattle.reach.specs.States.{states_of};
 
@@ -14,18 +15,26 @@ use srs::{Piece, Placement, Rotation, cells};
 pub(crate) fn free_states(filled: &LaneBoard<24>, piece: Piece) -> Pivots<24>
     ensures { IsFreeMap (field_of filled.now) piece (states_of result) }
 {
-    let blank = LaneBoard::rows_below(23).minus(filled);
     Pivots {
-        spawn: free_pivots(&blank, piece, Rotation::Spawn),
-        right: free_pivots(&blank, piece, Rotation::Right),
-        reverse: free_pivots(&blank, piece, Rotation::Reverse),
-        left: free_pivots(&blank, piece, Rotation::Left),
+        spawn: free_pivots(filled, piece, Rotation::Spawn),
+        right: free_pivots(filled, piece, Rotation::Right),
+        reverse: free_pivots(filled, piece, Rotation::Reverse),
+        left: free_pivots(filled, piece, Rotation::Left),
     }
 }
 
+/// The pivots, as columns and rows of a board, at which the cells of a piece in a rotation lie in the well and on no
+/// filled cell.
+pub fn free_pivots(filled: &LaneBoard<24>, piece: Piece, rotation: Rotation) -> LaneBoard<24>
+    ensures { AreFreePivots (field_of filled.now) piece rotation (field_of result) }
+{
+    let blank = LaneBoard::rows_below(23).minus(filled);
+    blank_pivots(&blank, piece, rotation)
+}
+
 #[tactic(auto, unfolding(crate::specs::Opened::opened_at))]
-/// The pivots of one rotation at which all cells of the piece are blank.
-fn free_pivots(blank: &LaneBoard<24>, piece: Piece, rotation: Rotation) -> LaneBoard<24>
+/// The pivots at which all cells of the piece are blank.
+fn blank_pivots(blank: &LaneBoard<24>, piece: Piece, rotation: Rotation) -> LaneBoard<24>
     ensures { field_of result ≡ opened_at (field_of blank.now) 24 (shape piece rotation) (field_of blank.now) }
 {
     let [a, b, c, d] = offsets(piece, rotation);

@@ -4,7 +4,7 @@ ghost use Rattle.std.specs.Prelude.{◌≡◌, ◌≤ℤ◌, pos, neg_ℤ};
 ghost use Rattle.lane_board.specs.Board.{field_of};
 ghost use Rattle.srs.specs.Cells.{shape};
 ghost use Rattle.sky.specs.Lanes.{lowest};
-ghost use Rattle.reach.specs.LanePlaces.{raised, has_own_cells, hard_board};
+ghost use Rattle.reach.specs.LanePlaces.{lane_pivots, has_own_cells, hard_board};
 ghost use Rattle.reach.specs.States.{states_of};
 
 use crate::lane_map::{free_lanes, resting_lanes, sky_board};
@@ -42,7 +42,7 @@ fn hard_board<const N: usize>(
     }
     let free = free_lanes(filled, piece, rotation);
     let sky = sky_board(piece, rotation, &free);
-    raised(piece, rotation, &resting_lanes(&free, &sky))
+    lane_pivots(piece, rotation, &resting_lanes(&free, &sky))
 }
 
 /// Whether the placements of a rotation are canonical.
@@ -60,14 +60,14 @@ pub(crate) fn has_own_cells(piece: Piece, rotation: Rotation) -> bool
 }
 
 /// The pivots of places on lanes.
-#[tactic(auto, unfolding(crate::specs::LanePlaces::raised))]
+#[tactic(auto, unfolding(crate::specs::LanePlaces::lane_pivots))]
 #[inline(always)]
-pub(crate) fn raised<const N: usize>(
+pub(crate) fn lane_pivots<const N: usize>(
     piece: Piece,
     rotation: Rotation,
     places: &LaneBoard<N>,
 ) -> LaneBoard<24>
-    ensures { field_of result ≡ raised piece rotation (field_of places.now) }
+    ensures { field_of result ≡ lane_pivots piece rotation (field_of places.now) }
 {
     let rows = rows_over_lane(piece, rotation);
     places.resized::<24>().moved(0, rows)

@@ -60,6 +60,7 @@ impl Places {
     }
 
     /// Takes out the least placement. `None` exactly where none is held.
+    #[inline(never)]
     pub fn take_least(&mut self) -> Option<Placement>
         ensures piece { piece_of self.new ≡ piece_of self.old }
         ensures least { IsNextAbove placement_cmp (λ q. IsTrue (holds self.old q)) None result }

@@ -3,6 +3,7 @@
 
 mod find;
 mod flood;
+mod flood_rules;
 mod fold;
 mod free;
 mod hard;
@@ -26,6 +27,8 @@ mod whole;
 mod words;
 
 pub use find::{is_low, places, window_places};
+pub use flood_rules::FloodRules;
+pub use free::free_pivots;
 pub use held::Places;
 pub use steps::Steps;
 

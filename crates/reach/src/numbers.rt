@@ -22,7 +22,7 @@ pub(crate) struct Numbers {
 }
 
 impl Numbers {
-    ghost use Rattle.std.specs.Prelude.{◌≤◌, nat_lt, ◌&&◌, not};
+    ghost use Rattle.std.specs.Prelude.{◌≤◌, ◌*◌, nat_lt, ◌&&◌, not};
     ghost use Rattle.reach.specs.Numbers.{has_number, number_at, is_number, states_in, IsNumberFrom};
     ghost use Rattle.reach.specs.States.{has_state, states_of};
 
@@ -57,11 +57,27 @@ impl Numbers {
         requires { from ≤ 1536 }
         ensures { IsNumberFrom self.now from result }
     {
-        for at in usize::from(from / 64)..WORDS {
-            let before = 64 * at as u16;
-            let word = bits_from(self.words[at], from.saturating_sub(before));
+        let at = usize::from(from / 64);
+        if at >= WORDS {
+            return None;
+        }
+        let word = bits_from(self.words[at], from % 64);
+        if word != 0 {
+            return Some(64 * at as u16 + lowest_bit(word));
+        }
+        self.first_in_words(at + 1)
+    }
+
+    /// The least number of the words from one on. `None` exactly where they have none.
+    #[inline(always)]
+    fn first_in_words(&self, start: usize) -> Option<u16>
+        requires { start ≤ 24 }
+        ensures { IsNumberFrom self.now (64 * start) result }
+    {
+        for at in start..WORDS {
+            let word = self.words[at];
             if word != 0 {
-                return Some(before + lowest_bit(word));
+                return Some(64 * at as u16 + lowest_bit(word));
             }
         }
         None
@@ -91,8 +107,10 @@ impl Numbers {
         ensures { (place y x : ℕ) → place < 4 → y < 24 → x < 16 → has_number result (number_at place y x)
             ≡ (has_number self.now (number_at place y x) && nat_lt y (slice_index rows place)) }
     {
+        let highest = rows[0].max(rows[1]).max(rows[2]).max(rows[3]);
+        let each = (usize::from(highest) + 3) / 4;
         let mut words = [0; WORDS];
-        for at in 0..EACH {
+        for at in 0..each.min(EACH) {
             let row = 4 * at as u8;
             words[at] = in_low_rows(self.words[at], rows[0].saturating_sub(row));
             words[at + 6] = in_low_rows(self.words[at + 6], rows[1].saturating_sub(row));

@@ -1,6 +1,6 @@
 // Whether a table has the offsets of the Super Rotation System for one piece: no other offset matters to its places.
 // `KIND` numbers the copies that are compiled, as in `soft`.
-ghost use Rattle.std.specs.Prelude.{◌≡◌, ◌≤◌, IsTrue};
+ghost use Rattle.std.specs.Prelude.{◌≡◌, ◌≤◌, ◌↔◌, IsTrue};
 ghost use Rattle.srs.specs.Kick.{srs_table, offset_in};
 ghost use Rattle.srs.specs.Rules.{table_of};
 ghost use Rattle.reach.specs.SameOffsets.{AgreeIn, HaveSameOffsets};
@@ -10,7 +10,7 @@ use srs::{Piece, Rotation, Rules};
 
 /// Whether all offsets of the piece are those of the Super Rotation System.
 pub(crate) fn has_srs_offsets(rules: &Rules, piece: Piece) -> bool
-    ensures { IsTrue result → HaveSameOffsets (table_of rules.now) srs_table piece }
+    ensures { IsTrue result ↔ HaveSameOffsets (table_of rules.now) srs_table piece }
 {
     match piece {
         Piece::I => agrees::<0>(rules, Piece::I),
@@ -25,7 +25,7 @@ pub(crate) fn has_srs_offsets(rules: &Rules, piece: Piece) -> bool
 
 /// Whether those of each rotation are.
 fn agrees<const KIND: u8>(rules: &Rules, piece: Piece) -> bool
-    ensures { IsTrue result → HaveSameOffsets (table_of rules.now) srs_table piece }
+    ensures { IsTrue result ↔ HaveSameOffsets (table_of rules.now) srs_table piece }
 {
     if !agrees_in(rules, piece, Rotation::Right) {
         return false;
@@ -42,7 +42,7 @@ fn agrees<const KIND: u8>(rules: &Rules, piece: Piece) -> bool
 /// Whether those of one rotation are.
 #[inline(always)]
 fn agrees_in(rules: &Rules, piece: Piece, rotation: Rotation) -> bool
-    ensures { IsTrue result → AgreeIn (table_of rules.now) srs_table piece rotation }
+    ensures { IsTrue result ↔ AgreeIn (table_of rules.now) srs_table piece rotation }
 {
     if !agrees_at(rules, piece, rotation, 1) {
         return false;
@@ -64,8 +64,8 @@ fn agrees_in(rules: &Rules, piece: Piece, rotation: Rotation) -> bool
 fn agrees_at(rules: &Rules, piece: Piece, rotation: Rotation, test: u8) -> bool
     requires first { 1 ≤ test }
     requires last { test ≤ 5 }
-    ensures { IsTrue result → offset_in (table_of rules.now) piece rotation test
-        ≡ offset_in srs_table piece rotation test }
+    ensures { IsTrue result ↔ (offset_in (table_of rules.now) piece rotation test
+        ≡ offset_in srs_table piece rotation test) }
 {
     let offset = rules.offset(piece, rotation, test);
     let (dx, dy) = srs_offset(piece, rotation, test);

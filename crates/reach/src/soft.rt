@@ -10,7 +10,7 @@ ghost use Rattle.reach.specs.SoftLanes.{free_boards, skies, with_rotation, place
 ghost use Rattle.reach.specs.SoftLanes.{HaveAllRests, AreSpread, IsTurnedInto, IsRound, IsSoftFlood};
 ghost use Rattle.reach.specs.States.{states_of};
 
-use crate::hard::{has_own_cells, raised};
+use crate::hard::{has_own_cells, lane_pivots};
 use crate::lane_map::{free_lanes, resting_lanes, sky_board};
 use crate::lane_turn::{arrivals, canonical_of};
 use crate::pivots::Pivots;
@@ -222,5 +222,5 @@ fn soft_board<const N: usize>(
         return LaneBoard::empty();
     }
     let rests = rests_in(free, rotation).and(&places_of(piece, places, rotation));
-    raised(piece, rotation, &rests)
+    lane_pivots(piece, rotation, &rests)
 }

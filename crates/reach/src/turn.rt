@@ -2,11 +2,10 @@
 ghost use Rattle.std.specs.Prelude.{◌≡◌, ◌⊎◌};
 ghost use Rattle.lane_board.specs.Board.{field_of};
 ghost use Rattle.lane_board.specs.Field.{empty_field};
-ghost use Rattle.srs.specs.Kick.{pair_of};
+ghost use Rattle.srs.specs.Kick.{pair_of, kicks_of};
 ghost use Rattle.srs.specs.Rotation.{clockwise_of, anticlockwise_of};
 ghost use Rattle.srs.specs.Rules.{table_of};
 ghost use Rattle.moves.specs.Step.{IsShort};
-ghost use Rattle.sky.specs.Kicks.{kicks_of};
 ghost use Rattle.reach.specs.Kicks.{reversed, kicked_to, left_by, turned_from};
 
 use lane_board::LaneBoard;

@@ -3,11 +3,10 @@ use Rattle.std.proofs.Common.{◌≡◌, ◌+◌, ◌-◌, ◌∷◌, ℕ, drop,
 use Rattle.lane_board.specs.Board.{field_of}
 use Rattle.srs.specs.Cells.{Cell}
 use Rattle.srs.specs.Rules.{table_of}
-use Rattle.srs.specs.Kick.{pair_of}
+use Rattle.srs.specs.Kick.{pair_of, kicks_of}
 use Rattle.lane_board.proofs.CallerLemmas.{few_rows}
 use Rattle.srs.proofs.CallerLemmas.{table_of-small}
 use Rattle.moves.proofs.CallerLemmas.{kick_is_short}
-use Rattle.sky.specs.Kicks.{kicks_of}
 use Rattle.reach.specs.Kicks.{turned_from}
 use Rattle.reach.proofs.KickLemmas.{kicks_from, turned_step}
 use Rattle.reach.proofs.turn.turned.Goals as goal

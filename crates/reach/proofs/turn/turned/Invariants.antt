@@ -3,7 +3,7 @@ use Rattle.std.proofs.Common.{◌≡◌, ◌-◌, drop}
 use Rattle.lane_board.specs.Board.{field_of}
 use Rattle.lane_board.specs.Field.{empty_field}
 use Rattle.srs.specs.Rules.{table_of}
-use Rattle.sky.specs.Kicks.{kicks_of}
+use Rattle.srs.specs.Kick.{kicks_of}
 use Rattle.reach.specs.Kicks.{turned_from}
 use Rattle.reach.proofs.turn.turned.Given as goal
 

@@ -1,16 +1,13 @@
--- The first word with a bit from there on has the number.
-use Rattle.std.proofs.Common.{◌≡◌, ℕ, ◌-◌, ◌*◌, ◌<◌, ◌&&◌, nat_le, get_or, ap, ◌∙◌, arith}
-use Rattle.lane_board.specs.Lanes.{has_bit}
-use Rattle.reach.specs.declared.numbers.Numbers.{Numbers}
-use Rattle.reach.proofs.NumberLemmas.{IsWordFrom, none_more, first_in}
+-- The word of the number has it, or else a later word.
+use Rattle.std.proofs.Common.{◌+◌, ◌*◌, arith}
+use Rattle.reach.proofs.NumberLemmas.{first_in, none_before, none_more, number_later, word_at}
 use Rattle.reach.proofs.numbers.Numbers.first_from.Goals as goal
-
-word_from : (numbers : Numbers) (from at low word : ℕ) → low ≡ from - 64 * at → ((k : ℕ) → k < 64 → has_bit word k ≡ (nat_le low k && has_bit (get_or numbers.words at 0) k)) → IsWordFrom numbers from at word
-word_from numbers from at low word is bits = record { bits = λ k within. bits k within ∙ ap (λ low. nat_le low k && has_bit (get_or numbers.words at 0) k) is }
 
 pub returns-then-word-ne0 : goal.returns-then-word-ne0
 returns-then-word-ne0 c =
-    first_in c.args.self.now c.args.from c.loop-at.at c.bits_from-word.result (word_from c.args.self.now c.args.from c.loop-at.at c.saturating_sub.result c.bits_from-word.result c.saturating_sub.ensures c.bits_from-word.ensures) c.loop-at.invariant c.lowest_bit.result (omega arith) c.lowest_bit.ensures.below c.lowest_bit.ensures.lowest.has (λ k within. c.lowest_bit.ensures.lowest.first k)
+    first_in c.args.self.now c.args.from c.from-at.result c.bits_from-word.result (word_at c.args.self.now c.args.from c.from-at.result c.bits_from-word.result c.from-at.ensures c.bits_from-word.ensures) (none_before c.args.self.now c.args.from c.from-at.result c.from-at.ensures) c.lowest_bit.result (omega arith) c.lowest_bit.ensures.below c.lowest_bit.ensures.lowest.has (λ k within. c.lowest_bit.ensures.lowest.first k)
 
-pub loop-at-preserved : goal.loop-at-preserved
-loop-at-preserved c = none_more c.args.self.now c.args.from c.loop-at.at c.bits_from-word.result (word_from c.args.self.now c.args.from c.loop-at.at c.saturating_sub.result c.bits_from-word.result c.saturating_sub.ensures c.bits_from-word.ensures) c.loop-at.invariant c.if-word-ne0.false
+pub returns : goal.returns
+returns c =
+    number_later c.args.self.now c.args.from (64 * (c.from-at.result + 1)) c.first_in_words.result
+    (none_more c.args.self.now c.args.from c.from-at.result c.bits_from-word.result (word_at c.args.self.now c.args.from c.from-at.result c.bits_from-word.result c.from-at.ensures c.bits_from-word.ensures) (none_before c.args.self.now c.args.from c.from-at.result c.from-at.ensures) c.if-word-ne0.false) (omega (arith, c.from-at.ensures)) c.first_in_words.ensures

@@ -1,9 +1,8 @@
 -- The number of a state is a bit of the words.
-use Rattle.std.proofs.Common.{◌≡◌, ◌∙◌, ◌+◌, ◌*◌, ℕ, ◌<◌, Bool, true, false, ◌&&◌, nat_lt, sym, ap, refl, arith, get_or, ◌%◌, inl, inr}
-use Rattle.std.proofs.lemmas.Bool.{cases_Bool, lt-ltb}
+use Rattle.std.proofs.Common.{◌≡◌, ◌∙◌, Bool, true, false, ◌&&◌, nat_lt, ap, refl, arith, get_or, ◌%◌}
+use Rattle.std.proofs.lemmas.Bool.{lt-ltb}
 use Rattle.lane_board.specs.Lanes.{has_bit}
-use Rattle.srs.specs.Rotation.{rotation_place}
-use Rattle.reach.specs.Numbers.{has_number, number_at, states_in}
+use Rattle.reach.specs.Numbers.{has_number, states_in}
 use Rattle.reach.specs.States.{has_state}
 use Rattle.reach.proofs.PlaceNumbers.{number-within}
 use Rattle.reach.proofs.numbers.Numbers.has.Goals as goal

@@ -1,7 +1,8 @@
 -- One word more of each rotation; all words keep these rows.
-use Rattle.std.proofs.Common.{◌+◌, ◌*◌, ◌&&◌, nat_lt, get_or, ap, ◌∙◌, arith}
+use Rattle.std.proofs.Common.{ℕ, ◌+◌, ◌*◌, ◌/◌, ◌%◌, ◌<◌, ◌≤◌, ◌&&◌, nat_lt, get_or, ap, ◌∙◌, inl, inr, arith}
+use Rattle.std.proofs.lemmas.Bool.{cases_lt}
 use Rattle.lane_board.specs.Lanes.{has_bit}
-use Rattle.reach.proofs.NumberLemmas.{KeepsRows, keeps_rows, keeps_here, four_more, four_set-length}
+use Rattle.reach.proofs.NumberLemmas.{KeepsRows, keeps_rows, keeps_here, keeps_none, four_later, four_more, four_set-length, under_all}
 use Rattle.reach.proofs.numbers.Numbers.in_rows_below.Goals as goal
 
 pub loop-at-preserved : goal.loop-at-preserved
@@ -12,14 +13,28 @@ loop-at-preserved c =
     let a = c.in_low_rows.result in
     let b = c.in_low_rows-in-loop-at.result in
     let d = c.in_low_rows-in-loop-at-2.result in
-    let e = c.in_low_rows-in-loop-at-3.result in (
+    let e = c.in_low_rows-in-loop-at-3.result in
+    let small : at < 6 = omega (arith, c.loop-at-test.true, c.min-at-end.ensures) in (
       four_set-length c.loop-at.words at a b d e c.loop-at.invariant.0,
-      four_more (KeepsRows old rows) c.loop-at.words at a b d e c.loop-at.invariant.0 c.loop-at-test.true c.loop-at.invariant.1
-          (keeps_here old rows at at 0 a (omega arith) c.loop-at-test.true (λ k within. c.in_low_rows.ensures k within ∙ ap (λ left. has_bit (get_or old.words at 0) k && nat_lt k (16 * left)) c.saturating_sub.ensures))
-          (keeps_here old rows (at + 6) at 1 b (omega arith) c.loop-at-test.true (λ k within. c.in_low_rows-in-loop-at.ensures k within ∙ ap (λ left. has_bit (get_or old.words (at + 6) 0) k && nat_lt k (16 * left)) c.saturating_sub-in-loop-at.ensures))
-          (keeps_here old rows (at + 12) at 2 d (omega arith) c.loop-at-test.true (λ k within. c.in_low_rows-in-loop-at-2.ensures k within ∙ ap (λ left. has_bit (get_or old.words (at + 12) 0) k && nat_lt k (16 * left)) c.saturating_sub-in-loop-at-2.ensures))
-          (keeps_here old rows (at + 18) at 3 e (omega arith) c.loop-at-test.true (λ k within. c.in_low_rows-in-loop-at-3.ensures k within ∙ ap (λ left. has_bit (get_or old.words (at + 18) 0) k && nat_lt k (16 * left)) c.saturating_sub-in-loop-at-3.ensures)),
+      four_more (KeepsRows old rows) c.loop-at.words at a b d e c.loop-at.invariant.0 small c.loop-at.invariant.1
+          (keeps_here old rows at at 0 a (omega arith) small (λ k within. c.in_low_rows.ensures k within ∙ ap (λ left. has_bit (get_or old.words at 0) k && nat_lt k (16 * left)) c.saturating_sub.ensures))
+          (keeps_here old rows (at + 6) at 1 b (omega arith) small (λ k within. c.in_low_rows-in-loop-at.ensures k within ∙ ap (λ left. has_bit (get_or old.words (at + 6) 0) k && nat_lt k (16 * left)) c.saturating_sub-in-loop-at.ensures))
+          (keeps_here old rows (at + 12) at 2 d (omega arith) small (λ k within. c.in_low_rows-in-loop-at-2.ensures k within ∙ ap (λ left. has_bit (get_or old.words (at + 12) 0) k && nat_lt k (16 * left)) c.saturating_sub-in-loop-at-2.ensures))
+          (keeps_here old rows (at + 18) at 3 e (omega arith) small (λ k within. c.in_low_rows-in-loop-at-3.ensures k within ∙ ap (λ left. has_bit (get_or old.words (at + 18) 0) k && nat_lt k (16 * left)) c.saturating_sub-in-loop-at-3.ensures)),
+      λ w small later. four_later c.loop-at.words at a b d e w later ∙ c.loop-at.invariant.2 w small (omega (arith, later)),
     )
 
 pub returns : goal.returns
-returns c = keeps_rows c.args.self.now _ c.args.rows (λ w below. c.loop-at.invariant.1 w below (omega arith))
+returns c =
+    keeps_rows c.args.self.now _ c.args.rows (λ w below. elim (cases_lt (w % 6) c.loop-at.at) [
+      | inl kept ↦ c.loop-at.invariant.1 w below kept
+      | inr later ↦ keeps_none c.args.self.now c.args.rows w _ (c.loop-at.invariant.2 w below later) (low w below later)
+    ])
+  where
+    low : (w : ℕ) → w < 24 → c.loop-at.at ≤ w % 6 → get_or c.args.rows (w / 6) 0 ≤ 4 * (w % 6)
+    low w below later =
+        let top : c.max-highest.result ≤ 4 * (w % 6) = omega (arith, later, c.loop-at-test.false, c.min-at-end.ensures, c.from.ensures) in
+        under_all c.args.rows (4 * (w % 6))
+        (omega (arith, top, c.max.ensures, c.max-2.ensures, c.max-highest.ensures)) (omega (arith, top, c.max.ensures, c.max-2.ensures, c.max-highest.ensures))
+        (omega (arith, top, c.max.ensures, c.max-2.ensures, c.max-highest.ensures)) (omega (arith, top, c.max.ensures, c.max-2.ensures, c.max-highest.ensures))
+        (w / 6) (omega (arith, below))

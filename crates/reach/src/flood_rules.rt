@@ -1,0 +1,80 @@
+// Rules of kicks for many floods.
+ghost use Rattle.std.specs.Prelude.{◌≡◌, ◌-◌, ◌↔◌, IsTrue, false, length, slice_index_or};
+ghost use Rattle.srs.specs.declared.piece.Piece.{Piece};
+ghost use Rattle.srs.specs.Kick.{srs_table};
+ghost use Rattle.srs.specs.Piece.{piece_code};
+ghost use Rattle.srs.specs.Rules.{table_of};
+ghost use Rattle.reach.specs.SameOffsets.{HaveSameOffsets};
+
+use crate::find::places_where;
+use crate::held::Places;
+use crate::same_offsets::has_srs_offsets;
+use crate::steps::Steps;
+use moves::DropMode;
+use srs::{Piece, Rules};
+use std::sync::ledger::Ledger;
+use well::Well;
+
+/// Rules of kicks, and for which pieces they are those of the Super Rotation System: looked at once for many floods.
+#[derive(Clone, Copy)]
+pub struct FloodRules {
+    rules: Rules,
+    /// Whether all offsets of each piece are, in the order of codes.
+    srs: [bool; 7],
+    ghost seven: { length srs ≡ 7 },
+    ghost known: { (piece : Piece) → IsTrue (slice_index_or srs (piece_code piece - 1) false)
+        ↔ HaveSameOffsets (table_of rules) srs_table piece },
+}
+
+impl FloodRules {
+    ghost use Rattle.std.specs.Prelude.{◌+◌};
+    ghost use Rattle.srs.specs.declared.placement.Placement.{Placement};
+    ghost use Rattle.well.specs.Well.{filled};
+    ghost use Rattle.moves.specs.Place.{IsPlace};
+    ghost use Rattle.reach.specs.FloodRules.{flood_table};
+    ghost use Rattle.reach.specs.Places.{holds, piece_of};
+
+    #[tactic(auto, unfolding(crate::specs::FloodRules::flood_table))]
+    /// These rules.
+    pub fn new(rules: &Rules) -> FloodRules
+        ensures { flood_table result ≡ table_of rules.now }
+    {
+        FloodRules {
+            rules: *rules,
+            srs: [
+                has_srs_offsets(rules, Piece::I),
+                has_srs_offsets(rules, Piece::L),
+                has_srs_offsets(rules, Piece::O),
+                has_srs_offsets(rules, Piece::Z),
+                has_srs_offsets(rules, Piece::T),
+                has_srs_offsets(rules, Piece::J),
+                has_srs_offsets(rules, Piece::S),
+            ],
+        }
+    }
+
+    /// Whether all offsets of the piece are those of the Super Rotation System.
+    fn has_srs_offsets(&self, piece: Piece) -> bool
+        ensures { IsTrue result ↔ HaveSameOffsets (flood_table self.now) srs_table piece }
+    {
+        self.srs[piece.code() as usize - 1]
+    }
+
+    #[tactic(auto, unfolding(crate::specs::FloodRules::flood_table))]
+    /// The places that `places` gives by these rules. Adds one step.
+    pub fn places<L: Ledger>(
+        &self,
+        well: &Well,
+        piece: Piece,
+        drop_mode: DropMode,
+        steps: &mut Steps<L>,
+    ) -> Places
+        ensures piece { piece_of result ≡ piece }
+        ensures held { (q : Placement) → (IsTrue (holds result q))
+            ↔ ((q.piece ≡ piece) × IsPlace (flood_table self.now) (filled well.now) drop_mode q) }
+        ensures counted { steps.new ≡ steps.old + 1 }
+    {
+        let srs = self.has_srs_offsets(piece);
+        places_where(well, &self.rules, srs, piece, drop_mode, steps)
+    }
+}
