@@ -11,7 +11,7 @@ use Rattle.hold_queue.specs.States.{AreStatesAfter, IsNextFamily, family_at, cou
 use Rattle.hold_queue.proofs.FollowLemmas.{follows-next}
 use Rattle.hold_queue.proofs.HoldingLemmas.{Comes, permitted-comes, refused-none}
 use Rattle.hold_queue.proofs.LengthLemmas.{permits-length, queue-length}
-use Rattle.hold_queue.proofs.StepLemmas.{Stands}
+use Rattle.hold_queue.proofs.StepLemmas.{Stands, count_held-small}
 
 pub played-length : (set : QueueSet) → length (take set.number set.played) ≡ set.number
 played-length set = omega (arith, length-take set.number set.played, set.room, set.within)
@@ -48,12 +48,8 @@ set-room set piece permitted =
       played-length set,
       queue-length (elements_of set.pattern) permitted.0 permitted.1,
       pattern-short set.pattern,
-      count_held-le set.held,
+      count_held-small set.held,
     )
-  where
-    count_held-le : (held : Option Piece) → count_held held ≤ 1
-    count_held-le None = omega arith
-    count_held-le (Some piece) = omega arith
 
 pub played-more : (set : QueueSet) (piece : Piece) → set.number < 23 → take (set.number + 1) (list_set set.played set.number piece) ≡ take set.number set.played ++ piece ∷ []
 played-more set piece room = ap (λ n. take n (list_set set.played set.number piece)) (add-one set.number) ∙ take-suc-set set.played set.number piece (omega (arith, set.room))

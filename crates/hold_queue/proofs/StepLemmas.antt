@@ -11,7 +11,7 @@ use Rattle.hold_queue.specs.declared.hold.Hold.{Hold}
 use Rattle.hold_queue.specs.declared.hold.Hold.TheVariants.{Allowed, Avoided}
 use Rattle.hold_queue.specs.Family.{has_set, IsDrawn}
 use Rattle.hold_queue.specs.Permits.{Way, plain, exchange, first_hold, last}
-use Rattle.hold_queue.specs.States.{in_progress, rests, count_held, drawn_by, family_at, IsRemainder, IsRoomy, CameBy, IsNextFamily}
+use Rattle.hold_queue.specs.States.{in_progress, rests, count_held, drawn_by, family_at, IsRemainder, IsRoomy, CameBy, IsNextFamily, FollowsHeld, IsHeldFamily}
 use Rattle.hold_queue.proofs.RestLemmas.{stands, rests-done}
 use Rattle.hold_queue.proofs.DrawnRests.{moves-back, rest-on, rest-back, roomy-on, begins-none}
 
@@ -42,6 +42,11 @@ union-roomy elements drawn f g both union one two = record {
     | inr right ↦ two.each set within right
   ];
 }
+
+-- at most one piece is held
+pub count_held-small : (held : Option Piece) → count_held held ≤ 1
+count_held-small None = omega arith
+count_held-small (Some piece) = omega arith
 
 -- what holds of the states so far
 pub record Stands (elements : List Element) (start : Option Piece) (states : List ℕ) (played : ℕ) : Type 0 where
@@ -215,54 +220,26 @@ module _ (elements : List Element) (start : Option Piece) (states : List ℕ) (p
   some_way first is last = cc
 
   -- a piece is held
-  pub next_some : (piece first : Piece) (kept exchanged after_first held_first two all : Family)
-      → IsDrawn (in_progress elements (drawn_by start played (Some first))) piece (family_at states (Some first)) kept
+  pub next_some : (piece first : Piece) (held second exchanged all : Family) → IsHeldFamily elements Allowed start states played first held
+      → IsDrawn (in_progress elements (drawn_by start played (Some first))) piece held second
       → IsDrawn (in_progress elements (drawn_by start played (Some piece))) first (family_at states (Some piece)) exchanged
-      → IsDrawn (in_progress elements (drawn_by start played None)) first (family_at states None) after_first
-      → IsDrawn (in_progress elements (drawn_by start played (Some first))) piece after_first held_first
-      → IsUnion kept exchanged two → IsUnion two held_first all
-      → IsNextFamily elements Allowed start states played piece (Some first) all
+      → IsUnion second exchanged all → IsNextFamily elements Allowed start states played piece (Some first) all
   unfolding SomeWay
-  next_some piece first kept exchanged after_first held_first two all drawn_kept drawn_exchanged drawn_first drawn_second union_two union_all = record {
-    came = λ queue rest. elim (union-from two held_first all union_all rest) [
-      | inl part ↦ elim (union-from kept exchanged two union_two part) [
-        | inl one ↦ record {
-          held_before = Some first;
-          queue_before = piece ∷ queue;
-          way = plain;
-          rest = rest-back elements (drawn_by start played (Some first)) now piece (family_at states (Some first)) kept drawn_kept (counts_same (Some first)) queue one;
-        }
-        | inr other ↦ record {
-          held_before = Some piece;
-          queue_before = first ∷ queue;
-          way = exchange;
-          rest = rest-back elements (drawn_by start played (Some piece)) now first (family_at states (Some piece)) exchanged drawn_exchanged (counts_exchange piece first) queue other;
-        }
-      ]
-      | inr held ↦ record {
-        held_before = None;
-        queue_before = first ∷ piece ∷ queue;
-        way = first_hold;
-        rest = rest-back elements (drawn_by start played None) middle first (family_at states None) after_first drawn_first (counts_first first) (piece ∷ queue)
-            (rest-back elements middle now piece after_first held_first drawn_second counts_second queue held);
+  next_some piece first held second exchanged all is_held drawn_second drawn_exchanged union = record {
+    came = λ queue rest. elim (union-from second exchanged all union rest) [
+      | inl one ↦ by_follows queue (is_held.came (piece ∷ queue) (rest-back elements middle now piece held second drawn_second counts_second queue one))
+      | inr other ↦ record {
+        held_before = Some piece;
+        queue_before = first ∷ queue;
+        way = exchange;
+        rest = rest-back elements (drawn_by start played (Some piece)) now first (family_at states (Some piece)) exchanged drawn_exchanged (counts_exchange piece first) queue other;
       }
     ];
     goes = λ queue came. goes queue came.held_before came.queue_before (some_way first refl came.way) came.rest;
-    roomy = union-roomy elements now two held_first all union_all
-        (union-roomy elements now kept exchanged two union_two
-        (roomy-on elements (drawn_by start played (Some first)) now piece (family_at states (Some first)) kept drawn_kept (counts_same (Some first)) (so_far.roomy (Some first)))
-        (roomy-on elements (drawn_by start played (Some piece)) now first (family_at states (Some piece)) exchanged drawn_exchanged (counts_exchange piece first) (so_far.roomy (Some piece))))
-        (roomy-on elements middle now piece after_first held_first drawn_second counts_second
-        (roomy-on elements (drawn_by start played None) middle first (family_at states None) after_first drawn_first (counts_first first) (so_far.roomy None)));
-    drawn_fits = λ set within has. elim (union-cases two held_first all union_all set within has) [
-      | inl part ↦ elim (union-cases kept exchanged two union_two set within part) [
-        | inl one ↦ fits_after (Some first) (Some first) (in_progress elements (drawn_by start played (Some first))) piece kept drawn_kept (omega arith) set within one
-        | inr other ↦ fits_after (Some piece) (Some first) (in_progress elements (drawn_by start played (Some piece))) first exchanged drawn_exchanged (omega arith) set within other
-      ]
-      | inr held ↦
-          let m = moves-back (in_progress elements (drawn_by start played (Some first))) piece after_first held_first drawn_second set within held in
-          fits_after None (Some first) (in_progress elements (drawn_by start played None)) first after_first drawn_first (omega arith) m.drawn_set m.within m.has
-    ];
+    roomy = union-roomy elements now second exchanged all union
+        (roomy-on elements middle now piece held second drawn_second counts_second is_held.roomy)
+        (roomy-on elements (drawn_by start played (Some piece)) now first (family_at states (Some piece)) exchanged drawn_exchanged (counts_exchange piece first) (so_far.roomy (Some piece)));
+    drawn_fits = λ set within has. omega (arith, count_held-small start);
   }
     where
       now : ℕ
@@ -271,10 +248,12 @@ module _ (elements : List Element) (start : Option Piece) (states : List ℕ) (p
       middle : ℕ
       middle = drawn_by start played (Some first)
 
-      counts_second : (set : ℕ) → set < 128 → has_set after_first set ≡ true → drawn_by start (played + 1) (Some first) ≡ drawn_by start played (Some first) + 1
-      counts_second set within has =
-          let m = moves-back (in_progress elements (drawn_by start played None)) first (family_at states None) after_first drawn_first set within has in
-          omega (arith, so_far.drawn_fits None m.drawn_set m.within m.has)
+      counts_second : (set : ℕ) → set < 128 → has_set held set ≡ true → drawn_by start (played + 1) (Some first) ≡ drawn_by start played (Some first) + 1
+      counts_second set within has = omega (arith, count_held-small start)
+
+      by_follows : (queue : List Piece) → FollowsHeld elements Allowed start states played first (piece ∷ queue) → CameBy elements Allowed start states played piece (Some first) queue
+      by_follows queue (inl rest) = record { held_before = Some first; queue_before = piece ∷ queue; way = plain; rest = rest }
+      by_follows queue (inr two) = record { held_before = None; queue_before = first ∷ piece ∷ queue; way = first_hold; rest = two.1 }
 
       at : (held_before held : Option Piece) (before queue : List Piece) → before ≡ queue → held_before ≡ held
           → IsRemainder elements (drawn_by start played held_before) (family_at states held_before) before → IsRemainder elements (drawn_by start played held) (family_at states held) queue
@@ -282,21 +261,18 @@ module _ (elements : List Element) (start : Option Piece) (states : List ℕ) (p
           subst (λ q. IsRemainder elements (drawn_by start played held) (family_at states held) q) same_queue
           (subst (λ h. IsRemainder elements (drawn_by start played h) (family_at states h) before) same_held rest)
 
+      goes_second : (queue : List Piece) → FollowsHeld elements Allowed start states played first (piece ∷ queue) → IsRemainder elements (drawn_by start (played + 1) (Some first)) all queue
+      goes_second queue follows =
+          union-left second exchanged all union (rest-on elements middle now piece held second drawn_second counts_second queue (is_held.goes (piece ∷ queue) follows))
+
       goes : (queue : List Piece) (held_before : Option Piece) (before : List Piece) → SomeWay Allowed before held_before piece queue first
           → IsRemainder elements (drawn_by start played held_before) (family_at states held_before) before → IsRemainder elements (drawn_by start (played + 1) (Some first)) all queue
-      goes queue held_before before (inl same) rest =
-          union-left two held_first all union_all (union-left kept exchanged two union_two
-          (rest-on elements (drawn_by start played (Some first)) now piece (family_at states (Some first)) kept drawn_kept (counts_same (Some first)) queue
-          (at held_before (Some first) before (piece ∷ queue) same.0 same.1 rest)))
+      goes queue held_before before (inl same) rest = goes_second queue (inl (at held_before (Some first) before (piece ∷ queue) same.0 same.1 rest))
       goes queue held_before before (inr (inl same)) rest =
-          union-left two held_first all union_all (union-right kept exchanged two union_two
+          union-right second exchanged all union
           (rest-on elements (drawn_by start played (Some piece)) now first (family_at states (Some piece)) exchanged drawn_exchanged (counts_exchange piece first) queue
-          (at held_before (Some piece) before (first ∷ queue) same.0 same.1 rest)))
-      goes queue held_before before (inr (inr same)) rest =
-          union-right two held_first all union_all
-          (rest-on elements middle now piece after_first held_first drawn_second counts_second queue
-          (rest-on elements (drawn_by start played None) middle first (family_at states None) after_first drawn_first (counts_first first) (piece ∷ queue)
-          (at held_before None before (first ∷ piece ∷ queue) same.0 same.1 rest)))
+          (at held_before (Some piece) before (first ∷ queue) same.0 same.1 rest))
+      goes queue held_before before (inr (inr same)) rest = goes_second queue (inr (refl, at held_before None before (first ∷ piece ∷ queue) same.0 same.1 rest))
 
 -- a draw that a call made, in the numbers of the states
 pub drawn_by_draw : {draw place : Option Draw} {piece : Piece} {before after : Family} → IsDrawn draw piece before after → draw ≡ place → IsDrawn place piece before after

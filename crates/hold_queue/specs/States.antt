@@ -83,8 +83,8 @@ pub record IsNextFamily (elements : List Element) (hold : Hold) (start : Option 
   pub roomy : IsRoomy elements (drawn_by start (played + 1) held) family
   pub drawn_fits : (set : ℕ) → set < 128 → has_set family set ≡ true → count_held start ≤ played + 1 + count_held held
 
--- a queue that may follow where this piece is held before the next one is drawn: it is held, or hold is allowed and it is
--- drawn where nothing is held
+-- a queue that may follow where this piece is held before the next one is drawn: it is held, or hold is allowed and it
+-- is drawn where nothing is held
 abbrev pub FollowsHeld : List Element → Hold → Option Piece → List ℕ → ℕ → Piece → List Piece → Type 0
 FollowsHeld elements hold start states played first queue =
     IsRemainder elements (drawn_by start played (Some first)) (family_at states (Some first)) queue
@@ -102,7 +102,8 @@ pub record IsHeldFamily (elements : List Element) (hold : Hold) (start : Option 
 -- the family of drawn sets with which one of these pieces is held then
 pub record IsHolding (elements : List Element) (hold : Hold) (start : Option Piece) (states : List ℕ)
     (played : ℕ) (pieces : List Piece) (family : Family) : Type 0 where
-  pub came : (other : Piece) (queue : List Piece) → IsRemainder elements (drawn_by start played (Some other)) family queue
+  pub came : (other : Piece) (queue : List Piece)
+      → IsRemainder elements (drawn_by start played (Some other)) family queue
       → (first : Piece) × FollowsHeld elements hold start states played first queue
   pub goes : (first : Piece) (queue : List Piece) → Contains pieces first
       → FollowsHeld elements hold start states played first queue

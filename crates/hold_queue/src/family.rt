@@ -101,6 +101,9 @@ impl Family {
     pub fn draw(self, draw: Option<Draw>, piece: Piece) -> Family
         ensures { IsDrawn draw piece self result }
     {
+        if self.is_empty() {
+            return Family::EMPTY;
+        }
         let Some(draw) = draw else {
             return Family::EMPTY;
         };

@@ -3,7 +3,7 @@ ghost use Rattle.std.specs.Prelude.{◌≡◌, ◌*◌, ◌≤◌, ◌↔◌, Is
 ghost use Rattle.srs.specs.declared.piece.Piece.{Piece};
 ghost use Rattle.srs.specs.Piece.{all_pieces};
 ghost use Rattle.queue_pattern.specs.Pattern.{elements_of};
-ghost use Rattle.hold_queue.specs.States.{AreStatesAfter};
+ghost use Rattle.hold_queue.specs.States.{AreStatesAfter, drawn_by, in_progress};
 ghost use Rattle.hold_queue.specs.States;
 
 use crate::family::{Draw, Family, in_progress};
@@ -22,10 +22,14 @@ pub struct QueueSet {
     held: Option<Piece>,
     played: [Piece; 23],
     number: u8,
+    due: Draws,
     states: [u64; 16],
     ghost room: { length played ≡ 23 },
     ghost within: { number ≤ 23 },
     ghost follows: { AreStatesAfter (elements_of pattern) hold held states (take number played) },
+    ghost empty_handed: { due.empty_handed ≡ in_progress (elements_of pattern) (drawn_by held number None) },
+    ghost holding: { (piece : Piece) →
+        due.holding ≡ in_progress (elements_of pattern) (drawn_by held number (Some piece)) },
 }
 
 /// What the next piece is drawn from where nothing is held, and where a piece is held.
@@ -57,10 +61,19 @@ fn family_at(states: &[u64; 16], held: Option<Piece>) -> Family
     }
 }
 
+/// What the next piece is drawn from where a piece is held, after so many played ones.
+fn drawn_holding(pattern: &Pattern, held: Option<Piece>, number: u8) -> Option<Draw>
+    requires { number ≤ 23 }
+    ensures { (piece : Piece) →
+        result ≡ in_progress (elements_of pattern.now) (drawn_by held number (Some piece)) }
+{
+    in_progress(pattern, number + 1 - u8::from(held.is_some()))
+}
+
 impl QueueSet {
     ghost use Rattle.std.specs.Prelude.{◌+◌, List, [], ◌∷◌, ◌++◌};
     ghost use Rattle.hold_queue.specs.QueueSet.{QueuesInPlay, queues_in_play, singles, QueuesPermit, queues_permit};
-    ghost use Rattle.hold_queue.specs.States.{drawn_by, in_progress, IsNextFamily, IsHeldFamily, IsHolding, family_at};
+    ghost use Rattle.hold_queue.specs.States.{IsNextFamily, IsHeldFamily, IsHolding, family_at};
     ghost use Rattle.hold_queue.specs.Supply.{supplies, supply_of};
 
     /// The queues of a pattern, with nothing played.
@@ -76,6 +89,10 @@ impl QueueSet {
             held,
             played: [Piece::I; 23],
             number: 0,
+            due: Draws {
+                empty_handed: in_progress(pattern, 0),
+                holding: drawn_holding(pattern, held, 0),
+            },
             states,
         }
     }
@@ -88,60 +105,34 @@ impl QueueSet {
         QueueSet::start(&Pattern::from_queue(queue), hold, held)
     }
 
-    /// What the next piece is drawn from.
-    fn draws(&self) -> Draws
-        ensures empty_handed { result.empty_handed ≡ in_progress (elements_of self.now.pattern)
-            (drawn_by self.now.held self.now.number None) }
-        ensures holding { (piece : Piece) → result.holding
-            ≡ in_progress (elements_of self.now.pattern) (drawn_by self.now.held self.now.number (Some piece)) }
-    {
-        let at_start = u8::from(self.held.is_some());
-        let empty_handed = in_progress(&self.pattern, self.number.saturating_sub(at_start));
-        let holding = in_progress(&self.pattern, self.number + 1 - at_start);
-        Draws {
-            empty_handed,
-            holding,
-        }
-    }
-
     /// The drawn sets after one more piece where nothing is held then: it was drawn, or it was held and the queue is
     /// used up.
-    fn next_empty_handed(&self, draws: Draws, piece: Piece) -> Family
-        requires empty_handed { draws.empty_handed ≡ in_progress (elements_of self.now.pattern)
-            (drawn_by self.now.held self.now.number None) }
-        requires holding { (piece : Piece) → draws.holding
-            ≡ in_progress (elements_of self.now.pattern) (drawn_by self.now.held self.now.number (Some piece)) }
+    fn next_empty_handed(&self, piece: Piece) -> Family
         ensures { IsNextFamily (elements_of self.now.pattern) self.now.hold self.now.held self.now.states
             self.now.number piece None result }
     {
-        let plain = family_at(&self.states, None).draw(draws.empty_handed, piece);
+        let plain = family_at(&self.states, None).draw(self.due.empty_handed, piece);
         if let Hold::Avoided = self.hold {
             return plain;
         }
-        if let Some(_) = draws.holding {
+        if let Some(_) = self.due.holding {
             return plain;
         }
         plain.or(family_at(&self.states, Some(piece)))
     }
 
-    /// The drawn sets after one more piece where `first` is held then: it stays held, or it is drawn and takes the
-    /// place of the piece, or it is drawn before the piece.
-    fn next_holding(&self, draws: Draws, piece: Piece, first: Piece) -> Family
-        requires empty_handed { draws.empty_handed ≡ in_progress (elements_of self.now.pattern)
-            (drawn_by self.now.held self.now.number None) }
-        requires holding { (piece : Piece) → draws.holding
-            ≡ in_progress (elements_of self.now.pattern) (drawn_by self.now.held self.now.number (Some piece)) }
+    /// The drawn sets after one more piece where `first` is held then: it may be held before the piece is drawn, or it
+    /// is drawn and takes the place of the piece.
+    fn next_holding(&self, piece: Piece, first: Piece) -> Family
         ensures { IsNextFamily (elements_of self.now.pattern) self.now.hold self.now.held self.now.states
             self.now.number piece (Some first) result }
     {
-        let plain = family_at(&self.states, Some(first)).draw(draws.holding, piece);
         if let Hold::Avoided = self.hold {
-            return plain;
+            return family_at(&self.states, Some(first)).draw(self.due.holding, piece);
         }
-        let exchange = family_at(&self.states, Some(piece)).draw(draws.holding, first);
-        let after_first = family_at(&self.states, None).draw(draws.empty_handed, first);
-        let first_hold = after_first.draw(draws.holding, piece);
-        plain.or(exchange).or(first_hold)
+        let second = self.with_held(first).draw(self.due.holding, piece);
+        let exchange = family_at(&self.states, Some(piece)).draw(self.due.holding, first);
+        second.or(exchange)
     }
 
     /// The states after one more piece.
@@ -150,15 +141,14 @@ impl QueueSet {
             IsNextFamily (elements_of self.now.pattern) self.now.hold self.now.held self.now.states
             self.now.number piece held (family_at result held) }
     {
-        let draws = self.draws();
-        let empty_handed = self.next_empty_handed(draws, piece);
-        let held_i = self.next_holding(draws, piece, Piece::I);
-        let held_l = self.next_holding(draws, piece, Piece::L);
-        let held_o = self.next_holding(draws, piece, Piece::O);
-        let held_z = self.next_holding(draws, piece, Piece::Z);
-        let held_t = self.next_holding(draws, piece, Piece::T);
-        let held_j = self.next_holding(draws, piece, Piece::J);
-        let held_s = self.next_holding(draws, piece, Piece::S);
+        let empty_handed = self.next_empty_handed(piece);
+        let held_i = self.next_holding(piece, Piece::I);
+        let held_l = self.next_holding(piece, Piece::L);
+        let held_o = self.next_holding(piece, Piece::O);
+        let held_z = self.next_holding(piece, Piece::Z);
+        let held_t = self.next_holding(piece, Piece::T);
+        let held_j = self.next_holding(piece, Piece::J);
+        let held_s = self.next_holding(piece, Piece::S);
         [
             empty_handed.low,
             empty_handed.high,
@@ -181,9 +171,7 @@ impl QueueSet {
 
     /// The drawn sets with which a piece may be held before the next one is drawn: it is held, or it is drawn where
     /// nothing is held.
-    fn with_held(&self, draws: Draws, first: Piece) -> Family
-        requires { draws.empty_handed ≡ in_progress (elements_of self.now.pattern)
-            (drawn_by self.now.held self.now.number None) }
+    fn with_held(&self, first: Piece) -> Family
         ensures { IsHeldFamily (elements_of self.now.pattern) self.now.hold self.now.held self.now.states
             self.now.number first result }
     {
@@ -191,43 +179,37 @@ impl QueueSet {
         if let Hold::Avoided = self.hold {
             return held;
         }
-        held.or(family_at(&self.states, None).draw(draws.empty_handed, first))
+        held.or(family_at(&self.states, None).draw(self.due.empty_handed, first))
     }
 
     /// The drawn sets with which some piece may be held before the next one is drawn.
-    fn holding(&self, draws: Draws) -> Family
-        requires { draws.empty_handed ≡ in_progress (elements_of self.now.pattern)
-            (drawn_by self.now.held self.now.number None) }
+    fn holding(&self) -> Family
         ensures { IsHolding (elements_of self.now.pattern) self.now.hold self.now.held self.now.states
             self.now.number all_pieces result }
     {
-        let held_i = self.with_held(draws, Piece::I);
-        let held_l = self.with_held(draws, Piece::L);
-        let held_o = self.with_held(draws, Piece::O);
-        let held_z = self.with_held(draws, Piece::Z);
-        let held_t = self.with_held(draws, Piece::T);
-        let held_j = self.with_held(draws, Piece::J);
-        let held_s = self.with_held(draws, Piece::S);
+        let held_i = self.with_held(Piece::I);
+        let held_l = self.with_held(Piece::L);
+        let held_o = self.with_held(Piece::O);
+        let held_z = self.with_held(Piece::Z);
+        let held_t = self.with_held(Piece::T);
+        let held_j = self.with_held(Piece::J);
+        let held_s = self.with_held(Piece::S);
         let four = held_i.or(held_l).or(held_o).or(held_z);
         four.or(held_t).or(held_j).or(held_s)
     }
 
     /// Whether a piece may come next: it is drawn where nothing is held, or where a piece is held, or it is held.
-    fn permits(&self, draws: Draws, holding: Family, piece: Piece) -> bool
-        requires empty_handed { draws.empty_handed ≡ in_progress (elements_of self.now.pattern)
-            (drawn_by self.now.held self.now.number None) }
-        requires holding { (piece : Piece) → draws.holding
-            ≡ in_progress (elements_of self.now.pattern) (drawn_by self.now.held self.now.number (Some piece)) }
-        requires held { IsHolding (elements_of self.now.pattern) self.now.hold self.now.held self.now.states
+    fn permits(&self, holding: Family, piece: Piece) -> bool
+        requires { IsHolding (elements_of self.now.pattern) self.now.hold self.now.held self.now.states
             self.now.number all_pieces holding }
         ensures { result ≡ queues_permit (queues_in_play self.now)
             ((queues_in_play self.now).played ++ piece ∷ []) }
     {
-        let plain = family_at(&self.states, None).draw(draws.empty_handed, piece);
+        let plain = family_at(&self.states, None).draw(self.due.empty_handed, piece);
         if !plain.is_empty() {
             return true;
         }
-        let second = holding.draw(draws.holding, piece);
+        let second = holding.draw(self.due.holding, piece);
         if !second.is_empty() {
             return true;
         }
@@ -244,8 +226,7 @@ impl QueueSet {
         ensures value { result ≡ queues_permit (queues_in_play self.now)
             ((queues_in_play self.now).played ++ piece ∷ []) }
     {
-        let draws = self.draws();
-        self.permits(draws, self.holding(draws), piece)
+        self.permits(self.holding(), piece)
     }
 
     /// For each kind, in the order of codes, whether some queue permits the pieces played so far followed by it.
@@ -253,16 +234,15 @@ impl QueueSet {
         ensures { result ≡ map (λ piece. queues_permit (queues_in_play self.now)
             ((queues_in_play self.now).played ++ piece ∷ [])) all_pieces }
     {
-        let draws = self.draws();
-        let holding = self.holding(draws);
+        let holding = self.holding();
         [
-            self.permits(draws, holding, Piece::I),
-            self.permits(draws, holding, Piece::L),
-            self.permits(draws, holding, Piece::O),
-            self.permits(draws, holding, Piece::Z),
-            self.permits(draws, holding, Piece::T),
-            self.permits(draws, holding, Piece::J),
-            self.permits(draws, holding, Piece::S),
+            self.permits(holding, Piece::I),
+            self.permits(holding, Piece::L),
+            self.permits(holding, Piece::O),
+            self.permits(holding, Piece::Z),
+            self.permits(holding, Piece::T),
+            self.permits(holding, Piece::J),
+            self.permits(holding, Piece::S),
         ]
     }
 
@@ -280,6 +260,10 @@ impl QueueSet {
             held: self.held,
             played,
             number: self.number + 1,
+            due: Draws {
+                empty_handed: self.due.holding,
+                holding: drawn_holding(&self.pattern, self.held, self.number + 1),
+            },
             states: self.next(piece),
         }
     }

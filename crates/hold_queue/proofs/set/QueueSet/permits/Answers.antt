@@ -12,21 +12,21 @@ returns-then-not-is_empty c =
     let set = c.args.self.now in
     sym (set-comes set c.args.piece
     (comes-plain (elements_of set.pattern) set.hold set.held set.states set.number (set-stands set) c.args.piece c.draw-plain.result
-    (drawn_at c.draw-plain.ensures c.requires.empty_handed c.family_at.ensures) (λ none. let wrong = c.is_empty.ensures.1 none in cc)))
+    (drawn_at c.draw-plain.ensures set.empty_handed c.family_at.ensures) (λ none. let wrong = c.is_empty.ensures.1 none in cc)))
 
 pub returns-then-not-is_empty-2 : goal.returns-then-not-is_empty-2
 returns-then-not-is_empty-2 c =
     let set = c.args.self.now in
     sym (set-comes set c.args.piece
-    (comes-second (elements_of set.pattern) set.hold set.held set.states set.number (set-stands set) c.args.piece c.args.holding c.draw-second.result c.requires.held
-    (drawn_by_draw c.draw-second.ensures (c.requires.holding c.args.piece)) (λ none. let wrong = c.is_empty-2.ensures.1 none in cc)))
+    (comes-second (elements_of set.pattern) set.hold set.held set.states set.number (set-stands set) c.args.piece c.args.holding c.draw-second.result c.requires
+    (drawn_by_draw c.draw-second.ensures (set.holding c.args.piece)) (λ none. let wrong = c.is_empty-2.ensures.1 none in cc)))
 
 pub returns-in-Avoided : goal.returns-in-Avoided
 returns-in-Avoided c =
     let set = c.args.self.now in
     sym (set-refuses set c.args.piece
     (comes-none (elements_of set.pattern) set.hold set.held set.states set.number (set-stands set) c.args.piece c.draw-plain.result c.args.holding c.draw-second.result
-    (drawn_at c.draw-plain.ensures c.requires.empty_handed c.family_at.ensures) c.requires.held (drawn_by_draw c.draw-second.ensures (c.requires.holding c.args.piece))
+    (drawn_at c.draw-plain.ensures set.empty_handed c.family_at.ensures) c.requires (drawn_by_draw c.draw-second.ensures (set.holding c.args.piece))
     (c.if-not-is_empty.ensures.0 refl) (c.if-not-is_empty-2.ensures.0 refl) (λ allowed. let avoided = c.in-Avoided.is in cc)))
 
 pub returns : goal.returns
@@ -37,7 +37,7 @@ returns c = go c.is_empty-3.result refl
         let set = c.args.self.now in
         ap not is ∙ sym (set-refuses set c.args.piece
         (comes-none (elements_of set.pattern) set.hold set.held set.states set.number (set-stands set) c.args.piece c.draw-plain.result c.args.holding c.draw-second.result
-        (drawn_at c.draw-plain.ensures c.requires.empty_handed c.family_at.ensures) c.requires.held (drawn_by_draw c.draw-second.ensures (c.requires.holding c.args.piece))
+        (drawn_at c.draw-plain.ensures set.empty_handed c.family_at.ensures) c.requires (drawn_by_draw c.draw-second.ensures (set.holding c.args.piece))
         (c.if-not-is_empty.ensures.0 refl) (c.if-not-is_empty-2.ensures.0 refl) (λ allowed. subst IsNone c.family_at-2.ensures (c.is_empty-3.ensures.0 is))))
     go false is =
         let set = c.args.self.now in

@@ -20,5 +20,5 @@ returns c =
     let set = c.args.self.now in
     subst (λ hold. IsHeldFamily (elements_of set.pattern) hold set.held set.states set.number c.args.first c.or.result) (sym c.in_default.is)
     (held-allowed (elements_of set.pattern) set.held set.states set.number (set-stands set) c.args.first c.draw.result c.or.result
-    (drawn_at c.draw.ensures c.requires c.family_at.ensures)
+    (drawn_at c.draw.ensures set.empty_handed c.family_at.ensures)
     (subst (λ f. IsUnion f c.draw.result c.or.result) c.family_at-held.ensures (record { each = c.or.ensures })))
