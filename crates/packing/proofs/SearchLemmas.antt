@@ -1,6 +1,6 @@
 -- The search goes down: it has fewer pieces or fewer spans left, and what was tried in vain stays tried.
-use Rattle.std.proofs.Common.{◌≡◌, ℕ, ◌+◌, bit_and, ◌<◌, ◌≤◌, Bool, true, false, not, ◌&&◌, ◌==◌, nat_le, List, [], ◌∷◌, length, get_or, refl, sym, ap, ap₂, subst, ◌∙◌, inl, inr, arith}
-use Rattle.std.proofs.lemmas.Bool.{and_parts, and_from, both_ways, cases_eq, le-leb, leb-true, ne_eqb}
+use Rattle.std.proofs.Common.{◌≡◌, ℕ, ◌+◌, bit_and, ◌<◌, ◌≤◌, Bool, true, false, not, ◌&&◌, ◌==◌, if◌then◌else◌, nat_le, nat_lt, List, [], ◌∷◌, length, get_or, refl, sym, ap, ap₂, subst, ◌∙◌, inl, inr, arith}
+use Rattle.std.proofs.lemmas.Bool.{and_parts, and_from, both_ways, cases_eq, eq-eqb, eqb-true, le-leb, le-ltb, leb-true, ne_eqb}
 use Rattle.lane_board.proofs.CallerLemmas.{has_bit-and, has_bit-zero}
 use Rattle.lane_board.specs.Lanes.{has_bit}
 use Rattle.packing.proofs.StackLemmas.{IsSmall, some_in_span}
@@ -11,7 +11,7 @@ use Rattle.srs.specs.declared.piece.Piece.TheVariants.{I, L, O, Z, T, J, S}
 use Rattle.prune.specs.Tiling.{Supply}
 use Rattle.prune.specs.OnePart.{less_one}
 use Rattle.packing.specs.declared.span.Span.{Span}
-use Rattle.packing.specs.Spans.{forms_of, has_span, without_span, IsFirst}
+use Rattle.packing.specs.Spans.{forms_of, has_first, has_span, without_span, IsFirst}
 use Rattle.packing.specs.Stacks.{MayTake, StacksOver, StacksPiece, Stacks, Takes, is_allowed, CanFill}
 
 -- how many pieces there are
@@ -128,3 +128,30 @@ pub third_form : (supply : Supply) (E : Field) (x y : ℕ) (piece kind : Piece) 
     StacksOver supply E x y 0 (get_or (forms_of kind) 2 []) → StacksPiece supply E x y piece
 third_form supply E x y piece kind is below stacks =
     subst (λ (p : Piece). StacksPiece supply E x y p) (sym is) (record { place = 2; known = below; stacks = stacks })
+
+-- a span with the leftmost column may take row y, where it has all its cells
+pub first_may : (E : Field) (x y : ℕ) (span : Span) → has_first span ≡ true → has_span E x span y ≡ true → MayTake (is_allowed y) E x 0 span y
+first_may E x y span first has = record {
+  above = omega arith;
+  permitted = ap₂ (λ b f. if b then true else (if f then y == y else nat_lt y y)) (le-ltb y 0 (omega arith)) first ∙ eq-eqb y y refl;
+  has = has;
+}
+
+-- and no other one
+pub first_only : (supply : Supply) (E : Field) (x y : ℕ) (span : Span) (spans : List Span) → has_first span ≡ true → StacksOver supply E x y 0 (span ∷ spans) →
+    (has_span E x span y ≡ true) × StacksOver supply (without_span E x span y) x y (y + 1) spans
+unfolding Stacks
+first_only supply E x y span spans first (row, may, rest) =
+    let here : row ≡ y = eqb-true row y (sym (ap₂ (λ b f. if b then true else (if f then row == y else nat_lt row y)) (le-ltb y 0 (omega arith)) first) ∙ may.permitted) in (
+      subst (λ k. has_span E x span k ≡ true) here may.has,
+      subst (λ k. StacksOver supply (without_span E x span k) x y (k + 1) spans) here rest,
+    )
+
+-- so such spans can be stacked exactly where the others can above it
+pub first_exact : (supply : Supply) (E rest : Field) (x y : ℕ) (span : Span) (spans : List Span) (b : Bool) → has_first span ≡ true → has_span E x span y ≡ true → rest ≡ without_span E x span y →
+    ((b ≡ true → StacksOver supply rest x y (y + 1) spans) × (StacksOver supply rest x y (y + 1) spans → b ≡ true)) →
+    (b ≡ true → StacksOver supply E x y 0 (span ∷ spans)) × (StacksOver supply E x y 0 (span ∷ spans) → b ≡ true)
+first_exact supply E rest x y span spans b first has left exact = (
+  λ e. stacks_more supply E rest x y 0 y span spans _ refl left (first_may E x y span first has) (exact.0 e),
+  λ stacks. exact.1 (subst (λ (G : Field). StacksOver supply G x y (y + 1) spans) (sym left) (first_only supply E x y span spans first stacks).1),
+)

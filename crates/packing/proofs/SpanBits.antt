@@ -3,7 +3,8 @@ use Rattle.std.proofs.Common.{◌≡◌, ℕ, ◌+◌, ◌-◌, ◌*◌, ◌%◌
 use Rattle.std.specs.List.{list_any}
 use Rattle.std.proofs.lemmas.Bool.{agree_below_at, cases_lt, eqb-true, eq-eqb, ne_eqb, and_parts, and_from, both_ways}
 use Rattle.std.proofs.lemmas.Bool.Decides.{nat_tests}
-use Rattle.std.proofs.lemmas.Nat.{xor_lt, and_le_l}
+use Rattle.std.proofs.lemmas.Nat.{xor_lt, and_le_l, mul-lt, pow-add, pow_below}
+use Rattle.std.proofs.Math.Nat.{mul_assoc}
 use Rattle.lane_board.specs.Lanes.{has_bit}
 use Rattle.lane_board.proofs.CallerLemmas.{same_from_both, has_bit-and_not, has_bit-past, has_bit-low, has_bit-shifted_low, has_bit-shifted_high}
 use Rattle.packing.specs.declared.span.Span.{Span}
@@ -120,3 +121,12 @@ left_bit span n m x y a b bits small small_y small_b = has_bit-and_not n _ (8 * 
 
 pub left_small : (n m : ℕ) → n < 2 ^ 80 → bit_xor n (bit_and n m) < 2 ^ 80
 left_small n m small = xor_lt 80 n (bit_and n m) small (omega (arith, and_le_l n m))
+
+-- to move to a row and then to a column is to move once
+pub moved_twice : (m x y : ℕ) → m < 2 ^ 32 → y < 8 → (m * 2 ^ y % 2 ^ 64) * 2 ^ (8 * x) ≡ m * 2 ^ (8 * x + y)
+moved_twice m x y low small =
+    ap (λ n. n * 2 ^ (8 * x)) {x = m * 2 ^ y % 2 ^ 64} {y = m * 2 ^ y} (omega (arith, below)) ∙ mul_assoc m (2 ^ y) (2 ^ (8 * x))
+    ∙ ap (λ n. m * n) (sym (pow-add 2 y (8 * x)) ∙ ap (λ k. 2 ^ k) {x = y + 8 * x} {y = 8 * x + y} (omega arith))
+  where
+    below : m * 2 ^ y < 2 ^ 32 * 2 ^ 8
+    below = mul-lt m (2 ^ y) (2 ^ 32) (2 ^ 8) low (pow_below y 8 small)

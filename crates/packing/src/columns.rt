@@ -1,10 +1,15 @@
 // The cells of a set column by column: a quick test that it has no tiling.
-ghost use Rattle.std.specs.Prelude.{◌≡◌, ◌≤◌, ◌↔◌, IsTrue};
+ghost use Rattle.std.specs.Prelude.{◌≡◌, ◌≤◌, ◌↔◌, ◌+◌, ◌*◌, IsTrue, sum_by};
+ghost use Rattle.std.specs.List.{range_with_len};
+ghost use Rattle.prune.specs.Tiling.{supply_in, Tiling};
 ghost use Rattle.prune.specs.Counts.{column_empties, HasUnevenRun};
 ghost use Rattle.packing.specs.Empties.{all_but, empty_cells};
 
 use crate::empties::Empties;
 use crate::span::Span;
+use crate::supply::count_of;
+use prune::pieces;
+use srs::Piece;
 
 impl Empties {
     /// Whether some longest run of neighbouring columns that each have a cell has a number of cells that is no multiple
@@ -31,8 +36,42 @@ impl Empties {
     #[inline(always)]
     fn in_column(&self, x: u8) -> u8
         requires { x ≤ 9 }
-        ensures { result ≡ column_empties (all_but (empty_cells self.now)) 8 x }
+        ensures number { result ≡ column_empties (all_but (empty_cells self.now)) 8 x }
+        ensures small { result ≤ 8 }
     {
         self.rows_with(x, Span::First).count_ones() as u8
+    }
+
+    /// Whether the cells would use up the supply, which has no T, and those in even columns are an even number where L
+    /// and J together are an odd one, or the other way round. Then there is no tiling.
+    #[inline(always)]
+    pub(crate) fn has_wrong_parity(&self, supply: &[u8; 7]) -> bool
+        ensures { IsTrue result → Tiling (all_but (empty_cells self.now)) 8 (supply_in supply.now) → ⊥ }
+    {
+        if count_of(supply, Piece::T) > 0 {
+            return false;
+        }
+        let odd_kinds = count_of(supply, Piece::L) % 2 + count_of(supply, Piece::J) % 2;
+        let even_columns = self.in_five_columns(0);
+        if (even_columns + odd_kinds) % 2 == 0 {
+            return false;
+        }
+        let cells = even_columns + self.in_five_columns(1);
+        4 * pieces(supply) == u16::from(cells)
+    }
+
+    /// How many cells every other column has from column 0 or 1 on.
+    #[inline(always)]
+    fn in_five_columns(&self, first: u8) -> u8
+        requires { first ≤ 1 }
+        ensures number { result ≡ sum_by (λ k. column_empties (all_but (empty_cells self.now)) 8 (2 * k + first))
+            (range_with_len 0 5) }
+        ensures small { result ≤ 40 }
+    {
+        self.in_column(first)
+            + self.in_column(first + 2)
+            + self.in_column(first + 4)
+            + self.in_column(first + 6)
+            + self.in_column(first + 8)
     }
 }

@@ -92,11 +92,10 @@ impl Empties {
         Empties { cells }
     }
 
-    /// Whether a column lies nearer to the last column that has cells than to the first one.
+    /// Whether more cells lie before a column than from it on.
     pub(crate) fn lies_right(&self, column: u8) -> bool {
-        let first = self.cells.trailing_zeros() as u8 / 8;
-        let last = 15u8.saturating_sub(self.cells.leading_zeros() as u8 / 8);
-        2 * u16::from(column) > u16::from(first) + u16::from(last)
+        let before = self.cells & ((1 << (8 * column.min(10))) - 1);
+        2 * before.count_ones() > self.cells.count_ones()
     }
 
     /// The rows in which the set has all cells of a span whose first column is `x`: bit `y` stands for row `y`.
@@ -115,7 +114,7 @@ impl Empties {
         requires row { y ≤ 7 }
         ensures { empty_cells result ≡ without_span (empty_cells self.now) x span y }
     {
-        let taken = self.cells & span.cells() << (8 * x + y);
+        let taken = self.cells & u128::from(span.cells() << y) << (8 * x);
         Empties {
             cells: self.cells ^ taken,
         }

@@ -11,6 +11,15 @@ pub(crate) fn rows_from(row: u8) -> u8
     (255u16 << row & 255) as u8
 }
 
+/// Whether a set has a row.
+#[inline(always)]
+pub(crate) fn has_row(rows: u8, row: u8) -> bool
+    requires { row < 8 }
+    ensures { result ≡ has_bit rows row }
+{
+    rows >> row & 1 == 1
+}
+
 /// The rows of a set that aren't in another one.
 #[inline(always)]
 pub(crate) fn rows_without(rows: u8, others: u8) -> u8

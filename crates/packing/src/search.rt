@@ -1,15 +1,15 @@
 // The search for a tiling: some piece covers the lowest cell of the leftmost column.
-ghost use Rattle.std.specs.Prelude.{ℕ, ◌≡◌, ◌↔◌, ◌≤◌, ◌<◌, ◌&&◌, nat_le, [], ◌∷◌, IsTrue};
+ghost use Rattle.std.specs.Prelude.{ℕ, ◌≡◌, ◌↔◌, ◌≤◌, ◌<◌, ◌&&◌, nat_le, [], ◌∷◌, IsTrue, true};
 ghost use Rattle.lane_board.specs.Lanes.{has_bit};
 ghost use Rattle.srs.specs.declared.piece.Piece.TheVariants.{I, L, O, Z, T, J, S};
 ghost use Rattle.prune.specs.Tiling.{supply_in, Tiling};
 ghost use Rattle.packing.specs.Empties.{empty_cells, all_but};
-ghost use Rattle.packing.specs.Spans.{IsFirst};
+ghost use Rattle.packing.specs.Spans.{has_first, IsFirst};
 ghost use Rattle.packing.specs.Stacks.{is_allowed, StacksOver, StacksPiece, Takes};
 
 use crate::decided::{Decided, place_of};
 use crate::empties::Empties;
-use crate::rows::{lowest_row, rows_from, rows_without, without_row};
+use crate::rows::{has_row, lowest_row, rows_from, rows_without, without_row};
 use crate::span::Span;
 use crate::supply::{count_of, without_one};
 use Span::{AllFour, First, FirstThree, FirstTwo, Second, SecondTwo, Third};
@@ -73,6 +73,9 @@ impl Empties {
     {
         if known.is_empty() {
             return self.covers(y, supply, known);
+        }
+        if self.has_wrong_parity(supply) {
+            return false;
         }
         let place = place_of(self, supply, known.len());
         if let Some(answer) = known[place].answer_to(self, supply) {
@@ -142,8 +145,8 @@ impl Empties {
         ensures { IsTrue result
             ↔ StacksPiece (supply_in supply.now) (empty_cells self.now) 0 y I }
     {
-        self.stacks_one(y, 0, AllFour, supply, known)
-            || self.stacks_four(y, 0, First, First, First, First, supply, known)
+        self.first_one(y, AllFour, supply, known)
+            || self.first_four(y, First, First, First, First, supply, known)
     }
 
     /// Whether an L can cover the first cell so that the supply fills what it leaves.
@@ -154,9 +157,9 @@ impl Empties {
             ↔ StacksPiece (supply_in supply.now) (empty_cells self.now) 0 y L }
     {
         any_of!(
-            self.stacks_two(y, 0, FirstThree, Third, supply, known),
-            self.stacks_three(y, 0, FirstTwo, First, First, supply, known),
-            self.stacks_two(y, 0, First, FirstThree, supply, known),
+            self.first_two(y, FirstThree, Third, supply, known),
+            self.first_three(y, FirstTwo, First, First, supply, known),
+            self.first_two(y, First, FirstThree, supply, known),
             self.stacks_three(y, 0, Second, Second, FirstTwo, supply, known)
         )
     }
@@ -168,7 +171,7 @@ impl Empties {
         ensures { IsTrue result
             ↔ StacksPiece (supply_in supply.now) (empty_cells self.now) 0 y O }
     {
-        self.stacks_two(y, 0, FirstTwo, FirstTwo, supply, known)
+        self.first_two(y, FirstTwo, FirstTwo, supply, known)
     }
 
     /// Whether a Z can cover the first cell so that the supply fills what it leaves.
@@ -179,7 +182,7 @@ impl Empties {
             ↔ StacksPiece (supply_in supply.now) (empty_cells self.now) 0 y Z }
     {
         self.stacks_two(y, 0, SecondTwo, FirstTwo, supply, known)
-            || self.stacks_three(y, 0, First, FirstTwo, Second, supply, known)
+            || self.first_three(y, First, FirstTwo, Second, supply, known)
     }
 
     /// Whether a T can cover the first cell so that the supply fills what it leaves.
@@ -190,8 +193,8 @@ impl Empties {
             ↔ StacksPiece (supply_in supply.now) (empty_cells self.now) 0 y T }
     {
         any_of!(
-            self.stacks_two(y, 0, FirstThree, Second, supply, known),
-            self.stacks_three(y, 0, First, FirstTwo, First, supply, known),
+            self.first_two(y, FirstThree, Second, supply, known),
+            self.first_three(y, First, FirstTwo, First, supply, known),
             self.stacks_two(y, 0, Second, FirstThree, supply, known),
             self.stacks_three(y, 0, Second, FirstTwo, Second, supply, known)
         )
@@ -205,10 +208,10 @@ impl Empties {
             ↔ StacksPiece (supply_in supply.now) (empty_cells self.now) 0 y J }
     {
         any_of!(
-            self.stacks_two(y, 0, FirstThree, First, supply, known),
-            self.stacks_three(y, 0, First, First, FirstTwo, supply, known),
+            self.first_two(y, FirstThree, First, supply, known),
+            self.first_three(y, First, First, FirstTwo, supply, known),
             self.stacks_two(y, 0, Third, FirstThree, supply, known),
-            self.stacks_three(y, 0, FirstTwo, Second, Second, supply, known)
+            self.first_three(y, FirstTwo, Second, Second, supply, known)
         )
     }
 
@@ -219,7 +222,7 @@ impl Empties {
         ensures { IsTrue result
             ↔ StacksPiece (supply_in supply.now) (empty_cells self.now) 0 y S }
     {
-        self.stacks_two(y, 0, FirstTwo, SecondTwo, supply, known)
+        self.first_two(y, FirstTwo, SecondTwo, supply, known)
             || self.stacks_three(y, 0, Second, FirstTwo, First, supply, known)
     }
 
@@ -276,13 +279,68 @@ impl Empties {
         some_row!(self, y, floor, a, rest, row => rest.stacks_two(y, row + 1, b, c, supply, known))
     }
 
-    /// The same of four spans.
+    /// Whether a span with the first column can cover the first cell, in its row, so that the supply fills what it leaves.
     #[cycle(search)]
     #[inline(always)]
-    fn stacks_four(
+    fn first_one(&self, y: u8, a: Span, supply: &[u8; 7], known: &mut [Decided]) -> bool
+        requires row { y ≤ 7 }
+        requires first { has_first a ≡ true }
+        ensures { IsTrue result
+            ↔ StacksOver (supply_in supply.now) (empty_cells self.now) 0 y 0 (a ∷ []) }
+    {
+        if !has_row(self.rows_with(0, a), y) {
+            return false;
+        }
+        let rest = self.without_span(0, a, y);
+        rest.decide(supply, known)
+    }
+
+    /// The same of such a span and one above it.
+    #[cycle(search)]
+    #[inline(always)]
+    fn first_two(&self, y: u8, a: Span, b: Span, supply: &[u8; 7], known: &mut [Decided]) -> bool
+        requires row { y ≤ 7 }
+        requires first { has_first a ≡ true }
+        ensures { IsTrue result
+            ↔ StacksOver (supply_in supply.now) (empty_cells self.now) 0 y 0 (a ∷ b ∷ []) }
+    {
+        if !has_row(self.rows_with(0, a), y) {
+            return false;
+        }
+        let rest = self.without_span(0, a, y);
+        rest.stacks_one(y, y + 1, b, supply, known)
+    }
+
+    /// The same of such a span and two above it.
+    #[cycle(search)]
+    #[inline(always)]
+    fn first_three(
         &self,
         y: u8,
-        floor: u8,
+        a: Span,
+        b: Span,
+        c: Span,
+        supply: &[u8; 7],
+        known: &mut [Decided],
+    ) -> bool
+        requires row { y ≤ 7 }
+        requires first { has_first a ≡ true }
+        ensures { IsTrue result
+            ↔ StacksOver (supply_in supply.now) (empty_cells self.now) 0 y 0 (a ∷ b ∷ c ∷ []) }
+    {
+        if !has_row(self.rows_with(0, a), y) {
+            return false;
+        }
+        let rest = self.without_span(0, a, y);
+        rest.stacks_two(y, y + 1, b, c, supply, known)
+    }
+
+    /// The same of such a span and three above it.
+    #[cycle(search)]
+    #[inline(always)]
+    fn first_four(
+        &self,
+        y: u8,
         a: Span,
         b: Span,
         c: Span,
@@ -291,16 +349,20 @@ impl Empties {
         known: &mut [Decided],
     ) -> bool
         requires row { y ≤ 7 }
-        requires start { floor ≤ 8 }
+        requires first { has_first a ≡ true }
         ensures { IsTrue result
-            ↔ StacksOver (supply_in supply.now) (empty_cells self.now) 0 y floor (a ∷ b ∷ c ∷ d ∷ []) }
+            ↔ StacksOver (supply_in supply.now) (empty_cells self.now) 0 y 0 (a ∷ b ∷ c ∷ d ∷ []) }
     {
-        some_row!(self, y, floor, a, rest, row => rest.stacks_three(y, row + 1, b, c, d, supply, known))
+        if !has_row(self.rows_with(0, a), y) {
+            return false;
+        }
+        let rest = self.without_span(0, a, y);
+        rest.stacks_three(y, y + 1, b, c, d, supply, known)
     }
 }
 
-/// The rows from `floor` on that a span may take so that the lowest span with the first column takes row `y`: until that
-/// one has come, so where `floor` is `y` or below.
+/// The rows from `floor` on that a span may take so that the lowest span with the first column takes row `y`: until
+/// that one has come, so where `floor` is `y` or below.
 #[inline(always)]
 fn allowed(y: u8, floor: u8, span: Span) -> u8
     requires row { y ≤ 7 }

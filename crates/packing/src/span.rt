@@ -1,5 +1,5 @@
 // The rows of pieces, from the lowest up: which neighbouring columns each takes.
-ghost use Rattle.std.specs.Prelude.{◌≡◌, ℕ, ◌+◌, ◌*◌, ◌==◌};
+ghost use Rattle.std.specs.Prelude.{◌≡◌, ℕ, ◌+◌, ◌*◌, ◌==◌, ◌<◌, ◌^◌};
 ghost use Rattle.std.specs.List.{list_all, list_any};
 ghost use Rattle.lane_board.specs.Lanes.{has_bit};
 ghost use Rattle.packing.specs.Spans.{columns_of, has_first};
@@ -30,9 +30,10 @@ impl Span {
 
     /// Its columns as a set of cells of row 0: bit `8 * column`.
     #[inline(always)]
-    pub(crate) fn cells(self) -> u128
-        ensures { (k : ℕ)
+    pub(crate) fn cells(self) -> u64
+        ensures bits { (k : ℕ)
             → has_bit result k ≡ list_any (λ column. 8 * column == k) (columns_of self) }
+        ensures low { result < 2 ^ 32 }
     {
         match self {
             Span::First => 1,

@@ -41,9 +41,14 @@ impl TilingStore {
     pub fn has_tiling_near(&mut self, cells: &Empties, column: u8, supply: &[u8; 7]) -> bool
         ensures { IsTrue result ↔ Tiling (all_but (empty_cells cells.now)) 8 (supply_in supply.now) }
     {
-        if !cells.lies_right(column) {
-            return self.has_tiling(cells, supply);
+        if cells.has_uneven_run() {
+            return false;
         }
-        self.has_tiling(&cells.mirrored(), &mirrored_supply(supply))
+        if !cells.lies_right(column) {
+            return cells.decide(supply, &mut self.decided);
+        }
+        cells
+            .mirrored()
+            .decide(&mirrored_supply(supply), &mut self.decided)
     }
 }

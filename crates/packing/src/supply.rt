@@ -6,6 +6,7 @@ ghost use Rattle.prune.specs.Tiling.{supply_in};
 use srs::Piece;
 
 /// How many pieces of this kind there are.
+#[inline(always)]
 pub(crate) fn count_of(supply: &[u8; 7], piece: Piece) -> u8
     ensures { result ≡ supply_in supply.now piece }
 {
@@ -13,6 +14,7 @@ pub(crate) fn count_of(supply: &[u8; 7], piece: Piece) -> u8
 }
 
 /// One piece of this kind fewer, or none where there is none.
+#[inline(always)]
 pub fn without_one(supply: &[u8; 7], piece: Piece) -> [u8; 7]
     ensures { supply_in result ≡ less_one (supply_in supply.now) piece }
 {

@@ -1,7 +1,8 @@
 -- What crates above cite: a tiling with one part more or fewer, one placement, a run that clears its rows, and counts.
-pub use Rattle.prune.proofs.ColumnCounts.{column_empties-le, column_empties-suc, column_empties-zero}
+pub use Rattle.prune.proofs.ColumnCounts.{all_empties, column_empties-le, column_empties-suc, column_empties-zero}
 pub use Rattle.prune.proofs.PartsOfTilings.{TakenPart, is_empty-with_cells, rises, rising-from_test, same_tiling, taken_part, tiling-intersection, with_part}
 pub use Rattle.prune.proofs.MirrorLemmas.{kind_again, tiling_mirrored}
 pub use Rattle.prune.proofs.RunLemmas.{Runs, ends, finds, goes_on, starts, stops}
 pub use Rattle.prune.proofs.RefusalLemmas.{none_refused}
+pub use Rattle.prune.proofs.EvenColumns.{even_columns}
 pub use Rattle.prune.proofs.PlacedLemmas.{cleared_is_tiled, full_rows_may_stand, more_pieces, one_placement}

@@ -177,7 +177,8 @@ module _ (F : Field) (rows : ℕ) (cells : List Cell) (empty : list_all (is_empt
                   let row : row_of c ≡ n = ap (λ (c : Cell). nat_abs c.1) is in
                   and_from _ _ (eq-eqb (column_of c) x column) (lt-ltb (row_of c) (suc n) (omega arith))
 
-  one_column : (x : ℕ) → x < 10 → count_by (λ c. column_of c == x) cells ≡ column_empties F rows x
+  -- as many of the cells stand in a column as it has empty cells
+  pub one_column : (x : ℕ) → x < 10 → count_by (λ c. column_of c == x) cells ≡ column_empties F rows x
   unfolding in_column
   one_column x column = count-agree (λ c. column_of c == x) (in_column x rows) (is_empty_below F rows) cells empty agree ∙ column_count x rows column (omega arith)
     where

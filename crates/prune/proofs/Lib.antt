@@ -8,6 +8,7 @@ mod PartsOfTilings
 mod PlacedLemmas
 mod ColumnCounts
 mod RefusalLemmas
+mod EvenColumns
 mod RunLemmas
 mod MirrorLemmas
 pub mod CallerLemmas

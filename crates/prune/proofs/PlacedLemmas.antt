@@ -16,7 +16,7 @@ use Rattle.well.specs.Lock.{together, locked, rows_removed}
 use Rattle.well.specs.LockLaws.{LiesBelow, is_below}
 use Rattle.well.proofs.CallerLemmas.{free_inside, stays_below}
 use Rattle.prune.specs.Tiling.{Part, sent, IsGeneralized, is_empty_below, covers, Tiling, Supply}
-use Rattle.prune.specs.Laws.{with_one, OnePlacement, FullRowsMayStand, MorePieces, pieces_in, ClearedIsTiled}
+use Rattle.prune.specs.Laws.{with_one, OnePlacement, FullRowsMayStand, MorePieces, kinds_placed, ClearedIsTiled}
 use Rattle.prune.specs.OnePart.{with_cells}
 use Rattle.prune.proofs.CellCounts.{count-yes, count-no}
 use Rattle.prune.proofs.EmptyCells.{is_empty_at, none_below}
@@ -121,15 +121,15 @@ no_rows F rows supply none = record {
   supplied = λ piece. omega arith;
 }
 
-one_more : (q : Placement) (rest : List Placement) (piece : Piece) → with_one (pieces_in rest) q.piece piece ≤ pieces_in (q ∷ rest) piece
-unfolding with_one pieces_in
+one_more : (q : Placement) (rest : List Placement) (piece : Piece) → with_one (kinds_placed rest) q.piece piece ≤ kinds_placed (q ∷ rest) piece
+unfolding with_one kinds_placed
 one_more q rest piece = elim (cases_Bool (piece_code q.piece == piece_code piece)) [
-  | inl same ↦ omega (arith, count-yes (λ q. piece_code q.piece == piece_code piece) q rest same, cond-true {A = ℕ} _ (suc (pieces_in rest piece)) (pieces_in rest piece) same)
-  | inr other ↦ omega (arith, count-no (λ q. piece_code q.piece == piece_code piece) q rest other, cond-false {A = ℕ} _ (suc (pieces_in rest piece)) (pieces_in rest piece) other)
+  | inl same ↦ omega (arith, count-yes (λ q. piece_code q.piece == piece_code piece) q rest same, cond-true {A = ℕ} _ (suc (kinds_placed rest piece)) (kinds_placed rest piece) same)
+  | inr other ↦ omega (arith, count-no (λ q. piece_code q.piece == piece_code piece) q rest other, cond-false {A = ℕ} _ (suc (kinds_placed rest piece)) (kinds_placed rest piece) other)
 ]
 
 pub cleared_is_tiled : ClearedIsTiled
-cleared_is_tiled F rows [] within below none = no_rows F rows (pieces_in []) none
+cleared_is_tiled F rows [] within below none = no_rows F rows (kinds_placed []) none
 cleared_is_tiled F rows (q ∷ rest) within below clears =
     let after = cleared_is_tiled (locked F q) (rows - rows_removed F q) rest (omega arith) (record { none = λ x y above. stays_below F q rows within below clears.1 x y (omega arith) }) clears.2 in
-    more_pieces F rows (with_one (pieces_in rest) q.piece) (pieces_in (q ∷ rest)) (one_more q rest) (one_placement F q rows (pieces_in rest) within below clears.0 clears.1 after)
+    more_pieces F rows (with_one (kinds_placed rest) q.piece) (kinds_placed (q ∷ rest)) (one_more q rest) (one_placement F q rows (kinds_placed rest) within below clears.0 clears.1 after)

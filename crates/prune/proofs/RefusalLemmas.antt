@@ -151,7 +151,7 @@ alike p (c ∷ cs) same = elim (cases_Bool (p c)) [
     listed = list_all-from_is_among (is_among (c ∷ cs)) (c ∷ cs) (λ d has. has)
 
 -- the test counts four cells of so many parts
-record FourOfEach (p : Cell → Bool) (parts : List Part) : Type 0 where
+pub record FourOfEach (p : Cell → Bool) (parts : List Part) : Type 0 where
   pub number : ℕ
   pub within : number ≤ length parts
   pub counted : count_by p (cells_in parts) ≡ 4 * number
@@ -169,7 +169,7 @@ four_of_each F rows p (part ∷ parts) all empty same =
     ]
 
 -- each part is of one kind
-kinds_of_parts : (parts : List Part) → sum_by (parts_of parts) all_pieces ≡ length parts
+pub kinds_of_parts : (parts : List Part) → sum_by (parts_of parts) all_pieces ≡ length parts
 kinds_of_parts [] = refl
 kinds_of_parts (part ∷ parts) = omega (arith, kinds_of_parts parts, one_kind part.piece, parts_of-cons part parts I, parts_of-cons part parts L, parts_of-cons part parts O, parts_of-cons part parts Z, parts_of-cons part parts T, parts_of-cons part parts J, parts_of-cons part parts S)
   where
@@ -186,13 +186,13 @@ module _ (F : Field) (rows : ℕ) (supply : Supply) (t : Tiling F rows supply) w
   abbrev cells : List Cell
   cells = cells_in t.parts
 
-  empty : list_all (is_empty_below F rows) cells ≡ true
+  pub empty : list_all (is_empty_below F rows) cells ≡ true
   empty = cells_empty F rows t.parts t.covered
 
-  counted : (first n : ℕ) → first + n ≤ 10 → count_by (in_columns first n) cells ≡ sum_by (column_empties F rows) (range_with_len first n)
+  pub counted : (first n : ℕ) → first + n ≤ 10 → count_by (in_columns first n) cells ≡ sum_by (column_empties F rows) (range_with_len first n)
   counted = columns_count F rows cells empty (λ cell. sym (covers-count t.parts cell) ∙ t.covered cell)
 
-  all_cells : FourOfEach (in_columns 0 10) t.parts
+  pub all_cells : FourOfEach (in_columns 0 10) t.parts
   all_cells = four_of_each F rows (in_columns 0 10) t.parts t.generalized empty (λ part is free c d has_c has_d _.
       let e = at F rows part is free d has_d in
       let column : column_of d ≡ e.x = ap (λ (c : Cell). nat_abs c.0) e.is in

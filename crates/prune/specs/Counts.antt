@@ -22,6 +22,10 @@ pub record IsRun (F : Field) (rows first last : ℕ) : Type 0 where
 unfoldable pub run_empties : Field → ℕ → ℕ → ℕ → ℕ
 run_empties F rows first last = sum_by (column_empties F rows) (range_with_len first (last + 1 - first))
 
+-- how many cells of columns 0, 2, 4, 6 and 8 are empty
+unfoldable pub even_column_empties : Field → ℕ → ℕ
+even_column_empties F rows = sum_by (λ k. column_empties F rows (2 * k)) (range_with_len 0 5)
+
 -- some run has a number of empty cells that is no multiple of four
 pub record HasUnevenRun (F : Field) (rows : ℕ) : Type 0 where
   pub first : ℕ

@@ -1,12 +1,15 @@
 -- What one placement, and a run of placements, does to tilings.
-use Rattle.std.specs.Prelude.{◌≡◌, ℕ, suc, ◌-◌, ◌≤◌, IsTrue, ◌==◌, ◌↔◌, if◌then◌else◌, List, [], ◌∷◌, count_by}
+use Rattle.std.specs.Prelude.{◌≡◌, ℕ, suc, ◌+◌, ◌-◌, ◌*◌, ◌%◌, ◌≤◌, IsTrue, ◌==◌, ◌↔◌, if◌then◌else◌, List, [], ◌∷◌, count_by, sum_by}
 use Rattle.lane_board.specs.Field.{Field}
 use Rattle.srs.specs.declared.piece.Piece.{Piece}
 use Rattle.srs.specs.declared.placement.Placement.{Placement}
-use Rattle.srs.specs.Piece.{piece_code}
+use Rattle.srs.specs.declared.piece.Piece.TheVariants.{L, T, J}
+use Rattle.srs.specs.Piece.{all_pieces, piece_code}
+use Rattle.well.specs.Counts.{empties_below}
 use Rattle.well.specs.Free.{is_free}
 use Rattle.well.specs.Lock.{together, locked, rows_removed}
 use Rattle.well.specs.LockLaws.{LiesBelow, is_below}
+use Rattle.prune.specs.Counts.{even_column_empties}
 use Rattle.prune.specs.Tiling.{Supply, Tiling}
 
 -- one more piece of this kind
@@ -40,11 +43,18 @@ ClearsRows F rows (q ∷ rest) = IsTrue (is_free F q) × IsTrue (is_below rows q
     × ClearsRows (locked F q) (rows - rows_removed F q) rest
 
 -- as many pieces of each kind as these placements have
-unfoldable pub pieces_in : List Placement → Supply
-pieces_in placements piece = count_by (λ q. piece_code q.piece == piece_code piece) placements
+unfoldable pub kinds_placed : List Placement → Supply
+kinds_placed placements piece = count_by (λ q. piece_code q.piece == piece_code piece) placements
 
 -- where a run of placements clears all rows, its placements leave a tiling of the field before it; so it is before
 -- each of them, since the rest of a run is a run
 abbrev pub ClearedIsTiled : Type 0
 ClearedIsTiled = (F : Field) (rows : ℕ) (placements : List Placement) → rows ≤ 23 → LiesBelow F rows →
-    ClearsRows F rows placements → Tiling F rows (pieces_in placements)
+    ClearsRows F rows placements → Tiling F rows (kinds_placed placements)
+
+-- Where a tiling uses up a supply without a T, as many empty cells stand in even columns as there are L and J, up to an
+-- even number.
+abbrev pub EvenColumns : Type 0
+EvenColumns = (F : Field) (rows : ℕ) (supply : Supply) → supply T ≡ 0 →
+    empties_below F rows ≡ 4 * sum_by supply all_pieces → Tiling F rows supply →
+    even_column_empties F rows % 2 ≡ (supply L + supply J) % 2

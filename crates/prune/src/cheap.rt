@@ -23,9 +23,9 @@ pub fn cheap_no(well: &Well, rows_left: u8, supply: &[u8; 7]) -> bool
     has_uneven_run(well, rows_left)
 }
 
-/// How many pieces of all kinds there are.
+/// How many pieces of all kinds a supply has, whose entries stand in the order of piece codes.
 #[tactic(auto, unfolding(crate::specs::Tiling::supply_in))]
-fn pieces(supply: &[u8; 7]) -> u16
+pub fn pieces(supply: &[u8; 7]) -> u16
     ensures number { result ≡ sum_by (supply_in supply.now) all_pieces }
     ensures small { result ≤ 1785 }
 {

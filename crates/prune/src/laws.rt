@@ -1,5 +1,5 @@
 // Laws of tilings: functions without a body to speak of, whose contract is the law.
-ghost use Rattle.prune.specs.Laws.{OnePlacement, FullRowsMayStand, MorePieces, ClearedIsTiled};
+ghost use Rattle.prune.specs.Laws.{OnePlacement, FullRowsMayStand, MorePieces, ClearedIsTiled, EvenColumns};
 
 /// Where what a placement leaves has a tiling, the field before it has one with one more piece of its kind.
 pub fn placement_is_one_part()
@@ -20,4 +20,10 @@ pub fn more_pieces_may_be_left()
 /// Where a run of placements clears all rows, the empty cells before it have a tiling with its pieces.
 pub fn cleared_rows_are_tiled()
     ensures { ClearedIsTiled }
+{}
+
+/// Where a tiling uses up a supply without a T, the number of empty cells in even columns is even exactly where that of
+/// L and J together is.
+pub fn even_columns_count_l_and_j()
+    ensures { EvenColumns }
 {}

@@ -6,4 +6,4 @@ pub mod laws;
 #[cfg(test)]
 mod tests;
 
-pub use cheap::cheap_no;
+pub use cheap::{cheap_no, pieces};

@@ -1,6 +1,6 @@
 -- Each exit and each try.
-use Rattle.std.proofs.Common.{true, false, ◌∷◌, ◌≡◌, ◌↔◌, ◌+◌, [], refl, sym, subst, arith}
-use Rattle.std.proofs.lemmas.Bool.{false≢true}
+use Rattle.std.proofs.Common.{true, false, ◌∷◌, ◌≡◌, ◌↔◌, ◌+◌, ◌∙◌, [], refl, sym, subst, arith}
+use Rattle.std.proofs.lemmas.Bool.{both_ways, false≢true}
 use Rattle.lane_board.specs.Field.{Field}
 use Rattle.srs.specs.declared.piece.Piece.{Piece}
 use Rattle.srs.specs.declared.piece.Piece.TheVariants.{L, T, J}
@@ -11,7 +11,7 @@ use Rattle.packing.specs.Stacks.{StacksOver, StacksPiece}
 use Rattle.packing.proofs.EmptiesLemmas.{cells_small}
 use Rattle.packing.proofs.FillLemmas.{fills_nothing}
 use Rattle.packing.proofs.MovedTilings.{both_moved, first_moved}
-use Rattle.packing.proofs.SearchLemmas.{fewer, fills_taken, some_takes, stacks_none, stacks_more, all_tried, third_form, tried-start, tried-next}
+use Rattle.packing.proofs.SearchLemmas.{fewer, fills_taken, first_exact, first_only, some_takes, stacks_none, stacks_more, all_tried, third_form, tried-start, tried-next}
 use Rattle.packing.proofs.empties.Empties.+search.Goals as goal
 
 pub decide-returns-in_default : goal.decide-returns-in_default
@@ -45,6 +45,9 @@ takes-returns t c = (
 
 pub takes-returns-then-count_of-eq0 : goal.takes-returns-then-count_of-eq0
 takes-returns-then-count_of-eq0 t c = (λ e. absurd (false≢true e), λ takes. absurd (omega (arith, takes.has, c.count_of.ensures, c.if-count_of-eq0.true)))
+
+pub recall-returns-then-has_wrong_parity : goal.recall-returns-then-has_wrong_parity
+recall-returns-then-has_wrong_parity t c = (λ e. absurd (false≢true e), λ tiling. absurd (c.has_wrong_parity.ensures c.if-has_wrong_parity.true tiling))
 
 pub covers-returns-then-takes : goal.covers-returns-then-takes
 covers-returns-then-takes t c = (λ _. fills_taken _ _ _ 0 c.args.y (cells_small c.args.self.now) (c.if-takes.ensures.0 refl), λ _. refl)
@@ -152,30 +155,45 @@ stacks_three-returns t c = (
   λ stacks. absurd (all_tried _ _ _ _ _ c.args.a (c.args.b ∷ c.args.c ∷ []) _ (cells_small c.args.self.now) (omega arith) c.loop-rows.invariant stacks),
 )
 
-pub stacks_four-loop-rows-init : goal.stacks_four-loop-rows-init
-stacks_four-loop-rows-init t c = tried-start _ _ _ _ _ c.args.a (c.args.b ∷ c.args.c ∷ c.args.d ∷ []) _ _ c.rows_with.ensures c.allowed.ensures
-
-pub stacks_four-returns-then-stacks_three : goal.stacks_four-returns-then-stacks_three
-stacks_four-returns-then-stacks_three t c = (
-  λ _. stacks_more _ _ _ _ _ _ _ c.args.a (c.args.b ∷ c.args.c ∷ c.args.d ∷ []) _ refl c.without_span-rest.ensures
-      (c.loop-rows.invariant.may c.lowest_row-row.result c.lowest_row-row.ensures.below c.lowest_row-row.ensures.has)
-      (c.if-stacks_three.ensures.0 refl),
-  λ _. refl,
-)
-
-pub stacks_four-loop-rows-preserved : goal.stacks_four-loop-rows-preserved
-stacks_four-loop-rows-preserved t c = tried-next _ _ _ _ _ c.args.a (c.args.b ∷ c.args.c ∷ c.args.d ∷ []) _ _ c.lowest_row-row.result c.loop-rows.invariant
-    (record { fails = λ may stacks. false≢true (c.if-stacks_three.ensures.1 (subst (λ (E : Field). StacksOver (supply_in c.args.supply.now) E 0 c.args.y (c.lowest_row-row.result + 1) (c.args.b ∷ c.args.c ∷ c.args.d ∷ [])) (sym c.without_span-rest.ensures) stacks)) })
-    c.without_row-rows.ensures.others
-
-pub stacks_four-loop-rows-smaller : goal.stacks_four-loop-rows-smaller
-stacks_four-loop-rows-smaller t c = c.without_row-rows.ensures.fewer c.lowest_row-row.ensures.has
-
-pub stacks_four-returns : goal.stacks_four-returns
-stacks_four-returns t c = (
+pub first_one-returns-then-not-has_row : goal.first_one-returns-then-not-has_row
+first_one-returns-then-not-has_row t c = (
   λ e. absurd (false≢true e),
-  λ stacks. absurd (all_tried _ _ _ _ _ c.args.a (c.args.b ∷ c.args.c ∷ c.args.d ∷ []) _ (cells_small c.args.self.now) (omega arith) c.loop-rows.invariant stacks),
+  λ stacks. absurd (both_ways _ c.if-not-has_row.true (c.has_row.ensures ∙ c.rows_with.ensures c.args.y (omega arith) ∙ (first_only _ _ 0 c.args.y c.args.a [] c.requires.first stacks).0)),
 )
+
+pub first_one-returns : goal.first_one-returns
+first_one-returns t c = first_exact _ _ _ 0 c.args.y c.args.a [] _ c.requires.first
+    (sym (c.rows_with.ensures c.args.y (omega arith)) ∙ sym c.has_row.ensures ∙ c.if-not-has_row.false) c.without_span-rest.ensures (stacks_none _ _ 0 c.args.y (c.args.y + 1) [] c.decide.result refl c.decide.ensures)
+
+pub first_two-returns-then-not-has_row : goal.first_two-returns-then-not-has_row
+first_two-returns-then-not-has_row t c = (
+  λ e. absurd (false≢true e),
+  λ stacks. absurd (both_ways _ c.if-not-has_row.true (c.has_row.ensures ∙ c.rows_with.ensures c.args.y (omega arith) ∙ (first_only _ _ 0 c.args.y c.args.a (c.args.b ∷ []) c.requires.first stacks).0)),
+)
+
+pub first_two-returns : goal.first_two-returns
+first_two-returns t c = first_exact _ _ _ 0 c.args.y c.args.a (c.args.b ∷ []) _ c.requires.first
+    (sym (c.rows_with.ensures c.args.y (omega arith)) ∙ sym c.has_row.ensures ∙ c.if-not-has_row.false) c.without_span-rest.ensures c.stacks_one.ensures
+
+pub first_three-returns-then-not-has_row : goal.first_three-returns-then-not-has_row
+first_three-returns-then-not-has_row t c = (
+  λ e. absurd (false≢true e),
+  λ stacks. absurd (both_ways _ c.if-not-has_row.true (c.has_row.ensures ∙ c.rows_with.ensures c.args.y (omega arith) ∙ (first_only _ _ 0 c.args.y c.args.a (c.args.b ∷ c.args.c ∷ []) c.requires.first stacks).0)),
+)
+
+pub first_three-returns : goal.first_three-returns
+first_three-returns t c = first_exact _ _ _ 0 c.args.y c.args.a (c.args.b ∷ c.args.c ∷ []) _ c.requires.first
+    (sym (c.rows_with.ensures c.args.y (omega arith)) ∙ sym c.has_row.ensures ∙ c.if-not-has_row.false) c.without_span-rest.ensures c.stacks_two.ensures
+
+pub first_four-returns-then-not-has_row : goal.first_four-returns-then-not-has_row
+first_four-returns-then-not-has_row t c = (
+  λ e. absurd (false≢true e),
+  λ stacks. absurd (both_ways _ c.if-not-has_row.true (c.has_row.ensures ∙ c.rows_with.ensures c.args.y (omega arith) ∙ (first_only _ _ 0 c.args.y c.args.a (c.args.b ∷ c.args.c ∷ c.args.d ∷ []) c.requires.first stacks).0)),
+)
+
+pub first_four-returns : goal.first_four-returns
+first_four-returns t c = first_exact _ _ _ 0 c.args.y c.args.a (c.args.b ∷ c.args.c ∷ c.args.d ∷ []) _ c.requires.first
+    (sym (c.rows_with.ensures c.args.y (omega arith)) ∙ sym c.has_row.ensures ∙ c.if-not-has_row.false) c.without_span-rest.ensures c.stacks_three.ensures
 
 pub stacks_piece-returns-in-I : goal.stacks_piece-returns-in-I
 stacks_piece-returns-in-I t c = subst (λ (p : Piece). (c.stacks_i.result ≡ true) ↔ StacksPiece (supply_in c.args.supply.now) (empty_cells c.args.self.now) 0 c.args.y p) (sym c.in-I.is) c.stacks_i.ensures
@@ -198,11 +216,11 @@ stacks_piece-returns-in-J t c = subst (λ (p : Piece). (c.stacks_j.result ≡ tr
 pub stacks_piece-returns-in-S : goal.stacks_piece-returns-in-S
 stacks_piece-returns-in-S t c = subst (λ (p : Piece). (c.stacks_s.result ≡ true) ↔ StacksPiece (supply_in c.args.supply.now) (empty_cells c.args.self.now) 0 c.args.y p) (sym c.in-S.is) c.stacks_s.ensures
 
-pub stacks_l-returns-then-stacks_two-2 : goal.stacks_l-returns-then-stacks_two-2
-stacks_l-returns-then-stacks_two-2 t c = (λ _. third_form _ _ _ _ L L refl (omega arith) (c.if-stacks_two-2.ensures.0 refl), λ _. refl)
+pub stacks_l-returns-then-first_two-2 : goal.stacks_l-returns-then-first_two-2
+stacks_l-returns-then-first_two-2 t c = (λ _. third_form _ _ _ _ L L refl (omega arith) (c.if-first_two-2.ensures.0 refl), λ _. refl)
 
-pub stacks_t-returns-then-stacks_two-2 : goal.stacks_t-returns-then-stacks_two-2
-stacks_t-returns-then-stacks_two-2 t c = (λ _. third_form _ _ _ _ T T refl (omega arith) (c.if-stacks_two-2.ensures.0 refl), λ _. refl)
+pub stacks_t-returns-then-stacks_two : goal.stacks_t-returns-then-stacks_two
+stacks_t-returns-then-stacks_two t c = (λ _. third_form _ _ _ _ T T refl (omega arith) (c.if-stacks_two.ensures.0 refl), λ _. refl)
 
-pub stacks_j-returns-then-stacks_two-2 : goal.stacks_j-returns-then-stacks_two-2
-stacks_j-returns-then-stacks_two-2 t c = (λ _. third_form _ _ _ _ J J refl (omega arith) (c.if-stacks_two-2.ensures.0 refl), λ _. refl)
+pub stacks_j-returns-then-stacks_two : goal.stacks_j-returns-then-stacks_two
+stacks_j-returns-then-stacks_two t c = (λ _. third_form _ _ _ _ J J refl (omega arith) (c.if-stacks_two.ensures.0 refl), λ _. refl)

@@ -50,8 +50,17 @@ decreases-stacks_two l = 11 * total (supply_in l.supply.now) + 6
 abbrev pub decreases-stacks_three : goal.decreases-stacks_three
 decreases-stacks_three l = 11 * total (supply_in l.supply.now) + 7
 
-abbrev pub decreases-stacks_four : goal.decreases-stacks_four
-decreases-stacks_four l = 11 * total (supply_in l.supply.now) + 8
+abbrev pub decreases-first_one : goal.decreases-first_one
+decreases-first_one l = 11 * total (supply_in l.supply.now) + 8
+
+abbrev pub decreases-first_two : goal.decreases-first_two
+decreases-first_two l = 11 * total (supply_in l.supply.now) + 8
+
+abbrev pub decreases-first_three : goal.decreases-first_three
+decreases-first_three l = 11 * total (supply_in l.supply.now) + 8
+
+abbrev pub decreases-first_four : goal.decreases-first_four
+decreases-first_four l = 11 * total (supply_in l.supply.now) + 8
 
 abbrev pub invariant-stacks_one-loop-rows : goal.invariant-stacks_one-loop-rows
 invariant-stacks_one-loop-rows l = Tried (supply_in l.supply) (empty_cells l.self) 0 l.y l.floor l.a [] l.rows
@@ -70,9 +79,3 @@ invariant-stacks_three-loop-rows l = Tried (supply_in l.supply) (empty_cells l.s
 
 abbrev pub decreases-stacks_three-loop-rows : goal.decreases-stacks_three-loop-rows
 decreases-stacks_three-loop-rows l = l.rows
-
-abbrev pub invariant-stacks_four-loop-rows : goal.invariant-stacks_four-loop-rows
-invariant-stacks_four-loop-rows l = Tried (supply_in l.supply) (empty_cells l.self) 0 l.y l.floor l.a (l.b ∷ l.c ∷ l.d ∷ []) l.rows
-
-abbrev pub decreases-stacks_four-loop-rows : goal.decreases-stacks_four-loop-rows
-decreases-stacks_four-loop-rows l = l.rows

@@ -6,30 +6,30 @@ use Rattle.packing.specs.declared.span.Span.TheVariants.{First, Second, Third, F
 use Rattle.packing.proofs.SpanBits.{is_column_bit, each_column_bit}
 use Rattle.packing.proofs.span.Span.cells.Goals as goal
 
-pub returns-in-First : goal.returns-in-First
+pub returns-in-First-clause-bits : goal.returns-in-First-clause-bits
 unfolding has_bit
-returns-in-First c = rw c.in-First.is (λ k. each_column_bit First 1 k (lit< tt) (λ j. agree_below_at (has_bit 1) (is_column_bit First) 32 j refl))
+returns-in-First-clause-bits c = rw c.in-First.is (λ k. each_column_bit First 1 k (lit< tt) (λ j. agree_below_at (has_bit 1) (is_column_bit First) 32 j refl))
 
-pub returns-in-Second : goal.returns-in-Second
+pub returns-in-Second-clause-bits : goal.returns-in-Second-clause-bits
 unfolding has_bit
-returns-in-Second c = rw c.in-Second.is (λ k. each_column_bit Second 256 k (lit< tt) (λ j. agree_below_at (has_bit 256) (is_column_bit Second) 32 j refl))
+returns-in-Second-clause-bits c = rw c.in-Second.is (λ k. each_column_bit Second 256 k (lit< tt) (λ j. agree_below_at (has_bit 256) (is_column_bit Second) 32 j refl))
 
-pub returns-in-Third : goal.returns-in-Third
+pub returns-in-Third-clause-bits : goal.returns-in-Third-clause-bits
 unfolding has_bit
-returns-in-Third c = rw c.in-Third.is (λ k. each_column_bit Third 65536 k (lit< tt) (λ j. agree_below_at (has_bit 65536) (is_column_bit Third) 32 j refl))
+returns-in-Third-clause-bits c = rw c.in-Third.is (λ k. each_column_bit Third 65536 k (lit< tt) (λ j. agree_below_at (has_bit 65536) (is_column_bit Third) 32 j refl))
 
-pub returns-in-FirstTwo : goal.returns-in-FirstTwo
+pub returns-in-FirstTwo-clause-bits : goal.returns-in-FirstTwo-clause-bits
 unfolding has_bit
-returns-in-FirstTwo c = rw c.in-FirstTwo.is (λ k. each_column_bit FirstTwo 257 k (lit< tt) (λ j. agree_below_at (has_bit 257) (is_column_bit FirstTwo) 32 j refl))
+returns-in-FirstTwo-clause-bits c = rw c.in-FirstTwo.is (λ k. each_column_bit FirstTwo 257 k (lit< tt) (λ j. agree_below_at (has_bit 257) (is_column_bit FirstTwo) 32 j refl))
 
-pub returns-in-SecondTwo : goal.returns-in-SecondTwo
+pub returns-in-SecondTwo-clause-bits : goal.returns-in-SecondTwo-clause-bits
 unfolding has_bit
-returns-in-SecondTwo c = rw c.in-SecondTwo.is (λ k. each_column_bit SecondTwo 65792 k (lit< tt) (λ j. agree_below_at (has_bit 65792) (is_column_bit SecondTwo) 32 j refl))
+returns-in-SecondTwo-clause-bits c = rw c.in-SecondTwo.is (λ k. each_column_bit SecondTwo 65792 k (lit< tt) (λ j. agree_below_at (has_bit 65792) (is_column_bit SecondTwo) 32 j refl))
 
-pub returns-in-FirstThree : goal.returns-in-FirstThree
+pub returns-in-FirstThree-clause-bits : goal.returns-in-FirstThree-clause-bits
 unfolding has_bit
-returns-in-FirstThree c = rw c.in-FirstThree.is (λ k. each_column_bit FirstThree 65793 k (lit< tt) (λ j. agree_below_at (has_bit 65793) (is_column_bit FirstThree) 32 j refl))
+returns-in-FirstThree-clause-bits c = rw c.in-FirstThree.is (λ k. each_column_bit FirstThree 65793 k (lit< tt) (λ j. agree_below_at (has_bit 65793) (is_column_bit FirstThree) 32 j refl))
 
-pub returns-in-AllFour : goal.returns-in-AllFour
+pub returns-in-AllFour-clause-bits : goal.returns-in-AllFour-clause-bits
 unfolding has_bit
-returns-in-AllFour c = rw c.in-AllFour.is (λ k. each_column_bit AllFour 16843009 k (lit< tt) (λ j. agree_below_at (has_bit 16843009) (is_column_bit AllFour) 32 j refl))
+returns-in-AllFour-clause-bits c = rw c.in-AllFour.is (λ k. each_column_bit AllFour 16843009 k (lit< tt) (λ j. agree_below_at (has_bit 16843009) (is_column_bit AllFour) 32 j refl))
