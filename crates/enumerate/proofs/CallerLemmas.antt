@@ -2,4 +2,3 @@
 pub use Rattle.enumerate.proofs.Game.{IsLow, filled-low, locked-low, place-decides}
 pub use Rattle.enumerate.proofs.Members.{in_all_pieces}
 pub use Rattle.enumerate.proofs.NeededCount.{long-needed, needed-exact, needed-few}
-pub use Rattle.enumerate.proofs.PlaceLaws.{free-inside, place-free}

@@ -1,5 +1,5 @@
 -- A count of floods goes up with the steps.
-use Rattle.std.proofs.Common.{◌≡◌, ℕ, ◌+◌, ◌-◌, ◌≤◌, ◌^◌, min, arith}
+use Rattle.std.proofs.Common.{◌≡◌, ℕ, ◌+◌, ◌-◌, arith}
 use Rattle.enumerate.specs.Counted.{as_count, CountsUp}
 
 pub counts-none : (count steps : ℕ) → CountsUp count count steps steps

@@ -16,9 +16,9 @@ use Rattle.srs.proofs.CallerLemmas.{placement_cmp-total}
 use Rattle.moves.specs.PlaceTest.{is_place}
 use Rattle.well.specs.LockLaws.{is_below}
 use Rattle.enumerate.specs.Position.{Position, after_of, may_play, places_at, is_live}
-use Rattle.enumerate.specs.Events.{Event, Tick, Flood, floods, Walk, entered, tried, level, enter, sought}
+use Rattle.enumerate.specs.Events.{Event, Tick, Flood, floods, Walk, entered, tried, tried_in_turn, enter, sought}
 use Rattle.enumerate.proofs.Resumed.{kinds-split, placed-there}
-use Rattle.enumerate.proofs.Tests.{if_true}
+use Rattle.enumerate.proofs.Choices.{if_true}
 use Rattle.enumerate.proofs.Walks.{floods-append}
 
 pub floods-flat_map : {A : Type 0} (f : A → List Event) (xs : List A) → floods (flat_map f xs) ≡ sum_by (λ x. floods (f x)) xs
@@ -26,9 +26,9 @@ unfolding floods
 floods-flat_map f [] = refl
 floods-flat_map f (x ∷ xs) = floods-append (f x) (flat_map f xs) ∙ ap (λ k. floods (f x) + k) (floods-flat_map f xs) ∙ sym (sum_by-cons (λ x. floods (f x)) x xs)
 
-pub floods-level : (walk : Walk) (prefix : List Placement) (n : Position) (pieces : List Piece) → floods (level walk prefix n pieces) ≡ sum_by (λ c. floods (tried walk prefix n c)) pieces
-unfolding level floods
-floods-level walk prefix n pieces =
+pub floods-tried_in_turn : (walk : Walk) (prefix : List Placement) (n : Position) (pieces : List Piece) → floods (tried_in_turn walk prefix n pieces) ≡ sum_by (λ c. floods (tried walk prefix n c)) pieces
+unfolding tried_in_turn floods
+floods-tried_in_turn walk prefix n pieces =
     let joined = floods-append (flat_map (tried walk prefix n) pieces) (Tick ∷ []) in
     let each = floods-flat_map (tried walk prefix n) pieces in
     omega (arith, joined, each)
@@ -113,12 +113,12 @@ unfolding sought enter floods tried
 floods-sought zero prefix n given = omega arith
 floods-sought (suc left) prefix n [] = omega arith
 floods-sought (suc left) prefix n (q ∷ given) =
-    floods-choice (is_live left n) (kind ++ level (enter left) prefix n (drop (piece_code q.piece) all_pieces)) (level (enter left) prefix n all_pieces)
+    floods-choice (is_live left n) (kind ++ tried_in_turn (enter left) prefix n (drop (piece_code q.piece) all_pieces)) (tried_in_turn (enter left) prefix n all_pieces)
     (omega (
       arith,
-      floods-append kind (level (enter left) prefix n (drop (piece_code q.piece) all_pieces)),
-      floods-level (enter left) prefix n (drop (piece_code q.piece) all_pieces),
-      floods-level (enter left) prefix n all_pieces,
+      floods-append kind (tried_in_turn (enter left) prefix n (drop (piece_code q.piece) all_pieces)),
+      floods-tried_in_turn (enter left) prefix n (drop (piece_code q.piece) all_pieces),
+      floods-tried_in_turn (enter left) prefix n all_pieces,
       sum_by-last_kinds (λ c. floods (tried (enter left) prefix n c)) q.piece,
       floods-kind left prefix n q given (floods-sought left (prefix ++ q ∷ []) (after_of n q) given) (may_play n.line q.piece),
     ))

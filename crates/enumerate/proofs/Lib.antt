@@ -1,6 +1,6 @@
 -- Lemmas on the search: the laws of the game that it needs, the solutions of a position, and the events of a walk.
 mod Game
-mod Tests
+mod Choices
 mod Solutions
 mod PermitLaws
 mod PlaceLaws
@@ -14,6 +14,7 @@ mod Sought
 mod FloodCounts
 mod Pairs
 mod TurnLemmas
+mod Taken
 mod Stacks
 mod SkipLemmas
 mod SeekLemmas

@@ -17,9 +17,10 @@ use Rattle.enumerate.specs.Solution.{pieces_of}
 use Rattle.enumerate.specs.Position.{Position, after_of, can_be_tiled, may_play, is_live}
 use Rattle.enumerate.proofs.Game.{IsLow, locked-low, permits-decides, place-decides}
 use Rattle.enumerate.proofs.PermitLaws.{line_permits-front}
-use Rattle.enumerate.proofs.PlaceLaws.{lockable-listed, place-free, place-lockable}
+use Rattle.enumerate.proofs.PlaceLaws.{lockable-listed, place-lockable}
+use Rattle.moves.proofs.CallerLemmas.{place-free}
 use Rattle.enumerate.proofs.Solutions.{in_kind, of_kind, sols, to_kind, to_place}
-use Rattle.enumerate.proofs.Tests.{by_test}
+use Rattle.enumerate.proofs.Choices.{by_test}
 use Rattle.enumerate.proofs.TilingLaws.{played-tiled}
 
 -- with so many placements, a sequence plays to the end, and some queue permits its pieces after those that were played

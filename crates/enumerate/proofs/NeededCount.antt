@@ -13,7 +13,7 @@ use Rattle.enumerate.specs.declared.problem.Problem.{Problem}
 use Rattle.enumerate.specs.Plays.{Plays}
 use Rattle.enumerate.specs.Problem.{IsFit, empties_of, needed_of}
 use Rattle.enumerate.proofs.Game.{IsLow, filled-low, locked-count, locked-low, removed-within}
-use Rattle.enumerate.proofs.PlaceLaws.{place-free}
+use Rattle.moves.proofs.CallerLemmas.{place-free}
 
 no_row : (y : ℕ) → row_count (λ x y. false) y ≡ 0
 unfolding row_count

@@ -23,7 +23,7 @@ use Rattle.enumerate.specs.Seeks.{IsFresh, SkipsTo}
 use Rattle.enumerate.specs.Walks.{Finds}
 use Rattle.enumerate.proofs.SeekLemmas.{fresh-events}
 use Rattle.enumerate.proofs.SkipLemmas.{skips-same}
-use Rattle.enumerate.proofs.Tests.{if_false}
+use Rattle.enumerate.proofs.Choices.{if_false}
 
 pub first-position : (problem : Problem) (queue : Option (List Piece)) (queues : QueueSet) → queues_in_play queues ≡ line_at problem queue →
     ◌≡◌ {A = Position} (record { table = table_of problem.rules; mode = problem.drop_mode; field = filled problem.well; rows = problem.height; line = queues_in_play queues }) (root_of problem queue)
@@ -131,6 +131,13 @@ sought-skips table mode frames f given given' whole rest before now some same e 
     subst (λ w. SkipsTo w rest before now) (sym e)
     (subst (λ s. SkipsTo (sought (suc f.left) [] (position_of table mode f) s) rest before now) same
     (subst (λ g. SkipsTo (sought (suc g.left) [] (position_of table mode g) given') rest before now) (first-read frames f f some) (skips f)))
+
+-- by equal tables the same is passed
+pub skips-by : (mode : DropMode) (frames : List Frame) (given : List Placement) (depth : ℕ) (used : List Frame) (before now : ℕ) (table other : Table) → table ≡ other →
+    ((d : Frame) → SkipsTo (sought (suc (get_or frames 0 d).left) [] (position_of table mode (get_or frames 0 d)) given) (stacked table mode [] (take depth used)) before now) →
+    (d : Frame) → SkipsTo (sought (suc (get_or frames 0 d).left) [] (position_of other mode (get_or frames 0 d)) given) (stacked other mode [] (take depth used)) before now
+skips-by mode frames given depth used before now table other same skips d =
+    subst (λ (t : Table). SkipsTo (sought (suc (get_or frames 0 d).left) [] (position_of t mode (get_or frames 0 d)) given) (stacked t mode [] (take depth used)) before now) same (skips d)
 
 -- ---- going on
 

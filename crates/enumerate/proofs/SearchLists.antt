@@ -26,7 +26,7 @@ use Rattle.enumerate.proofs.Pairs.{floods-begun}
 use Rattle.enumerate.proofs.PermitLaws.{queues-singles}
 use Rattle.enumerate.proofs.Solutions.{sols, sols-rising}
 use Rattle.enumerate.proofs.Sought.{found-sought}
-use Rattle.enumerate.proofs.Tests.{if_false}
+use Rattle.enumerate.proofs.Choices.{if_false}
 use Rattle.enumerate.proofs.TurnLemmas.{not-zero}
 use Rattle.enumerate.proofs.Walks.{finds-enter, prefixed-nil}
 

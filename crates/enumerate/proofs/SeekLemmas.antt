@@ -10,13 +10,13 @@ use Rattle.srs.specs.Piece.{all_pieces}
 use Rattle.moves.specs.declared.key.DropMode.{DropMode}
 use Rattle.enumerate.specs.declared.frame.Frame.{Frame}
 use Rattle.enumerate.specs.Position.{is_live}
-use Rattle.enumerate.specs.Events.{Event, entered, enter, level, sought}
+use Rattle.enumerate.specs.Events.{Event, entered, enter, tried_in_turn, sought}
 use Rattle.enumerate.specs.Frames.{events_of, has_room, path_of, places_left, position_of, stacked, entered_placement}
 use Rattle.enumerate.specs.Turns.{SamePosition}
 use Rattle.enumerate.specs.Seeks.{IsDeeper, IsFresh, IsThere, SkipsTo, sought_at}
 use Rattle.enumerate.proofs.SkipLemmas.{skips-before, skips-same}
 use Rattle.enumerate.proofs.Stacks.{path-last, room-last, room-more, stacked-last}
-use Rattle.enumerate.proofs.Tests.{if_true}
+use Rattle.enumerate.proofs.Choices.{if_true}
 use Rattle.std.proofs.Common.{append_assoc, append-nil}
 
 -- within a list the default has no part
@@ -99,8 +99,8 @@ pub fresh-events : (table : Table) (mode : DropMode) (prefix : List Placement) (
 unfolding sought events_of places_left
 fresh-events table mode prefix frame fresh =
     if_true (is_live frame.left (position_of table mode frame)) _ [] fresh.live
-    ∙ ap (λ k. level (enter frame.left) prefix (position_of table mode frame) (drop k all_pieces)) (sym fresh.tried)
-    ∙ ap (λ p. flat_map (entered (enter frame.left) prefix (position_of table mode frame)) (places_left p frame.entered) ++ level (enter frame.left) prefix (position_of table mode frame) (drop frame.tried all_pieces)) (sym fresh.places)
+    ∙ ap (λ k. tried_in_turn (enter frame.left) prefix (position_of table mode frame) (drop k all_pieces)) (sym fresh.tried)
+    ∙ ap (λ p. flat_map (entered (enter frame.left) prefix (position_of table mode frame)) (places_left p frame.entered) ++ tried_in_turn (enter frame.left) prefix (position_of table mode frame) (drop frame.tried all_pieces)) (sym fresh.places)
 
 pub at-end : (table : Table) (mode : DropMode) (frames : List Frame) (top : ℕ) (d : Frame) → top < length frames → IsFresh table mode (get_or frames top d) → sought_at table mode frames top [] d ≡ stacked table mode [] (take (top + 1) frames)
 at-end table mode frames top d within fresh =

@@ -26,7 +26,7 @@ use Rattle.enumerate.specs.declared.turn.Turn.{Turn}
 use Rattle.enumerate.specs.declared.turn.Turn.TheVariants.{Passed, Flooded, Entered, Full, Over}
 use Rattle.well.specs.LockLaws.{is_below}
 use Rattle.enumerate.specs.Position.{Position, after_of, may_play, places_at, is_live}
-use Rattle.enumerate.specs.Events.{Event, Tick, Flood, Found, found, floods, entered, level, enter, sought}
+use Rattle.enumerate.specs.Events.{Event, Tick, Flood, Found, found, floods, entered, tried_in_turn, enter, sought}
 use Rattle.enumerate.specs.Frames.{position_of, places_left, entered_placement, events_of}
 use Rattle.enumerate.specs.Turns.{Enters, EntersAs, IsChild, SamePosition}
 use Rattle.enumerate.specs.Seeks.{SkipsTo}
@@ -34,7 +34,7 @@ use Rattle.enumerate.proofs.FloodCounts.{floods-sought}
 use Rattle.enumerate.proofs.Resumed.{past, placed-there, there-placed}
 use Rattle.enumerate.proofs.Solutions.{sols}
 use Rattle.enumerate.proofs.Sought.{found-sought}
-use Rattle.enumerate.proofs.Tests.{if_false, if_true}
+use Rattle.enumerate.proofs.Choices.{if_false, if_true}
 use Rattle.enumerate.proofs.TurnLemmas.{entered-below, filter-both, filter-same, same-position}
 use Rattle.enumerate.proofs.Walks.{finds-enter, found-append, floods-append, prefixed}
 
@@ -104,10 +104,10 @@ module _ (table : Table) (mode : DropMode) (old new : Frame) (same : SamePositio
   here = position_of table mode old
 
   abbrev rest : List Placement → List Event
-  rest prefix = level (enter old.left) prefix here (drop (piece_code q.piece) all_pieces)
+  rest prefix = tried_in_turn (enter old.left) prefix here (drop (piece_code q.piece) all_pieces)
 
-  rest-same : (prefix : List Placement) → level (enter new.left) prefix (position_of table mode new) (drop new.tried all_pieces) ≡ rest prefix
-  rest-same prefix = λ i. level (enter (same.left i)) prefix (same-position table mode old new same i) (drop (tried i) all_pieces)
+  rest-same : (prefix : List Placement) → tried_in_turn (enter new.left) prefix (position_of table mode new) (drop new.tried all_pieces) ≡ rest prefix
+  rest-same prefix = λ i. tried_in_turn (enter (same.left i)) prefix (same-position table mode old new same i) (drop (tried i) all_pieces)
 
   -- a kind that may not be played
   pub passes-kind : may_play (queues_in_play old.queues) q.piece ≡ false → places_left new.places new.entered ≡ [] → (prefix given : List Placement) →
@@ -117,7 +117,7 @@ module _ (table : Table) (mode : DropMode) (old new : Frame) (same : SamePositio
       if_true (is_live old.left here) _ [] live
       ∙ ap (λ l. l ++ rest prefix) (if_false (may_play (queues_in_play old.queues) q.piece) _ [] not_played)
       ∙ sym (rest-same prefix)
-      ∙ ap (λ l. flat_map (entered (enter new.left) prefix (position_of table mode new)) l ++ level (enter new.left) prefix (position_of table mode new) (drop new.tried all_pieces)) (sym none)
+      ∙ ap (λ l. flat_map (entered (enter new.left) prefix (position_of table mode new)) l ++ tried_in_turn (enter new.left) prefix (position_of table mode new) (drop new.tried all_pieces)) (sym none)
 
   -- what comes first at the placement itself
   abbrev first : List Placement → List Placement → List Event

@@ -18,7 +18,7 @@ use Rattle.srs.proofs.CallerLemmas.{placement_cmp-piece, sequence_cmp-append, se
 use Rattle.moves.specs.PlaceTest.{is_place}
 use Rattle.well.specs.LockLaws.{is_below}
 use Rattle.enumerate.specs.Position.{Position, after_of, may_play, places_at, is_live}
-use Rattle.enumerate.proofs.Tests.{by_test}
+use Rattle.enumerate.proofs.Choices.{by_test}
 
 abbrev pub Sequences : Type 0
 Sequences = Position → List (List Placement)

@@ -11,9 +11,9 @@ use Rattle.lists.proofs.CallerLemmas.{Contains-from_flat_map, filter-each}
 use Rattle.moves.specs.PlaceTest.{is_place}
 use Rattle.well.specs.LockLaws.{is_below}
 use Rattle.enumerate.specs.Position.{Position, after_of, may_play, places_at, is_live}
-use Rattle.enumerate.specs.Events.{Event, Flood, found, entered, level, enter, sought}
+use Rattle.enumerate.specs.Events.{Event, Flood, found, entered, tried_in_turn, enter, sought}
 use Rattle.enumerate.proofs.Solutions.{Sequences, in_kind, of_kind, of_place, sols}
-use Rattle.enumerate.proofs.Walks.{finds-enter, found-append, found-if_live, found-level, found-places, prefixed, prefixed-append, prefixed-cons}
+use Rattle.enumerate.proofs.Walks.{finds-enter, found-append, found-if_live, found-tried_in_turn, found-places, prefixed, prefixed-append, prefixed-cons}
 use Rattle.enumerate.proofs.Resumed.{all-past, following, past}
 
 -- the filter goes into a choice
@@ -59,14 +59,14 @@ pub found-sought : (left : ℕ) (prefix : List Placement) (n : Position) (given 
 unfolding sought sols found
 found-sought zero prefix n given = leaf-past (n.rows == 0) prefix given
 found-sought (suc left) prefix n [] =
-    found-if_live (is_live left n) prefix (level (enter left) prefix n all_pieces) (filter (past []) (flat_map (of_kind (sols left) n) all_pieces))
-    (found-level (enter left) (sols left) (finds-enter left) prefix n all_pieces ∙ ap (prefixed prefix) (sym (all-past_nil (sols left) n all_pieces)))
+    found-if_live (is_live left n) prefix (tried_in_turn (enter left) prefix n all_pieces) (filter (past []) (flat_map (of_kind (sols left) n) all_pieces))
+    (found-tried_in_turn (enter left) (sols left) (finds-enter left) prefix n all_pieces ∙ ap (prefixed prefix) (sym (all-past_nil (sols left) n all_pieces)))
     ∙ ap (prefixed prefix) (sym (filter-if (is_live left n) (past []) (flat_map (of_kind (sols left) n) all_pieces)))
 found-sought (suc left) prefix n (q ∷ given) =
-    found-if_live (is_live left n) prefix (kind ++ level (enter left) prefix n (drop (piece_code q.piece) all_pieces)) (filter (past (q ∷ given)) (flat_map (of_kind (sols left) n) all_pieces))
-    (found-append kind (level (enter left) prefix n (drop (piece_code q.piece) all_pieces))
+    found-if_live (is_live left n) prefix (kind ++ tried_in_turn (enter left) prefix n (drop (piece_code q.piece) all_pieces)) (filter (past (q ∷ given)) (flat_map (of_kind (sols left) n) all_pieces))
+    (found-append kind (tried_in_turn (enter left) prefix n (drop (piece_code q.piece) all_pieces))
     ∙ (λ i. found-kind left prefix n q given (found-sought left (prefix ++ q ∷ []) (after_of n q) given) (may_play n.line q.piece) i
-    ++ found-level (enter left) (sols left) (finds-enter left) prefix n (drop (piece_code q.piece) all_pieces) i)
+    ++ found-tried_in_turn (enter left) (sols left) (finds-enter left) prefix n (drop (piece_code q.piece) all_pieces) i)
     ∙ sym (prefixed-append prefix of_kind_past (flat_map (of_kind (sols left) n) (drop (piece_code q.piece) all_pieces)))
     ∙ ap (prefixed prefix) (sym (all-past (sols left) n q given)))
     ∙ ap (prefixed prefix) (sym (filter-if (is_live left n) (past (q ∷ given)) (flat_map (of_kind (sols left) n) all_pieces)))

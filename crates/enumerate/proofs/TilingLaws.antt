@@ -1,5 +1,5 @@
 -- What plays to the end leaves a tiling, and the supply of a queue set is that of its line.
-use Rattle.std.proofs.Common.{◌≡◌, ◌↔◌, ℕ, suc, ◌+◌, ◌-◌, ◌≤◌, Bool, true, cond, List, [], ◌∷◌, ◌++◌, map, length, refl, sym, ap, subst, ◌∙◌, inl, inr, arith}
+use Rattle.std.proofs.Common.{◌≡◌, ◌↔◌, ℕ, suc, ◌+◌, ◌-◌, ◌≤◌, Bool, true, cond, List, [], ◌∷◌, ◌++◌, length, refl, sym, ap, subst, ◌∙◌, inl, inr, arith}
 use Rattle.std.specs.Prelude.{count_by, min, ◌==◌}
 use Rattle.std.specs.Bool.{one_answer}
 use Rattle.std.specs.Int.{bit_at}
@@ -24,7 +24,7 @@ use Rattle.hold_queue.specs.Supply.{from_hold, supplies, supply_of}
 use Rattle.hold_queue.proofs.CallerLemmas.{supply-enough}
 use Rattle.prune.specs.Tiling.{Supply, Tiling, supply_in}
 use Rattle.prune.specs.OnePart.{less_one}
-use Rattle.prune.specs.Laws.{ClearsRows, pieces_in}
+use Rattle.prune.specs.Laws.{ClearsRows, kinds_placed}
 use Rattle.prune.proofs.CallerLemmas.{cleared_is_tiled, full_rows_may_stand, more_pieces}
 use Rattle.packing.specs.Empties.{all_but, without_placement}
 use Rattle.packing.specs.HasTiling.{has_tiling}
@@ -35,15 +35,15 @@ use Rattle.enumerate.specs.declared.frame.Frame.{Frame}
 use Rattle.enumerate.specs.Frames.{position_of}
 use Rattle.enumerate.specs.Position.{Position, after_of, can_be_tiled, is_live}
 use Rattle.enumerate.proofs.Game.{IsLow, locked-low}
-use Rattle.enumerate.proofs.PlaceLaws.{place-free}
+use Rattle.moves.proofs.CallerLemmas.{place-free}
 
 -- what plays clears all rows
 plays-clears : (table : Table) (mode : DropMode) (F : Field) (rows : ℕ) (s : List Placement) → Plays table mode F rows s → ClearsRows F rows s
 plays-clears table mode F rows [] plays = plays.0
 plays-clears table mode F rows (q ∷ s) plays = (place-free table F mode q plays.0, plays.1, plays-clears table mode (locked F q) (rows - rows_removed F q) s plays.2)
 
-pieces-counted : (s : List Placement) (piece : Piece) → pieces_in s piece ≡ count_by (λ other. piece_code other == piece_code piece) (pieces_of s)
-unfolding pieces_in
+pieces-counted : (s : List Placement) (piece : Piece) → kinds_placed s piece ≡ count_by (λ other. piece_code other == piece_code piece) (pieces_of s)
+unfolding kinds_placed
 pieces-counted s piece = sym (counted s)
   where
     counted : (s : List Placement) → count_by (λ other. piece_code other == piece_code piece) (pieces_of s) ≡ count_by (λ q. piece_code q.piece == piece_code piece) s
@@ -55,10 +55,10 @@ pub played-tiled : (n : Position) (s : List Placement) → IsLow n.field n.rows 
 unfolding can_be_tiled
 played-tiled n s low plays permitted =
     (tiling_decided n.field n.rows (supply_of n.line (length s))).1
-    (more_pieces n.field n.rows (pieces_in s) (supply_of n.line (length s)) enough
+    (more_pieces n.field n.rows (kinds_placed s) (supply_of n.line (length s)) enough
     (cleared_is_tiled n.field n.rows s low.within (record { none = low.none }) (plays-clears n.table n.mode n.field n.rows s plays)))
   where
-    enough : (piece : Piece) → pieces_in s piece ≤ supply_of n.line (length s) piece
+    enough : (piece : Piece) → kinds_placed s piece ≤ supply_of n.line (length s) piece
     enough piece =
         let most = subst (λ k. count_by (λ other. piece_code other == piece_code piece) (pieces_of s) ≤ supply_of n.line k piece) (length-map s (λ q. q.piece)) (supply-enough n.line (pieces_of s) piece permitted) in
         omega (arith, pieces-counted s piece)

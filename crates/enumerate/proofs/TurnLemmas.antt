@@ -1,6 +1,6 @@
 -- What one turn does to the events that are still to come.
 use Rattle.std.proofs.Common.{◌≡◌, ◌↔◌, ℕ, suc, ◌+◌, ◌-◌, Bool, true, false, ◌&&◌, List, [], ◌∷◌, ◌++◌, refl, sym, ap, subst, ◌∙◌, inl, inr, arith, eq-eqb, append_assoc}
-use Rattle.std.specs.Prelude.{Contains, Option, Some, None, IsTrue, MatchOption, filter, find, drop, ◌==◌}
+use Rattle.std.specs.Prelude.{Contains, Some, None, filter, drop, ◌==◌}
 use Rattle.std.specs.List.{flat_map}
 use Rattle.std.specs.Bool.{one_answer}
 use Rattle.std.specs.Option.{option_to_list}
@@ -10,12 +10,9 @@ use Rattle.srs.specs.declared.piece.Piece.{Piece}
 use Rattle.srs.specs.declared.placement.Placement.{Placement}
 use Rattle.srs.specs.Kick.{Table}
 use Rattle.srs.specs.Piece.{all_pieces}
-use Rattle.srs.specs.Order.{placement_cmp}
 use Rattle.srs.specs.Placements.{placements_of}
-use Rattle.lists.specs.Rising.{is_above, IsNextAbove, IsRisingListOf}
-use Rattle.lists.proofs.CallerLemmas.{Contains-filter, Contains-from_filter, Contains-here, Contains-there, filter-false, filter-true, find-next_of, filter_above-next, filter_above-none, IsNextAbove-unique}
-use Rattle.srs.proofs.CallerLemmas.{placement_cmp-antisymmetric, placement_cmp-total, placements_of-list}
-use Rattle.std.proofs.lemmas.List.Kept.{IsStrictlySortedBy-filter}
+use Rattle.lists.proofs.CallerLemmas.{Contains-here, Contains-there, filter-false, filter-true}
+use Rattle.srs.proofs.CallerLemmas.{placements_of-list}
 use Rattle.well.specs.Well.{filled}
 use Rattle.well.specs.Lock.{locked, rows_removed}
 use Rattle.moves.specs.declared.key.DropMode.{DropMode}
@@ -28,14 +25,14 @@ use Rattle.enumerate.specs.declared.frame.Frame.{Frame}
 use Rattle.well.specs.LockLaws.{is_below}
 use Rattle.enumerate.specs.Position.{Position, after_of, may_play, places_at, is_live}
 use Rattle.enumerate.specs.Standing.{may_lock}
-use Rattle.enumerate.specs.Events.{Event, Tick, Flood, Found, Walk, entered, tried, level, enter}
+use Rattle.enumerate.specs.Events.{Event, Tick, Flood, Found, Walk, entered, tried, tried_in_turn, enter}
 use Rattle.enumerate.specs.Frames.{position_of, places_left, entered_placement, events_of}
 use Rattle.enumerate.specs.declared.turn.Turn.{Turn}
 use Rattle.enumerate.specs.declared.turn.Turn.TheVariants.{Passed, Flooded, Entered, Full, Over}
 use Rattle.enumerate.specs.Turns.{Enters, EntersAs, GoesAs, IsChild, SamePosition, Turns}
 use Rattle.enumerate.proofs.Game.{permits-decides, place-decides}
-use Rattle.enumerate.proofs.PlaceLaws.{lockable-listed, lockable-piece, place-lockable}
-use Rattle.enumerate.proofs.Tests.{if_false, if_true}
+use Rattle.enumerate.proofs.PlaceLaws.{place-lockable}
+use Rattle.enumerate.proofs.Choices.{if_false, if_true}
 
 pub filter-both : {A : Type 0} (a b : A → Bool) (xs : List A) → filter (λ x. a x && b x) xs ≡ filter b (filter a xs)
 filter-both a b [] = refl
@@ -69,46 +66,6 @@ Lockable F places = (q : Placement) → holds places q ≡ true → may_lock F (
 -- and it lies below a row
 abbrev pub HeldBelow : ℕ → Places → Type 0
 HeldBelow rows places = (q : Placement) → holds places q ≡ true → is_below rows q ≡ true
-
-module _ (F : Field) (rows : ℕ) (line : QueuesInPlay) (places : Places) (lockable : Lockable F places) (low : HeldBelow rows places) (permitted : may_play line (piece_of places) ≡ true) where
-  abbrev held : List Placement
-  held = filter (holds places) (placements_of (piece_of places))
-
-  held-list : IsRisingListOf placement_cmp (λ q. holds places q ≡ true) held
-  held-list = record {
-    rising = IsStrictlySortedBy-filter placement_cmp (holds places) (placements_of (piece_of places)) (placements_of-list (piece_of places)).rising;
-    members = λ q. (
-      λ among. (Contains-from_filter (holds places) (placements_of (piece_of places)) q among).1,
-      λ is_held. Contains-filter (holds places) (placements_of (piece_of places)) q (((placements_of-list (piece_of places)).members q).1 (lockable-listed F (piece_of places) q (lockable q is_held))) is_held,
-    );
-  }
-
-  -- the next of the held placements is the first of those that are left
-  pub upcoming-next : (last r : Option Placement) → IsNextAbove placement_cmp (λ q. IsTrue (holds places q)) last r →
-      MatchOption r (places_left (Some places) last ≡ [])
-      (λ q. (places_left (Some places) last ≡ q ∷ places_left (Some places) (Some q)) × IsTrue (may_lock F q.piece q) × IsTrue (is_below rows q) × IsTrue (may_play line q.piece))
-  unfolding places_left
-  upcoming-next last r next = at r same next
-    where
-      same : find (is_above placement_cmp last) held ≡ r
-      same = IsNextAbove-unique placement_cmp placement_cmp-total placement_cmp-antisymmetric (λ q. holds places q ≡ true) last (find (is_above placement_cmp last) held) r
-          (find-next_of placement_cmp placement_cmp-total (λ q. holds places q ≡ true) last held held-list) next
-
-      at : (r : Option Placement) → find (is_above placement_cmp last) held ≡ r → IsNextAbove placement_cmp (λ q. IsTrue (holds places q)) last r →
-          MatchOption r (filter (λ q. holds places q && is_above placement_cmp last q) (placements_of (piece_of places)) ≡ [])
-          (λ q. (filter (λ q. holds places q && is_above placement_cmp last q) (placements_of (piece_of places)) ≡ q ∷ filter (λ p. holds places p && is_above placement_cmp (Some q) p) (placements_of (piece_of places)))
-          × IsTrue (may_lock F q.piece q) × IsTrue (is_below rows q) × IsTrue (may_play line q.piece))
-      at None e next = filter-both (holds places) (is_above placement_cmp last) (placements_of (piece_of places)) ∙ filter_above-none placement_cmp placement_cmp-total last held e
-      at (Some q) e next =
-          let lock : may_lock F (piece_of places) q ≡ true = lockable q next.member in
-          let kind : q.piece ≡ piece_of places = lockable-piece F (piece_of places) q lock in (
-            filter-both (holds places) (is_above placement_cmp last) (placements_of (piece_of places))
-                ∙ filter_above-next placement_cmp placement_cmp-total last held q held-list.rising e
-                ∙ ap (λ l. q ∷ l) (sym (filter-both (holds places) (is_above placement_cmp (Some q)) (placements_of (piece_of places)))),
-            subst (λ p. may_lock F p q ≡ true) (sym kind) lock,
-            low q next.member,
-            subst (λ p. may_play line p ≡ true) (sym kind) permitted,
-          )
 
 -- what a flood holds is the places; those of them that lie below the rows left are kept, in order
 module _ (table : Table) (F : Field) (mode : DropMode) (piece : Piece) (all places : Places) (kind : piece_of all ≡ piece)
@@ -192,11 +149,11 @@ module _ (frame : Frame) (q : Placement) (below : is_below frame.rows q ≡ true
           if_true (is_below frame.rows q) (enter frame.left (prefix ++ q ∷ []) next) [] below
           ∙ ap (λ left. enter left (prefix ++ q ∷ []) next) depth
           ∙ ap (λ l. Tick ∷ l)
-          (if_true (is_live child.left next) (level (enter child.left) (prefix ++ q ∷ []) next all_pieces) [] (live table mode)
-          ∙ sym (λ i. level (enter child.left) (prefix ++ q ∷ []) (child-position table mode i) all_pieces)
-          ∙ ap (λ k. level (enter child.left) (prefix ++ q ∷ []) (position_of table mode child) (drop k all_pieces)) (sym tried)
+          (if_true (is_live child.left next) (tried_in_turn (enter child.left) (prefix ++ q ∷ []) next all_pieces) [] (live table mode)
+          ∙ sym (λ i. tried_in_turn (enter child.left) (prefix ++ q ∷ []) (child-position table mode i) all_pieces)
+          ∙ ap (λ k. tried_in_turn (enter child.left) (prefix ++ q ∷ []) (position_of table mode child) (drop k all_pieces)) (sym tried)
           ∙ ap (λ p. flat_map (entered (enter child.left) (prefix ++ q ∷ []) (position_of table mode child)) (places_left p child.entered)
-          ++ level (enter child.left) (prefix ++ q ∷ []) (position_of table mode child) (drop child.tried all_pieces)) (sym places));
+          ++ tried_in_turn (enter child.left) (prefix ++ q ∷ []) (position_of table mode child) (drop child.tried all_pieces)) (sym places));
     }
 
   -- a position that has no tiling
@@ -210,7 +167,7 @@ module _ (frame : Frame) (q : Placement) (below : is_below frame.rows q ≡ true
         if_true (is_below frame.rows q) (enter frame.left (prefix ++ q ∷ []) next) [] below
         ∙ ap (λ left. enter left (prefix ++ q ∷ []) next) depth
         ∙ ap (λ l. Tick ∷ l)
-        (if_false (is_live left next) (level (enter left) (prefix ++ q ∷ []) next all_pieces) [] (dead table mode));
+        (if_false (is_live left next) (tried_in_turn (enter left) (prefix ++ q ∷ []) next all_pieces) [] (dead table mode));
   }
 
 -- ---- trying kinds, and a whole turn
@@ -230,18 +187,18 @@ entered-below walk prefix n (q ∷ qs) = elim (cases_Bool (is_below n.rows q)) [
     nothing e = if_false (is_below n.rows q) (walk (prefix ++ q ∷ []) (after_of n q)) [] e
 
 events-shape : (table : Table) (mode : DropMode) (frame : Frame) (prefix : List Placement) → places_left frame.places frame.entered ≡ [] →
-    events_of table mode prefix frame ≡ level (enter frame.left) prefix (position_of table mode frame) (drop frame.tried all_pieces)
+    events_of table mode prefix frame ≡ tried_in_turn (enter frame.left) prefix (position_of table mode frame) (drop frame.tried all_pieces)
 unfolding events_of
 events-shape table mode frame prefix none =
-    ap (λ l. flat_map (entered (enter frame.left) prefix (position_of table mode frame)) l ++ level (enter frame.left) prefix (position_of table mode frame) (drop frame.tried all_pieces)) none
+    ap (λ l. flat_map (entered (enter frame.left) prefix (position_of table mode frame)) l ++ tried_in_turn (enter frame.left) prefix (position_of table mode frame) (drop frame.tried all_pieces)) none
 
-level-cons : (walk : Walk) (prefix : List Placement) (n : Position) (c : Piece) (cs : List Piece) → level walk prefix n (c ∷ cs) ≡ tried walk prefix n c ++ level walk prefix n cs
-unfolding level
-level-cons walk prefix n c cs = append_assoc (tried walk prefix n c) (flat_map (tried walk prefix n) cs) (Tick ∷ [])
+tried_in_turn-cons : (walk : Walk) (prefix : List Placement) (n : Position) (c : Piece) (cs : List Piece) → tried_in_turn walk prefix n (c ∷ cs) ≡ tried walk prefix n c ++ tried_in_turn walk prefix n cs
+unfolding tried_in_turn
+tried_in_turn-cons walk prefix n c cs = append_assoc (tried walk prefix n c) (flat_map (tried walk prefix n) cs) (Tick ∷ [])
 
-level-nil : (walk : Walk) (prefix : List Placement) (n : Position) → level walk prefix n [] ≡ Tick ∷ []
-unfolding level
-level-nil walk prefix n = refl
+tried_in_turn-nil : (walk : Walk) (prefix : List Placement) (n : Position) → tried_in_turn walk prefix n [] ≡ Tick ∷ []
+unfolding tried_in_turn
+tried_in_turn-nil walk prefix n = refl
 
 -- the queues answer whether a kind may be played
 pub may_play-answer : (line : QueuesInPlay) (c : Piece) (r : Bool) → ((r ≡ true) ↔ QueuesPermit line (line.played ++ c ∷ [])) → may_play line c ≡ r
@@ -252,8 +209,8 @@ pub goes-over : (table : Table) (mode : DropMode) (frame : Frame) → places_lef
 goes-over table mode frame none last = record {
   same = λ prefix.
       events-shape table mode frame prefix none
-      ∙ ap (level (enter frame.left) prefix (position_of table mode frame)) last
-      ∙ level-nil (enter frame.left) prefix (position_of table mode frame);
+      ∙ ap (tried_in_turn (enter frame.left) prefix (position_of table mode frame)) last
+      ∙ tried_in_turn-nil (enter frame.left) prefix (position_of table mode frame);
 }
 
 -- two frames at one position
@@ -264,21 +221,21 @@ same-position table mode old new same = λ i. record { table = table; mode = mod
 module _ (table : Table) (mode : DropMode) (old new : Frame) (same : SamePosition old new) (c : Piece)
     (none : places_left old.places old.entered ≡ []) (next : drop old.tried all_pieces ≡ c ∷ drop new.tried all_pieces) where
   begins : (prefix : List Placement) → events_of table mode prefix old
-      ≡ tried (enter old.left) prefix (position_of table mode old) c ++ level (enter old.left) prefix (position_of table mode old) (drop new.tried all_pieces)
+      ≡ tried (enter old.left) prefix (position_of table mode old) c ++ tried_in_turn (enter old.left) prefix (position_of table mode old) (drop new.tried all_pieces)
   begins prefix =
       events-shape table mode old prefix none
-      ∙ ap (level (enter old.left) prefix (position_of table mode old)) next
-      ∙ level-cons (enter old.left) prefix (position_of table mode old) c (drop new.tried all_pieces)
+      ∙ ap (tried_in_turn (enter old.left) prefix (position_of table mode old)) next
+      ∙ tried_in_turn-cons (enter old.left) prefix (position_of table mode old) c (drop new.tried all_pieces)
 
-  rest-same : (prefix : List Placement) → level (enter new.left) prefix (position_of table mode new) (drop new.tried all_pieces) ≡ level (enter old.left) prefix (position_of table mode old) (drop new.tried all_pieces)
-  rest-same prefix = λ i. level (enter (same.left i)) prefix (same-position table mode old new same i) (drop new.tried all_pieces)
+  rest-same : (prefix : List Placement) → tried_in_turn (enter new.left) prefix (position_of table mode new) (drop new.tried all_pieces) ≡ tried_in_turn (enter old.left) prefix (position_of table mode old) (drop new.tried all_pieces)
+  rest-same prefix = λ i. tried_in_turn (enter (same.left i)) prefix (same-position table mode old new same i) (drop new.tried all_pieces)
 
   pub goes-past_kind : may_play (queues_in_play old.queues) c ≡ false → places_left new.places new.entered ≡ [] → GoesAs table mode old (λ prefix. Tick ∷ events_of table mode prefix new)
   unfolding tried position_of
   goes-past_kind not_played none_new = record {
     same = λ prefix.
         begins prefix
-        ∙ ap (λ l. l ++ level (enter old.left) prefix (position_of table mode old) (drop new.tried all_pieces)) (if_false (may_play (queues_in_play old.queues) c) _ (Tick ∷ []) not_played)
+        ∙ ap (λ l. l ++ tried_in_turn (enter old.left) prefix (position_of table mode old) (drop new.tried all_pieces)) (if_false (may_play (queues_in_play old.queues) c) _ (Tick ∷ []) not_played)
         ∙ ap (λ l. Tick ∷ l) (sym (events-shape table mode new prefix none_new ∙ rest-same prefix));
   }
 
@@ -287,13 +244,13 @@ module _ (table : Table) (mode : DropMode) (old new : Frame) (same : SamePositio
   goes-flooded played places = record {
     same = λ prefix.
         begins prefix
-        ∙ ap (λ l. l ++ level (enter old.left) prefix (position_of table mode old) (drop new.tried all_pieces))
+        ∙ ap (λ l. l ++ tried_in_turn (enter old.left) prefix (position_of table mode old) (drop new.tried all_pieces))
         (if_true (may_play (queues_in_play old.queues) c) (Flood ∷ flat_map (entered (enter old.left) prefix (position_of table mode old)) (places_at (position_of table mode old) c)) (Tick ∷ []) played)
-        ∙ ap (λ l. Flood ∷ (l ++ level (enter old.left) prefix (position_of table mode old) (drop new.tried all_pieces)))
+        ∙ ap (λ l. Flood ∷ (l ++ tried_in_turn (enter old.left) prefix (position_of table mode old) (drop new.tried all_pieces)))
         (sym (entered-below (enter old.left) prefix (position_of table mode old) (places_at (position_of table mode old) c)))
         ∙ ap (λ l. Flood ∷ l)
         (sym ((λ i. flat_map (entered (enter (same.left i)) prefix (same-position table mode old new same i)) (places i)
-        ++ level (enter (same.left i)) prefix (same-position table mode old new same i) (drop new.tried all_pieces))));
+        ++ tried_in_turn (enter (same.left i)) prefix (same-position table mode old new same i) (drop new.tried all_pieces))));
   }
 
 -- the next placement is entered
@@ -304,9 +261,9 @@ module _ (table : Table) (mode : DropMode) (old new : Frame) (same : SamePositio
   unfolding events_of
   goes-entered events enters = record {
     same = λ prefix.
-        (λ i. flat_map (entered (enter (left i)) prefix (position i)) (first i) ++ level (enter (left i)) prefix (position i) (drop (kinds' i) all_pieces))
-        ∙ append_assoc (entered (enter new.left) prefix (position_of table mode new) q) (flat_map (entered (enter new.left) prefix (position_of table mode new)) (places_left new.places new.entered)) (level (enter new.left) prefix (position_of table mode new) (drop new.tried all_pieces))
-        ∙ ap (λ l. l ++ (flat_map (entered (enter new.left) prefix (position_of table mode new)) (places_left new.places new.entered) ++ level (enter new.left) prefix (position_of table mode new) (drop new.tried all_pieces)))
+        (λ i. flat_map (entered (enter (left i)) prefix (position i)) (first i) ++ tried_in_turn (enter (left i)) prefix (position i) (drop (kinds' i) all_pieces))
+        ∙ append_assoc (entered (enter new.left) prefix (position_of table mode new) q) (flat_map (entered (enter new.left) prefix (position_of table mode new)) (places_left new.places new.entered)) (tried_in_turn (enter new.left) prefix (position_of table mode new) (drop new.tried all_pieces))
+        ∙ ap (λ l. l ++ (flat_map (entered (enter new.left) prefix (position_of table mode new)) (places_left new.places new.entered) ++ tried_in_turn (enter new.left) prefix (position_of table mode new) (drop new.tried all_pieces)))
         (enters.same table mode prefix ∙ ap (λ s. events table mode (prefix ++ s)) (sym step-is));
   }
     where
@@ -322,6 +279,34 @@ module _ (table : Table) (mode : DropMode) (old new : Frame) (same : SamePositio
       step-is : entered_placement new ≡ q ∷ []
       step-is = ap option_to_list step
 
+-- where nothing is left to enter at a frame, what it does is what another does at its position with the same kinds
+module _ (table : Table) (mode : DropMode) (old mid : Frame) (same : SamePosition old mid) (kinds : mid.tried ≡ old.tried)
+    (none : places_left old.places old.entered ≡ []) (none_mid : places_left mid.places mid.entered ≡ []) where
+  goes-from : (events : List Placement → List Event) → GoesAs table mode mid events → GoesAs table mode old events
+  goes-from events goes = record {
+    same = λ prefix.
+        events-shape table mode old prefix none
+        ∙ (λ i. tried_in_turn (enter (left i)) prefix (position i) (drop (kinds' i) all_pieces))
+        ∙ sym (events-shape table mode mid prefix none_mid)
+        ∙ goes.same prefix;
+  }
+    where
+      left : old.left ≡ mid.left
+      left = sym same.left
+
+      kinds' : old.tried ≡ mid.tried
+      kinds' = sym kinds
+
+      position : position_of table mode old ≡ position_of table mode mid
+      position = sym (same-position table mode old mid same)
+
+  pub turns-from : (new : Frame) (result : Turn) (before now : ℕ) → Turns table mode mid new result before now → Turns table mode old new result before now
+  turns-from new Passed before now turns = (goes-from _ turns.0, turns.1)
+  turns-from new Flooded before now turns = (goes-from _ turns.0, turns.1)
+  turns-from new (Entered child) before now turns = (goes-from _ turns.0, turns.1, turns.2 ∙ same.left)
+  turns-from new Full before now turns = (goes-from _ turns.0, turns.1)
+  turns-from new Over before now turns = (goes-from _ turns.0, turns.1)
+
 pub line-permits : (line : QueuesInPlay) (c : Piece) → may_play line c ≡ true → QueuesPermit line (line.played ++ c ∷ [])
 unfolding may_play
 line-permits line c played = (permits-decides line (line.played ++ c ∷ [])).0 played
@@ -331,13 +316,6 @@ not-zero k differs = elim (cases_Bool (k == 0)) [
   | inl same ↦ absurd (differs (eqb-true k 0 same))
   | inr e ↦ e
 ]
-
--- what is left of a flood's places is of its piece
-pub places_left-piece : (places : Places) (last : Option Placement) (q : Placement) (rest : List Placement) → places_left (Some places) last ≡ q ∷ rest → q.piece ≡ piece_of places
-unfolding places_left
-places_left-piece places last q rest e =
-    let among : Contains (places_left (Some places) last) q = subst (λ l. Contains l q) (sym e) (Contains-here q rest) in
-    (((placements_of-list (piece_of places)).members q).0 (Contains-from_filter (λ q. holds places q && is_above placement_cmp last q) (placements_of (piece_of places)) q among).0).kind
 
 -- a turn that enters a placement
 pub enters-turn : (table : Table) (mode : DropMode) (old new : Frame) (same : SamePosition old new) (q : Placement)

@@ -8,7 +8,7 @@ use Rattle.srs.specs.declared.placement.Placement.{Placement}
 use Rattle.srs.specs.Piece.{all_pieces}
 use Rattle.well.specs.LockLaws.{is_below}
 use Rattle.enumerate.specs.Position.{Position, after_of, may_play, places_at, is_live}
-use Rattle.enumerate.specs.Events.{Event, Tick, Flood, Found, found, floods, Walk, entered, tried, level, enter}
+use Rattle.enumerate.specs.Events.{Event, Tick, Flood, Found, found, floods, Walk, entered, tried, tried_in_turn, enter}
 use Rattle.enumerate.proofs.Solutions.{Sequences, of_place, of_kind, sols}
 
 pub found-append : (xs ys : List Event) → found (xs ++ ys) ≡ found xs ++ found ys
@@ -80,9 +80,9 @@ module _ (walk : Walk) (S : Sequences) (finds : Finds walk S) (prefix : List Pla
       ∙ (λ i. found-tried piece i ++ found-kinds pieces i)
       ∙ sym (prefixed-append prefix (of_kind S n piece) (flat_map (of_kind S n) pieces))
 
-  pub found-level : (pieces : List Piece) → found (level walk prefix n pieces) ≡ prefixed prefix (flat_map (of_kind S n) pieces)
-  unfolding level found
-  found-level pieces =
+  pub found-tried_in_turn : (pieces : List Piece) → found (tried_in_turn walk prefix n pieces) ≡ prefixed prefix (flat_map (of_kind S n) pieces)
+  unfolding tried_in_turn found
+  found-tried_in_turn pieces =
       found-append (flat_map (tried walk prefix n) pieces) (Tick ∷ [])
       ∙ append-nil (found (flat_map (tried walk prefix n) pieces))
       ∙ found-kinds pieces
@@ -102,6 +102,6 @@ unfolding enter sols found
 finds-enter zero = record { same = λ prefix n. found-leaf (n.rows == 0) prefix }
 finds-enter (suc left) = record {
   same = λ prefix n.
-      found-if_live (is_live left n) prefix (level (enter left) prefix n all_pieces) (flat_map (of_kind (sols left) n) all_pieces)
-      (found-level (enter left) (sols left) (finds-enter left) prefix n all_pieces);
+      found-if_live (is_live left n) prefix (tried_in_turn (enter left) prefix n all_pieces) (flat_map (of_kind (sols left) n) all_pieces)
+      (found-tried_in_turn (enter left) (sols left) (finds-enter left) prefix n all_pieces);
 }

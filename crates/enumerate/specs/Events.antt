@@ -43,25 +43,25 @@ tried walk prefix n piece =
     if may_play n.line piece then Flood ∷ flat_map (entered walk prefix n) (places_at n piece) else Tick ∷ []
 
 -- these kinds are tried, one after the other
-unfoldable pub level : Walk → List Placement → Position → List Piece → List Event
-level walk prefix n pieces = flat_map (tried walk prefix n) pieces ++ Tick ∷ []
+unfoldable pub tried_in_turn : Walk → List Placement → Position → List Piece → List Event
+tried_in_turn walk prefix n pieces = flat_map (tried walk prefix n) pieces ++ Tick ∷ []
 
 -- with so many placements to come: where none is, the prefix is a solution where no row is left
 unfoldable pub enter : ℕ → Walk
 enter zero prefix n = (if n.rows == 0 then Found prefix else Tick) ∷ []
-enter (suc left) prefix n = Tick ∷ (if is_live left n then level (enter left) prefix n all_pieces else [])
+enter (suc left) prefix n = Tick ∷ (if is_live left n then tried_in_turn (enter left) prefix n all_pieces else [])
 
 -- the same at the beginning, where the empty prefix is no solution
 unfoldable pub begun : ℕ → Position → List Event
 begun zero n = []
-begun (suc left) n = if is_live left n then level (enter left) [] n all_pieces else []
+begun (suc left) n = if is_live left n then tried_in_turn (enter left) [] n all_pieces else []
 
 -- What is done after a given sequence: its first placement is flooded where it may be played, and where it is a place
 -- below the rows left, what is done after the rest of the sequence comes first; then the later places and the later
 -- kinds.
 unfoldable pub sought : ℕ → List Placement → Position → List Placement → List Event
 sought zero prefix n given = []
-sought (suc left) prefix n [] = if is_live left n then level (enter left) prefix n all_pieces else []
+sought (suc left) prefix n [] = if is_live left n then tried_in_turn (enter left) prefix n all_pieces else []
 sought (suc left) prefix n (q ∷ given) =
     if is_live left n then
     (if may_play n.line q.piece then
@@ -69,5 +69,5 @@ sought (suc left) prefix n (q ∷ given) =
     then sought left (prefix ++ q ∷ []) (after_of n q) given else [])
     ++ flat_map (entered (enter left) prefix n) (filter (is_above placement_cmp (Some q)) (places_at n q.piece)))
     else [])
-    ++ level (enter left) prefix n (drop (piece_code q.piece) all_pieces)
+    ++ tried_in_turn (enter left) prefix n (drop (piece_code q.piece) all_pieces)
     else []

@@ -15,7 +15,7 @@ use Rattle.reach.specs.Places.{holds, piece_of}
 use Rattle.hold_queue.specs.QueueSet.{queues_in_play}
 use Rattle.enumerate.specs.declared.frame.Frame.{Frame}
 use Rattle.enumerate.specs.Position.{Position}
-use Rattle.enumerate.specs.Events.{Event, entered, level, enter}
+use Rattle.enumerate.specs.Events.{Event, entered, tried_in_turn, enter}
 
 unfoldable pub position_of : Table → DropMode → Frame → Position
 position_of table mode frame = record {
@@ -40,7 +40,7 @@ entered_placement frame = option_to_list frame.entered
 unfoldable pub events_of : Table → DropMode → List Placement → Frame → List Event
 events_of table mode prefix frame =
     flat_map (entered (enter frame.left) prefix (position_of table mode frame)) (places_left frame.places frame.entered)
-    ++ level (enter frame.left) prefix (position_of table mode frame) (drop frame.tried all_pieces)
+    ++ tried_in_turn (enter frame.left) prefix (position_of table mode frame) (drop frame.tried all_pieces)
 
 -- what is still to be done at frames, from the first position on: the deepest one comes first
 unfoldable pub stacked : Table → DropMode → List Placement → List Frame → List Event

@@ -1,6 +1,6 @@
 // Frames go on to the next solution.
 ghost use Rattle.std.specs.Prelude.{◌≡◌, ℕ, ◌+◌, ◌<◌, ◌≤◌, Bool, true, IsTrue, MatchOption, [], ◌∷◌, length, nat_lt, take};
-ghost use Rattle.srs.specs.Rules.{table_of};
+ghost use Rattle.reach.specs.FloodRules.{flood_table};
 ghost use Rattle.enumerate.specs.Counted.{CountsUp};
 ghost use Rattle.enumerate.specs.Events.{found, floods};
 ghost use Rattle.enumerate.specs.Frames.{has_room, path_of, stacked};
@@ -11,8 +11,7 @@ use crate::notes::Notes;
 use crate::search::Sequence;
 use crate::turn::Turn;
 use moves::DropMode;
-use reach::Steps;
-use srs::Rules;
+use reach::{FloodRules, Steps};
 use std::sync::ledger::Ledger;
 
 /// The placements that were entered last at these frames.
@@ -33,7 +32,7 @@ pub fn path(frames: &[Frame]) -> Sequence
 fn turn<L: Ledger>(
     frames: &mut [Frame; 20],
     depth: usize,
-    rules: &Rules,
+    rules: &FloodRules,
     drop_mode: DropMode,
     notes: &mut Notes,
     steps: &mut Steps<L>,
@@ -43,7 +42,7 @@ fn turn<L: Ledger>(
     requires room { IsTrue (has_room 0 (take depth frames.old)) }
     ensures within { result.0 ≤ 20 }
     ensures solved { result.1 ≡ true → 0 < result.0 }
-    ensures turn { IsTurn (table_of rules.now) drop_mode (take depth frames.old)
+    ensures turn { IsTurn (flood_table rules.now) drop_mode (take depth frames.old)
         (take result.0 frames.new) steps.old steps.new result.1 }
     ensures noted { CountsUp notes.old.floods notes.new.floods steps.old steps.new }
 {
@@ -65,7 +64,7 @@ fn turn<L: Ledger>(
 pub fn advance<L: Ledger>(
     frames: &mut [Frame; 20],
     depth: usize,
-    rules: &Rules,
+    rules: &FloodRules,
     drop_mode: DropMode,
     notes: &mut Notes,
     steps: &mut Steps<L>,
@@ -75,13 +74,13 @@ pub fn advance<L: Ledger>(
     ensures within { result ≤ 20 }
     ensures room { IsTrue (has_room 0 (take result frames.new)) }
     ensures found { Finds
-        (found (stacked (table_of rules.now) drop_mode [] (take depth frames.old)))
-        (found (stacked (table_of rules.now) drop_mode [] (take result frames.new)))
+        (found (stacked (flood_table rules.now) drop_mode [] (take depth frames.old)))
+        (found (stacked (flood_table rules.now) drop_mode [] (take result frames.new)))
         (path_of (take result frames.new)) (nat_lt 0 result) }
-    ensures counted { floods (stacked (table_of rules.now) drop_mode [] (take depth frames.old)) + steps.old
-        ≡ floods (stacked (table_of rules.now) drop_mode [] (take result frames.new)) + steps.new }
-    ensures fewer { floods (stacked (table_of rules.now) drop_mode [] (take result frames.new))
-        ≤ floods (stacked (table_of rules.now) drop_mode [] (take depth frames.old)) }
+    ensures counted { floods (stacked (flood_table rules.now) drop_mode [] (take depth frames.old)) + steps.old
+        ≡ floods (stacked (flood_table rules.now) drop_mode [] (take result frames.new)) + steps.new }
+    ensures fewer { floods (stacked (flood_table rules.now) drop_mode [] (take result frames.new))
+        ≤ floods (stacked (flood_table rules.now) drop_mode [] (take depth frames.old)) }
     ensures noted { CountsUp notes.old.floods notes.new.floods steps.old steps.new }
 {
     let mut depth = depth;

@@ -5,12 +5,15 @@ mod advance;
 mod count;
 mod frame;
 pub mod laws;
+mod left;
 mod notes;
 mod problem;
 mod search;
 mod seek;
 mod start;
 mod supply;
+#[cfg(test)]
+mod tests;
 mod tilings;
 mod turn;
 

@@ -1,7 +1,9 @@
 // The search for solutions.
 ghost use Rattle.std.specs.Prelude.{◌≡◌, ℕ, ◌-◌, ◌≤◌, IsTrue, filter, take, None};
 ghost use Rattle.srs.specs.Order.{sequence_cmp};
+ghost use Rattle.srs.specs.Rules.{table_of};
 ghost use Rattle.lists.specs.Rising.{is_above};
+ghost use Rattle.reach.specs.FloodRules.{flood_table};
 ghost use Rattle.enumerate.specs.Problem.{IsFit};
 ghost use Rattle.enumerate.specs.Counted.{as_count};
 ghost use Rattle.enumerate.specs.Events.{found, floods};
@@ -14,6 +16,7 @@ use crate::notes::Notes;
 use crate::problem::Problem;
 use arrayvec::ArrayVec;
 use queue_pattern::Queue;
+use reach::FloodRules;
 use srs::Placement;
 
 /// The placements of a solution, the first one first.
@@ -23,6 +26,8 @@ pub type Sequence = ArrayVec<Placement, 22>;
 #[derive(Drop)]
 pub struct Search {
     pub(crate) problem: Problem,
+    /// The rules of the problem.
+    pub(crate) rules: FloodRules,
     pub(crate) queue: Option<Queue>,
     pub(crate) after: Option<Sequence>,
     pub(crate) bound: Option<Sequence>,
@@ -33,6 +38,7 @@ pub struct Search {
     pub(crate) depth: usize,
     pub(crate) notes: Notes,
     ghost fit: { IsFit problem },
+    ghost same_rules: { flood_table rules ≡ table_of problem.rules },
     ghost within: { depth ≤ 20 },
     ghost room: { IsTrue (has_room 0 (take depth frames)) },
     ghost listed: { found (events_from problem (items_of queue) (items_of after) pending (take depth frames))

@@ -1,7 +1,7 @@
 // Frames go to the place of a given sequence, so that what is still to come is what comes after it.
 ghost use Rattle.std.specs.Prelude.{◌≡◌, ◌↔◌, ℕ, suc, ◌+◌, ◌-◌, ◌<◌, ◌≤◌, true, IsTrue, MatchOption, Some, Contains, [], ◌∷◌, length, take, drop, slice_index_or};
-ghost use Rattle.srs.specs.Rules.{table_of};
 ghost use Rattle.std.specs.Option.{ForSome};
+ghost use Rattle.reach.specs.FloodRules.{flood_table};
 ghost use Rattle.reach.specs.Places.{piece_of};
 ghost use Rattle.enumerate.specs.Counted.{CountsUp};
 ghost use Rattle.enumerate.specs.Events.{sought};
@@ -14,8 +14,8 @@ use crate::frame::Frame;
 use crate::notes::Notes;
 use crate::turn::Turn;
 use moves::DropMode;
-use reach::Steps;
-use srs::{Placement, Rules, compare};
+use reach::{FloodRules, Steps};
+use srs::{Placement, compare};
 use std::cmp::Ordering;
 use std::sync::ledger::Ledger;
 
@@ -36,7 +36,7 @@ impl Frame {
         ensures { IsTrue result ↔ Contains (places_left self.now.places self.now.entered) target.now }
     {
         let mut probe = *self;
-        while let Some(placement) = probe.upcoming() {
+        while let Some(placement) = probe.take_upcoming() {
             match compare(&placement, target) {
                 Ordering::Less => probe = probe.with_entered(placement),
                 Ordering::Equal => return true,
@@ -50,13 +50,14 @@ impl Frame {
     fn skip<L: Ledger>(
         &mut self,
         target: &Placement,
-        rules: &Rules,
+        rules: &FloodRules,
         drop_mode: DropMode,
         notes: &mut Notes,
         steps: &mut Steps<L>,
     ) -> Option<Frame>
-        requires { IsFresh (table_of rules.now) drop_mode self.old }
-        ensures skips { Skips (table_of rules.now) drop_mode self.old self.new target.now result steps.old steps.new }
+        requires { IsFresh (flood_table rules.now) drop_mode self.old }
+        ensures skips { Skips (flood_table rules.now) drop_mode self.old self.new target.now result
+            steps.old steps.new }
         ensures same { SamePosition self.old self.new }
         ensures noted { CountsUp notes.old.floods notes.new.floods steps.old steps.new }
     {
@@ -85,15 +86,15 @@ fn skip_at<L: Ledger>(
     frames: &mut [Frame; 20],
     top: usize,
     target: &Placement,
-    rules: &Rules,
+    rules: &FloodRules,
     drop_mode: DropMode,
     notes: &mut Notes,
     steps: &mut Steps<L>,
 ) -> bool
     requires within { top < 20 }
     requires room { IsTrue (has_room 0 (take (top + 1) frames.old)) }
-    requires fresh { (d : Frame) → IsFresh (table_of rules.now) drop_mode (slice_index_or frames.old top d) }
-    ensures sought { IsSought (table_of rules.now) drop_mode frames.old frames.new top target.now result
+    requires fresh { (d : Frame) → IsFresh (flood_table rules.now) drop_mode (slice_index_or frames.old top d) }
+    ensures sought { IsSought (flood_table rules.now) drop_mode frames.old frames.new top target.now result
         steps.old steps.new }
     ensures noted { CountsUp notes.old.floods notes.new.floods steps.old steps.new }
 {
@@ -111,19 +112,19 @@ fn skip_at<L: Ledger>(
 pub fn seek<L: Ledger>(
     frames: &mut [Frame; 20],
     given: &[Placement],
-    rules: &Rules,
+    rules: &FloodRules,
     drop_mode: DropMode,
     notes: &mut Notes,
     steps: &mut Steps<L>,
 ) -> usize
     requires room { IsTrue (has_room 0 (take (0 + 1) frames.old)) }
-    requires fresh { (d : Frame) → IsFresh (table_of rules.now) drop_mode (slice_index_or frames.old 0 d) }
+    requires fresh { (d : Frame) → IsFresh (flood_table rules.now) drop_mode (slice_index_or frames.old 0 d) }
     ensures within { result ≤ 20 }
     ensures room { IsTrue (has_room 0 (take result frames.new)) }
     ensures skips { (d : Frame) → SkipsTo
-        (sought (suc (slice_index_or frames.old 0 d).left) [] (position_of (table_of rules.now) drop_mode
+        (sought (suc (slice_index_or frames.old 0 d).left) [] (position_of (flood_table rules.now) drop_mode
         (slice_index_or frames.old 0 d)) given.now)
-        (stacked (table_of rules.now) drop_mode [] (take result frames.new)) steps.old steps.new }
+        (stacked (flood_table rules.now) drop_mode [] (take result frames.new)) steps.old steps.new }
     ensures noted { CountsUp notes.old.floods notes.new.floods steps.old steps.new }
 {
     let mut top = 0;

@@ -9,6 +9,7 @@ ghost use Rattle.srs.specs.Kick.{Table};
 ghost use Rattle.moves.specs.declared.key.DropMode.{DropMode};
 ghost use Rattle.queue_pattern.specs.Queues.{queues};
 ghost use Rattle.queue_pattern.specs.Pattern.{elements_of};
+ghost use Rattle.reach.specs.FloodRules.{flood_table};
 ghost use Rattle.enumerate.specs.Problem.{IsFit, needed_of};
 ghost use Rattle.enumerate.specs.Position.{is_live, root_of};
 ghost use Rattle.enumerate.specs.Counted.{as_count, CountsUp};
@@ -35,7 +36,7 @@ use hold_queue::QueueSet;
 use packing::Empties;
 use pc_outside::NoMemory;
 use queue_pattern::Queue;
-use reach::Steps;
+use reach::{FloodRules, Steps};
 use std::alloc::Global;
 use std::sync::ledger::Ledger;
 
@@ -100,6 +101,7 @@ fn has_frame(problem: &Problem, first: &Frame, tilings: &mut Tilings) -> bool
 /// solution is left.
 fn go_on<L: Ledger>(
     problem: &Problem,
+    rules: &FloodRules,
     queue: &Option<Queue>,
     after: &Option<Sequence>,
     pending: bool,
@@ -109,6 +111,7 @@ fn go_on<L: Ledger>(
     steps: &mut Steps<L>,
 ) -> usize
     requires fit { IsFit problem.now }
+    requires rules { flood_table rules.now ≡ table_of problem.now.rules }
     requires within { depth ≤ 20 }
     requires room { IsTrue (has_room 0 (take depth frames.old)) }
     ensures within { result ≤ 20 }
@@ -126,28 +129,23 @@ fn go_on<L: Ledger>(
 {
     let mut depth = depth;
     if pending {
-        depth = begin(problem, queue, after, frames, notes, steps);
+        depth = begin(problem, rules, queue, after, frames, notes, steps);
     }
-    advance(
-        frames,
-        depth,
-        &problem.rules,
-        problem.drop_mode,
-        notes,
-        steps,
-    )
+    advance(frames, depth, rules, problem.drop_mode, notes, steps)
 }
 
 /// Puts the first frame where there is one, and goes to the place of a given sequence: how many frames are in use then.
 fn begin<L: Ledger>(
     problem: &Problem,
+    rules: &FloodRules,
     queue: &Option<Queue>,
     after: &Option<Sequence>,
     frames: &mut [Frame; 20],
     notes: &mut Notes,
     steps: &mut Steps<L>,
 ) -> usize
-    requires { IsFit problem.now }
+    requires fit { IsFit problem.now }
+    requires rules { flood_table rules.now ≡ table_of problem.now.rules }
     ensures within { result ≤ 20 }
     ensures room { IsTrue (has_room 0 (take result frames.new)) }
     ensures skips { SkipsTo
@@ -165,7 +163,7 @@ fn begin<L: Ledger>(
         Some(given) => seek(
             frames,
             given.as_slice(),
-            &problem.rules,
+            rules,
             problem.drop_mode,
             notes,
             steps,
@@ -184,8 +182,10 @@ impl Search {
     {
         let first = first_frame(&problem, &queue);
         let bound = copied_if_any(&after);
+        let rules = FloodRules::new(&problem.rules);
         Search {
             problem,
+            rules,
             queue,
             after,
             bound,
@@ -265,6 +265,7 @@ impl Search {
     {
         self.depth = go_on(
             &self.problem,
+            &self.rules,
             &self.queue,
             &self.after,
             self.pending,

@@ -3,11 +3,11 @@ ghost use Rattle.std.specs.Prelude.{◌≡◌, ℕ, ◌+◌, ◌-◌, ◌≤◌,
 ghost use Rattle.std.specs.Option.{ForSome};
 ghost use Rattle.srs.specs.Cells.{is_inside_of};
 ghost use Rattle.srs.specs.Piece.{all_pieces};
-ghost use Rattle.srs.specs.Rules.{table_of};
 ghost use Rattle.srs.specs.Kick.{Table};
 ghost use Rattle.lane_board.specs.Field.{difference, rows_below};
 ghost use Rattle.well.specs.Well.{filled};
 ghost use Rattle.moves.specs.declared.key.DropMode.{DropMode};
+ghost use Rattle.reach.specs.FloodRules.{flood_table};
 ghost use Rattle.reach.specs.Places.{piece_of};
 ghost use Rattle.hold_queue.specs.QueueSet.{queues_in_play};
 ghost use Rattle.well.specs.Lock.{locked, rows_removed};
@@ -22,13 +22,14 @@ ghost use Rattle.enumerate.specs.Frames.{position_of, places_left};
 ghost use Rattle.enumerate.specs.Turns.{Enters, Turns, SamePosition};
 
 use crate::frame::Frame;
+use crate::left::take_above;
 use crate::notes::Notes;
 use crate::supply::supply_after;
 use crate::tilings::Tilings;
 use moves::DropMode;
 use packing::Empties;
-use reach::{Steps, places};
-use srs::{Piece, Placement, Rules, cells};
+use reach::{FloodRules, Steps};
+use srs::{Piece, Placement, cells};
 use std::sync::ledger::Ledger;
 use well::Well;
 
@@ -96,18 +97,23 @@ impl Frame {
         tilings.has_tiling(&well, self.rows.saturating_sub(removed), supply)
     }
 
-    /// The next placement to be entered.
-    pub fn upcoming(&self) -> Option<Placement>
-        ensures { MatchOption result
-            (places_left self.now.places self.now.entered ≡ [])
-            (λ q. (places_left self.now.places self.now.entered ≡ q ∷ places_left self.now.places (Some q))
-            × IsTrue (may_lock (filled self.now.well) q.piece q)
-            × IsTrue (is_below self.now.rows q)
-            × IsTrue (may_play (queues_in_play self.now.queues) q.piece)) }
+    /// Takes out the next placement to be entered.
+    pub fn take_upcoming(&mut self) -> Option<Placement>
+        ensures next { MatchOption result
+            ((places_left self.old.places self.old.entered ≡ []) × (places_left self.new.places self.new.entered ≡ []))
+            (λ q. (places_left self.old.places self.old.entered ≡ q ∷ places_left self.new.places (Some q))
+            × ForSome self.new.places (λ p. q.piece ≡ piece_of p)
+            × IsTrue (may_lock (filled self.old.well) q.piece q)
+            × IsTrue (is_below self.old.rows q)
+            × IsTrue (may_play (queues_in_play self.old.queues) q.piece)) }
+        ensures same { SamePosition self.old self.new }
+        ensures tried { self.new.tried ≡ self.old.tried }
+        ensures entered { self.new.entered ≡ self.old.entered }
     {
-        match &self.places {
+        let last = self.entered;
+        match &mut self.places {
             None => None,
-            Some(places) => places.next_after(self.entered.as_ref()),
+            Some(places) => take_above(places, &last),
         }
     }
 
@@ -174,14 +180,14 @@ impl Frame {
     pub fn flood<L: Ledger>(
         &mut self,
         piece: Piece,
-        rules: &Rules,
+        rules: &FloodRules,
         drop_mode: DropMode,
         floods: &mut u64,
         steps: &mut Steps<L>,
     )
         requires { IsTrue (may_play (queues_in_play self.old.queues) piece) }
         ensures places { places_left self.new.places self.new.entered ≡ filter (is_below self.old.rows)
-            (places_at (position_of (table_of rules.now) drop_mode self.old) piece) }
+            (places_at (position_of (flood_table rules.now) drop_mode self.old) piece) }
         ensures piece { ForSome self.new.places (λ p. piece_of p ≡ piece) }
         ensures same { SamePosition self.old self.new }
         ensures tried { self.new.tried ≡ self.old.tried }
@@ -189,7 +195,7 @@ impl Frame {
         ensures counted { steps.new ≡ steps.old + 1 }
         ensures noted { CountsUp floods.old floods.new steps.old steps.new }
     {
-        let reached = places(&self.well, rules, piece, drop_mode, steps);
+        let reached = rules.places(&self.well, piece, drop_mode, steps);
         self.places = Some(reached.below(self.rows));
         self.entered = None;
         *floods = floods.saturating_add(1);
@@ -198,13 +204,13 @@ impl Frame {
     /// Tries the next kind.
     fn try_kind<L: Ledger>(
         &mut self,
-        rules: &Rules,
+        rules: &FloodRules,
         drop_mode: DropMode,
         floods: &mut u64,
         steps: &mut Steps<L>,
     ) -> Turn
         requires { places_left self.old.places self.old.entered ≡ [] }
-        ensures turn { Turns (table_of rules.now) drop_mode self.old self.new result steps.old steps.new }
+        ensures turn { Turns (flood_table rules.now) drop_mode self.old self.new result steps.old steps.new }
         ensures same { SamePosition self.old self.new }
         ensures noted { CountsUp floods.old floods.new steps.old steps.new }
     {
@@ -223,16 +229,16 @@ impl Frame {
     /// Enters the next placement, or tries the next kind where none is left.
     pub fn turn<L: Ledger>(
         &mut self,
-        rules: &Rules,
+        rules: &FloodRules,
         drop_mode: DropMode,
         notes: &mut Notes,
         steps: &mut Steps<L>,
     ) -> Turn
-        ensures turn { Turns (table_of rules.now) drop_mode self.old self.new result steps.old steps.new }
+        ensures turn { Turns (flood_table rules.now) drop_mode self.old self.new result steps.old steps.new }
         ensures same { SamePosition self.old self.new }
         ensures noted { CountsUp notes.old.floods notes.new.floods steps.old steps.new }
     {
-        match self.upcoming() {
+        match self.take_upcoming() {
             None => self.try_kind(rules, drop_mode, &mut notes.floods, steps),
             Some(placement) => {
                 self.entered = Some(placement);

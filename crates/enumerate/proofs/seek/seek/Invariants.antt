@@ -1,7 +1,7 @@
 -- What is still to be passed by at the last frame is what is left of the given sequence.
 use Rattle.std.proofs.Common.{◌≡◌, ◌+◌, ◌<◌, IsTrue, [], suc, drop, take, length}
 use Rattle.std.specs.Prelude.{slice_index_or}
-use Rattle.srs.specs.Rules.{table_of}
+use Rattle.reach.specs.FloodRules.{flood_table}
 use Rattle.enumerate.specs.declared.frame.Frame.{Frame}
 use Rattle.enumerate.specs.Counted.{CountsUp}
 use Rattle.enumerate.specs.Events.{sought}
@@ -15,9 +15,9 @@ invariant-loop-target g l = record {
   within : l.top < 20;
   long : length l.frames ≡ 20;
   room : IsTrue (has_room 0 (take (l.top + 1) l.frames));
-  fresh : (d : Frame) → IsFresh (table_of l.rules) l.drop_mode (slice_index_or l.frames l.top d);
+  fresh : (d : Frame) → IsFresh (flood_table l.rules) l.drop_mode (slice_index_or l.frames l.top d);
   skips : (d : Frame) → SkipsTo
-      (sought (suc (slice_index_or l.initial.frames 0 d).left) [] (position_of (table_of l.rules) l.drop_mode (slice_index_or l.initial.frames 0 d)) l.given)
-      (sought_at (table_of l.rules) l.drop_mode l.frames l.top (drop l.target-index l.given) d) l.initial.steps l.steps;
+      (sought (suc (slice_index_or l.initial.frames 0 d).left) [] (position_of (flood_table l.rules) l.drop_mode (slice_index_or l.initial.frames 0 d)) l.given)
+      (sought_at (flood_table l.rules) l.drop_mode l.frames l.top (drop l.target-index l.given) d) l.initial.steps l.steps;
   noted : CountsUp l.initial.notes.floods l.notes.floods l.initial.steps l.steps;
 }

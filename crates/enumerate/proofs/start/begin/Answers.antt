@@ -1,11 +1,13 @@
 -- The first frame stands for the whole search, and passes what comes before a given sequence.
-use Rattle.std.proofs.Common.{sym, ap, subst, ◌∙◌, arith}
+use Rattle.std.proofs.Common.{set, sym, ap, subst, ◌∙◌, arith}
+use Rattle.srs.specs.Kick.{Table}
 use Rattle.srs.specs.Rules.{table_of}
+use Rattle.reach.specs.FloodRules.{flood_table}
 use Rattle.enumerate.specs.Items.{items_of}
 use Rattle.enumerate.specs.Rest.{whole_from}
 use Rattle.enumerate.specs.Seeks.{IsFresh}
 use Rattle.enumerate.proofs.NeededCount.{needed-few}
-use Rattle.enumerate.proofs.SearchLemmas.{first-fresh, first-read, first-room, first-skips, nothing-room, nothing-skips, sought-skips, whole-first, whole-nothing, whole-sought}
+use Rattle.enumerate.proofs.SearchLemmas.{first-fresh, first-read, first-room, first-skips, nothing-room, nothing-skips, skips-by, sought-skips, whole-first, whole-nothing, whole-sought}
 use Rattle.enumerate.proofs.Counting.{counts-none}
 use Rattle.enumerate.proofs.start.begin.Goals as goal
 
@@ -18,16 +20,16 @@ returns-then-not-has_frame-clause-skips g c =
 
 pub seek-requires-clause-room : goal.seek-requires-clause-room
 seek-requires-clause-room g c =
-    first-room c.args.frames.now c.first_frame-first.result (omega (arith, c.told-frames)) (omega (arith, c.first_frame-first.ensures.left, needed-few c.args.problem.now c.requires))
+    first-room c.args.frames.now c.first_frame-first.result (omega (arith, c.told-frames)) (omega (arith, c.first_frame-first.ensures.left, needed-few c.args.problem.now c.requires.fit))
 
 pub seek-requires-clause-fresh : goal.seek-requires-clause-fresh
 seek-requires-clause-fresh g c = λ d.
-    subst (IsFresh (table_of c.args.problem.now.rules) c.args.problem.now.drop_mode) (sym (first-read c.args.frames.now c.first_frame-first.result d (omega (arith, c.told-frames))))
-    (first-fresh c.args.problem.now (items_of c.args.queue.now) c.first_frame-first.result c.first_frame-first.ensures.position c.first_frame-first.ensures.left (sym (c.has_frame.ensures (table_of c.args.problem.now.rules) c.args.problem.now.drop_mode) ∙ c.if-not-has_frame.false) c.first_frame-first.ensures.tried c.first_frame-first.ensures.places)
+    subst (IsFresh (flood_table c.args.rules.now) c.args.problem.now.drop_mode) (sym (first-read c.args.frames.now c.first_frame-first.result d (omega (arith, c.told-frames))))
+    (subst (λ (table : Table). IsFresh table c.args.problem.now.drop_mode c.first_frame-first.result) (sym c.requires.rules) (first-fresh c.args.problem.now (items_of c.args.queue.now) c.first_frame-first.result c.first_frame-first.ensures.position c.first_frame-first.ensures.left (sym (c.has_frame.ensures (table_of c.args.problem.now.rules) c.args.problem.now.drop_mode) ∙ c.if-not-has_frame.false) c.first_frame-first.ensures.tried c.first_frame-first.ensures.places))
 
 pub returns-in-None-clause-room : goal.returns-in-None-clause-room
 returns-in-None-clause-room g c =
-    first-room c.args.frames.now c.first_frame-first.result (omega (arith, c.told-frames)) (omega (arith, c.first_frame-first.ensures.left, needed-few c.args.problem.now c.requires))
+    first-room c.args.frames.now c.first_frame-first.result (omega (arith, c.told-frames)) (omega (arith, c.first_frame-first.ensures.left, needed-few c.args.problem.now c.requires.fit))
 
 pub returns-in-None-clause-skips : goal.returns-in-None-clause-skips
 returns-in-None-clause-skips g c =
@@ -39,7 +41,8 @@ pub returns-in-Some-clause-skips : goal.returns-in-Some-clause-skips
 returns-in-Some-clause-skips g c =
     sought-skips (table_of c.args.problem.now.rules) c.args.problem.now.drop_mode c.args.frames.now c.first_frame-first.result c.in-Some.given.items c.as_slice.result.now _ _ c.args.steps.now c.seek.new.steps (omega (arith, c.told-frames)) c.as_slice.ensures.value
     (ap (λ a. whole_from c.args.problem.now (items_of c.args.queue.now) (items_of a)) c.in-Some.is
-    ∙ whole-sought c.args.problem.now (items_of c.args.queue.now) c.first_frame-first.result c.first_frame-first.ensures.position c.first_frame-first.ensures.left (sym (c.has_frame.ensures (table_of c.args.problem.now.rules) c.args.problem.now.drop_mode) ∙ c.if-not-has_frame.false) c.in-Some.given.items) c.seek.ensures.skips
+    ∙ whole-sought c.args.problem.now (items_of c.args.queue.now) c.first_frame-first.result c.first_frame-first.ensures.position c.first_frame-first.ensures.left (sym (c.has_frame.ensures (table_of c.args.problem.now.rules) c.args.problem.now.drop_mode) ∙ c.if-not-has_frame.false) c.in-Some.given.items)
+    (skips-by c.args.problem.now.drop_mode (set c.args.frames.now 0 c.first_frame-first.result) c.as_slice.result.now c.seek.result c.seek.new.frames c.args.steps.now c.seek.new.steps (flood_table c.args.rules.now) (table_of c.args.problem.now.rules) c.requires.rules c.seek.ensures.skips)
 
 pub returns-then-not-has_frame-clause-noted : goal.returns-then-not-has_frame-clause-noted
 returns-then-not-has_frame-clause-noted g c = counts-none c.args.notes.now.floods c.args.steps.now

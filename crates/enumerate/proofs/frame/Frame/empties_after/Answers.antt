@@ -1,5 +1,5 @@
 -- Where no row goes, the cells of the placement are all that goes.
-use Rattle.std.proofs.Common.{◌≡◌, ◌-◌, sym, ap, ◌∙◌, arith}
+use Rattle.std.proofs.Common.{◌≡◌, sym, ap, ◌∙◌, arith}
 use Rattle.lane_board.specs.Field.{difference, rows_below}
 use Rattle.well.specs.Well.{filled}
 use Rattle.well.proofs.CallerLemmas.{free_pivot_inside}

@@ -1,7 +1,7 @@
 -- The empty cells tell what the field after the placement does.
 use Rattle.std.proofs.Common.{ap, ◌-◌, ◌∙◌, arith}
 use Rattle.well.specs.Well.{filled}
-use Rattle.well.specs.Lock.{locked, rows_removed}
+use Rattle.well.specs.Lock.{locked}
 use Rattle.well.proofs.CallerLemmas.{free_pivot_inside}
 use Rattle.prune.specs.Tiling.{supply_in}
 use Rattle.packing.specs.Empties.{without_placement}

@@ -1,38 +1,34 @@
 -- The placements that are left rise, so that the search for one ends at it or past it.
 use Rattle.std.proofs.Common.{◌≡◌, ◌∷◌, length, refl, sym, ap, subst, arith}
-use Rattle.std.specs.Prelude.{Contains, Option, Some}
+use Rattle.std.specs.Prelude.{Contains, Some}
 use Rattle.std.specs.List.Sorted.{IsStrictlySortedBy}
 use Rattle.srs.specs.Order.{placement_cmp}
 use Rattle.lists.proofs.CallerLemmas.{Contains-here, Contains-none}
-use Rattle.reach.specs.declared.held.Places.{Places}
 use Rattle.enumerate.specs.Frames.{places_left}
 use Rattle.enumerate.proofs.SkipLemmas.{not_first, past_it, places_left-rising}
-use Rattle.enumerate.proofs.TurnLemmas.{places_left-piece}
 use Rattle.enumerate.proofs.frame.Frame.reaches.Goals as goal
 
 pub loop-placement-init : goal.loop-placement-init
 loop-placement-init c = record { same = (λ among. among, λ among. among) }
 
 pub with_entered-probe-requires : goal.with_entered-probe-requires
-with_entered-probe-requires c = λ places is.
-    places_left-piece places c.loop-placement.probe.entered c.in-Some.placement (places_left (Some places) (Some c.in-Some.placement))
-    (subst (λ (p : Option Places). places_left p c.loop-placement.probe.entered ≡ c.in-Some.placement ∷ places_left p (Some c.in-Some.placement)) is c.in-Some.ensures.0)
+with_entered-probe-requires c = c.in-Some.ensures.next.1
 
 pub loop-placement-smaller : goal.loop-placement-smaller
 loop-placement-smaller c =
-    let rest : places_left c.with_entered-probe.result.places c.with_entered-probe.result.entered ≡ places_left c.loop-placement.probe.places (Some c.in-Some.placement) =
+    let rest : places_left c.with_entered-probe.result.places c.with_entered-probe.result.entered ≡ places_left c.take_upcoming.new.self.places (Some c.in-Some.placement) =
     λ i. places_left (c.with_entered-probe.ensures.places i) (c.with_entered-probe.ensures.entered i) in
-    omega (arith, ap length rest, ap length c.in-Some.ensures.0)
+    omega (arith, ap length rest, ap length c.in-Some.ensures.next.0)
 
 pub loop-placement-preserved : goal.loop-placement-preserved
 loop-placement-preserved c =
-    let rest : places_left c.with_entered-probe.result.places c.with_entered-probe.result.entered ≡ places_left c.loop-placement.probe.places (Some c.in-Some.placement) =
+    let rest : places_left c.with_entered-probe.result.places c.with_entered-probe.result.entered ≡ places_left c.take_upcoming.new.self.places (Some c.in-Some.placement) =
     λ i. places_left (c.with_entered-probe.ensures.places i) (c.with_entered-probe.ensures.entered i) in
-    let one = not_first c.in-Some.placement c.args.target.now (places_left c.loop-placement.probe.places (Some c.in-Some.placement)) (sym c.in-Less.ensures.order) in
+    let one = not_first c.in-Some.placement c.args.target.now (places_left c.take_upcoming.new.self.places (Some c.in-Some.placement)) (sym c.in-Less.ensures.order) in
     record {
       same = (
-        λ among. c.loop-placement.invariant.same.0 (subst (λ l. Contains l c.args.target.now) (sym c.in-Some.ensures.0) (one.1 (subst (λ l. Contains l c.args.target.now) rest among))),
-        λ among. subst (λ l. Contains l c.args.target.now) (sym rest) (one.0 (subst (λ l. Contains l c.args.target.now) c.in-Some.ensures.0 (c.loop-placement.invariant.same.1 among))),
+        λ among. c.loop-placement.invariant.same.0 (subst (λ l. Contains l c.args.target.now) (sym c.in-Some.ensures.next.0) (one.1 (subst (λ l. Contains l c.args.target.now) rest among))),
+        λ among. subst (λ l. Contains l c.args.target.now) (sym rest) (one.0 (subst (λ l. Contains l c.args.target.now) c.in-Some.ensures.next.0 (c.loop-placement.invariant.same.1 among))),
       );
     }
 
@@ -40,18 +36,18 @@ pub returns-in-Equal : goal.returns-in-Equal
 returns-in-Equal c =
     let same : c.in-Some.placement ≡ c.args.target.now = c.in-Equal.ensures.equal.0 refl in
     let here : Contains (places_left c.loop-placement.probe.places c.loop-placement.probe.entered) c.args.target.now =
-    subst (λ l. Contains l c.args.target.now) (sym c.in-Some.ensures.0)
-    (subst (λ q. Contains (c.in-Some.placement ∷ places_left c.loop-placement.probe.places (Some c.in-Some.placement)) q) same (Contains-here c.in-Some.placement (places_left c.loop-placement.probe.places (Some c.in-Some.placement)))) in
+    subst (λ l. Contains l c.args.target.now) (sym c.in-Some.ensures.next.0)
+    (subst (λ q. Contains (c.in-Some.placement ∷ places_left c.take_upcoming.new.self.places (Some c.in-Some.placement)) q) same (Contains-here c.in-Some.placement (places_left c.take_upcoming.new.self.places (Some c.in-Some.placement)))) in
     (λ _. c.loop-placement.invariant.same.0 here, λ _. refl)
 
 pub returns-in-Greater : goal.returns-in-Greater
 returns-in-Greater c =
-    let rises = subst (λ l. IsStrictlySortedBy placement_cmp l) c.in-Some.ensures.0 (places_left-rising c.loop-placement.probe.places c.loop-placement.probe.entered) in (
+    let rises = subst (λ l. IsStrictlySortedBy placement_cmp l) c.in-Some.ensures.next.0 (places_left-rising c.loop-placement.probe.places c.loop-placement.probe.entered) in (
       λ e. cc,
-      λ among. absurd (past_it c.in-Some.placement c.args.target.now (places_left c.loop-placement.probe.places (Some c.in-Some.placement)) rises (sym c.in-Greater.ensures.order)
-          (subst (λ l. Contains l c.args.target.now) c.in-Some.ensures.0 (c.loop-placement.invariant.same.1 among))),
+      λ among. absurd (past_it c.in-Some.placement c.args.target.now (places_left c.take_upcoming.new.self.places (Some c.in-Some.placement)) rises (sym c.in-Greater.ensures.order)
+          (subst (λ l. Contains l c.args.target.now) c.in-Some.ensures.next.0 (c.loop-placement.invariant.same.1 among))),
     )
 
 pub returns : goal.returns
 returns c =
-    (λ e. cc, λ among. absurd (Contains-none c.args.target.now (subst (λ l. Contains l c.args.target.now) c.in_default.ensures (c.loop-placement.invariant.same.1 among))))
+    (λ e. cc, λ among. absurd (Contains-none c.args.target.now (subst (λ l. Contains l c.args.target.now) c.in_default.ensures.next.0 (c.loop-placement.invariant.same.1 among))))

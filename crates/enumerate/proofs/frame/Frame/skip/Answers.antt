@@ -1,6 +1,6 @@
 -- What comes before the placement is passed by, and what comes first at the placement itself is its frame or nothing.
 use Rattle.std.proofs.Common.{◌≡◌, refl, sym, subst, ◌∙◌, true}
-use Rattle.srs.specs.Rules.{table_of}
+use Rattle.reach.specs.FloodRules.{flood_table}
 use Rattle.lists.proofs.CallerLemmas.{some_same}
 use Rattle.well.specs.Well.{filled}
 use Rattle.well.specs.LockLaws.{is_below}
@@ -20,7 +20,7 @@ pub returns-then-not-may_play-clause-skips : goal.returns-then-not-may_play-clau
 unfolding places_left
 returns-then-not-may_play-clause-skips g c = λ prefix given.
     skips-same _ _ c.args.steps.now
-    (passes-kind (table_of c.args.rules.now) c.args.drop_mode c.args.self.now _ record { well = refl; rows = refl; queues = refl; left = refl } c.args.target.now c.requires.live c.code-self.ensures
+    (passes-kind (flood_table c.args.rules.now) c.args.drop_mode c.args.self.now _ record { well = refl; rows = refl; queues = refl; left = refl } c.args.target.now c.requires.live c.code-self.ensures
     (may_play-answer (queues_in_play c.args.self.now.queues) c.args.target.now.piece c.may_play.result c.may_play.ensures.permitted ∙ c.if-not-may_play.true) refl prefix given)
 
 pub flood-requires : goal.flood-requires
@@ -44,26 +44,26 @@ pub returns-then-not-reached-clause-skips : goal.returns-then-not-reached-clause
 unfolding position_of
 returns-then-not-reached-clause-skips g c =
     let played = may_play-answer (queues_in_play c.args.self.now.queues) c.args.target.now.piece c.may_play.result c.may_play.ensures.permitted ∙ c.if-not-may_play.false in
-    skips-unplaced (table_of c.args.rules.now) c.args.drop_mode c.args.self.now _
+    skips-unplaced (flood_table c.args.rules.now) c.args.drop_mode c.args.self.now _
     record { well = c.flood.ensures.same.well; rows = c.flood.ensures.same.rows; queues = c.flood.ensures.same.queues; left = c.flood.ensures.same.left } c.args.target.now c.requires.live
     (c.flood.ensures.tried ∙ c.code-self.ensures) played
-    (left-above (position_of (table_of c.args.rules.now) c.args.drop_mode c.args.self.now) c.flood.new.self.places c.flood.new.self.entered c.flood.ensures.entered c.args.target.now c.flood.ensures.places)
+    (left-above (position_of (flood_table c.args.rules.now) c.args.drop_mode c.args.self.now) c.flood.new.self.places c.flood.new.self.entered c.flood.ensures.entered c.args.target.now c.flood.ensures.places)
     c.args.steps.now c.flood.new.steps c.flood.ensures.counted
-    (unheld-place (position_of (table_of c.args.rules.now) c.args.drop_mode c.args.self.now) c.args.target.now _ c.flood.ensures.places c.reaches-reached.result c.reaches-reached.ensures c.if-not-reached.true)
+    (unheld-place (position_of (flood_table c.args.rules.now) c.args.drop_mode c.args.self.now) c.args.target.now _ c.flood.ensures.places c.reaches-reached.result c.reaches-reached.ensures c.if-not-reached.true)
 
 pub enter-requires-clause-lockable : goal.enter-requires-clause-lockable
 unfolding position_of
 enter-requires-clause-lockable g c =
-    let placed = held-place (position_of (table_of c.args.rules.now) c.args.drop_mode c.args.self.now) c.args.target.now _ c.flood.ensures.places c.reaches-reached.result c.reaches-reached.ensures c.if-not-reached.false in
-    place-lockable (table_of c.args.rules.now) (filled c.flood.new.self.well) c.args.drop_mode c.args.target.now.piece c.args.target.now refl
-    ((place-decides (table_of c.args.rules.now) (filled c.flood.new.self.well) c.args.drop_mode c.args.target.now).0
-    (subst (λ w. is_place (table_of c.args.rules.now) (filled w) c.args.drop_mode c.args.target.now ≡ true) (sym c.flood.ensures.same.well) placed))
+    let placed = held-place (position_of (flood_table c.args.rules.now) c.args.drop_mode c.args.self.now) c.args.target.now _ c.flood.ensures.places c.reaches-reached.result c.reaches-reached.ensures c.if-not-reached.false in
+    place-lockable (flood_table c.args.rules.now) (filled c.flood.new.self.well) c.args.drop_mode c.args.target.now.piece c.args.target.now refl
+    ((place-decides (flood_table c.args.rules.now) (filled c.flood.new.self.well) c.args.drop_mode c.args.target.now).0
+    (subst (λ w. is_place (flood_table c.args.rules.now) (filled w) c.args.drop_mode c.args.target.now ≡ true) (sym c.flood.ensures.same.well) placed))
 
 pub enter-requires-clause-below : goal.enter-requires-clause-below
 unfolding position_of
 enter-requires-clause-below g c =
     subst (λ rows. is_below rows c.args.target.now ≡ true) (sym c.flood.ensures.same.rows)
-    (held-below (position_of (table_of c.args.rules.now) c.args.drop_mode c.args.self.now) c.args.target.now _ c.flood.ensures.places c.reaches-reached.result c.reaches-reached.ensures c.if-not-reached.false)
+    (held-below (position_of (flood_table c.args.rules.now) c.args.drop_mode c.args.self.now) c.args.target.now _ c.flood.ensures.places c.reaches-reached.result c.reaches-reached.ensures c.if-not-reached.false)
 
 pub enter-requires-clause-permitted : goal.enter-requires-clause-permitted
 enter-requires-clause-permitted g c =
@@ -74,13 +74,13 @@ pub returns-in-Entered-clause-skips : goal.returns-in-Entered-clause-skips
 unfolding position_of
 returns-in-Entered-clause-skips g c =
     let played = may_play-answer (queues_in_play c.args.self.now.queues) c.args.target.now.piece c.may_play.result c.may_play.ensures.permitted ∙ c.if-not-may_play.false in
-    let placed = held-place (position_of (table_of c.args.rules.now) c.args.drop_mode c.args.self.now) c.args.target.now _ c.flood.ensures.places c.reaches-reached.result c.reaches-reached.ensures c.if-not-reached.false in (
-      skips-entered (table_of c.args.rules.now) c.args.drop_mode c.args.self.now _
+    let placed = held-place (position_of (flood_table c.args.rules.now) c.args.drop_mode c.args.self.now) c.args.target.now _ c.flood.ensures.places c.reaches-reached.result c.reaches-reached.ensures c.if-not-reached.false in (
+      skips-entered (flood_table c.args.rules.now) c.args.drop_mode c.args.self.now _
           record { well = c.flood.ensures.same.well; rows = c.flood.ensures.same.rows; queues = c.flood.ensures.same.queues; left = c.flood.ensures.same.left } c.args.target.now c.requires.live
           (c.flood.ensures.tried ∙ c.code-self.ensures) played
-          (left-above (position_of (table_of c.args.rules.now) c.args.drop_mode c.args.self.now) c.flood.new.self.places c.flood.new.self.entered c.flood.ensures.entered c.args.target.now c.flood.ensures.places)
+          (left-above (position_of (flood_table c.args.rules.now) c.args.drop_mode c.args.self.now) c.flood.new.self.places c.flood.new.self.entered c.flood.ensures.entered c.args.target.now c.flood.ensures.places)
           c.args.steps.now c.flood.new.steps c.flood.ensures.counted placed refl c.in-Entered.child c.in-Entered.ensures.1,
-      record { tried = c.in-Entered.ensures.1.tried; places = c.in-Entered.ensures.1.places; live = c.in-Entered.ensures.1.live (table_of c.args.rules.now) c.args.drop_mode },
+      record { tried = c.in-Entered.ensures.1.tried; places = c.in-Entered.ensures.1.places; live = c.in-Entered.ensures.1.live (flood_table c.args.rules.now) c.args.drop_mode },
       c.in-Entered.ensures.1.left ∙ c.flood.ensures.same.left,
     )
 
@@ -89,14 +89,14 @@ unfolding position_of
 returns-in_default g c =
     let played = may_play-answer (queues_in_play c.args.self.now.queues) c.args.target.now.piece c.may_play.result c.may_play.ensures.permitted ∙ c.if-not-may_play.false in
     record {
-      skips = skips-dead (table_of c.args.rules.now) c.args.drop_mode c.args.self.now _
+      skips = skips-dead (flood_table c.args.rules.now) c.args.drop_mode c.args.self.now _
           record { well = c.flood.ensures.same.well; rows = c.flood.ensures.same.rows; queues = c.flood.ensures.same.queues; left = c.flood.ensures.same.left } c.args.target.now c.requires.live
           (c.flood.ensures.tried ∙ c.code-self.ensures) played
-          (left-above (position_of (table_of c.args.rules.now) c.args.drop_mode c.args.self.now) c.flood.new.self.places c.flood.new.self.entered c.flood.ensures.entered c.args.target.now c.flood.ensures.places)
+          (left-above (position_of (flood_table c.args.rules.now) c.args.drop_mode c.args.self.now) c.flood.new.self.places c.flood.new.self.entered c.flood.ensures.entered c.args.target.now c.flood.ensures.places)
           c.args.steps.now c.flood.new.steps c.flood.ensures.counted
-          (dead-result (table_of c.args.rules.now) c.args.drop_mode c.args.self.now _
+          (dead-result (flood_table c.args.rules.now) c.args.drop_mode c.args.self.now _
           record { well = c.flood.ensures.same.well; rows = c.flood.ensures.same.rows; queues = c.flood.ensures.same.queues; left = c.flood.ensures.same.left } c.args.target.now c.enter.result c.enter.ensures c.in_default.not-Entered
-          (is_place (table_of c.args.rules.now) (filled c.args.self.now.well) c.args.drop_mode c.args.target.now));
+          (is_place (flood_table c.args.rules.now) (filled c.args.self.now.well) c.args.drop_mode c.args.target.now));
       same = record { well = c.flood.ensures.same.well; rows = c.flood.ensures.same.rows; queues = c.flood.ensures.same.queues; left = c.flood.ensures.same.left };
       noted = c.flood.ensures.noted;
     }

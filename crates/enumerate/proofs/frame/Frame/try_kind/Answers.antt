@@ -2,7 +2,7 @@
 use Rattle.std.proofs.Common.{◌∷◌, refl, sym, ap, ◌∙◌}
 use Rattle.std.specs.Prelude.{drop, filter}
 use Rattle.srs.specs.Piece.{all_pieces}
-use Rattle.srs.specs.Rules.{table_of}
+use Rattle.reach.specs.FloodRules.{flood_table}
 use Rattle.well.specs.LockLaws.{is_below}
 use Rattle.enumerate.specs.Position.{places_at}
 use Rattle.enumerate.proofs.TurnLemmas.{goes-over, goes-past_kind, goes-flooded, record-same, same-position}
@@ -25,10 +25,10 @@ flood-requires g c = sym c.may_come.ensures ∙ c.if-not-may_come.false
 pub returns-clause-turn : goal.returns-clause-turn
 returns-clause-turn g c =
     let same = record-same c.args.self.now _ c.flood.new.self refl refl refl refl c.flood.ensures.same in (
-      goes-flooded (table_of c.args.rules.now) c.args.drop_mode c.args.self.now c.flood.new.self same c.in-Some.piece c.requires
+      goes-flooded (flood_table c.args.rules.now) c.args.drop_mode c.args.self.now c.flood.new.self same c.in-Some.piece c.requires
           (c.in-Some.ensures ∙ ap (λ k. c.in-Some.piece ∷ drop k all_pieces) (sym c.flood.ensures.tried))
           (sym c.may_come.ensures ∙ c.if-not-may_come.false)
-          (c.flood.ensures.places ∙ ap (λ n. filter (is_below c.args.self.now.rows) (places_at n c.in-Some.piece)) (same-position (table_of c.args.rules.now) c.args.drop_mode c.args.self.now _ record { well = refl; rows = refl; queues = refl; left = refl })),
+          (c.flood.ensures.places ∙ ap (λ n. filter (is_below c.args.self.now.rows) (places_at n c.in-Some.piece)) (same-position (flood_table c.args.rules.now) c.args.drop_mode c.args.self.now _ record { well = refl; rows = refl; queues = refl; left = refl })),
       c.flood.ensures.counted,
     )
 

@@ -15,6 +15,7 @@ pub invariant_of-result : goal.invariant_of-result
 unfolding events_from
 invariant_of-result c = record {
   fit = c.requires.fit;
+  same_rules = c.new-rules.ensures;
   within = omega arith;
   room = nothing-room;
   listed = listed-start c.args.problem (items_of c.args.queue) (items_of c.args.after)

@@ -20,6 +20,7 @@ pub invariant_of-self : goal.invariant_of-self
 unfolding events_from
 invariant_of-self g c = record {
   fit = c.args.self.now.fit;
+  same_rules = c.args.self.now.same_rules;
   within = c.go_on-self.ensures.within;
   room = c.go_on-self.ensures.room;
   listed = sym (none-found _ _ _ c.go_on-self.result c.if-self-eq0.true c.go_on-self.ensures.found) ∙ c.args.self.now.listed;
@@ -63,6 +64,7 @@ invariant_of-self-2 g c =
     let first = one-found _ _ _ c.go_on-self.result c.if-self-eq0.false c.go_on-self.ensures.found in
     record {
       fit = c.args.self.now.fit;
+      same_rules = c.args.self.now.same_rules;
       within = c.go_on-self.ensures.within;
       room = c.go_on-self.ensures.room;
       listed =

@@ -1,7 +1,6 @@
 -- The counts, the store and the search for a tiling say no exactly where none exists.
-use Rattle.std.proofs.Common.{◌≡◌, true, false, sym, subst, ◌∙◌, arith}
+use Rattle.std.proofs.Common.{sym, subst, ◌∙◌}
 use Rattle.std.proofs.lemmas.Bool.{false_from_ne_true, false≢true}
-use Rattle.lane_board.specs.Field.{difference, rows_below}
 use Rattle.well.specs.Well.{filled}
 use Rattle.prune.specs.Tiling.{supply_in, Tiling}
 use Rattle.packing.specs.Empties.{all_but}
