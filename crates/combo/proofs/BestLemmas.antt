@@ -23,7 +23,7 @@ use Rattle.moves.specs.Place.{IsPlace}
 use Rattle.hold_queue.specs.declared.hold.Hold.{Hold}
 use Rattle.hold_queue.specs.Permits.{Way, Permits}
 use Rattle.combo.specs.Longest.{IsPermittedRun, IsLongest}
-use Rattle.combo.specs.Best.{run_cmp, IsBest, GoesOn, GoesOnIf, GoesOnEither, GoesOnUpTo, IsUpTo, AreNoLonger}
+use Rattle.combo.specs.Best.{run_cmp, IsBest, RunsOn, RunsOnIf, RunsOnEither, RunsOnUpTo, IsUpTo, AreNoLonger}
 use Rattle.combo.specs.declared.hand.Turn.{Turn}
 use Rattle.combo.specs.Turns.{Next, ComesBefore, next_of, plain_next, hold_next}
 use Rattle.combo.proofs.TurnLemmas.{made, way_next, plain_way, hold_way}
@@ -124,62 +124,62 @@ up_to_next IsMember bound q p next member up_to = elim (cases_Bool (is_above pla
 abbrev IsAt : Table → DropMode → Field → Next → Placement → Type 0
 IsAt table mode F next q = (q.piece ≡ next.piece) × IsPlace table F mode q
 
-empty_best : (table : Table) (mode : DropMode) (hold : Hold) (F : Field) (next : Next) → IsBest (GoesOnUpTo table mode hold F next None) []
+empty_best : (table : Table) (mode : DropMode) (hold : Hold) (F : Field) (next : Next) → IsBest (RunsOnUpTo table mode hold F next None) []
 empty_best table mode hold F next = record { member = (tt, tt); first = first }
   where
-    first : (other : List Placement) → GoesOnUpTo table mode hold F next None other → is_gt (run_cmp [] other) ≡ false
+    first : (other : List Placement) → RunsOnUpTo table mode hold F next None other → is_gt (run_cmp [] other) ≡ false
     first [] member = refl
     first (q ∷ rest) member = absurd (false≢true (sym member.1))
 
-pub begins_empty : (table : Table) (mode : DropMode) (hold : Hold) (F : Field) (next : Next) (items : List Placement) → items ≡ [] → IsBest (GoesOnUpTo table mode hold F next None) items
-begins_empty table mode hold F next items is = subst (IsBest (GoesOnUpTo table mode hold F next None)) (sym is) (empty_best table mode hold F next)
+pub begins_empty : (table : Table) (mode : DropMode) (hold : Hold) (F : Field) (next : Next) (items : List Placement) → items ≡ [] → IsBest (RunsOnUpTo table mode hold F next None) items
+begins_empty table mode hold F next items is = subst (IsBest (RunsOnUpTo table mode hold F next None)) (sym is) (empty_best table mode hold F next)
 
 pub goes_on : (table : Table) (mode : DropMode) (hold : Hold) (F : Field) (next : Next) (bound : Option Placement) (q : Placement) (best rest : List Placement)
-    → IsBest (GoesOnUpTo table mode hold F next bound) best → IsLeastAbove placement_cmp (IsAt table mode F next) bound q → 1 ≤ rows_removed F q
+    → IsBest (RunsOnUpTo table mode hold F next bound) best → IsLeastAbove placement_cmp (IsAt table mode F next) bound q → 1 ≤ rows_removed F q
     → IsBest (IsPermittedRun table mode (locked F q) hold next.queue next.held) rest
-    → IsBest (GoesOnUpTo table mode hold F next (Some q)) (taken best (q ∷ rest))
+    → IsBest (RunsOnUpTo table mode hold F next (Some q)) (taken best (q ∷ rest))
 goes_on table mode hold F next bound q best rest so_far least removes rest_best =
     best_of_two best (q ∷ rest) so_far (begins_best IsRest q rest rest_best) divided left right
   where
     IsRest : List Placement → Type 0
     IsRest run = IsPermittedRun table mode (locked F q) hold next.queue next.held run
 
-    divided : (run : List Placement) → GoesOnUpTo table mode hold F next (Some q) run → GoesOnUpTo table mode hold F next bound run ⊎ BeginsWith IsRest q run
+    divided : (run : List Placement) → RunsOnUpTo table mode hold F next (Some q) run → RunsOnUpTo table mode hold F next bound run ⊎ BeginsWith IsRest q run
     divided [] member = inl (tt, tt)
     divided (p ∷ run) member = elim (up_to_next (IsAt table mode F next) bound q p least (member.0.0, member.0.1) member.1) [
       | inl below ↦ inl (member.0, below)
       | inr same ↦ inr (run, ap (λ x. x ∷ run) same, subst (λ x. IsPermittedRun table mode (locked F x) hold next.queue next.held run) same member.0.3)
     ]
 
-    left : (run : List Placement) → GoesOnUpTo table mode hold F next bound run → GoesOnUpTo table mode hold F next (Some q) run
+    left : (run : List Placement) → RunsOnUpTo table mode hold F next bound run → RunsOnUpTo table mode hold F next (Some q) run
     left [] member = (tt, tt)
     left (p ∷ run) member = (member.0, still_up_to bound q p least.above member.1)
 
-    right : (run : List Placement) → BeginsWith IsRest q run → GoesOnUpTo table mode hold F next (Some q) run
-    right run member = subst (GoesOnUpTo table mode hold F next (Some q)) (sym member.1)
+    right : (run : List Placement) → BeginsWith IsRest q run → RunsOnUpTo table mode hold F next (Some q) run
+    right run member = subst (RunsOnUpTo table mode hold F next (Some q)) (sym member.1)
         ((least.member.0, least.member.1, removes, member.2), not_before_itself q)
 
 pub passes : (table : Table) (mode : DropMode) (hold : Hold) (F : Field) (next : Next) (bound : Option Placement) (q : Placement) (best : List Placement)
-    → IsBest (GoesOnUpTo table mode hold F next bound) best → IsLeastAbove placement_cmp (IsAt table mode F next) bound q → rows_removed F q ≡ 0
-    → IsBest (GoesOnUpTo table mode hold F next (Some q)) best
+    → IsBest (RunsOnUpTo table mode hold F next bound) best → IsLeastAbove placement_cmp (IsAt table mode F next) bound q → rows_removed F q ≡ 0
+    → IsBest (RunsOnUpTo table mode hold F next (Some q)) best
 passes table mode hold F next bound q best so_far least none = same_best best so_far to back
   where
-    to : (run : List Placement) → GoesOnUpTo table mode hold F next (Some q) run → GoesOnUpTo table mode hold F next bound run
+    to : (run : List Placement) → RunsOnUpTo table mode hold F next (Some q) run → RunsOnUpTo table mode hold F next bound run
     to [] member = (tt, tt)
     to (p ∷ run) member = elim (up_to_next (IsAt table mode F next) bound q p least (member.0.0, member.0.1) member.1) [
       | inl below ↦ (member.0, below)
       | inr same ↦ absurd (omega (arith, member.0.2, ap (rows_removed F) same, none))
     ]
 
-    back : (run : List Placement) → GoesOnUpTo table mode hold F next bound run → GoesOnUpTo table mode hold F next (Some q) run
+    back : (run : List Placement) → RunsOnUpTo table mode hold F next bound run → RunsOnUpTo table mode hold F next (Some q) run
     back [] member = (tt, tt)
     back (p ∷ run) member = (member.0, still_up_to bound q p least.above member.1)
 
 pub ends : (table : Table) (mode : DropMode) (hold : Hold) (F : Field) (next : Next) (bound : Option Placement) (best : List Placement)
-    → IsBest (GoesOnUpTo table mode hold F next bound) best → NoneAbove placement_cmp (IsAt table mode F next) bound → IsBest (GoesOn table mode hold F next) best
+    → IsBest (RunsOnUpTo table mode hold F next bound) best → NoneAbove placement_cmp (IsAt table mode F next) bound → IsBest (RunsOn table mode hold F next) best
 ends table mode hold F next bound best so_far none = same_best best so_far to (λ run member. member.0)
   where
-    to : (run : List Placement) → GoesOn table mode hold F next run → GoesOnUpTo table mode hold F next bound run
+    to : (run : List Placement) → RunsOn table mode hold F next run → RunsOnUpTo table mode hold F next bound run
     to [] member = (tt, tt)
     to (p ∷ run) member = elim (cases_Bool (is_above placement_cmp bound p)) [
       | inl above ↦ absurd (none.none p (member.0, member.1) above)
@@ -189,7 +189,7 @@ ends table mode hold F next bound best so_far none = same_best best so_far to (�
 -- a run of a turn is a permitted run
 from_turn : (table : Table) (mode : DropMode) (hold : Hold) (F : Field) (queue : List Piece) (held : Option Piece) (turn : Option Next)
     → ((next : Next) → turn ≡ Some next → Way hold queue held next.piece next.queue next.held)
-    → (run : List Placement) → GoesOnIf table mode hold F turn run → IsPermittedRun table mode F hold queue held run
+    → (run : List Placement) → RunsOnIf table mode hold F turn run → IsPermittedRun table mode F hold queue held run
 from_turn table mode hold F queue held None way run member = subst (IsPermittedRun table mode F hold queue held) (sym member) (record { runs = tt; permitted = tt })
 from_turn table mode hold F queue held (Some next) way [] member = record { runs = tt; permitted = tt }
 from_turn table mode hold F queue held (Some next) way (q ∷ run) member = record {
@@ -199,17 +199,17 @@ from_turn table mode hold F queue held (Some next) way (q ∷ run) member = reco
 
 to_turn : (table : Table) (mode : DropMode) (hold : Hold) (F : Field) (queue : List Piece) (held : Option Piece) (turn : Option Next) (q : Placement) (run : List Placement) (rest : List Piece) (after : Option Piece)
     → turn ≡ Some (made q.piece rest after) → IsPlace table F mode q → 1 ≤ rows_removed F q → IsPermittedRun table mode (locked F q) hold rest after run
-    → GoesOnIf table mode hold F turn (q ∷ run)
+    → RunsOnIf table mode hold F turn (q ∷ run)
 to_turn table mode hold F queue held turn q run rest after is place removes permitted =
-    subst (λ t. GoesOnIf table mode hold F t (q ∷ run)) (sym is) (refl, place, removes, permitted)
+    subst (λ t. RunsOnIf table mode hold F t (q ∷ run)) (sym is) (refl, place, removes, permitted)
 
-none : (table : Table) (mode : DropMode) (hold : Hold) (F : Field) (turn : Option Next) → GoesOnIf table mode hold F turn []
+none : (table : Table) (mode : DropMode) (hold : Hold) (F : Field) (turn : Option Next) → RunsOnIf table mode hold F turn []
 none table mode hold F None = refl
 none table mode hold F (Some next) = tt
 
 -- the permitted runs are those that begin with one of the two turns
 pub permitted_either : (table : Table) (mode : DropMode) (hold : Hold) (F : Field) (queue : List Piece) (held : Option Piece) (first second : Option Next) → first ≡ plain_next queue held → second ≡ hold_next hold queue held
-    → (run : List Placement) → IsPermittedRun table mode F hold queue held run → GoesOnEither table mode hold F first second run
+    → (run : List Placement) → IsPermittedRun table mode F hold queue held run → RunsOnEither table mode hold F first second run
 permitted_either table mode hold F queue held first second first_is second_is [] member = inl (none table mode hold F first)
 permitted_either table mode hold F queue held first second first_is second_is (q ∷ run) member =
     let rest = member.permitted.0 in
@@ -221,36 +221,36 @@ permitted_either table mode hold F queue held first second first_is second_is (q
     ]
 
 pub either_permitted : (table : Table) (mode : DropMode) (hold : Hold) (F : Field) (queue : List Piece) (held : Option Piece) (first second : Option Next) → first ≡ plain_next queue held → second ≡ hold_next hold queue held
-    → (run : List Placement) → GoesOnEither table mode hold F first second run → IsPermittedRun table mode F hold queue held run
+    → (run : List Placement) → RunsOnEither table mode hold F first second run → IsPermittedRun table mode F hold queue held run
 either_permitted table mode hold F queue held first second first_is second_is run (inl is) =
     from_turn table mode hold F queue held first (λ next same. plain_way hold queue held next (sym first_is ∙ same)) run is
 either_permitted table mode hold F queue held first second first_is second_is run (inr is) =
     from_turn table mode hold F queue held second (λ next same. hold_way hold queue held next (sym second_is ∙ same)) run is
 
 pub best_turn : (table : Table) (mode : DropMode) (hold : Hold) (F : Field) (queue : List Piece) (held : Option Piece) (first second : Option Next) (run : List Placement)
-    → first ≡ plain_next queue held → second ≡ hold_next hold queue held → IsBest (GoesOnEither table mode hold F first second) run → IsBest (IsPermittedRun table mode F hold queue held) run
+    → first ≡ plain_next queue held → second ≡ hold_next hold queue held → IsBest (RunsOnEither table mode hold F first second) run → IsBest (IsPermittedRun table mode F hold queue held) run
 best_turn table mode hold F queue held first second run first_is second_is best =
     same_best run best (permitted_either table mode hold F queue held first second first_is second_is) (either_permitted table mode hold F queue held first second first_is second_is)
 
-pub swapped : (table : Table) (mode : DropMode) (hold : Hold) (F : Field) (first second : Option Next) (run : List Placement) → GoesOnEither table mode hold F first second run → GoesOnEither table mode hold F second first run
+pub swapped : (table : Table) (mode : DropMode) (hold : Hold) (F : Field) (first second : Option Next) (run : List Placement) → RunsOnEither table mode hold F first second run → RunsOnEither table mode hold F second first run
 swapped table mode hold F first second run (inl is) = inr is
 swapped table mode hold F first second run (inr is) = inl is
 
 pub best_swapped : (table : Table) (mode : DropMode) (hold : Hold) (F : Field) (first second : Option Next) (run : List Placement)
-    → IsBest (GoesOnEither table mode hold F first second) run → IsBest (GoesOnEither table mode hold F second first) run
+    → IsBest (RunsOnEither table mode hold F first second) run → IsBest (RunsOnEither table mode hold F second first) run
 best_swapped table mode hold F first second run best = same_best run best (swapped table mode hold F second first) (swapped table mode hold F first second)
 
 -- two turns that are the same
 pub best_same : (table : Table) (mode : DropMode) (hold : Hold) (F : Field) (first second : Option Next) (run : List Placement) → first ≡ second
-    → IsBest (GoesOnIf table mode hold F first) run → IsBest (GoesOnEither table mode hold F first second) run
+    → IsBest (RunsOnIf table mode hold F first) run → IsBest (RunsOnEither table mode hold F first second) run
 best_same table mode hold F first second run same best = same_best run best to (λ r is. inl is)
   where
-    to : (r : List Placement) → GoesOnEither table mode hold F first second r → GoesOnIf table mode hold F first r
+    to : (r : List Placement) → RunsOnEither table mode hold F first second r → RunsOnIf table mode hold F first r
     to r (inl is) = is
-    to r (inr is) = subst (λ turn. GoesOnIf table mode hold F turn r) (sym same) is
+    to r (inr is) = subst (λ turn. RunsOnIf table mode hold F turn r) (sym same) is
 
 pub best_of_either : (table : Table) (mode : DropMode) (hold : Hold) (F : Field) (first second : Option Next) (one other : List Placement)
-    → IsBest (GoesOnIf table mode hold F first) one → IsBest (GoesOnIf table mode hold F second) other → IsBest (GoesOnEither table mode hold F first second) (taken one other)
+    → IsBest (RunsOnIf table mode hold F first) one → IsBest (RunsOnIf table mode hold F second) other → IsBest (RunsOnEither table mode hold F first second) (taken one other)
 best_of_either table mode hold F first second one other a b = best_of_two one other a b (λ run is. is) (λ run is. inl is) (λ run is. inr is)
 
 pub fewer_members : {A B : List Placement → Type 0} (most : ℕ) → AreNoLonger A most → ((run : List Placement) → B run → A run) → AreNoLonger B most
@@ -318,10 +318,10 @@ as_long (b ∷ best) q p run up_to above same =
 
 -- where the best run so far is as long as can be, no later one is better
 pub as_long_as_can_be : (table : Table) (mode : DropMode) (hold : Hold) (F : Field) (next : Next) (q : Placement) (best : List Placement) (most : ℕ)
-    → IsBest (GoesOnUpTo table mode hold F next (Some q)) best → length best ≡ most → AreNoLonger (GoesOn table mode hold F next) most → IsBest (GoesOn table mode hold F next) best
+    → IsBest (RunsOnUpTo table mode hold F next (Some q)) best → length best ≡ most → AreNoLonger (RunsOn table mode hold F next) most → IsBest (RunsOn table mode hold F next) best
 as_long_as_can_be table mode hold F next q best most so_far all bound = record { member = so_far.member.0; first = first }
   where
-    first : (other : List Placement) → GoesOn table mode hold F next other → is_gt (run_cmp best other) ≡ false
+    first : (other : List Placement) → RunsOn table mode hold F next other → is_gt (run_cmp best other) ≡ false
     first [] member = so_far.first [] (tt, tt)
     first (p ∷ run) member = elim (cases_Bool (is_above placement_cmp (Some q) p)) [
       | inr below ↦ so_far.first (p ∷ run) (member, below)
@@ -347,20 +347,20 @@ later_piece (b ∷ best) p run piece starts before same =
     ∙ ap (λ o. is_gt (ordering_then o (sequence_cmp (b ∷ best) (p ∷ run)))) (tied_itself nat_cmp_total (length (b ∷ best)))
     ∙ ap is_gt (sequence_cmp-first b p best run less)
 
-starts : (table : Table) (mode : DropMode) (hold : Hold) (F : Field) (next : Next) (run : List Placement) → GoesOn table mode hold F next run → StartsWith next.piece run
+starts : (table : Table) (mode : DropMode) (hold : Hold) (F : Field) (next : Next) (run : List Placement) → RunsOn table mode hold F next run → StartsWith next.piece run
 starts table mode hold F next [] member = tt
 starts table mode hold F next (q ∷ run) member = member.0
 
 pub first_is_best : (table : Table) (mode : DropMode) (hold : Hold) (F : Field) (queue : List Piece) (first second : Option Turn) (best : List Placement) (most : ℕ)
-    → 0 < most → length best ≡ most → ComesBefore first second → IsBest (GoesOnIf table mode hold F (option_map (next_of queue) first)) best
-    → AreNoLonger (GoesOnEither table mode hold F (option_map (next_of queue) first) (option_map (next_of queue) second)) most
-    → IsBest (GoesOnEither table mode hold F (option_map (next_of queue) first) (option_map (next_of queue) second)) best
+    → 0 < most → length best ≡ most → ComesBefore first second → IsBest (RunsOnIf table mode hold F (option_map (next_of queue) first)) best
+    → AreNoLonger (RunsOnEither table mode hold F (option_map (next_of queue) first) (option_map (next_of queue) second)) most
+    → IsBest (RunsOnEither table mode hold F (option_map (next_of queue) first) (option_map (next_of queue) second)) best
 first_is_best table mode hold F queue None second best most some long before so_far bound = absurd before
 first_is_best table mode hold F queue (Some one) None best most some long before so_far bound = absurd before
 first_is_best table mode hold F queue (Some one) (Some other) best most some long before so_far bound =
     record { member = inl so_far.member; first = first }
   where
-    later : (run : List Placement) → GoesOn table mode hold F (next_of queue other) run → is_gt (run_cmp best run) ≡ false
+    later : (run : List Placement) → RunsOn table mode hold F (next_of queue other) run → is_gt (run_cmp best run) ≡ false
     later [] member = shorter best [] (omega (arith, some, long))
     later (p ∷ run) member = elim (cases_lt (length (p ∷ run)) (length best)) [
       | inl less ↦ shorter best (p ∷ run) less
@@ -368,6 +368,6 @@ first_is_best table mode hold F queue (Some one) (Some other) best most some lon
           (omega (arith, before, ap piece_code member.0)) (omega (arith, le, long, bound.each (p ∷ run) (inr member)))
     ]
 
-    first : (run : List Placement) → GoesOnEither table mode hold F (Some (next_of queue one)) (Some (next_of queue other)) run → is_gt (run_cmp best run) ≡ false
+    first : (run : List Placement) → RunsOnEither table mode hold F (Some (next_of queue one)) (Some (next_of queue other)) run → is_gt (run_cmp best run) ≡ false
     first run (inl is) = so_far.first run is
     first run (inr is) = later run is

@@ -15,7 +15,7 @@ use Rattle.combo.specs.Longest.{IsPermittedRun}
 use Rattle.combo.specs.Best.{AreNoLonger}
 use Rattle.combo.specs.declared.hand.Hand.{Hand}
 use Rattle.combo.specs.Turns.{held_piece_count, hand_count}
-use Rattle.combo.proofs.PlaceFree.{place-free}
+use Rattle.moves.proofs.CallerLemmas.{place-free}
 use Rattle.combo.proofs.TurnLemmas.{permitted_short}
 
 -- each placement adds four cells and removes ten or more

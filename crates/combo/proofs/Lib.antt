@@ -6,6 +6,5 @@ mod LongestExists
 mod LongestLemmas
 mod StoreLemmas
 mod TurnLemmas
-mod PlaceFree
 mod PlacesLeft
 mod Worked

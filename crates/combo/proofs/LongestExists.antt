@@ -23,7 +23,7 @@ use Rattle.well.proofs.CallerLemmas.{free_inside}
 use Rattle.moves.specs.declared.key.DropMode.{DropMode}
 use Rattle.moves.specs.Place.{IsPlace}
 use Rattle.moves.specs.PlaceTest.{is_place}
-use Rattle.moves.proofs.CallerLemmas.{is_place-decides}
+use Rattle.moves.proofs.CallerLemmas.{is_place-decides, place-free}
 use Rattle.hold_queue.specs.declared.hold.Hold.{Hold}
 use Rattle.hold_queue.specs.Permits.{permits}
 use Rattle.hold_queue.proofs.CallerLemmas.{permits-decides}
@@ -31,7 +31,6 @@ use Rattle.combo.specs.Longest.{IsLongest, IsPermittedRun}
 use Rattle.combo.specs.Runs.{Runs}
 use Rattle.combo.specs.Turns.{held_piece_count}
 use Rattle.combo.proofs.BoundLemmas.{permitted_length}
-use Rattle.combo.proofs.PlaceFree.{place-free}
 
 -- ---- the best of a list
 

@@ -16,7 +16,7 @@ use Rattle.moves.specs.declared.key.DropMode.{DropMode}
 use Rattle.moves.specs.Place.{IsPlace}
 use Rattle.reach.specs.declared.held.Places.{Places}
 use Rattle.reach.specs.Places.{holds, piece_of}
-use Rattle.combo.proofs.PlaceFree.{place-free}
+use Rattle.moves.proofs.CallerLemmas.{place-free}
 
 abbrev pub places_left : Places → Option Placement → List Placement
 places_left places entered = filter (is_above placement_cmp entered) (filter (holds places) (placements_of (piece_of places)))

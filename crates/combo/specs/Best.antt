@@ -24,9 +24,9 @@ pub record IsBest (IsMember : List Placement → Type 0) (run : List Placement) 
   pub first : (other : List Placement) → IsMember other → is_gt (run_cmp run other) ≡ false
 
 -- no placement; or first one of the next piece that removes a row, and then a permitted run from what it leaves
-abbrev pub GoesOn : Table → DropMode → Hold → Field → Next → List Placement → Type 0
-GoesOn table mode hold F next [] = Unit {0}
-GoesOn table mode hold F next (placement ∷ rest) =
+abbrev pub RunsOn : Table → DropMode → Hold → Field → Next → List Placement → Type 0
+RunsOn table mode hold F next [] = Unit {0}
+RunsOn table mode hold F next (placement ∷ rest) =
     (placement.piece ≡ next.piece) × IsPlace table F mode placement × (1 ≤ rows_removed F placement)
     × IsPermittedRun table mode (locked F placement) hold next.queue next.held rest
 
@@ -36,17 +36,17 @@ IsUpTo bound [] = Unit {0}
 IsUpTo bound (placement ∷ rest) = is_above placement_cmp bound placement ≡ false
 
 -- a run that goes on so, with a first placement that is not above a bound
-abbrev pub GoesOnUpTo : Table → DropMode → Hold → Field → Next → Option Placement → List Placement → Type 0
-GoesOnUpTo table mode hold F next bound run = GoesOn table mode hold F next run × IsUpTo bound run
+abbrev pub RunsOnUpTo : Table → DropMode → Hold → Field → Next → Option Placement → List Placement → Type 0
+RunsOnUpTo table mode hold F next bound run = RunsOn table mode hold F next run × IsUpTo bound run
 
 -- the runs that begin with a next piece, if there is one
-abbrev pub GoesOnIf : Table → DropMode → Hold → Field → Option Next → List Placement → Type 0
-GoesOnIf table mode hold F None run = run ≡ []
-GoesOnIf table mode hold F (Some next) run = GoesOn table mode hold F next run
+abbrev pub RunsOnIf : Table → DropMode → Hold → Field → Option Next → List Placement → Type 0
+RunsOnIf table mode hold F None run = run ≡ []
+RunsOnIf table mode hold F (Some next) run = RunsOn table mode hold F next run
 
 -- the runs that begin with one of two next pieces, if there are any
-abbrev pub GoesOnEither : Table → DropMode → Hold → Field → Option Next → Option Next → List Placement → Type 0
-GoesOnEither table mode hold F one other run = GoesOnIf table mode hold F one run ⊎ GoesOnIf table mode hold F other run
+abbrev pub RunsOnEither : Table → DropMode → Hold → Field → Option Next → Option Next → List Placement → Type 0
+RunsOnEither table mode hold F one other run = RunsOnIf table mode hold F one run ⊎ RunsOnIf table mode hold F other run
 
 -- none of some runs is longer than this
 pub record AreNoLonger (IsMember : List Placement → Type 0) (most : ℕ) : Type 0 where

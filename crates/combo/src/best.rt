@@ -2,10 +2,11 @@
 ghost use Rattle.std.specs.Prelude.{◌≡◌, ◌+◌, ◌*◌, ◌≤◌, ◌<◌, drop, length, IsTrue, IfSome, None};
 ghost use Rattle.std.specs.Option.{option_map};
 ghost use Rattle.srs.specs.Rules.{table_of};
+ghost use Rattle.reach.specs.FloodRules.{flood_table};
 ghost use Rattle.well.specs.Free.{is_free};
 ghost use Rattle.well.specs.Lock.{locked, rows_removed};
 ghost use Rattle.well.specs.Well.{filled};
-ghost use Rattle.combo.specs.Best.{IsBest, GoesOnIf, GoesOnEither, AreNoLonger};
+ghost use Rattle.combo.specs.Best.{IsBest, RunsOnIf, RunsOnEither, AreNoLonger};
 ghost use Rattle.combo.specs.Known.{AreKnown};
 ghost use Rattle.combo.specs.Longest.{IsLongest, IsPermittedRun};
 ghost use Rattle.combo.specs.Turns.{next_of, hand_count, held_piece_count, turn_count};
@@ -18,7 +19,7 @@ use crate::store::{PLACES, kept, place_of};
 use hold_queue::Hold;
 use moves::DropMode;
 use queue_pattern::Queue;
-use reach::{Steps, places};
+use reach::{FloodRules, Steps};
 use srs::{Piece, Placement, Rules};
 use std::sync::ledger::Ledger;
 use well::Well;
@@ -26,7 +27,7 @@ use well::Well;
 /// The rules of play.
 #[derive(Clone, Copy)]
 struct Play {
-    rules: Rules,
+    rules: FloodRules,
     drop_mode: DropMode,
     hold: Hold,
 }
@@ -43,10 +44,10 @@ fn best_run<L: Ledger>(
 ) -> Run
     requires few { hand_count queue.now hand ≤ 23 }
     requires some { 0 < length store.old }
-    requires known { AreKnown (table_of play.now.rules) play.now.drop_mode play.now.hold queue.now store.old }
-    ensures best { IsBest (IsPermittedRun (table_of play.now.rules) play.now.drop_mode (filled well.now) play.now.hold
-        (drop hand.taken queue.now) hand.held) result.items }
-    ensures known { AreKnown (table_of play.now.rules) play.now.drop_mode play.now.hold queue.now store.new }
+    requires known { AreKnown (flood_table play.now.rules) play.now.drop_mode play.now.hold queue.now store.old }
+    ensures best { IsBest (IsPermittedRun (flood_table play.now.rules) play.now.drop_mode (filled well.now)
+        play.now.hold (drop hand.taken queue.now) hand.held) result.items }
+    ensures known { AreKnown (flood_table play.now.rules) play.now.drop_mode play.now.hold queue.now store.new }
     ensures counted { steps.old ≤ steps.new }
 {
     let place = place_of(well, hand, store.len());
@@ -71,10 +72,10 @@ fn best_turn<L: Ledger>(
 ) -> Run
     requires few { hand_count queue.now hand ≤ 23 }
     requires some { 0 < length store.old }
-    requires known { AreKnown (table_of play.now.rules) play.now.drop_mode play.now.hold queue.now store.old }
-    ensures best { IsBest (IsPermittedRun (table_of play.now.rules) play.now.drop_mode (filled well.now) play.now.hold
-        (drop hand.taken queue.now) hand.held) result.items }
-    ensures known { AreKnown (table_of play.now.rules) play.now.drop_mode play.now.hold queue.now store.new }
+    requires known { AreKnown (flood_table play.now.rules) play.now.drop_mode play.now.hold queue.now store.old }
+    ensures best { IsBest (IsPermittedRun (flood_table play.now.rules) play.now.drop_mode (filled well.now)
+        play.now.hold (drop hand.taken queue.now) hand.held) result.items }
+    ensures known { AreKnown (flood_table play.now.rules) play.now.drop_mode play.now.hold queue.now store.new }
     ensures counted { steps.old ≤ steps.new }
 {
     let most = most(queue, well, hand);
@@ -107,13 +108,13 @@ fn best_of_two<L: Ledger>(
     requires first { turn_count queue.now first ≤ 23 }
     requires second { turn_count queue.now second ≤ 23 }
     requires some { 0 < length store.old }
-    requires known { AreKnown (table_of play.now.rules) play.now.drop_mode play.now.hold queue.now store.old }
-    requires most { AreNoLonger (GoesOnEither (table_of play.now.rules) play.now.drop_mode play.now.hold
+    requires known { AreKnown (flood_table play.now.rules) play.now.drop_mode play.now.hold queue.now store.old }
+    requires most { AreNoLonger (RunsOnEither (flood_table play.now.rules) play.now.drop_mode play.now.hold
         (filled well.now) (option_map (next_of queue.now) first) (option_map (next_of queue.now) second)) most }
     requires some_pieces { 0 < most }
-    ensures best { IsBest (GoesOnEither (table_of play.now.rules) play.now.drop_mode play.now.hold (filled well.now)
+    ensures best { IsBest (RunsOnEither (flood_table play.now.rules) play.now.drop_mode play.now.hold (filled well.now)
         (option_map (next_of queue.now) first) (option_map (next_of queue.now) second)) result.items }
-    ensures known { AreKnown (table_of play.now.rules) play.now.drop_mode play.now.hold queue.now store.new }
+    ensures known { AreKnown (flood_table play.now.rules) play.now.drop_mode play.now.hold queue.now store.new }
     ensures counted { steps.old ≤ steps.new }
 {
     let best = best_after(play, queue, well, first, most, store, steps);
@@ -137,19 +138,19 @@ fn best_after<L: Ledger>(
 ) -> Run
     requires few { turn_count queue.now turn ≤ 23 }
     requires some { 0 < length store.old }
-    requires known { AreKnown (table_of play.now.rules) play.now.drop_mode play.now.hold queue.now store.old }
-    requires most { AreNoLonger (GoesOnIf (table_of play.now.rules) play.now.drop_mode play.now.hold (filled well.now)
-        (option_map (next_of queue.now) turn)) most }
-    ensures best { IsBest (GoesOnIf (table_of play.now.rules) play.now.drop_mode play.now.hold (filled well.now)
+    requires known { AreKnown (flood_table play.now.rules) play.now.drop_mode play.now.hold queue.now store.old }
+    requires most { AreNoLonger (RunsOnIf (flood_table play.now.rules) play.now.drop_mode play.now.hold
+        (filled well.now) (option_map (next_of queue.now) turn)) most }
+    ensures best { IsBest (RunsOnIf (flood_table play.now.rules) play.now.drop_mode play.now.hold (filled well.now)
         (option_map (next_of queue.now) turn)) result.items }
-    ensures known { AreKnown (table_of play.now.rules) play.now.drop_mode play.now.hold queue.now store.new }
+    ensures known { AreKnown (flood_table play.now.rules) play.now.drop_mode play.now.hold queue.now store.new }
     ensures counted { steps.old ≤ steps.new }
 {
     let mut best = Run::new();
     let Some(turn) = turn else {
         return best;
     };
-    let places = places(well, &play.rules, turn.piece, play.drop_mode, steps);
+    let places = play.rules.places(well, turn.piece, play.drop_mode, steps);
     let mut entered = None;
     while let Some(placement) = places.next_after(entered.as_ref()) {
         if let Some(next) = cleared(well, &placement) {
@@ -194,7 +195,7 @@ pub fn longest<L: Ledger>(
     ensures counted { steps.old ≤ steps.new }
 {
     let play = Play {
-        rules: *rules,
+        rules: FloodRules::new(rules),
         drop_mode,
         hold,
     };

@@ -25,7 +25,8 @@ use Rattle.enumerate.specs.declared.problem.Problem.{Problem}
 use Rattle.enumerate.specs.Plays.{Plays}
 use Rattle.enumerate.specs.Problem.{IsFit}
 use Rattle.enumerate.specs.Solution.{pieces_of}
-use Rattle.enumerate.proofs.CallerLemmas.{IsLow, filled-low, locked-low, place-decides, place-free}
+use Rattle.enumerate.proofs.CallerLemmas.{IsLow, filled-low, locked-low, place-decides}
+use Rattle.moves.proofs.CallerLemmas.{place-free}
 use Rattle.cover.specs.Covered.{IsCovered, IsCoveredList, PlaysIn}
 
 -- ---- whether a sequence clears a field

@@ -8,7 +8,8 @@ use Rattle.well.specs.LockLaws.{is_below}
 use Rattle.moves.specs.declared.key.DropMode.{DropMode}
 use Rattle.moves.specs.Place.{IsPlace}
 use Rattle.enumerate.specs.Plays.{Plays}
-use Rattle.enumerate.proofs.CallerLemmas.{IsLow, locked-low, place-free}
+use Rattle.enumerate.proofs.CallerLemmas.{IsLow, locked-low}
+use Rattle.moves.proofs.CallerLemmas.{place-free}
 
 -- the whole clears the first field exactly where the rest clears the field that is left
 pub record IsPlayed (table : Table) (mode : DropMode) (start : Field) (height : ℕ) (whole : List Placement) (F : Field) (rows : ℕ) (rest : List Placement) (before now done : ℕ) : Type 0 where

@@ -70,8 +70,8 @@ impl CoverSet {
     }
 
     /// Keeps the kinds of a sequence where it clears the field of the problem, and says whether it does. Adds at most
-    /// one step for each placement. Want of memory is the only refusal, and then all is as before; a sequence that leaves
-    /// cells takes none.
+    /// one step for each placement. Want of memory is the only refusal, and then all is as before; for a sequence that
+    /// leaves cells it is not answered.
     pub fn add<L: Ledger>(
         &mut self,
         sequence: &Sequence,

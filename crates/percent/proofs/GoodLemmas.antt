@@ -24,7 +24,9 @@ use Rattle.enumerate.specs.declared.problem.Problem.{Problem}
 use Rattle.enumerate.specs.Plays.{Plays}
 use Rattle.enumerate.specs.Problem.{IsFit, empties_of, needed_of}
 use Rattle.enumerate.specs.Solution.{pieces_of}
-use Rattle.enumerate.proofs.CallerLemmas.{IsLow, filled-low, locked-low, place-decides, place-free, free-inside, long-needed, needed-exact, in_all_pieces}
+use Rattle.enumerate.proofs.CallerLemmas.{IsLow, filled-low, locked-low, place-decides, long-needed, needed-exact, in_all_pieces}
+use Rattle.well.proofs.CallerLemmas.{free_inside}
+use Rattle.moves.proofs.CallerLemmas.{place-free}
 use Rattle.percent.specs.declared.game.Game.{Game}
 use Rattle.percent.specs.Hands.{number_of, hand_of, is_allowed, takes, without_first, without_second}
 use Rattle.percent.specs.GoodHands.{places_of, is_good, is_good_after, game_of, is_good_queue}
@@ -46,7 +48,7 @@ place-listed : (game : Game) (F : Field) (q : Placement) → is_place (table_of 
 unfolding places_of
 place-listed game F q place =
     let is = (place-decides (table_of game.rules) F game.drop_mode q).0 place in
-    let listed : IsCanonicalInside q.piece q = record { kind = refl; canonical = is.canonical; inside = free-inside F q (place-free (table_of game.rules) F game.drop_mode q is) } in
+    let listed : IsCanonicalInside q.piece q = record { kind = refl; canonical = is.canonical; inside = free_inside F q (place-free (table_of game.rules) F game.drop_mode q is) } in
     Contains-filter (is_place (table_of game.rules) F game.drop_mode) (placements_of q.piece) q (((placements_of-list q.piece).members q).1 listed) place
 
 pub good-played : (game : Game) (F : Field) (rows : ℕ) (hand : List Piece) (s : List Placement)

@@ -23,7 +23,9 @@ use Rattle.moves.specs.Place.{IsPlace}
 use Rattle.moves.specs.PlaceTest.{is_place}
 use Rattle.reach.specs.declared.held.Places.{Places}
 use Rattle.reach.specs.Places.{holds}
-use Rattle.enumerate.proofs.CallerLemmas.{place-decides, place-free, free-inside}
+use Rattle.enumerate.proofs.CallerLemmas.{place-decides}
+use Rattle.well.proofs.CallerLemmas.{free_inside}
+use Rattle.moves.proofs.CallerLemmas.{place-free}
 use Rattle.percent.specs.declared.game.Game.{Game}
 use Rattle.percent.specs.declared.position.Position.{Position}
 use Rattle.percent.specs.GoodHands.{places_of, is_good, is_good_after, is_good_at}
@@ -46,7 +48,7 @@ held-list game F piece places held = record {
         (held q).1 ((((placements_of-list piece).members q).0 found.0).kind, (place-decides (table_of game.rules) F game.drop_mode q).0 found.1),
     λ is.
         let place = (held q).0 is in
-        let listed : IsCanonicalInside piece q = record { kind = place.0; canonical = place.1.canonical; inside = free-inside F q (place-free (table_of game.rules) F game.drop_mode q place.1) } in
+        let listed : IsCanonicalInside piece q = record { kind = place.0; canonical = place.1.canonical; inside = free_inside F q (place-free (table_of game.rules) F game.drop_mode q place.1) } in
         Contains-filter (is_place (table_of game.rules) F game.drop_mode) (placements_of piece) q (((placements_of-list piece).members q).1 listed) ((place-decides (table_of game.rules) F game.drop_mode q).1 place.1),
   );
 }

@@ -15,9 +15,10 @@ use Rattle.well.specs.LockLaws.{is_below}
 use Rattle.moves.specs.PlaceTest.{is_place}
 use Rattle.hold_queue.specs.declared.hold.Hold.{Hold}
 use Rattle.prune.specs.Tiling.{Supply, Tiling}
-use Rattle.prune.specs.Laws.{pieces_in, with_one}
+use Rattle.prune.specs.Laws.{kinds_placed, with_one}
 use Rattle.prune.proofs.CallerLemmas.{cleared_is_tiled, more_pieces, one_placement}
-use Rattle.enumerate.proofs.CallerLemmas.{IsLow, locked-low, place-decides, place-free}
+use Rattle.enumerate.proofs.CallerLemmas.{IsLow, locked-low, place-decides}
+use Rattle.moves.proofs.CallerLemmas.{place-free}
 use Rattle.percent.specs.declared.game.Game.{Game}
 use Rattle.percent.specs.Hands.{is_allowed, takes, without_first, without_second}
 use Rattle.percent.specs.Fitting.{codes_in, supply_at}
@@ -86,8 +87,8 @@ rest-supplied count hand rest piece is other =
     omega (arith, equal, more)
 
 nothing-tiled : (F : Field) (supply : Supply) → IsLow F 0 → Tiling F 0 supply
-unfolding pieces_in
-nothing-tiled F supply low = more_pieces F 0 (pieces_in []) supply (λ piece. omega arith) (cleared_is_tiled F 0 [] low.within (record { none = low.none }) refl)
+unfolding kinds_placed
+nothing-tiled F supply low = more_pieces F 0 (kinds_placed []) supply (λ piece. omega arith) (cleared_is_tiled F 0 [] low.within (record { none = low.none }) refl)
 
 pub good-tiled : (game : Game) (F : Field) (rows left hand count : ℕ) → IsLow F rows → suc left ≤ count → is_good game F rows left hand ≡ true → Tiling F rows (supply_at count hand)
 unfolding is_good places_of

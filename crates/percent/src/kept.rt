@@ -167,8 +167,8 @@ impl Kept {
         }
     }
 
-    /// Keeps hands that are good at a position and hands that are not, beside those that are known. Others may be dropped
-    /// for them, and where there is no room for them they are not kept.
+    /// Keeps hands that are good at a position and hands that are not, beside those that are known. Others may be
+    /// dropped for them, and where there is no room for them they are not kept.
     pub fn note(
         &mut self,
         alloc: Global,

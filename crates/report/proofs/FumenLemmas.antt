@@ -10,7 +10,8 @@ use Rattle.moves.specs.declared.key.Key.{Key}
 use Rattle.moves.specs.declared.key.DropMode.{DropMode}
 use Rattle.key_path.proofs.CallerLemmas.{named_is_short}
 use Rattle.enumerate.specs.Plays.{Plays}
-use Rattle.enumerate.proofs.CallerLemmas.{place-free, free-inside}
+use Rattle.well.proofs.CallerLemmas.{free_inside}
+use Rattle.moves.proofs.CallerLemmas.{place-free}
 use Rattle.fumen_digits.specs.declared.dialect.Dialect.TheVariants.{V115}
 use Rattle.fumen_pages.specs.declared.page.Page.{Page}
 use Rattle.fumen_pages.specs.Next.{next}
@@ -37,7 +38,7 @@ pub plays_end : (table : Table) (mode : DropMode) (s : List Placement) (F : Fiel
 unfolding EndsEmpty
 plays_end table mode [] F rows plays = plays.1
 plays_end table mode (q ∷ s) F rows plays =
-    (free-inside F q (place-free table F mode q plays.0), plays_end table mode s (locked F q) (rows - rows_removed F q) plays.2)
+    (free_inside F q (place-free table F mode q plays.0), plays_end table mode s (locked F q) (rows - rows_removed F q) plays.2)
 
 -- the pages of a sequence that plays can be written
 pub pages_are_written : (with : Bool) (table : Table) (mode : DropMode) (F : Field) (rows : ℕ) (s : List Placement) → Plays table mode F rows s → length s ≤ most_pages

@@ -15,7 +15,8 @@ use Rattle.key_path.specs.LeastKeyWord.{least_key_word}
 use Rattle.lane_board.proofs.CallerLemmas.{cell_count-le}
 use Rattle.lane_board.specs.CellCount.{cell_count}
 use Rattle.enumerate.specs.Plays.{Plays}
-use Rattle.enumerate.proofs.CallerLemmas.{place-free, free-inside}
+use Rattle.well.proofs.CallerLemmas.{free_inside}
+use Rattle.moves.proofs.CallerLemmas.{place-free}
 use Rattle.sequence_text.specs.Written.{keyed_form, sequence_form, without_keys}
 use Rattle.combo.specs.Runs.{Runs}
 use Rattle.combo.proofs.CallerLemmas.{runs_take_cells}
@@ -80,7 +81,7 @@ pub plays_free : (table : Table) (mode : DropMode) (F : Field) (s : List Placeme
 plays_free table mode F s i d within on = place-free table F mode (get_or s i d) (plays_first table mode F s i d within on).0
 
 pub plays_inside : (table : Table) (mode : DropMode) (F : Field) (s : List Placement) (i : ℕ) (d : Placement) → i < length s → PlaysOn table mode F s i → is_inside_of (get_or s i d) ≡ true
-plays_inside table mode F s i d within on = free-inside F (get_or s i d) (plays_free table mode F s i d within on)
+plays_inside table mode F s i d within on = free_inside F (get_or s i d) (plays_free table mode F s i d within on)
 
 pub plays_pivot : (table : Table) (mode : DropMode) (F : Field) (s : List Placement) (i : ℕ) (d : Placement) → i < length s → PlaysOn table mode F s i → PivotInside (get_or s i d)
 plays_pivot table mode F s i d within on = pivot_inside (get_or s i d) (plays_inside table mode F s i d within on)
@@ -109,7 +110,7 @@ pub first_free : (F : Field) (s : List Placement) (i : ℕ) (d : Placement) → 
 first_free F s i d within free = (free_from F s i d within free).0
 
 pub first_inside : (F : Field) (s : List Placement) (i : ℕ) (d : Placement) → i < length s → AreFree F (drop i s) → is_inside_of (get_or s i d) ≡ true
-first_inside F s i d within free = free-inside F (get_or s i d) (first_free F s i d within free)
+first_inside F s i d within free = free_inside F (get_or s i d) (first_free F s i d within free)
 
 pub next_free : (F : Field) (s : List Placement) (i : ℕ) (d : Placement) → i < length s → AreFree F (drop i s) → AreFree (locked F (get_or s i d)) (drop (i + 1) s)
 next_free F s i d within free = (free_from F s i d within free).1

@@ -2,9 +2,9 @@
 use Rattle.std.proofs.Common.{◌≡◌, ◌≤◌, ◌*◌, ◌+◌, max, length}
 use Rattle.std.specs.Option.{ForSome}
 use Rattle.reach.specs.Places.{piece_of}
-use Rattle.srs.specs.Rules.{table_of}
+use Rattle.reach.specs.FloodRules.{flood_table}
 use Rattle.well.specs.Well.{filled}
-use Rattle.combo.specs.Best.{IsBest, GoesOnUpTo}
+use Rattle.combo.specs.Best.{IsBest, RunsOnUpTo}
 use Rattle.combo.specs.Known.{AreKnown}
 use Rattle.combo.specs.Turns.{next_of, hand_count, turn_count}
 use Rattle.combo.proofs.PlacesLeft.{places_left}
@@ -24,9 +24,9 @@ decreases-best_after g l = 4 * turn_count l.queue.now l.turn
 
 abbrev pub invariant-best_after-loop-placement : goal.invariant-best_after-loop-placement
 invariant-best_after-loop-placement g l =
-    IsBest (GoesOnUpTo (table_of l.play.rules) l.play.drop_mode l.play.hold (filled l.well) (next_of l.queue l.turn) l.entered) l.best.items
+    IsBest (RunsOnUpTo (flood_table l.play.rules) l.play.drop_mode l.play.hold (filled l.well) (next_of l.queue l.turn) l.entered) l.best.items
     × ForSome l.entered (λ q. q.piece ≡ l.turn.piece) × (piece_of l.places ≡ l.turn.piece)
-    × AreKnown (table_of l.play.rules) l.play.drop_mode l.play.hold l.queue l.store
+    × AreKnown (flood_table l.play.rules) l.play.drop_mode l.play.hold l.queue l.store
     × (l.fn.steps ≤ l.steps)
 
 abbrev pub decreases-best_after-loop-placement : goal.decreases-best_after-loop-placement

@@ -5,7 +5,9 @@ use Rattle.srs.specs.declared.placement.Placement.{Placement}
 use Rattle.srs.specs.declared.piece.Piece.TheVariants.{I}
 use Rattle.srs.specs.declared.rotation.Rotation.TheVariants.{Spawn}
 use Rattle.well.specs.Well.{filled}
-use Rattle.enumerate.proofs.CallerLemmas.{filled-low, free-inside, place-free}
+use Rattle.enumerate.proofs.CallerLemmas.{filled-low}
+use Rattle.well.proofs.CallerLemmas.{free_inside}
+use Rattle.moves.proofs.CallerLemmas.{place-free}
 use Rattle.cover.proofs.PlayLemmas.{IsPlayed, played-starts, played-goes_on}
 use Rattle.cover.proofs.play.plays.Goals as goal
 
@@ -24,7 +26,7 @@ pub lies_below-requires : goal.lies_below-requires
 lies_below-requires g c =
     let q = get_or c.as_slice-placement-items.result.now c.placements.placement-index no_placement in
     let place = ((c.places-places.ensures.held q).0 (sym c.contains.ensures ∙ c.if-not-contains.false)).1 in
-    free-inside (filled c.placements.well) q (place-free (table_of c.args.problem.now.rules) (filled c.placements.well) c.args.problem.now.drop_mode q place)
+    free_inside (filled c.placements.well) q (place-free (table_of c.args.problem.now.rules) (filled c.placements.well) c.args.problem.now.drop_mode q place)
 
 pub lock-removed-requires : goal.lock-removed-requires
 lock-removed-requires g c =

@@ -9,7 +9,7 @@ use Rattle.lists.specs.Rising.{IsNextAbove}
 use Rattle.well.specs.Well.{filled}
 use Rattle.reach.specs.declared.held.Places.{Places}
 use Rattle.reach.specs.Places.{holds}
-use Rattle.enumerate.proofs.CallerLemmas.{free-inside}
+use Rattle.well.proofs.CallerLemmas.{free_inside}
 use Rattle.percent.specs.declared.game.Game.{Game}
 use Rattle.percent.proofs.PlaceLemmas.{Held, NextPlace, next-place, places_above, follow-starts, follow-more, follow-pass, follow-ends, in-any-order}
 use Rattle.percent.proofs.position.Position.children.Goals as goal
@@ -26,7 +26,7 @@ loop-placement-init g c = (rw c.new-children.ensures.items (follow-starts c.args
 pub lies_below-requires : goal.lies_below-requires
 lies_below-requires g c =
     let n = next c.args.game.now (filled c.args.self.now.well) c.args.piece c.places-places.result c.places-places.ensures.held c.loop-placement.last _ (Some c.in-Some.placement) c.as_ref.ensures.value c.in-Some.ensures in
-    free-inside (filled c.args.self.now.well) c.in-Some.placement n.2
+    free_inside (filled c.args.self.now.well) c.in-Some.placement n.2
 
 pub after-requires-clause-free : goal.after-requires-clause-free
 after-requires-clause-free g c =
