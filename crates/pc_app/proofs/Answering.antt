@@ -11,7 +11,7 @@ use Rattle.pc_faults.specs.declared.status.Status.{Status}
 use Rattle.pc_faults.specs.declared.status.Status.TheVariants.{Done, Input, SourceFault, SinkFault, NoMemory}
 use Rattle.pc_faults.specs.declared.words_fault.WordsFault.{WordsFault}
 use Rattle.pc_faults.specs.Inner.{IsInner, is_outer}
-use Rattle.pc_source.specs.Answers.{Answers, WroteFront}
+use Rattle.pc_source.specs.Answers.{IsAnswered, WroteFront}
 use Rattle.pc_source.specs.Had.{IsUnread}
 use Rattle.pc_source.specs.Sink.{SinkChange}
 use Rattle.pc_source.specs.Source.{LeavesSource}
@@ -28,8 +28,8 @@ use Rattle.pc_app.proofs.Commands.{inner_for}
 
 -- the task of one request is that of the same one
 pub for_request : (one other : Request) (bytes : List ℕ) (sink : SinkChange) (Kept : Type 0) (floods : ℕ) (status : Status) → other ≡ one
-    → Answers (task_for one) bytes sink Kept floods status → Answers (task_for other) bytes sink Kept floods status
-for_request one other bytes sink Kept floods status same = subst (λ request. Answers (task_for request) bytes sink Kept floods status) (sym same)
+    → IsAnswered (task_for one) bytes sink Kept floods status → IsAnswered (task_for other) bytes sink Kept floods status
+for_request one other bytes sink Kept floods status same = subst (λ request. IsAnswered (task_for request) bytes sink Kept floods status) (sym same)
 
 pub works_for : (one other : Request) (bytes : List ℕ) (sink : SinkChange) (floods : ℕ) (status : Status) → other ≡ one
     → Works (task_for one) ((task_for one).fault bytes) bytes sink floods status → Works (task_for other) ((task_for other).fault bytes) bytes sink floods status
@@ -37,9 +37,9 @@ works_for one other bytes sink floods status same = subst (λ request. Works (ta
 
 -- a command that makes no floods, and leaves the counter where it was
 pub idle_answers : (one other : Request) (bytes : List ℕ) (sink : SinkChange) (Kept : Type 0) (before now : ℕ) (status : Status) → other ≡ one → now ≡ before
-    → Answers (task_for one) bytes sink Kept 0 status → Answers (task_for other) bytes sink Kept (now - before) status
+    → IsAnswered (task_for one) bytes sink Kept 0 status → IsAnswered (task_for other) bytes sink Kept (now - before) status
 idle_answers one other bytes sink Kept before now status same kept a =
-    for_request one other bytes sink Kept (now - before) status same (subst (λ n. Answers (task_for one) bytes sink Kept n status) (sym (none_added before now kept)) a)
+    for_request one other bytes sink Kept (now - before) status same (subst (λ n. IsAnswered (task_for one) bytes sink Kept n status) (sym (none_added before now kept)) a)
 
 pub idle_works_for : (one other : Request) (bytes : List ℕ) (sink : SinkChange) (before now : ℕ) (status : Status) → other ≡ one → now ≡ before
     → ((status : Status) → (task_for one).IsWork bytes sink status 0) → Works (task_for other) ((task_for other).fault bytes) bytes sink (now - before) status
@@ -52,7 +52,7 @@ seen_is true left seen bytes has told = has bytes told
 seen_is false left seen bytes has told = has ∙ sym told
 
 ran_of : (task : Task) (bytes : List ℕ) (sink : SinkChange) (Kept : Type 0) (floods : ℕ) → first_fault task bytes ≡ task.fault bytes → (status : Status)
-    → Answers task bytes sink Kept floods status → Ran task bytes sink Kept floods status
+    → IsAnswered task bytes sink Kept floods status → Ran task bytes sink Kept floods status
 ran_of task bytes sink Kept floods same Done a = record { none = same ∙ a.none; wrote = a.wrote; kept = a.kept }
 ran_of task bytes sink Kept floods same (Input f) a = (same ∙ a.0, a.1)
 ran_of task bytes sink Kept floods same SourceFault a = absurd a
@@ -79,7 +79,7 @@ no_needs source_bytes reads none = cc
 -- the words ask for this, and its bytes were read
 module _ (asked : Result Request Fault) (request : Request) (same : Ok request ≡ asked) (left : Option (List ℕ)) (sink : SinkChange) (floods : ℕ) (status : Status) (seen : List ℕ)
     (has : HasBytes (reads_source (task_for request)) left seen) (within : length seen ≤ most_bytes) where
-  pub ran_read : (Kept : Type 0) → Answers (task_for request) seen sink Kept floods status → ForBytes (task_in asked) left (λ bytes. Ran (task_in asked) bytes sink Kept floods status)
+  pub ran_read : (Kept : Type 0) → IsAnswered (task_for request) seen sink Kept floods status → ForBytes (task_in asked) left (λ bytes. Ran (task_in asked) bytes sink Kept floods status)
   ran_read Kept a =
       subst (λ asked. ForBytes (task_in asked) left (λ bytes. Ran (task_in asked) bytes sink Kept floods status)) same
       (λ bytes told. subst (λ bytes. Ran (task_for request) bytes sink Kept floods status) (seen_is (reads_source (task_for request)) left seen bytes has told)
@@ -186,12 +186,12 @@ inner_found : (found : Option Fault) (f : Fault) → IsInner found → found ≡
 inner_found found f inner is = subst IsInner is inner
 
 pub never_outer : (request : Request) (bytes : List ℕ) (sink : SinkChange) (Kept : Type 0) (floods : ℕ) (status : Status) (f : Fault) → is_outer f ≡ true
-    → Answers (task_for request) bytes sink Kept floods status → status ≡ Input f → ⊥
+    → IsAnswered (task_for request) bytes sink Kept floods status → status ≡ Input f → ⊥
 never_outer request bytes sink Kept floods status f outer a is =
-    let inner = inner_found ((task_for request).fault bytes) f (inner_for request bytes) (subst (Answers (task_for request) bytes sink Kept floods) is a).0 in cc
+    let inner = inner_found ((task_for request).fault bytes) f (inner_for request bytes) (subst (IsAnswered (task_for request) bytes sink Kept floods) is a).0 in cc
 
-pub never_unread : (request : Request) (bytes : List ℕ) (sink : SinkChange) (Kept : Type 0) (floods : ℕ) (status : Status) → Answers (task_for request) bytes sink Kept floods status → status ≡ SourceFault → ⊥
-never_unread request bytes sink Kept floods status a is = subst (Answers (task_for request) bytes sink Kept floods) is a
+pub never_unread : (request : Request) (bytes : List ℕ) (sink : SinkChange) (Kept : Type 0) (floods : ℕ) (status : Status) → IsAnswered (task_for request) bytes sink Kept floods status → status ≡ SourceFault → ⊥
+never_unread request bytes sink Kept floods status a is = subst (IsAnswered (task_for request) bytes sink Kept floods) is a
 
 -- what is left of the source
 leaves : (reads : Bool) (old new : Option (List ℕ)) (Kept : Type 0) (status : Status) → (reads ≡ true → ForSome old (λ _. new ≡ Some [])) → (reads ≡ true → TakesAtMost old new (most_bytes + 1))
@@ -219,7 +219,7 @@ leaves_unread asked request same reads old new Kept status unread long most =
     (subst (λ reads. LeavesSource reads old new Kept status) (sym reads) (record { ended = λ is. absurd (never_done status unread is); too_long = long; most = most }))
 
 -- what holds of the sink whatever the source tells
-sink_left : (task : Task) (bytes : List ℕ) (sink : SinkChange) (Kept : Type 0) (floods : ℕ) → (Kept → sink.now ≡ sink.before) → (status : Status) → Answers task bytes sink Kept floods status
+sink_left : (task : Task) (bytes : List ℕ) (sink : SinkChange) (Kept : Type 0) (floods : ℕ) → (Kept → sink.now ≡ sink.before) → (status : Status) → IsAnswered task bytes sink Kept floods status
     → LeavesSink task sink Kept status
 sink_left task bytes sink Kept floods same Done a = a.kept
 sink_left task bytes sink Kept floods same (Input f) a = a.1
@@ -234,7 +234,7 @@ sink_left task bytes sink Kept floods same NoMemory a = (
 )
 
 pub leaves_sink : (asked : Result Request Fault) (request : Request) → Ok request ≡ asked → (bytes : List ℕ) (sink : SinkChange) (Kept : Type 0) (floods : ℕ) (status : Status)
-    → (Kept → sink.now ≡ sink.before) → Answers (task_for request) bytes sink Kept floods status → LeavesSink (task_in asked) sink Kept status
+    → (Kept → sink.now ≡ sink.before) → IsAnswered (task_for request) bytes sink Kept floods status → LeavesSink (task_in asked) sink Kept status
 leaves_sink asked request same bytes sink Kept floods status kept a =
     subst (λ asked. LeavesSink (task_in asked) sink Kept status) same (sink_left (task_for request) bytes sink Kept floods kept status a)
 

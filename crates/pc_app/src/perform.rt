@@ -1,7 +1,7 @@
 // The commands, each by its settings.
 ghost use Rattle.std.specs.Prelude.{◌≡◌, ◌-◌, ◌≤◌, IsOk, length};
 ghost use Rattle.kick_file.specs.Reading.{kick_text};
-ghost use Rattle.pc_source.specs.Answers.{Answers};
+ghost use Rattle.pc_source.specs.Answers.{IsAnswered};
 ghost use Rattle.pc_source.specs.Sink.{sink_change};
 ghost use Rattle.pc_source.specs.Task.{most_bytes, reads_source};
 ghost use Rattle.pc_source.specs.Work.{Works};
@@ -54,7 +54,7 @@ pub fn perform<O: Sink, L: Ledger>(
     requires short { length bytes.now ≤ most_bytes }
     ensures answers { let task = task_for (settings_view settings.now) in
         let sink = sink_change (O.written out.old) (O.written out.new) (O.faults out.old) (O.faults out.new) in
-        Answers task bytes.now sink (out.new ≡ out.old) (steps.new - steps.old) result }
+        IsAnswered task bytes.now sink (out.new ≡ out.old) (steps.new - steps.old) result }
     ensures works { let task = task_for (settings_view settings.now) in
         let sink = sink_change (O.written out.old) (O.written out.new) (O.faults out.old) (O.faults out.new) in
         Works task (task.fault bytes.now) bytes.now sink (steps.new - steps.old) result }

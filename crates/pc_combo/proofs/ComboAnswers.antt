@@ -13,9 +13,9 @@ use Rattle.pc_faults.specs.declared.status.Status.{Status}
 use Rattle.pc_faults.specs.Inner.{IsInner}
 use Rattle.pc_faults.proofs.CallerLemmas.{first_stops, inner_first, inner_test, second_left}
 use Rattle.combo_settings.specs.Request.{ComboRequest}
-use Rattle.pc_source.specs.Answers.{Answers}
+use Rattle.pc_source.specs.Answers.{IsAnswered}
 use Rattle.pc_source.specs.Faults.{cells_asked, field_fault}
-use Rattle.pc_source.specs.Had.{HasField, IsRefusal}
+use Rattle.pc_source.specs.Had.{HasField, IsRefusedInput}
 use Rattle.pc_source.specs.Sink.{SinkChange}
 use Rattle.pc_source.specs.Work.{Works}
 use Rattle.pc_source.proofs.CallerLemmas.{field_cells, inner_field, part_answers, part_works, refusal_before}
@@ -30,7 +30,7 @@ unfolding combo_fault
 field_first request bytes f is = first_stops (field_fault request.field request.page bytes) _ f is
 
 -- the field is not had
-pub field_refused : (request : ComboRequest) (bytes : List ℕ) (r : Refused Fault) → IsRefusal (field_fault request.field request.page bytes) r → IsRefusal (combo_fault request bytes) r
+pub field_refused : (request : ComboRequest) (bytes : List ℕ) (r : Refused Fault) → IsRefusedInput (field_fault request.field request.page bytes) r → IsRefusedInput (combo_fault request bytes) r
 field_refused request bytes r is = refusal_before (field_fault request.field request.page bytes) (combo_fault request bytes) r (field_first request bytes) is
 
 -- the field is had
@@ -41,7 +41,7 @@ had_fault request bytes F has =
     ∙ ap (run_fault request) (field_cells request.field request.page bytes F has.is)
 
 module _ (request : ComboRequest) (bytes : List ℕ) (F : Field) (has : HasField request.field request.page bytes F) (sink : SinkChange) where
-  pub asks : (Kept : Type 0) (floods : ℕ) (status : Status) → Answers (run_task request F) [] sink Kept floods status → Answers (combo_task request) bytes sink Kept floods status
+  pub asks : (Kept : Type 0) (floods : ℕ) (status : Status) → IsAnswered (run_task request F) [] sink Kept floods status → IsAnswered (combo_task request) bytes sink Kept floods status
   asks Kept floods status answers =
       part_answers (run_task request F) (combo_task request) [] bytes sink floods (had_fault request bytes F has) Kept refl refl
       (λ output answered. record { field = F; asked = has.is; answered = answered }) status answers

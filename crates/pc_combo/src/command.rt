@@ -8,7 +8,7 @@ ghost use Rattle.kick_file.specs.Reading.{kick_text};
 ghost use Rattle.combo.specs.Runs.{Runs};
 ghost use Rattle.report.specs.Forms.{key_part, run_form};
 ghost use Rattle.combo_settings.specs.Views.{combo_view};
-ghost use Rattle.pc_source.specs.Answers.{Answers};
+ghost use Rattle.pc_source.specs.Answers.{IsAnswered};
 ghost use Rattle.pc_source.specs.Sink.{sink_change};
 ghost use Rattle.pc_source.specs.Work.{Works};
 ghost use Rattle.pc_combo.specs.ComboTask.{combo_task};
@@ -93,7 +93,7 @@ pub fn run_combo<O: Sink, L: Ledger>(
     requires spelled { IsOk (kick_text (combo_view settings.now).kicks) }
     ensures answers { let sink = sink_change (O.written out.old) (O.written out.new)
         (O.faults out.old) (O.faults out.new) in
-        Answers (combo_task (combo_view settings.now)) bytes.now sink (out.new ≡ out.old)
+        IsAnswered (combo_task (combo_view settings.now)) bytes.now sink (out.new ≡ out.old)
         (steps.new - steps.old) result }
     ensures works { let task = combo_task (combo_view settings.now) in
         let sink = sink_change (O.written out.old) (O.written out.new) (O.faults out.old) (O.faults out.new) in
@@ -117,7 +117,7 @@ fn write_longest<O: Sink, L: Ledger>(
     requires { IsOk (kick_text (combo_view settings.now).kicks) }
     ensures answers { let sink = sink_change (O.written out.old) (O.written out.new)
         (O.faults out.old) (O.faults out.new) in
-        Answers (run_task (combo_view settings.now) (filled well.now)) [] sink (out.new ≡ out.old)
+        IsAnswered (run_task (combo_view settings.now) (filled well.now)) [] sink (out.new ≡ out.old)
         (steps.new - steps.old) result }
     ensures works { let task = run_task (combo_view settings.now) (filled well.now) in
         let sink = sink_change (O.written out.old) (O.written out.new) (O.faults out.old) (O.faults out.new) in

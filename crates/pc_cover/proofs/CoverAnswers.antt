@@ -4,7 +4,7 @@ use Rattle.lane_board.specs.Field.{Field}
 use Rattle.well.specs.Counts.{empties_below}
 use Rattle.pc_outside.specs.declared.answers.Refused.{Refused}
 use Rattle.pc_outside.specs.declared.answers.Refused.TheVariants as refused
-use Rattle.fumen_digits.specs.Answers.{IsRefusal as GivesRefusal}
+use Rattle.fumen_digits.specs.Answers.{IsRefusal}
 use Rattle.pc_faults.specs.declared.cover_fault.CoverFault.{CoverFault}
 use Rattle.pc_faults.specs.declared.fault.Fault.{Fault}
 use Rattle.pc_faults.specs.declared.fault.Fault.TheVariants as faults
@@ -13,9 +13,9 @@ use Rattle.pc_faults.specs.declared.status.Status.TheVariants.{Done, Input, Sour
 use Rattle.pc_faults.specs.Inner.{IsInner}
 use Rattle.pc_faults.proofs.CallerLemmas.{first_stops, inner_first, second_left}
 use Rattle.pc_settings.specs.Request.{FieldRequest}
-use Rattle.pc_source.specs.Answers.{Answers}
+use Rattle.pc_source.specs.Answers.{IsAnswered}
 use Rattle.pc_source.specs.Faults.{cells_asked, field_fault}
-use Rattle.pc_source.specs.Had.{HasField, IsRefusal}
+use Rattle.pc_source.specs.Had.{HasField, IsRefusedInput}
 use Rattle.pc_source.specs.Sink.{SinkChange}
 use Rattle.pc_source.specs.Task.{nothing, source_bytes}
 use Rattle.pc_source.specs.Work.{Works}
@@ -35,7 +35,7 @@ unfolding cover_fault
 field_first request bytes f is = first_stops (field_fault request.field request.page dash) _ f is
 
 -- the field is not had
-pub field_refused : (request : FieldRequest) (bytes : List ℕ) (r : Refused Fault) → IsRefusal (field_fault request.field request.page dash) r → IsRefusal (cover_fault request bytes) r
+pub field_refused : (request : FieldRequest) (bytes : List ℕ) (r : Refused Fault) → IsRefusedInput (field_fault request.field request.page dash) r → IsRefusedInput (cover_fault request bytes) r
 field_refused request bytes r is = refusal_before (field_fault request.field request.page dash) (cover_fault request bytes) r (field_first request bytes) is
 
 -- the field is had
@@ -46,7 +46,7 @@ had_fault request bytes F has =
     ∙ ap (λ G. covering_fault request G bytes) (field_cells request.field request.page dash F has.is)
 
 module _ (request : FieldRequest) (bytes : List ℕ) (F : Field) (has : HasField request.field request.page dash F) (sink : SinkChange) where
-  pub asks : (Kept : Type 0) (floods : ℕ) (status : Status) → Answers (covering_task request F) bytes sink Kept floods status → Answers (cover_task request) bytes sink Kept floods status
+  pub asks : (Kept : Type 0) (floods : ℕ) (status : Status) → IsAnswered (covering_task request F) bytes sink Kept floods status → IsAnswered (cover_task request) bytes sink Kept floods status
   asks Kept floods Done a = record {
     none = had_fault request bytes F has ∙ a.none;
     wrote = record { output = a.wrote.output; is_output = record { field = F; asked = has.is; covering = a.wrote.is_output }; grown = a.wrote.grown };
@@ -103,15 +103,15 @@ inner_cover request bytes =
 
 -- the lines are refused
 pub lines_answers : (request : FieldRequest) (F : Field) (bytes : List ℕ) (needed : ℕ) (sink : SinkChange) (Kept : Type 0) (floods : ℕ) (r : Refused CoverFault) → problem_fault request F ≡ None
-    → needed ≡ empties_below F request.height / 4 → GivesRefusal (λ f. f) r (given_in needed bytes) → Kept → Answers (covering_task request F) bytes sink Kept floods (status_of_lines r)
+    → needed ≡ empties_below F request.height / 4 → IsRefusal (λ f. f) r (given_in needed bytes) → Kept → IsAnswered (covering_task request F) bytes sink Kept floods (status_of_lines r)
 lines_answers request F bytes needed sink Kept floods (refused.Fault f) none is read kept = (lines_faulty request F bytes needed f none is read, kept)
 lines_answers request F bytes needed sink Kept floods refused.NoMemory none is read kept =
     record { known = λ needs. absurd (reads-something needs); first = λ _. kept; ended = inl kept }
 
 pub lines_refused : (request : FieldRequest) (F : Field) (bytes : List ℕ) (needed : ℕ) (sink : SinkChange) (Kept : Type 0) (floods : ℕ) (r : Refused CoverFault) (status : Status) → status ≡ status_of_lines r → problem_fault request F ≡ None
-    → needed ≡ empties_below F request.height / 4 → GivesRefusal (λ f. f) r (given_in needed bytes) → Kept → Answers (covering_task request F) bytes sink Kept floods status
+    → needed ≡ empties_below F request.height / 4 → IsRefusal (λ f. f) r (given_in needed bytes) → Kept → IsAnswered (covering_task request F) bytes sink Kept floods status
 lines_refused request F bytes needed sink Kept floods r status same none is read kept =
-    subst (Answers (covering_task request F) bytes sink Kept floods) (sym same) (lines_answers request F bytes needed sink Kept floods r none is read kept)
+    subst (IsAnswered (covering_task request F) bytes sink Kept floods) (sym same) (lines_answers request F bytes needed sink Kept floods r none is read kept)
 
 pub lines_works : (request : FieldRequest) (F : Field) (bytes : List ℕ) (fault : Option Fault) (sink : SinkChange) (floods : ℕ) (r : Refused CoverFault) → floods ≡ 0 → Works (covering_task request F) fault bytes sink floods (status_of_lines r)
 lines_works request F bytes fault sink floods (refused.Fault f) idle = idle

@@ -9,7 +9,7 @@ ghost use Rattle.cover.specs.Kept.{lists_of, kept_problem};
 ghost use Rattle.kick_file.specs.Reading.{kick_text};
 ghost use Rattle.pc_settings.specs.Request.{IsInRange};
 ghost use Rattle.pc_settings.specs.Views.{field_view};
-ghost use Rattle.pc_source.specs.Answers.{Answers as AnswersOf};
+ghost use Rattle.pc_source.specs.Answers.{IsAnswered};
 ghost use Rattle.pc_source.specs.Sink.{sink_change};
 ghost use Rattle.pc_source.specs.Task.{most_bytes};
 ghost use Rattle.pc_source.specs.Work.{Works};
@@ -58,7 +58,7 @@ pub fn run_cover<O: Sink, L: Ledger>(
     requires short { length bytes.now ≤ most_bytes }
     ensures answers { let sink = sink_change (O.written out.old) (O.written out.new)
         (O.faults out.old) (O.faults out.new) in
-        AnswersOf (cover_task (field_view settings.now)) bytes.now sink (out.new ≡ out.old)
+        IsAnswered (cover_task (field_view settings.now)) bytes.now sink (out.new ≡ out.old)
         (steps.new - steps.old) result }
     ensures works { let task = cover_task (field_view settings.now) in
         let sink = sink_change (O.written out.old) (O.written out.new) (O.faults out.old) (O.faults out.new) in
@@ -95,7 +95,7 @@ fn cover_all<O: Sink, L: Ledger>(
     requires short { length bytes.now ≤ most_bytes }
     ensures answers { let sink = sink_change (O.written out.old) (O.written out.new)
         (O.faults out.old) (O.faults out.new) in
-        AnswersOf (covering_task (field_view settings.now) (filled well)) bytes.now sink (out.new ≡ out.old)
+        IsAnswered (covering_task (field_view settings.now) (filled well)) bytes.now sink (out.new ≡ out.old)
         (steps.new - steps.old) result }
     ensures works { let task = covering_task (field_view settings.now) (filled well) in
         let sink = sink_change (O.written out.old) (O.written out.new) (O.faults out.old) (O.faults out.new) in

@@ -3,8 +3,7 @@ use Rattle.std.specs.Prelude.{ℕ, List, [], ◌∷◌, ◌++◌}
 use Rattle.std.specs.List.{flat_map}
 use Rattle.srs.specs.declared.piece.Piece.{Piece}
 use Rattle.srs.specs.declared.rotation.Rotation.{Rotation}
-use Rattle.srs.specs.Cells.{Cell}
-use Rattle.srs.specs.Kick.{Table, kick_in}
+use Rattle.srs.specs.Kick.{Table, kicks_of}
 use Rattle.srs.specs.Piece.{all_pieces, piece_letter}
 use Rattle.srs.specs.Rotation.{all_rotations, anticlockwise_of, clockwise_of, rotation_letter}
 use Rattle.kick_file.specs.Form.{offsets_form}
@@ -13,12 +12,6 @@ use Rattle.kick_file.specs.Printed.{entry_form, entry_of}
 -- the line of an entry, as `TR:0,0/1,0/1,-1/0,2/1,2`
 abbrev pub entry_line : Table → Piece → Rotation → List ℕ
 entry_line table piece rotation = entry_form (entry_of table piece rotation) ++ 10 ∷ []
-
--- the kicks of the five tests of a turn
-abbrev pub kicks_of : Table → Piece → Rotation → Rotation → List Cell
-kicks_of table piece from to =
-    kick_in table piece from to 1 ∷ kick_in table piece from to 2 ∷ kick_in table piece from to 3
-    ∷ kick_in table piece from to 4 ∷ kick_in table piece from to 5 ∷ []
 
 -- the line of a turn, as `T0R:0,0/-1,0/-1,1/0,-2/-1,-2`; a kick has fewer than ten columns and rows
 unfoldable pub turn_line : Table → Piece → Rotation → Rotation → List ℕ

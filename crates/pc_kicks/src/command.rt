@@ -1,7 +1,7 @@
 // The command `kicks`: the table that a text spells, and its kicks.
 ghost use Rattle.std.specs.Prelude.{◌≡◌, [], IsOk};
 ghost use Rattle.kick_file.specs.Reading.{kick_text};
-ghost use Rattle.pc_source.specs.Answers.{Answers};
+ghost use Rattle.pc_source.specs.Answers.{IsAnswered};
 ghost use Rattle.pc_source.specs.Sink.{sink_change};
 ghost use Rattle.pc_kicks.specs.KicksTask.{kicks_task};
 
@@ -15,7 +15,7 @@ use std::alloc::Global;
 pub fn run_kicks<O: Sink>(alloc: Global, kicks: &str, out: &mut O) -> Status
     requires { IsOk (kick_text kicks.now) }
     ensures { let sink = sink_change (O.written out.old) (O.written out.new) (O.faults out.old) (O.faults out.new) in
-        Answers (kicks_task kicks.now) [] sink (out.new ≡ out.old) 0 result }
+        IsAnswered (kicks_task kicks.now) [] sink (out.new ≡ out.old) 0 result }
 {
     match lines_of(alloc, &spelled(kicks)) {
         Ok(text) => Status::after_writes(out.write(&text)),

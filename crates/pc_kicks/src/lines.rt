@@ -1,9 +1,9 @@
 // The lines that `kicks` writes.
 ghost use Rattle.std.specs.Prelude.{◌≡◌, ◌++◌, ◌⊎◌, map, IfOk, OnOk};
-ghost use Rattle.srs.specs.Kick.{pair_of};
+ghost use Rattle.srs.specs.Kick.{pair_of, kicks_of};
 ghost use Rattle.srs.specs.Rotation.{anticlockwise_of, clockwise_of};
 ghost use Rattle.srs.specs.Rules.{table_of};
-ghost use Rattle.pc_kicks.specs.Lines.{entry_lines, kicks_form, kicks_of, turn_line, turn_lines};
+ghost use Rattle.pc_kicks.specs.Lines.{entry_lines, kicks_form, turn_line, turn_lines};
 
 use kick_file::{push_entry, push_offsets};
 use pc_outside::NoMemory;

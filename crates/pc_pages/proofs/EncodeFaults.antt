@@ -1,5 +1,5 @@
 -- The faults of `encode`, by what its lines are read as, and by what they spell.
-use Rattle.std.proofs.Common.{◌≡◌, ◌∙◌, ℕ, ◌<◌, ◌≤◌, List, [], length, Option, Some, None, Ok, Err, refl, ap, arith}
+use Rattle.std.proofs.Common.{◌≡◌, ◌∙◌, ℕ, List, Some, Ok, ap}
 use Rattle.std.specs.Prelude.{option_map}
 use Rattle.fumen_digits.specs.declared.dialect.Dialect.{Dialect}
 use Rattle.fumen_pages.specs.declared.page.Page.{Page}
@@ -12,7 +12,7 @@ use Rattle.pc_outside.specs.declared.answers.Refused.{Refused}
 use Rattle.pc_faults.specs.declared.fault.Fault.{Fault}
 use Rattle.pc_faults.specs.declared.fault.Fault.TheVariants as faults
 use Rattle.pc_faults.proofs.CallerLemmas.{first_stops, second_left}
-use Rattle.pc_source.specs.Had.{IsRefusal}
+use Rattle.pc_source.specs.Had.{IsRefusedInput}
 use Rattle.pc_source.proofs.CallerLemmas.{refusal_before}
 use Rattle.pc_pages.specs.Faults.{encode_fault, lines_fault, unwritten_fault}
 
@@ -21,7 +21,7 @@ first_lines : (dialect : Dialect) (bytes : List ℕ) (f : Fault) → lines_fault
 unfolding encode_fault
 first_lines dialect bytes f is = first_stops (lines_fault (pages_in bytes)) _ f is
 
-pub lines_refused : (dialect : Dialect) (bytes : List ℕ) (r : Refused Fault) → IsRefusal (lines_fault (pages_in bytes)) r → IsRefusal (encode_fault dialect bytes) r
+pub lines_refused : (dialect : Dialect) (bytes : List ℕ) (r : Refused Fault) → IsRefusedInput (lines_fault (pages_in bytes)) r → IsRefusedInput (encode_fault dialect bytes) r
 lines_refused dialect bytes r is = refusal_before (lines_fault (pages_in bytes)) (encode_fault dialect bytes) r (first_lines dialect bytes) is
 
 -- the lines are read as pages

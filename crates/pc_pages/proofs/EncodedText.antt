@@ -1,5 +1,5 @@
 -- A newline behind a fumen text changes nothing, and what `encode` writes reads as its pages.
-use Rattle.std.proofs.Common.{◌≡◌, ◌∙◌, ℕ, ◌+◌, suc, ◌==◌, Bool, true, false, cond, not, List, [], ◌∷◌, ◌++◌, length, take, All, Option, Some, None, append_assoc, refl, ap, sym, subst, arith}
+use Rattle.std.proofs.Common.{◌≡◌, ◌∙◌, ℕ, ◌+◌, suc, ◌==◌, Bool, true, false, cond, not, List, [], ◌∷◌, ◌++◌, take, All, Option, Some, None, append_assoc, refl, ap, sym, arith}
 use Rattle.std.specs.Prelude.{option_map}
 use Rattle.std.specs.List.{AllByRecursion, enumerate_from, filter, flat_map, prefix_len}
 use Rattle.std.proofs.lemmas.List.Elements.{All-head, All-tail}
@@ -11,10 +11,9 @@ use Rattle.fumen_pages.specs.declared.page.Page.{Page}
 use Rattle.fumen_pages.specs.Cells.{AreCells}
 use Rattle.fumen_text.specs.declared.encode_fault.EncodeFault.{EncodeFault}
 use Rattle.fumen_text.specs.Texts.{ReadsAs}
-use Rattle.fumen_text.specs.Written.{HasTypes, list_encode_fault, written}
+use Rattle.fumen_text.specs.Written.{HasTypes, list_encode_fault}
 use Rattle.fumen_text.proofs.CallerLemmas.{written_reads}
 use Rattle.page_list.proofs.CallerLemmas.{cells_of_pages, units_of_pages}
-use Rattle.pc_faults.specs.declared.fault.Fault.{Fault}
 use Rattle.pc_faults.specs.declared.fault.Fault.TheVariants as faults
 use Rattle.pc_pages.specs.Faults.{encode_fault}
 use Rattle.pc_pages.specs.Output.{IsEncodeOutput}

@@ -1,10 +1,12 @@
 // The command `decode`: a line for each page of the fumen text that the source gives.
-ghost use Rattle.std.specs.Prelude.{◌≡◌, ◌≢◌, All, Err};
+ghost use Rattle.std.specs.Prelude.{◌≡◌, ◌≢◌, All, None, Err};
+ghost use Rattle.fumen_digits.specs.Framing.{digits_in};
+ghost use Rattle.pc_faults.specs.declared.status.Status.{Status};
 ghost use Rattle.std.specs.List.{flat_map};
 ghost use Rattle.pc_outside.specs.Counts.{Rose};
 ghost use Rattle.pc_outside.specs.Writes.{WritesAll};
 ghost use Rattle.page_list.specs.PrintedLine.{page_form};
-ghost use Rattle.pc_source.specs.Answers.{Answers};
+ghost use Rattle.pc_source.specs.Answers.{IsAnswered};
 ghost use Rattle.pc_source.specs.Had.{IsShowable};
 ghost use Rattle.pc_source.specs.Sink.{sink_change};
 ghost use Rattle.pc_pages.specs.declared.decode.WriteFault.{WriteFault};
@@ -42,8 +44,9 @@ impl From<NoMemory> for WriteFault {
 
 /// Reads the bytes as a fumen text, and writes a line for each of its pages.
 pub fn run_decode<O: Sink>(alloc: Global, bytes: &[u8], out: &mut O) -> Status
-    ensures { let sink = sink_change (O.written out.old) (O.written out.new) (O.faults out.old) (O.faults out.new) in
-        Answers decode_task bytes.now sink (out.new ≡ out.old) 0 result }
+    ensures answers { let sink = sink_change (O.written out.old) (O.written out.new) (O.faults out.old) (O.faults out.new) in
+        IsAnswered decode_task bytes.now sink (out.new ≡ out.old) 0 result }
+    ensures memory { result ≡ Status.NoMemory → digits_in bytes.now ≢ None }
 {
     let pages = match text_pages(alloc, bytes) {
         Ok(pages) => pages,

@@ -1,9 +1,12 @@
 // The command `encode`: the fumen text of the pages whose lines the source gives.
-ghost use Rattle.std.specs.Prelude.{◌≡◌, ◌++◌, [], ◌∷◌, None, IfOk, IfErr, OnOk};
-ghost use Rattle.page_list.specs.LineSpelling.{SpellsPages};
+ghost use Rattle.std.specs.Prelude.{◌≡◌, ◌<◌, ◌++◌, [], ◌∷◌, None, Err, IfOk, IfErr, OnOk};
+ghost use Rattle.pc_outside.specs.declared.answers.Refused.{Refused};
+ghost use Rattle.page_list.specs.declared.fault.ListFault.{ListFault};
+ghost use Rattle.pc_faults.specs.declared.status.Status.{Status};
+ghost use Rattle.page_list.specs.LineSpelling.{IsListFault, SpellsPages};
 ghost use Rattle.page_list.specs.ListReading.{pages_in};
-ghost use Rattle.pc_source.specs.Answers.{Answers};
-ghost use Rattle.pc_source.specs.Had.{IsRefusal};
+ghost use Rattle.pc_source.specs.Answers.{IsAnswered};
+ghost use Rattle.pc_source.specs.Had.{IsRefusedInput};
 ghost use Rattle.pc_source.specs.Sink.{sink_change};
 ghost use Rattle.pc_pages.specs.Faults.{encode_fault, lines_fault};
 ghost use Rattle.pc_pages.specs.Output.{IsEncodeOutput};
@@ -19,8 +22,9 @@ use std::alloc::Global;
 
 /// Reads the bytes as a list of pages, and writes their fumen text in a dialect, and a newline.
 pub fn run_encode<O: Sink>(alloc: Global, dialect: Dialect, bytes: &[u8], out: &mut O) -> Status
-    ensures { let sink = sink_change (O.written out.old) (O.written out.new) (O.faults out.old) (O.faults out.new) in
-        Answers (encode_task dialect) bytes.now sink (out.new ≡ out.old) 0 result }
+    ensures answers { let sink = sink_change (O.written out.old) (O.written out.new) (O.faults out.old) (O.faults out.new) in
+        IsAnswered (encode_task dialect) bytes.now sink (out.new ≡ out.old) 0 result }
+    ensures memory { result ≡ Status.NoMemory → (f : ListFault) → IsListFault bytes.now f → 1 < f.line }
 {
     match encoded(alloc, dialect, bytes) {
         Ok(text) => Status::after_writes(write_pieces(out, &[&text, b"\n"])),
@@ -31,7 +35,8 @@ pub fn run_encode<O: Sink>(alloc: Global, dialect: Dialect, bytes: &[u8], out: &
 /// The pages whose lines the bytes are, or the first fault, or that there is no memory.
 fn list_pages(alloc: Global, bytes: &[u8]) -> Result<Vec<Page>, Refused<Fault>>
     ensures pages { IfOk result (λ pages. SpellsPages bytes.now pages.items) }
-    ensures refused { IfErr result (λ refused. IsRefusal (lines_fault (pages_in bytes.now)) refused) }
+    ensures refused { IfErr result (λ refused. IsRefusedInput (lines_fault (pages_in bytes.now)) refused) }
+    ensures memory { result ≡ Err Refused.NoMemory → (f : ListFault) → IsListFault bytes.now f → 1 < f.line }
 {
     match parse(alloc, bytes) {
         Ok(pages) => Ok(pages),
@@ -44,7 +49,8 @@ fn list_pages(alloc: Global, bytes: &[u8]) -> Result<Vec<Page>, Refused<Fault>>
 fn encoded(alloc: Global, dialect: Dialect, bytes: &[u8]) -> Result<Vec<u8>, Refused<Fault>>
     ensures text { IfOk result (λ text. IsEncodeOutput dialect bytes.now (text.items ++ 10 ∷ [])) }
     ensures none { OnOk result (encode_fault dialect bytes.now ≡ None) }
-    ensures refused { IfErr result (λ refused. IsRefusal (encode_fault dialect bytes.now) refused) }
+    ensures refused { IfErr result (λ refused. IsRefusedInput (encode_fault dialect bytes.now) refused) }
+    ensures memory { result ≡ Err Refused.NoMemory → (f : ListFault) → IsListFault bytes.now f → 1 < f.line }
 {
     let pages = match list_pages(alloc, bytes) {
         Ok(pages) => pages,

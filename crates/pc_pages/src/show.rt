@@ -1,9 +1,11 @@
 // The command `show`: pages of the fumen text that the source gives, as rows of letters.
-ghost use Rattle.std.specs.Prelude.{◌≡◌, ◌≤◌, All, length};
+ghost use Rattle.std.specs.Prelude.{◌≡◌, ◌≢◌, ◌≤◌, All, None, length};
+ghost use Rattle.fumen_digits.specs.Framing.{digits_in};
+ghost use Rattle.pc_faults.specs.declared.status.Status.{Status};
 ghost use Rattle.std.specs.Option.{ForSome};
 ghost use Rattle.pc_outside.specs.Counts.{HasCause};
 ghost use Rattle.pc_outside.specs.Writes.{WritesAll};
-ghost use Rattle.pc_source.specs.Answers.{Answers};
+ghost use Rattle.pc_source.specs.Answers.{IsAnswered};
 ghost use Rattle.pc_source.specs.Had.{IsShowable};
 ghost use Rattle.pc_source.specs.Sink.{sink_change};
 ghost use Rattle.pc_pages.specs.Output.{shown_from};
@@ -20,8 +22,9 @@ use std::alloc::Global;
 /// asked for, counted from 1.
 pub fn run_show<O: Sink>(alloc: Global, asked: Option<u32>, bytes: &[u8], out: &mut O) -> Status
     requires { ForSome asked (λ number. 1 ≤ number) }
-    ensures { let sink = sink_change (O.written out.old) (O.written out.new) (O.faults out.old) (O.faults out.new) in
-        Answers (show_task asked) bytes.now sink (out.new ≡ out.old) 0 result }
+    ensures answers { let sink = sink_change (O.written out.old) (O.written out.new) (O.faults out.old) (O.faults out.new) in
+        IsAnswered (show_task asked) bytes.now sink (out.new ≡ out.old) 0 result }
+    ensures memory { result ≡ Status.NoMemory → digits_in bytes.now ≢ None }
 {
     let pages = match text_pages(alloc, bytes) {
         Ok(pages) => pages,

@@ -9,7 +9,7 @@ use Rattle.path_settings.specs.Request.{PathRequest}
 use Rattle.pc_faults.specs.declared.fault.Fault.{Fault}
 use Rattle.pc_faults.specs.declared.status.Status.{Status}
 use Rattle.pc_faults.specs.declared.status.Status.TheVariants.{Done, Input, SourceFault, SinkFault, NoMemory}
-use Rattle.pc_source.specs.Answers.{Answers}
+use Rattle.pc_source.specs.Answers.{IsAnswered}
 use Rattle.pc_source.specs.Sink.{SinkChange}
 use Rattle.pc_source.specs.Work.{Works}
 use Rattle.report.specs.declared.write_fault.WriteFault.{WriteFault}
@@ -41,7 +41,7 @@ cause_after {now = now} {line = line} same cause = subst (λ b. HasWriteCause b 
 
 module _ (request : PathRequest) (F : Field) (sink : SinkChange) (floods : ℕ) (none : listing_fault request F ≡ None) where
   answered : {T : Type 0} (Kept : Type 0) (output : List ℕ) → IsReportOf request F floods output → (line : Result T WriteFault) → WritesAll sink.held sink.holds line output → HasWriteCause sink.before sink.now line
-      → (line ≡ Err fault.NoMemory → request.format ≡ Fumen) → Answers (listing_task request F) [] sink Kept floods (line_status line)
+      → (line ≡ Err fault.NoMemory → request.format ≡ Fumen) → IsAnswered (listing_task request F) [] sink Kept floods (line_status line)
   answered Kept output is (Ok x) written cause memory =
       record { none = none; wrote = record { output = output; is_output = is; grown = written.done }; kept = cause.kept (λ e. cc) }
   answered Kept output is (Err fault.Failed) written cause memory =
@@ -55,9 +55,9 @@ module _ (request : PathRequest) (F : Field) (sink : SinkChange) (floods : ℕ) 
 
   -- the report was written, or a part of it
   pub report_answers : {T : Type 0} (Kept : Type 0) (output : List ℕ) → IsReportOf request F floods output → (line : Result T WriteFault) (status : Status) → status ≡ line_status line
-      → WritesAll sink.held sink.holds line output → HasWriteCause sink.before sink.now line → (line ≡ Err fault.NoMemory → request.format ≡ Fumen) → Answers (listing_task request F) [] sink Kept floods status
+      → WritesAll sink.held sink.holds line output → HasWriteCause sink.before sink.now line → (line ≡ Err fault.NoMemory → request.format ≡ Fumen) → IsAnswered (listing_task request F) [] sink Kept floods status
   report_answers Kept output is line status same written cause memory =
-      subst (Answers (listing_task request F) [] sink Kept floods) (sym same) (answered Kept output is line written cause memory)
+      subst (IsAnswered (listing_task request F) [] sink Kept floods) (sym same) (answered Kept output is line written cause memory)
 
   worked : {T : Type 0} (line : Result T WriteFault) → ((all : T) → line ≡ Ok all → IsListingWork request F sink Done floods) → (line ≡ Err fault.Failed → IsListingWork request F sink SinkFault floods)
       → (line ≡ Err fault.NoMemory → IsListingWork request F sink NoMemory floods) → Works (listing_task request F) (listing_fault request F) [] sink floods (line_status line)

@@ -13,10 +13,10 @@ use Rattle.pc_faults.specs.declared.status.Status.TheVariants.{Done, Input, Sour
 use Rattle.pc_faults.specs.Inner.{IsInner}
 use Rattle.pc_faults.proofs.CallerLemmas.{first_stops, inner_first, second_left}
 use Rattle.path_settings.specs.Request.{PathRequest}
-use Rattle.pc_source.specs.Answers.{Answers}
+use Rattle.pc_source.specs.Answers.{IsAnswered}
 use Rattle.pc_source.specs.Faults.{cells_asked, field_fault}
 use Rattle.pc_source.specs.FieldText.{field_needs}
-use Rattle.pc_source.specs.Had.{HasField, IsRefusal}
+use Rattle.pc_source.specs.Had.{HasField, IsRefusedInput}
 use Rattle.pc_source.specs.Sink.{SinkChange}
 use Rattle.pc_source.specs.Task.{is_source}
 use Rattle.pc_source.specs.Work.{Works}
@@ -33,7 +33,7 @@ unfolding path_fault
 field_first request bytes f is = first_stops (field_fault request.common.field request.common.page bytes) _ f is
 
 -- the field is not had
-pub field_refused : (request : PathRequest) (bytes : List ℕ) (r : Refused Fault) → IsRefusal (field_fault request.common.field request.common.page bytes) r → IsRefusal (path_fault request bytes) r
+pub field_refused : (request : PathRequest) (bytes : List ℕ) (r : Refused Fault) → IsRefusedInput (field_fault request.common.field request.common.page bytes) r → IsRefusedInput (path_fault request bytes) r
 field_refused request bytes r is = refusal_before (field_fault request.common.field request.common.page bytes) (path_fault request bytes) r (field_first request bytes) is
 
 -- the field is had
@@ -50,7 +50,7 @@ module _ (request : PathRequest) (bytes : List ℕ) (F : Field) (has : HasField 
   of_field : (floods : ℕ) (output : List ℕ) → IsReportOf request F floods output → IsPathOutput request bytes floods output
   of_field floods output report = record { field = F; asked = has.is; report = report }
 
-  pub lists : (Kept : Type 0) (floods : ℕ) (status : Status) → Answers (listing_task request F) [] sink Kept floods status → Answers (path_task request) bytes sink Kept floods status
+  pub lists : (Kept : Type 0) (floods : ℕ) (status : Status) → IsAnswered (listing_task request F) [] sink Kept floods status → IsAnswered (path_task request) bytes sink Kept floods status
   lists Kept floods Done a =
       record { none = same ∙ a.none; wrote = record { output = a.wrote.output; is_output = of_field floods a.wrote.output a.wrote.is_output; grown = a.wrote.grown }; kept = a.kept }
   lists Kept floods (Input f) a = (same ∙ a.0, a.1)

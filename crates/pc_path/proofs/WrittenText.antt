@@ -13,7 +13,9 @@ use Rattle.enumerate.specs.declared.problem.Problem.{Problem}
 use Rattle.enumerate.specs.Plays.{Plays}
 use Rattle.enumerate.specs.Problem.{IsFit, needed_of}
 use Rattle.enumerate.specs.Solution.{IsSolution}
-use Rattle.enumerate.proofs.CallerLemmas.{long-needed, place-free, free-inside}
+use Rattle.enumerate.proofs.CallerLemmas.{long-needed}
+use Rattle.well.proofs.CallerLemmas.{free_inside}
+use Rattle.moves.proofs.CallerLemmas.{place-free}
 use Rattle.report.specs.Forms.{KeysOf, key_part, keyed, line_form}
 use Rattle.sequence_text.specs.Form.{Spells}
 use Rattle.sequence_text.specs.Written.{Keyed, sequence_form}
@@ -37,7 +39,7 @@ played_inside : (table : Table) (mode : DropMode) (keys : KeysOf) (s : List Plac
 unfolding keyed
 played_inside table mode keys [] F rows plays = λ i d within. absurd (omega (arith, within))
 played_inside table mode keys (q ∷ s) F rows plays =
-    let pivot = pivot_inside q (free-inside F q (place-free table F mode q plays.0)) in
+    let pivot = pivot_inside q (free_inside F q (place-free table F mode q plays.0)) in
     more_inside (q, keys F q) (keyed keys (locked F q) s) (pivot.in_columns, pivot.in_rows) (played_inside table mode keys s (locked F q) (rows - rows_removed F q) plays.2)
 
 solution_spelled : (problem : Problem) (sequence : List Placement) (keys : Bool) → IsFit problem → IsSolution problem None sequence

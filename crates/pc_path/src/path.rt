@@ -9,7 +9,7 @@ ghost use Rattle.report.specs.WriteCause.{HasWriteCause};
 ghost use Rattle.kick_file.specs.Reading.{kick_text};
 ghost use Rattle.pc_settings.specs.Request.{IsInRange};
 ghost use Rattle.path_settings.specs.Views.{path_view};
-ghost use Rattle.pc_source.specs.Answers.{Answers};
+ghost use Rattle.pc_source.specs.Answers.{IsAnswered};
 ghost use Rattle.pc_source.specs.Sink.{sink_change};
 ghost use Rattle.pc_source.specs.Work.{Works};
 ghost use Rattle.pc_path.specs.Formats.{solution_form};
@@ -128,7 +128,7 @@ pub fn run_path<O: Sink, L: Ledger>(
     requires spelled { IsOk (kick_text (path_view settings.now).common.kicks) }
     ensures answers { let sink = sink_change (O.written out.old) (O.written out.new)
         (O.faults out.old) (O.faults out.new) in
-        Answers (path_task (path_view settings.now)) bytes.now sink (out.new ≡ out.old) (steps.new - steps.old) result }
+        IsAnswered (path_task (path_view settings.now)) bytes.now sink (out.new ≡ out.old) (steps.new - steps.old) result }
     ensures works { let task = path_task (path_view settings.now) in
         let sink = sink_change (O.written out.old) (O.written out.new) (O.faults out.old) (O.faults out.new) in
         Works task (task.fault bytes.now) bytes.now sink (steps.new - steps.old) result }
@@ -152,7 +152,7 @@ fn list_clears<O: Sink, L: Ledger>(
     requires spelled { IsOk (kick_text (path_view settings.now).common.kicks) }
     ensures answers { let sink = sink_change (O.written out.old) (O.written out.new)
         (O.faults out.old) (O.faults out.new) in
-        Answers (listing_task (path_view settings.now) (filled well)) [] sink (out.new ≡ out.old)
+        IsAnswered (listing_task (path_view settings.now) (filled well)) [] sink (out.new ≡ out.old)
         (steps.new - steps.old) result }
     ensures works { let task = listing_task (path_view settings.now) (filled well) in
         let sink = sink_change (O.written out.old) (O.written out.new) (O.faults out.old) (O.faults out.new) in

@@ -25,7 +25,8 @@ pub enum FormWriter {
     Grid,
 }
 
-/// The writer of a form. `NoMemory` where memory for the pages of a fumen text is refused; the other forms take none.
+/// The writer of a form. `NoMemory` where memory for the pages of a fumen text is refused; for the other forms it is
+/// not answered.
 pub fn writer_for(alloc: Global, format: Format) -> Result<FormWriter, NoMemory>
     ensures form { IfOk result (λ writer. format_of writer ≡ format) }
     ensures none { format ≢ Format.Fumen → IsOk result }

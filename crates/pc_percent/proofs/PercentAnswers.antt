@@ -8,9 +8,9 @@ use Rattle.pc_faults.specs.Inner.{IsInner}
 use Rattle.pc_faults.proofs.CallerLemmas.{first_stops, inner_first, second_left}
 use Rattle.std.specs.Prelude.{Some}
 use Rattle.percent_settings.specs.Request.{PercentRequest}
-use Rattle.pc_source.specs.Answers.{Answers}
+use Rattle.pc_source.specs.Answers.{IsAnswered}
 use Rattle.pc_source.specs.Faults.{cells_asked, field_fault}
-use Rattle.pc_source.specs.Had.{HasField, IsRefusal}
+use Rattle.pc_source.specs.Had.{HasField, IsRefusedInput}
 use Rattle.pc_source.specs.Sink.{SinkChange}
 use Rattle.pc_source.specs.Work.{Works}
 use Rattle.pc_source.proofs.CallerLemmas.{field_cells, inner_field, part_answers, part_works, refusal_before}
@@ -25,7 +25,7 @@ unfolding percent_fault
 field_first request bytes f is = first_stops (field_fault request.common.field request.common.page bytes) _ f is
 
 -- the field is not had
-pub field_refused : (request : PercentRequest) (bytes : List ℕ) (r : Refused Fault) → IsRefusal (field_fault request.common.field request.common.page bytes) r → IsRefusal (percent_fault request bytes) r
+pub field_refused : (request : PercentRequest) (bytes : List ℕ) (r : Refused Fault) → IsRefusedInput (field_fault request.common.field request.common.page bytes) r → IsRefusedInput (percent_fault request bytes) r
 field_refused request bytes r is = refusal_before (field_fault request.common.field request.common.page bytes) (percent_fault request bytes) r (field_first request bytes) is
 
 -- the field is had
@@ -36,7 +36,7 @@ had_fault request bytes F has =
     ∙ ap (problem_fault request.common) (field_cells request.common.field request.common.page bytes F has.is)
 
 module _ (request : PercentRequest) (bytes : List ℕ) (F : Field) (has : HasField request.common.field request.common.page bytes F) (sink : SinkChange) where
-  pub asks : (Kept : Type 0) (floods : ℕ) (status : Status) → Answers (asked_task request F) [] sink Kept floods status → Answers (percent_task request) bytes sink Kept floods status
+  pub asks : (Kept : Type 0) (floods : ℕ) (status : Status) → IsAnswered (asked_task request F) [] sink Kept floods status → IsAnswered (percent_task request) bytes sink Kept floods status
   asks Kept floods status answers =
       part_answers (asked_task request F) (percent_task request) [] bytes sink floods (had_fault request bytes F has) Kept refl refl
       (λ output answered. record { field = F; asked = has.is; answered = answered }) status answers

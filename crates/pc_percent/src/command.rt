@@ -11,7 +11,7 @@ ghost use Rattle.percent.specs.GoodHands.{is_good_queue};
 ghost use Rattle.kick_file.specs.Reading.{kick_text};
 ghost use Rattle.pc_settings.specs.Request.{IsInRange};
 ghost use Rattle.percent_settings.specs.Views.{percent_view};
-ghost use Rattle.pc_source.specs.Answers.{Answers as AnswersOf};
+ghost use Rattle.pc_source.specs.Answers.{IsAnswered};
 ghost use Rattle.pc_source.specs.Sink.{sink_change};
 ghost use Rattle.pc_source.specs.Work.{Works};
 ghost use Rattle.pc_percent.specs.AskedTask.{asked_task};
@@ -85,7 +85,7 @@ pub fn run_percent<O: Sink, L: Ledger>(
     requires spelled { IsOk (kick_text (percent_view settings.now).common.kicks) }
     ensures answers { let sink = sink_change (O.written out.old) (O.written out.new)
         (O.faults out.old) (O.faults out.new) in
-        AnswersOf (percent_task (percent_view settings.now)) bytes.now sink (out.new ≡ out.old)
+        IsAnswered (percent_task (percent_view settings.now)) bytes.now sink (out.new ≡ out.old)
         (steps.new - steps.old) result }
     ensures works { let task = percent_task (percent_view settings.now) in
         let sink = sink_change (O.written out.old) (O.written out.new) (O.faults out.old) (O.faults out.new) in
@@ -110,7 +110,7 @@ fn answer_all<O: Sink, L: Ledger>(
     requires spelled { IsOk (kick_text (percent_view settings.now).common.kicks) }
     ensures answers { let sink = sink_change (O.written out.old) (O.written out.new)
         (O.faults out.old) (O.faults out.new) in
-        AnswersOf (asked_task (percent_view settings.now) (filled well)) [] sink (out.new ≡ out.old)
+        IsAnswered (asked_task (percent_view settings.now) (filled well)) [] sink (out.new ≡ out.old)
         (steps.new - steps.old) result }
     ensures works { let task = asked_task (percent_view settings.now) (filled well) in
         let sink = sink_change (O.written out.old) (O.written out.new) (O.faults out.old) (O.faults out.new) in

@@ -13,13 +13,15 @@ use Rattle.enumerate.specs.declared.problem.Problem.{Problem}
 use Rattle.enumerate.specs.Plays.{Plays}
 use Rattle.enumerate.specs.Problem.{IsFit, needed_of}
 use Rattle.enumerate.specs.Search.{IsList}
-use Rattle.enumerate.proofs.CallerLemmas.{free-inside, long-needed, place-free}
+use Rattle.enumerate.proofs.CallerLemmas.{long-needed}
+use Rattle.well.proofs.CallerLemmas.{free_inside}
+use Rattle.moves.proofs.CallerLemmas.{place-free}
 use Rattle.pc_selfrun.proofs.SequenceNumbers.{few_sequences}
 
 plays_inside : (table : Table) (mode : DropMode) (F : Field) (rows : ℕ) (s : List Placement) → Plays table mode F rows s → AllByRecursion PivotInside s
 plays_inside table mode F rows [] plays = tt
 plays_inside table mode F rows (q ∷ rest) plays =
-    (pivot_inside q (free-inside F q (place-free table F mode q plays.0)), plays_inside table mode (locked F q) (rows - rows_removed F q) rest plays.2)
+    (pivot_inside q (free_inside F q (place-free table F mode q plays.0)), plays_inside table mode (locked F q) (rows - rows_removed F q) rest plays.2)
 
 -- a list of solutions of four placements each is counted in 64 bits
 pub few_solutions : (problem : Problem) (xs : List (List Placement)) → IsFit problem → needed_of problem ≡ 4 → IsList (record { problem = problem; queue = None; bound = None }) xs → length xs < 2 ^ 64

@@ -1,6 +1,6 @@
 // The command `selfrun`: the pages, their text, the solutions of a problem, and then the lines.
 ghost use Rattle.std.specs.Prelude.{◌≡◌, ◌-◌, ◌≤◌, []};
-ghost use Rattle.pc_source.specs.Answers.{Answers};
+ghost use Rattle.pc_source.specs.Answers.{IsAnswered};
 ghost use Rattle.pc_source.specs.Sink.{sink_change};
 ghost use Rattle.pc_source.specs.Work.{Works};
 ghost use Rattle.pc_selfrun.specs.SelfrunTask.{selfrun_task};
@@ -31,7 +31,7 @@ pub fn run_selfrun<O: Sink, L: Ledger>(
     requires most { pages ≤ 10000 }
     ensures answers { let sink = sink_change (O.written out.old) (O.written out.new)
         (O.faults out.old) (O.faults out.new) in
-        Answers (selfrun_task number pages) [] sink (out.new ≡ out.old) (steps.new - steps.old) result }
+        IsAnswered (selfrun_task number pages) [] sink (out.new ≡ out.old) (steps.new - steps.old) result }
     ensures works { let task = selfrun_task number pages in
         let sink = sink_change (O.written out.old) (O.written out.new) (O.faults out.old) (O.faults out.new) in
         Works task (task.fault []) [] sink (steps.new - steps.old) result }

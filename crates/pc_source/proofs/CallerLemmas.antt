@@ -4,6 +4,7 @@ use Rattle.std.proofs.lemmas.Bool.{lt-ltb, le-ltb}
 use Rattle.lane_board.specs.Field.{Field}
 use Rattle.fumen_digits.specs.declared.dialect.Dialect.{Dialect}
 use Rattle.fumen_digits.specs.declared.fault.FumenFault.{FumenFault}
+use Rattle.fumen_digits.specs.Framing.{digits_in}
 use Rattle.fumen_text.specs.Faults.{IsTextFault}
 use Rattle.fumen_text.specs.Texts.{ReadsAs}
 use Rattle.fumen_text.specs.Reading.{text_pages}
@@ -20,10 +21,10 @@ use Rattle.pc_faults.specs.declared.fault.Fault.TheVariants.{Fumen, SourceTooLon
 use Rattle.pc_faults.proofs.CallerLemmas.{second_left}
 use Rattle.pc_faults.specs.Codes.{refused_status, written_status}
 use Rattle.pc_settings.specs.Request.{FieldText, fumen_text, rows_text}
-use Rattle.pc_source.specs.Answers.{Answers}
+use Rattle.pc_source.specs.Answers.{IsAnswered}
 use Rattle.pc_source.specs.Faults.{cells_asked, cells_read, field_fault, page_fault, pages_fault, text_fault}
 use Rattle.pc_source.specs.FieldText.{IsFieldOf, IsFumenField, field_needs, is_of_source, text_given}
-use Rattle.pc_source.specs.Had.{HasText, IsRefusal}
+use Rattle.pc_source.specs.Had.{HasText, IsRefusedInput}
 use Rattle.pc_source.specs.Sink.{SinkChange}
 use Rattle.pc_source.specs.Task.{Needs, Task, first_fault, is_source, memory, most_bytes, nothing, source_bytes, source_fault}
 use Rattle.pc_source.specs.Work.{Works}
@@ -32,15 +33,24 @@ use Rattle.pc_source.proofs.InnerFaults as inner
 use Rattle.pc_source.proofs.TextFaults as texts
 
 refusal_answers : (task : Task) (bytes : List ℕ) (sink : SinkChange) (Kept : Type 0) (floods : ℕ) (r : Refused Fault) → Kept → (r ≡ refused.NoMemory → task.needs ≢ nothing)
-    → IsRefusal (task.fault bytes) r → Answers task bytes sink Kept floods (refused_status r)
+    → IsRefusedInput (task.fault bytes) r → IsAnswered task bytes sink Kept floods (refused_status r)
 refusal_answers task bytes sink Kept floods (refused.Fault f) kept needed is = (is, kept)
 refusal_answers task bytes sink Kept floods refused.NoMemory kept needed is = record { known = λ needs. absurd (needed refl needs); first = λ _. kept; ended = inl kept }
 
 -- a call was refused, and nothing was written
 pub refused_answers : (task : Task) (bytes : List ℕ) (sink : SinkChange) (Kept : Type 0) (floods : ℕ) (r : Refused Fault) (status : Status) → status ≡ refused_status r → Kept
-    → (r ≡ refused.NoMemory → task.needs ≢ nothing) → IsRefusal (task.fault bytes) r → Answers task bytes sink Kept floods status
+    → (r ≡ refused.NoMemory → task.needs ≢ nothing) → IsRefusedInput (task.fault bytes) r → IsAnswered task bytes sink Kept floods status
 refused_answers task bytes sink Kept floods r status same kept needed is =
-    subst (Answers task bytes sink Kept floods) (sym same) (refusal_answers task bytes sink Kept floods r kept needed is)
+    subst (IsAnswered task bytes sink Kept floods) (sym same) (refusal_answers task bytes sink Kept floods r kept needed is)
+
+-- a refusal for want of memory
+pub wants_memory : (r : Refused Fault) (status : Status) → status ≡ refused_status r → status ≡ NoMemory → r ≡ refused.NoMemory
+wants_memory (refused.Fault f) status same none = absurd cc
+wants_memory refused.NoMemory status same none = refl
+
+-- a text that reads as pages has a prefix
+pub has_prefix : (text : List ℕ) (pages : List Page) → HasText text pages → digits_in text ≢ None
+has_prefix text pages has none = let framed = has.reads.framed in cc
 
 refusal_works : (task : Task) (fault : Option Fault) (bytes : List ℕ) (sink : SinkChange) (floods : ℕ) (r : Refused Fault) → floods ≡ 0 → Works task fault bytes sink floods (refused_status r)
 refusal_works task fault bytes sink floods (refused.Fault f) none = none
@@ -53,7 +63,7 @@ refused_works task fault bytes sink floods r status same none =
     subst (Works task fault bytes sink floods) (sym same) (refusal_works task fault bytes sink floods r none)
 
 writing_answers : {T E : Type 0} (task : Task) (bytes output : List ℕ) (sink : SinkChange) (Kept : Type 0) (floods : ℕ) (result : Result T E) → task.fault bytes ≡ None → task.IsOutput bytes floods output
-    → WritesAll sink.held sink.holds result output → HasCause sink.before sink.now result → Answers task bytes sink Kept floods (written_status result)
+    → WritesAll sink.held sink.holds result output → HasCause sink.before sink.now result → IsAnswered task bytes sink Kept floods (written_status result)
 writing_answers task bytes output sink Kept floods (Ok all) none is written cause =
     record { none = none; wrote = record { output = output; is_output = is; grown = written.done }; kept = cause.kept }
 writing_answers task bytes output sink Kept floods (Err failed) none is written cause =
@@ -61,9 +71,9 @@ writing_answers task bytes output sink Kept floods (Err failed) none is written 
 
 -- the last writes were made, or one of them failed
 pub written_answers : {T E : Type 0} (task : Task) (bytes output : List ℕ) (sink : SinkChange) (Kept : Type 0) (floods : ℕ) (result : Result T E) (status : Status) → status ≡ written_status result
-    → task.fault bytes ≡ None → task.IsOutput bytes floods output → WritesAll sink.held sink.holds result output → HasCause sink.before sink.now result → Answers task bytes sink Kept floods status
+    → task.fault bytes ≡ None → task.IsOutput bytes floods output → WritesAll sink.held sink.holds result output → HasCause sink.before sink.now result → IsAnswered task bytes sink Kept floods status
 written_answers task bytes output sink Kept floods result status same none is written cause =
-    subst (Answers task bytes sink Kept floods) (sym same) (writing_answers task bytes output sink Kept floods result none is written cause)
+    subst (IsAnswered task bytes sink Kept floods) (sym same) (writing_answers task bytes output sink Kept floods result none is written cause)
 
 writing_works : {T E : Type 0} (task : Task) (fault : Option Fault) (bytes : List ℕ) (sink : SinkChange) (floods : ℕ) (result : Result T E)
     → ((all : T) → result ≡ Ok all → task.IsWork bytes sink Done floods) → ((failed : E) → result ≡ Err failed → task.IsWork bytes sink SinkFault floods)
@@ -96,7 +106,7 @@ stays before now rose none = omega (arith, rose, none)
 -- a part of a task, all of whose faults are known with no need, and which takes its memory before it writes, answers for the whole
 module _ (part whole : Task) (seen bytes : List ℕ) (sink : SinkChange) (floods : ℕ) (same : whole.fault bytes ≡ part.fault seen) where
   pub part_answers : (Kept : Type 0) → part.needs ≡ nothing → part.memory_first ≡ true
-      → ((output : List ℕ) → part.IsOutput seen floods output → whole.IsOutput bytes floods output) → (status : Status) → Answers part seen sink Kept floods status → Answers whole bytes sink Kept floods status
+      → ((output : List ℕ) → part.IsOutput seen floods output → whole.IsOutput bytes floods output) → (status : Status) → IsAnswered part seen sink Kept floods status → IsAnswered whole bytes sink Kept floods status
   part_answers Kept needs first more Done a =
       record { none = same ∙ a.none; wrote = record { output = a.wrote.output; is_output = more a.wrote.output a.wrote.is_output; grown = a.wrote.grown }; kept = a.kept }
   part_answers Kept needs first more (Input f) a = (same ∙ a.0, a.1)
@@ -119,11 +129,11 @@ module _ (part whole : Task) (seen bytes : List ℕ) (sink : SinkChange) (floods
   ]
 
 -- what refuses a first call refuses the whole
-pub refusal_before : (one whole : Option Fault) (r : Refused Fault) → ((f : Fault) → one ≡ Some f → whole ≡ Some f) → IsRefusal one r → IsRefusal whole r
+pub refusal_before : (one whole : Option Fault) (r : Refused Fault) → ((f : Fault) → one ≡ Some f → whole ≡ Some f) → IsRefusedInput one r → IsRefusedInput whole r
 refusal_before one whole (refused.Fault f) first is = first f is
 refusal_before one whole refused.NoMemory first is = tt
 
-pub text_refused : (asked : Option ℕ) (text : List ℕ) (r : Refused Fault) → IsRefusal (pages_fault (text_pages text)) r → IsRefusal (text_fault asked text) r
+pub text_refused : (asked : Option ℕ) (text : List ℕ) (r : Refused Fault) → IsRefusedInput (pages_fault (text_pages text)) r → IsRefusedInput (text_fault asked text) r
 text_refused = texts.text_refused
 
 -- the cells of the field are those that faults speak of

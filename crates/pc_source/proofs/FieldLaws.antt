@@ -1,10 +1,12 @@
 -- The field that is asked about: there is one, and its faults are those of its text.
-use Rattle.std.proofs.Common.{◌≡◌, ℕ, ◌-◌, ◌≤◌, inl, inr, length, arith, List, [], ◌∷◌, Option, Some, None, Result, Ok, Err, refl, ap, sym, subst, ◌∙◌}
+use Rattle.std.proofs.Common.{◌≡◌, ◌≢◌, Bool, true, false, ℕ, ◌-◌, ◌≤◌, inl, inr, length, arith, List, [], ◌∷◌, Option, Some, None, Result, Ok, Err, refl, ap, sym, subst, ◌∙◌}
 use Rattle.std.specs.Prelude.{slice_get}
+use Rattle.std.specs.Option.{option_map_or}
 use Rattle.std.proofs.lemmas.Bool.{lt-ltb}
 use Rattle.std.proofs.lemmas.Option.{same_Some, slice_get_cases}
 use Rattle.lane_board.specs.Field.{Field}
 use Rattle.fumen_digits.specs.declared.dialect.Dialect.{Dialect}
+use Rattle.fumen_digits.specs.Framing.{digits_in}
 use Rattle.fumen_digits.specs.declared.fault.FumenFault.{FumenFault}
 use Rattle.fumen_pages.specs.declared.page.Page.{Page}
 use Rattle.fumen_text.specs.Reading.{text_pages}
@@ -14,7 +16,8 @@ use Rattle.pc_faults.specs.declared.fault.Fault.TheVariants.{NoPage}
 use Rattle.pc_faults.proofs.CallerLemmas.{none_first, none_last}
 use Rattle.pc_settings.specs.Request.{FieldText, rows_text, fumen_text}
 use Rattle.pc_source.specs.Faults.{asked_fault, cells_asked, cells_read, cells_shown, field_fault, page_fault, pages_fault, text_fault}
-use Rattle.pc_source.specs.FieldText.{page_cells, text_given, IsPageField, IsFumenField, IsFieldOf}
+use Rattle.pc_source.specs.FieldText.{field_needs, is_of_source, page_cells, text_given, text_needs, IsPageField, IsFumenField, IsFieldOf}
+use Rattle.pc_source.specs.Task.{is_source, memory, nothing, source_bytes}
 
 one_page_field : (pages : List Page) (number : ℕ) (F G : Field) → IsPageField pages number F → IsPageField pages number G → F ≡ G
 one_page_field pages number F G one other = one.cells ∙ ap page_cells (same_Some one.page other.page (sym one.there ∙ other.there)) ∙ sym other.cells
@@ -59,3 +62,26 @@ asked_there number text first none =
 pub field_there : (field : FieldText) (number : ℕ) (bytes : List ℕ) → 1 ≤ number → field_fault field number bytes ≡ None → IsFieldOf field number bytes (cells_asked field number bytes)
 field_there (rows_text text) number bytes first none = refl
 field_there (fumen_text word) number bytes first none = asked_there number (text_given word bytes) first none
+
+-- a fumen text that stands among the words needs no source
+pub text_not_source : (text : List ℕ) → is_source (text_needs text) ≡ false
+text_not_source text = by (digits_in text)
+  where
+    by : (found : Option (Dialect × List ℕ)) → is_source (option_map_or (λ _. memory) found nothing) ≡ false
+    by None = refl
+    by (Some x) = refl
+
+-- a fumen text with a prefix needs memory
+pub prefix_needs : (word bytes : List ℕ) → digits_in (text_given word bytes) ≢ None → field_needs (fumen_text word) ≢ nothing
+prefix_needs word bytes has = by (is_of_source word) refl
+  where
+    some : (found : Option (Dialect × List ℕ)) → found ≢ None → option_map_or (λ _. memory) found nothing ≡ nothing → ⊥
+    some None has needs = has refl
+    some (Some x) has needs = cc
+
+    by : (b : Bool) → is_of_source word ≡ b → field_needs (fumen_text word) ≡ nothing → ⊥
+    by true is needs = let h : field_needs (fumen_text word) ≡ source_bytes = rw (is) refl in cc
+    by false is needs =
+        let own : text_given word bytes ≡ word = rw (is) refl in
+        let h : field_needs (fumen_text word) ≡ text_needs word = rw (is) refl in
+        some (digits_in word) (λ none. has (ap digits_in own ∙ none)) (sym h ∙ needs)

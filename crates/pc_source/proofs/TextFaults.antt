@@ -13,7 +13,7 @@ use Rattle.pc_faults.specs.declared.fault.Fault.{Fault}
 use Rattle.pc_faults.specs.declared.fault.Fault.TheVariants as faults
 use Rattle.pc_faults.proofs.CallerLemmas.{first_stops, second_left}
 use Rattle.pc_source.specs.Faults.{asked_fault, page_fault, pages_fault, text_fault}
-use Rattle.pc_source.specs.Had.{HasText, IsRefusal}
+use Rattle.pc_source.specs.Had.{HasText, IsRefusedInput}
 
 -- the text is no fumen text
 pub has_fault : (text : List ℕ) (f : FumenFault) → text_pages text ≡ Err f → pages_fault (text_pages text) ≡ Some (faults.Fumen f)
@@ -38,6 +38,6 @@ pub text_page : (asked : Option ℕ) (text : List ℕ) (dialect : Dialect) (page
 text_page asked text dialect pages reads = text_reads asked text pages (record { dialect = dialect; reads = reads })
 
 -- what refuses the text refuses it with the page too
-pub text_refused : (asked : Option ℕ) (text : List ℕ) (r : Refused Fault) → IsRefusal (pages_fault (text_pages text)) r → IsRefusal (text_fault asked text) r
+pub text_refused : (asked : Option ℕ) (text : List ℕ) (r : Refused Fault) → IsRefusedInput (pages_fault (text_pages text)) r → IsRefusedInput (text_fault asked text) r
 text_refused asked text (refused.Fault f) is = text_stops asked text f is
 text_refused asked text refused.NoMemory is = tt

@@ -48,12 +48,12 @@ pub record WantsMemory (task : Task) (fault : Option Fault) (Outputs : List ℕ 
 
 -- a status with its cause, of a task that sees these bytes and made so many floods, where `Kept` says that nothing was
 -- written
-abbrev pub Answers : Task → List ℕ → SinkChange → Type 0 → ℕ → Status → Type 0
-Answers task bytes sink Kept floods Done = DoneAfter (task.fault bytes) (task.IsOutput bytes floods) sink
-Answers task bytes sink Kept floods (Input found) = (task.fault bytes ≡ Some found) × Kept
-Answers task bytes sink Kept floods SourceFault = ⊥
-Answers task bytes sink Kept floods SinkFault = FailedAfterFront (task.fault bytes) (task.IsOutput bytes floods) sink
-Answers task bytes sink Kept floods NoMemory =
+abbrev pub IsAnswered : Task → List ℕ → SinkChange → Type 0 → ℕ → Status → Type 0
+IsAnswered task bytes sink Kept floods Done = DoneAfter (task.fault bytes) (task.IsOutput bytes floods) sink
+IsAnswered task bytes sink Kept floods (Input found) = (task.fault bytes ≡ Some found) × Kept
+IsAnswered task bytes sink Kept floods SourceFault = ⊥
+IsAnswered task bytes sink Kept floods SinkFault = FailedAfterFront (task.fault bytes) (task.IsOutput bytes floods) sink
+IsAnswered task bytes sink Kept floods NoMemory =
     WantsMemory task (task.fault bytes) (task.IsOutput bytes floods) sink Kept
 
 -- How a run ends where a fault stands: by this fault, unless what is needed to know it can't be had: memory, or a read.

@@ -1,5 +1,6 @@
 -- The field that is asked about: rows that a text writes, or a page of a fumen text.
-use Rattle.std.specs.Prelude.{◌≡◌, ℕ, ◌-◌, Bool, not, ◌&&◌, ◌==◌, if◌then◌else◌, List, codes, slice_get, slice_index, Some, pos}
+use Rattle.std.specs.Prelude.{◌≡◌, ◌≢◌, ℕ, ◌-◌, Bool, not, ◌&&◌, ◌==◌, if◌then◌else◌, List, codes, slice_get, slice_index, None, Some, pos}
+use Rattle.std.specs.Option.{option_map_or}
 use Rattle.std.specs.Str.{bytes_eq}
 use Rattle.lane_board.specs.Field.{Field, rows_below}
 use Rattle.well.specs.Rows.{written_cells}
@@ -7,6 +8,7 @@ use Rattle.fumen_digits.specs.declared.dialect.Dialect.{Dialect}
 use Rattle.fumen_pages.specs.declared.page.Page.{Page}
 use Rattle.fumen_pages.specs.Cells.{place_of}
 use Rattle.fumen_digits.specs.declared.dialect.Dialect.TheVariants.{V115}
+use Rattle.fumen_digits.specs.Framing.{digits_in}
 use Rattle.fumen_text.specs.Texts.{ReadsAs}
 use Rattle.pc_source.specs.Task.{Needs, nothing, memory, source_bytes}
 use Rattle.pc_settings.specs.Request.{FieldText, rows_text, fumen_text}
@@ -41,7 +43,16 @@ abbrev pub IsFieldOf : FieldText → ℕ → List ℕ → Field → Type 0
 IsFieldOf (rows_text text) number bytes F = F ≡ written_cells text
 IsFieldOf (fumen_text word) number bytes F = IsFumenField (text_given word bytes) number F
 
+-- what is needed to know the pages of a fumen text: nothing where no prefix stands in it, and else memory
+abbrev pub text_needs : List ℕ → Needs
+text_needs text = option_map_or (λ _. memory) (digits_in text) nothing
+
 -- what is needed to know the field: a fumen text is read in memory, also where it is the source's
 abbrev pub field_needs : FieldText → Needs
 field_needs (rows_text text) = nothing
-field_needs (fumen_text word) = if is_of_source word then source_bytes else memory
+field_needs (fumen_text word) = if is_of_source word then source_bytes else text_needs word
+
+-- a prefix stands in the fumen text of the field, where the source has these bytes
+abbrev pub HasPrefix : FieldText → List ℕ → Type 0
+HasPrefix (rows_text text) bytes = ⊥
+HasPrefix (fumen_text word) bytes = digits_in (text_given word bytes) ≢ None

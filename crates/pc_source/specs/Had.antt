@@ -19,9 +19,9 @@ use Rattle.pc_source.specs.Faults.{field_fault, page_fault, text_fault}
 use Rattle.pc_source.specs.Task.{Needs, nothing, memory, source_bytes}
 
 -- by this fault, or for want of memory
-abbrev pub IsRefusal : Option Fault → Refused Fault → Type 0
-IsRefusal fault (refused.Fault found) = fault ≡ Some found
-IsRefusal fault refused.NoMemory = Unit {0}
+abbrev pub IsRefusedInput : Option Fault → Refused Fault → Type 0
+IsRefusedInput fault (refused.Fault found) = fault ≡ Some found
+IsRefusedInput fault refused.NoMemory = Unit {0}
 
 -- the source could not be read to its end
 abbrev pub IsUnread : Status → Type 0

@@ -1,12 +1,13 @@
 // The field that is asked about: that of a rows text, or of a page of a fumen text.
-ghost use Rattle.std.specs.Prelude.{◌≡◌, ◌≢◌, ◌≤◌, [], Err, Some, IfOk, IfErr};
+ghost use Rattle.std.specs.Prelude.{◌≡◌, ◌≢◌, ◌≤◌, [], Err, None, Some, IfOk, IfErr};
 ghost use Rattle.well.specs.Well.{filled};
+ghost use Rattle.fumen_digits.specs.Framing.{digits_in};
 ghost use Rattle.pc_outside.specs.declared.answers.Refused.{Refused};
 ghost use Rattle.pc_settings.specs.Request.{rows_text};
 ghost use Rattle.pc_settings.specs.Views.{text_view};
 ghost use Rattle.pc_source.specs.Faults.{field_fault, text_fault};
-ghost use Rattle.pc_source.specs.FieldText.{field_needs, text_given};
-ghost use Rattle.pc_source.specs.Had.{HasField, HasFumenField, IsRefusal};
+ghost use Rattle.pc_source.specs.FieldText.{HasPrefix, field_needs, text_given};
+ghost use Rattle.pc_source.specs.Had.{HasField, HasFumenField, IsRefusedInput};
 ghost use Rattle.pc_source.specs.Task.{is_source, nothing};
 
 use crate::page::{field_of, page_at};
@@ -19,6 +20,7 @@ use well::Well;
 
 /// The field that the words give, where the source has these bytes, or the first fault of its text, or that there is no
 /// memory. Of a fumen text it is the page with this number, counted from 1.
+#[tactic(auto, using(crate::proofs::FieldLaws::prefix_needs))]
 pub fn field(
     alloc: Global,
     words: FieldWords<'_>,
@@ -28,8 +30,9 @@ pub fn field(
     requires { 1 ≤ number }
     ensures field { IfOk result (λ well. HasField (text_view words.entry) number bytes.now (filled well)) }
     ensures refused { IfErr result
-        (λ refused. IsRefusal (field_fault (text_view words.entry) number bytes.now) refused) }
+        (λ refused. IsRefusedInput (field_fault (text_view words.entry) number bytes.now) refused) }
     ensures memory { result ≡ Err Refused.NoMemory → field_needs (text_view words.entry) ≢ nothing }
+    ensures prefix { result ≡ Err Refused.NoMemory → HasPrefix (text_view words.entry) bytes.now }
 {
     match words {
         FieldWords::Rows(text) => match rows_field(text) {
@@ -41,6 +44,7 @@ pub fn field(
 }
 
 /// Whether the field is that of the source's text.
+#[tactic(auto, using(crate::proofs::FieldLaws::text_not_source))]
 pub fn is_of_source(words: FieldWords<'_>) -> bool
     ensures { result ≡ is_source (field_needs (text_view words.entry)) }
 {
@@ -77,7 +81,8 @@ fn text_given<'a>(word: &'a str, bytes: &'a [u8]) -> &'a [u8]
 fn fumen_field(alloc: Global, text: &[u8], number: u32) -> Result<Well, Refused<Fault>>
     requires { 1 ≤ number }
     ensures field { IfOk result (λ well. HasFumenField text.now number (filled well)) }
-    ensures refused { IfErr result (λ refused. IsRefusal (text_fault (Some number) text.now) refused) }
+    ensures refused { IfErr result (λ refused. IsRefusedInput (text_fault (Some number) text.now) refused) }
+    ensures memory { result ≡ Err Refused.NoMemory → digits_in text.now ≢ None }
 {
     let pages = match text_pages(alloc, text) {
         Ok(pages) => pages,

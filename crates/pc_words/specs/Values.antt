@@ -74,22 +74,22 @@ dialect_in text =
 
 -- whether a text is in the list or the range of an option; texts of fields, patterns, sequences and tables
 -- have faults of their own
-abbrev pub takes : CommandOption → List ℕ → Bool
-takes options.Rows text = true
-takes options.Tetfu text = true
-takes options.Page text = is_some (page_in text)
-takes options.ClearLine text = is_some (height_in text)
-takes options.Patterns text = true
-takes options.Hold text = is_some (hold_in text)
-takes options.Held text = is_some (held_in text)
-takes options.Drop text = is_some (drop_in text)
-takes options.Kicks text = true
-takes options.After text = true
-takes options.Limit text = is_some (limit_in text)
-takes options.Keys text = is_some (yes_in text)
-takes options.Format text = is_some (format_in text)
-takes options.Dialect text = is_some (dialect_in text)
-takes options.Failed text = is_some (failed_in text)
-takes options.Stats text = is_some (yes_in text)
-takes options.Number text = is_some (seed_in text)
-takes options.Pages text = is_some (page_count_in text)
+abbrev pub is_value_of : CommandOption → List ℕ → Bool
+is_value_of options.Rows text = true
+is_value_of options.Tetfu text = true
+is_value_of options.Page text = is_some (page_in text)
+is_value_of options.ClearLine text = is_some (height_in text)
+is_value_of options.Patterns text = true
+is_value_of options.Hold text = is_some (hold_in text)
+is_value_of options.Held text = is_some (held_in text)
+is_value_of options.Drop text = is_some (drop_in text)
+is_value_of options.Kicks text = true
+is_value_of options.After text = true
+is_value_of options.Limit text = is_some (limit_in text)
+is_value_of options.Keys text = is_some (yes_in text)
+is_value_of options.Format text = is_some (format_in text)
+is_value_of options.Dialect text = is_some (dialect_in text)
+is_value_of options.Failed text = is_some (failed_in text)
+is_value_of options.Stats text = is_some (yes_in text)
+is_value_of options.Number text = is_some (seed_in text)
+is_value_of options.Pages text = is_some (page_count_in text)

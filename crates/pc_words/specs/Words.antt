@@ -20,7 +20,7 @@ use Rattle.pc_words.specs.declared.options.CommandOption.{CommandOption}
 use Rattle.pc_words.specs.declared.options.CommandOption.TheVariants.{Rows, Tetfu, Page, ClearLine, Patterns, Hold, Held, Drop, Kicks, After, Limit, Keys, Format, Dialect, Failed, Stats, Number, Pages}
 use Rattle.pc_words.specs.Options.{command_in, option_name, option_of}
 use Rattle.pc_words.specs.Request.{Request, combo, cover, decode, encode, kicks, path, percent, selfrun, show}
-use Rattle.pc_words.specs.Values.{dialect_in, drop_in, failed_in, format_in, height_in, held_in, hold_in, limit_in, page_count_in, page_in, seed_in, takes, yes_in}
+use Rattle.pc_words.specs.Values.{dialect_in, drop_in, failed_in, format_in, height_in, held_in, hold_in, limit_in, page_count_in, page_in, seed_in, is_value_of, yes_in}
 
 -- the texts of the words
 abbrev pub texts : {Z : Type 0} → List (String Z) → List (List ℕ)
@@ -46,7 +46,7 @@ fault_at kind index = record { kind = kind; index = index }
 
 abbrev pub value_fault : ℕ → CommandOption → Option (List ℕ) → Option WordsFault
 value_fault index option None = Some (fault_at MissingValue index)
-value_fault index option (Some value) = if takes option value then None else Some (fault_at BadValue (index + 1))
+value_fault index option (Some value) = if is_value_of option value then None else Some (fault_at BadValue (index + 1))
 
 abbrev pub option_fault : List (List ℕ) → ℕ → Option CommandOption → Option (List ℕ) → Option WordsFault
 option_fault before index None value = Some (fault_at UnknownOption index)

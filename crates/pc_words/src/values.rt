@@ -1,6 +1,6 @@
 // The values that options take, each in its option's list or range.
 ghost use Rattle.std.specs.Prelude.{◌≡◌, ◌≤◌, IfSome};
-ghost use Rattle.pc_words.specs.Values.{dialect_in, drop_in, failed_in, format_in, height_in, held_in, hold_in, limit_in, page_count_in, page_in, seed_in, takes, yes_in};
+ghost use Rattle.pc_words.specs.Values.{dialect_in, drop_in, failed_in, format_in, height_in, held_in, hold_in, limit_in, page_count_in, page_in, seed_in, is_value_of, yes_in};
 
 use crate::numbers::number_in;
 use crate::options::CommandOption;
@@ -142,8 +142,8 @@ pub fn dialect_in(text: &str) -> Option<Dialect>
 }
 
 /// Whether a text is in the list or the range of an option.
-pub fn takes(option: CommandOption, text: &str) -> bool
-    ensures { result ≡ takes option text.now }
+pub fn is_value_of(option: CommandOption, text: &str) -> bool
+    ensures { result ≡ is_value_of option text.now }
 {
     match option {
         CommandOption::Rows => true,

@@ -6,7 +6,7 @@ ghost use Rattle.pc_words.specs.Words.{is_given, is_other_field, option_fault, p
 
 use crate::options::{Command, CommandOption, command_named, option_of};
 use crate::settings::{Settings, settings_of};
-use crate::values::takes;
+use crate::values::is_value_of;
 use pc_faults::{WordsFault, WordsKind};
 
 /// The value behind the name of an option, where pairs have it.
@@ -50,7 +50,7 @@ fn value_fault(index: usize, option: CommandOption, value: Option<&str>) -> Opti
             index,
         });
     };
-    if takes(option, value) {
+    if is_value_of(option, value) {
         return None;
     }
     Some(WordsFault {

@@ -43,7 +43,7 @@ returns-in-Combo-clause-works g c =
 
 pub returns-in-Decode-clause-answers : goal.returns-in-Decode-clause-answers
 returns-in-Decode-clause-answers g c =
-    idle_answers decode (settings_view c.args.settings.now) c.args.bytes.now _ _ _ _ c.run_decode.result (ap settings_view c.in-Decode.is) refl c.run_decode.ensures
+    idle_answers decode (settings_view c.args.settings.now) c.args.bytes.now _ _ _ _ c.run_decode.result (ap settings_view c.in-Decode.is) refl c.run_decode.ensures.answers
 
 pub returns-in-Decode-clause-works : goal.returns-in-Decode-clause-works
 returns-in-Decode-clause-works g c =
@@ -51,7 +51,7 @@ returns-in-Decode-clause-works g c =
 
 pub returns-in-Encode-clause-answers : goal.returns-in-Encode-clause-answers
 returns-in-Encode-clause-answers g c =
-    idle_answers (encode c.in-Encode.dialect) (settings_view c.args.settings.now) c.args.bytes.now _ _ _ _ c.run_encode.result (ap settings_view c.in-Encode.is) refl c.run_encode.ensures
+    idle_answers (encode c.in-Encode.dialect) (settings_view c.args.settings.now) c.args.bytes.now _ _ _ _ c.run_encode.result (ap settings_view c.in-Encode.is) refl c.run_encode.ensures.answers
 
 pub returns-in-Encode-clause-works : goal.returns-in-Encode-clause-works
 returns-in-Encode-clause-works g c =
@@ -59,7 +59,7 @@ returns-in-Encode-clause-works g c =
 
 pub returns-in-Show-clause-answers : goal.returns-in-Show-clause-answers
 returns-in-Show-clause-answers g c =
-    idle_answers (show c.in-Show.page) (settings_view c.args.settings.now) c.args.bytes.now _ _ _ _ c.run_show.result (ap settings_view c.in-Show.is) refl c.run_show.ensures
+    idle_answers (show c.in-Show.page) (settings_view c.args.settings.now) c.args.bytes.now _ _ _ _ c.run_show.result (ap settings_view c.in-Show.is) refl c.run_show.ensures.answers
 
 pub returns-in-Show-clause-works : goal.returns-in-Show-clause-works
 returns-in-Show-clause-works g c =

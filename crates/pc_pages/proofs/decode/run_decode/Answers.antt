@@ -4,7 +4,7 @@ use Rattle.std.specs.List.{flat_map}
 use Rattle.fumen_pages.specs.declared.page.Page.{Page}
 use Rattle.page_list.specs.PrintedLine.{page_form}
 use Rattle.pc_source.specs.Had.{HasText, IsShowable}
-use Rattle.pc_source.proofs.CallerLemmas.{refused_answers, text_reads, text_refused}
+use Rattle.pc_source.proofs.CallerLemmas.{has_prefix, refused_answers, text_reads, text_refused, wants_memory}
 use Rattle.pc_pages.specs.declared.decode.WriteFault.{WriteFault}
 use Rattle.pc_pages.specs.declared.decode.WriteFault.TheVariants as faults
 use Rattle.pc_pages.specs.Output.{IsDecodeOutput}
@@ -17,15 +17,15 @@ lines_of bytes pages has = record { dialect = has.dialect; pages = pages; reads 
 other_fault : {T : Type 0} (e : WriteFault) → e ≡ faults.NoMemory → ◌≡◌ {A = Result T WriteFault} (Err e) (Err faults.Failed) → ⊥
 other_fault e other failed = cc
 
-pub returns-in-Err : goal.returns-in-Err
-returns-in-Err g c =
+pub returns-in-Err-clause-answers : goal.returns-in-Err-clause-answers
+returns-in-Err-clause-answers g c =
     refused_answers decode_task c.args.bytes.now _ _ 0 c.in-Err.refused c.from.result c.from.ensures refl (λ _ reads. cc) (text_refused None c.args.bytes.now c.in-Err.refused c.in-Err.ensures.refused)
 
 pub write_lines-requires : goal.write_lines-requires
 write_lines-requires g c = subst (All IsShowable) (sym c.deref.ensures.value) c.in-Ok.ensures.showable
 
-pub returns-in-Ok-write_lines : goal.returns-in-Ok-write_lines
-returns-in-Ok-write_lines g c =
+pub returns-in-Ok-write_lines-clause-answers : goal.returns-in-Ok-write_lines-clause-answers
+returns-in-Ok-write_lines-clause-answers g c =
     let has = subst (HasText c.args.bytes.now) (sym c.deref.ensures.value) c.in-Ok.ensures.pages in
     record {
       none = text_reads None c.args.bytes.now c.deref.result.now has;
@@ -33,8 +33,8 @@ returns-in-Ok-write_lines g c =
       kept = c.in-Ok-write_lines.ensures.kept (λ is. cc);
     }
 
-pub returns-in-Err-Failed : goal.returns-in-Err-Failed
-returns-in-Err-Failed g c =
+pub returns-in-Err-Failed-clause-answers : goal.returns-in-Err-Failed-clause-answers
+returns-in-Err-Failed-clause-answers g c =
     let has = subst (HasText c.args.bytes.now) (sym c.deref.ensures.value) c.in-Ok.ensures.pages in
     record {
       none = text_reads None c.args.bytes.now c.deref.result.now has;
@@ -42,8 +42,8 @@ returns-in-Err-Failed g c =
       rose = c.in-Err-Failed.ensures.rose (ap (λ e. Err e) c.in-Err-Failed.field-0-is);
     }
 
-pub returns : goal.returns
-returns g c =
+pub returns-clause-answers : goal.returns-clause-answers
+returns-clause-answers g c =
     let has = subst (HasText c.args.bytes.now) (sym c.deref.ensures.value) c.in-Ok.ensures.pages in
     record {
       known = λ needs. cc;
@@ -54,3 +54,9 @@ returns g c =
         kept = c.in-Err-NoMemory.ensures.kept (other_fault c.in-Err-NoMemory.field-0 c.in-Err-NoMemory.field-0-is);
       });
     }
+
+pub returns-in-Err-clause-memory : goal.returns-in-Err-clause-memory
+returns-in-Err-clause-memory g c = λ none. c.in-Err.ensures.memory (ap (λ r. Err r) (wants_memory c.in-Err.refused c.from.result c.from.ensures none))
+
+pub returns-clause-memory : goal.returns-clause-memory
+returns-clause-memory g c = λ _. has_prefix c.args.bytes.now c.in-Ok.pages.items c.in-Ok.ensures.pages

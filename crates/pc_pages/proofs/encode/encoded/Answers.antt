@@ -1,5 +1,5 @@
 -- The lines are read as pages, and these are written.
-use Rattle.std.proofs.Common.{◌≡◌, ◌∙◌, ℕ, List, Some, None, Option, Err, Vec, Global, ap, sym, subst}
+use Rattle.std.proofs.Common.{◌≡◌, ◌∙◌, ℕ, List, Some, None, Option, Result, Ok, Err, Vec, Global, ap, sym, subst}
 use Rattle.std.specs.Prelude.{option_map}
 use Rattle.pc_outside.specs.declared.answers.Refused.{Refused}
 use Rattle.pc_outside.specs.declared.answers.Refused.TheVariants as refused
@@ -7,7 +7,9 @@ use Rattle.fumen_digits.specs.declared.dialect.Dialect.{Dialect}
 use Rattle.fumen_pages.specs.declared.page.Page.{Page}
 use Rattle.fumen_text.specs.declared.encode_fault.EncodeFault.{EncodeFault}
 use Rattle.fumen_text.specs.Written.{IsRefusedBy, list_encode_fault}
+use Rattle.page_list.specs.declared.fault.ListFault.{ListFault}
 use Rattle.page_list.specs.LineSpelling.{SpellsPages}
+use Rattle.page_list.proofs.CallerLemmas.{spelled_fault_read, spelled_pages_read}
 use Rattle.pc_faults.specs.declared.fault.Fault.TheVariants.{Encode}
 use Rattle.pc_pages.specs.Faults.{encode_fault}
 use Rattle.pc_pages.proofs.EncodeFaults.{lines_refused, lines_spelled}
@@ -33,3 +35,16 @@ pub returns-in-Err-Fault-clause-refused : goal.returns-in-Err-Fault-clause-refus
 returns-in-Err-Fault-clause-refused c =
     let found = finds_fault (Vec ℕ Global) c.in-Err-Fault.field-0 c.in-Err-Fault.fault (list_encode_fault c.args.dialect c.deref.result.now) c.in-Err-Fault.ensures.fault c.in-Err-Fault.field-0-is in
     fault_of c.args.dialect c.args.bytes.now c.in-Ok.pages.items c.deref.result.now (Some c.in-Err-Fault.fault) c.in-Ok.ensures.pages c.deref.ensures.value found
+
+other_value : {T U E : Type 0} {a b : E} → ◌≡◌ {A = Result T E} (Err a) (Err b) → ◌≡◌ {A = Result U E} (Err a) (Err b)
+other_value same = cc
+
+never_both : {pages : List Page} {fault : ListFault} {read : Result (List Page) ListFault} → read ≡ Ok pages → read ≡ Err fault → ⊥
+never_both ok err = cc
+
+pub returns-clause-memory : goal.returns-clause-memory
+returns-clause-memory c = λ _ f is.
+    absurd (never_both (spelled_pages_read c.args.bytes.now c.in-Ok.pages.items c.in-Ok.ensures.pages) (spelled_fault_read c.args.bytes.now f is))
+
+pub returns-in-Err-clause-memory : goal.returns-in-Err-clause-memory
+returns-in-Err-clause-memory c = λ none. c.in-Err.ensures.memory (other_value none)

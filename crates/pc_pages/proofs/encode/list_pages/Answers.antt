@@ -15,3 +15,6 @@ gives_fault refusal f bytes gives is = subst (λ r. Gives (λ (pages : Vec Page 
 pub returns-in-Err-Fault-clause-refused : goal.returns-in-Err-Fault-clause-refused
 returns-in-Err-Fault-clause-refused c =
     ap lines_fault (gives_fault c.in-Err-Fault.field-0 c.in-Err-Fault.fault c.args.bytes.now c.in-Err-Fault.ensures.exact c.in-Err-Fault.field-0-is)
+
+pub returns-in-Err-NoMemory-clause-memory : goal.returns-in-Err-NoMemory-clause-memory
+returns-in-Err-NoMemory-clause-memory c = λ _. (c.in-Err-NoMemory.ensures.memory (ap (λ r. Err r) c.in-Err-NoMemory.field-0-is)).1

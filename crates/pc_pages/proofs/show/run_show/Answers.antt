@@ -1,11 +1,11 @@
 -- The pages of the text are shown, or the one that is asked for.
-use Rattle.std.proofs.Common.{◌≡◌, ◌∙◌, ℕ, ◌-◌, List, All, Option, Some, None, refl, ap, sym, subst}
+use Rattle.std.proofs.Common.{◌≡◌, ◌∙◌, ℕ, ◌-◌, List, All, Option, Some, None, Err, refl, ap, sym, subst}
 use Rattle.std.specs.Prelude.{slice_get}
 use Rattle.fumen_pages.specs.declared.page.Page.{Page}
 use Rattle.page_show.specs.Page.{shown_page}
 use Rattle.pc_source.specs.Faults.{page_fault, text_fault}
 use Rattle.pc_source.specs.Had.{HasText, IsShowable}
-use Rattle.pc_source.proofs.CallerLemmas.{refused_answers, text_reads, text_refused, written_answers}
+use Rattle.pc_source.proofs.CallerLemmas.{has_prefix, refused_answers, text_reads, text_refused, wants_memory, written_answers}
 use Rattle.pc_pages.specs.Output.{IsShowOutput, IsShown, shown_from}
 use Rattle.pc_pages.specs.Tasks.{show_task}
 use Rattle.pc_pages.proofs.ShownPages.{showable_there}
@@ -27,15 +27,15 @@ one_shown : (asked : Option ℕ) (number : ℕ) (pages : List Page) (page : Page
 one_shown asked number pages page given there none =
     subst (λ a. (page_fault a pages ≡ None) × IsShown a pages (shown_page number page)) (sym given) (none, (page, there, refl))
 
-pub returns-in-Err : goal.returns-in-Err
-returns-in-Err g c =
+pub returns-in-Err-clause-answers : goal.returns-in-Err-clause-answers
+returns-in-Err-clause-answers g c =
     refused_answers (show_task c.args.asked) c.args.bytes.now _ _ 0 c.in-Err.refused c.from.result c.from.ensures refl (λ _ reads. cc) (text_refused c.args.asked c.args.bytes.now c.in-Err.refused c.in-Err.ensures.refused)
 
 pub show_all-requires-clause-showable : goal.show_all-requires-clause-showable
 show_all-requires-clause-showable g c = subst (All IsShowable) (sym c.deref.ensures.value) c.in-Ok.ensures.showable
 
-pub returns-in_default : goal.returns-in_default
-returns-in_default g c =
+pub returns-in_default-clause-answers : goal.returns-in_default-clause-answers
+returns-in_default-clause-answers g c =
     let bytes = c.args.bytes.now in
     let pages = c.deref.result.now in
     let has = subst (HasText bytes) (sym c.deref.ensures.value) c.in-Ok.ensures.pages in
@@ -53,8 +53,8 @@ show_page-requires-clause-inside g c =
     let showable = subst (All IsShowable) (sym c.deref-2.ensures.value) c.in-Ok.ensures.showable in
     (showable_there c.deref-2.result.now (c.in-Some.number - 1) c.in-Ok-page_at.page.now showable c.in-Ok-page_at.ensures.page).inside
 
-pub returns-in-Ok-page_at : goal.returns-in-Ok-page_at
-returns-in-Ok-page_at g c =
+pub returns-in-Ok-page_at-clause-answers : goal.returns-in-Ok-page_at-clause-answers
+returns-in-Ok-page_at-clause-answers g c =
     let bytes = c.args.bytes.now in
     let pages = c.deref-2.result.now in
     let page = c.in-Ok-page_at.page.now in
@@ -63,9 +63,18 @@ returns-in-Ok-page_at g c =
     written_answers (show_task c.args.asked) bytes (shown_page c.in-Some.number page) _ _ 0 c.show_page.result c.after_writes-in-Ok-page_at.result c.after_writes-in-Ok-page_at.ensures (none_of c.args.asked bytes pages has shown.0)
     (output_of c.args.asked bytes pages has (shown_page c.in-Some.number page) shown.1) c.show_page.ensures.written c.show_page.ensures.cause
 
-pub returns : goal.returns
-returns g c =
+pub returns-clause-answers : goal.returns-clause-answers
+returns-clause-answers g c =
     let bytes = c.args.bytes.now in
     let pages = c.deref-2.result.now in
     let has = subst (HasText bytes) (sym c.deref-2.ensures.value) c.in-Ok.ensures.pages in
     (text_reads c.args.asked bytes pages has ∙ ap (λ a. page_fault a pages) c.in-Some.is ∙ c.in-Err-page_at.ensures.fault, refl)
+
+pub returns-in-Err-clause-memory : goal.returns-in-Err-clause-memory
+returns-in-Err-clause-memory g c = λ none. c.in-Err.ensures.memory (ap (λ r. Err r) (wants_memory c.in-Err.refused c.from.result c.from.ensures none))
+
+pub returns-in_default-clause-memory : goal.returns-in_default-clause-memory
+returns-in_default-clause-memory g c = λ _. has_prefix c.args.bytes.now c.in-Ok.pages.items c.in-Ok.ensures.pages
+
+pub returns-in-Ok-page_at-clause-memory : goal.returns-in-Ok-page_at-clause-memory
+returns-in-Ok-page_at-clause-memory g c = λ _. has_prefix c.args.bytes.now c.in-Ok.pages.items c.in-Ok.ensures.pages
