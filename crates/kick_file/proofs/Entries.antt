@@ -15,7 +15,7 @@ use Rattle.kick_file.specs.declared.fault.KickFault.TheVariants.{RepeatedEntry}
 use Rattle.kick_file.specs.declared.turned.TurnedPiece.{TurnedPiece}
 use Rattle.kick_file.specs.declared.position.Position.TheVariants.{Division, Letter, Letters, Columns}
 use Rattle.kick_file.specs.Form.{Entry, SpellsEntry, offset_form, offsets_form, is_repeated, table_with_entry}
-use Rattle.kick_file.specs.Reading.{Reading, entered, step, read_on, read_after}
+use Rattle.kick_file.specs.Reading.{Reading, reading_at, after_byte, read_on, read_after}
 use Rattle.kick_file.proofs.Steps.{at, Passes, one_byte, both}
 use Rattle.kick_file.proofs.Numbers.{offset_passes, whole}
 
@@ -71,15 +71,15 @@ rotation_read Reverse = refl
 rotation_read Left = refl
 
 pub letter_step : (given : List TurnedPiece) (table : Table) (place letter : ℕ) (piece : Piece) → piece_with_letter letter ≡ Some piece
-    → step (at given table Division) place letter ≡ Ok (at given table (Letter piece place))
-unfolding step
-letter_step given table place letter piece named = ap (λ p. entered (at given table Division) place (option_map (λ q. Letter q place) p)) named
+    → after_byte (at given table Division) place letter ≡ Ok (at given table (Letter piece place))
+unfolding after_byte
+letter_step given table place letter piece named = ap (λ p. reading_at (at given table Division) place (option_map (λ q. Letter q place) p)) named
 
 letters_step : (given : List TurnedPiece) (table : Table) (place start : ℕ) (turned : TurnedPiece)
-    → step (at given table (Letter turned.piece start)) place (rotation_letter turned.rotation) ≡ entered (at given table (Letter turned.piece start)) place (Some (Letters turned start))
-unfolding step
+    → after_byte (at given table (Letter turned.piece start)) place (rotation_letter turned.rotation) ≡ reading_at (at given table (Letter turned.piece start)) place (Some (Letters turned start))
+unfolding after_byte
 letters_step given table place start turned =
-    ap (λ r. entered (at given table (Letter turned.piece start)) place (option_map (λ q. Letters (record { piece = turned.piece; rotation = q }) start) r)) (rotation_read turned.rotation)
+    ap (λ r. reading_at (at given table (Letter turned.piece start)) place (option_map (λ q. Letters (record { piece = turned.piece; rotation = q }) start) r)) (rotation_read turned.rotation)
 
 -- an entry that stood before is refused at its second letter
 pub repeated_entry : (given : List TurnedPiece) (table : Table) (place letter : ℕ) (turned : TurnedPiece) (rest : List ℕ) → piece_with_letter letter ≡ Some turned.piece
@@ -106,15 +106,15 @@ begun given table place letter turned rest named fresh =
 -- five offsets and what stands between them
 slash : (given : List TurnedPiece) (table : Table) (turned : TurnedPiece) (test : ℕ) (cell : Cell) → nat_lt test 5 ≡ true
     → Passes (at given table (whole turned test cell)) (47 ∷ []) (at given table (Columns turned (test + 1) false))
-unfolding step
+unfolding after_byte
 slash given table turned test cell more =
-    one_byte _ 47 _ (λ place. ap (λ b. entered (at given table (whole turned test cell)) place (cond b (Some (Columns turned (test + 1) false)) None)) more)
+    one_byte _ 47 _ (λ place. ap (λ b. reading_at (at given table (whole turned test cell)) place (cond b (Some (Columns turned (test + 1) false)) None)) more)
 
 offsets_pass : (given : List TurnedPiece) (table : Table) (turned : TurnedPiece) (start : ℕ) (a b c d e : Cell)
     → is_small_move a ≡ true → is_small_move b ≡ true → is_small_move c ≡ true → is_small_move d ≡ true → is_small_move e ≡ true
     → Passes (at given table (Letters turned start)) (58 ∷ offsets_form (a ∷ b ∷ c ∷ d ∷ e ∷ []))
     (at given (put_from table turned 1 (a ∷ b ∷ c ∷ d ∷ e ∷ [])) (whole turned 5 e))
-unfolding step
+unfolding after_byte
 offsets_pass given table turned start a b c d e a-small b-small c-small d-small e-small =
     let colon : Passes (at given table (Letters turned start)) (58 ∷ []) (at given table (Columns turned 1 false)) = one_byte _ 58 _ (λ place. refl) in
     both _ (58 ∷ []) _ (offsets_form (a ∷ b ∷ c ∷ d ∷ e ∷ [])) _ colon

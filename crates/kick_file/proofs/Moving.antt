@@ -15,7 +15,7 @@ use Rattle.kick_file.specs.declared.position.Position.{Position}
 use Rattle.kick_file.specs.declared.position.Position.TheVariants.{Beginning, Division, Letter, Letters, Columns, Comma, Rows, Whole}
 use Rattle.kick_file.specs.Form.{Entry, signed_digit, offset_form, turned_of, table_of_entries}
 use Rattle.kick_file.specs.Faults.{SpellsBefore}
-use Rattle.kick_file.specs.Reading.{is_small_number, number_with_digit, next}
+use Rattle.kick_file.specs.Reading.{is_small_number, number_with_digit, next_position}
 use Rattle.kick_file.proofs.GivenLemmas.{not_true}
 use Rattle.kick_file.proofs.Entries.{put_from}
 use Rattle.kick_file.proofs.ReadIsSpelled.{one_more_before, ended_offsets, all_small}
@@ -245,7 +245,7 @@ whole_moved text byte place turned test offset entries given table to here next_
 ]
 
 pub moved : (text : List ℕ) (byte place : ℕ) (entries : List Entry) (given : List TurnedPiece) (table : Table) (position to : Position) → Here text entries given table position
-    → place ≡ length text → next position place byte ≡ Some to → Moved (text ++ byte ∷ []) given table to
+    → place ≡ length text → next_position position place byte ≡ Some to → Moved (text ++ byte ∷ []) given table to
 moved text byte place entries given table Beginning to here stands is =
     letter_moved text byte place entries given table to (subst (λ es. SpellsBefore text es) (sym here.1) here.0) here.2 stands is
 moved text byte place entries given table Division to here stands is = letter_moved text byte place entries given table to here.0 here.1 stands is

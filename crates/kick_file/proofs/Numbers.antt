@@ -9,7 +9,7 @@ use Rattle.kick_file.specs.declared.turned.TurnedPiece.{TurnedPiece}
 use Rattle.kick_file.specs.declared.position.Position.{Position}
 use Rattle.kick_file.specs.declared.position.Position.TheVariants.{Columns, Comma, Rows, Whole}
 use Rattle.kick_file.specs.Form.{signed_digit, offset_form}
-use Rattle.kick_file.specs.Reading.{is_small_number, step, Reading}
+use Rattle.kick_file.specs.Reading.{is_small_number, after_byte, Reading}
 use Rattle.kick_file.proofs.Steps.{at, Passes, one_byte, both}
 
 below_four : (P : ℕ → Type 0) → P 0 → P 1 → P 2 → P 3 → (n : ℕ) → n ≤ 3 → P n
@@ -34,18 +34,18 @@ each_small P a b c d x y z (negsuc n) small = below_three (λ n. P (negsuc n)) x
 -- the columns of an offset
 pub columns_pass : (given : List TurnedPiece) (table : Table) (turned : TurnedPiece) (test : ℕ) (z : ℤ) → is_small_number z ≡ true
     → Passes (at given table (Columns turned test false)) (signed_digit z) (at given table (Comma turned test z))
-unfolding step
+unfolding after_byte
 columns_pass given table turned test = each_small P (plain 48 (pos 0) (λ place. refl)) (plain 49 (pos 1) (λ place. refl)) (plain 50 (pos 2) (λ place. refl))
     (plain 51 (pos 3) (λ place. refl)) (below 49 (minus 1) (λ place. refl)) (below 50 (minus 2) (λ place. refl)) (below 51 (minus 3) (λ place. refl))
   where
     P : ℤ → Type 0
     P z = Passes (at given table (Columns turned test false)) (signed_digit z) (at given table (Comma turned test z))
 
-    plain : (byte : ℕ) (z : ℤ) → ((place : ℕ) → step (at given table (Columns turned test false)) place byte ≡ Ok (at given table (Comma turned test z)))
+    plain : (byte : ℕ) (z : ℤ) → ((place : ℕ) → after_byte (at given table (Columns turned test false)) place byte ≡ Ok (at given table (Comma turned test z)))
         → Passes (at given table (Columns turned test false)) (byte ∷ []) (at given table (Comma turned test z))
     plain byte z is = one_byte _ byte _ is
 
-    below : (byte : ℕ) (z : ℤ) → ((place : ℕ) → step (at given table (Columns turned test true)) place byte ≡ Ok (at given table (Comma turned test z)))
+    below : (byte : ℕ) (z : ℤ) → ((place : ℕ) → after_byte (at given table (Columns turned test true)) place byte ≡ Ok (at given table (Comma turned test z)))
         → Passes (at given table (Columns turned test false)) (45 ∷ byte ∷ []) (at given table (Comma turned test z))
     below byte z is = both _ (45 ∷ []) (at given table (Columns turned test true)) (byte ∷ []) _ (one_byte _ 45 _ (λ place. refl)) (one_byte _ byte _ is)
 
@@ -57,7 +57,7 @@ whole turned test cell = Whole turned test (record { dx = cell.0; dy = cell.1 })
 pub rows_pass : (given : List TurnedPiece) (table : Table) (turned : TurnedPiece) (test : ℕ) (dx z : ℤ) → is_small_number z ≡ true
     → Passes (at given table (Rows turned test dx false)) (signed_digit z)
     (at given (table_with table turned.piece turned.rotation test (dx, z)) (whole turned test (dx, z)))
-unfolding step
+unfolding after_byte
 rows_pass given table turned test dx = each_small P (plain 48 (pos 0) (λ place. refl)) (plain 49 (pos 1) (λ place. refl)) (plain 50 (pos 2) (λ place. refl))
     (plain 51 (pos 3) (λ place. refl)) (below 49 (minus 1) (λ place. refl)) (below 50 (minus 2) (λ place. refl)) (below 51 (minus 3) (λ place. refl))
   where
@@ -67,11 +67,11 @@ rows_pass given table turned test dx = each_small P (plain 48 (pos 0) (λ place.
     P : ℤ → Type 0
     P z = Passes (at given table (Rows turned test dx false)) (signed_digit z) (at given (table_with table turned.piece turned.rotation test (dx, z)) (whole turned test (dx, z)))
 
-    plain : (byte : ℕ) (z : ℤ) → ((place : ℕ) → step (at given table (Rows turned test dx false)) place byte ≡ Ok (to z))
+    plain : (byte : ℕ) (z : ℤ) → ((place : ℕ) → after_byte (at given table (Rows turned test dx false)) place byte ≡ Ok (to z))
         → Passes (at given table (Rows turned test dx false)) (byte ∷ []) (to z)
     plain byte z is = one_byte _ byte _ is
 
-    below : (byte : ℕ) (z : ℤ) → ((place : ℕ) → step (at given table (Rows turned test dx true)) place byte ≡ Ok (to z))
+    below : (byte : ℕ) (z : ℤ) → ((place : ℕ) → after_byte (at given table (Rows turned test dx true)) place byte ≡ Ok (to z))
         → Passes (at given table (Rows turned test dx false)) (45 ∷ byte ∷ []) (to z)
     below byte z is = both _ (45 ∷ []) (at given table (Rows turned test dx true)) (byte ∷ []) _ (one_byte _ 45 _ (λ place. refl)) (one_byte _ byte _ is)
 
@@ -85,7 +85,7 @@ small_parts a b false d small = absurd (false≢true (and_second (a && b) false 
 pub offset_passes : (given : List TurnedPiece) (table : Table) (turned : TurnedPiece) (test : ℕ) (cell : Cell) → is_small_move cell ≡ true
     → Passes (at given table (Columns turned test false)) (offset_form cell)
     (at given (table_with table turned.piece turned.rotation test cell) (whole turned test cell))
-unfolding step
+unfolding after_byte
 offset_passes given table turned test cell small =
     let parts = small_parts (int_le (minus 3) cell.0) (int_le cell.0 (pos 3)) (int_le (minus 3) cell.1) (int_le cell.1 (pos 3)) small in
     let comma : Passes (at given table (Comma turned test cell.0)) (44 ∷ []) (at given table (Rows turned test cell.0 false)) = one_byte _ 44 _ (λ place. refl) in

@@ -11,8 +11,9 @@ use Rattle.kick_file.specs.declared.position.Position.{Position}
 use Rattle.kick_file.specs.declared.position.Position.TheVariants.{Beginning, Division, Letter, Letters, Columns, Comma, Rows, Whole}
 use Rattle.kick_file.specs.Form.{Entry, SpellsEntries, is_repeated, are_distinct, turned_of, table_of_entries}
 use Rattle.srs.specs.Rotation.{rotation_letter}
-use Rattle.kick_file.specs.Faults.{Repeats, IsFront, IsStopped, IsUnexpected, IsReadAs}
-use Rattle.kick_file.specs.Reading.{Reading, kick_text, entered, step, ended, next, read_on, read_after}
+use Rattle.lists.specs.Forms.{IsFront, IsStopped, LeavesForm}
+use Rattle.kick_file.specs.Faults.{Repeats, SpellsSome, IsUnexpected, IsReadAs}
+use Rattle.kick_file.specs.Reading.{Reading, kick_text, reading_at, after_byte, ended, next_position, read_on, read_after}
 use Rattle.kick_file.proofs.GivenLemmas.{distinct_more}
 use Rattle.kick_file.proofs.Steps.{at}
 use Rattle.kick_file.proofs.SpelledIsRead.{IsFine, table_read, repeat_read, spelled_fine}
@@ -33,7 +34,7 @@ data Enters (given : List TurnedPiece) (table : Table) (position to : Position) 
   stood : (turned : TurnedPiece) (start : ℕ) → to ≡ Letters turned start → is_repeated given turned ≡ true → Enters given table position to (Err (RepeatedEntry start))
 
 enters : (given : List TurnedPiece) (table : Table) (position to : Position) (place : ℕ) → are_distinct given ≡ true
-    → Enters given table position to (entered (at given table position) place (Some to))
+    → Enters given table position to (reading_at (at given table position) place (Some to))
 unfolding given_then table_then
 enters given table position Beginning place distinct = on distinct
 enters given table position Division place distinct = on distinct
@@ -54,15 +55,17 @@ not_fine : (place : ℕ) (read : Result Table KickFault) → read ≡ Err (Unexp
 unfolding IsFine
 not_fine place read is fine = subst IsFine is fine
 
-unexpected : (text rest : List ℕ) (reading : Reading) → At text reading → kick_text (text ++ rest) ≡ Err (Unexpected (length text)) → IsStopped text rest
+unexpected : (text rest : List ℕ) (reading : Reading) → At text reading → kick_text (text ++ rest) ≡ Err (Unexpected (length text)) → IsStopped SpellsSome text rest
     → IsUnexpected (text ++ rest) (length text)
 unexpected text rest reading stands is stops = record {
-  front = text;
-  rest = rest;
-  whole = refl;
-  stands = refl;
-  begins = front_here text stands.entries reading.given reading.table reading.position stands.here;
-  stops = stops;
+  leaves = record {
+    front = text;
+    rest = rest;
+    whole = refl;
+    stands = refl;
+    begins = front_here text stands.entries reading.given reading.table reading.position stands.here;
+    stops = stops;
+  };
   first = λ other repeats. let no : Err (Unexpected (length text)) ≡ Err (RepeatedEntry other) = sym is ∙ repeat_read (text ++ rest) other repeats in cc;
 }
 
@@ -73,7 +76,7 @@ unfolding read_on
 end_unexpected text reading stands is =
     let read : kick_text (text ++ []) ≡ Err (Unexpected (length text)) = stands.passes [] ∙ is in
     unexpected text [] reading stands read
-    (λ entries spelled. not_fine (length text) (kick_text text) (ap kick_text (sym (append-nil text)) ∙ read) (spelled_fine text entries spelled))
+    (λ some. not_fine (length text) (kick_text text) (ap kick_text (sym (append-nil text)) ∙ read) (spelled_fine text some.0 some.1))
 
 whole_end : (text : List ℕ) (given : List TurnedPiece) (table : Table) (turned : TurnedPiece) (test : ℕ) (offset : Offset) → At text (at given table (Whole turned test offset))
     → IsReadAs (text ++ []) (ended table (length text) (Whole turned test offset))
@@ -134,7 +137,7 @@ ReadsOn bytes = (text : List ℕ) (given : List TurnedPiece) (table : Table) (po
     → IsReadAs (text ++ bytes) (read_on (at given table position) (length text) bytes)
 
 by_result : (bytes text : List ℕ) (byte : ℕ) (given : List TurnedPiece) (table : Table) (position to : Position) → At text (at given table position) → ReadsOn bytes
-    → next position (length text) byte ≡ Some to → (r : Result Reading KickFault) → Enters given table position to r → step (at given table position) (length text) byte ≡ r
+    → next_position position (length text) byte ≡ Some to → (r : Result Reading KickFault) → Enters given table position to r → after_byte (at given table position) (length text) byte ≡ r
     → IsReadAs (text ++ byte ∷ bytes) (read_after r (λ now. read_on now (length text + 1) bytes))
 unfolding read_on given_then table_then
 by_result bytes text byte given table position to stands later is (Ok now) (on distinct) step_to =
@@ -154,26 +157,26 @@ by_result bytes text byte given table position to stands later is (Err fault) (s
     repeats text bytes byte start turned given table position stands.entries there.entries stands.distinct stands.here there.here among
 
 by_next : (bytes text : List ℕ) (byte : ℕ) (given : List TurnedPiece) (table : Table) (position : Position) → At text (at given table position) → ReadsOn bytes
-    → (o : Option Position) → next position (length text) byte ≡ o
-    → IsReadAs (text ++ byte ∷ bytes) (read_after (step (at given table position) (length text) byte) (λ now. read_on now (length text + 1) bytes))
-unfolding read_on step
+    → (o : Option Position) → next_position position (length text) byte ≡ o
+    → IsReadAs (text ++ byte ∷ bytes) (read_after (after_byte (at given table position) (length text) byte) (λ now. read_on now (length text + 1) bytes))
+unfolding read_on after_byte
 by_next bytes text byte given table position stands later None is =
-    let stops : step (at given table position) (length text) byte ≡ Err (Unexpected (length text)) = ap (entered (at given table position) (length text)) is in
+    let stops : after_byte (at given table position) (length text) byte ≡ Err (Unexpected (length text)) = ap (reading_at (at given table position) (length text)) is in
     let read : (rest : List ℕ) → kick_text (text ++ byte ∷ rest) ≡ Err (Unexpected (length text)) =
     λ rest. stands.passes (byte ∷ rest) ∙ ap (λ r. read_after r (λ now. read_on now (length text + 1) rest)) stops in
     subst (IsReadAs (text ++ byte ∷ bytes)) (sym (ap (λ r. read_after r (λ now. read_on now (length text + 1) bytes)) stops))
     (unexpected text (byte ∷ bytes) (at given table position) stands (read bytes)
     (λ front. not_fine (length text) (kick_text ((text ++ byte ∷ []) ++ front.rest)) (ap kick_text (append_assoc text (byte ∷ []) front.rest) ∙ read front.rest)
-    (spelled_fine ((text ++ byte ∷ []) ++ front.rest) front.entries front.spelled)))
+    (spelled_fine ((text ++ byte ∷ []) ++ front.rest) front.form.0 front.form.1)))
 by_next bytes text byte given table position stands later (Some to) is =
-    let step_to : step (at given table position) (length text) byte ≡ entered (at given table position) (length text) (Some to) = ap (entered (at given table position) (length text)) is in
+    let step_to : after_byte (at given table position) (length text) byte ≡ reading_at (at given table position) (length text) (Some to) = ap (reading_at (at given table position) (length text)) is in
     subst (λ r. IsReadAs (text ++ byte ∷ bytes) (read_after r (λ now. read_on now (length text + 1) bytes))) (sym step_to)
-    (by_result bytes text byte given table position to stands later is (entered (at given table position) (length text) (Some to)) (enters given table position to (length text) stands.distinct) step_to)
+    (by_result bytes text byte given table position to stands later is (reading_at (at given table position) (length text) (Some to)) (enters given table position to (length text) stands.distinct) step_to)
 
 reads_on : (bytes : List ℕ) → ReadsOn bytes
 unfolding read_on
 reads_on [] text given table position stands = at_the_end text given table position stands
-reads_on (byte ∷ bytes) text given table position stands = by_next bytes text byte given table position stands (reads_on bytes) (next position (length text) byte) refl
+reads_on (byte ∷ bytes) text given table position stands = by_next bytes text byte given table position stands (reads_on bytes) (next_position position (length text) byte) refl
 
 -- what is read of a text is what it spells, or its fault
 pub read_as : (text : List ℕ) → IsReadAs text (kick_text text)
@@ -202,25 +205,27 @@ goes_on_from (first ∷ front) rest (byte ∷ longer) later same short =
     record { byte = on.byte; more = on.more; after = on.after; rest_is = on.rest_is; longer_is = (λ i. head i ∷ on.longer_is i) }
 
 -- a text that can go on beyond a front isn't stopped there
-beyond : (front rest longer later : List ℕ) → front ++ rest ≡ longer ++ later → length front < length longer → IsFront longer → IsStopped front rest → ⊥
+beyond : (front rest longer later : List ℕ) → front ++ rest ≡ longer ++ later → length front < length longer → IsFront SpellsSome longer → IsStopped SpellsSome front rest → ⊥
 beyond front rest longer later same short begins stops =
     let on = goes_on_from front rest longer later same short in
-    let stops_here = subst (IsStopped front) on.rest_is stops in
+    let stops_here = subst (IsStopped SpellsSome front) on.rest_is stops in
     stops_here (record {
       rest = on.more ++ begins.rest;
-      entries = begins.entries;
-      spelled = subst (λ t. SpellsEntries t begins.entries) (ap (λ t. t ++ begins.rest) on.longer_is ∙ append_assoc (front ++ on.byte ∷ []) on.more begins.rest) begins.spelled;
+      form = subst SpellsSome (ap (λ t. t ++ begins.rest) on.longer_is ∙ append_assoc (front ++ on.byte ∷ []) on.more begins.rest) begins.form;
     })
 
 -- a text with an unexpected byte spells no entries
 unexpected_unspelled : (text : List ℕ) (place : ℕ) (entries : List Entry) → IsUnexpected text place → SpellsEntries text entries → ⊥
-unexpected_unspelled text place entries is spelled = by is.rest (subst (λ t. SpellsEntries t entries) is.whole spelled) is.stops
+unexpected_unspelled text place entries is spelled = by left.rest (subst SpellsSome left.whole (entries, spelled)) left.stops
   where
-    by : (rest : List ℕ) → SpellsEntries (is.front ++ rest) entries → IsStopped is.front rest → ⊥
-    by [] whole stops = stops entries (subst (λ t. SpellsEntries t entries) (append-nil is.front) whole)
-    by (byte ∷ rest) whole stops = stops (record { rest = rest; entries = entries; spelled = subst (λ t. SpellsEntries t entries) (sym (append_assoc is.front (byte ∷ []) rest)) whole })
+    left : LeavesForm SpellsSome text place
+    left = is.leaves
 
-one_place : (text : List ℕ) (place other : ℕ) → IsUnexpected text place → IsUnexpected text other → place ≡ other
+    by : (rest : List ℕ) → SpellsSome (left.front ++ rest) → IsStopped SpellsSome left.front rest → ⊥
+    by [] whole stops = stops (subst SpellsSome (append-nil left.front) whole)
+    by (byte ∷ rest) whole stops = stops (record { rest = rest; form = subst SpellsSome (sym (append_assoc left.front (byte ∷ []) rest)) whole })
+
+one_place : (text : List ℕ) (place other : ℕ) → LeavesForm SpellsSome text place → LeavesForm SpellsSome text other → place ≡ other
 one_place text place other one two = elim (cases_lt (length one.front) (length two.front)) [
   | inl less ↦ absurd (beyond one.front one.rest two.front two.rest (sym one.whole ∙ two.whole) less two.begins one.stops)
   | inr le ↦ elim (cases_lt (length two.front) (length one.front)) [
@@ -231,7 +236,7 @@ one_place text place other one two = elim (cases_lt (length one.front) (length t
 
 unexpected_read : (text : List ℕ) (place : ℕ) (read : Result Table KickFault) → IsReadAs text read → IsUnexpected text place → read ≡ Err (Unexpected place)
 unexpected_read text place (Ok table) spells is = absurd (unexpected_unspelled text place spells.entries is spells.spelled)
-unexpected_read text place (Err (Unexpected other)) unexpected is = ap (λ n. Err (Unexpected n)) (one_place text other place unexpected is)
+unexpected_read text place (Err (Unexpected other)) unexpected is = ap (λ n. Err (Unexpected n)) (one_place text other place unexpected.leaves is.leaves)
 unexpected_read text place (Err (RepeatedEntry other)) repeated is = absurd (is.first other repeated)
 
 only_read : (text : List ℕ) (read : Result Table KickFault) → IsReadAs text read → kick_text text ≡ read

@@ -9,7 +9,8 @@ use Rattle.srs.specs.Piece.{piece_with_letter}
 use Rattle.srs.specs.Rotation.{rotation_letter}
 use Rattle.kick_file.specs.declared.turned.TurnedPiece.{TurnedPiece}
 use Rattle.kick_file.specs.Form.{Entry, SpellsEntry, SpellsEntries, offset_form, offsets_form, table_with_entry}
-use Rattle.kick_file.specs.Faults.{SpellsBefore, IsFront}
+use Rattle.lists.specs.Forms.{IsFront}
+use Rattle.kick_file.specs.Faults.{SpellsBefore, SpellsSome}
 use Rattle.kick_file.proofs.Entries.{HasFive, with_entry-five}
 
 -- entries with a `;` after each, and one more
@@ -102,7 +103,7 @@ zeros_small (suc n) = zeros_small n
 
 -- a part of an offset that may be made whole stands in a text that may be
 pub part_front : (text : List ℕ) (entries : List Entry) (turned : TurnedPiece) (cells : List Cell) (part more : List ℕ) (cell : Cell)
-    → InEntry text entries turned cells part → length cells ≤ 4 → part ++ more ≡ offset_form cell → is_small_move cell ≡ true → IsFront text
+    → InEntry text entries turned cells part → length cells ≤ 4 → part ++ more ≡ offset_form cell → is_small_move cell ≡ true → IsFront SpellsSome text
 part_front text entries turned cells part more cell stands room made small =
     let zeros = replicate (4 - length cells) origin in
     let all = cells ++ cell ∷ zeros in
@@ -117,8 +118,9 @@ part_front text entries turned cells part more cell stands room made small =
     ∙ sym (offsets_split cells cell zeros)) in
     record {
       rest = more ++ started_offsets zeros;
-      entries = entries ++ (record { turned = turned; offsets = all }) ∷ [];
-      spelled = subst (λ t. SpellsEntries t (entries ++ (record { turned = turned; offsets = all }) ∷ [])) (sym form)
-          (one_more stands.before _ entries _ stands.spelled
-          (entry_whole turned stands.letter all stands.named count (all_small cells cell zeros stands.small small (zeros_small (4 - length cells)))));
+      form = subst SpellsSome (sym form) (
+        entries ++ (record { turned = turned; offsets = all }) ∷ [],
+        one_more stands.before _ entries _ stands.spelled
+            (entry_whole turned stands.letter all stands.named count (all_small cells cell zeros stands.small small (zeros_small (4 - length cells)))),
+      );
     }

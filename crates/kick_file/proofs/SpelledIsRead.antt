@@ -13,7 +13,7 @@ use Rattle.kick_file.specs.declared.turned.TurnedPiece.{TurnedPiece}
 use Rattle.kick_file.specs.declared.position.Position.TheVariants.{Division}
 use Rattle.kick_file.specs.Form.{Entry, SpellsEntry, SpellsEntries, offsets_form, is_same, is_repeated, are_distinct, turned_of, table_with_entry, table_of_entries}
 use Rattle.kick_file.specs.Faults.{SpellsBefore, SpellsTable, Repeats}
-use Rattle.kick_file.specs.Reading.{beginning, kick_text, read_on, step}
+use Rattle.kick_file.specs.Reading.{beginning, kick_text, read_on, after_byte}
 use Rattle.kick_file.proofs.Steps.{at}
 use Rattle.kick_file.proofs.Numbers.{whole}
 use Rattle.kick_file.proofs.GivenLemmas.{is_same-symmetric, neither, not_true}
@@ -40,7 +40,7 @@ joined given turned later distinct = ap are_distinct (append_assoc given (turned
 -- the `;` after an entry
 semicolon : (given : List TurnedPiece) (table : Table) (turned : TurnedPiece) (last : ℤ × ℤ) (place : ℕ) (rest : List ℕ)
     → read_on (at given table (whole turned 5 last)) place (59 ∷ rest) ≡ read_on (at given table Division) (place + 1) rest
-unfolding read_on step
+unfolding read_on after_byte
 semicolon given table turned last place rest = refl
 
 at_end : (given : List TurnedPiece) (table : Table) (turned : TurnedPiece) (last : ℤ × ℤ) (place : ℕ) → read_on (at given table (whole turned 5 last)) place [] ≡ Ok table
@@ -141,7 +141,7 @@ front_first (byte ∷ front) letter rest = record { byte = byte; bytes = front +
 
 -- the first entry needs no `;` before it
 begins : (text : List ℕ) → HasFirst text → kick_text text ≡ read_on (at [] srs_table Division) 0 text
-unfolding read_on step
+unfolding read_on after_byte
 begins text first = ap (read_on beginning 0) first.is ∙ sym (ap (read_on (at [] srs_table Division) 0) first.is)
 
 pub table_read : (text : List ℕ) (table : Table) → SpellsTable text table → kick_text text ≡ Ok table

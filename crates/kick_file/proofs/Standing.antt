@@ -17,8 +17,9 @@ use Rattle.lists.proofs.CallerLemmas.{find-Contains, each-contained}
 use Rattle.kick_file.specs.declared.turned.TurnedPiece.{TurnedPiece}
 use Rattle.kick_file.specs.declared.position.Position.{Position}
 use Rattle.kick_file.specs.declared.position.Position.TheVariants.{Beginning, Division, Letter, Letters, Columns, Comma, Rows, Whole}
-use Rattle.kick_file.specs.Form.{Entry, SpellsEntry, SpellsEntries, signed_digit, offset_form, offsets_form, turned_of, table_with_entry, table_of_entries}
-use Rattle.kick_file.specs.Faults.{SpellsBefore, IsFront}
+use Rattle.kick_file.specs.Form.{Entry, SpellsEntry, signed_digit, offset_form, offsets_form, turned_of, table_with_entry, table_of_entries}
+use Rattle.lists.specs.Forms.{IsFront}
+use Rattle.kick_file.specs.Faults.{SpellsBefore, SpellsSome}
 use Rattle.kick_file.specs.Reading.{is_small_number, numbers, digit_of, number_with_digit}
 use Rattle.kick_file.proofs.Entries.{HasFive, put_from, put_five}
 use Rattle.kick_file.proofs.SpelledIsRead.{srs_five}
@@ -127,7 +128,7 @@ zeros : List Cell
 zeros = origin ∷ origin ∷ origin ∷ origin ∷ origin ∷ []
 
 front_with : (text before head rest : List ℕ) (entries : List Entry) (letter : ℕ) (turned : TurnedPiece) → SpellsBefore before entries → piece_with_letter letter ≡ Some turned.piece
-    → text ≡ before ++ head → head ++ rest ≡ letter ∷ rotation_letter turned.rotation ∷ 58 ∷ offsets_form zeros → IsFront text
+    → text ≡ before ++ head → head ++ rest ≡ letter ∷ rotation_letter turned.rotation ∷ 58 ∷ offsets_form zeros → IsFront SpellsSome text
 unfolding zeros
 front_with text before head rest entries letter turned spelled named whole made =
     let entry : Entry = record { turned = turned; offsets = zeros } in
@@ -135,19 +136,20 @@ front_with text before head rest entries letter turned spelled named whole made 
     ap (λ t. t ++ rest) whole ∙ append_assoc before head rest ∙ ap (λ t. before ++ t) made in
     record {
       rest = rest;
-      entries = entries ++ entry ∷ [];
-      spelled = subst (λ t. SpellsEntries t (entries ++ entry ∷ [])) (sym form)
-          (one_more before _ entries entry spelled (entry_whole turned letter zeros named refl refl));
+      form = subst SpellsSome (sym form) (
+        entries ++ entry ∷ [],
+        one_more before _ entries entry spelled (entry_whole turned letter zeros named refl refl),
+      );
     }
 
 part_goes_on : (text : List ℕ) (entries : List Entry) (given : List TurnedPiece) (table : Table) (turned : TurnedPiece) (test : ℕ) (part more : List ℕ) (cell : Cell)
-    → Part text entries given table turned test part → part ++ more ≡ offset_form cell → is_small_move cell ≡ true → IsFront text
+    → Part text entries given table turned test part → part ++ more ≡ offset_form cell → is_small_move cell ≡ true → IsFront SpellsSome text
 part_goes_on text entries given table turned test part more cell here made small =
     part_front text entries turned here.cells part more cell here.stands (omega (arith, here.number, here.most)) made small
 
-pub front_here : (text : List ℕ) (entries : List Entry) (given : List TurnedPiece) (table : Table) (position : Position) → Here text entries given table position → IsFront text
+pub front_here : (text : List ℕ) (entries : List Entry) (given : List TurnedPiece) (table : Table) (position : Position) → Here text entries given table position → IsFront SpellsSome text
 unfolding zeros
-front_here text entries given table Beginning here = record { rest = []; entries = []; spelled = append-nil text ∙ here.0 }
+front_here text entries given table Beginning here = record { rest = []; form = ([], append-nil text ∙ here.0) }
 front_here text entries given table Division here =
     front_with text text [] (73 ∷ 48 ∷ 58 ∷ offsets_form zeros) entries 73 (record { piece = I; rotation = Spawn }) here.0 refl (sym (append-nil text)) refl
 front_here text entries given table (Letter piece start) here =

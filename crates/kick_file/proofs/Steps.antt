@@ -6,26 +6,26 @@ use Rattle.srs.specs.Kick.{Table}
 use Rattle.kick_file.specs.declared.fault.KickFault.{KickFault}
 use Rattle.kick_file.specs.declared.turned.TurnedPiece.{TurnedPiece}
 use Rattle.kick_file.specs.declared.position.Position.{Position}
-use Rattle.kick_file.specs.Reading.{Reading, AnswersTable, kick_text, step, ended, read_on, read_after}
+use Rattle.kick_file.specs.Reading.{Reading, AnswersTable, kick_text, after_byte, ended, read_on, read_after}
 
 -- the loop of `parse`: the byte at a place is taken, or refused, or there is none
 pub goes_on : (bytes text : List ℕ) (place : ℕ) (reading now : Reading) → bytes ≡ text → place < length bytes
-    → kick_text text ≡ read_on reading place (drop place text) → step reading place (get_or bytes place 0) ≡ Ok now
+    → kick_text text ≡ read_on reading place (drop place text) → after_byte reading place (get_or bytes place 0) ≡ Ok now
     → kick_text text ≡ read_on now (place + 1) (drop (place + 1) text)
 unfolding read_on
 goes_on bytes text place reading now same within so_far is =
     let far : place < length text = omega (arith, within, ap length same) in
     so_far ∙ ap (read_on reading place) (drop_more text place 0 far)
-    ∙ ap (λ r. read_after r (λ next. read_on next (place + 1) (drop (place + 1) text))) (ap (λ bs. step reading place (get_or bs place 0)) (sym same) ∙ is)
+    ∙ ap (λ r. read_after r (λ next. read_on next (place + 1) (drop (place + 1) text))) (ap (λ bs. after_byte reading place (get_or bs place 0)) (sym same) ∙ is)
 
 pub stops : (bytes text : List ℕ) (place : ℕ) (reading : Reading) (fault : KickFault) → bytes ≡ text → place < length bytes
-    → kick_text text ≡ read_on reading place (drop place text) → step reading place (get_or bytes place 0) ≡ Err fault
+    → kick_text text ≡ read_on reading place (drop place text) → after_byte reading place (get_or bytes place 0) ≡ Err fault
     → kick_text text ≡ Err fault
 unfolding read_on
 stops bytes text place reading fault same within so_far is =
     let far : place < length text = omega (arith, within, ap length same) in
     so_far ∙ ap (read_on reading place) (drop_more text place 0 far)
-    ∙ ap (λ r. read_after r (λ next. read_on next (place + 1) (drop (place + 1) text))) (ap (λ bs. step reading place (get_or bs place 0)) (sym same) ∙ is)
+    ∙ ap (λ r. read_after r (λ next. read_on next (place + 1) (drop (place + 1) text))) (ap (λ bs. after_byte reading place (get_or bs place 0)) (sym same) ∙ is)
 
 pub ends : (bytes text : List ℕ) (place : ℕ) (reading : Reading) (result : Result Rules KickFault) → bytes ≡ text → place ≡ length bytes
     → kick_text text ≡ read_on reading place (drop place text) → AnswersTable result (ended reading.table (length bytes) reading.position)
@@ -45,7 +45,7 @@ at given table position = record { given = given; table = table; position = posi
 pub record Passes («from» : Reading) (front : List ℕ) (to : Reading) : Type 0 where
   pub on : (place : ℕ) (rest : List ℕ) → read_on «from» place (front ++ rest) ≡ read_on to (place + length front) rest
 
-pub one_byte : («from» : Reading) (byte : ℕ) (to : Reading) → ((place : ℕ) → step «from» place byte ≡ Ok to) → Passes «from» (byte ∷ []) to
+pub one_byte : («from» : Reading) (byte : ℕ) (to : Reading) → ((place : ℕ) → after_byte «from» place byte ≡ Ok to) → Passes «from» (byte ∷ []) to
 unfolding read_on
 one_byte «from» byte to is = record { on = λ place rest. ap (λ r. read_after r (λ next. read_on next (place + 1) rest)) (is place) }
 

@@ -1,5 +1,6 @@
 -- What a text that spells no table is refused for.
 use Rattle.std.specs.Prelude.{◌≡◌, ℕ, IsTrue, List, [], ◌∷◌, ◌++◌, length, Some, Result, Ok, Err}
+use Rattle.lists.specs.Forms.{LeavesForm}
 use Rattle.srs.specs.Kick.{Table}
 use Rattle.srs.specs.Piece.{piece_with_letter}
 use Rattle.srs.specs.Rotation.{rotation_letter}
@@ -36,26 +37,14 @@ pub record Repeats (text : List ℕ) (place : ℕ) : Type 0 where
   pub repeated : IsTrue (is_repeated (turned_of entries) turned)
   pub starts : place ≡ length front
 
--- some text that begins with this one spells entries, equal pieces and rotations among them or not
-pub record IsFront (text : List ℕ) : Type 0 where
-  pub rest : List ℕ
-  pub entries : List Entry
-  pub spelled : SpellsEntries (text ++ rest) entries
-
--- no text goes on so
-abbrev pub IsStopped : List ℕ → List ℕ → Type 0
-IsStopped front [] = (entries : List Entry) → SpellsEntries front entries → ⊥
-IsStopped front (byte ∷ rest) = IsFront (front ++ byte ∷ []) → ⊥
+-- the text spells some entries, equal pieces and rotations among them or not
+abbrev pub SpellsSome : List ℕ → Type 0
+SpellsSome text = (entries : List Entry) × SpellsEntries text entries
 
 -- nothing is repeated, and at this place stands a byte that no text of entries goes on with, or the text ends there
 -- and spells no entries
 pub record IsUnexpected (text : List ℕ) (place : ℕ) : Type 0 where
-  pub front : List ℕ
-  pub rest : List ℕ
-  pub whole : text ≡ front ++ rest
-  pub stands : place ≡ length front
-  pub begins : IsFront front
-  pub stops : IsStopped front rest
+  pub leaves : LeavesForm SpellsSome text place
   pub first : (other : ℕ) → Repeats text other → ⊥
 
 -- what a text is read as

@@ -1,6 +1,6 @@
 // Where a table text stands between two bytes.
 ghost use Rattle.std.specs.Prelude.{◌≡◌, IsTrue, IfSome};
-ghost use Rattle.kick_file.specs.Reading.{next, number_with_digit, is_sound};
+ghost use Rattle.kick_file.specs.Reading.{next_position, number_with_digit, is_sound_position};
 
 use crate::turned::TurnedPiece;
 use srs::{Offset, Piece, Rotation};
@@ -68,9 +68,9 @@ fn number(digit: u8, is_negative: bool) -> Option<i8>
 impl Position {
     /// Where the text stands after this byte, which is at a place. `None` exactly where no text of entries goes on so.
     pub fn next(self, place: usize, byte: u8) -> Option<Position>
-        requires { IsTrue (is_sound self) }
-        ensures next { result ≡ next self place byte }
-        ensures sound { IfSome result (λ position. IsTrue (is_sound position)) }
+        requires { IsTrue (is_sound_position self) }
+        ensures next { result ≡ next_position self place byte }
+        ensures sound { IfSome result (λ position. IsTrue (is_sound_position position)) }
     {
         match self {
             Position::Beginning | Position::Division => Some(Position::Letter {
@@ -119,9 +119,9 @@ impl Position {
 
 /// The columns of an offset, or the `-` before them.
 fn columns(turned: TurnedPiece, test: u8, is_negative: bool, byte: u8) -> Option<Position>
-    requires { IsTrue (is_sound (Position.Columns turned test is_negative)) }
-    ensures next { result ≡ next (Position.Columns turned test is_negative) 0 byte }
-    ensures sound { IfSome result (λ position. IsTrue (is_sound position)) }
+    requires { IsTrue (is_sound_position (Position.Columns turned test is_negative)) }
+    ensures next { result ≡ next_position (Position.Columns turned test is_negative) 0 byte }
+    ensures sound { IfSome result (λ position. IsTrue (is_sound_position position)) }
 {
     if byte == b'-' && !is_negative {
         return Some(Position::Columns {
@@ -136,9 +136,9 @@ fn columns(turned: TurnedPiece, test: u8, is_negative: bool, byte: u8) -> Option
 
 /// The rows of an offset, or the `-` before them.
 fn rows(turned: TurnedPiece, test: u8, dx: i8, is_negative: bool, byte: u8) -> Option<Position>
-    requires { IsTrue (is_sound (Position.Rows turned test dx is_negative)) }
-    ensures next { result ≡ next (Position.Rows turned test dx is_negative) 0 byte }
-    ensures sound { IfSome result (λ position. IsTrue (is_sound position)) }
+    requires { IsTrue (is_sound_position (Position.Rows turned test dx is_negative)) }
+    ensures next { result ≡ next_position (Position.Rows turned test dx is_negative) 0 byte }
+    ensures sound { IfSome result (λ position. IsTrue (is_sound_position position)) }
 {
     if byte == b'-' && !is_negative {
         return Some(Position::Rows {

@@ -2,7 +2,7 @@
 ghost use Rattle.std.specs.Prelude.{◌≡◌, IsOk, IsTrue, Ok, Err, Some};
 ghost use Rattle.srs.specs.Rules.{table_of};
 ghost use Rattle.kick_file.specs.Form.{are_distinct, is_repeated};
-ghost use Rattle.kick_file.specs.Reading.{beginning, step, entered, ended, kick_text, MovesOn, AnswersTable, is_sound};
+ghost use Rattle.kick_file.specs.Reading.{beginning, after_byte, reading_at, ended, kick_text, MovesOn, AnswersTable, is_sound_position};
 
 use crate::fault::KickFault;
 use crate::position::Position;
@@ -18,7 +18,7 @@ struct Reader {
     rules: Rules,
     position: Position,
     ghost distinct: { IsTrue (are_distinct given.items) },
-    ghost sound: { IsTrue (is_sound position) },
+    ghost sound: { IsTrue (is_sound_position position) },
 }
 
 impl Reader {
@@ -43,9 +43,9 @@ impl Reader {
     }
 
     /// Takes the next byte, which is at a place of the text.
-    #[tactic(auto, unfolding(crate::specs::Reading::step))]
+    #[tactic(auto, unfolding(crate::specs::Reading::after_byte))]
     fn take(&mut self, place: usize, byte: u8) -> Result<(), KickFault>
-        ensures { MovesOn result (step (reading_of self.old) place byte) (reading_of self.new) }
+        ensures { MovesOn result (after_byte (reading_of self.old) place byte) (reading_of self.new) }
     {
         match self.position.next(place, byte) {
             Some(position) => self.enter(position),
@@ -55,8 +55,8 @@ impl Reader {
 
     /// Goes on to where the text stands now.
     fn enter(&mut self, position: Position) -> Result<(), KickFault>
-        requires { IsTrue (is_sound position) }
-        ensures { MovesOn result (entered (reading_of self.old) 0 (Some position)) (reading_of self.new) }
+        requires { IsTrue (is_sound_position position) }
+        ensures { MovesOn result (reading_at (reading_of self.old) 0 (Some position)) (reading_of self.new) }
     {
         match position {
             Position::Letters { turned, start } => return self.begin(turned, start),
@@ -82,7 +82,7 @@ impl Reader {
 
     /// Begins the entry of this piece in this rotation, which stands at the place `start`.
     fn begin(&mut self, turned: TurnedPiece, start: usize) -> Result<(), KickFault>
-        ensures { MovesOn result (entered (reading_of self.old) 0 (Some (Position.Letters turned start)))
+        ensures { MovesOn result (reading_at (reading_of self.old) 0 (Some (Position.Letters turned start)))
             (reading_of self.new) }
     {
         if self.has(turned) {

@@ -7,7 +7,8 @@ use Rattle.queue_pattern.specs.declared.element.Element.{Element}
 use Rattle.queue_pattern.specs.Queues.{pieces_in}
 use Rattle.queue_pattern.specs.Spelling.{SpellsLetters, SpellsSet, SpellsChosen, SpellsElement, SpellsElements}
 use Rattle.queue_pattern.specs.Spelling as spelling
-use Rattle.queue_pattern.specs.Form.{is_letter, AreLetters, HasSetForm, all, these, others, HasChosenForm, one, digit, every, HasElementForm, letter, chosen, HasForm, none, gap, element, IsStopped}
+use Rattle.lists.specs.Forms.{IsStopped}
+use Rattle.queue_pattern.specs.Form.{is_letter, AreLetters, HasSetForm, all, these, others, HasChosenForm, one, digit, every, HasElementForm, letter, chosen, HasForm, none, gap, element}
 
 pub letter_of : (byte : ℕ) (piece : Piece) → piece_with_letter byte ≡ Some piece → is_letter byte ≡ true
 letter_of byte piece is = ap is_some is
@@ -45,7 +46,7 @@ forms_join text more (element {front = front} {rest = rest} is form) after =
     subst HasForm (sym (append_assoc front rest more)) (element is (forms_join rest more form after))
 
 -- at a byte that leaves the form, nothing of the form goes on
-pub no_byte : (whole begun more : List ℕ) (byte : ℕ) → HasForm whole → IsStopped (whole ++ begun) (byte ∷ more) → (rest : List ℕ) → HasForm (begun ++ byte ∷ rest) → ⊥
+pub no_byte : (whole begun more : List ℕ) (byte : ℕ) → HasForm whole → IsStopped HasForm (whole ++ begun) (byte ∷ more) → (rest : List ℕ) → HasForm (begun ++ byte ∷ rest) → ⊥
 no_byte whole begun more byte form stops rest goes =
     stops (record {
       rest = rest;
@@ -53,7 +54,7 @@ no_byte whole begun more byte form stops rest goes =
           (forms_join whole (begun ++ byte ∷ rest) form goes);
     })
 
-pub no_end : (whole begun : List ℕ) → HasForm whole → IsStopped (whole ++ begun) [] → HasForm begun → ⊥
+pub no_end : (whole begun : List ℕ) → HasForm whole → IsStopped HasForm (whole ++ begun) [] → HasForm begun → ⊥
 no_end whole begun form stops goes = stops (forms_join whole begun form goes)
 
 -- a test that can't pass fails

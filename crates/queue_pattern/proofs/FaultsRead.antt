@@ -11,7 +11,8 @@ use Rattle.queue_pattern.specs.declared.fault.PatternFault.TheVariants.{Unexpect
 use Rattle.queue_pattern.specs.Queues.{is_in, pieces_in}
 use Rattle.queue_pattern.specs.Grammar.{Elements, outside, opened, listing, closed, choosing, choice, before, is_gap, elements, elements_from}
 use Rattle.queue_pattern.specs.Spelling.{SpellsLetters, SpellsSet, SpellsElements}
-use Rattle.queue_pattern.specs.Form.{is_letter, AreLetters, HasForm, IsStopped}
+use Rattle.lists.specs.Forms.{IsStopped}
+use Rattle.queue_pattern.specs.Form.{is_letter, AreLetters, HasForm}
 use Rattle.queue_pattern.specs.Form as form
 use Rattle.queue_pattern.specs.Faults.{BeginsSet, these, others, BeginsElement, nothing, IsUnexpectedAt, IsRepeatedAt, IsTooManyAt, IsUnmarked}
 use Rattle.queue_pattern.specs.Faults as fault
@@ -73,11 +74,11 @@ clear_by : (whole rest : List ℕ) → NoMark rest → Clear whole rest
 clear_by whole rest free = record { free = λ done front es set joined spelled is. free }
 
 -- a mark behind a bare set is of the form
-stopped_free : (whole rest : List ℕ) → IsStopped whole rest → (done front : List ℕ) (es : List Element) (set : ℕ) → whole ≡ done ++ front → SpellsElements done es → SpellsSet front set → NoMark rest
+stopped_free : (whole rest : List ℕ) → IsStopped HasForm whole rest → (done front : List ℕ) (es : List Element) (set : ℕ) → whole ≡ done ++ front → SpellsElements done es → SpellsSet front set → NoMark rest
 stopped_free whole [] stops done front es set joined spelled is = tt
 stopped_free whole (byte ∷ rest) stops done front es set joined spelled is =
     let bad : (more back : List ℕ) → form.HasChosenForm back → byte ∷ more ≡ back → ⊥ = λ more back says same.
-    no_byte done front rest byte (elements_form done es spelled) (subst (λ w. IsStopped w (byte ∷ rest)) joined stops) more
+    no_byte done front rest byte (elements_form done es spelled) (subst (λ w. IsStopped HasForm w (byte ∷ rest)) joined stops) more
     (subst HasForm (append-nil (front ++ byte ∷ more)) (form.element (form.chosen (set_form front set is) (subst form.HasChosenForm (sym same) says)) form.none)) in (
       fails (byte == 112) (λ is. bad (49 ∷ []) (112 ∷ 49 ∷ []) (form.digit {n = 1} (inl refl) (omega arith) (omega arith)) (ap (λ b. b ∷ 49 ∷ []) (eqb-true byte 112 is))),
       fails (byte == 80) (λ is. bad (49 ∷ []) (80 ∷ 49 ∷ []) (form.digit {n = 1} (inr refl) (omega arith) (omega arith)) (ap (λ b. b ∷ 49 ∷ []) (eqb-true byte 80 is))),
@@ -97,7 +98,7 @@ behind whole begun rest es f spelled clear is =
 
 -- ---- a byte that leaves the form
 
-outside_stops : (whole rest : List ℕ) (place : ℕ) → HasForm whole → IsStopped (whole ++ []) rest → elements_from outside place rest ≡ Err (Unexpected place)
+outside_stops : (whole rest : List ℕ) (place : ℕ) → HasForm whole → IsStopped HasForm (whole ++ []) rest → elements_from outside place rest ≡ Err (Unexpected place)
 unfolding elements_from
 outside_stops whole [] place of_form stops = absurd (no_end whole [] of_form stops form.none)
 outside_stops whole (byte ∷ rest) place of_form stops =
@@ -122,7 +123,7 @@ has_some [] byte e = cc
 has_some (first ∷ letters) byte e = cc
 
 listing_stops : (whole : List ℕ) (except : Bool) (letters rest : List ℕ) (listed start place : ℕ) → HasForm whole → SpellsLetters 0 letters listed
-    → IsStopped (whole ++ (opening except ++ letters)) rest → elements_from (listing start except listed) place rest ≡ Err (Unexpected place)
+    → IsStopped HasForm (whole ++ (opening except ++ letters)) rest → elements_from (listing start except listed) place rest ≡ Err (Unexpected place)
 unfolding elements_from
 listing_stops whole except letters [] listed start place of_form spelled stops = refl
 listing_stops whole except letters (byte ∷ rest) listed start place of_form spelled stops =
@@ -142,7 +143,7 @@ listing_stops whole except letters (byte ∷ rest) listed start place of_form sp
     some_by (byte ∷ letters) listed spelled some e = cc
 
 choosing_stops : (whole front rest : List ℕ) (set mark start place : ℕ) → HasForm whole → SpellsSet front set → (mark ≡ 112) ⊎ (mark ≡ 80)
-    → IsStopped (whole ++ (front ++ mark ∷ [])) rest → elements_from (choosing start set) place rest ≡ Err (Unexpected place)
+    → IsStopped HasForm (whole ++ (front ++ mark ∷ [])) rest → elements_from (choosing start set) place rest ≡ Err (Unexpected place)
 unfolding elements_from
 choosing_stops whole front [] set mark start place of_form is marks stops = refl
 choosing_stops whole front (byte ∷ rest) set mark start place of_form is marks stops =
@@ -169,14 +170,14 @@ set_free front more set is = go (set_form front set is)
     go (form.others some are) = (refl, refl, refl)
 
 -- `[` at whose end the form is left isn't followed by `^`
-caret_free : (whole letters rest : List ℕ) (listed : ℕ) → HasForm whole → SpellsLetters 0 letters listed → IsStopped (whole ++ (91 ∷ letters)) rest → NoCaret (letters ++ rest)
+caret_free : (whole letters rest : List ℕ) (listed : ℕ) → HasForm whole → SpellsLetters 0 letters listed → IsStopped HasForm (whole ++ (91 ∷ letters)) rest → NoCaret (letters ++ rest)
 caret_free whole (byte ∷ letters) rest listed of_form spelled stops = not_letter byte 94 spelled.0 spelled.1 refl
 caret_free whole [] [] listed of_form spelled stops = tt
 caret_free whole [] (byte ∷ rest) listed of_form spelled stops = fails (byte == 94)
     (λ is. no_byte whole (91 ∷ []) rest byte of_form stops (73 ∷ 93 ∷ [])
     (subst (λ b. HasForm (91 ∷ b ∷ 73 ∷ 93 ∷ [])) (sym (eqb-true byte 94 is)) (listed_form true (73 ∷ []) (λ e. cc) (All-cons (λ b. is_letter b ≡ true) 73 [] refl (All-nil (λ b. is_letter b ≡ true))))))
 
-listing_is : (whole : List ℕ) (except : Bool) (letters rest : List ℕ) (listed place : ℕ) → HasForm whole → SpellsLetters 0 letters listed → IsStopped (whole ++ (opening except ++ letters)) rest
+listing_is : (whole : List ℕ) (except : Bool) (letters rest : List ℕ) (listed place : ℕ) → HasForm whole → SpellsLetters 0 letters listed → IsStopped HasForm (whole ++ (opening except ++ letters)) rest
     → elements_from outside place ((opening except ++ letters) ++ rest) ≡ Err (Unexpected (place + length (opening except ++ letters)))
 listing_is whole true letters rest listed place of_form spelled stops =
     listing_read true letters rest listed place spelled (λ e. cc)
@@ -198,17 +199,17 @@ marked_read front rest set mark place is marks =
     marks_read (inl small) = rw small refl
     marks_read (inr large) = rw large refl
 
-unexpected_in : (whole begun rest : List ℕ) (es : List Element) → SpellsElements whole es → BeginsElement begun → IsStopped (whole ++ begun) rest
+unexpected_in : (whole begun rest : List ℕ) (es : List Element) → SpellsElements whole es → BeginsElement begun → IsStopped HasForm (whole ++ begun) rest
     → elements ((whole ++ begun) ++ rest) ≡ Err (Unexpected (length (whole ++ begun)))
 unexpected_in whole begun rest es spelled nothing stops =
-    behind whole [] rest es _ spelled (record { free = stopped_free whole rest (subst (λ w. IsStopped w rest) (append-nil whole) stops) })
+    behind whole [] rest es _ spelled (record { free = stopped_free whole rest (subst (λ w. IsStopped HasForm w rest) (append-nil whole) stops) })
     (outside_stops whole rest (0 + length whole) (elements_form whole es spelled) stops)
     ∙ ap (λ p. Err (Unexpected p)) (omega (arith, length-append whole []))
 unexpected_in whole begun rest es spelled (fault.listing {listed = listed} begins) stops =
     let at = opens begun listed begins in
     subst (λ b. elements ((whole ++ b) ++ rest) ≡ Err (Unexpected (length (whole ++ b)))) (sym at.is)
     (behind whole (opening at.except ++ at.letters) rest es _ spelled (clear_by whole _ (subst NoMark (sym (append_assoc (opening at.except) at.letters rest)) (opening_free at.except (at.letters ++ rest))))
-    (listing_is whole at.except at.letters rest listed (0 + length whole) (elements_form whole es spelled) at.spelled (subst (λ b. IsStopped (whole ++ b) rest) at.is stops))
+    (listing_is whole at.except at.letters rest listed (0 + length whole) (elements_form whole es spelled) at.spelled (subst (λ b. IsStopped HasForm (whole ++ b) rest) at.is stops))
     ∙ ap (λ p. Err (Unexpected p)) (omega (arith, length-append whole (opening at.except ++ at.letters))))
 unexpected_in whole begun rest es spelled (fault.choosing {front = front} {set = set} {mark = mark} is marks) stops =
     behind whole (front ++ mark ∷ []) rest es _ spelled (clear_by whole _ (subst NoMark (sym (append_assoc front (mark ∷ []) rest)) (set_free front (mark ∷ rest) set is)))

@@ -3,7 +3,8 @@ use Rattle.std.proofs.Common.{◌≡◌, ℕ, ◌+◌, Bool, true, false, if◌t
 use Rattle.std.specs.Option.{option_map}
 use Rattle.queue_pattern.specs.declared.fault.PatternFault.TheVariants.{Unexpected}
 use Rattle.queue_pattern.specs.Grammar.{outside, elements}
-use Rattle.queue_pattern.specs.Form.{HasForm, IsStopped, LeavesForm}
+use Rattle.lists.specs.Forms.{IsStopped, LeavesForm}
+use Rattle.queue_pattern.specs.Form.{HasForm}
 use Rattle.queue_pattern.proofs.Phases.{Phase, between, next, is_end, stop, stop_after, Agrees, agrees}
 use Rattle.queue_pattern.proofs.FormPhases.{Follows, follows_before, ending, ending_follows, end_follows}
 use Rattle.queue_pattern.proofs.FormFollowed.{leads_on, ends}
@@ -95,12 +96,12 @@ is_ending [] phase = at_the_end phase (is_end phase) refl
 is_ending (byte ∷ bytes) phase = at_byte phase byte bytes (next phase byte) refl (is_ending bytes)
 
 -- the form is left where its fronts say so
-to_stopped : (front rest : List ℕ) → StopsAt between front rest → IsStopped front rest
+to_stopped : (front rest : List ℕ) → StopsAt between front rest → IsStopped HasForm front rest
 to_stopped front [] stops = stops
 to_stopped front (byte ∷ rest) stops =
     λ go. stops go.rest (subst HasForm (append_assoc front (byte ∷ []) go.rest) go.form)
 
-leaves_form : (text : List ℕ) (k : ℕ) → IsLeft between text k → LeavesForm text k
+leaves_form : (text : List ℕ) (k : ℕ) → IsLeft between text k → LeavesForm HasForm text k
 leaves_form text k left = record {
   front = left.front;
   rest = left.rest;
@@ -111,7 +112,7 @@ leaves_form text k left = record {
 }
 
 -- so it leaves it there
-pub left-from_unexpected : (text : List ℕ) (place : ℕ) → elements text ≡ Err (Unexpected place) → LeavesForm text place
+pub left-from_unexpected : (text : List ℕ) (place : ℕ) → elements text ≡ Err (Unexpected place) → LeavesForm HasForm text place
 left-from_unexpected text place read =
     let agreed : Agrees (Err (Unexpected place)) 0 (stop between text) =
     subst (λ found. Agrees found 0 (stop between text)) read (agrees text outside 0 tt) in

@@ -5,7 +5,8 @@ use Rattle.srs.specs.Piece.{piece_with_letter}
 use Rattle.queue_pattern.specs.declared.element.Element.{Element}
 use Rattle.queue_pattern.specs.declared.fault.PatternFault.{PatternFault}
 use Rattle.queue_pattern.specs.declared.fault.PatternFault.TheVariants.{Unexpected, RepeatedPiece, TooManyChosen, PatternTooLong, TooManyQueues}
-use Rattle.queue_pattern.specs.Form.{IsStopped}
+use Rattle.lists.specs.Forms.{IsStopped}
+use Rattle.queue_pattern.specs.Form.{HasForm}
 use Rattle.queue_pattern.specs.Queues.{is_in, pieces_in, queue_count, queue_len}
 use Rattle.queue_pattern.specs.Spelling.{SpellsChosen, SpellsElements, SpellsLetters, SpellsSet}
 
@@ -31,7 +32,7 @@ pub record IsUnexpectedAt (text : List ℕ) (place : ℕ) : Type 0 where
   pub elements : List Element
   pub spelled : SpellsElements whole elements
   pub begins : BeginsElement begun
-  pub stops : IsStopped (whole ++ begun) rest
+  pub stops : IsStopped HasForm (whole ++ begun) rest
   pub stands : place ≡ length (whole ++ begun)
 
 -- whole elements and a bracket stand before the letter of a piece that the bracket has

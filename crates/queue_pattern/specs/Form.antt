@@ -1,5 +1,4 @@
--- The form of pattern texts, whatever pieces brackets list and however many of them are chosen, and where a text
--- leaves it.
+-- The form of pattern texts, whatever pieces brackets list and however many of them are chosen.
 use Rattle.std.specs.Prelude.{◌≡◌, ◌≢◌, ℕ, ◌+◌, ◌≤◌, true, ◌⊎◌, Bool, is_some, List, [], ◌∷◌, ◌++◌, length, All}
 use Rattle.srs.specs.Piece.{piece_with_letter}
 use Rattle.queue_pattern.specs.Grammar.{is_gap}
@@ -33,23 +32,3 @@ pub data HasForm : List ℕ → Type 0 where
   none : HasForm []
   gap : {byte : ℕ} {text : List ℕ} → is_gap byte ≡ true → HasForm text → HasForm (byte ∷ text)
   element : {front rest : List ℕ} → HasElementForm front → HasForm rest → HasForm (front ++ rest)
-
--- some text of the form begins with this one
-pub record IsFront (text : List ℕ) : Type 0 where
-  pub rest : List ℕ
-  pub form : HasForm (text ++ rest)
-
--- no text of the form goes on so
-abbrev pub IsStopped : List ℕ → List ℕ → Type 0
-IsStopped front [] = HasForm front → ⊥
-IsStopped front (byte ∷ rest) = IsFront (front ++ byte ∷ []) → ⊥
-
--- at this place stands the first byte that no text of the form goes on with, or the text ends there and isn't of the
--- form
-pub record LeavesForm (text : List ℕ) (place : ℕ) : Type 0 where
-  pub front : List ℕ
-  pub rest : List ℕ
-  pub whole : text ≡ front ++ rest
-  pub stands : place ≡ length front
-  pub begins : IsFront front
-  pub stops : IsStopped front rest

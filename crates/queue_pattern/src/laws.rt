@@ -1,12 +1,13 @@
 // Laws of the definitions: functions with an empty body, whose contract is the law.
 ghost use Rattle.std.specs.Prelude.{◌≡◌, ◌≢◌, ◌↔◌, ℕ, ◌<◌, ◌≤◌, List, Ok, Err, All, length, slice_get};
 ghost use Rattle.std.specs.List.Sorted.{IsStrictlySortedBy};
+ghost use Rattle.lists.specs.Forms.{LeavesForm};
 ghost use Rattle.queue_pattern.specs.declared.element.Element.{Element};
 ghost use Rattle.queue_pattern.specs.declared.fault.PatternFault.{PatternFault};
 ghost use Rattle.queue_pattern.specs.declared.fault.PatternFault.TheVariants.{Unexpected};
 ghost use Rattle.queue_pattern.specs.declared.pattern.Pattern.{Pattern};
 ghost use Rattle.queue_pattern.specs.Faults.{IsPatternFault, IsUnexpectedAt};
-ghost use Rattle.queue_pattern.specs.Form.{LeavesForm};
+ghost use Rattle.queue_pattern.specs.Form.{HasForm};
 ghost use Rattle.queue_pattern.specs.Grammar;
 ghost use Rattle.queue_pattern.specs.Order.{queue_cmp};
 ghost use Rattle.queue_pattern.specs.Pattern.{elements_of};
@@ -62,5 +63,5 @@ pub fn unexpected_bytes_leave_the_form()
     ensures exact { (text : List ℕ) (place : ℕ) →
         (Grammar.elements text ≡ Err (Unexpected place)) ↔ IsUnexpectedAt text place }
     ensures only { (text : List ℕ) (place : ℕ) → Grammar.elements text ≡ Err (Unexpected place)
-        → LeavesForm text place }
+        → LeavesForm HasForm text place }
 {}

@@ -1,5 +1,5 @@
 -- The first offset and those so far are written.
-use Rattle.std.proofs.Common.{◌≡◌, ◌∷◌, ◌++◌, map, take}
+use Rattle.std.proofs.Common.{◌≡◌, ◌∷◌, ◌++◌, take}
 use Rattle.std.specs.List.{flat_map}
 use Rattle.srs.specs.Kick.{pair_of}
 use Rattle.kick_file.specs.Form.{offset_form}
