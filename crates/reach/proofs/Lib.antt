@@ -26,6 +26,7 @@ mod LanePlaceLemmas
 mod LowLemmas
 mod WordLemmas
 mod NumberLemmas
+mod WordsInUse
 mod PlaceNumbers
 mod TakeLemmas
 mod LaneTests

@@ -9,7 +9,7 @@ use Rattle.srs.specs.Rotation.{rotation_place}
 use Rattle.srs.proofs.CallerLemmas.{rotation_place-injective}
 use Rattle.reach.specs.declared.numbers.Numbers.{Numbers}
 use Rattle.reach.specs.FourRows.{IsFourRows}
-use Rattle.reach.specs.Numbers.{has_number, number_at, is_number, states_in, IsFirstNumber, NoNumber, IsNumberFrom}
+use Rattle.reach.specs.Numbers.{has_number, number_of_state, is_named, states_in, IsFirstNumber, NoNumber, IsNumberFrom}
 use Rattle.reach.specs.States.{States}
 use Rattle.reach.proofs.FieldLemmas.{LiesWithin}
 
@@ -105,15 +105,9 @@ module _ (numbers : Numbers) (at : ℕ) (before : (w : ℕ) → w < at → get_o
   pub none_at_all : 24 ≤ at → NoNumber numbers 0
   none_at_all all = record { none = λ m small after has. none_before_word m after (omega arith) has }
 
-  pub words_before : get_or numbers.words at 0 ≡ 0 → (w : ℕ) → w < at + 1 → get_or numbers.words w 0 ≡ 0
-  words_before none w within = elim (cases_lt w at) [
-    | inl old ↦ before w old
-    | inr new ↦ let same : at ≡ w = omega arith in ap (λ w. get_or numbers.words w 0) (sym same) ∙ none
-  ]
-
 -- a set whose word was changed at one bit
 pub without_number : (old new : Numbers) (at bit word : ℕ) → length old.words ≡ 24 → at < 24 → bit < 64 → new.words ≡ set old.words at word → ((k : ℕ) → k < 64 → has_bit word k ≡ (has_bit (get_or old.words at 0) k && not (k == bit))) →
-    (n : ℕ) → n < 1536 → has_number new n ≡ (has_number old n && not (is_number (Some (64 * at + bit)) n))
+    (n : ℕ) → n < 1536 → has_number new n ≡ (has_number old n && not (is_named (Some (64 * at + bit)) n))
 unfolding has_number
 without_number old new at bit word size small within is bits n few = elim (cases_eq (n / 64) at) [
   | inl here ↦
@@ -137,17 +131,14 @@ without_number old new at bit word size small within is bits n few = elim (cases
       | inr apart ↦ ne_eqb _ _ apart ∙ sym (ne_eqb _ _ (λ e. apart (omega arith)))
     ]
 
-pub words_before-set : (old : List ℕ) (at word : ℕ) → ((w : ℕ) → w < at → get_or old w 0 ≡ 0) → (w : ℕ) → w < at → get_or (set old at word) w 0 ≡ 0
-words_before-set old at word before w below = let apart : w ≢ at = omega arith in rw get_or-set_other (before w below)
-
 -- words that have the rows of the boards
 pub states_by : (numbers : Numbers) (S : States) → ((r : Rotation) → LiesWithin (S r) 24) → ((w : ℕ) → w < 24 → (r : Rotation) → rotation_place r ≡ w / 6 → IsFourRows (S r) (4 * (w % 6)) (get_or numbers.words w 0)) → ((r : Rotation) → rotation_place r < 4) → states_in numbers ≡ S
 unfolding states_in has_number
 states_by numbers S lies rows few = fun_ext (λ r. fun_ext (λ x. fun_ext (λ y. same r x y)))
   where
-    at : (r : Rotation) (x y : ℕ) → x < 16 → y < 24 → has_bit (get_or numbers.words (number_at (rotation_place r) y x / 64) 0) (number_at (rotation_place r) y x % 64) ≡ S r x y
+    at : (r : Rotation) (x y : ℕ) → x < 16 → y < 24 → has_bit (get_or numbers.words (number_of_state (rotation_place r) y x / 64) 0) (number_of_state (rotation_place r) y x % 64) ≡ S r x y
     at r x y column row =
-        let n = number_at (rotation_place r) y x in
+        let n = number_of_state (rotation_place r) y x in
         let place = few r in
         let w : n / 64 < 24 = omega arith in
         let turn : rotation_place r ≡ n / 64 / 6 = omega arith in
@@ -249,10 +240,10 @@ keeps_none old rows w word none low k within =
     and_none true = sym (le-ltb k 0 (omega arith))
     and_none false = refl
 
-pub keeps_rows : (old new : Numbers) (rows : List ℕ) → ((w : ℕ) → w < 24 → KeepsRows old rows w (get_or new.words w 0)) → (place y x : ℕ) → place < 4 → y < 24 → x < 16 → has_number new (number_at place y x) ≡ (has_number old (number_at place y x) && nat_lt y (get_or rows place 0))
+pub keeps_rows : (old new : Numbers) (rows : List ℕ) → ((w : ℕ) → w < 24 → KeepsRows old rows w (get_or new.words w 0)) → (place y x : ℕ) → place < 4 → y < 24 → x < 16 → has_number new (number_of_state place y x) ≡ (has_number old (number_of_state place y x) && nat_lt y (get_or rows place 0))
 unfolding has_number
 keeps_rows old new rows keeps place y x few row column =
-    let n = number_at place y x in
+    let n = number_of_state place y x in
     let turn : n / 64 / 6 ≡ place = omega arith in
     let rest : n / 64 % 6 ≡ y / 4 = omega arith in
     let bit : n % 64 ≡ 16 * (y % 4) + x = omega arith in

@@ -17,7 +17,7 @@ use Rattle.srs.proofs.CallerLemmas.{is_among-all, list_all-from_is_among, each_s
 use Rattle.well.specs.LockLaws.{is_below}
 use Rattle.sky.proofs.CallerLemmas.{yes}
 use Rattle.reach.specs.declared.held.Places.{Places}
-use Rattle.reach.specs.Numbers.{has_number, number_at}
+use Rattle.reach.specs.Numbers.{has_number, number_of_state}
 use Rattle.reach.specs.Places.{holds}
 use Rattle.reach.specs.States.{has_state}
 use Rattle.reach.specs.Tops.{rows_over_pivot}
@@ -26,7 +26,7 @@ use Rattle.reach.proofs.ScanLemmas.{holds-parts, holds-from}
 
 -- sets of one piece of which one has those of the other's numbers that pass a test
 module _ (old new : Places) (kind : new.piece ≡ old.piece) where
-  pub held_where : (q : Placement) (test : Bool) → (q.x < 16 → q.y < 24 → has_number new.numbers (number_at (rotation_place q.rotation) q.y q.x) ≡ (has_number old.numbers (number_at (rotation_place q.rotation) q.y q.x) && test)) →
+  pub held_where : (q : Placement) (test : Bool) → (q.x < 16 → q.y < 24 → has_number new.numbers (number_of_state (rotation_place q.rotation) q.y q.x) ≡ (has_number old.numbers (number_of_state (rotation_place q.rotation) q.y q.x) && test)) →
       IsTrue (holds new q) ↔ (IsTrue (holds old q) × (test ≡ true))
   unfolding has_state
   held_where q test same = (there, back)
@@ -35,7 +35,7 @@ module _ (old new : Places) (kind : new.piece ≡ old.piece) where
       there held =
           let parts = holds-parts new q held in
           let within = number-within new.numbers q.rotation q.x q.y parts.1 in
-          let both = and_parts (has_number old.numbers (number_at (rotation_place q.rotation) q.y q.x)) test (sym (same within.0 within.1) ∙ number-has new.numbers q.rotation q.x q.y parts.1) in
+          let both = and_parts (has_number old.numbers (number_of_state (rotation_place q.rotation) q.y q.x)) test (sym (same within.0 within.1) ∙ number-has new.numbers q.rotation q.x q.y parts.1) in
           (holds-from old q (parts.0 ∙ kind) (has-number old.numbers q.rotation q.x q.y within.0 within.1 both.0), both.1)
 
       back : IsTrue (holds old q) × (test ≡ true) → IsTrue (holds new q)
@@ -51,16 +51,16 @@ module _ (old new : Places) (kind : new.piece ≡ old.piece) where
   unfolding has_state
   taken_one n s small at kind_s taken q =
       let few = few_places q.rotation in
-      let iff = held_where q (not (n == number_at (rotation_place q.rotation) q.y q.x)) (λ column row. taken (number_at (rotation_place q.rotation) q.y q.x) (omega arith)) in (
+      let iff = held_where q (not (n == number_of_state (rotation_place q.rotation) q.y q.x)) (λ column row. taken (number_of_state (rotation_place q.rotation) q.y q.x) (omega arith)) in (
         λ held. let parts = iff.0 held in (parts.0, λ e. both_ways _ (not-true _ parts.1) (eq-eqb n _ (sym (ap (λ (o : Option Placement). n_of o) (sym e) ∙ number_is n s small at)))),
-        λ found. iff.1 (found.0, other found.0 found.1 (cases_Bool (n == number_at (rotation_place q.rotation) q.y q.x))),
+        λ found. iff.1 (found.0, other found.0 found.1 (cases_Bool (n == number_of_state (rotation_place q.rotation) q.y q.x))),
       )
     where
       n_of : Option Placement → ℕ
       n_of None = 0
-      n_of (Some t) = number_at (rotation_place t.rotation) t.y t.x
+      n_of (Some t) = number_of_state (rotation_place t.rotation) t.y t.x
 
-      other : IsTrue (holds old q) → (Some s ≢ Some q) → ((n == number_at (rotation_place q.rotation) q.y q.x) ≡ true) ⊎ ((n == number_at (rotation_place q.rotation) q.y q.x) ≡ false) → not (n == number_at (rotation_place q.rotation) q.y q.x) ≡ true
+      other : IsTrue (holds old q) → (Some s ≢ Some q) → ((n == number_of_state (rotation_place q.rotation) q.y q.x) ≡ true) ⊎ ((n == number_of_state (rotation_place q.rotation) q.y q.x) ≡ false) → not (n == number_of_state (rotation_place q.rotation) q.y q.x) ≡ true
       other held apart (inl same) =
           let parts = holds-parts old q held in
           let within = number-within old.numbers q.rotation q.x q.y parts.1 in
@@ -71,7 +71,7 @@ module _ (old new : Places) (kind : new.piece ≡ old.piece) where
   pub taken_none : ((m : ℕ) → m < 1536 → has_number new.numbers m ≡ (has_number old.numbers m && true)) → (q : Placement) → IsTrue (holds new q) ↔ (IsTrue (holds old q) × (None ≢ Some q))
   taken_none taken q =
       let few = few_places q.rotation in
-      let iff = held_where q true (λ column row. taken (number_at (rotation_place q.rotation) q.y q.x) (omega arith)) in
+      let iff = held_where q true (λ column row. taken (number_of_state (rotation_place q.rotation) q.y q.x) (omega arith)) in
       (λ held. ((iff.0 held).0, no_none), λ found. iff.1 (found.0, refl))
     where
       no_none : None ≢ Some q
@@ -126,7 +126,7 @@ below_by_pivot rows q = (there, back)
         lt-ltb q.y (rows - rows_over_pivot q.piece q.rotation) (omega (arith, ints))
 
 pub below_held : (old new : Places) (rows : ℕ) (left : List ℕ) → new.piece ≡ old.piece → ((r : Rotation) → get_or left (rotation_place r) 0 ≡ rows - rows_over_pivot old.piece r) →
-    ((place y x : ℕ) → place < 4 → y < 24 → x < 16 → has_number new.numbers (number_at place y x) ≡ (has_number old.numbers (number_at place y x) && nat_lt y (get_or left place 0))) → (q : Placement) →
+    ((place y x : ℕ) → place < 4 → y < 24 → x < 16 → has_number new.numbers (number_of_state place y x) ≡ (has_number old.numbers (number_of_state place y x) && nat_lt y (get_or left place 0))) → (q : Placement) →
     IsTrue (holds new q) ↔ (IsTrue (holds old q) × IsTrue (is_below rows q))
 below_held old new rows left kind is keeps q =
     let iff = held_where old new kind q (nat_lt q.y (get_or left (rotation_place q.rotation) 0)) (λ column row. keeps (rotation_place q.rotation) q.y q.x (few_places q.rotation) row column) in

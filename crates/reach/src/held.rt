@@ -30,8 +30,10 @@ impl Places {
         ensures held { (q : Placement) → holds result q
             ≡ (piece_code q.piece == piece_code piece && has_state (states_of states.now) q) }
     {
-        let numbers = Numbers::of_states(states);
-        Places { piece, numbers }
+        Places {
+            piece,
+            numbers: Numbers::of_states(states),
+        }
     }
 
     #[tactic(auto, unfolding(crate::specs::Places::holds))]
@@ -60,7 +62,6 @@ impl Places {
     }
 
     /// Takes out the least placement. `None` exactly where none is held.
-    #[inline(never)]
     pub fn take_least(&mut self) -> Option<Placement>
         ensures piece { piece_of self.new ≡ piece_of self.old }
         ensures least { IsNextAbove placement_cmp (λ q. IsTrue (holds self.old q)) None result }
@@ -78,10 +79,9 @@ impl Places {
         ensures held { (q : Placement) → IsTrue (holds result q)
             ↔ (IsTrue (holds self.now q) × IsTrue (is_below rows q)) }
     {
-        let numbers = self.numbers.in_rows_below(rows_left(self.piece, rows));
         Places {
             piece: self.piece,
-            numbers,
+            numbers: self.numbers.in_rows_below(rows_left(self.piece, rows)),
         }
     }
 }

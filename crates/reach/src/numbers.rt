@@ -1,5 +1,6 @@
 // Sets of small numbers, as bits.
-ghost use Rattle.std.specs.Prelude.{◌≡◌, ℕ, ◌<◌, length, slice_index};
+ghost use Rattle.std.specs.Prelude.{◌≡◌, ℕ, ◌%◌, ◌<◌, ◌≤◌, nat_lt, ◌&&◌, true, false, length, slice_index};
+ghost use Rattle.lane_board.specs.Lanes.{has_bit};
 
 use crate::pivots::Pivots;
 use crate::scan::number_of;
@@ -16,14 +17,26 @@ const EACH: usize = 6;
 #[derive(Clone, Copy)]
 pub(crate) struct Numbers {
     words: [u64; WORDS],
-    first: usize,
+    /// Bit `w` is set wherever word `w` has a bit.
+    in_use: u64,
     ghost size: { length words ≡ 24 },
-    ghost none_before: { (w : ℕ) → w < first → slice_index words w ≡ 0 },
+    ghost few: { (w : ℕ) → w < 64 → has_bit in_use w ≡ true → w < 24 },
+    ghost none_else: { (w : ℕ) → w < 24 → has_bit in_use w ≡ false → slice_index words w ≡ 0 },
+}
+
+/// The first so many words of each rotation, as bits.
+#[inline(always)]
+fn first_words(count: usize) -> u64
+    requires { count ≤ 6 }
+    ensures { (w : ℕ) → w < 64 → has_bit result w ≡ (nat_lt w 24 && nat_lt (w % 6) count) }
+{
+    let first = (1 << count) - 1;
+    first | first << 6 | first << 12 | first << 18
 }
 
 impl Numbers {
-    ghost use Rattle.std.specs.Prelude.{◌≤◌, ◌*◌, nat_lt, ◌&&◌, not};
-    ghost use Rattle.reach.specs.Numbers.{has_number, number_at, is_number, states_in, IsNumberFrom};
+    ghost use Rattle.std.specs.Prelude.{◌*◌, not};
+    ghost use Rattle.reach.specs.Numbers.{has_number, number_of_state, is_named, states_in, IsNumberFrom, IsWordAmong};
     ghost use Rattle.reach.specs.States.{has_state, states_of};
 
     /// The numbers of the states.
@@ -38,7 +51,10 @@ impl Numbers {
             words[at + 12] = four_rows(&states.reverse, row);
             words[at + 18] = four_rows(&states.left, row);
         }
-        Numbers { words, first: 0 }
+        Numbers {
+            words,
+            in_use: first_words(EACH),
+        }
     }
 
     /// Whether the set has the number of a state.
@@ -65,58 +81,75 @@ impl Numbers {
         if word != 0 {
             return Some(64 * at as u16 + lowest_bit(word));
         }
-        self.first_in_words(at + 1)
+        self.first_in_words(at as u16 + 1)
     }
 
     /// The least number of the words from one on. `None` exactly where they have none.
     #[inline(always)]
-    fn first_in_words(&self, start: usize) -> Option<u16>
+    fn first_in_words(&self, start: u16) -> Option<u16>
         requires { start ≤ 24 }
         ensures { IsNumberFrom self.now (64 * start) result }
     {
-        for at in start..WORDS {
-            let word = self.words[at];
-            if word != 0 {
-                return Some(64 * at as u16 + lowest_bit(word));
+        match self.first_word(bits_from(self.in_use, start)) {
+            None => None,
+            Some(at) => Some(64 * at + lowest_bit(self.words[usize::from(at)])),
+        }
+    }
+
+    /// The first of some words that has a bit. `None` exactly where none of them has one.
+    #[inline(always)]
+    fn first_word(&self, among: u64) -> Option<u16>
+        requires { (w : ℕ) → w < 64 → has_bit among w ≡ true → w < 24 }
+        ensures { IsWordAmong self.now among result }
+    {
+        let mut left = among;
+        'words: while left != 0 {
+            let at = lowest_bit(left);
+            if self.words[usize::from(at)] != 0 {
+                return Some(at);
             }
+            left = without_lowest(left);
         }
         None
     }
 
     /// Takes the least number out of the set. `None` exactly where the set has none.
+    #[inline(always)]
     pub(crate) fn take_first(&mut self) -> Option<u16>
         ensures first { IsNumberFrom self.old 0 result }
         ensures rest { (n : ℕ) → n < 1536 → has_number self.new n
-            ≡ (has_number self.old n && not (is_number result n)) }
+            ≡ (has_number self.old n && not (is_named result n)) }
     {
-        for at in self.first..WORDS {
-            let word = self.words[at];
-            if word != 0 {
-                let bit = lowest_bit(word);
-                self.words[at] = without_lowest(word);
-                self.first = at;
-                return Some(64 * at as u16 + bit);
+        match self.first_word(self.in_use) {
+            None => None,
+            Some(at) => {
+                let word = self.words[usize::from(at)];
+                self.words[usize::from(at)] = without_lowest(word);
+                self.in_use = bits_from(self.in_use, at);
+                Some(64 * at + lowest_bit(word))
             }
         }
-        None
     }
 
     /// The numbers of states in a row below the given one of their rotation.
     pub(crate) fn in_rows_below(&self, rows: [u8; 4]) -> Numbers
         requires { length rows ≡ 4 }
-        ensures { (place y x : ℕ) → place < 4 → y < 24 → x < 16 → has_number result (number_at place y x)
-            ≡ (has_number self.now (number_at place y x) && nat_lt y (slice_index rows place)) }
+        ensures { (place y x : ℕ) → place < 4 → y < 24 → x < 16 → has_number result (number_of_state place y x)
+            ≡ (has_number self.now (number_of_state place y x) && nat_lt y (slice_index rows place)) }
     {
         let highest = rows[0].max(rows[1]).max(rows[2]).max(rows[3]);
-        let each = (usize::from(highest) + 3) / 4;
+        let each = ((usize::from(highest) + 3) / 4).min(EACH);
         let mut words = [0; WORDS];
-        for at in 0..each.min(EACH) {
+        for at in 0..each {
             let row = 4 * at as u8;
             words[at] = in_low_rows(self.words[at], rows[0].saturating_sub(row));
             words[at + 6] = in_low_rows(self.words[at + 6], rows[1].saturating_sub(row));
             words[at + 12] = in_low_rows(self.words[at + 12], rows[2].saturating_sub(row));
             words[at + 18] = in_low_rows(self.words[at + 18], rows[3].saturating_sub(row));
         }
-        Numbers { words, first: 0 }
+        Numbers {
+            words,
+            in_use: first_words(each),
+        }
     }
 }

@@ -1,7 +1,7 @@
 // The first state from a place on, by rotation, then row, then column, in a set of numbers.
 ghost use Rattle.std.specs.Prelude.{◌≡◌, ℕ, ◌<◌, ◌≤◌, ◌↔◌, ◌/◌, ◌%◌};
 ghost use Rattle.srs.specs.Rotation.{rotation_place};
-ghost use Rattle.reach.specs.Numbers.{number_at, states_in};
+ghost use Rattle.reach.specs.Numbers.{number_of_state, states_in};
 ghost use Rattle.reach.specs.Scan.{place_number, IsStateFrom};
 
 use crate::numbers::Numbers;
@@ -31,7 +31,7 @@ fn number_from(first: u8, y: u8, x: u16) -> u16
     requires column { x ≤ 256 }
     ensures small { result ≤ 1536 }
     ensures start { (place b a : ℕ) → b < 24 → a < 16 → (place_number first y x ≤ place_number place b a)
-        ↔ (result ≤ number_at place b a) }
+        ↔ (result ≤ number_of_state place b a) }
 {
     let place = u16::from(first);
     if y >= 24 {
@@ -45,7 +45,7 @@ fn number_from(first: u8, y: u8, x: u16) -> u16
 pub(crate) fn number_of(state: &Placement) -> u16
     requires column { state.now.x < 16 }
     requires row { state.now.y < 24 }
-    ensures value { result ≡ number_at (rotation_place state.now.rotation) state.now.y state.now.x }
+    ensures value { result ≡ number_of_state (rotation_place state.now.rotation) state.now.y state.now.x }
     ensures small { result < 1536 }
 {
     384 * u16::from(state.rotation.place()) + 16 * u16::from(state.y) + u16::from(state.x)

@@ -52,7 +52,9 @@ pub(crate) fn has_bit(word: u64, bit: u16) -> bool
 #[inline(always)]
 pub(crate) fn without_lowest(word: u64) -> u64
     requires { 0 < word }
-    ensures { (bit k : ℕ) → IsLowestBit word bit → k < 64 → has_bit result k ≡ (has_bit word k && not (k == bit)) }
+    ensures less { result < word }
+    ensures bits { (bit k : ℕ) → IsLowestBit word bit → k < 64
+        → has_bit result k ≡ (has_bit word k && not (k == bit)) }
 {
     word & (word - 1)
 }

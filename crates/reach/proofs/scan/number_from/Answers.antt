@@ -1,6 +1,6 @@
 -- Past all rows the next rotation begins.
 use Rattle.std.proofs.Common.{◌≡◌, ◌↔◌, ◌+◌, ◌*◌, ◌≤◌, min, sym, subst, arith}
-use Rattle.reach.specs.Numbers.{number_at}
+use Rattle.reach.specs.Numbers.{number_of_state}
 use Rattle.reach.specs.Scan.{place_number}
 use Rattle.reach.proofs.PlaceNumbers.{starts_high, starts_low}
 use Rattle.reach.proofs.scan.number_from.Goals as goal
@@ -11,7 +11,7 @@ returns-then-y-ge24 c =
     record {
       small = omega arith;
       start = λ place b a small_b small_a.
-          subst (λ first. (place_number c.args.first c.args.y c.args.x ≤ place_number place b a) ↔ (384 * (first + 1) ≤ number_at place b a)) (sym same)
+          subst (λ first. (place_number c.args.first c.args.y c.args.x ≤ place_number place b a) ↔ (384 * (first + 1) ≤ number_of_state place b a)) (sym same)
           (starts_high c.args.first c.args.y c.args.x place b a (omega arith) c.requires.column c.if-y-ge24.true small_b small_a);
     }
 
@@ -21,6 +21,6 @@ returns c =
     record {
       small = omega (arith, c.from-place.ensures, c.from.ensures, c.min.ensures);
       start = λ place b a small_b small_a.
-          subst (λ start. (place_number c.args.first c.args.y c.args.x ≤ place_number place b a) ↔ (start ≤ number_at place b a)) same
+          subst (λ start. (place_number c.args.first c.args.y c.args.x ≤ place_number place b a) ↔ (start ≤ number_of_state place b a)) same
           (starts_low c.args.first c.args.y c.args.x place b a c.requires.column c.if-y-ge24.false small_b small_a);
     }

@@ -9,4 +9,4 @@ unfolding piece_of
 returns-clause-piece c = refl
 
 pub returns-clause-held : goal.returns-clause-held
-returns-clause-held c = below_held c.args.self.now _ c.args.rows c.rows_left.result refl c.rows_left.ensures.left c.in_rows_below-numbers.ensures
+returns-clause-held c = below_held c.args.self.now _ c.args.rows c.rows_left.result refl c.rows_left.ensures.left c.in_rows_below.ensures

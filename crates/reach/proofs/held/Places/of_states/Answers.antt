@@ -11,4 +11,4 @@ returns-clause-piece c = refl
 
 pub returns-clause-held : goal.returns-clause-held
 unfolding holds
-returns-clause-held c = λ q. ap (λ (S : States). piece_code q.piece == piece_code c.args.piece && has_state S q) c.of_states-numbers.ensures
+returns-clause-held c = λ q. ap (λ (S : States). piece_code q.piece == piece_code c.args.piece && has_state S q) c.of_states.ensures

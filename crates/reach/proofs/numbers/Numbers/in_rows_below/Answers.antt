@@ -14,7 +14,7 @@ loop-at-preserved c =
     let b = c.in_low_rows-in-loop-at.result in
     let d = c.in_low_rows-in-loop-at-2.result in
     let e = c.in_low_rows-in-loop-at-3.result in
-    let small : at < 6 = omega (arith, c.loop-at-test.true, c.min-at-end.ensures) in (
+    let small : at < 6 = omega (arith, c.loop-at-test.true, c.min-each.ensures) in (
       four_set-length c.loop-at.words at a b d e c.loop-at.invariant.0,
       four_more (KeepsRows old rows) c.loop-at.words at a b d e c.loop-at.invariant.0 small c.loop-at.invariant.1
           (keeps_here old rows at at 0 a (omega arith) small (λ k within. c.in_low_rows.ensures k within ∙ ap (λ left. has_bit (get_or old.words at 0) k && nat_lt k (16 * left)) c.saturating_sub.ensures))
@@ -33,7 +33,7 @@ returns c =
   where
     low : (w : ℕ) → w < 24 → c.loop-at.at ≤ w % 6 → get_or c.args.rows (w / 6) 0 ≤ 4 * (w % 6)
     low w below later =
-        let top : c.max-highest.result ≤ 4 * (w % 6) = omega (arith, later, c.loop-at-test.false, c.min-at-end.ensures, c.from.ensures) in
+        let top : c.max-highest.result ≤ 4 * (w % 6) = omega (arith, later, c.loop-at-test.false, c.min-each.ensures, c.from.ensures) in
         under_all c.args.rows (4 * (w % 6))
         (omega (arith, top, c.max.ensures, c.max-2.ensures, c.max-highest.ensures)) (omega (arith, top, c.max.ensures, c.max-2.ensures, c.max-highest.ensures))
         (omega (arith, top, c.max.ensures, c.max-2.ensures, c.max-highest.ensures)) (omega (arith, top, c.max.ensures, c.max-2.ensures, c.max-highest.ensures))

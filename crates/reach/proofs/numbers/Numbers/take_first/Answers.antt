@@ -1,19 +1,19 @@
--- The first word with a bit has the least number, and loses that bit.
-use Rattle.std.proofs.Common.{◌+◌, ◌*◌, ◌==◌, ◌&&◌, not, refl, ap, ◌∙◌, subst, arith}
-use Rattle.reach.specs.declared.numbers.Numbers.{Numbers}
-use Rattle.reach.specs.Numbers.{has_number, IsFirstNumber, NoNumber}
-use Rattle.reach.proofs.NumberLemmas.{first_of_all, none_at_all, without_number}
+-- The first word in use has the least number, and loses that bit.
+use Rattle.std.proofs.Common.{◌==◌, ◌&&◌, not, get_or, set, ap, ◌∙◌}
+use Rattle.lane_board.specs.Lanes.{has_bit}
+use Rattle.reach.proofs.NumberLemmas.{without_number}
+use Rattle.reach.proofs.WordsInUse.{first_in_use, no_number_in_use}
 use Rattle.reach.proofs.numbers.Numbers.take_first.Goals as goal
 
-pub returns-then-word-ne0-clause-first : goal.returns-then-word-ne0-clause-first
-returns-then-word-ne0-clause-first c =
-    subst (λ (old : Numbers). IsFirstNumber old 0 (64 * c.loop-at.at + c.lowest_bit-bit.result)) c.loop-at.invariant.0
-    (first_of_all c.loop-at.self c.loop-at.at c.loop-at.invariant.1 c.lowest_bit-bit.result (omega arith) c.lowest_bit-bit.ensures.below c.lowest_bit-bit.ensures.lowest.has (λ k within. c.lowest_bit-bit.ensures.lowest.first k))
+pub returns-in-None-clause-first : goal.returns-in-None-clause-first
+returns-in-None-clause-first c = no_number_in_use c.args.self.now c.in-None.ensures
 
-pub returns-then-word-ne0-clause-rest : goal.returns-then-word-ne0-clause-rest
-returns-then-word-ne0-clause-rest c = λ n few.
-    without_number c.loop-at.self _ c.loop-at.at c.lowest_bit-bit.result c.without_lowest.result c.loop-at.self.size (omega arith) c.lowest_bit-bit.ensures.below refl (λ k within. c.without_lowest.ensures c.lowest_bit-bit.result k c.lowest_bit-bit.ensures.lowest within) n few
-    ∙ ap (λ (old : Numbers). has_number old n && not (64 * c.loop-at.at + c.lowest_bit-bit.result == n)) c.loop-at.invariant.0
+pub returns-in-Some-clause-first : goal.returns-in-Some-clause-first
+returns-in-Some-clause-first c =
+    first_in_use c.args.self.now c.in-Some.at c.lowest_bit.result _ c.in-Some.ensures (ap (λ w. get_or c.args.self.now.words w 0) c.from.ensures) c.lowest_bit.ensures.below c.lowest_bit.ensures.lowest
 
-pub returns-clause-first : goal.returns-clause-first
-returns-clause-first c = subst (λ (old : Numbers). NoNumber old 0) c.loop-at.invariant.0 (none_at_all c.loop-at.self c.loop-at.at c.loop-at.invariant.1 (omega arith))
+pub returns-in-Some-clause-rest : goal.returns-in-Some-clause-rest
+returns-in-Some-clause-rest c =
+    without_number c.args.self.now _ c.in-Some.at c.lowest_bit.result c.without_lowest.result c.args.self.now.size c.in-Some.ensures.small c.lowest_bit.ensures.below
+    (ap (λ at. set c.args.self.now.words at c.without_lowest.result) c.from-in-Some.ensures)
+    (λ k within. c.without_lowest.ensures.bits c.lowest_bit.result k c.lowest_bit.ensures.lowest within ∙ ap (λ w. has_bit (get_or c.args.self.now.words w 0) k && not (k == c.lowest_bit.result)) c.from.ensures)
