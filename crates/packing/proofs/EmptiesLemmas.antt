@@ -11,11 +11,11 @@ use Rattle.lane_board.specs.Lanes.{has_bit}
 use Rattle.lane_board.proofs.CallerLemmas.{has_bit-zero, has_bit-or, has_bit-past}
 use Rattle.packing.specs.declared.empties.Empties.{Empties}
 use Rattle.packing.specs.Empties.{empty_cells}
-use Rattle.packing.specs.Spans.{IsEmpty, IsFirst}
+use Rattle.packing.specs.Spans.{HasNoCell, IsFirst}
 use Rattle.packing.proofs.SpanBits.{one_bit}
 use Rattle.packing.proofs.StackLemmas.{IsSmall}
 
-pub none_in_zero : (e : Empties) → e.cells ≡ 0 → IsEmpty (empty_cells e)
+pub none_in_zero : (e : Empties) → e.cells ≡ 0 → HasNoCell (empty_cells e)
 unfolding empty_cells
 none_in_zero e zero = record { none = λ x y. and_right (nat_lt y 8) _ (ap (λ n. has_bit n (8 * x + y)) zero ∙ has_bit-zero (8 * x + y)) }
 
@@ -53,6 +53,14 @@ cells_small e = record {
   ];
   row = λ a b here. ltb-true b 8 (and_parts (nat_lt b 8) _ here).0;
 }
+
+-- what is taken beside the columns and rows makes no difference
+pub same_left : (e : Empties) (x y : ℕ) (q r : Bool) → (x < 10 → y < 8 → q ≡ r) → (empty_cells e x y && not q) ≡ (empty_cells e x y && not r)
+same_left e x y q r same = where_filled (empty_cells e x y) (λ has. same ((cells_small e).column x y has) ((cells_small e).row x y has))
+  where
+    where_filled : (p : Bool) → (p ≡ true → q ≡ r) → (p && not q) ≡ (p && not r)
+    where_filled true same = ap not (same refl)
+    where_filled false same = refl
 
 -- the columns so far, and in the next one the rows so far
 abbrev pub is_before : ℕ → ℕ → ℕ → ℕ → Bool

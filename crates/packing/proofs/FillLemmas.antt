@@ -18,7 +18,7 @@ use Rattle.prune.specs.OnePart.{with_cells, less_one}
 use Rattle.prune.proofs.CallerLemmas.{with_part, TakenPart, taken_part}
 use Rattle.packing.specs.declared.span.Span.{Span}
 use Rattle.packing.specs.Empties.{all_but}
-use Rattle.packing.specs.Spans.{IsEmpty, IsFirst}
+use Rattle.packing.specs.Spans.{HasNoCell, IsFirst}
 use Rattle.packing.specs.Stacks.{is_allowed, CanFill, StacksOver, StacksPiece, in_stack, without_stack}
 use Rattle.packing.proofs.StackLemmas.{Rises, IsWithin, IsSmall, Follows, Chosen}
 use Rattle.packing.proofs.ChosenLemmas.{chosen, stacked, follows-first}
@@ -43,7 +43,7 @@ unfolding is_empty_below
 negative_column height E n b = refl
 
 -- where there is no cell, no part is needed
-pub fills_nothing : (height : ℕ) (E : Field) (supply : Supply) → IsEmpty E → CanFill height supply E
+pub fills_nothing : (height : ℕ) (E : Field) (supply : Supply) → HasNoCell E → CanFill height supply E
 unfolding covers is_empty_below all_but
 fills_nothing height E supply none = record {
   parts = [];

@@ -15,7 +15,7 @@ use Rattle.lists.proofs.CallerLemmas.{list_all_each}
 use Rattle.prune.specs.Tiling.{Tiling, Supply}
 use Rattle.prune.specs.OnePart.{less_one}
 use Rattle.packing.specs.declared.span.Span.{Span}
-use Rattle.packing.specs.Spans.{forms_of, has_span, without_span, IsEmpty}
+use Rattle.packing.specs.Spans.{forms_of, has_span, without_span, HasNoCell}
 use Rattle.packing.specs.Stacks.{Stacks, CanFill, without_stack}
 use Rattle.packing.specs.HasTiling.{is_empty, can_stack, can_fill, has_tiling}
 use Rattle.packing.proofs.SupplyLemmas.{code_from_one, code_to_seven, piece_in_all}
@@ -55,7 +55,7 @@ column_at : (x : ℕ) → x < 10 → get_or columns x 0 ≡ x
 column_at x below = eqb-true _ _ (agree_below_at (λ k. get_or columns k 0 == k) (λ k. true) 10 x refl below)
 
 -- a set with no cell below the row that bounds it has none
-empty-from_test : (height : ℕ) (E : Field) → IsSmall height E → is_empty height E ≡ true → IsEmpty E
+empty-from_test : (height : ℕ) (E : Field) → IsSmall height E → is_empty height E ≡ true → HasNoCell E
 unfolding is_empty
 empty-from_test height E small empty = record { none = λ x y. false_from_ne_true (E x y) (λ here. both_ways (E x y) (none x y (small.column x y here) (small.row x y here)) here) }
   where

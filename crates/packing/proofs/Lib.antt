@@ -10,7 +10,7 @@ mod FormLemmas
 mod FillLemmas
 mod MovedTilings
 mod SearchLemmas
-mod PlacedCells
+mod PlacedBits
 mod SameTilings
 mod HasTilingLemmas
 pub mod CallerLemmas

@@ -1,5 +1,5 @@
 -- A tiling of the empty cells below some rows is one of the set of these cells.
-use Rattle.std.proofs.Common.{◌≡◌, ℕ, ◌≤◌, Bool, true, false, not, cond, ◌&&◌, ◌||◌, nat_lt, ◌↔◌, pos, negsuc, refl, sym, ap, ◌∙◌, arith}
+use Rattle.std.proofs.Common.{◌≡◌, ℕ, ◌≤◌, Bool, true, false, not, ◌&&◌, ◌||◌, nat_lt, ◌↔◌, pos, negsuc, refl, sym, arith}
 use Rattle.std.proofs.Math.Path.{fun_ext}
 use Rattle.std.proofs.lemmas.Bool.{false≢true, and_right, lt-ltb, ltb-true}
 use Rattle.lane_board.specs.Field.{Field, rows_below, difference}

@@ -12,7 +12,7 @@ use Rattle.prune.specs.Tiling.{Supply}
 use Rattle.prune.specs.OnePart.{less_one}
 use Rattle.packing.specs.declared.span.Span.{Span}
 use Rattle.packing.specs.Spans.{forms_of, has_first, has_span, without_span, IsFirst}
-use Rattle.packing.specs.Stacks.{MayTake, StacksOver, StacksPiece, Stacks, Takes, is_allowed, CanFill}
+use Rattle.packing.specs.Stacks.{MayTake, StacksOver, StacksPiece, Stacks, TakesPiece, is_allowed, CanFill}
 
 -- how many pieces there are
 abbrev pub total : Supply → ℕ
@@ -33,17 +33,17 @@ pub record FailsIn (supply : Supply) (E : Field) (x y floor : ℕ) (span : Span)
   pub fails : MayTake (is_allowed y) E x floor span row → StacksOver supply (without_span E x span row) x y (row + 1) spans → ⊥
 
 -- the supply fills a set that a piece of it takes
-pub fills_taken : (supply : Supply) (E : Field) (piece : Piece) (x y : ℕ) → IsSmall 8 E → Takes supply E x y piece → CanFill 8 supply E
+pub fills_taken : (supply : Supply) (E : Field) (piece : Piece) (x y : ℕ) → IsSmall 8 E → TakesPiece supply E x y piece → CanFill 8 supply E
 fills_taken supply E piece x y small takes = fills_stacked E supply piece x y small takes.has takes.stacks
 
 -- one that is filled is taken by a piece of some kind: by an S where no other kind does
-pub some_takes : (supply : Supply) (E : Field) (x y : ℕ) → IsSmall 8 E → IsFirst E x y → (Takes supply E x y I → ⊥) → (Takes supply E x y L → ⊥) → (Takes supply E x y O → ⊥) →
-    (Takes supply E x y Z → ⊥) → (Takes supply E x y T → ⊥) → (Takes supply E x y J → ⊥) → CanFill 8 supply E → Takes supply E x y S
+pub some_takes : (supply : Supply) (E : Field) (x y : ℕ) → IsSmall 8 E → IsFirst E x y → (TakesPiece supply E x y I → ⊥) → (TakesPiece supply E x y L → ⊥) → (TakesPiece supply E x y O → ⊥) →
+    (TakesPiece supply E x y Z → ⊥) → (TakesPiece supply E x y T → ⊥) → (TakesPiece supply E x y J → ⊥) → CanFill 8 supply E → TakesPiece supply E x y S
 some_takes supply E x y small first no_i no_l no_o no_z no_t no_j filling =
     let by = stacked_first E supply x y small first filling in
     last by.piece (record { has = by.some; stacks = by.stacks })
   where
-    last : (piece : Piece) → Takes supply E x y piece → Takes supply E x y S
+    last : (piece : Piece) → TakesPiece supply E x y piece → TakesPiece supply E x y S
     last I takes = absurd (no_i takes)
     last L takes = absurd (no_l takes)
     last O takes = absurd (no_o takes)

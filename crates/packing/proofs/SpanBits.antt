@@ -1,12 +1,12 @@
 -- The bits that stand for the cells of a span.
-use Rattle.std.proofs.Common.{◌≡◌, ℕ, ◌+◌, ◌-◌, ◌*◌, ◌%◌, ◌^◌, ◌<◌, ◌≤◌, Bool, true, false, not, ◌&&◌, ◌||◌, ◌==◌, bit_and, bit_xor, List, [], ◌∷◌, refl, ap, ◌∙◌, sym, inl, inr, arith}
+use Rattle.std.proofs.Common.{◌≡◌, ℕ, ◌+◌, ◌-◌, ◌*◌, ◌%◌, ◌^◌, ◌<◌, ◌≤◌, Bool, true, false, ◌&&◌, ◌||◌, ◌==◌, bit_and, bit_xor, List, [], ◌∷◌, refl, ap, ◌∙◌, sym, inl, inr, arith}
 use Rattle.std.specs.List.{list_any}
-use Rattle.std.proofs.lemmas.Bool.{agree_below_at, cases_lt, eqb-true, eq-eqb, ne_eqb, and_parts, and_from, both_ways}
+use Rattle.std.proofs.lemmas.Bool.{agree_below_at, cases_lt, eqb-true, eq-eqb, ne_eqb, and_parts, and_from}
 use Rattle.std.proofs.lemmas.Bool.Decides.{nat_tests}
 use Rattle.std.proofs.lemmas.Nat.{xor_lt, and_le_l, mul-lt, pow-add, pow_below}
 use Rattle.std.proofs.Math.Nat.{mul_assoc}
 use Rattle.lane_board.specs.Lanes.{has_bit}
-use Rattle.lane_board.proofs.CallerLemmas.{same_from_both, has_bit-and_not, has_bit-past, has_bit-low, has_bit-shifted_low, has_bit-shifted_high}
+use Rattle.lane_board.proofs.CallerLemmas.{same_from_both, has_bit-past, has_bit-low, has_bit-shifted_low, has_bit-shifted_high}
 use Rattle.packing.specs.declared.span.Span.{Span}
 use Rattle.packing.specs.declared.span.Span.TheVariants.{First, Second, Third, FirstTwo, SecondTwo, FirstThree, AllFour}
 use Rattle.packing.specs.Spans.{columns_of}
@@ -60,7 +60,7 @@ elem c x y a b small_y small_b = same_from_both _ _
     let row : y ≡ b = eqb-true _ _ parts.1 in
     eq-eqb (8 * c + (8 * x + y)) (8 * a + b) (omega arith))
 
-and_over : (p q r : Bool) → ((p && r) || (q && r)) ≡ ((p || q) && r)
+pub and_over : (p q r : Bool) → ((p && r) || (q && r)) ≡ ((p || q) && r)
 and_over true true true = refl
 and_over true true false = refl
 and_over true false true = refl
@@ -107,18 +107,12 @@ one_bit x y a b whole small_y small_b =
     or_none true = refl
     or_none false = refl
 
--- the bits that are left where a span is taken away
-pub left_bit : (span : Span) (n m x y a b : ℕ) → ((k : ℕ) → has_bit m k ≡ is_column_bit span k) → n < 2 ^ 80 → y < 8 → b < 8 →
-    has_bit (bit_xor n (bit_and n (m * 2 ^ (8 * x + y) % 2 ^ 128))) (8 * a + b) ≡ (has_bit n (8 * a + b) && not (list_any (λ c. x + c == a) (columns_of span) && (y == b)))
-left_bit span n m x y a b bits small small_y small_b = has_bit-and_not n _ (8 * a + b) ∙ elim (cases_lt (8 * a + b) 80) [
-  | inl low ↦ ap (λ t. has_bit n (8 * a + b) && not t) (has_bit-low (m * 2 ^ (8 * x + y)) 128 (8 * a + b) (omega arith) ∙ moved_bit span m x y a b bits small_y small_b)
-  | inr high ↦ none _ _ _ (has_bit-past n 80 (8 * a + b) small high)
-]
-  where
-    none : (p q r : Bool) → p ≡ false → (p && q) ≡ (p && r)
-    none true q r e = absurd (both_ways true e refl)
-    none false q r e = refl
+-- the same where bits past the highest are lost
+pub taken_bit : (span : Span) (m x y a b : ℕ) → ((k : ℕ) → has_bit m k ≡ is_column_bit span k) → y < 8 → b < 8 → a < 10 →
+    has_bit (m * 2 ^ (8 * x + y) % 2 ^ 128) (8 * a + b) ≡ (list_any (λ c. x + c == a) (columns_of span) && (y == b))
+taken_bit span m x y a b bits small_y small_b small_a = has_bit-low (m * 2 ^ (8 * x + y)) 128 (8 * a + b) (omega arith) ∙ moved_bit span m x y a b bits small_y small_b
 
+-- taking bits away leaves no more than there were
 pub left_small : (n m : ℕ) → n < 2 ^ 80 → bit_xor n (bit_and n m) < 2 ^ 80
 left_small n m small = xor_lt 80 n (bit_and n m) small (omega (arith, and_le_l n m))
 

@@ -2,5 +2,6 @@
 pub mod Empties
 -- What serves proofs alone
 pub mod Spans
+pub mod ShapeBits
 pub mod Stacks
 pub mod HasTiling

@@ -1,10 +1,8 @@
 -- Pieces by their rows, from the lowest up: the neighbouring columns that each row takes, counted from the leftmost
 -- one.
-use Rattle.std.specs.Prelude.{◌≡◌, ℕ, ◌+◌, ◌<◌, ◌≤◌, Bool, false, not, ◌&&◌, ◌==◌, List, [], ◌∷◌, true, pos}
+use Rattle.std.specs.Prelude.{◌≡◌, ℕ, ◌+◌, ◌<◌, ◌≤◌, Bool, false, not, ◌&&◌, ◌==◌, List, [], ◌∷◌, true}
 use Rattle.std.specs.List.{list_all, list_any}
 use Rattle.lane_board.specs.Field.{Field}
-use Rattle.srs.specs.Cells.{Cell}
-use Rattle.srs.specs.SameCells.{cell_eq}
 use Rattle.srs.specs.declared.piece.Piece.{Piece}
 use Rattle.srs.specs.declared.piece.Piece.TheVariants.{I, L, O, Z, T, J, S}
 use Rattle.packing.specs.declared.span.Span.{Span}
@@ -50,7 +48,7 @@ unfoldable pub without_span : Field → ℕ → Span → ℕ → Field
 without_span E x span y a b = E a b && not (list_any (λ column. x + column == a) (columns_of span) && y == b)
 
 -- the set has no cell
-pub record IsEmpty (E : Field) : Type 0 where
+pub record HasNoCell (E : Field) : Type 0 where
   pub none : (x y : ℕ) → E x y ≡ false
 
 -- the lowest cell of the leftmost column that has cells
@@ -60,7 +58,3 @@ pub record IsFirst (E : Field) (x y : ℕ) : Type 0 where
   pub row : y ≤ 7
   pub leftmost : (a b : ℕ) → a < x → E a b ≡ false
   pub lowest : (b : ℕ) → b < y → E x b ≡ false
-
--- the set without a cell
-unfoldable pub without_place : Field → Cell → Field
-without_place E cell x y = E x y && not (cell_eq cell (pos x, pos y))

@@ -41,7 +41,7 @@ pub record StacksPiece (supply : Supply) (E : Field) (x y : ℕ) (piece : Piece)
   pub stacks : StacksOver supply E x y 0 (slice_index_or (forms_of piece) place [])
 
 -- the supply has a piece of this kind, and its spans can be stacked so that the others fill what they leave
-pub record Takes (supply : Supply) (E : Field) (x y : ℕ) (piece : Piece) : Type 0 where
+pub record TakesPiece (supply : Supply) (E : Field) (x y : ℕ) (piece : Piece) : Type 0 where
   pub has : 0 < supply piece
   pub stacks : StacksPiece (less_one supply piece) E x y piece
 

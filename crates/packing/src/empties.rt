@@ -13,12 +13,12 @@ pub struct Empties {
 }
 
 impl Empties {
-    ghost use Rattle.std.specs.Prelude.{◌≤◌, ◌-◌, IsTrue, MatchOption};
+    ghost use Rattle.std.specs.Prelude.{◌≤◌, ◌-◌, ◌+◌, ◌*◌, ◌&&◌, not, IsTrue, MatchOption};
     ghost use Rattle.lane_board.specs.Field.{empty_field, difference, rows_below};
     ghost use Rattle.lane_board.specs.Lanes.{has_bit};
     ghost use Rattle.well.specs.Well.{filled};
     ghost use Rattle.packing.specs.Empties.{empty_cells};
-    ghost use Rattle.packing.specs.Spans.{from_column, has_span, without_span, IsEmpty, IsFirst};
+    ghost use Rattle.packing.specs.Spans.{from_column, has_span, without_span, HasNoCell, IsFirst};
 
     /// The empty set.
     pub(crate) fn empty() -> Empties
@@ -59,7 +59,7 @@ impl Empties {
 
     /// The lowest cell of the leftmost column that has cells, as column and row. `None` exactly where there is no cell.
     pub(crate) fn first(&self) -> Option<(u8, u8)>
-        ensures { MatchOption result (IsEmpty (empty_cells self.now))
+        ensures { MatchOption result (HasNoCell (empty_cells self.now))
             (λ cell. IsFirst (empty_cells self.now) cell.0 cell.1) }
     {
         if self.cells == 0 {
@@ -107,6 +107,18 @@ impl Empties {
         (span.starts(self.cells >> (8 * x)) & 255) as u8
     }
 
+    /// The set without some cells, one in bit `8 * column + row`.
+    #[inline(always)]
+    pub(crate) fn without_bits(&self, bits: u128) -> Empties
+        ensures { (x y : ℕ) → empty_cells result x y
+            ≡ (empty_cells self.now x y && not (has_bit bits (8 * x + y))) }
+    {
+        let taken = self.cells & bits;
+        Empties {
+            cells: self.cells ^ taken,
+        }
+    }
+
     /// The set without the cells of a span in a row.
     #[inline(always)]
     pub(crate) fn without_span(&self, x: u8, span: Span, y: u8) -> Empties
@@ -114,9 +126,6 @@ impl Empties {
         requires row { y ≤ 7 }
         ensures { empty_cells result ≡ without_span (empty_cells self.now) x span y }
     {
-        let taken = self.cells & u128::from(span.cells() << y) << (8 * x);
-        Empties {
-            cells: self.cells ^ taken,
-        }
+        self.without_bits(u128::from(span.cells() << y) << (8 * x))
     }
 }

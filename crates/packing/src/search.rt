@@ -5,7 +5,7 @@ ghost use Rattle.srs.specs.declared.piece.Piece.TheVariants.{I, L, O, Z, T, J, S
 ghost use Rattle.prune.specs.Tiling.{supply_in, Tiling};
 ghost use Rattle.packing.specs.Empties.{empty_cells, all_but};
 ghost use Rattle.packing.specs.Spans.{has_first, IsFirst};
-ghost use Rattle.packing.specs.Stacks.{is_allowed, StacksOver, StacksPiece, Takes};
+ghost use Rattle.packing.specs.Stacks.{is_allowed, StacksOver, StacksPiece, TakesPiece};
 
 use crate::decided::{Decided, place_of};
 use crate::empties::Empties;
@@ -110,7 +110,7 @@ impl Empties {
     fn takes(&self, y: u8, piece: Piece, supply: &[u8; 7], known: &mut [Decided]) -> bool
         requires { y ≤ 7 }
         ensures { IsTrue result
-            ↔ Takes (supply_in supply.now) (empty_cells self.now) 0 y piece }
+            ↔ TakesPiece (supply_in supply.now) (empty_cells self.now) 0 y piece }
     {
         if count_of(supply, piece) == 0 {
             return false;

@@ -31,10 +31,7 @@ impl TilingStore {
     pub fn has_tiling(&mut self, cells: &Empties, supply: &[u8; 7]) -> bool
         ensures { IsTrue result ↔ Tiling (all_but (empty_cells cells.now)) 8 (supply_in supply.now) }
     {
-        if cells.has_uneven_run() {
-            return false;
-        }
-        cells.decide(supply, &mut self.decided)
+        self.has_tiling_near(cells, 0, supply)
     }
 
     /// The same, by a search that begins at the side that is nearer to a column.

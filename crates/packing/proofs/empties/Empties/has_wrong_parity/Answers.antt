@@ -1,9 +1,9 @@
 -- A tiling would have another number of cells in even columns.
 use Rattle.std.proofs.Common.{◌≡◌, ◌+◌, ◌*◌, ◌%◌, arith}
 use Rattle.std.specs.Prelude.{sum_by}
-use Rattle.std.proofs.lemmas.Bool.{eqb-true, false≢true}
+use Rattle.std.proofs.lemmas.Bool.{eqb-true}
 use Rattle.srs.specs.Piece.{all_pieces}
-use Rattle.srs.specs.declared.piece.Piece.TheVariants.{L, T, J}
+use Rattle.srs.specs.declared.piece.Piece.TheVariants.{L, J}
 use Rattle.well.specs.Counts.{empties_below}
 use Rattle.prune.specs.Tiling.{supply_in}
 use Rattle.prune.specs.Counts.{even_column_empties}

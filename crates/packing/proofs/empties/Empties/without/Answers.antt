@@ -1,15 +1,11 @@
--- Four cells, one after another.
-use Rattle.std.proofs.Common.{get_or, pos, ap, ◌∙◌}
-use Rattle.lane_board.specs.Field.{Field}
-use Rattle.packing.specs.Empties.{empty_cells}
-use Rattle.packing.specs.Spans.{without_place}
-use Rattle.packing.proofs.PlacedCells.{taken_of}
+-- A cell of the set is left where its bit is not taken.
+use Rattle.std.proofs.Common.{◌∙◌, arith}
+use Rattle.std.proofs.Math.Path.{fun_ext}
+use Rattle.packing.specs.Empties.{without_placement}
+use Rattle.packing.proofs.EmptiesLemmas.{same_left}
 use Rattle.packing.proofs.empties.Empties.without.Goals as goal
 
 pub returns : goal.returns
-returns c =
-    c.without_place-4.ensures
-    ∙ ap (λ (E : Field). without_place E (get_or c.cells.result 3 (pos 0, pos 0))) (c.without_place-3.ensures
-    ∙ ap (λ (E : Field). without_place E (get_or c.cells.result 2 (pos 0, pos 0))) (c.without_place-2.ensures
-    ∙ ap (λ (E : Field). without_place E (get_or c.cells.result 1 (pos 0, pos 0))) c.without_place.ensures))
-    ∙ taken_of (empty_cells c.args.self.now) c.args.placement.now c.cells.result (pos 0, pos 0) c.cells.ensures
+unfolding without_placement
+returns c = fun_ext (λ x. fun_ext (λ y. c.without_bits.ensures x y
+    ∙ same_left c.args.self.now x y _ _ (λ near low. c.bits_of.ensures x y (omega arith) (omega arith))))
