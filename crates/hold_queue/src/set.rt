@@ -123,6 +123,7 @@ impl QueueSet {
 
     /// The drawn sets after one more piece where `first` is held then: it may be held before the piece is drawn, or it
     /// is drawn and takes the place of the piece.
+    #[inline(always)]
     fn next_holding(&self, piece: Piece, first: Piece) -> Family
         ensures { IsNextFamily (elements_of self.now.pattern) self.now.hold self.now.held self.now.states
             self.now.number piece (Some first) result }
