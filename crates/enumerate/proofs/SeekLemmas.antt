@@ -1,9 +1,8 @@
 -- Frames in an array go to the place of a given sequence.
-use Rattle.std.proofs.Common.{◌≡◌, ℕ, zero, suc, ◌+◌, ◌<◌, ◌≤◌, true, List, [], ◌∷◌, ◌++◌, length, get_or, set, take, refl, sym, ap, subst, ◌∙◌, arith, length-take, length-set, length-append, get_or-set_same}
+use Rattle.std.proofs.Common.{◌≡◌, ℕ, zero, suc, ◌+◌, ◌<◌, ◌≤◌, Bool, true, false, List, [], ◌∷◌, ◌++◌, length, get_or, set, take, refl, sym, ap, subst, ◌∙◌, arith, length-take, length-append}
 use Rattle.std.specs.Prelude.{drop}
 use Rattle.std.specs.List.{flat_map}
 use Rattle.std.proofs.Math.Seq.{take-suc}
-use Rattle.std.proofs.lemmas.List.{take-set, take_more_set}
 use Rattle.srs.specs.declared.placement.Placement.{Placement}
 use Rattle.srs.specs.Kick.{Table}
 use Rattle.srs.specs.Piece.{all_pieces}
@@ -13,9 +12,10 @@ use Rattle.enumerate.specs.Position.{is_live}
 use Rattle.enumerate.specs.Events.{Event, entered, enter, tried_in_turn, sought}
 use Rattle.enumerate.specs.Frames.{events_of, has_room, path_of, places_left, position_of, stacked, entered_placement}
 use Rattle.enumerate.specs.Turns.{SamePosition}
-use Rattle.enumerate.specs.Seeks.{IsDeeper, IsFresh, IsThere, SkipsTo, sought_at}
+use Rattle.enumerate.specs.Seeks.{IsDeeper, IsFresh, IsSought, IsThere, Skips, SkipsTo, sought_at}
 use Rattle.enumerate.proofs.SkipLemmas.{skips-before, skips-same}
-use Rattle.enumerate.proofs.Stacks.{path-last, room-last, room-more, stacked-last}
+use Rattle.std.proofs.lemmas.List.{get_or-take, length-take-le, take-take}
+use Rattle.enumerate.proofs.Stacks.{path-last, room-last, room-more, stacked-last, walked-last, written-child, written-deeper, written-top}
 use Rattle.enumerate.proofs.Choices.{if_true}
 use Rattle.std.proofs.Common.{append_assoc, append-nil}
 
@@ -28,71 +28,88 @@ read-any (x ∷ xs) (suc i) d e within = read-any xs i d e (omega arith)
 take-top : (frames : List Frame) (top : ℕ) (d : Frame) → top < length frames → take (top + 1) frames ≡ take top frames ++ get_or frames top d ∷ []
 take-top frames top d within = let next : top + 1 ≡ suc top = omega arith in ap (λ k. take k frames) next ∙ take-suc frames top d within
 
--- what was done at the top frame is done of all
-module _ (table : Table) (mode : DropMode) (frames : List Frame) (top : ℕ) (d0 new : Frame) (within : top < length frames) (room : has_room 0 (take (top + 1) frames) ≡ true)
-    (same : SamePosition (get_or frames top d0) new) (before now : ℕ) (q : Placement) where
+-- what was done at the top frame, the last of the front, is done of all
+module _ (table : Table) (mode : DropMode) (frames walked : List Frame) (top : ℕ) (front : walked ≡ take (top + 1) frames) (within : top < length frames) (d0 : Frame) where
   abbrev below : List Frame
   below = take top frames
 
   abbrev old : Frame
-  old = get_or frames top d0
+  old = get_or walked top d0
 
-  fits : old.left + top ≤ 19
-  fits = let last = room-last 0 below old (subst (λ l. has_room 0 l ≡ true) (take-top frames top d0 within) room) in omega (arith, last.1, length-take top frames)
+  long : length walked ≡ top + 1
+  long = ap length front ∙ length-take-le (top + 1) frames (omega arith)
 
-  room-below : has_room 0 below ≡ true
-  room-below = (room-last 0 below old (subst (λ l. has_room 0 l ≡ true) (take-top frames top d0 within) room)).0
+  below-same : take top walked ≡ below
+  below-same = ap (take top) front ∙ take-take top (top + 1) frames (omega arith)
 
-  room-new : has_room 0 (below ++ new ∷ []) ≡ true
-  room-new = room-more 0 below new room-below (omega (arith, fits, same.left, length-take top frames))
+  old-there : (d : Frame) → old ≡ get_or frames top d
+  old-there d = ap (λ l. get_or l top d0) front ∙ get_or-take (top + 1) frames top d0 (omega arith) ∙ read-any frames top d0 d within
 
-  written : take (top + 1) (set frames top new) ≡ below ++ new ∷ []
-  written = take_more_set frames top new within
+  whole : take (top + 1) frames ≡ below ++ old ∷ []
+  whole = sym front ∙ walked-last walked top (top + 1) refl long d0 ∙ ap (λ l. l ++ old ∷ []) below-same
 
-  pub there : ((prefix given : List Placement) → SkipsTo (sought (suc old.left) prefix (position_of table mode old) (q ∷ given)) (events_of table mode prefix new) before now) → IsThere table mode frames (set frames top new) top q before now
-  there skips = record {
-    room = subst (λ l. has_room 0 l ≡ true) (sym written) room-new;
-    skips = λ given d.
-        subst (λ l. SkipsTo (sought_at table mode frames top (q ∷ given) d) l before now) (sym (ap (stacked table mode []) written ∙ stacked-last table mode [] below new))
-        (subst (λ f. SkipsTo (sought (suc f.left) (path_of below) (position_of table mode f) (q ∷ given) ++ stacked table mode [] below) (events_of table mode (path_of below) new ++ stacked table mode [] below) before now) (read-any frames top d0 d within)
-        (skips-before (sought (suc old.left) (path_of below) (position_of table mode old) (q ∷ given)) (events_of table mode (path_of below) new) (stacked table mode [] below) before now (skips (path_of below) given)));
-  }
+  pub old-fresh : ((d : Frame) → IsFresh table mode (get_or frames top d)) → IsFresh table mode old
+  old-fresh fresh = subst (IsFresh table mode) (sym (old-there d0)) (fresh d0)
 
-  module _ (child : Frame) (fewer : child.left + 1 ≡ old.left) (long : length frames ≡ 20) where
-    pub deeper-within : top + 1 < 20
-    deeper-within = omega (arith, fits, fewer)
+  fits : has_room 0 (take (top + 1) frames) ≡ true → old.left + top ≤ 19
+  fits room = let last = room-last 0 below old (subst (λ l. has_room 0 l ≡ true) whole room) in omega (arith, last.1, length-take top frames)
+
+  -- there is room behind it for the placements that come after its next one
+  pub old-within : has_room 0 (take (top + 1) frames) ≡ true → old.left + (top + 1) ≤ 20
+  old-within room = omega (arith, fits room)
+
+  module _ (new : Frame) (room : has_room 0 (take (top + 1) frames) ≡ true) (same : SamePosition old new) (behind : List Frame) (before now : ℕ) (q : Placement) where
+    room-below : has_room 0 below ≡ true
+    room-below = (room-last 0 below old (subst (λ l. has_room 0 l ≡ true) whole room)).0
+
+    room-new : has_room 0 (below ++ new ∷ []) ≡ true
+    room-new = room-more 0 below new room-below (omega (arith, fits room, same.left, length-take top frames))
 
     abbrev more : List Frame
-    more = set (set frames top new) (top + 1) child
+    more = set walked top new ++ behind
 
-    long-new : top + 1 < length (set frames top new)
-    long-new = omega (arith, length-set frames top new, deeper-within, long)
+    written : take (top + 1) more ≡ below ++ new ∷ []
+    written = written-top walked top (top + 1) refl long new behind ∙ ap (λ l. l ++ new ∷ []) below-same
 
-    below-more : take (top + 1) more ≡ below ++ new ∷ []
-    below-more = take-set (set frames top new) (top + 1) child ∙ written
-
-    child-there : (d : Frame) → child ≡ get_or more (top + 1) d
-    child-there d = sym (get_or-set_same (set frames top new) (top + 1) child d long-new)
-
-    pub deeper : IsFresh table mode child →
-        ((prefix given : List Placement) → SkipsTo (sought (suc old.left) prefix (position_of table mode old) (q ∷ given)) (sought (suc child.left) (prefix ++ entered_placement new) (position_of table mode child) given ++ events_of table mode prefix new) before now) →
-        IsDeeper table mode frames more top q before now
-    deeper fresh skips = record {
-      within = deeper-within;
-      room = subst (λ l. has_room 0 l ≡ true) (sym (take_more_set (set frames top new) (top + 1) child long-new ∙ ap (λ l. l ++ child ∷ []) written))
-          (room-more 0 (below ++ new ∷ []) child room-new (omega (arith, fits, fewer, length-take top frames, length-append below (new ∷ []))));
-      fresh = λ d. subst (IsFresh table mode) (child-there d) fresh;
+    there : ((prefix given : List Placement) → SkipsTo (sought (suc old.left) prefix (position_of table mode old) (q ∷ given)) (events_of table mode prefix new) before now) → IsThere table mode frames more top q before now
+    there skips = record {
+      room = subst (λ l. has_room 0 l ≡ true) (sym written) room-new;
       skips = λ given d.
-          subst (λ l. SkipsTo (sought_at table mode frames top (q ∷ given) d) l before now) (shape given d)
-          (subst (λ f. SkipsTo (sought (suc f.left) (path_of below) (position_of table mode f) (q ∷ given) ++ stacked table mode [] below) ((sought (suc child.left) (path_of below ++ entered_placement new) (position_of table mode child) given ++ events_of table mode (path_of below) new) ++ stacked table mode [] below) before now) (read-any frames top d0 d within)
-          (skips-before (sought (suc old.left) (path_of below) (position_of table mode old) (q ∷ given)) (sought (suc child.left) (path_of below ++ entered_placement new) (position_of table mode child) given ++ events_of table mode (path_of below) new) (stacked table mode [] below) before now (skips (path_of below) given)));
+          subst (λ l. SkipsTo (sought_at table mode frames top (q ∷ given) d) l before now) (sym (ap (stacked table mode []) written ∙ stacked-last table mode [] below new))
+          (subst (λ f. SkipsTo (sought (suc f.left) (path_of below) (position_of table mode f) (q ∷ given) ++ stacked table mode [] below) (events_of table mode (path_of below) new ++ stacked table mode [] below) before now) (old-there d)
+          (skips-before (sought (suc old.left) (path_of below) (position_of table mode old) (q ∷ given)) (events_of table mode (path_of below) new) (stacked table mode [] below) before now (skips (path_of below) given)));
     }
-      where
-        shape : (given : List Placement) (d : Frame) → (sought (suc child.left) (path_of below ++ entered_placement new) (position_of table mode child) given ++ events_of table mode (path_of below) new) ++ stacked table mode [] below ≡ sought_at table mode more (top + 1) given d
-        shape given d =
-            append_assoc (sought (suc child.left) (path_of below ++ entered_placement new) (position_of table mode child) given) (events_of table mode (path_of below) new) (stacked table mode [] below)
-            ∙ (λ i. sought (suc (child-there d i).left) (sym (path-last below new) i) (position_of table mode (child-there d i)) given ++ sym (stacked-last table mode [] below new) i)
-            ∙ sym (λ i. sought (suc (get_or more (top + 1) d).left) (path_of (below-more i)) (position_of table mode (get_or more (top + 1) d)) given ++ stacked table mode [] (below-more i))
+
+    module _ (e : Frame) (fewer : (get_or behind 0 e).left + 1 ≡ old.left) (some : 0 < length behind) where
+      abbrev child : Frame
+      child = get_or behind 0 e
+
+      child-there : (d : Frame) → child ≡ get_or more (top + 1) d
+      child-there d = sym (written-child walked top (top + 1) refl long new behind e d some)
+
+      deeper : IsFresh table mode child →
+          ((prefix given : List Placement) → SkipsTo (sought (suc old.left) prefix (position_of table mode old) (q ∷ given)) (sought (suc child.left) (prefix ++ entered_placement new) (position_of table mode child) given ++ events_of table mode prefix new) before now) →
+          IsDeeper table mode frames more top q before now
+      deeper fresh skips = record {
+        within = omega (arith, fits room, fewer);
+        room = subst (λ l. has_room 0 l ≡ true) (sym (written-deeper walked top (top + 1) refl long new behind e some ∙ ap (λ l. (l ++ new ∷ []) ++ child ∷ []) below-same))
+            (room-more 0 (below ++ new ∷ []) child room-new (omega (arith, fits room, fewer, length-take top frames, length-append below (new ∷ []))));
+        fresh = λ d. subst (IsFresh table mode) (child-there d) fresh;
+        skips = λ given d.
+            subst (λ l. SkipsTo (sought_at table mode frames top (q ∷ given) d) l before now) (shape given d)
+            (subst (λ f. SkipsTo (sought (suc f.left) (path_of below) (position_of table mode f) (q ∷ given) ++ stacked table mode [] below) ((sought (suc child.left) (path_of below ++ entered_placement new) (position_of table mode child) given ++ events_of table mode (path_of below) new) ++ stacked table mode [] below) before now) (old-there d)
+            (skips-before (sought (suc old.left) (path_of below) (position_of table mode old) (q ∷ given)) (sought (suc child.left) (path_of below ++ entered_placement new) (position_of table mode child) given ++ events_of table mode (path_of below) new) (stacked table mode [] below) before now (skips (path_of below) given)));
+      }
+        where
+          shape : (given : List Placement) (d : Frame) → (sought (suc child.left) (path_of below ++ entered_placement new) (position_of table mode child) given ++ events_of table mode (path_of below) new) ++ stacked table mode [] below ≡ sought_at table mode more (top + 1) given d
+          shape given d =
+              append_assoc (sought (suc child.left) (path_of below ++ entered_placement new) (position_of table mode child) given) (events_of table mode (path_of below) new) (stacked table mode [] below)
+              ∙ (λ i. sought (suc (child-there d i).left) (sym (path-last below new) i) (position_of table mode (child-there d i)) given ++ sym (stacked-last table mode [] below new) i)
+              ∙ sym (λ i. sought (suc (get_or more (top + 1) d).left) (path_of (written i)) (position_of table mode (get_or more (top + 1) d)) given ++ stacked table mode [] (written i))
+
+    pub skipped : length behind + (top + 1) ≡ 20 → (entered : Bool) → Skips table mode old new q (get_or behind 0 new) entered before now → IsSought table mode frames (set walked top new ++ behind) top q entered before now
+    skipped size false skips = there skips
+    skipped size true skips = deeper new skips.2 (omega (arith, fits room, skips.2, size)) skips.1 skips.0
 
 -- a fresh frame, with nothing to be passed by
 pub fresh-events : (table : Table) (mode : DropMode) (prefix : List Placement) (frame : Frame) → IsFresh table mode frame → sought (suc frame.left) prefix (position_of table mode frame) [] ≡ events_of table mode prefix frame

@@ -255,10 +255,10 @@ module _ (n : Position) (q : Placement) (l : List Placement) (e : l ≡ filter (
   ]
 
 -- what entering comes to where there is no frame after the placement
-pub dead-result : (table : Table) (mode : DropMode) (old new : Frame) (same : SamePosition old new) (q : Placement) (result : Turn) → Enters new q result → ((child : Frame) → result ≡ Entered child → ⊥) → (b : Bool) → (prefix given : List Placement) →
+pub dead-result : (table : Table) (mode : DropMode) (old new : Frame) (same : SamePosition old new) (q : Placement) (child : Frame) (result : Turn) → Enters new q child result → (result ≡ Entered → ⊥) → (b : Bool) → (prefix given : List Placement) →
     (found (if b && is_below old.rows q then sought old.left (prefix ++ q ∷ []) (after_of (position_of table mode old) q) given else []) ≡ []) × (floods (if b && is_below old.rows q then sought old.left (prefix ++ q ∷ []) (after_of (position_of table mode old) q) given else []) ≡ 0)
-dead-result table mode old new same q Passed enters none b = dead-passed table mode old new same q b enters
-dead-result table mode old new same q Flooded enters none b = absurd enters
-dead-result table mode old new same q (Entered child) enters none b = absurd (none child refl)
-dead-result table mode old new same q Full enters none b = dead-full table mode old new same q b enters
-dead-result table mode old new same q Over enters none b = absurd enters
+dead-result table mode old new same q child Passed enters none b = dead-passed table mode old new same q b enters
+dead-result table mode old new same q child Flooded enters none b = absurd enters
+dead-result table mode old new same q child Entered enters none b = absurd (none refl)
+dead-result table mode old new same q child Full enters none b = dead-full table mode old new same q b enters
+dead-result table mode old new same q child Over enters none b = absurd enters

@@ -1,10 +1,10 @@
 -- Turns of frames, from the first position to the deepest.
-use Rattle.std.proofs.Common.{◌≡◌, ℕ, suc, ◌+◌, ◌<◌, ◌≤◌, Bool, true, false, List, [], ◌∷◌, ◌++◌, length, refl, sym, ap, subst, ◌∙◌, arith, append_assoc, length-append, get_or, set, take, length-take, length-set}
+use Rattle.std.proofs.Common.{◌≡◌, ℕ, suc, ◌+◌, ◌<◌, ◌≤◌, Bool, true, false, List, [], ◌∷◌, ◌++◌, length, refl, sym, ap, subst, ◌∙◌, arith, append_assoc, length-append, get_or, set, take, length-set}
 use Rattle.std.specs.Prelude.{nat_le, ◌-◌}
-use Rattle.std.proofs.Math.Seq.{take-suc, take-suc-set}
+use Rattle.std.proofs.Math.Seq.{take-append-add, take-suc}
 use Rattle.std.specs.List.{flat_map}
 use Rattle.std.proofs.lemmas.Bool.{leb-true, le-leb}
-use Rattle.std.proofs.lemmas.List.{append-nil, take-set, take_more_set}
+use Rattle.std.proofs.lemmas.List.{append-nil, get_or-append_right, length-take-le, take-append-le, take-set, take_all, take_at, take_more_set}
 use Rattle.std.proofs.lemmas.Grind.{flat_map-append}
 use Rattle.srs.specs.declared.placement.Placement.{Placement}
 use Rattle.srs.specs.Kick.{Table}
@@ -108,47 +108,84 @@ module _ (table : Table) (mode : DropMode) (fs : List Frame) (old new : Frame) (
         shorter = omega (arith, ap length e);
       }
 
--- ---- frames in an array, of which the first so many are in use
+-- ---- the frames in use, of which the deepest is written, and those behind it
 
-take-last : (frames : List Frame) (depth : ℕ) (d : Frame) → 0 < depth → depth ≤ length frames → take depth frames ≡ take (depth - 1) frames ++ get_or frames (depth - 1) d ∷ []
-take-last frames depth d some within =
-    let next : depth ≡ suc (depth - 1) = omega arith in
-    ap (λ k. take k frames) next ∙ take-suc frames (depth - 1) d (omega arith)
+module _ (walked : List Frame) (top depth : ℕ) (next : depth ≡ top + 1) (long : length walked ≡ depth) where
+  pub walked-last : (d : Frame) → walked ≡ take top walked ++ get_or walked top d ∷ []
+  walked-last d =
+      sym (take_all (suc top) walked (omega (arith, long, next)))
+      ∙ take-suc walked top d (omega (arith, long, next))
 
-take-written : (frames : List Frame) (depth : ℕ) (f : Frame) → 0 < depth → depth ≤ length frames → take depth (set frames (depth - 1) f) ≡ take (depth - 1) frames ++ f ∷ []
-take-written frames depth f some within =
-    let next : depth ≡ suc (depth - 1) = omega arith in
-    ap (λ k. take k (set frames (depth - 1) f)) next ∙ take-suc-set frames (depth - 1) f (omega arith)
+  module _ (new : Frame) (behind : List Frame) where
+    abbrev written : List Frame
+    written = set walked top new
 
-module _ (table : Table) (mode : DropMode) (frames : List Frame) (depth : ℕ) (d new : Frame) (some : 0 < depth) (within : depth ≤ length frames) (before now : ℕ) where
-  pub array-room : has_room 0 (take depth frames) ≡ true → has_room 0 (take (depth - 1) frames ++ get_or frames (depth - 1) d ∷ []) ≡ true
-  array-room room = subst (λ l. has_room 0 l ≡ true) (take-last frames depth d some within) room
+    size : length written ≡ depth
+    size = length-set walked top new ∙ long
 
-  pub array-turn : (solved : Bool) → IsTurn table mode (take (depth - 1) frames ++ get_or frames (depth - 1) d ∷ []) (take (depth - 1) frames ++ new ∷ []) before now solved →
-      IsTurn table mode (take depth frames) (take depth (set frames (depth - 1) new)) before now solved
-  array-turn solved turn =
-      subst (λ l. IsTurn table mode l (take depth (set frames (depth - 1) new)) before now solved) (sym (take-last frames depth d some within))
-      (subst (λ l. IsTurn table mode (take (depth - 1) frames ++ get_or frames (depth - 1) d ∷ []) l before now solved) (sym (take-written frames depth new some within)) turn)
+    shape : written ≡ take top walked ++ new ∷ []
+    shape = sym (take_all (top + 1) written (omega (arith, size, next))) ∙ take_more_set walked top new (omega (arith, long, next))
 
-  pub array-over : IsTurn table mode (take (depth - 1) frames ++ get_or frames (depth - 1) d ∷ []) (take (depth - 1) frames) before now false →
-      IsTurn table mode (take depth frames) (take (depth - 1) (set frames (depth - 1) new)) before now false
-  array-over turn =
-      subst (λ l. IsTurn table mode l (take (depth - 1) (set frames (depth - 1) new)) before now false) (sym (take-last frames depth d some within))
-      (subst (λ l. IsTurn table mode (take (depth - 1) frames ++ get_or frames (depth - 1) d ∷ []) l before now false) (sym (take-set frames (depth - 1) new)) turn)
+    pub written-top : take depth (written ++ behind) ≡ take top walked ++ new ∷ []
+    written-top = take_at written behind depth size ∙ shape
 
-  pub array-entered : (child : Frame) → depth < length frames → IsTurn table mode (take (depth - 1) frames ++ get_or frames (depth - 1) d ∷ []) ((take (depth - 1) frames ++ new ∷ []) ++ child ∷ []) before now false →
-      IsTurn table mode (take depth frames) (take (depth + 1) (set (set frames (depth - 1) new) depth child)) before now false
-  array-entered child room turn =
-      let longer : depth < length (set frames (depth - 1) new) = omega (arith, length-set frames (depth - 1) new) in
-      subst (λ l. IsTurn table mode l (take (depth + 1) (set (set frames (depth - 1) new) depth child)) before now false) (sym (take-last frames depth d some within))
-      (subst (λ l. IsTurn table mode (take (depth - 1) frames ++ get_or frames (depth - 1) d ∷ []) l before now false)
-      (sym (take_more_set (set frames (depth - 1) new) depth child longer ∙ ap (λ l. l ++ child ∷ []) (take-written frames depth new some within))) turn)
+    pub written-below : take top (written ++ behind) ≡ take top walked
+    written-below = take-append-le top written behind (omega (arith, size, next)) ∙ take-set walked top new
 
-  -- a frame below which there is another leaves room for one more
-  pub array-deeper : has_room 0 (take depth frames) ≡ true → 1 ≤ (get_or frames (depth - 1) d).left → depth < 20
-  array-deeper room left =
-      let last = room-last 0 (take (depth - 1) frames) (get_or frames (depth - 1) d) (array-room room) in
-      omega (arith, last.1, left, length-take (depth - 1) frames)
+    pub written-deeper : (d : Frame) → 0 < length behind → take (depth + 1) (written ++ behind) ≡ (take top walked ++ new ∷ []) ++ get_or behind 0 d ∷ []
+    written-deeper d more =
+        ap (λ k. take (k + 1) (written ++ behind)) (sym size)
+        ∙ take-append-add written behind 1
+        ∙ ap (λ l. written ++ l) (take-suc behind 0 d more)
+        ∙ ap (λ l. l ++ get_or behind 0 d ∷ []) shape
+
+    pub written-child : (d e : Frame) → 0 < length behind → get_or (written ++ behind) depth e ≡ get_or behind 0 d
+    written-child d e more =
+        get_or-append_right written behind depth depth e size (omega arith)
+        ∙ ap (λ k. get_or behind k e) (omega arith)
+        ∙ first behind more
+      where
+        first : (l : List Frame) → 0 < length l → get_or l 0 e ≡ get_or l 0 d
+        first [] more = absurd (omega arith)
+        first (x ∷ xs) more = refl
+
+module _ (table : Table) (mode : DropMode) (frames walked : List Frame) (same : walked ≡ frames) (depth : ℕ) (some : 0 < depth) (long : length walked ≡ depth) (d : Frame) where
+  abbrev before_last : List Frame
+  before_last = take (depth - 1) walked
+
+  abbrev last : Frame
+  last = get_or walked (depth - 1) d
+
+  shape_of : frames ≡ before_last ++ last ∷ []
+  shape_of = sym same ∙ walked-last walked (depth - 1) depth (omega (arith, some)) long d
+
+  pub array-room : has_room 0 frames ≡ true → has_room 0 (before_last ++ last ∷ []) ≡ true
+  array-room room = subst (λ l. has_room 0 l ≡ true) shape_of room
+
+  -- there is room behind a frame for the placements that come after its next one
+  pub array-deeper : has_room 0 frames ≡ true → last.left + depth ≤ 20
+  array-deeper room =
+      let fits = room-last 0 before_last last (array-room room) in
+      omega (arith, fits.1, length-take-le (depth - 1) walked (omega (arith, long)))
+
+  module _ (new : Frame) (behind : List Frame) (before now : ℕ) where
+    pub array-turn : (solved : Bool) → IsTurn table mode (before_last ++ last ∷ []) (before_last ++ new ∷ []) before now solved →
+        IsTurn table mode frames (take depth (set walked (depth - 1) new ++ behind)) before now solved
+    array-turn solved turn =
+        subst (λ l. IsTurn table mode l (take depth (set walked (depth - 1) new ++ behind)) before now solved) (sym shape_of)
+        (subst (λ l. IsTurn table mode (before_last ++ last ∷ []) l before now solved) (sym (written-top walked (depth - 1) depth (omega (arith, some)) long new behind)) turn)
+
+    pub array-over : IsTurn table mode (before_last ++ last ∷ []) before_last before now false →
+        IsTurn table mode frames (take (depth - 1) (set walked (depth - 1) new ++ behind)) before now false
+    array-over turn =
+        subst (λ l. IsTurn table mode l (take (depth - 1) (set walked (depth - 1) new ++ behind)) before now false) (sym shape_of)
+        (subst (λ l. IsTurn table mode (before_last ++ last ∷ []) l before now false) (sym (written-below walked (depth - 1) depth (omega (arith, some)) long new behind)) turn)
+
+    pub array-entered : (e : Frame) → 0 < length behind → IsTurn table mode (before_last ++ last ∷ []) ((before_last ++ new ∷ []) ++ get_or behind 0 e ∷ []) before now false →
+        IsTurn table mode frames (take (depth + 1) (set walked (depth - 1) new ++ behind)) before now false
+    array-entered e more turn =
+        subst (λ l. IsTurn table mode l (take (depth + 1) (set walked (depth - 1) new ++ behind)) before now false) (sym shape_of)
+        (subst (λ l. IsTurn table mode (before_last ++ last ∷ []) l before now false) (sym (written-deeper walked (depth - 1) depth (omega (arith, some)) long new behind e more)) turn)
 
 -- what was found before stays found
 pub finds-more : (first old new : List (List Placement)) (path : List Placement) (solved some : Bool) → first ≡ old → Finds old new path solved → solved ≡ true → some ≡ true → Finds first new path some

@@ -300,12 +300,12 @@ module _ (table : Table) (mode : DropMode) (old mid : Frame) (same : SamePositio
       position : position_of table mode old ≡ position_of table mode mid
       position = sym (same-position table mode old mid same)
 
-  pub turns-from : (new : Frame) (result : Turn) (before now : ℕ) → Turns table mode mid new result before now → Turns table mode old new result before now
-  turns-from new Passed before now turns = (goes-from _ turns.0, turns.1)
-  turns-from new Flooded before now turns = (goes-from _ turns.0, turns.1)
-  turns-from new (Entered child) before now turns = (goes-from _ turns.0, turns.1, turns.2 ∙ same.left)
-  turns-from new Full before now turns = (goes-from _ turns.0, turns.1)
-  turns-from new Over before now turns = (goes-from _ turns.0, turns.1)
+  pub turns-from : (new child : Frame) (result : Turn) (before now : ℕ) → Turns table mode mid new child result before now → Turns table mode old new child result before now
+  turns-from new child Passed before now turns = (goes-from _ turns.0, turns.1)
+  turns-from new child Flooded before now turns = (goes-from _ turns.0, turns.1)
+  turns-from new child Entered before now turns = (goes-from _ turns.0, turns.1, turns.2 ∙ same.left)
+  turns-from new child Full before now turns = (goes-from _ turns.0, turns.1)
+  turns-from new child Over before now turns = (goes-from _ turns.0, turns.1)
 
 pub line-permits : (line : QueuesInPlay) (c : Piece) → may_play line c ≡ true → QueuesPermit line (line.played ++ c ∷ [])
 unfolding may_play
@@ -320,13 +320,13 @@ not-zero k differs = elim (cases_Bool (k == 0)) [
 -- a turn that enters a placement
 pub enters-turn : (table : Table) (mode : DropMode) (old new : Frame) (same : SamePosition old new) (q : Placement)
     (first : places_left old.places old.entered ≡ q ∷ places_left new.places new.entered) (kinds : new.tried ≡ old.tried) (step : new.entered ≡ Some q)
-    (result : Turn) (steps : ℕ) → Enters new q result → Turns table mode old new result steps steps
-enters-turn table mode old new same q first kinds step Passed steps enters = (goes-entered table mode old new same q first kinds step (λ table mode prefix. Tick ∷ []) enters, refl)
-enters-turn table mode old new same q first kinds step Flooded steps enters = absurd enters
-enters-turn table mode old new same q first kinds step (Entered child) steps enters =
+    (child : Frame) (result : Turn) (steps : ℕ) → Enters new q child result → Turns table mode old new child result steps steps
+enters-turn table mode old new same q first kinds step child Passed steps enters = (goes-entered table mode old new same q first kinds step (λ table mode prefix. Tick ∷ []) enters, refl)
+enters-turn table mode old new same q first kinds step child Flooded steps enters = absurd enters
+enters-turn table mode old new same q first kinds step child Entered steps enters =
     (goes-entered table mode old new same q first kinds step (λ table mode prefix. Tick ∷ events_of table mode prefix child) enters.0, refl, enters.1.left ∙ same.left)
-enters-turn table mode old new same q first kinds step Full steps enters = (goes-entered table mode old new same q first kinds step (λ table mode prefix. Found prefix ∷ []) enters, refl)
-enters-turn table mode old new same q first kinds step Over steps enters = absurd enters
+enters-turn table mode old new same q first kinds step child Full steps enters = (goes-entered table mode old new same q first kinds step (λ table mode prefix. Found prefix ∷ []) enters, refl)
+enters-turn table mode old new same q first kinds step child Over steps enters = absurd enters
 
 pub record-same : (a b c : Frame) → b.well ≡ a.well → b.rows ≡ a.rows → b.queues ≡ a.queues → b.left ≡ a.left → SamePosition b c → SamePosition a c
 record-same a b c well rows queues left same = record { well = same.well ∙ well; rows = same.rows ∙ rows; queues = same.queues ∙ queues; left = same.left ∙ left }

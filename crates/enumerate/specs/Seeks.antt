@@ -1,5 +1,5 @@
 -- What passing by all that comes before a given sequence does to the events that are still to come.
-use Rattle.std.specs.Prelude.{◌≡◌, ℕ, suc, ◌+◌, ◌<◌, ◌≤◌, Bool, true, false, IsTrue, Option, Some, None, List, [], ◌∷◌, ◌++◌, take, slice_index_or}
+use Rattle.std.specs.Prelude.{◌≡◌, ℕ, suc, ◌+◌, ◌<◌, ◌≤◌, Bool, true, false, IsTrue, None, List, [], ◌∷◌, ◌++◌, take, slice_index_or}
 use Rattle.srs.specs.declared.placement.Placement.{Placement}
 use Rattle.srs.specs.Kick.{Table}
 use Rattle.moves.specs.declared.key.DropMode.{DropMode}
@@ -20,13 +20,13 @@ pub record SkipsTo (old new : List Event) (before now : ℕ) : Type 0 where
   pub counted : floods old + before ≡ floods new + now
   pub fewer : floods new ≤ floods old
 
--- after any prefix, whatever of the given sequence follows
-abbrev pub Skips : Table → DropMode → Frame → Frame → Placement → Option Frame → ℕ → ℕ → Type 0
-Skips table mode old new q None before now =
+-- after any prefix, whatever of the given sequence follows: where it is true the child is the frame after the placement
+abbrev pub Skips : Table → DropMode → Frame → Frame → Placement → Frame → Bool → ℕ → ℕ → Type 0
+Skips table mode old new q child false before now =
     (prefix given : List Placement) →
     SkipsTo (sought (suc old.left) prefix (position_of table mode old) (q ∷ given))
     (events_of table mode prefix new) before now
-Skips table mode old new q (Some child) before now =
+Skips table mode old new q child true before now =
     ((prefix given : List Placement) → SkipsTo (sought (suc old.left) prefix (position_of table mode old) (q ∷ given))
     (sought (suc child.left) (prefix ++ entered_placement new) (position_of table mode child) given
     ++ events_of table mode prefix new) before now)

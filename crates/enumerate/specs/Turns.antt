@@ -34,29 +34,31 @@ pub record IsChild (frame : Frame) (q : Placement) (child : Frame) : Type 0 wher
   pub tried : child.tried ≡ 0
   pub places : child.places ≡ None
 
-abbrev pub Enters : Frame → Placement → Turn → Type 0
-Enters frame q Passed = EntersAs frame q (λ table mode prefix. Tick ∷ [])
-Enters frame q Flooded = ⊥
-Enters frame q (Entered child) =
+-- what entering a placement came to, and the frame after it where there is one
+abbrev pub Enters : Frame → Placement → Frame → Turn → Type 0
+Enters frame q child Passed = EntersAs frame q (λ table mode prefix. Tick ∷ [])
+Enters frame q child Flooded = ⊥
+Enters frame q child Entered =
     EntersAs frame q (λ table mode prefix. Tick ∷ events_of table mode prefix child) × IsChild frame q child
-Enters frame q Full = EntersAs frame q (λ table mode prefix. Found prefix ∷ [])
-Enters frame q Over = ⊥
+Enters frame q child Full = EntersAs frame q (λ table mode prefix. Found prefix ∷ [])
+Enters frame q child Over = ⊥
 
 -- what there is to do at a frame, after any prefix
 pub record GoesAs (table : Table) (mode : DropMode) (frame : Frame)
     (events : List Placement → List Event) : Type 0 where
   pub same : (prefix : List Placement) → events_of table mode prefix frame ≡ events prefix
 
-abbrev pub Turns : Table → DropMode → Frame → Frame → Turn → ℕ → ℕ → Type 0
-Turns table mode old new Passed before now =
+-- what a turn came to, and the frame after the placement where one was entered
+abbrev pub Turns : Table → DropMode → Frame → Frame → Frame → Turn → ℕ → ℕ → Type 0
+Turns table mode old new child Passed before now =
     GoesAs table mode old (λ prefix. Tick ∷ events_of table mode prefix new) × (now ≡ before)
-Turns table mode old new Flooded before now =
+Turns table mode old new child Flooded before now =
     GoesAs table mode old (λ prefix. Flood ∷ events_of table mode prefix new) × (now ≡ before + 1)
-Turns table mode old new (Entered child) before now =
+Turns table mode old new child Entered before now =
     GoesAs table mode old (λ prefix. Tick ∷ (events_of table mode (prefix ++ entered_placement new) child
     ++ events_of table mode prefix new))
     × (now ≡ before) × (child.left + 1 ≡ old.left)
-Turns table mode old new Full before now =
+Turns table mode old new child Full before now =
     GoesAs table mode old (λ prefix. Found (prefix ++ entered_placement new) ∷ events_of table mode prefix new)
     × (now ≡ before)
-Turns table mode old new Over before now = GoesAs table mode old (λ prefix. Tick ∷ []) × (now ≡ before)
+Turns table mode old new child Over before now = GoesAs table mode old (λ prefix. Tick ∷ []) × (now ≡ before)

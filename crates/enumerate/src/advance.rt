@@ -47,14 +47,12 @@ fn turn<L: Ledger>(
     ensures noted { CountsUp notes.old.floods notes.new.floods steps.old steps.new }
 {
     let top = depth - 1;
-    let frame = &mut frames[top];
-    match frame.turn(rules, drop_mode, notes, steps) {
+    let (walked, behind) = frames.split_at_mut(depth);
+    let frame = &mut walked[top];
+    match frame.turn(rules, drop_mode, behind, notes, steps) {
         Turn::Passed => (depth, false),
         Turn::Flooded => (depth, false),
-        Turn::Entered(child) => {
-            frames[depth] = child;
-            (depth + 1, false)
-        }
+        Turn::Entered => (depth + 1, false),
         Turn::Full => (depth, true),
         Turn::Over => (top, false),
     }

@@ -46,18 +46,22 @@ impl Frame {
         false
     }
 
-    /// Passes all that comes before a placement, and gives the frame after it where it can be entered.
+    /// Passes all that comes before a placement. True where it can be entered: then the first of the frames behind is
+    /// the one after it.
     fn skip<L: Ledger>(
         &mut self,
         target: &Placement,
         rules: &FloodRules,
         drop_mode: DropMode,
+        behind: &mut [Frame],
         notes: &mut Notes,
         steps: &mut Steps<L>,
-    ) -> Option<Frame>
-        requires { IsFresh (flood_table rules.now) drop_mode self.old }
-        ensures skips { Skips (flood_table rules.now) drop_mode self.old self.new target.now result
-            steps.old steps.new }
+    ) -> bool
+        requires fresh { IsFresh (flood_table rules.now) drop_mode self.old }
+        requires room { self.old.left ≤ length behind.old }
+        ensures skips { Skips (flood_table rules.now) drop_mode self.old self.new target.now
+            (slice_index_or behind.new 0 self.new) result steps.old steps.new }
+        ensures size { length behind.new ≡ length behind.old }
         ensures same { SamePosition self.old self.new }
         ensures noted { CountsUp notes.old.floods notes.new.floods steps.old steps.new }
     {
@@ -65,17 +69,17 @@ impl Frame {
         self.places = None;
         self.entered = None;
         if !self.queues.may_play(target.piece) {
-            return None;
+            return false;
         }
         self.flood(target.piece, rules, drop_mode, &mut notes.floods, steps);
         let reached = self.reaches(target);
         self.entered = Some(*target);
         if !reached {
-            return None;
+            return false;
         }
-        match self.enter(target, &mut notes.tilings) {
-            Turn::Entered(child) => Some(child),
-            _ => None,
+        match self.enter(target, &mut notes.tilings, behind) {
+            Turn::Entered => true,
+            _ => false,
         }
     }
 }
@@ -98,14 +102,9 @@ fn skip_at<L: Ledger>(
         steps.old steps.new }
     ensures noted { CountsUp notes.old.floods notes.new.floods steps.old steps.new }
 {
-    let frame = &mut frames[top];
-    match frame.skip(target, rules, drop_mode, notes, steps) {
-        None => false,
-        Some(child) => {
-            frames[top + 1] = child;
-            true
-        }
-    }
+    let (walked, behind) = frames.split_at_mut(top + 1);
+    let frame = &mut walked[top];
+    frame.skip(target, rules, drop_mode, behind, notes, steps)
 }
 
 /// Goes from a fresh first frame to the place of a given sequence: how many frames are in use then.

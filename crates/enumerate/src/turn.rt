@@ -1,7 +1,8 @@
 // One turn of the search at a frame.
-ghost use Rattle.std.specs.Prelude.{◌≡◌, ℕ, ◌+◌, ◌-◌, ◌≤◌, IsTrue, MatchOption, Some, None, [], ◌∷◌, drop, filter};
+ghost use Rattle.std.specs.Prelude.{◌≡◌, ℕ, ◌+◌, ◌-◌, ◌≤◌, IsTrue, MatchOption, Some, None, [], ◌∷◌, drop, filter, length, min, slice_index_or};
 ghost use Rattle.std.specs.Option.{ForSome};
 ghost use Rattle.srs.specs.Cells.{is_inside_of};
+ghost use Rattle.srs.specs.declared.piece.Piece.{Piece};
 ghost use Rattle.srs.specs.Piece.{all_pieces};
 ghost use Rattle.srs.specs.Kick.{Table};
 ghost use Rattle.lane_board.specs.Field.{difference, rows_below};
@@ -13,6 +14,7 @@ ghost use Rattle.hold_queue.specs.QueueSet.{queues_in_play};
 ghost use Rattle.well.specs.Lock.{locked, rows_removed};
 ghost use Rattle.well.specs.LockLaws.{is_below};
 ghost use Rattle.prune.specs.Tiling.{supply_in};
+ghost use Rattle.prune.specs.OnePart.{less_one};
 ghost use Rattle.packing.specs.Empties.{empty_cells};
 ghost use Rattle.packing.specs.HasTiling.{has_tiling};
 ghost use Rattle.enumerate.specs.Position.{may_play, is_live, places_at};
@@ -20,6 +22,7 @@ ghost use Rattle.enumerate.specs.Standing.{may_lock};
 ghost use Rattle.enumerate.specs.Counted.{CountsUp};
 ghost use Rattle.enumerate.specs.Frames.{position_of, places_left};
 ghost use Rattle.enumerate.specs.Turns.{Enters, Turns, SamePosition};
+ghost use Rattle.enumerate.specs.declared.frame.Frame.{Frame};
 
 use crate::frame::Frame;
 use crate::left::take_above;
@@ -43,8 +46,8 @@ pub enum Turn {
     Passed,
     /// A kind was flooded.
     Flooded,
-    /// A placement was entered, and this is the frame after it.
-    Entered(Frame),
+    /// A placement was entered, and the first of the frames behind is the one after it.
+    Entered,
     /// A placement was entered that completes a solution.
     Full,
     /// Nothing is left at the frame.
@@ -136,7 +139,7 @@ impl Frame {
         requires lockable { IsTrue (may_lock (filled self.now.well) placement.now.piece placement.now) }
         requires below { IsTrue (is_below self.now.rows placement.now) }
         requires last { self.now.left ≡ 0 }
-        ensures { Enters self.now placement.now result }
+        ensures { (child : Frame) → Enters self.now placement.now child result }
     {
         let (_, removed) = self.well.lock(placement);
         if self.rows.saturating_sub(removed) == 0 {
@@ -145,12 +148,41 @@ impl Frame {
         Turn::Passed
     }
 
-    /// Enters a placement.
-    pub fn enter(&self, placement: &Placement, tilings: &mut Tilings) -> Turn
+    /// Makes another frame the one after a placement that leaves a tiling.
+    fn lead_to(&self, placement: &Placement, supply: &[u8; 7], child: &mut Frame)
         requires lockable { IsTrue (may_lock (filled self.now.well) placement.now.piece placement.now) }
         requires below { IsTrue (is_below self.now.rows placement.now) }
         requires permitted { IsTrue (may_play (queues_in_play self.now.queues) placement.now.piece) }
-        ensures { Enters self.now placement.now result }
+        requires some { 1 ≤ self.now.left }
+        requires supplied { (other : Piece) → supply_in supply.now other
+            ≡ min self.now.left (less_one (supply_in self.now.supply) placement.now.piece other) }
+        requires tiled { IsTrue (has_tiling (locked (filled self.now.well) placement.now)
+            (self.now.rows - rows_removed (filled self.now.well) placement.now) (supply_in supply.now)) }
+        ensures { Enters self.now placement.now child.new Turn.Entered }
+    {
+        let (well, removed) = self.well.lock(placement);
+        let rows = self.rows.saturating_sub(removed);
+        let queues = self.queues.after(placement.piece);
+        child.well = well;
+        child.rows = rows;
+        child.empties = self.empties_after(placement, &well, rows, removed);
+        child.queues = queues;
+        child.may_come = queues.permitted();
+        child.supply = *supply;
+        child.left = self.left - 1;
+        child.tried = 0;
+        child.places = None;
+        child.entered = None;
+    }
+
+    /// Enters a placement. The first of the frames behind becomes the one after it where that is worth a look.
+    pub fn enter(&self, placement: &Placement, tilings: &mut Tilings, behind: &mut [Frame]) -> Turn
+        requires lockable { IsTrue (may_lock (filled self.now.well) placement.now.piece placement.now) }
+        requires below { IsTrue (is_below self.now.rows placement.now) }
+        requires permitted { IsTrue (may_play (queues_in_play self.now.queues) placement.now.piece) }
+        requires room { self.now.left ≤ length behind.old }
+        ensures enters { Enters self.now placement.now (slice_index_or behind.new 0 self.now) result }
+        ensures size { length behind.new ≡ length behind.old }
     {
         if self.left == 0 {
             return self.complete(placement);
@@ -159,21 +191,8 @@ impl Frame {
         if !self.leaves_tiling(placement, &supply, tilings) {
             return Turn::Passed;
         }
-        let (well, removed) = self.well.lock(placement);
-        let rows = self.rows.saturating_sub(removed);
-        let queues = self.queues.after(placement.piece);
-        Turn::Entered(Frame {
-            well,
-            rows,
-            empties: self.empties_after(placement, &well, rows, removed),
-            queues,
-            may_come: queues.permitted(),
-            supply,
-            left: self.left - 1,
-            tried: 0,
-            places: None,
-            entered: None,
-        })
+        self.lead_to(placement, &supply, &mut behind[0]);
+        Turn::Entered
     }
 
     /// Floods a kind that may be played.
@@ -195,8 +214,11 @@ impl Frame {
         ensures counted { steps.new ≡ steps.old + 1 }
         ensures noted { CountsUp floods.old floods.new steps.old steps.new }
     {
-        let reached = rules.places(&self.well, piece, drop_mode, steps);
-        self.places = Some(reached.below(self.rows));
+        self.places = Some(
+            rules
+                .places(&self.well, piece, drop_mode, steps)
+                .below(self.rows),
+        );
         self.entered = None;
         *floods = floods.saturating_add(1);
     }
@@ -210,7 +232,8 @@ impl Frame {
         steps: &mut Steps<L>,
     ) -> Turn
         requires { places_left self.old.places self.old.entered ≡ [] }
-        ensures turn { Turns (flood_table rules.now) drop_mode self.old self.new result steps.old steps.new }
+        ensures turn { (child : Frame) →
+            Turns (flood_table rules.now) drop_mode self.old self.new child result steps.old steps.new }
         ensures same { SamePosition self.old self.new }
         ensures noted { CountsUp floods.old floods.new steps.old steps.new }
     {
@@ -231,18 +254,25 @@ impl Frame {
         &mut self,
         rules: &FloodRules,
         drop_mode: DropMode,
+        behind: &mut [Frame],
         notes: &mut Notes,
         steps: &mut Steps<L>,
     ) -> Turn
-        ensures turn { Turns (flood_table rules.now) drop_mode self.old self.new result steps.old steps.new }
+        requires { self.old.left ≤ length behind.old }
+        ensures turn { Turns (flood_table rules.now) drop_mode self.old self.new
+            (slice_index_or behind.new 0 self.new) result steps.old steps.new }
+        ensures size { length behind.new ≡ length behind.old }
         ensures same { SamePosition self.old self.new }
         ensures noted { CountsUp notes.old.floods notes.new.floods steps.old steps.new }
     {
         match self.take_upcoming() {
-            None => self.try_kind(rules, drop_mode, &mut notes.floods, steps),
+            None => {
+                self.places = None;
+                self.try_kind(rules, drop_mode, &mut notes.floods, steps)
+            }
             Some(placement) => {
                 self.entered = Some(placement);
-                self.enter(&placement, &mut notes.tilings)
+                self.enter(&placement, &mut notes.tilings, behind)
             }
         }
     }

@@ -20,7 +20,7 @@ pub returns-then-not-may_play-clause-skips : goal.returns-then-not-may_play-clau
 unfolding places_left
 returns-then-not-may_play-clause-skips g c = λ prefix given.
     skips-same _ _ c.args.steps.now
-    (passes-kind (flood_table c.args.rules.now) c.args.drop_mode c.args.self.now _ record { well = refl; rows = refl; queues = refl; left = refl } c.args.target.now c.requires.live c.code-self.ensures
+    (passes-kind (flood_table c.args.rules.now) c.args.drop_mode c.args.self.now _ record { well = refl; rows = refl; queues = refl; left = refl } c.args.target.now c.requires.fresh.live c.code-self.ensures
     (may_play-answer (queues_in_play c.args.self.now.queues) c.args.target.now.piece c.may_play.result c.may_play.ensures.permitted ∙ c.if-not-may_play.true) refl prefix given)
 
 pub flood-requires : goal.flood-requires
@@ -45,7 +45,7 @@ unfolding position_of
 returns-then-not-reached-clause-skips g c =
     let played = may_play-answer (queues_in_play c.args.self.now.queues) c.args.target.now.piece c.may_play.result c.may_play.ensures.permitted ∙ c.if-not-may_play.false in
     skips-unplaced (flood_table c.args.rules.now) c.args.drop_mode c.args.self.now _
-    record { well = c.flood.ensures.same.well; rows = c.flood.ensures.same.rows; queues = c.flood.ensures.same.queues; left = c.flood.ensures.same.left } c.args.target.now c.requires.live
+    record { well = c.flood.ensures.same.well; rows = c.flood.ensures.same.rows; queues = c.flood.ensures.same.queues; left = c.flood.ensures.same.left } c.args.target.now c.requires.fresh.live
     (c.flood.ensures.tried ∙ c.code-self.ensures) played
     (left-above (position_of (flood_table c.args.rules.now) c.args.drop_mode c.args.self.now) c.flood.new.self.places c.flood.new.self.entered c.flood.ensures.entered c.args.target.now c.flood.ensures.places)
     c.args.steps.now c.flood.new.steps c.flood.ensures.counted
@@ -76,12 +76,12 @@ returns-in-Entered-clause-skips g c =
     let played = may_play-answer (queues_in_play c.args.self.now.queues) c.args.target.now.piece c.may_play.result c.may_play.ensures.permitted ∙ c.if-not-may_play.false in
     let placed = held-place (position_of (flood_table c.args.rules.now) c.args.drop_mode c.args.self.now) c.args.target.now _ c.flood.ensures.places c.reaches-reached.result c.reaches-reached.ensures c.if-not-reached.false in (
       skips-entered (flood_table c.args.rules.now) c.args.drop_mode c.args.self.now _
-          record { well = c.flood.ensures.same.well; rows = c.flood.ensures.same.rows; queues = c.flood.ensures.same.queues; left = c.flood.ensures.same.left } c.args.target.now c.requires.live
+          record { well = c.flood.ensures.same.well; rows = c.flood.ensures.same.rows; queues = c.flood.ensures.same.queues; left = c.flood.ensures.same.left } c.args.target.now c.requires.fresh.live
           (c.flood.ensures.tried ∙ c.code-self.ensures) played
           (left-above (position_of (flood_table c.args.rules.now) c.args.drop_mode c.args.self.now) c.flood.new.self.places c.flood.new.self.entered c.flood.ensures.entered c.args.target.now c.flood.ensures.places)
-          c.args.steps.now c.flood.new.steps c.flood.ensures.counted placed refl c.in-Entered.child c.in-Entered.ensures.1,
-      record { tried = c.in-Entered.ensures.1.tried; places = c.in-Entered.ensures.1.places; live = c.in-Entered.ensures.1.live (flood_table c.args.rules.now) c.args.drop_mode },
-      c.in-Entered.ensures.1.left ∙ c.flood.ensures.same.left,
+          c.args.steps.now c.flood.new.steps c.flood.ensures.counted placed refl _ c.in-Entered.ensures.enters.1,
+      record { tried = c.in-Entered.ensures.enters.1.tried; places = c.in-Entered.ensures.enters.1.places; live = c.in-Entered.ensures.enters.1.live (flood_table c.args.rules.now) c.args.drop_mode },
+      c.in-Entered.ensures.enters.1.left ∙ c.flood.ensures.same.left,
     )
 
 pub returns-in_default : goal.returns-in_default
@@ -90,13 +90,14 @@ returns-in_default g c =
     let played = may_play-answer (queues_in_play c.args.self.now.queues) c.args.target.now.piece c.may_play.result c.may_play.ensures.permitted ∙ c.if-not-may_play.false in
     record {
       skips = skips-dead (flood_table c.args.rules.now) c.args.drop_mode c.args.self.now _
-          record { well = c.flood.ensures.same.well; rows = c.flood.ensures.same.rows; queues = c.flood.ensures.same.queues; left = c.flood.ensures.same.left } c.args.target.now c.requires.live
+          record { well = c.flood.ensures.same.well; rows = c.flood.ensures.same.rows; queues = c.flood.ensures.same.queues; left = c.flood.ensures.same.left } c.args.target.now c.requires.fresh.live
           (c.flood.ensures.tried ∙ c.code-self.ensures) played
           (left-above (position_of (flood_table c.args.rules.now) c.args.drop_mode c.args.self.now) c.flood.new.self.places c.flood.new.self.entered c.flood.ensures.entered c.args.target.now c.flood.ensures.places)
           c.args.steps.now c.flood.new.steps c.flood.ensures.counted
           (dead-result (flood_table c.args.rules.now) c.args.drop_mode c.args.self.now _
-          record { well = c.flood.ensures.same.well; rows = c.flood.ensures.same.rows; queues = c.flood.ensures.same.queues; left = c.flood.ensures.same.left } c.args.target.now c.enter.result c.enter.ensures c.in_default.not-Entered
+          record { well = c.flood.ensures.same.well; rows = c.flood.ensures.same.rows; queues = c.flood.ensures.same.queues; left = c.flood.ensures.same.left } c.args.target.now _ c.enter.result c.enter.ensures.enters c.in_default.not-Entered
           (is_place (flood_table c.args.rules.now) (filled c.args.self.now.well) c.args.drop_mode c.args.target.now));
+      size = c.enter.ensures.size;
       same = record { well = c.flood.ensures.same.well; rows = c.flood.ensures.same.rows; queues = c.flood.ensures.same.queues; left = c.flood.ensures.same.left };
       noted = c.flood.ensures.noted;
     }

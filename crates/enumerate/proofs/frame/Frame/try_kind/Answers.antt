@@ -10,10 +10,10 @@ use Rattle.enumerate.proofs.Counting.{counts-none}
 use Rattle.enumerate.proofs.frame.Frame.try_kind.Goals as goal
 
 pub returns-in-None-clause-turn : goal.returns-in-None-clause-turn
-returns-in-None-clause-turn g c = (goes-over _ _ c.args.self.now c.requires c.in-None.ensures, refl)
+returns-in-None-clause-turn g c = λ child. (goes-over _ _ c.args.self.now c.requires c.in-None.ensures, refl)
 
 pub returns-then-not-may_come-clause-turn : goal.returns-then-not-may_come-clause-turn
-returns-then-not-may_come-clause-turn g c = (
+returns-then-not-may_come-clause-turn g c = λ child. (
   goes-past_kind _ _ c.args.self.now _ record { well = refl; rows = refl; queues = refl; left = refl } c.in-Some.piece c.requires c.in-Some.ensures
       (sym c.may_come.ensures ∙ c.if-not-may_come.true) c.requires,
   refl,
@@ -23,7 +23,7 @@ pub flood-requires : goal.flood-requires
 flood-requires g c = sym c.may_come.ensures ∙ c.if-not-may_come.false
 
 pub returns-clause-turn : goal.returns-clause-turn
-returns-clause-turn g c =
+returns-clause-turn g c = λ child.
     let same = record-same c.args.self.now _ c.flood.new.self refl refl refl refl c.flood.ensures.same in (
       goes-flooded (flood_table c.args.rules.now) c.args.drop_mode c.args.self.now c.flood.new.self same c.in-Some.piece c.requires
           (c.in-Some.ensures ∙ ap (λ k. c.in-Some.piece ∷ drop k all_pieces) (sym c.flood.ensures.tried))

@@ -6,14 +6,15 @@ use Rattle.well.specs.Well.{filled}
 use Rattle.well.specs.LockLaws.{is_below}
 use Rattle.reach.specs.Places.{piece_of}
 use Rattle.hold_queue.specs.QueueSet.{queues_in_play}
+use Rattle.enumerate.specs.Frames.{places_left}
 use Rattle.enumerate.specs.Position.{may_play}
 use Rattle.enumerate.specs.Standing.{may_lock}
 use Rattle.enumerate.proofs.TurnLemmas.{enters-turn, turns-from}
 use Rattle.enumerate.proofs.Counting.{counts-none}
 use Rattle.enumerate.proofs.frame.Frame.turn.Goals as goal
 
-pub invariant_of-self : goal.invariant_of-self
-invariant_of-self g c = record {
+pub invariant_of-self-in-Some : goal.invariant_of-self-in-Some
+invariant_of-self-in-Some g c = record {
   low = c.take_upcoming.new.self.low;
   few = c.take_upcoming.new.self.few;
   bounded = c.take_upcoming.new.self.bounded;
@@ -41,7 +42,7 @@ pub returns-in-Some-clause-turn : goal.returns-in-Some-clause-turn
 returns-in-Some-clause-turn g c =
     enters-turn _ _ c.args.self.now _
     record { well = c.in-Some.ensures.same.well; rows = c.in-Some.ensures.same.rows; queues = c.in-Some.ensures.same.queues; left = c.in-Some.ensures.same.left }
-    c.in-Some.placement c.in-Some.ensures.next.0 c.in-Some.ensures.tried refl c.enter.result _ c.enter.ensures
+    c.in-Some.placement c.in-Some.ensures.next.0 c.in-Some.ensures.tried refl _ c.enter.result _ c.enter.ensures.enters
 
 pub returns-in-Some-clause-same : goal.returns-in-Some-clause-same
 returns-in-Some-clause-same g c =
@@ -51,12 +52,16 @@ pub returns-in-Some-clause-noted : goal.returns-in-Some-clause-noted
 returns-in-Some-clause-noted g c = counts-none c.args.notes.now.floods c.args.steps.now
 
 pub try_kind-requires : goal.try_kind-requires
-try_kind-requires g c = c.in-None.ensures.next.1
+unfolding places_left
+try_kind-requires g c = refl
 
 pub returns-in-None-clause-turn : goal.returns-in-None-clause-turn
+unfolding places_left
 returns-in-None-clause-turn g c =
-    turns-from _ _ c.args.self.now c.take_upcoming.new.self c.in-None.ensures.same c.in-None.ensures.tried c.in-None.ensures.next.0 c.in-None.ensures.next.1
-    c.try_kind.new.self c.try_kind.result _ _ c.try_kind.ensures.turn
+    turns-from _ _ c.args.self.now _
+    record { well = c.in-None.ensures.same.well; rows = c.in-None.ensures.same.rows; queues = c.in-None.ensures.same.queues; left = c.in-None.ensures.same.left }
+    c.in-None.ensures.tried c.in-None.ensures.next.0 refl
+    c.try_kind.new.self _ c.try_kind.result _ _ (c.try_kind.ensures.turn _)
 
 pub returns-in-None-clause-same : goal.returns-in-None-clause-same
 returns-in-None-clause-same g c = record {
