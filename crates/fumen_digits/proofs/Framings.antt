@@ -7,18 +7,18 @@ use Rattle.std.proofs.lemmas.Bool.{agree_below_at, or_parts}
 use Rattle.fumen_digits.specs.declared.dialect.Dialect.{Dialect}
 use Rattle.fumen_digits.specs.declared.dialect.Dialect.TheVariants.{V110, V115}
 use Rattle.fumen_digits.specs.Digit.{digit, IsDigit, AreDigits}
-use Rattle.fumen_digits.specs.Framing.{begins_line, broken_digit, broken, is_dropped, version, dialect_at, kept, digits_in}
+use Rattle.fumen_digits.specs.Framing.{begins_line, broken_digit, broken, is_dropped, version, dialect_at, digits_behind, digits_in}
 
 abbrev pub lines_from : ℕ → List ℕ → List ℕ
 lines_from place ds = flat_map broken_digit (enumerate_from place ds)
 
 at_none : (byte : ℕ) (rest : List ℕ) → dialect_at (byte ∷ rest) ≡ None → digits_in rest ≡ digits_in (byte ∷ rest)
 unfolding digits_in
-at_none byte rest e = ap (λ (o : Option Dialect). option_map_or (λ d. Some (d, kept (drop 5 (byte ∷ rest)))) o (digits_in rest)) (sym e)
+at_none byte rest e = ap (λ (o : Option Dialect). option_map_or (λ d. Some (d, digits_behind (drop 5 (byte ∷ rest)))) o (digits_in rest)) (sym e)
 
-at_some : (byte : ℕ) (rest : List ℕ) (d : Dialect) → dialect_at (byte ∷ rest) ≡ Some d → digits_in (byte ∷ rest) ≡ Some (d, kept (drop 5 (byte ∷ rest)))
+at_some : (byte : ℕ) (rest : List ℕ) (d : Dialect) → dialect_at (byte ∷ rest) ≡ Some d → digits_in (byte ∷ rest) ≡ Some (d, digits_behind (drop 5 (byte ∷ rest)))
 unfolding digits_in
-at_some byte rest d e = ap (λ (o : Option Dialect). option_map_or (λ d. Some (d, kept (drop 5 (byte ∷ rest)))) o (digits_in rest)) e
+at_some byte rest d e = ap (λ (o : Option Dialect). option_map_or (λ d. Some (d, digits_behind (drop 5 (byte ∷ rest)))) o (digits_in rest)) e
 
 -- no prefix stands at this place, from which rest is left
 pub none_here : (text : List ℕ) (i : ℕ) (rest : List ℕ) → i < length text → rest ≡ drop i text → dialect_at rest ≡ None → digits_in (drop (i + 1) text) ≡ digits_in (drop i text)
@@ -27,11 +27,11 @@ none_here text i rest lt is none =
     at_none (get_or text i 0) (drop (i + 1) text) (ap dialect_at (sym one) ∙ (ap dialect_at (sym is) ∙ none)) ∙ ap digits_in (sym one)
 
 -- the first prefix stands at this place, from which rest is left
-pub found_here : (text : List ℕ) (i : ℕ) (rest behind : List ℕ) (d : Dialect) → i < length text → rest ≡ drop i text → behind ≡ drop 5 rest → dialect_at rest ≡ Some d → digits_in (drop i text) ≡ Some (d, kept behind)
+pub found_here : (text : List ℕ) (i : ℕ) (rest behind : List ℕ) (d : Dialect) → i < length text → rest ≡ drop i text → behind ≡ drop 5 rest → dialect_at rest ≡ Some d → digits_in (drop i text) ≡ Some (d, digits_behind behind)
 found_here text i rest behind d lt is behind_is found =
     let one = drop_more text i 0 lt in
-    let whole : digits_in (drop i text) ≡ Some (d, kept (drop 5 (drop i text))) = rw one (at_some (get_or text i 0) (drop (i + 1) text) d (ap dialect_at (sym one) ∙ (ap dialect_at (sym is) ∙ found))) in
-    whole ∙ ap (λ (x : List ℕ). Some (d, kept x)) (sym (behind_is ∙ ap (λ (x : List ℕ). drop 5 x) is))
+    let whole : digits_in (drop i text) ≡ Some (d, digits_behind (drop 5 (drop i text))) = rw one (at_some (get_or text i 0) (drop (i + 1) text) d (ap dialect_at (sym one) ∙ (ap dialect_at (sym is) ∙ found))) in
+    whole ∙ ap (λ (x : List ℕ). Some (d, digits_behind x)) (sym (behind_is ∙ ap (λ (x : List ℕ). drop 5 x) is))
 
 pub none_left : (text : List ℕ) (i : ℕ) → length text ≤ i → digits_in (drop i text) ≡ None
 unfolding digits_in
@@ -46,31 +46,31 @@ cond-not false x y = refl
 take_one_more : (n x : ℕ) (xs : List ℕ) → take (1 + n) (x ∷ xs) ≡ x ∷ take n xs
 take_one_more n x xs = let e : 1 + n ≡ suc n = omega arith in ap (λ (k : ℕ). take k (x ∷ xs)) e
 
-kept-cons : (byte : ℕ) (rest : List ℕ) → eqb byte 38 ≡ false → kept (byte ∷ rest) ≡ cond (is_dropped byte) (kept rest) (byte ∷ kept rest)
-unfolding kept
-kept-cons byte rest e =
+digits_behind-cons : (byte : ℕ) (rest : List ℕ) → eqb byte 38 ≡ false → digits_behind (byte ∷ rest) ≡ cond (is_dropped byte) (digits_behind rest) (byte ∷ digits_behind rest)
+unfolding digits_behind
+digits_behind-cons byte rest e =
     let n = prefix_len (λ b. not (eqb b 38)) rest in
     let inside : take (cond (not (eqb byte 38)) (1 + n) 0) (byte ∷ rest) ≡ byte ∷ take n rest = ap (λ (b : Bool). take (cond (not b) (1 + n) 0) (byte ∷ rest)) e ∙ take_one_more n byte rest in
-    ap (λ (text : List ℕ). filter (λ b. not (is_dropped b)) text) inside ∙ cond-not (is_dropped byte) (byte ∷ kept rest) (kept rest)
+    ap (λ (text : List ℕ). filter (λ b. not (is_dropped b)) text) inside ∙ cond-not (is_dropped byte) (byte ∷ digits_behind rest) (digits_behind rest)
 
 digit_stays : (v : ℕ) → v < 64 → (eqb (digit v) 38 || is_dropped (digit v)) ≡ false
 unfolding digit
 digit_stays v lt = agree_below_at (λ k. eqb (digit k) 38 || is_dropped (digit k)) (λ _. false) 64 v refl lt
 
-kept-stays : (byte : ℕ) (rest : List ℕ) → IsDigit byte → kept (byte ∷ rest) ≡ byte ∷ kept rest
-kept-stays byte rest is =
+digits_behind-stays : (byte : ℕ) (rest : List ℕ) → IsDigit byte → digits_behind (byte ∷ rest) ≡ byte ∷ digits_behind rest
+digits_behind-stays byte rest is =
     let both = or_parts (eqb (digit is.0) 38) (is_dropped (digit is.0)) (digit_stays is.0 is.1) in
     let e : eqb byte 38 ≡ false = rw is.2 both.0 in
     let dropped : is_dropped byte ≡ false = rw is.2 both.1 in
-    kept-cons byte rest e ∙ ap (λ (b : Bool). cond b (kept rest) (byte ∷ kept rest)) dropped
+    digits_behind-cons byte rest e ∙ ap (λ (b : Bool). cond b (digits_behind rest) (byte ∷ digits_behind rest)) dropped
 
-kept-lines : (place : ℕ) (ds : List ℕ) → AreDigits ds → kept (lines_from place ds) ≡ ds
-unfolding kept
-kept-lines place [] each = refl
-kept-lines place (d ∷ ds) each =
-    let behind = kept-stays d (lines_from (place + 1) ds) each.0 ∙ ap (λ (x : List ℕ). d ∷ x) (kept-lines (place + 1) ds each.1) in
-    elim (begins_line place) as (λ b. kept (cond b (63 ∷ d ∷ []) (d ∷ []) ++ lines_from (place + 1) ds) ≡ d ∷ ds) [
-      | true ↦ kept-cons 63 (d ∷ lines_from (place + 1) ds) refl ∙ behind
+digits_behind-lines : (place : ℕ) (ds : List ℕ) → AreDigits ds → digits_behind (lines_from place ds) ≡ ds
+unfolding digits_behind
+digits_behind-lines place [] each = refl
+digits_behind-lines place (d ∷ ds) each =
+    let behind = digits_behind-stays d (lines_from (place + 1) ds) each.0 ∙ ap (λ (x : List ℕ). d ∷ x) (digits_behind-lines (place + 1) ds each.1) in
+    elim (begins_line place) as (λ b. digits_behind (cond b (63 ∷ d ∷ []) (d ∷ []) ++ lines_from (place + 1) ds) ≡ d ∷ ds) [
+      | true ↦ digits_behind-cons 63 (d ∷ lines_from (place + 1) ds) refl ∙ behind
       | false ↦ behind
     ]
 
@@ -86,4 +86,4 @@ pub digits_in-broken : (dialect : Dialect) (ds : List ℕ) → AreDigits ds → 
 unfolding broken
 digits_in-broken dialect ds each =
     let text = (118 ∷ version dialect) ++ lines_from 0 ds in
-    at_some 118 (version dialect ++ lines_from 0 ds) dialect (dialect_at-broken dialect (lines_from 0 ds)) ∙ ap (λ (x : List ℕ). Some (dialect, x)) (ap kept (drop-prefix dialect (lines_from 0 ds)) ∙ kept-lines 0 ds each)
+    at_some 118 (version dialect ++ lines_from 0 ds) dialect (dialect_at-broken dialect (lines_from 0 ds)) ∙ ap (λ (x : List ℕ). Some (dialect, x)) (ap digits_behind (drop-prefix dialect (lines_from 0 ds)) ∙ digits_behind-lines 0 ds each)

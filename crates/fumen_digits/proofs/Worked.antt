@@ -5,7 +5,7 @@ use Rattle.fumen_digits.specs.declared.dialect.Dialect.TheVariants.{V110, V115}
 use Rattle.fumen_digits.specs.Number.{digits}
 use Rattle.fumen_digits.specs.declared.fault.FumenFault.TheVariants.{BadDigit, Truncated}
 use Rattle.fumen_digits.specs.Reading.{number_at, number_from, value_at}
-use Rattle.fumen_digits.specs.Framing.{digits_in, broken, kept}
+use Rattle.fumen_digits.specs.Framing.{digits_in, broken, digits_behind}
 use Rattle.fumen_digits.specs.Digit.{digit, digit_value}
 
 written : digits 2 2159 ≡ codes "vh"
@@ -29,7 +29,7 @@ unfolding digits_in
 no_fumen = refl
 
 framed : digits_in (codes "?&d110@7e\n? A&v115@") ≡ Some (V110, codes "7eA")
-unfolding digits_in kept
+unfolding digits_in digits_behind
 framed = refl
 
 one_line : broken V115 (replicate 42 65) ≡ codes "v115@" ++ replicate 42 65

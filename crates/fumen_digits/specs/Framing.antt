@@ -25,14 +25,15 @@ abbrev pub is_dropped : ℕ → Bool
 is_dropped byte = (nat_le 9 byte && nat_le byte 13) || (byte == 32) || (byte == 63)
 
 -- the digits of the text behind a prefix, which goes to the first `&`, or to the end
-unfoldable pub kept : List ℕ → List ℕ
-kept text = filter (λ byte. not (is_dropped byte)) (take_while (λ byte. not (byte == 38)) text)
+unfoldable pub digits_behind : List ℕ → List ℕ
+digits_behind text = filter (λ byte. not (is_dropped byte)) (take_while (λ byte. not (byte == 38)) text)
 
 -- the dialect and the digits of a text by the first prefix in it, and nothing where none stands there
 unfoldable pub digits_in : List ℕ → Option (Dialect × List ℕ)
 digits_in [] = None
 digits_in (byte ∷ rest) =
-    option_map_or (λ dialect. Some (dialect, kept (drop 5 (byte ∷ rest)))) (dialect_at (byte ∷ rest)) (digits_in rest)
+    option_map_or (λ dialect. Some (dialect, digits_behind (drop 5 (byte ∷ rest)))) (dialect_at (byte ∷ rest))
+    (digits_in rest)
 
 -- a line begins at the digit 42, and at every 47th after it
 abbrev pub begins_line : ℕ → Bool

@@ -2,7 +2,7 @@
 ghost use Rattle.std.specs.Prelude.{◌≡◌, ◌≤◌, ◌↔◌, length, None, Some, Ok, IfOk, IsSome, IsTrue};
 ghost use Rattle.std.specs.Option.{option_map};
 ghost use Rattle.fumen_digits.specs.declared.dialect.Dialect.{Dialect};
-ghost use Rattle.fumen_digits.specs.Framing.{begins_line, broken, dialect_at, digits_in, has_prefix, is_dropped, kept, version};
+ghost use Rattle.fumen_digits.specs.Framing.{begins_line, broken, dialect_at, digits_in, has_prefix, is_dropped, digits_behind, version};
 
 use crate::dialect::Dialect;
 use pc_outside::NoMemory;
@@ -22,7 +22,7 @@ pub fn digits_of(alloc: Global, text: &[u8]) -> Result<Option<(Dialect, Vec<u8>)
     for place in 0..text.len() {
         let rest = &text[place..];
         if let Some(dialect) = dialect_at(rest) {
-            return Ok(Some((dialect, kept(alloc, &rest[5..])?)));
+            return Ok(Some((dialect, digits_behind(alloc, &rest[5..])?)));
         }
     }
     Ok(None)
@@ -71,9 +71,9 @@ fn is_dropped(byte: u8) -> bool
 }
 
 /// The digits of the text behind a prefix.
-#[tactic(auto, unfolding(crate::specs::Framing::kept))]
-fn kept(alloc: Global, text: &[u8]) -> Result<Vec<u8>, NoMemory>
-    ensures { IfOk result (λ digits. digits.items ≡ kept text.now) }
+#[tactic(auto, unfolding(crate::specs::Framing::digits_behind))]
+fn digits_behind(alloc: Global, text: &[u8]) -> Result<Vec<u8>, NoMemory>
+    ensures { IfOk result (λ digits. digits.items ≡ digits_behind text.now) }
 {
     let digits = text
         .iter()

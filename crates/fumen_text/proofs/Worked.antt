@@ -3,7 +3,7 @@ use Rattle.std.proofs.Common.{◌≡◌, ℕ, List, [], ◌∷◌, ◌++◌, tru
 use Rattle.std.specs.Prelude.{codes, replicate}
 use Rattle.fumen_digits.specs.declared.dialect.Dialect.TheVariants.{V110, V115}
 use Rattle.fumen_digits.specs.Digit.{digit, digit_value}
-use Rattle.fumen_digits.specs.Framing.{digits_in, kept}
+use Rattle.fumen_digits.specs.Framing.{digits_in, digits_behind}
 use Rattle.fumen_digits.specs.Number.{digits}
 use Rattle.fumen_digits.specs.declared.fault.FumenFault.TheVariants.{NoFumen, Truncated, RunPastEnd, PieceOutside, TooManyPages}
 use Rattle.fumen_digits.specs.Reading.{number_from, value_at}
@@ -28,20 +28,20 @@ unfolding digits_in
 no_fumen = refl
 
 truncated : text_pages (codes "v115@vhAAg") ≡ Err (Truncated 3)
-unfolding digits_in kept pages_at next_page_at page_cells_at record_at runs_at run_at page_at action_at number_from value_at digit_value digits digit
+unfolding digits_in digits_behind pages_at next_page_at page_cells_at record_at runs_at run_at page_at action_at number_from value_at digit_value digits digit
 truncated = refl
 
 past_the_end : text_pages (codes "v115@bhbhAgH") ≡ Err (RunPastEnd 2)
-unfolding digits_in kept pages_at next_page_at page_cells_at record_at runs_at run_at page_at action_at number_from value_at digit_value digits digit
+unfolding digits_in digits_behind pages_at next_page_at page_cells_at record_at runs_at run_at page_at action_at number_from value_at digit_value digits digit
 past_the_end = refl
 
 -- the page that the digit behind `vh` promises is missing
 promised_missing : text_pages (codes "v115@vhBAgH") ≡ Err (Truncated 6)
-unfolding digits_in kept pages_at next_page_at page_cells_at record_at runs_at run_at page_at part_at action_at action_in number_from value_at digit_value digits digit next moved moved_back
+unfolding digits_in digits_behind pages_at next_page_at page_cells_at record_at runs_at run_at page_at part_at action_at action_in number_from value_at digit_value digits digit next moved moved_back
 promised_missing = refl
 
 outside : text_pages (codes "v110@7eAAAA7eA//2") ≡ Err (PieceOutside 2)
-unfolding digits_in kept pages_at next_page_at page_cells_at record_at runs_at run_at page_at part_at action_at action_in number_from value_at digit_value digits digit next moved moved_back operation_filled marked rows_of rows_in cells_of_rows without_full
+unfolding digits_in digits_behind pages_at next_page_at page_cells_at record_at runs_at run_at page_at part_at action_at action_in number_from value_at digit_value digits digit next moved moved_back operation_filled marked rows_of rows_in cells_of_rows without_full
 outside = refl
 
 -- with room for one page
@@ -52,7 +52,7 @@ one_too_many = refl
 -- ---- pages
 
 no_pages : text_pages (codes "v115@") ≡ Ok (V115, [])
-unfolding digits_in kept pages_at
+unfolding digits_in digits_behind pages_at
 no_pages = refl
 
 page : List ℕ → Option Placement → Page
@@ -61,7 +61,7 @@ page cells operation =
 
 -- a T on the empty field, and the page behind it, which is promised
 two_pages : text_pages (codes "d115@vhBV?wBAAA") ≡ Ok (V115, page (replicate 240 0) (Some (record { piece = T; rotation = Spawn; x = 4; y = 0 })) ∷ page (replicate 214 0 ++ 5 ∷ replicate 8 0 ++ 5 ∷ 5 ∷ 5 ∷ replicate 14 0) None ∷ [])
-unfolding digits_in kept pages_at next_page_at page_cells_at record_at runs_at run_at page_at part_at action_at action_in number_from value_at digit_value digits digit next moved moved_back operation_filled marked rows_of rows_in cells_of_rows without_full page
+unfolding digits_in digits_behind pages_at next_page_at page_cells_at record_at runs_at run_at page_at part_at action_at action_in number_from value_at digit_value digits digit next moved moved_back operation_filled marked rows_of rows_in cells_of_rows without_full page
 two_pages = refl
 
 -- ---- what is written

@@ -8,4 +8,5 @@ use Rattle.fumen_text.specs.Written.{HasFewUnits, page_encode_fault}
 -- the comment of a page, counted from 1, has more than a few units, and nothing else of it has a fault
 pub record IsMeasured (d : Dialect) (number : ℕ) (page : Page) : Type 0 where
   pub many : HasFewUnits page → ⊥
-  pub fault : (page_encode_fault d number page ≡ None) ⊎ (page_encode_fault d number page ≡ Some (CommentTooLong number))
+  pub fault : (page_encode_fault d number page ≡ None)
+      ⊎ (page_encode_fault d number page ≡ Some (CommentTooLong number))

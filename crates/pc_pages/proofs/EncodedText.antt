@@ -5,7 +5,7 @@ use Rattle.std.specs.List.{AllByRecursion, enumerate_from, filter, flat_map, pre
 use Rattle.std.proofs.lemmas.List.Elements.{All-head, All-tail}
 use Rattle.fumen_digits.specs.declared.dialect.Dialect.{Dialect}
 use Rattle.fumen_digits.specs.declared.dialect.Dialect.TheVariants.{V110, V115}
-use Rattle.fumen_digits.specs.Framing.{broken, broken_digit, digits_in, is_dropped, kept, version}
+use Rattle.fumen_digits.specs.Framing.{broken, broken_digit, digits_in, is_dropped, digits_behind, version}
 use Rattle.fumen_comment.specs.Escape.{HasUnits}
 use Rattle.fumen_pages.specs.declared.page.Page.{Page}
 use Rattle.fumen_pages.specs.Cells.{AreCells}
@@ -25,30 +25,30 @@ take_one_more : (n byte : ℕ) (rest : List ℕ) → take (1 + n) (byte ∷ rest
 take_one_more n byte rest = let e : 1 + n ≡ suc n = omega arith in ap (λ k. take k (byte ∷ rest)) e
 
 -- the digits behind a prefix, by the first byte
-kept_step : (byte : ℕ) (rest : List ℕ) → kept (byte ∷ rest) ≡ cond (byte == 38) [] (cond (is_dropped byte) (kept rest) (byte ∷ kept rest))
-unfolding kept
-kept_step byte rest =
+digits_behind_step : (byte : ℕ) (rest : List ℕ) → digits_behind (byte ∷ rest) ≡ cond (byte == 38) [] (cond (is_dropped byte) (digits_behind rest) (byte ∷ digits_behind rest))
+unfolding digits_behind
+digits_behind_step byte rest =
     let n = prefix_len (λ b. not (b == 38)) rest in
-    let goal : Bool → Type 0 = λ b. filter (λ d. not (is_dropped d)) (take (cond (not b) (1 + n) 0) (byte ∷ rest)) ≡ cond b [] (cond (is_dropped byte) (kept rest) (byte ∷ kept rest)) in
+    let goal : Bool → Type 0 = λ b. filter (λ d. not (is_dropped d)) (take (cond (not b) (1 + n) 0) (byte ∷ rest)) ≡ cond b [] (cond (is_dropped byte) (digits_behind rest) (byte ∷ digits_behind rest)) in
     elim (byte == 38) as goal [
       | true ↦ refl
-      | false ↦ ap (filter (λ d. not (is_dropped d))) (take_one_more n byte rest) ∙ turned (is_dropped byte) (byte ∷ kept rest) (kept rest)
+      | false ↦ ap (filter (λ d. not (is_dropped d))) (take_one_more n byte rest) ∙ turned (is_dropped byte) (byte ∷ digits_behind rest) (digits_behind rest)
     ]
   where
     turned : (b : Bool) (x y : List ℕ) → cond (not b) x y ≡ cond b y x
     turned true x y = refl
     turned false x y = refl
 
-kept_newline : (text : List ℕ) → kept (text ++ 10 ∷ []) ≡ kept text
-unfolding kept
-kept_newline [] = refl
-kept_newline (byte ∷ rest) =
-    kept_step byte (rest ++ 10 ∷ [])
-    ∙ ap (λ k. cond (byte == 38) [] (cond (is_dropped byte) k (byte ∷ k))) (kept_newline rest)
-    ∙ sym (kept_step byte rest)
+digits_behind_newline : (text : List ℕ) → digits_behind (text ++ 10 ∷ []) ≡ digits_behind text
+unfolding digits_behind
+digits_behind_newline [] = refl
+digits_behind_newline (byte ∷ rest) =
+    digits_behind_step byte (rest ++ 10 ∷ [])
+    ∙ ap (λ k. cond (byte == 38) [] (cond (is_dropped byte) k (byte ∷ k))) (digits_behind_newline rest)
+    ∙ sym (digits_behind_step byte rest)
 
 -- behind a prefix stand the digits
-framed : (dialect : Dialect) (rest : List ℕ) → digits_in ((118 ∷ version dialect) ++ rest) ≡ Some (dialect, kept rest)
+framed : (dialect : Dialect) (rest : List ℕ) → digits_in ((118 ∷ version dialect) ++ rest) ≡ Some (dialect, digits_behind rest)
 unfolding digits_in
 framed V110 rest = refl
 framed V115 rest = refl
@@ -59,7 +59,7 @@ ended_text dialect ds =
     let lines : List ℕ = flat_map broken_digit (enumerate_from 0 ds) in
     ap digits_in (append_assoc (118 ∷ version dialect) lines (10 ∷ []))
     ∙ framed dialect (lines ++ 10 ∷ [])
-    ∙ ap (λ k. Some (dialect, k)) (kept_newline lines)
+    ∙ ap (λ k. Some (dialect, k)) (digits_behind_newline lines)
     ∙ sym (framed dialect lines)
 
 -- ---- the pages

@@ -3,12 +3,12 @@ use Rattle.std.proofs.Common.{◌≡◌, refl, sym, ap, ◌∙◌, ◌-◌, ◌<
 use Rattle.std.proofs.lemmas.List.{take_rest}
 use Rattle.std.proofs.lemmas.Result.{err_from_is_err_and}
 use Rattle.fumen_digits.specs.declared.dialect.Dialect.{Dialect}
-use Rattle.fumen_digits.specs.Framing.{dialect_at, digits_in, kept}
+use Rattle.fumen_digits.specs.Framing.{dialect_at, digits_in, digits_behind}
 use Rattle.fumen_digits.proofs.Framings.{none_here, found_here, none_left}
 use Rattle.fumen_digits.proofs.framing.digits_of.Goals as goal
 
 -- a prefix stands at this place, from which rest is left, and none before it
-digits_here : (text rest behind : List ℕ) (place : ℕ) (d : Dialect) → place < length text → rest ≡ drop place text → behind ≡ drop 5 rest → dialect_at rest ≡ Some d → digits_in (drop place text) ≡ digits_in text → digits_in text ≡ Some (d, kept behind)
+digits_here : (text rest behind : List ℕ) (place : ℕ) (d : Dialect) → place < length text → rest ≡ drop place text → behind ≡ drop 5 rest → dialect_at rest ≡ Some d → digits_in (drop place text) ≡ digits_in text → digits_in text ≡ Some (d, digits_behind behind)
 digits_here text rest behind place d lt is behind_is found same =
     sym same ∙ found_here text place rest behind d lt is behind_is found
 
@@ -22,7 +22,7 @@ pub returns-in-Some-clause-found : goal.returns-in-Some-clause-found
 returns-in-Some-clause-found c =
     let text = c.args.text.now in
     let place = c.loop-place.place in
-    ap (λ (digits : List ℕ). Some (c.in-Some.dialect, digits)) c.in_ok-kept.ensures ∙ sym (digits_here text _ _ place c.in-Some.dialect c.loop-place-test.true (take_rest text place) (take_rest (take (length text - place) (drop place text)) 5) (sym c.in-Some.ensures.value) c.loop-place.invariant)
+    ap (λ (digits : List ℕ). Some (c.in-Some.dialect, digits)) c.in_ok-digits_behind.ensures ∙ sym (digits_here text _ _ place c.in-Some.dialect c.loop-place-test.true (take_rest text place) (take_rest (take (length text - place) (drop place text)) 5) (sym c.in-Some.ensures.value) c.loop-place.invariant)
 
 pub returns-in-Some-clause-none : goal.returns-in-Some-clause-none
 returns-in-Some-clause-none c =
@@ -33,8 +33,8 @@ returns-in-Some-clause-none c =
       λ none. absurd (never_none here none),
     )
 
-pub returns-in_err-kept-clause-none : goal.returns-in_err-kept-clause-none
-returns-in_err-kept-clause-none c =
+pub returns-in_err-digits_behind-clause-none : goal.returns-in_err-digits_behind-clause-none
+returns-in_err-digits_behind-clause-none c =
     let text = c.args.text.now in
     let place = c.loop-place.place in
     let refused = err_from_is_err_and c.from_residual.result c.from_residual.ensures.1 in
