@@ -29,7 +29,7 @@ use Rattle.key_path.specs.LeastKeyWord.{IsLeastKeyWord}
 use Rattle.moves.specs.States.{IsPivot}
 use Rattle.key_path.specs.Marks.{with_mark, is_unseen, Traces, new_state}
 use Rattle.key_path.proofs.WordLemmas.{not_earlier, not_after-front}
-use Rattle.key_path.specs.Search.{Item, with_key, IsSought, IsAhead, IsPressed, IsNoted, IsFinding, IsTrying, IsReached}
+use Rattle.key_path.specs.Search.{Item, with_key, AreFound, IsAhead, IsPressed, AreMarked, IsFinding, IsTrying, LeadsBack}
 use Rattle.key_path.proofs.SearchLemmas.{sought_first, ahead_first, taken, pressed_again, pressed_new, sought_new, sought_next, ahead_next, all_found, found_before}
 use Rattle.key_path.proofs.MarkLemmas.{noted_first, noted_new, traces_once, room_left, count_marked}
 use Rattle.key_path.proofs.KeyWordLemmas.{least_is_short}
@@ -94,7 +94,7 @@ module _ (table : Table) (F : Field) (mode : DropMode) (target : Placement) wher
     few = omega arith;
     sought = sought_first (step_of table F) (allows mode) (spawn_of target.piece);
     ahead = ahead_first (step_of table F) (allows mode) (spawn_of target.piece);
-    noted = subst (λ marks. IsNoted marks (start ∷ [])) (sym set) (noted_first (spawn_of target.piece) pivot);
+    noted = subst (λ marks. AreMarked marks (start ∷ [])) (sym set) (noted_first (spawn_of target.piece) pivot);
     misses = λ x among. elim (Contains-cases start [] x among) [
       | inl here ↦ subst (λ x. comes_to_rest F target x.state ≡ false) here misses
       | inr none ↦ absurd (Contains-none x none)
@@ -122,7 +122,7 @@ module _ (table : Table) (F : Field) (mode : DropMode) (target : Placement) wher
             at = some_same (sym (ap (λ xs. slice_get xs 0) states) ∙ head);
             states = tail ∙ ap (drop 1) states;
             few = omega (arith, finding.few, ap (λ (xs : List Item). length xs) e);
-            sought = subst (IsSought (step_of table F) (allows mode) (spawn_of target.piece) finding.items) e finding.sought;
+            sought = subst (AreFound (step_of table F) (allows mode) (spawn_of target.piece) finding.items) e finding.sought;
             pressed = taken (step_of table F) (allows mode) (spawn_of target.piece) finding.items x front (subst (IsAhead (step_of table F) (allows mode) (spawn_of target.piece) finding.items) e finding.ahead);
             noted = finding.noted;
             misses = finding.misses;
@@ -142,7 +142,7 @@ module _ (table : Table) (F : Field) (mode : DropMode) (target : Placement) wher
   }
 
   -- each state that was found is a free state of the piece
-  found_free : is_free F (spawn_of target.piece) ≡ true → (items front : List Item) → IsSought (step_of table F) (allows mode) (spawn_of target.piece) items front → (x : Item) → Contains items x → IsFreeState F target.piece x.state
+  found_free : is_free F (spawn_of target.piece) ≡ true → (items front : List Item) → AreFound (step_of table F) (allows mode) (spawn_of target.piece) items front → (x : Item) → Contains items x → IsFreeState F target.piece x.state
   found_free free items front sought x among =
       led_good (step_is_finite table F target.piece) (Some (spawn_of target.piece)) (λ s e. subst (IsFreeState F target.piece) (some_same e) (record { kind = refl; free = free })) x.word x.state (sought.reached x among).reached
 
@@ -198,7 +198,7 @@ module _ (table : Table) (F : Field) (mode : DropMode) (target : Placement) wher
         few = omega (arith, trying.few, length-append trying.items (with_key trying.x key t ∷ []), length-append trying.front (with_key trying.x key t ∷ []));
         sought = sought_new (step_of table F) (allows mode) (spawn_of target.piece) trying.items trying.x trying.front n key t place new.may moves here trying.sought trying.pressed;
         pressed = pressed_new (step_of table F) (allows mode) (spawn_of target.piece) trying.items trying.x n key t place moves trying.pressed;
-        noted = subst (λ marks. IsNoted marks (trying.items ++ with_key trying.x key t ∷ [])) (sym (set ∙ ap (λ s. with_mark marks t (From s key)) (sym trying.at)))
+        noted = subst (λ marks. AreMarked marks (trying.items ++ with_key trying.x key t ∷ [])) (sym (set ∙ ap (λ s. with_mark marks t (From s key)) (sym trying.at)))
             (noted_new marks trying.items trying.x key t here from pivot new.unseen trying.noted);
         misses = λ y among. elim (Contains-push_cases trying.items (with_key trying.x key t) y among) [
           | inl old ↦ trying.misses y old
@@ -230,8 +230,8 @@ module _ (table : Table) (F : Field) (mode : DropMode) (target : Placement) wher
 
   -- a key that leads to a new state which comes to rest there
   pub new_reached : is_free F (spawn_of target.piece) ≡ true → (marks marks' : List Mark) (waiting : List Placement) (state : Placement) (n : ℕ) (key : Key) (t : Placement) → key_place key ≡ n → new_state table F mode marks state key ≡ Some t →
-      comes_to_rest F target t ≡ true → marks' ≡ with_mark marks t (From state key) → IsTrying table F mode target marks waiting state n → IsReached table F mode target marks' t
-  new_reached free marks marks' waiting state n key t place found rests set trying = subst (λ marks. IsReached table F mode target marks t) (sym (set ∙ ap (λ s. with_mark marks t (From s key)) (sym trying.at))) reached
+      comes_to_rest F target t ≡ true → marks' ≡ with_mark marks t (From state key) → IsTrying table F mode target marks waiting state n → LeadsBack table F mode target marks' t
+  new_reached free marks marks' waiting state n key t place found rests set trying = subst (λ marks. LeadsBack table F mode target marks t) (sym (set ∙ ap (λ s. with_mark marks t (From s key)) (sym trying.at))) reached
     where
       word : List Key
       word = trying.x.word ++ key ∷ []
@@ -265,14 +265,14 @@ module _ (table : Table) (F : Field) (mode : DropMode) (target : Placement) wher
             ];
       }
 
-      noted : IsNoted (with_mark marks t (From trying.x.state key)) (trying.items ++ with_key trying.x key t ∷ [])
+      noted : AreMarked (with_mark marks t (From trying.x.state key)) (trying.items ++ with_key trying.x key t ∷ [])
       noted = noted_new marks trying.items trying.x key t here (pivot_of_free F trying.x.state (found_free free trying.items (trying.x ∷ trying.front) trying.sought trying.x here).free)
           (pivot_of_free F t (step_of-free table F state key t new.moves).free) new.unseen trying.noted
 
       traces : Traces (with_mark marks t (From trying.x.state key)) t (reverse word)
       traces = noted.traces (with_key trying.x key t) (Contains-push trying.items (with_key trying.x key t))
 
-      reached : IsReached table F mode target (with_mark marks t (From trying.x.state key)) t
+      reached : LeadsBack table F mode target (with_mark marks t (From trying.x.state key)) t
       reached = record {
         traced = record { keys = reverse word; traces = traces; few = omega (arith, length-reverse word, least_is_short table F mode target word is_least) };
         least = λ traced. subst (λ w. IsLeastKeyWord table F mode target (Some w))
@@ -284,7 +284,7 @@ module _ (table : Table) (F : Field) (mode : DropMode) (target : Placement) wher
   none_found free marks waiting none finding = record {
     none = λ word leads above.
         let way = to_tests table F mode word target leads in
-        let has = all_found (step_of table F) (allows mode) (spawn_of target.piece) finding.items (subst (IsSought (step_of table F) (allows mode) (spawn_of target.piece) finding.items) (no_front finding.front refl) finding.sought) word way.state
+        let has = all_found (step_of table F) (allows mode) (spawn_of target.piece) finding.items (subst (AreFound (step_of table F) (allows mode) (spawn_of target.piece) finding.items) (no_front finding.front refl) finding.sought) word way.state
         (subst (λ s. Leads (step_of table F) (allows mode) s way.state word) (spawned-some F target free) way.leads) in
         false≢true (sym (finding.misses has.item has.among) ∙ ap (comes_to_rest F target) has.is ∙ way.rests);
   }

@@ -14,7 +14,7 @@ use Rattle.key_path.specs.declared.marks.Mark.TheVariants.{Unseen, Start, From}
 use Rattle.moves.specs.States.{IsPivot, state_code}
 use Rattle.moves.proofs.CallerLemmas.{code_below}
 use Rattle.key_path.specs.Marks.{mark_at, with_mark, is_unseen, Traces}
-use Rattle.key_path.specs.Search.{Item, with_key, IsNoted}
+use Rattle.key_path.specs.Search.{Item, with_key, AreMarked}
 
 -- the keys back are determined
 pub traces_once : (marks : List Mark) (s : Placement) (keys others : List Key) → Traces marks s keys → Traces marks s others → keys ≡ others
@@ -81,14 +81,14 @@ count_marked marks s mark size pivot unseen other =
     omega (arith, counted, before, after)
 
 -- where a state is unseen there is room for an item
-pub room_left : (marks : List Mark) (items : List Item) (s : Placement) → IsPivot s → is_unseen (mark_at marks s) ≡ true → IsNoted marks items → length items < 920
+pub room_left : (marks : List Mark) (items : List Item) (s : Placement) → IsPivot s → is_unseen (mark_at marks s) ≡ true → AreMarked marks items → length items < 920
 room_left marks items s pivot unseen noted = omega (arith, noted.counted, count_marked marks s Start noted.size pivot unseen refl)
 
 sized : (marks : List Mark) (s : Placement) (mark : Mark) → length marks ≡ 920 → length (with_mark marks s mark) ≡ 920
 unfolding with_mark
 sized marks s mark size = length-set marks (state_code s) mark ∙ size
 
-pub noted_first : (start : Placement) → IsPivot start → IsNoted (with_mark (replicate 920 Unseen) start Start) (record { state = start; word = [] } ∷ [])
+pub noted_first : (start : Placement) → IsPivot start → AreMarked (with_mark (replicate 920 Unseen) start Start) (record { state = start; word = [] } ∷ [])
 noted_first start pivot = record {
   size = sized (replicate 920 Unseen) start Start none;
   traces = λ x among. subst (λ x. Traces (with_mark (replicate 920 Unseen) start Start) x.state (reverse x.word)) (only x among) (mark_here (replicate 920 Unseen) start Start none pivot);
@@ -105,8 +105,8 @@ noted_first start pivot = record {
     only : (x : Item) → Contains (record { state = start; word = [] } ∷ []) x → record { state = start; word = [] } ≡ x
     only x among = elim (Contains-cases _ [] x among) [ inl e ↦ e | inr none ↦ absurd (Contains-none x none) ]
 
-pub noted_new : (marks : List Mark) (items : List Item) (x : Item) (key : Key) (t : Placement) → Contains items x → IsPivot x.state → IsPivot t → is_unseen (mark_at marks t) ≡ true → IsNoted marks items →
-    IsNoted (with_mark marks t (From x.state key)) (items ++ with_key x key t ∷ [])
+pub noted_new : (marks : List Mark) (items : List Item) (x : Item) (key : Key) (t : Placement) → Contains items x → IsPivot x.state → IsPivot t → is_unseen (mark_at marks t) ≡ true → AreMarked marks items →
+    AreMarked (with_mark marks t (From x.state key)) (items ++ with_key x key t ∷ [])
 noted_new marks items x key t here from pivot unseen noted = record {
   size = sized marks t (From x.state key) noted.size;
   traces = λ y among. elim (Contains-push_cases items (with_key x key t) y among) [

@@ -13,7 +13,7 @@ use Rattle.moves.specs.declared.key.Key.{Key}
 use Rattle.moves.specs.Walk.{led, Leads}
 use Rattle.moves.proofs.CallerLemmas.{some_same, not_some, led_none}
 use Rattle.key_path.specs.KeyWords.{key_place, key_word_cmp, NotAfter}
-use Rattle.key_path.specs.Search.{Item, item_cmp, HasBy, with_key, IsClosed, IsSought, IsAhead, IsPressed}
+use Rattle.key_path.specs.Search.{Item, item_cmp, HasBy, with_key, IsClosed, AreFound, IsAhead, IsPressed}
 use Rattle.key_path.proofs.WordLemmas.{key_place-injective, not_after-itself, not_after-trans, not_after-before, before_not_after, shorter_before, not_after-front, more_before, key_before, more_not_after, key_place-small}
 
 pub has_more : (items : List Item) (new : Item) (state : Placement) (word : List Key) → HasBy items state word → HasBy (items ++ new ∷ []) state word
@@ -27,7 +27,7 @@ module _ (next : Placement → Key → Option Placement) (allowed : Key → Bool
   abbrev pub first : Item
   first = record { state = start; word = [] }
 
-  pub sought_first : IsSought next allowed start (first ∷ []) (first ∷ [])
+  pub sought_first : AreFound next allowed start (first ∷ []) (first ∷ [])
   sought_first = record {
     reached = λ x among. subst (λ x. Leads next allowed (Some start) x.state x.word) (only x among) (record { each = refl; reached = refl });
     begins = record { item = first; among = Contains-here first []; is = refl; in_time = not_after-itself [] };
@@ -101,7 +101,7 @@ module _ (next : Placement → Key → Option Placement) (allowed : Key → Bool
 
   -- the new item waits last
   pub sought_new : (items : List Item) (x : Item) (waiting : List Item) (n : ℕ) (key : Key) (t : Placement) → key_place key ≡ n → allowed key ≡ true → next x.state key ≡ Some t →
-      Contains items x → IsSought next allowed start items (x ∷ waiting) → IsPressed next allowed start items x n → IsSought next allowed start (items ++ with_key x key t ∷ []) (x ∷ (waiting ++ with_key x key t ∷ []))
+      Contains items x → AreFound next allowed start items (x ∷ waiting) → IsPressed next allowed start items x n → AreFound next allowed start (items ++ with_key x key t ∷ []) (x ∷ (waiting ++ with_key x key t ∷ []))
   sought_new items x waiting n key t place may e here sought pressed = record {
     reached = λ y among. elim (Contains-push_cases items (with_key x key t) y among) [
       | inl old ↦ sought.reached y old
@@ -130,7 +130,7 @@ module _ (next : Placement → Key → Option Placement) (allowed : Key → Bool
   all_tried items x pressed = record { each = λ key t may e. pressed.tried key t (key_place-small key) may e }
 
   -- where all keys of the first that waits were tried, the next is to be taken
-  pub sought_next : (items : List Item) (x : Item) (waiting : List Item) → IsSought next allowed start items (x ∷ waiting) → IsPressed next allowed start items x 5 → IsSought next allowed start items waiting
+  pub sought_next : (items : List Item) (x : Item) (waiting : List Item) → AreFound next allowed start items (x ∷ waiting) → IsPressed next allowed start items x 5 → AreFound next allowed start items waiting
   sought_next items x waiting sought pressed = record {
     reached = sought.reached;
     begins = sought.begins;
@@ -145,7 +145,7 @@ module _ (next : Placement → Key → Option Placement) (allowed : Key → Bool
     rising = rising-rest item_cmp x waiting sought.rising;
   }
 
-  pub ahead_next : (items : List Item) (x : Item) (waiting : List Item) → IsSought next allowed start items (x ∷ waiting) → IsPressed next allowed start items x 5 → IsAhead next allowed start items waiting
+  pub ahead_next : (items : List Item) (x : Item) (waiting : List Item) → AreFound next allowed start items (x ∷ waiting) → IsPressed next allowed start items x 5 → IsAhead next allowed start items waiting
   ahead_next items x waiting sought pressed = record {
     ahead = λ z y word key waits not among. pressed.ahead y word key among (inl (before_not_after x.word z.word word (rising-first item_cmp x waiting sought.rising z waits) not));
   }
@@ -177,7 +177,7 @@ module _ (next : Placement → Key → Option Placement) (allowed : Key → Bool
   closed_step items x u key t not may e closed = has_later items t (x.word ++ key ∷ []) (u ++ key ∷ []) (more_not_after x.word u key not) (closed.each key t may e)
 
   -- where nothing waits, each state to which a key word leads was found
-  pub all_found : (items : List Item) → IsSought next allowed start items [] → (v : List Key) (s : Placement) → Leads next allowed (Some start) s v → HasBy items s v
+  pub all_found : (items : List Item) → AreFound next allowed start items [] → (v : List Key) (s : Placement) → Leads next allowed (Some start) s v → HasBy items s v
   all_found items sought v s leads = elim (from_start items (λ _. ⊥) (λ u v never. never) sought.begins step v s leads) [ inl has ↦ has | inr never ↦ absurd never ]
     where
       step : (x : Item) (u : List Key) (key : Key) (t : Placement) → Contains items x → NotAfter x.word u → allowed key ≡ true → next x.state key ≡ Some t → HasBy items t (u ++ key ∷ []) ⊎ ⊥
@@ -187,7 +187,7 @@ module _ (next : Placement → Key → Option Placement) (allowed : Key → Bool
       ]
 
   -- while keys are tried, so was each state to which a key word before the one that is tried leads
-  pub found_before : (items : List Item) (x : Item) (waiting : List Item) (key : Key) → IsSought next allowed start items (x ∷ waiting) → IsPressed next allowed start items x (key_place key) →
+  pub found_before : (items : List Item) (x : Item) (waiting : List Item) (key : Key) → AreFound next allowed start items (x ∷ waiting) → IsPressed next allowed start items x (key_place key) →
       (v : List Key) (s : Placement) → Leads next allowed (Some start) s v → HasBy items s v ⊎ NotAfter (x.word ++ key ∷ []) v
   found_before items x waiting key sought pressed v s leads =
       from_start items (NotAfter (x.word ++ key ∷ [])) (λ u v past. not_after-trans (x.word ++ key ∷ []) u (u ++ v) past (not_after-front u v)) sought.begins step v s leads

@@ -47,7 +47,7 @@ module _ (next : Placement → Key → Option Placement) (allowed : Key → Bool
 
   -- What was found: items with key words that lead to them, the start with no key, and each item is closed or waits.
   -- Those that wait rise by their key words.
-  pub record IsSought (items waiting : List Item) : Type 0 where
+  pub record AreFound (items waiting : List Item) : Type 0 where
     pub reached : (x : Item) → Contains items x → Leads next allowed (Some start) x.state x.word
     pub begins : HasBy items start []
     pub each : (x : Item) → Contains items x → IsClosed items x ⊎ Contains waiting x
@@ -68,7 +68,7 @@ module _ (next : Placement → Key → Option Placement) (allowed : Key → Bool
         → key_word_cmp y.word (word ++ key ∷ []) ≡ Less
 
 -- each item is marked by the keys of its key word, each mark is that of an item, and there are as many marks as items
-pub record IsNoted (marks : List Mark) (items : List Item) : Type 0 where
+pub record AreMarked (marks : List Mark) (items : List Item) : Type 0 where
   pub size : length marks ≡ 920
   pub traces : (x : Item) → Contains items x → Traces marks x.state (reverse x.word)
   pub seen : (s : Placement) → is_unseen (mark_at marks s) ≡ false
@@ -82,9 +82,9 @@ module _ (table : Table) (F : Field) (mode : DropMode) (target : Placement) wher
     pub front : List Item
     pub states : waiting ≡ map (λ (x : Item). x.state) front
     pub few : length front ≤ length items
-    pub sought : IsSought (step_of table F) (allows mode) (spawn_of target.piece) items front
+    pub sought : AreFound (step_of table F) (allows mode) (spawn_of target.piece) items front
     pub ahead : IsAhead (step_of table F) (allows mode) (spawn_of target.piece) items front
-    pub noted : IsNoted marks items
+    pub noted : AreMarked marks items
     pub misses : (x : Item) → Contains items x → comes_to_rest F target x.state ≡ false
 
   -- the same while the keys of a state are tried, of which the first n were
@@ -95,12 +95,12 @@ module _ (table : Table) (F : Field) (mode : DropMode) (target : Placement) wher
     pub at : x.state ≡ state
     pub states : waiting ≡ map (λ (x : Item). x.state) front
     pub few : length front + 1 ≤ length items
-    pub sought : IsSought (step_of table F) (allows mode) (spawn_of target.piece) items (x ∷ front)
+    pub sought : AreFound (step_of table F) (allows mode) (spawn_of target.piece) items (x ∷ front)
     pub pressed : IsPressed (step_of table F) (allows mode) (spawn_of target.piece) items x n
-    pub noted : IsNoted marks items
+    pub noted : AreMarked marks items
     pub misses : (y : Item) → Contains items y → comes_to_rest F target y.state ≡ false
 
   -- the marks lead back from a state by the least key word
-  pub record IsReached (marks : List Mark) (t : Placement) : Type 0 where
+  pub record LeadsBack (marks : List Mark) (t : Placement) : Type 0 where
     pub traced : Traced marks t
     pub least : (traced : Traced marks t) → IsLeastKeyWord table F mode target (Some (reverse traced.keys))

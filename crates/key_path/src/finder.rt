@@ -12,7 +12,7 @@ ghost use Rattle.moves.specs.PlaceTest.{comes_to_rest};
 ghost use Rattle.key_path.specs.LeastKeyWord.{IsLeastKeyWord, least_key_word};
 ghost use Rattle.moves.specs.States.{IsPivot};
 ghost use Rattle.key_path.specs.Marks.{is_unseen, new_state};
-ghost use Rattle.key_path.specs.Search.{IsFinding, IsTrying, IsReached};
+ghost use Rattle.key_path.specs.Search.{IsFinding, IsTrying, LeadsBack};
 
 use crate::aim::rests_on;
 use crate::free::FreeStates;
@@ -186,7 +186,7 @@ impl Finder {
             self.new.waiting.items
             × (count_by is_unseen marks.new.marks + length self.new.waiting.items
             ≡ count_by is_unseen marks.old.marks + length self.old.waiting.items))
-            (λ reached. IsPivot reached × IsReached (table_of rules.now)
+            (λ reached. IsPivot reached × LeadsBack (table_of rules.now)
             (filled states.now.well) drop_mode aim.now marks.new.marks reached) }
     {
         for key in Key::ALL {

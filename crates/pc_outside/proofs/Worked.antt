@@ -2,7 +2,7 @@
 use Rattle.std.proofs.Common.{◌≡◌, ◌-◌, ◌^◌, [], ◌∷◌, Some, refl, arith, lit≤}
 use Rattle.pc_outside.specs.Counts.{next_count, Rose}
 use Rattle.pc_outside.specs.MemorySink.{MemorySinkState, front_with_room}
-use Rattle.pc_outside.specs.Reads.{Takes}
+use Rattle.pc_outside.specs.Reads.{TakesBytes}
 use Rattle.pc_outside.specs.WriteLaws.{front_taken}
 use Rattle.pc_outside.specs.Writes.{Grows, GrowsByFront}
 
@@ -21,7 +21,7 @@ stood rose = omega arith
 at_last : Rose (2 ^ 64 - 1) (2 ^ 64 - 1)
 at_last = lit≤ tt
 
-two_taken : Takes (Some (1 ∷ 2 ∷ 3 ∷ [])) (Some (3 ∷ [])) (1 ∷ 2 ∷ [])
+two_taken : TakesBytes (Some (1 ∷ 2 ∷ 3 ∷ [])) (Some (3 ∷ [])) (1 ∷ 2 ∷ [])
 two_taken = record { consumed = refl }
 
 two_written : Grows (Some (1 ∷ [])) (Some (1 ∷ 2 ∷ 3 ∷ [])) (2 ∷ 3 ∷ [])

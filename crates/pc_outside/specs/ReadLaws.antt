@@ -4,26 +4,26 @@ use Rattle.std.proofs.Common.{sym, ap, ◌∙◌, append-nil, arith}
 use Rattle.std.proofs.KnownBytes.{Consumes-nil, Consumes-trans}
 use Rattle.std.proofs.lemmas.Option.{same_Some}
 use Rattle.std.proofs.lemmas.List.{drop_at, length-append, nil_from_length}
-use Rattle.pc_outside.specs.Reads.{Takes, Moves, TakesAll, TakesFirst, TakesAtMost}
+use Rattle.pc_outside.specs.Reads.{TakesBytes, Moves, TakesAll, TakesFirst, TakesAtMost}
 
 -- what is left where the source tells it
-pub takes_told : (old new : Option (List ℕ)) (left bytes : List ℕ) → Takes old new bytes → old ≡ Some left
+pub takes_told : (old new : Option (List ℕ)) (left bytes : List ℕ) → TakesBytes old new bytes → old ≡ Some left
     → (rest : List ℕ) × (left ≡ bytes ++ rest) × (new ≡ Some rest)
 takes_told None new left bytes taken told = cc
 takes_told (Some all) None left bytes taken told = absurd taken.consumed
 takes_told (Some all) (Some rest) left bytes taken told = (rest, sym (same_Some all left told) ∙ taken.consumed, refl)
 
 -- nothing is taken yet
-pub takes_nothing : (old : Option (List ℕ)) → Takes old old []
+pub takes_nothing : (old : Option (List ℕ)) → TakesBytes old old []
 takes_nothing old = record { consumed = Consumes-nil old }
 
 -- what two reads took, one after the other
-pub takes_more : {old mid new : Option (List ℕ)} {bytes more : List ℕ} → Takes old mid bytes → Takes mid new more
-    → Takes old new (bytes ++ more)
+pub takes_more : {old mid new : Option (List ℕ)} {bytes more : List ℕ} → TakesBytes old mid bytes
+    → TakesBytes mid new more → TakesBytes old new (bytes ++ more)
 takes_more one other = record { consumed = Consumes-trans _ _ _ _ _ one.consumed other.consumed }
 
 -- the bytes that were taken are the first of what was left
-pub first_are_taken : {old new : Option (List ℕ)} {bytes : List ℕ} (n : ℕ) → Takes old new bytes → n ≡ length bytes
+pub first_are_taken : {old new : Option (List ℕ)} {bytes : List ℕ} (n : ℕ) → TakesBytes old new bytes → n ≡ length bytes
     → TakesFirst old new n
 first_are_taken {old} {new} {bytes} n taken count = record {
   enough = λ left told. let h =
@@ -34,7 +34,7 @@ first_are_taken {old} {new} {bytes} n taken count = record {
 }
 
 -- all that was left was taken where a read after it gave nothing
-pub takes_all : {old mid new : Option (List ℕ)} {bytes before after : List ℕ} (n : ℕ) → Takes old mid bytes
+pub takes_all : {old mid new : Option (List ℕ)} {bytes before after : List ℕ} (n : ℕ) → TakesBytes old mid bytes
     → Moves mid new before after n → 0 < length before → n ≡ 0
     → TakesAll old new bytes
 takes_all {old} {mid} {new} {bytes} {before} {after} n taken last room none =
@@ -50,7 +50,7 @@ takes_all {old} {mid} {new} {bytes} {before} {after} n taken last room none =
           (sym (h.1 ∙ ap (λ l. bytes ++ l) empty ∙ append-nil bytes), m.2 ∙ ap Some over)
 
 -- a number that bounds what was taken
-pub takes_at_most : {old new : Option (List ℕ)} {bytes : List ℕ} (most : ℕ) → Takes old new bytes
+pub takes_at_most : {old new : Option (List ℕ)} {bytes : List ℕ} (most : ℕ) → TakesBytes old new bytes
     → length bytes ≤ most → TakesAtMost old new most
 takes_at_most {bytes = bytes} most taken bounded =
     record { count = length bytes; bounded = bounded; taken = first_are_taken (length bytes) taken refl }

@@ -4,14 +4,14 @@ use Rattle.std.specs.Option.{ForSome}
 use Rattle.std.specs.Io.KnownBytes.{Consumes}
 
 -- these bytes were taken from the front of what was left; of a source that doesn't tell its bytes this says nothing
-pub record Takes (old new : Option (List ℕ)) (bytes : List ℕ) : Type 0 where
+pub record TakesBytes (old new : Option (List ℕ)) (bytes : List ℕ) : Type 0 where
   pub consumed : Consumes old new bytes
 
 -- n bytes moved from the front of what was left into the front of the buffer; into a buffer that has room none move
 -- only at the end
 pub record Moves (old new : Option (List ℕ)) (before after : List ℕ) (n : ℕ) : Type 0 where
   pub within : n ≤ length before
-  pub taken : Takes old new (take n after)
+  pub taken : TakesBytes old new (take n after)
   pub ended : 0 < length before → ForSome old (λ left. (n ≡ 0) ↔ (left ≡ []))
   pub rest : ForSome old (λ _. drop n after ≡ drop n before)
 

@@ -128,7 +128,8 @@ pub fn run_path<O: Sink, L: Ledger>(
     requires spelled { IsOk (kick_text (path_view settings.now).common.kicks) }
     ensures answers { let sink = sink_change (O.written out.old) (O.written out.new)
         (O.faults out.old) (O.faults out.new) in
-        IsAnswered (path_task (path_view settings.now)) bytes.now sink (out.new ≡ out.old) (steps.new - steps.old) result }
+        IsAnswered (path_task (path_view settings.now)) bytes.now sink (out.new ≡ out.old)
+        (steps.new - steps.old) result }
     ensures works { let task = path_task (path_view settings.now) in
         let sink = sink_change (O.written out.old) (O.written out.new) (O.faults out.old) (O.faults out.new) in
         Works task (task.fault bytes.now) bytes.now sink (steps.new - steps.old) result }

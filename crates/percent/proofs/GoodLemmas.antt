@@ -28,8 +28,8 @@ use Rattle.enumerate.proofs.CallerLemmas.{IsLow, filled-low, locked-low, place-d
 use Rattle.well.proofs.CallerLemmas.{free_inside}
 use Rattle.moves.proofs.CallerLemmas.{place-free}
 use Rattle.percent.specs.declared.game.Game.{Game}
-use Rattle.percent.specs.Hands.{number_of, hand_of, is_allowed, takes, without_first, without_second}
-use Rattle.percent.specs.GoodHands.{places_of, is_good, is_good_after, game_of, is_good_queue}
+use Rattle.percent.specs.Hands.{number_of, hand_of, allows_hold, takes, without_first, without_second}
+use Rattle.percent.specs.GoodHands.{reached_places, is_good, is_good_after, game_of, is_good_queue}
 use Rattle.percent.specs.Good.{Good}
 use Rattle.percent.proofs.TestLemmas.{or_cases, some_passes, any_passes}
 use Rattle.percent.proofs.HandLemmas.{takes-from, takes-to}
@@ -44,8 +44,8 @@ abbrev Played : Game → Field → ℕ → ℕ → List Piece → Type 0
 Played game F rows left hand =
     (sequence : List Placement) × (length sequence ≡ left) × Plays (table_of game.rules) game.drop_mode F rows sequence × Takes game.hold hand (pieces_of sequence)
 
-place-listed : (game : Game) (F : Field) (q : Placement) → is_place (table_of game.rules) F game.drop_mode q ≡ true → Contains (places_of game F q.piece) q
-unfolding places_of
+place-listed : (game : Game) (F : Field) (q : Placement) → is_place (table_of game.rules) F game.drop_mode q ≡ true → Contains (reached_places game F q.piece) q
+unfolding reached_places
 place-listed game F q place =
     let is = (place-decides (table_of game.rules) F game.drop_mode q).0 place in
     let listed : IsCanonicalInside q.piece q = record { kind = refl; canonical = is.canonical; inside = free_inside F q (place-free (table_of game.rules) F game.drop_mode q is) } in
@@ -58,24 +58,24 @@ good-played game F rows hand [] plays taken = eq-eqb rows 0 plays.0
 good-played game F rows hand (q ∷ s) plays taken =
     let rest = good-played game (locked F q) (rows - rows_removed F q) taken.0 s plays.2 taken.2 in
     let place = (place-decides (table_of game.rules) F game.drop_mode q).1 plays.0 in
-    let after : list_any (λ q. is_below rows q && is_good game (locked F q) (rows - rows_removed F q) (length s) (number_of taken.0)) (places_of game F q.piece) ≡ true =
-    any_passes (λ q. is_below rows q && is_good game (locked F q) (rows - rows_removed F q) (length s) (number_of taken.0)) (places_of game F q.piece) q
+    let after : list_any (λ q. is_below rows q && is_good game (locked F q) (rows - rows_removed F q) (length s) (number_of taken.0)) (reached_places game F q.piece) ≡ true =
+    any_passes (λ q. is_below rows q && is_good game (locked F q) (rows - rows_removed F q) (length s) (number_of taken.0)) (reached_places game F q.piece) q
     (place-listed game F q place) (and_from _ _ plays.1 rest) in
     any_passes (λ piece. takes game.hold (piece_code piece)
-    (λ rest. list_any (λ q. is_below rows q && is_good game (locked F q) (rows - rows_removed F q) (length s) rest) (places_of game F piece)) (number_of hand))
+    (λ rest. list_any (λ q. is_below rows q && is_good game (locked F q) (rows - rows_removed F q) (length s) rest) (reached_places game F piece)) (number_of hand))
     all_pieces q.piece (in_all_pieces q.piece)
-    (takes-from game.hold hand q.piece taken.0 (λ rest. list_any (λ q. is_below rows q && is_good game (locked F q) (rows - rows_removed F q) (length s) rest) (places_of game F q.piece)) taken.1 after)
+    (takes-from game.hold hand q.piece taken.0 (λ rest. list_any (λ q. is_below rows q && is_good game (locked F q) (rows - rows_removed F q) (length s) rest) (reached_places game F q.piece)) taken.1 after)
 
 pub played-good : (game : Game) (F : Field) (rows left : ℕ) (hand : List Piece) → IsLow F rows → is_good game F rows left (number_of hand) ≡ true → Played game F rows left hand
-unfolding is_good places_of
+unfolding is_good reached_places
 played-good game F rows zero hand low good =
     let none : rows ≡ 0 = eqb-true rows 0 good in
     ([], refl, (none, λ x y. low.none x y (omega (arith, none))), tt)
 played-good game F rows (suc left) hand low good =
     let kind = some_passes (λ piece. takes game.hold (piece_code piece)
-    (λ rest. list_any (λ q. is_below rows q && is_good game (locked F q) (rows - rows_removed F q) left rest) (places_of game F piece)) (number_of hand)) all_pieces good in
-    let way = takes-to game.hold hand kind.0 (λ rest. list_any (λ q. is_below rows q && is_good game (locked F q) (rows - rows_removed F q) left rest) (places_of game F kind.0)) kind.2 in
-    let found = some_passes (λ q. is_below rows q && is_good game (locked F q) (rows - rows_removed F q) left (number_of way.0)) (places_of game F kind.0) way.2 in
+    (λ rest. list_any (λ q. is_below rows q && is_good game (locked F q) (rows - rows_removed F q) left rest) (reached_places game F piece)) (number_of hand)) all_pieces good in
+    let way = takes-to game.hold hand kind.0 (λ rest. list_any (λ q. is_below rows q && is_good game (locked F q) (rows - rows_removed F q) left rest) (reached_places game F kind.0)) kind.2 in
+    let found = some_passes (λ q. is_below rows q && is_good game (locked F q) (rows - rows_removed F q) left (number_of way.0)) (reached_places game F kind.0) way.2 in
     let q : Placement = found.0 in
     let parts = and_parts (is_below rows q) (is_good game (locked F q) (rows - rows_removed F q) left (number_of way.0)) found.2 in
     let kept = Contains-from_filter (is_place (table_of game.rules) F game.drop_mode) (placements_of kind.0) q found.1 in
@@ -120,7 +120,7 @@ some_rest : (hold : Hold) (code hand : ℕ) (goes_on : ℕ → Bool) → takes h
 unfolding takes
 some_rest hold code hand goes_on passes = elim (or_cases (hand % 8 == code && goes_on (without_first hand)) _ passes) [
   | inl first ↦ (without_first hand, (and_parts (hand % 8 == code) (goes_on (without_first hand)) first).1)
-  | inr second ↦ (without_second hand, (and_parts (hand / 8 % 8 == code) (goes_on (without_second hand)) (and_parts (is_allowed hold) (hand / 8 % 8 == code && goes_on (without_second hand)) second).1).1)
+  | inr second ↦ (without_second hand, (and_parts (hand / 8 % 8 == code) (goes_on (without_second hand)) (and_parts (allows_hold hold) (hand / 8 % 8 == code && goes_on (without_second hand)) second).1).1)
 ]
 
 abbrev PlaysSome : Game → Field → ℕ → Type 0
@@ -128,15 +128,15 @@ PlaysSome game F rows = (sequence : List Placement) × Plays (table_of game.rule
 
 -- whatever the hand is, some sequence plays
 good-plays : (game : Game) (F : Field) (rows left hand : ℕ) → IsLow F rows → is_good game F rows left hand ≡ true → PlaysSome game F rows
-unfolding is_good places_of
+unfolding is_good reached_places
 good-plays game F rows zero hand low good =
     let none : rows ≡ 0 = eqb-true rows 0 good in
     ([], (none, λ x y. low.none x y (omega (arith, none))))
 good-plays game F rows (suc left) hand low good =
     let kind = some_passes (λ piece. takes game.hold (piece_code piece)
-    (λ rest. list_any (λ q. is_below rows q && is_good game (locked F q) (rows - rows_removed F q) left rest) (places_of game F piece)) hand) all_pieces good in
-    let way = some_rest game.hold (piece_code kind.0) hand (λ rest. list_any (λ q. is_below rows q && is_good game (locked F q) (rows - rows_removed F q) left rest) (places_of game F kind.0)) kind.2 in
-    let found = some_passes (λ q. is_below rows q && is_good game (locked F q) (rows - rows_removed F q) left way.0) (places_of game F kind.0) way.1 in
+    (λ rest. list_any (λ q. is_below rows q && is_good game (locked F q) (rows - rows_removed F q) left rest) (reached_places game F piece)) hand) all_pieces good in
+    let way = some_rest game.hold (piece_code kind.0) hand (λ rest. list_any (λ q. is_below rows q && is_good game (locked F q) (rows - rows_removed F q) left rest) (reached_places game F kind.0)) kind.2 in
+    let found = some_passes (λ q. is_below rows q && is_good game (locked F q) (rows - rows_removed F q) left way.0) (reached_places game F kind.0) way.1 in
     let q : Placement = found.0 in
     let parts = and_parts (is_below rows q) (is_good game (locked F q) (rows - rows_removed F q) left way.0) found.2 in
     let kept = Contains-from_filter (is_place (table_of game.rules) F game.drop_mode) (placements_of kind.0) q found.1 in

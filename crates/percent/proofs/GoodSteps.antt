@@ -15,7 +15,7 @@ use Rattle.number_sets.specs.Rising.{IsRising, has}
 use Rattle.number_sets.proofs.CallerLemmas.{has-none}
 use Rattle.percent.specs.declared.game.Game.{Game}
 use Rattle.percent.specs.declared.position.Position.{Position}
-use Rattle.percent.specs.Hands.{is_allowed, takes, with_first, with_second, without_first, without_second}
+use Rattle.percent.specs.Hands.{allows_hold, takes, with_first, with_second, without_first, without_second}
 use Rattle.percent.specs.GoodHands.{is_good, is_good_after, is_good_at}
 use Rattle.percent.proofs.RestSteps.{first_back, second_back}
 use Rattle.percent.proofs.GoodLemmas.{good-step}
@@ -26,11 +26,11 @@ and_same false b c same = refl
 
 -- taking so that one test passes, or another that agrees where it is asked
 takes-same : (hold : Hold) (code hand : ℕ) (f g : ℕ → Bool) → (hand % 8 ≡ code → f (without_first hand) ≡ g (without_first hand))
-    → (is_allowed hold ≡ true → hand / 8 % 8 ≡ code → f (without_second hand) ≡ g (without_second hand)) → takes hold code f hand ≡ takes hold code g hand
+    → (allows_hold hold ≡ true → hand / 8 % 8 ≡ code → f (without_second hand) ≡ g (without_second hand)) → takes hold code f hand ≡ takes hold code g hand
 unfolding takes
 takes-same hold code hand f g first second =
     let one = and_same (hand % 8 == code) (f (without_first hand)) (g (without_first hand)) (λ is. first (eqb-true (hand % 8) code is)) in
-    let other = and_same (is_allowed hold) (hand / 8 % 8 == code && f (without_second hand)) (hand / 8 % 8 == code && g (without_second hand))
+    let other = and_same (allows_hold hold) (hand / 8 % 8 == code && f (without_second hand)) (hand / 8 % 8 == code && g (without_second hand))
     (λ allowed. and_same (hand / 8 % 8 == code) (f (without_second hand)) (g (without_second hand)) (λ is. second allowed (eqb-true (hand / 8 % 8) code is))) in
     λ i. one i || other i
 
@@ -45,7 +45,7 @@ or_right false false c h k = h
 
 -- the rests of a hand that is asked about are asked about, so the answer for them is that for the hand
 answer-taken : (hold : Hold) (code : ℕ) (asked rests good : List ℕ) (after : ℕ → Bool) (hand : ℕ) → has asked hand ≡ true
-    → ((rest : ℕ) → has rests rest ≡ (has asked (with_first code rest) || (is_allowed hold && has asked (with_second code rest))))
+    → ((rest : ℕ) → has rests rest ≡ (has asked (with_first code rest) || (allows_hold hold && has asked (with_second code rest))))
     → ((rest : ℕ) → has good rest ≡ (has rests rest && after rest))
     → takes hold code (has good) hand ≡ takes hold code after hand
 unfolding without_first without_second
@@ -57,7 +57,7 @@ answer-taken hold code asked rests good after hand there rests_is good_is =
     good_is (hand / 8) ∙ ap (λ b. b && after (hand / 8)) in_rests)
     (λ allowed is.
     let in_rests : has rests (hand / 64 * 8 + hand % 8) ≡ true =
-    rests_is (hand / 64 * 8 + hand % 8) ∙ or_right (has asked (with_first code (hand / 64 * 8 + hand % 8))) (is_allowed hold) (has asked (with_second code (hand / 64 * 8 + hand % 8))) allowed
+    rests_is (hand / 64 * 8 + hand % 8) ∙ or_right (has asked (with_first code (hand / 64 * 8 + hand % 8))) (allows_hold hold) (has asked (with_second code (hand / 64 * 8 + hand % 8))) allowed
     (ap (has asked) (second_back code hand is) ∙ there) in
     good_is (hand / 64 * 8 + hand % 8) ∙ ap (λ b. b && after (hand / 64 * 8 + hand % 8)) in_rests)
 
@@ -90,7 +90,7 @@ ask_less true false t u same = ap not (same refl)
 
 explore-more : (order : List Piece) (game now next_game : Game) (F : Field) (rows left : ℕ) (hands asked rests good next : List ℕ) (before middle after i : ℕ) (d : Piece)
     → Exploring order game now F rows left hands asked before middle i → i < length order
-    → ((rest : ℕ) → has rests rest ≡ (has asked (with_first (piece_code (get_or order i d)) rest) || (is_allowed now.hold && has asked (with_second (piece_code (get_or order i d)) rest))))
+    → ((rest : ℕ) → has rests rest ≡ (has asked (with_first (piece_code (get_or order i d)) rest) || (allows_hold now.hold && has asked (with_second (piece_code (get_or order i d)) rest))))
     → ((rest : ℕ) → has good rest ≡ (has rests rest && is_good_after now F rows (get_or order i d) left rest))
     → next_game ≡ now → middle ≤ after
     → IsRising next → ((hand : ℕ) → has next hand ≡ (has asked hand && not (takes now.hold (piece_code (get_or order i d)) (has good) hand)))
@@ -114,7 +114,7 @@ explore-more order game now next_game F rows left hands asked rests good next be
 pub explore-step : (order : List Piece) (game now next_game : Game) (F : Field) (rows left : ℕ) (hands asked asked1 asked2 rests rests1 good good1 next : List ℕ) (before middle after i : ℕ) (d : Piece)
     → Exploring order game now F rows left hands asked before middle i → i < length order
     → asked1 ≡ asked
-    → ((rest : ℕ) → has rests rest ≡ (has asked1 (with_first (piece_code (get_or order i d)) rest) || (is_allowed now.hold && has asked1 (with_second (piece_code (get_or order i d)) rest))))
+    → ((rest : ℕ) → has rests rest ≡ (has asked1 (with_first (piece_code (get_or order i d)) rest) || (allows_hold now.hold && has asked1 (with_second (piece_code (get_or order i d)) rest))))
     → rests1 ≡ rests
     → ((rest : ℕ) → has good rest ≡ (has rests1 rest && is_good_after now F rows (get_or order i d) left rest))
     → next_game ≡ now → middle ≤ after
@@ -123,7 +123,7 @@ pub explore-step : (order : List Piece) (game now next_game : Game) (F : Field) 
     → Exploring order game next_game F rows left hands next before after (i + 1)
 explore-step order game now next_game F rows left hands asked asked1 asked2 rests rests1 good good1 next before middle after i d state within e1 rests_is e2 good_is same later rises e3 e4 next_is =
     explore-more order game now next_game F rows left hands asked rests good next before middle after i d state within
-    (subst (λ l. (rest : ℕ) → has rests rest ≡ (has l (with_first (piece_code (get_or order i d)) rest) || (is_allowed now.hold && has l (with_second (piece_code (get_or order i d)) rest)))) e1 rests_is)
+    (subst (λ l. (rest : ℕ) → has rests rest ≡ (has l (with_first (piece_code (get_or order i d)) rest) || (allows_hold now.hold && has l (with_second (piece_code (get_or order i d)) rest)))) e1 rests_is)
     (subst (λ l. (rest : ℕ) → has good rest ≡ (has l rest && is_good_after now F rows (get_or order i d) left rest)) e2 good_is)
     same later rises
     (subst (λ l. (hand : ℕ) → has next hand ≡ (has asked hand && not (takes now.hold (piece_code (get_or order i d)) (has l) hand))) e4

@@ -9,7 +9,7 @@ use Rattle.srs.proofs.CallerLemmas.{piece_code-injective}
 use Rattle.hold_queue.specs.declared.hold.Hold.{Hold}
 use Rattle.hold_queue.specs.declared.hold.Hold.TheVariants.{Allowed, Avoided}
 use Rattle.hold_queue.specs.AtHand.{Take, take_first, take_second}
-use Rattle.percent.specs.Hands.{number_of, is_allowed, takes, without_first, without_second}
+use Rattle.percent.specs.Hands.{number_of, allows_hold, takes, without_first, without_second}
 use Rattle.percent.proofs.TestLemmas.{or_cases, or_first, or_second}
 
 pub code-some : (piece : Piece) → 1 ≤ piece_code piece
@@ -68,7 +68,7 @@ at_second (first ∷ second ∷ rest) piece goes_on same passes =
     (first ∷ rest, subst (λ p. Take Allowed (first ∷ second ∷ rest) p (first ∷ rest)) is take_second, subst (λ n. goes_on n ≡ true) (second-left first second rest) passes)
 
 by_second : (hold : Hold) (hand : List Piece) (piece : Piece) (goes_on : ℕ → Bool)
-    → (is_allowed hold && (number_of hand / 8 % 8 == piece_code piece && goes_on (without_second (number_of hand)))) ≡ true → TakesSo hold hand piece goes_on
+    → (allows_hold hold && (number_of hand / 8 % 8 == piece_code piece && goes_on (without_second (number_of hand)))) ≡ true → TakesSo hold hand piece goes_on
 by_second Avoided hand piece goes_on passes = cc
 by_second Allowed hand piece goes_on passes =
     let parts = and_parts (number_of hand / 8 % 8 == piece_code piece) (goes_on (without_second (number_of hand))) passes in

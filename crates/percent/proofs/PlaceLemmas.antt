@@ -28,18 +28,18 @@ use Rattle.well.proofs.CallerLemmas.{free_inside}
 use Rattle.moves.proofs.CallerLemmas.{place-free}
 use Rattle.percent.specs.declared.game.Game.{Game}
 use Rattle.percent.specs.declared.position.Position.{Position}
-use Rattle.percent.specs.GoodHands.{places_of, is_good, is_good_after, is_good_at}
+use Rattle.percent.specs.GoodHands.{reached_places, is_good, is_good_after, is_good_at}
 
 -- those above the last one
 unfoldable pub places_above : Game → Field → Piece → Option Placement → List Placement
-places_above game F piece last = filter (is_above placement_cmp last) (places_of game F piece)
+places_above game F piece last = filter (is_above placement_cmp last) (reached_places game F piece)
 
 -- the places that a flood holds
 abbrev pub Held : Game → Field → Piece → Places → Type 0
 Held game F piece places = (q : Placement) → (IsTrue (holds places q)) ↔ ((q.piece ≡ piece) × IsPlace (table_of game.rules) F game.drop_mode q)
 
-held-list : (game : Game) (F : Field) (piece : Piece) (places : Places) → Held game F piece places → IsRisingListOf placement_cmp (λ q. IsTrue (holds places q)) (places_of game F piece)
-unfolding places_of
+held-list : (game : Game) (F : Field) (piece : Piece) (places : Places) → Held game F piece places → IsRisingListOf placement_cmp (λ q. IsTrue (holds places q)) (reached_places game F piece)
+unfolding reached_places
 held-list game F piece places held = record {
   rising = IsStrictlySortedBy-filter placement_cmp (is_place (table_of game.rules) F game.drop_mode) (placements_of piece) (placements_of-list piece).rising;
   members = λ q. (
@@ -64,17 +64,17 @@ pub next-place : (game : Game) (F : Field) (piece : Piece) (places : Places) →
 unfolding places_above
 next-place game F piece places held last next is = at next same is
   where
-    same : find (is_above placement_cmp last) (places_of game F piece) ≡ next
-    same = IsNextAbove-unique placement_cmp placement_cmp-total placement_cmp-antisymmetric (λ q. holds places q ≡ true) last (find (is_above placement_cmp last) (places_of game F piece)) next
-        (find-next_of placement_cmp placement_cmp-total (λ q. holds places q ≡ true) last (places_of game F piece) (held-list game F piece places held)) is
+    same : find (is_above placement_cmp last) (reached_places game F piece) ≡ next
+    same = IsNextAbove-unique placement_cmp placement_cmp-total placement_cmp-antisymmetric (λ q. holds places q ≡ true) last (find (is_above placement_cmp last) (reached_places game F piece)) next
+        (find-next_of placement_cmp placement_cmp-total (λ q. holds places q ≡ true) last (reached_places game F piece) (held-list game F piece places held)) is
 
-    at : (next : Option Placement) → find (is_above placement_cmp last) (places_of game F piece) ≡ next → IsNextAbove placement_cmp (λ q. IsTrue (holds places q)) last next
-        → MatchOption next (filter (is_above placement_cmp last) (places_of game F piece) ≡ [])
-        (λ q. (filter (is_above placement_cmp last) (places_of game F piece) ≡ q ∷ filter (is_above placement_cmp (Some q)) (places_of game F piece)) × (q.piece ≡ piece) × (is_free F q ≡ true))
-    at None e is = filter_above-none placement_cmp placement_cmp-total last (places_of game F piece) e
+    at : (next : Option Placement) → find (is_above placement_cmp last) (reached_places game F piece) ≡ next → IsNextAbove placement_cmp (λ q. IsTrue (holds places q)) last next
+        → MatchOption next (filter (is_above placement_cmp last) (reached_places game F piece) ≡ [])
+        (λ q. (filter (is_above placement_cmp last) (reached_places game F piece) ≡ q ∷ filter (is_above placement_cmp (Some q)) (reached_places game F piece)) × (q.piece ≡ piece) × (is_free F q ≡ true))
+    at None e is = filter_above-none placement_cmp placement_cmp-total last (reached_places game F piece) e
     at (Some q) e is =
         let place = (held q).0 is.member in (
-          filter_above-next placement_cmp placement_cmp-total last (places_of game F piece) q (held-list game F piece places held).rising e,
+          filter_above-next placement_cmp placement_cmp-total last (reached_places game F piece) q (held-list game F piece places held).rising e,
           place.0,
           place-free (table_of game.rules) F game.drop_mode q place.1,
         )
@@ -96,7 +96,7 @@ all_above (q ∷ qs) = ap (λ l. q ∷ l) (all_above qs)
 pub follow-starts : (game : Game) (F : Field) (rows : ℕ) (piece : Piece) → Following game F rows piece [] None
 unfolding places_above good_after_some is_good_at is_good_after
 follow-starts game F rows piece = record {
-  same = λ left hand. ap (list_any (λ q. is_below rows q && is_good game (locked F q) (rows - rows_removed F q) left hand)) (all_above (places_of game F piece));
+  same = λ left hand. ap (list_any (λ q. is_below rows q && is_good game (locked F q) (rows - rows_removed F q) left hand)) (all_above (reached_places game F piece));
 }
 
 or_next : (a t b : Bool) → ((a || t) || b) ≡ (a || (t || b))

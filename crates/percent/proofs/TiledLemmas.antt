@@ -20,9 +20,9 @@ use Rattle.prune.proofs.CallerLemmas.{cleared_is_tiled, more_pieces, one_placeme
 use Rattle.enumerate.proofs.CallerLemmas.{IsLow, locked-low, place-decides}
 use Rattle.moves.proofs.CallerLemmas.{place-free}
 use Rattle.percent.specs.declared.game.Game.{Game}
-use Rattle.percent.specs.Hands.{is_allowed, takes, without_first, without_second}
+use Rattle.percent.specs.Hands.{allows_hold, takes, without_first, without_second}
 use Rattle.percent.specs.Fitting.{codes_in, supply_at}
-use Rattle.percent.specs.GoodHands.{is_good, places_of}
+use Rattle.percent.specs.GoodHands.{is_good, reached_places}
 use Rattle.percent.proofs.TestLemmas.{or_cases, some_passes}
 
 -- no more pieces have a code than there are pieces
@@ -69,7 +69,7 @@ taken-rest hold count code hand goes_on passes = elim (or_cases (hand % 8 == cod
       let parts = and_parts (hand % 8 == code) (goes_on (hand / 8)) first in
       (hand / 8, parts.1, first-rest (suc count) hand code (eqb-true (hand % 8) code parts.0))
   | inr second ↦
-      let later = (and_parts (is_allowed hold) (hand / 8 % 8 == code && goes_on (hand / 64 * 8 + hand % 8)) second).1 in
+      let later = (and_parts (allows_hold hold) (hand / 8 % 8 == code && goes_on (hand / 64 * 8 + hand % 8)) second).1 in
       let parts = and_parts (hand / 8 % 8 == code) (goes_on (hand / 64 * 8 + hand % 8)) later in
       (hand / 64 * 8 + hand % 8, parts.1, second-rest count hand code (eqb-true (hand / 8 % 8) code parts.0))
 ]
@@ -91,7 +91,7 @@ unfolding kinds_placed
 nothing-tiled F supply low = more_pieces F 0 (kinds_placed []) supply (λ piece. omega arith) (cleared_is_tiled F 0 [] low.within (record { none = low.none }) refl)
 
 pub good-tiled : (game : Game) (F : Field) (rows left hand count : ℕ) → IsLow F rows → suc left ≤ count → is_good game F rows left hand ≡ true → Tiling F rows (supply_at count hand)
-unfolding is_good places_of
+unfolding is_good reached_places
 good-tiled game F rows zero hand count low enough good =
     let none : rows ≡ 0 = eqb-true rows 0 good in
     subst (λ r. Tiling F r (supply_at count hand)) (sym none) (nothing-tiled F (supply_at count hand) (subst (λ r. IsLow F r) none low))
@@ -99,9 +99,9 @@ good-tiled game F rows (suc left) hand zero low enough good = absurd (omega arit
 good-tiled game F rows (suc left) hand (suc zero) low enough good = absurd (omega arith)
 good-tiled game F rows (suc left) hand (suc (suc count)) low enough good =
     let kind = some_passes (λ piece. takes game.hold (piece_code piece)
-    (λ rest. list_any (λ q. is_below rows q && is_good game (locked F q) (rows - rows_removed F q) left rest) (places_of game F piece)) hand) all_pieces good in
-    let way = taken-rest game.hold count (piece_code kind.0) hand (λ rest. list_any (λ q. is_below rows q && is_good game (locked F q) (rows - rows_removed F q) left rest) (places_of game F kind.0)) kind.2 in
-    let found = some_passes (λ q. is_below rows q && is_good game (locked F q) (rows - rows_removed F q) left way.0) (places_of game F kind.0) way.1 in
+    (λ rest. list_any (λ q. is_below rows q && is_good game (locked F q) (rows - rows_removed F q) left rest) (reached_places game F piece)) hand) all_pieces good in
+    let way = taken-rest game.hold count (piece_code kind.0) hand (λ rest. list_any (λ q. is_below rows q && is_good game (locked F q) (rows - rows_removed F q) left rest) (reached_places game F kind.0)) kind.2 in
+    let found = some_passes (λ q. is_below rows q && is_good game (locked F q) (rows - rows_removed F q) left way.0) (reached_places game F kind.0) way.1 in
     let q : Placement = found.0 in
     let parts = and_parts (is_below rows q) (is_good game (locked F q) (rows - rows_removed F q) left way.0) found.2 in
     let kept = Contains-from_filter (is_place (table_of game.rules) F game.drop_mode) (placements_of kind.0) q found.1 in

@@ -21,8 +21,8 @@ use Rattle.percent.specs.declared.position.Position.{Position}
 use Rattle.percent.specs.Hands.{hand_of, takes}
 
 -- the placements of a piece that legal keys reach, in order
-unfoldable pub places_of : Game → Field → Piece → List Placement
-places_of game F piece = filter (is_place (table_of game.rules) F game.drop_mode) (placements_of piece)
+unfoldable pub reached_places : Game → Field → Piece → List Placement
+reached_places game F piece = filter (is_place (table_of game.rules) F game.drop_mode) (placements_of piece)
 
 -- with so many rows left and so many placements to come
 unfoldable pub is_good : Game → Field → ℕ → ℕ → ℕ → Bool
@@ -30,13 +30,13 @@ is_good game F rows zero hand = rows == 0
 is_good game F rows (suc left) hand =
     list_any (λ piece. takes game.hold (piece_code piece)
     (λ rest. list_any (λ q. is_below rows q && is_good game (locked F q) (rows - rows_removed F q) left rest)
-    (places_of game F piece)) hand) all_pieces
+    (reached_places game F piece)) hand) all_pieces
 
 -- good after this piece was placed, with so many placements to come then
 unfoldable pub is_good_after : Game → Field → ℕ → Piece → ℕ → ℕ → Bool
 is_good_after game F rows piece left rest =
     list_any (λ q. is_below rows q && is_good game (locked F q) (rows - rows_removed F q) left rest)
-    (places_of game F piece)
+    (reached_places game F piece)
 
 -- good at one of these positions
 unfoldable pub is_good_at : Game → List Position → ℕ → ℕ → Bool

@@ -14,9 +14,9 @@ number_of (piece ∷ pieces) = piece_code piece + 8 * number_of pieces
 unfoldable pub hand_of : Hold → Option Piece → ℕ → List Piece → ℕ
 hand_of hold held count queue = number_of (take (taken_from hold count) (at_hand hold held queue))
 
-abbrev pub is_allowed : Hold → Bool
-is_allowed Allowed = true
-is_allowed Avoided = false
+abbrev pub allows_hold : Hold → Bool
+allows_hold Allowed = true
+allows_hold Avoided = false
 
 -- without the first piece, and without the second
 unfoldable pub without_first : ℕ → ℕ
@@ -29,7 +29,7 @@ without_second hand = hand / 64 * 8 + hand % 8
 unfoldable pub takes : Hold → ℕ → (ℕ → Bool) → ℕ → Bool
 takes hold code goes_on hand =
     (hand % 8 == code && goes_on (without_first hand))
-    || (is_allowed hold && (hand / 8 % 8 == code && goes_on (without_second hand)))
+    || (allows_hold hold && (hand / 8 % 8 == code && goes_on (without_second hand)))
 
 -- with a first piece more, and with a piece more behind the first
 unfoldable pub with_first : ℕ → ℕ → ℕ

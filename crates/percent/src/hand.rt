@@ -2,7 +2,7 @@
 ghost use Rattle.std.specs.Prelude.{◌≡◌, ℕ, ◌≤◌, ◌<◌, ◌+◌, ◌-◌, ◌*◌, ◌/◌, ◌%◌, ◌^◌, ◌==◌, ◌&&◌, ◌||◌, not, length, take, IfOk};
 ghost use Rattle.srs.specs.Piece.{piece_code};
 ghost use Rattle.number_sets.specs.Rising.{IsRising, has};
-ghost use Rattle.percent.specs.Hands.{is_allowed, takes, with_first, with_second};
+ghost use Rattle.percent.specs.Hands.{allows_hold, takes, with_first, with_second};
 ghost use Rattle.percent.specs.Hands;
 
 use hold_queue::Hold;
@@ -92,7 +92,7 @@ pub fn rests_of(
     ensures rises { IfOk result (λ v. IsRising v.items) }
     ensures members { IfOk result (λ v. (rest : ℕ) → has v.items rest
         ≡ (has hands.now (with_first (piece_code piece) rest)
-        || (is_allowed hold && has hands.now (with_second (piece_code piece) rest)))) }
+        || (allows_hold hold && has hands.now (with_second (piece_code piece) rest)))) }
 {
     let code = u64::from(piece.code());
     let first = without_first(alloc, code, hands)?;

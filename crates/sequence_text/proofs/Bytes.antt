@@ -4,7 +4,7 @@ use Rattle.std.proofs.lemmas.List.{drop_all}
 use Rattle.std.proofs.lemmas.Bool.{ltb-true}
 use Rattle.srs.specs.declared.placement.Placement.{Placement}
 use Rattle.sequence_text.specs.declared.reading.Reading.{Reading}
-use Rattle.sequence_text.specs.Reading.{read_from, read_on, step, may_end, unread, sequence_in}
+use Rattle.sequence_text.specs.Reading.{read_from, continue_with, step, may_end, unread, sequence_in}
 
 -- the bytes from a place on
 here : (text : List ℕ) (i : ℕ) → i < length text → drop i text ≡ get_or text i 0 ∷ drop (i + 1) text
@@ -21,7 +21,7 @@ unfolding read_from
 no_blank read left now place byte rest is_blank on = rw (is_blank, on) refl
 
 other : (read : List Placement) (left : ℕ) (now : Reading) (place byte : ℕ) (rest : List ℕ) (next : Option Reading) → (byte == 32) ≡ false → next ≡ step now byte
-    → read_from read left now place (byte ∷ rest) ≡ read_on next place (λ next. read_from read left next (place + 1) rest)
+    → read_from read left now place (byte ∷ rest) ≡ continue_with next place (λ next. read_from read left next (place + 1) rest)
 unfolding read_from
 other read left now place byte rest next no_blank stepped = rw (no_blank, stepped) refl
 

@@ -17,7 +17,7 @@ use Rattle.placement_form.proofs.CallerLemmas.{IsDigit, digit_only, IsRowOf, two
 use Rattle.sequence_text.specs.declared.reading.Due.{Due}
 use Rattle.sequence_text.specs.declared.reading.Due.TheVariants as due
 use Rattle.sequence_text.specs.declared.reading.Reading.{Reading}
-use Rattle.sequence_text.specs.Reading.{read_from, read_on, reading, when, step, is_key_letter, keys_step, after_row_step, may_end, unread, sequence_in}
+use Rattle.sequence_text.specs.Reading.{read_from, continue_with, reading, when, step, is_key_letter, keys_step, after_row_step, may_end, unread, sequence_in}
 use Rattle.sequence_text.specs.Form.{alone, with_keys, none, SpellsPlacement, SpellsSequence, last, more, Spells}
 
 -- the text of a placement before its column
@@ -254,7 +254,7 @@ record Taken (step : Option Reading) (rest : Reading → Result (List Placement)
   is : step ≡ Some next
   gives : rest next ≡ Ok sequence
 
-step_taken : (step : Option Reading) (place : ℕ) (rest : Reading → Result (List Placement) ℕ) (sequence : List Placement) → read_on step place rest ≡ Ok sequence → Taken step rest sequence
+step_taken : (step : Option Reading) (place : ℕ) (rest : Reading → Result (List Placement) ℕ) (sequence : List Placement) → continue_with step place rest ≡ Ok sequence → Taken step rest sequence
 step_taken None place rest sequence gives = absurd (no_answer place sequence gives)
 step_taken (Some next) place rest sequence gives = record { next = next; is = refl; gives = gives }
 
@@ -272,7 +272,7 @@ spelled_from (byte ∷ bytes) read left now front place sequence so_far gives = 
     | inr on ↦ absurd (no_answer place sequence (rw (blank, on) at gives))
   ]
   | inr no_blank ↦
-      let goes : read_on (step now byte) place (λ next. read_from read left next (place + 1) bytes) ≡ Ok sequence = rw no_blank at gives in
+      let goes : continue_with (step now byte) place (λ next. read_from read left next (place + 1) bytes) ≡ Ok sequence = rw no_blank at gives in
       let taken = step_taken (step now byte) place (λ next. read_from read left next (place + 1) bytes) sequence goes in
       subst (λ t. Spelled read left t sequence) (append_assoc front (byte ∷ []) bytes)
       (spelled_from bytes read left taken.next (front ++ byte ∷ []) (place + 1) sequence (grown now.due now.placement front byte taken.next so_far taken.is) taken.gives)

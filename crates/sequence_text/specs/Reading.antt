@@ -65,9 +65,9 @@ may_end due.AfterKeys = true
 may_end _ = false
 
 -- how the reading of a sequence goes on with the placement that is read now, where so many placements follow it
-abbrev pub read_on : Option Reading → ℕ → (Reading → Result (List Placement) ℕ) → Result (List Placement) ℕ
-read_on None place rest = Err place
-read_on (Some next) place rest = rest next
+abbrev pub continue_with : Option Reading → ℕ → (Reading → Result (List Placement) ℕ) → Result (List Placement) ℕ
+continue_with None place rest = Err place
+continue_with (Some next) place rest = rest next
 
 -- The placements that a text spells after those that were read: one is being read and so many follow it, each after a
 -- blank. Or the place of the first byte that may not stand there.
@@ -77,7 +77,7 @@ read_from read left now place (byte ∷ bytes) =
     if byte == 32 then
     (if may_end now.due && nat_lt 0 left then read_from (read ++ now.placement ∷ []) (left - 1) unread
     (place + 1) bytes else Err place)
-    else read_on (step now byte) place (λ next. read_from read left next (place + 1) bytes)
+    else continue_with (step now byte) place (λ next. read_from read left next (place + 1) bytes)
 
 -- the sequence of so many placements that a text spells, or how many bytes its longest front has that begins some
 -- such text

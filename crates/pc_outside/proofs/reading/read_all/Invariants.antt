@@ -1,11 +1,11 @@
 -- The bytes so far were taken, at most one more than the limit, and the count of faults stayed.
 use Rattle.std.proofs.Common.{◌≡◌, ◌+◌, ◌-◌, ◌≤◌, vec_len}
-use Rattle.pc_outside.specs.Reads.{Takes}
+use Rattle.pc_outside.specs.Reads.{TakesBytes}
 use Rattle.pc_outside.proofs.reading.read_all.Given as goal
 
 abbrev pub invariant-loop-chunk : goal.invariant-loop-chunk
 invariant-loop-chunk g l =
-    Takes (g.S.Source.left l.initial.source) (g.S.Source.left l.source) l.bytes.items
+    TakesBytes (g.S.Source.left l.initial.source) (g.S.Source.left l.source) l.bytes.items
     × (g.S.Source.faults l.source ≡ g.S.Source.faults l.initial.source)
     × (vec_len l.bytes ≤ l.limit + 1)
 

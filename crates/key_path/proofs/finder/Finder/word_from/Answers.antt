@@ -8,7 +8,7 @@ use Rattle.circular_buffer.specs.Buffer.{Buffer}
 use Rattle.key_path.specs.declared.marks.Mark.TheVariants.{Start}
 use Rattle.key_path.specs.LeastKeyWord.{IsLeastKeyWord}
 use Rattle.key_path.specs.Marks.{with_mark}
-use Rattle.key_path.specs.Search.{IsReached}
+use Rattle.key_path.specs.Search.{LeadsBack}
 use Rattle.key_path.proofs.FindLemmas.{pushed, finding_first, trying_first, none_found}
 use Rattle.key_path.proofs.finder.Finder.word_from.Goals as goal
 
@@ -28,7 +28,7 @@ press_keys-reached-requires-clause-trying c =
 
 pub returns-in-Some-reached : goal.returns-in-Some-reached
 returns-in-Some-reached c =
-    let reached : IsReached (table_of c.args.rules.now) (filled c.args.states.now.well) c.args.drop_mode c.args.aim.now c.press_keys-reached.new.marks.marks c.in-Some-reached.reached = c.in-Some-reached.ensures.1 in
+    let reached : LeadsBack (table_of c.args.rules.now) (filled c.args.states.now.well) c.args.drop_mode c.args.aim.now c.press_keys-reached.new.marks.marks c.in-Some-reached.reached = c.in-Some-reached.ensures.1 in
     subst (λ word. IsLeastKeyWord (table_of c.args.rules.now) (filled c.args.states.now.well) c.args.drop_mode c.args.aim.now (Some word)) (sym (c.word_to.ensures reached.traced)) (reached.least reached.traced)
 
 pub returns : goal.returns
