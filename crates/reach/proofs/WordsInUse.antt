@@ -22,7 +22,7 @@ first_words-bits count w few within =
     ∙ (λ i. nat_lt (sym q i) 24 && nat_lt (sym q i % 6) (sym p i))
 
 -- a word is empty unless it is in use and may have a bit
-empty_unless : (numbers : Numbers) (w : ℕ) → w < 24 → (has_bit numbers.in_use w ≡ true → get_or numbers.words w 0 ≡ 0) → get_or numbers.words w 0 ≡ 0
+pub empty_unless : (numbers : Numbers) (w : ℕ) → w < 24 → (has_bit numbers.in_use w ≡ true → get_or numbers.words w 0 ≡ 0) → get_or numbers.words w 0 ≡ 0
 empty_unless numbers w small empty = elim (cases_Bool (has_bit numbers.in_use w)) [
   | inl used ↦ empty used
   | inr unused ↦ numbers.none_else w small unused

@@ -23,5 +23,6 @@ has_own_cells piece rotation = nat_lt (rotation_place rotation) (rotation_count 
 unfoldable pub hard_board : Piece → ℕ → Field → Rotation → Field
 hard_board piece N cells rotation =
     let free : Field = free_lanes piece rotation N cells in
-    if has_own_cells piece rotation then lane_pivots piece rotation (resting_lanes N free (sky_board piece rotation N free))
+    if has_own_cells piece rotation
+    then lane_pivots piece rotation (resting_lanes N free (sky_board piece rotation N free))
     else empty_field

@@ -7,11 +7,14 @@ ghost use Rattle.well.specs.Well.{filled};
 ghost use Rattle.moves.specs.Place.{IsPlace};
 ghost use Rattle.sky.specs.Sky.{IsClearFrom};
 ghost use Rattle.sky.specs.Window.{IsWindowPlace};
+ghost use Rattle.reach.specs.PlaceSets.{ArePlaces};
 ghost use Rattle.reach.specs.Places.{holds, piece_of};
 ghost use Rattle.reach.specs.SameOffsets.{HaveSameOffsets};
+ghost use Rattle.reach.specs.States.{states_of};
 
 use crate::held::Places;
 use crate::low::{is_clear_from, low_places};
+use crate::pivots::Pivots;
 use crate::same_offsets::has_srs_offsets;
 use crate::steps::Steps;
 use crate::whole::whole_places;
@@ -53,12 +56,27 @@ pub(crate) fn places_where<L: Ledger>(
         ↔ ((q.piece ≡ piece) × IsPlace (table_of rules.now) (filled well.now) drop_mode q) }
     ensures counted { steps.new ≡ steps.old + 1 }
 {
-    if srs && is_low(well) {
-        return window_places(well, piece, drop_mode, steps);
-    }
     steps.tick();
-    let held = whole_places(&well.board(), rules, piece, drop_mode);
+    let held = pivots_where(well, rules, srs, piece, drop_mode);
     Places::of_states(piece, &held)
+}
+
+/// The pivots of these placements.
+pub(crate) fn pivots_where(
+    well: &Well,
+    rules: &Rules,
+    srs: bool,
+    piece: Piece,
+    drop_mode: DropMode,
+) -> Pivots<24>
+    requires { IsTrue srs → HaveSameOffsets (table_of rules.now) srs_table piece }
+    ensures { ArePlaces (table_of rules.now) (filled well.now) drop_mode piece (states_of result) }
+{
+    let filled = well.board();
+    if srs && is_clear_from(&filled, 8) {
+        return low_places(&filled, piece, drop_mode);
+    }
+    whole_places(&filled, rules, piece, drop_mode)
 }
 
 /// Whether no cell lies at or above row 8, as `window_places` requires.

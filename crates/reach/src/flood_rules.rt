@@ -6,7 +6,7 @@ ghost use Rattle.srs.specs.Piece.{piece_code};
 ghost use Rattle.srs.specs.Rules.{table_of};
 ghost use Rattle.reach.specs.SameOffsets.{HaveSameOffsets};
 
-use crate::find::places_where;
+use crate::find::{pivots_where, places_where};
 use crate::held::Places;
 use crate::same_offsets::has_srs_offsets;
 use crate::steps::Steps;
@@ -29,6 +29,7 @@ pub struct FloodRules {
 impl FloodRules {
     ghost use Rattle.std.specs.Prelude.{◌+◌};
     ghost use Rattle.srs.specs.declared.placement.Placement.{Placement};
+    ghost use Rattle.well.specs.LockLaws.{is_below};
     ghost use Rattle.well.specs.Well.{filled};
     ghost use Rattle.moves.specs.Place.{IsPlace};
     ghost use Rattle.reach.specs.FloodRules.{flood_table};
@@ -76,5 +77,28 @@ impl FloodRules {
     {
         let srs = self.has_srs_offsets(piece);
         places_where(well, &self.rules, srs, piece, drop_mode, steps)
+    }
+
+    #[tactic(auto, unfolding(crate::specs::FloodRules::flood_table))]
+    /// Floods, and makes these the places that `places` gives whose cells all lie in rows below the given one. Adds one
+    /// step.
+    pub fn flood_below<L: Ledger>(
+        &self,
+        well: &Well,
+        piece: Piece,
+        drop_mode: DropMode,
+        rows: u8,
+        steps: &mut Steps<L>,
+        held: &mut Places,
+    )
+        ensures piece { piece_of held.new ≡ piece }
+        ensures held { (q : Placement) → (IsTrue (holds held.new q)) ↔ ((q.piece ≡ piece)
+            × IsPlace (flood_table self.now) (filled well.now) drop_mode q × IsTrue (is_below rows q)) }
+        ensures counted { steps.new ≡ steps.old + 1 }
+    {
+        steps.tick();
+        let srs = self.has_srs_offsets(piece);
+        let pivots = pivots_where(well, &self.rules, srs, piece, drop_mode);
+        held.fill(piece, &pivots, rows);
     }
 }

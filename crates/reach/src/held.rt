@@ -15,7 +15,7 @@ pub struct Places {
 }
 
 impl Places {
-    ghost use Rattle.std.specs.Prelude.{◌↔◌, ◌≢◌, ◌==◌, ◌&&◌, IsTrue, IfSome, Some, None};
+    ghost use Rattle.std.specs.Prelude.{◌↔◌, ◌≢◌, ◌==◌, ◌&&◌, false, IsTrue, IfSome, Some, None};
     ghost use Rattle.std.specs.Option.{option_copied};
     ghost use Rattle.srs.specs.Order.{placement_cmp};
     ghost use Rattle.srs.specs.Piece.{piece_code};
@@ -34,6 +34,28 @@ impl Places {
             piece,
             numbers: Numbers::of_states(states),
         }
+    }
+
+    /// No placement of a piece.
+    pub fn none(piece: Piece) -> Places
+        ensures piece { piece_of result ≡ piece }
+        ensures held { (q : Placement) → holds result q ≡ false }
+    {
+        Places {
+            piece,
+            numbers: Numbers::none(),
+        }
+    }
+
+    /// Makes them the placements of a piece with these pivots whose cells all lie in rows below the given one.
+    #[inline(always)]
+    pub(crate) fn fill(&mut self, piece: Piece, states: &Pivots<24>, rows: u8)
+        ensures piece { piece_of self.new ≡ piece }
+        ensures held { (q : Placement) → IsTrue (holds self.new q)
+            ↔ ((q.piece ≡ piece) × IsTrue (has_state (states_of states.now) q) × IsTrue (is_below rows q)) }
+    {
+        self.piece = piece;
+        self.numbers.fill(states, rows_left(piece, rows));
     }
 
     #[tactic(auto, unfolding(crate::specs::Places::holds))]

@@ -1,6 +1,7 @@
 // Sets of small numbers, as bits.
-ghost use Rattle.std.specs.Prelude.{◌≡◌, ℕ, ◌%◌, ◌<◌, ◌≤◌, nat_lt, ◌&&◌, true, false, length, slice_index};
+ghost use Rattle.std.specs.Prelude.{◌≡◌, ℕ, ◌*◌, ◌%◌, ◌<◌, ◌≤◌, nat_lt, ◌&&◌, true, false, length, slice_index};
 ghost use Rattle.lane_board.specs.Lanes.{has_bit};
+ghost use Rattle.srs.specs.declared.rotation.Rotation.{Rotation};
 
 use crate::pivots::Pivots;
 use crate::scan::number_of;
@@ -34,8 +35,20 @@ fn first_words(count: usize) -> u64
     first | first << 6 | first << 12 | first << 18
 }
 
+/// How many words of each rotation have rows below the given ones.
+#[inline(always)]
+fn words_below(rows: [u8; 4]) -> usize
+    requires { length rows ≡ 4 }
+    ensures few { result ≤ 6 }
+    ensures all { (place w : ℕ) → place < 4 → result ≤ w → w < 6 → slice_index rows place ≤ 4 * w }
+{
+    let highest = rows[0].max(rows[1]).max(rows[2]).max(rows[3]);
+    ((usize::from(highest) + 3) / 4).min(EACH)
+}
+
 impl Numbers {
-    ghost use Rattle.std.specs.Prelude.{◌*◌, not};
+    ghost use Rattle.std.specs.Prelude.{not};
+    ghost use Rattle.srs.specs.Rotation.{rotation_place};
     ghost use Rattle.reach.specs.Numbers.{has_number, number_of_state, is_named, states_in, IsNumberFrom, IsWordAmong};
     ghost use Rattle.reach.specs.States.{has_state, states_of};
 
@@ -54,6 +67,39 @@ impl Numbers {
         Numbers {
             words,
             in_use: first_words(EACH),
+        }
+    }
+
+    /// The empty set.
+    pub(crate) fn none() -> Numbers
+        ensures { (n : ℕ) → n < 1536 → has_number result n ≡ false }
+    {
+        Numbers {
+            words: [0; WORDS],
+            in_use: 0,
+        }
+    }
+
+    /// Makes it the set of the numbers of those states that lie in a row below the given one of their rotation.
+    #[inline(always)]
+    pub(crate) fn fill(&mut self, states: &Pivots<24>, rows: [u8; 4])
+        requires { length rows ≡ 4 }
+        ensures { (r : Rotation) (x y : ℕ) → states_in self.new r x y
+            ≡ (states_of states.now r x y && nat_lt y (slice_index rows (rotation_place r))) }
+    {
+        let each = words_below(rows);
+        self.words = [0; WORDS];
+        self.in_use = first_words(each);
+        for at in 0..each {
+            let row = 4 * at as u8;
+            let spawn = in_low_rows(four_rows(&states.spawn, row), rows[0].saturating_sub(row));
+            let right = in_low_rows(four_rows(&states.right, row), rows[1].saturating_sub(row));
+            let reverse = in_low_rows(four_rows(&states.reverse, row), rows[2].saturating_sub(row));
+            let left = in_low_rows(four_rows(&states.left, row), rows[3].saturating_sub(row));
+            self.words[at] = spawn;
+            self.words[at + 6] = right;
+            self.words[at + 12] = reverse;
+            self.words[at + 18] = left;
         }
     }
 
@@ -121,7 +167,10 @@ impl Numbers {
             ≡ (has_number self.old n && not (is_named result n)) }
     {
         match self.first_word(self.in_use) {
-            None => None,
+            None => {
+                self.in_use = 0;
+                None
+            }
             Some(at) => {
                 let word = self.words[usize::from(at)];
                 self.words[usize::from(at)] = without_lowest(word);
@@ -137,8 +186,7 @@ impl Numbers {
         ensures { (place y x : ℕ) → place < 4 → y < 24 → x < 16 → has_number result (number_of_state place y x)
             ≡ (has_number self.now (number_of_state place y x) && nat_lt y (slice_index rows place)) }
     {
-        let highest = rows[0].max(rows[1]).max(rows[2]).max(rows[3]);
-        let each = ((usize::from(highest) + 3) / 4).min(EACH);
+        let each = words_below(rows);
         let mut words = [0; WORDS];
         for at in 0..each {
             let row = 4 * at as u8;

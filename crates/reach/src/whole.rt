@@ -16,6 +16,7 @@ use moves::DropMode;
 use srs::{Piece, Rotation, Rules};
 
 /// The places of a piece.
+#[inline(never)]
 pub(crate) fn whole_places(
     filled: &LaneBoard<24>,
     rules: &Rules,

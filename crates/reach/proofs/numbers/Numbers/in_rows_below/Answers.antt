@@ -1,8 +1,8 @@
 -- One word more of each rotation; all words keep these rows.
-use Rattle.std.proofs.Common.{ℕ, ◌+◌, ◌*◌, ◌/◌, ◌%◌, ◌<◌, ◌≤◌, ◌&&◌, nat_lt, get_or, ap, ◌∙◌, inl, inr, arith}
+use Rattle.std.proofs.Common.{◌+◌, ◌*◌, ◌/◌, ◌%◌, ◌<◌, ◌&&◌, nat_lt, get_or, ap, ◌∙◌, inl, inr, arith}
 use Rattle.std.proofs.lemmas.Bool.{cases_lt}
 use Rattle.lane_board.specs.Lanes.{has_bit}
-use Rattle.reach.proofs.NumberLemmas.{KeepsRows, keeps_rows, keeps_here, keeps_none, four_later, four_more, four_set-length, under_all}
+use Rattle.reach.proofs.NumberLemmas.{KeepsRows, keeps_rows, keeps_here, keeps_none, four_later, four_more, four_set-length}
 use Rattle.reach.proofs.numbers.Numbers.in_rows_below.Goals as goal
 
 pub loop-at-preserved : goal.loop-at-preserved
@@ -14,7 +14,7 @@ loop-at-preserved c =
     let b = c.in_low_rows-in-loop-at.result in
     let d = c.in_low_rows-in-loop-at-2.result in
     let e = c.in_low_rows-in-loop-at-3.result in
-    let small : at < 6 = omega (arith, c.loop-at-test.true, c.min-each.ensures) in (
+    let small : at < 6 = omega (arith, c.loop-at-test.true, c.words_below-each.ensures.few) in (
       four_set-length c.loop-at.words at a b d e c.loop-at.invariant.0,
       four_more (KeepsRows old rows) c.loop-at.words at a b d e c.loop-at.invariant.0 small c.loop-at.invariant.1
           (keeps_here old rows at at 0 a (omega arith) small (λ k within. c.in_low_rows.ensures k within ∙ ap (λ left. has_bit (get_or old.words at 0) k && nat_lt k (16 * left)) c.saturating_sub.ensures))
@@ -28,13 +28,6 @@ pub returns : goal.returns
 returns c =
     keeps_rows c.args.self.now _ c.args.rows (λ w below. elim (cases_lt (w % 6) c.loop-at.at) [
       | inl kept ↦ c.loop-at.invariant.1 w below kept
-      | inr later ↦ keeps_none c.args.self.now c.args.rows w _ (c.loop-at.invariant.2 w below later) (low w below later)
+      | inr later ↦ keeps_none c.args.self.now c.args.rows w _ (c.loop-at.invariant.2 w below later)
+          (c.words_below-each.ensures.all (w / 6) (w % 6) (omega arith) (omega (arith, later, c.loop-at-test.false)) (omega arith))
     ])
-  where
-    low : (w : ℕ) → w < 24 → c.loop-at.at ≤ w % 6 → get_or c.args.rows (w / 6) 0 ≤ 4 * (w % 6)
-    low w below later =
-        let top : c.max-highest.result ≤ 4 * (w % 6) = omega (arith, later, c.loop-at-test.false, c.min-each.ensures, c.from.ensures) in
-        under_all c.args.rows (4 * (w % 6))
-        (omega (arith, top, c.max.ensures, c.max-2.ensures, c.max-highest.ensures)) (omega (arith, top, c.max.ensures, c.max-2.ensures, c.max-highest.ensures))
-        (omega (arith, top, c.max.ensures, c.max-2.ensures, c.max-highest.ensures)) (omega (arith, top, c.max.ensures, c.max-2.ensures, c.max-highest.ensures))
-        (w / 6) (omega (arith, below))

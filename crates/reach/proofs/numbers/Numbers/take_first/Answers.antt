@@ -1,8 +1,11 @@
 -- The first word in use has the least number, and loses that bit.
-use Rattle.std.proofs.Common.{◌==◌, ◌&&◌, not, get_or, set, ap, ◌∙◌}
+use Rattle.std.proofs.Common.{◌≡◌, Bool, true, false, ◌==◌, ◌&&◌, not, get_or, set, refl, ap, ◌∙◌}
+use Rattle.std.proofs.lemmas.Bool.{both_ways}
 use Rattle.lane_board.specs.Lanes.{has_bit}
+use Rattle.lane_board.proofs.CallerLemmas.{has_bit-zero}
+use Rattle.reach.specs.Numbers.{has_number}
 use Rattle.reach.proofs.NumberLemmas.{without_number}
-use Rattle.reach.proofs.WordsInUse.{first_in_use, no_number_in_use}
+use Rattle.reach.proofs.WordsInUse.{empty_unless, first_in_use, no_number_in_use}
 use Rattle.reach.proofs.numbers.Numbers.take_first.Goals as goal
 
 pub returns-in-None-clause-first : goal.returns-in-None-clause-first
@@ -17,3 +20,17 @@ returns-in-Some-clause-rest c =
     without_number c.args.self.now _ c.in-Some.at c.lowest_bit.result c.without_lowest.result c.args.self.now.size c.in-Some.ensures.small c.lowest_bit.ensures.below
     (ap (λ at. set c.args.self.now.words at c.without_lowest.result) c.from-in-Some.ensures)
     (λ k within. c.without_lowest.ensures.bits c.lowest_bit.result k c.lowest_bit.ensures.lowest within ∙ ap (λ w. has_bit (get_or c.args.self.now.words w 0) k && not (k == c.lowest_bit.result)) c.from.ensures)
+
+pub invariant_of-self-clause-few : goal.invariant_of-self-clause-few
+invariant_of-self-clause-few c = λ w small has. absurd (both_ways _ (has_bit-zero w) has)
+
+pub invariant_of-self-clause-none_else : goal.invariant_of-self-clause-none_else
+invariant_of-self-clause-none_else c = λ w small none. empty_unless c.args.self.now w small (c.in-None.ensures.none w small)
+
+all_stay : (b : Bool) → b ≡ (b && true)
+all_stay true = refl
+all_stay false = refl
+
+pub returns-in-None-clause-rest : goal.returns-in-None-clause-rest
+unfolding has_number
+returns-in-None-clause-rest c = λ n small. all_stay _
