@@ -67,14 +67,13 @@ Lockable F places = (q : Placement) → holds places q ≡ true → may_lock F (
 abbrev pub HeldBelow : ℕ → Places → Type 0
 HeldBelow rows places = (q : Placement) → holds places q ≡ true → is_below rows q ≡ true
 
--- what a flood holds is the places; those of them that lie below the rows left are kept, in order
-module _ (table : Table) (F : Field) (mode : DropMode) (piece : Piece) (all places : Places) (kind : piece_of all ≡ piece)
-    (held : (q : Placement) → (holds all q ≡ true) ↔ ((q.piece ≡ piece) × IsPlace table F mode q))
-    (same : piece_of places ≡ piece_of all) (rows : ℕ) (kept : (q : Placement) → (holds places q ≡ true) ↔ ((holds all q ≡ true) × (is_below rows q ≡ true))) where
+-- what a flood below the rows left holds is the places there, in order
+module _ (table : Table) (F : Field) (mode : DropMode) (piece : Piece) (places : Places) (kind : piece_of places ≡ piece) (rows : ℕ)
+    (held : (q : Placement) → (holds places q ≡ true) ↔ ((q.piece ≡ piece) × IsPlace table F mode q × (is_below rows q ≡ true))) where
   pub flooded-places : (n : Position) → n.table ≡ table → n.mode ≡ mode → n.field ≡ F → places_left (Some places) None ≡ filter (is_below rows) (places_at n piece)
   unfolding places_left places_at
   flooded-places n t m f =
-      ap (λ p. filter (λ q. holds places q && true) (placements_of p)) (same ∙ kind)
+      ap (λ p. filter (λ q. holds places q && true) (placements_of p)) kind
       ∙ filter-same (λ q. holds places q && true) (λ q. is_place table F mode q && is_below rows q) (placements_of piece) each
       ∙ filter-both (is_place table F mode) (is_below rows) (placements_of piece)
       ∙ ap (filter (is_below rows)) (sym (λ i. filter (is_place (t i) (f i) (m i)) (placements_of piece)))
@@ -88,18 +87,18 @@ module _ (table : Table) (F : Field) (mode : DropMode) (piece : Piece) (all plac
           let of_kind : q.piece ≡ piece = (((placements_of-list piece).members q).0 among).kind in
           and_true (holds places q)
           ∙ one_answer {P = IsPlace table F mode q × (is_below rows q ≡ true)} (holds places q) (is_place table F mode q && is_below rows q)
-          (λ h. let both = (kept q).0 h in (((held q).0 both.0).1, both.1), λ p. (kept q).1 ((held q).1 (of_kind, p.0), p.1)) (
+          (λ h. let all = (held q).0 h in (all.1, all.2), λ p. (held q).1 (of_kind, p.0, p.1)) (
             λ h. let both = and_parts (is_place table F mode q) (is_below rows q) h in ((place-decides table F mode q).0 both.0, both.1),
             λ p. and_from (is_place table F mode q) (is_below rows q) ((place-decides table F mode q).1 p.0) p.1,
           )
 
   pub flooded-lockable : Lockable F places
   flooded-lockable q is_held =
-      let both = (held q).0 ((kept q).0 is_held).0 in
-      place-lockable table F mode (piece_of places) q (both.0 ∙ sym (same ∙ kind)) both.1
+      let all = (held q).0 is_held in
+      place-lockable table F mode (piece_of places) q (all.0 ∙ sym kind) all.1
 
   pub flooded-below : HeldBelow rows places
-  flooded-below q is_held = ((kept q).0 is_held).1
+  flooded-below q is_held = ((held q).0 is_held).2
 
 -- ---- entering
 

@@ -1,17 +1,18 @@
--- The definitions that the contracts of this crate cite.
+-- What a reader must believe
 pub mod Plays
 pub mod Problem
 pub mod Solution
 pub mod Search
 pub mod Position
-pub mod Events
 pub mod Work
 pub mod Counted
+pub mod Items
+pub mod ViewOf
+-- What serves proofs alone
+pub mod Events
 pub mod Standing
 pub mod Frames
 pub mod Turns
 pub mod Walks
 pub mod Seeks
-pub mod Items
 pub mod Rest
-pub mod ViewOf

@@ -31,7 +31,7 @@ use crate::supply::supply_after;
 use crate::tilings::Tilings;
 use moves::DropMode;
 use packing::Empties;
-use reach::{FloodRules, Steps};
+use reach::{FloodRules, Places, Steps};
 use srs::{Piece, Placement, cells};
 use std::sync::ledger::Ledger;
 use well::Well;
@@ -214,11 +214,8 @@ impl Frame {
         ensures counted { steps.new ≡ steps.old + 1 }
         ensures noted { CountsUp floods.old floods.new steps.old steps.new }
     {
-        self.places = Some(
-            rules
-                .places(&self.well, piece, drop_mode, steps)
-                .below(self.rows),
-        );
+        let places = self.places.get_or_insert_with(|| Places::none(piece));
+        rules.flood_below(&self.well, piece, drop_mode, self.rows, steps, places);
         self.entered = None;
         *floods = floods.saturating_add(1);
     }
@@ -266,10 +263,7 @@ impl Frame {
         ensures noted { CountsUp notes.old.floods notes.new.floods steps.old steps.new }
     {
         match self.take_upcoming() {
-            None => {
-                self.places = None;
-                self.try_kind(rules, drop_mode, &mut notes.floods, steps)
-            }
+            None => self.try_kind(rules, drop_mode, &mut notes.floods, steps),
             Some(placement) => {
                 self.entered = Some(placement);
                 self.enter(&placement, &mut notes.tilings, behind)

@@ -1,2 +1,2 @@
--- The definitions that the contracts of this crate cite.
+-- What a reader must believe
 pub mod Rising

@@ -6,15 +6,14 @@ use Rattle.well.specs.Well.{filled}
 use Rattle.well.specs.LockLaws.{is_below}
 use Rattle.reach.specs.Places.{piece_of}
 use Rattle.hold_queue.specs.QueueSet.{queues_in_play}
-use Rattle.enumerate.specs.Frames.{places_left}
 use Rattle.enumerate.specs.Position.{may_play}
 use Rattle.enumerate.specs.Standing.{may_lock}
 use Rattle.enumerate.proofs.TurnLemmas.{enters-turn, turns-from}
 use Rattle.enumerate.proofs.Counting.{counts-none}
 use Rattle.enumerate.proofs.frame.Frame.turn.Goals as goal
 
-pub invariant_of-self-in-Some : goal.invariant_of-self-in-Some
-invariant_of-self-in-Some g c = record {
+pub invariant_of-self : goal.invariant_of-self
+invariant_of-self g c = record {
   low = c.take_upcoming.new.self.low;
   few = c.take_upcoming.new.self.few;
   bounded = c.take_upcoming.new.self.bounded;
@@ -52,15 +51,11 @@ pub returns-in-Some-clause-noted : goal.returns-in-Some-clause-noted
 returns-in-Some-clause-noted g c = counts-none c.args.notes.now.floods c.args.steps.now
 
 pub try_kind-requires : goal.try_kind-requires
-unfolding places_left
-try_kind-requires g c = refl
+try_kind-requires g c = c.in-None.ensures.next.1
 
 pub returns-in-None-clause-turn : goal.returns-in-None-clause-turn
-unfolding places_left
 returns-in-None-clause-turn g c =
-    turns-from _ _ c.args.self.now _
-    record { well = c.in-None.ensures.same.well; rows = c.in-None.ensures.same.rows; queues = c.in-None.ensures.same.queues; left = c.in-None.ensures.same.left }
-    c.in-None.ensures.tried c.in-None.ensures.next.0 refl
+    turns-from _ _ c.args.self.now c.take_upcoming.new.self c.in-None.ensures.same c.in-None.ensures.tried c.in-None.ensures.next.0 c.in-None.ensures.next.1
     c.try_kind.new.self _ c.try_kind.result _ _ (c.try_kind.ensures.turn _)
 
 pub returns-in-None-clause-same : goal.returns-in-None-clause-same
