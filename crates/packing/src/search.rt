@@ -279,7 +279,8 @@ impl Empties {
         some_row!(self, y, floor, a, rest, row => rest.stacks_two(y, row + 1, b, c, supply, known))
     }
 
-    /// Whether a span with the first column can cover the first cell, in its row, so that the supply fills what it leaves.
+    /// Whether a span with the first column can cover the first cell, in its row, so that the supply fills what it
+    /// leaves.
     #[cycle(search)]
     #[inline(always)]
     fn first_one(&self, y: u8, a: Span, supply: &[u8; 7], known: &mut [Decided]) -> bool

@@ -1,5 +1,5 @@
 -- Lemmas on lines, on grids and on fumens.
-pub mod LineLemmas
+mod LineLemmas
 mod Columns
 mod GreyLemmas
 mod GridLemmas
