@@ -10,7 +10,7 @@ use pc_outside::NoMemory;
 use std::alloc::Global;
 
 /// The number of questions that a store keeps.
-const PLACES: usize = 8192;
+const PLACES: usize = 32768;
 
 /// Keeps the answers to questions that were asked of it, each in one place. A later one takes the place of an earlier
 /// one.
