@@ -1,12 +1,19 @@
--- A column has as many cells as its byte has ones.
-use Rattle.std.proofs.Common.{◌≡◌, ℕ, zero, suc, ◌+◌, ◌/◌, ◌%◌, ◌^◌, ◌<◌, not, cond, ◌==◌, count_ones, refl, ap, ◌∙◌, arith}
+-- A column has as many cells as its byte has ones; and a wall stands behind it where no row has a cell there and in the next one.
+use Rattle.std.proofs.Common.{◌≡◌, ℕ, zero, suc, ◌+◌, ◌/◌, ◌%◌, ◌^◌, ◌<◌, ◌-◌, true, not, cond, ◌&&◌, ◌==◌, count_ones, w8, ◌↔◌, refl, sym, ap, ◌∙◌, inl, inr, arith}
 use Rattle.std.specs.Int.Count.{ones}
 use Rattle.std.proofs.lemmas.Nat.{mod_below, ones_cat, pow_pos, shr_below, shr_split}
 use Rattle.lane_board.specs.Field.{Field}
 use Rattle.lane_board.specs.Lanes.{has_bit}
-use Rattle.lane_board.proofs.CallerLemmas.{has_bit-low}
+use Rattle.std.proofs.lemmas.Bool.{and_parts, both_ways, cases_eq, eq-eqb, eqb-true, not-false}
+use Rattle.std.proofs.lemmas.Nat.Bits.{bit_at-trailing_zeros}
+use Rattle.lane_board.proofs.CallerLemmas.{has_bit-low, has_bit-zero}
 use Rattle.prune.specs.Counts.{column_empties}
+use Rattle.prune.specs.Walls.{IsWall}
 use Rattle.prune.proofs.CallerLemmas.{column_empties-suc, column_empties-zero}
+use Rattle.packing.specs.declared.span.Span.TheVariants.{FirstTwo}
+use Rattle.packing.specs.Empties.{all_but}
+use Rattle.packing.specs.Spans.{has_span}
+use Rattle.packing.proofs.StackLemmas.{IsSmall}
 
 one_bit : (q : ℕ) → q < 2 → ones q ≡ cond (q % 2 == 1) 1 0
 unfolding ones
@@ -31,3 +38,42 @@ ones_column F x (suc n) mask small told =
       ones_column F x n r low (λ y below. has_bit-low mask n y below ∙ told y (omega arith)),
       column_empties-suc F n x,
     )
+
+-- a row has a cell in a column and in the next one
+both_cells : (E : Field) (x y : ℕ) → has_span E x FirstTwo y ≡ true → (E x y ≡ true) × (E (x + 1) y ≡ true)
+unfolding has_span
+both_cells E x y has =
+    let left = and_parts (E (x + 0) y) (E (x + 1) y && true) has in
+    (ap (λ k. E k y) {x = x} {y = x + 0} (omega arith) ∙ left.0, (and_parts (E (x + 1) y) true left.1).0)
+
+has_both : (E : Field) (x y : ℕ) → E x y ≡ true → E (x + 1) y ≡ true → has_span E x FirstTwo y ≡ true
+unfolding has_span
+has_both E x y left right = ap (λ k. E k y && (E (x + 1) y && true)) {x = x + 0} {y = x} (omega arith) ∙ ap (λ b. b && (E (x + 1) y && true)) left ∙ ap (λ b. b && true) right
+
+-- the rows that have both are none exactly where a wall stands there
+pub wall_by_rows : (E : Field) (x rows : ℕ) → IsSmall 8 E → rows < 2 ^ 8 → ((y : ℕ) → y < 8 → has_bit rows y ≡ has_span E x FirstTwo y) → ((rows == 0) ≡ true) ↔ IsWall (all_but E) 8 (x + 1)
+unfolding all_but has_bit
+wall_by_rows E x rows small low told = (none, back)
+  where
+    none : (rows == 0) ≡ true → IsWall (all_but E) 8 (x + 1)
+    none zero_rows = record {
+      apart = λ some within y below before here.
+          let column : x + 1 - 1 ≡ x = omega arith in
+          let left : E x y ≡ true = not-false (E x y) (ap (λ k. not (E k y)) (sym column) ∙ before) in
+          let right : E (x + 1) y ≡ true = not-false (E (x + 1) y) here in
+          both_ways _ (ap (λ n. has_bit n y) (eqb-true rows 0 zero_rows) ∙ has_bit-zero y) (told y below ∙ has_both E x y left right);
+    }
+
+    back : IsWall (all_but E) 8 (x + 1) → (rows == 0) ≡ true
+    back wall = elim (cases_eq rows 0) [
+      | inl zero_rows ↦ eq-eqb rows 0 zero_rows
+      | inr some ↦
+          let lowest = bit_at-trailing_zeros w8 rows (omega (arith, some)) low in
+          absurd (meets _ lowest.0 (ap (λ b. b == 1) lowest.1))
+    ]
+      where
+        meets : (y : ℕ) → y < 8 → has_bit rows y ≡ true → ⊥
+        meets y below bit =
+            let both = both_cells E x y (sym (told y below) ∙ bit) in
+            let column : x + 1 - 1 ≡ x = omega arith in
+            wall.apart (omega arith) (small.column (x + 1) y both.1) y below (ap (λ k. not (E k y)) column ∙ ap not both.0) (ap not both.1)

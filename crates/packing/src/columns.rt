@@ -1,8 +1,9 @@
 // The cells of a set column by column: a quick test that it has no tiling.
 ghost use Rattle.std.specs.Prelude.{◌≡◌, ◌≤◌, ◌↔◌, ◌+◌, ◌*◌, IsTrue, sum_by};
 ghost use Rattle.std.specs.List.{range_with_len};
-ghost use Rattle.prune.specs.Tiling.{supply_in, Tiling};
-ghost use Rattle.prune.specs.Counts.{column_empties, HasUnevenRun};
+ghost use Rattle.prune.specs.Tiling.{supply_in, Supply, Tiling};
+ghost use Rattle.prune.specs.Counts.{column_empties};
+ghost use Rattle.prune.specs.Walls.{IsWall, HasUnevenPart};
 ghost use Rattle.packing.specs.Empties.{all_but, empty_cells};
 
 use crate::empties::Empties;
@@ -12,24 +13,30 @@ use prune::pieces;
 use srs::Piece;
 
 impl Empties {
-    /// Whether some longest run of neighbouring columns that each have a cell has a number of cells that is no multiple
-    /// of four.
-    pub(crate) fn has_uneven_run(&self) -> bool
-        ensures { IsTrue result ↔ HasUnevenRun (all_but (empty_cells self.now)) 8 }
+    /// Whether some columns that stand between two walls have a number of cells that is no multiple of four: then there
+    /// is no tiling. A wall stands between two columns where no row has a cell in both, and at each side.
+    pub(crate) fn has_uneven_part(&self) -> bool
+        ensures exact { IsTrue result ↔ HasUnevenPart (all_but (empty_cells self.now)) 8 }
+        ensures none { IsTrue result → (supply : Supply)
+            → Tiling (all_but (empty_cells self.now)) 8 supply → ⊥ }
     {
-        let mut run = 0;
+        let mut cells = 0;
         for x in 0..10 {
-            let cells = self.in_column(x);
-            if cells > 0 {
-                run += cells;
-                continue;
-            }
-            if run % 4 != 0 {
+            cells += self.in_column(x);
+            if cells % 4 != 0 && self.is_walled(x) {
                 return true;
             }
-            run = 0;
         }
-        run % 4 != 0
+        false
+    }
+
+    /// Whether a wall stands behind a column.
+    #[inline(always)]
+    fn is_walled(&self, x: u8) -> bool
+        requires { x ≤ 9 }
+        ensures { IsTrue result ↔ IsWall (all_but (empty_cells self.now)) 8 (x + 1) }
+    {
+        self.rows_with(x, Span::FirstTwo) == 0
     }
 
     /// How many cells a column has.

@@ -50,6 +50,9 @@ impl Empties {
     pub fn has_tiling(&self, supply: &[u8; 7]) -> bool
         ensures { IsTrue result ↔ Tiling (all_but (empty_cells self.now)) 8 (supply_in supply.now) }
     {
+        if self.has_uneven_part() {
+            return false;
+        }
         self.decide(supply, &mut [])
     }
 

@@ -38,7 +38,7 @@ impl TilingStore {
     pub fn has_tiling_near(&mut self, cells: &Empties, column: u8, supply: &[u8; 7]) -> bool
         ensures { IsTrue result ↔ Tiling (all_but (empty_cells cells.now)) 8 (supply_in supply.now) }
     {
-        if cells.has_uneven_run() {
+        if cells.has_uneven_part() {
             return false;
         }
         if !cells.lies_right(column) {

@@ -2,7 +2,7 @@
 pub use Rattle.prune.proofs.ColumnCounts.{all_empties, column_empties-le, column_empties-suc, column_empties-zero}
 pub use Rattle.prune.proofs.PartsOfTilings.{TakenPart, is_empty-with_cells, rises, rising-from_test, same_tiling, taken_part, tiling-intersection, with_part}
 pub use Rattle.prune.proofs.MirrorLemmas.{kind_again, tiling_mirrored}
-pub use Rattle.prune.proofs.RunLemmas.{Runs, ends, finds, goes_on, starts, stops}
-pub use Rattle.prune.proofs.RefusalLemmas.{none_refused}
+pub use Rattle.prune.proofs.RefusalLemmas.{no_uneven_part, none_refused}
+pub use Rattle.prune.proofs.UnevenParts.{Parts, parts-found, parts-next, parts-none, parts-start}
 pub use Rattle.prune.proofs.EvenColumns.{even_columns}
 pub use Rattle.prune.proofs.PlacedLemmas.{cleared_is_tiled, full_rows_may_stand, more_pieces, one_placement}

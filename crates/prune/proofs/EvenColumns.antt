@@ -1,8 +1,8 @@
 -- Each part has an even number of cells in even columns, but for L and J, which have an odd one, and T.
-use Rattle.std.proofs.Common.{◌≡◌, ◌≢◌, ℕ, ◌+◌, ◌*◌, ◌%◌, ◌<◌, ◌≤◌, Bool, true, false, cond, ◌||◌, ◌==◌, List, [], ◌∷◌, map, ℤ, pos, negsuc, nat_abs, ◌+ℤ◌, refl, sym, ap, subst, ◌∙◌, inl, inr, arith}
+use Rattle.std.proofs.Common.{◌≡◌, ℕ, ◌+◌, ◌%◌, ◌<◌, ◌≤◌, Bool, true, false, cond, ◌||◌, ◌==◌, List, [], ◌∷◌, ℤ, pos, negsuc, nat_abs, ◌+ℤ◌, refl, sym, ap, subst, ◌∙◌, inl, inr, arith}
 use Rattle.std.proofs.Math.Path.{fun_ext}
 use Rattle.std.specs.Prelude.{All, sum_by, count_by}
-use Rattle.std.specs.List.{list_all, range_with_len}
+use Rattle.std.specs.List.{list_all}
 use Rattle.std.proofs.lemmas.Bool.{agree_below_at, and_parts, cases_eq, eqb-true, or_cases, true≢false}
 use Rattle.std.proofs.lemmas.Int.{ints}
 use Rattle.std.proofs.lemmas.List.Elements.{All-head, All-tail}
@@ -14,7 +14,7 @@ use Rattle.srs.specs.Piece.{all_pieces, piece_code}
 use Rattle.srs.specs.Cells.{Cell, shape}
 use Rattle.srs.proofs.CallerLemmas.{each_state}
 use Rattle.lane_board.specs.Field.{Field}
-use Rattle.prune.specs.Tiling.{Part, sent, IsGeneralized, is_empty_below, parts_of, Tiling, Supply}
+use Rattle.prune.specs.Tiling.{Part, sent, IsGeneralized, is_empty_below, parts_of, Tiling}
 use Rattle.prune.specs.Counts.{column_empties, even_column_empties}
 use Rattle.prune.specs.Laws.{EvenColumns}
 use Rattle.prune.proofs.CellCounts.{count-append, count-map}

@@ -7,7 +7,9 @@ mod RowOrigins
 mod PartsOfTilings
 mod PlacedLemmas
 mod ColumnCounts
+mod WallLemmas
 mod RefusalLemmas
+mod UnevenParts
 mod EvenColumns
 mod RunLemmas
 mod MirrorLemmas

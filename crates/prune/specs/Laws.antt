@@ -1,16 +1,20 @@
 -- What one placement, and a run of placements, does to tilings.
-use Rattle.std.specs.Prelude.{◌≡◌, ℕ, suc, ◌+◌, ◌-◌, ◌*◌, ◌%◌, ◌≤◌, IsTrue, ◌==◌, ◌↔◌, if◌then◌else◌, List, [], ◌∷◌, count_by, sum_by}
+use Rattle.std.specs.Prelude.{◌≡◌, ℕ, suc, ◌+◌, ◌-◌, ◌*◌, ◌%◌, ◌≤◌, IsTrue, ◌==◌, ◌↔◌, if◌then◌else◌, List, [], ◌∷◌, count_by, sum_by, nat_abs, ◌<◌}
+use Rattle.std.specs.List.{list_all}
 use Rattle.lane_board.specs.Field.{Field}
 use Rattle.srs.specs.declared.piece.Piece.{Piece}
 use Rattle.srs.specs.declared.placement.Placement.{Placement}
 use Rattle.srs.specs.declared.piece.Piece.TheVariants.{L, T, J}
+use Rattle.srs.specs.Cells.{Cell}
+use Rattle.srs.specs.SameCells.{is_among}
 use Rattle.srs.specs.Piece.{all_pieces, piece_code}
 use Rattle.well.specs.Counts.{empties_below}
 use Rattle.well.specs.Free.{is_free}
 use Rattle.well.specs.Lock.{together, locked, rows_removed}
 use Rattle.well.specs.LockLaws.{LiesBelow, is_below}
 use Rattle.prune.specs.Counts.{even_column_empties}
-use Rattle.prune.specs.Tiling.{Supply, Tiling}
+use Rattle.prune.specs.Tiling.{Supply, Tiling, Part, IsGeneralized, is_empty_below}
+use Rattle.prune.specs.Walls.{IsWall, HasUnevenPart}
 
 -- one more piece of this kind
 unfoldable pub with_one : Supply → Piece → Supply
@@ -58,3 +62,13 @@ abbrev pub EvenColumns : Type 0
 EvenColumns = (F : Field) (rows : ℕ) (supply : Supply) → supply T ≡ 0 →
     empties_below F rows ≡ 4 * sum_by supply all_pieces → Tiling F rows supply →
     even_column_empties F rows % 2 ≡ (supply L + supply J) % 2
+
+-- a generalized piece that lies on empty cells has none on both sides of a wall
+abbrev pub NoPieceReachesOver : Type 0
+NoPieceReachesOver = (F : Field) (rows wall : ℕ) (part : Part) → IsGeneralized part →
+    IsTrue (list_all (is_empty_below F rows) part.cells) → IsWall F rows wall → (c d : Cell) →
+    IsTrue (is_among part.cells c) → IsTrue (is_among part.cells d) → nat_abs c.0 < wall → wall ≤ nat_abs d.0 → ⊥
+
+-- so what stands between two walls is a multiple of four, where there is a tiling
+abbrev pub PartsAreEven : Type 0
+PartsAreEven = (F : Field) (rows : ℕ) (supply : Supply) → HasUnevenPart F rows → Tiling F rows supply → ⊥

@@ -3,6 +3,7 @@
 -- What a reader must believe
 pub mod Tiling
 pub mod Counts
+pub mod Walls
 pub mod Laws
 -- What serves proofs alone
 pub mod OnePart

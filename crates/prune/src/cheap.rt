@@ -55,7 +55,7 @@ fn has_uneven_run(well: &Well, rows_left: u8) -> bool
 }
 
 /// How many cells of a column are empty in rows 0 to `rows_left - 1`.
-fn column_empties(well: &Well, rows_left: u8, x: u8) -> u8
+pub(crate) fn column_empties(well: &Well, rows_left: u8, x: u8) -> u8
     requires rows { rows_left ≤ 8 }
     requires column { x ≤ 9 }
     ensures { result ≡ column_empties (filled well.now) rows_left x }

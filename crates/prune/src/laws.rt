@@ -1,5 +1,5 @@
 // Laws of tilings: functions without a body to speak of, whose contract is the law.
-ghost use Rattle.prune.specs.Laws.{OnePlacement, FullRowsMayStand, MorePieces, ClearedIsTiled, EvenColumns};
+ghost use Rattle.prune.specs.Laws.{OnePlacement, FullRowsMayStand, MorePieces, ClearedIsTiled, EvenColumns, NoPieceReachesOver, PartsAreEven};
 
 /// Where what a placement leaves has a tiling, the field before it has one with one more piece of its kind.
 pub fn placement_is_one_part()
@@ -26,4 +26,10 @@ pub fn cleared_rows_are_tiled()
 /// L and J together is.
 pub fn even_columns_count_l_and_j()
     ensures { EvenColumns }
+{}
+
+/// No piece of a tiling reaches over a wall, so the empty cells between two walls are a multiple of four.
+pub fn walls_divide_tilings()
+    ensures pieces { NoPieceReachesOver }
+    ensures parts { PartsAreEven }
 {}

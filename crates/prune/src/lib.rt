@@ -1,9 +1,11 @@
-// What can't be packed isn't searched: tilings of the empty cells that are left, and a quick test by counts.
+// What can't be packed isn't searched: tilings of the empty cells that are left, quick tests by counts and by walls.
 #![tactic(auto)]
 
 mod cheap;
 pub mod laws;
 #[cfg(test)]
 mod tests;
+mod walls;
 
 pub use cheap::{cheap_no, pieces};
+pub use walls::has_uneven_part;

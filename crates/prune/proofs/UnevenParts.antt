@@ -1,0 +1,79 @@
+-- A walk over the columns finds an uneven part where there is one.
+use Rattle.std.proofs.Common.{◌≡◌, ◌≢◌, ◌⊎◌, ℕ, zero, suc, ◌+◌, ◌-◌, ◌*◌, ◌%◌, ◌≤◌, refl, sym, ap, subst, ◌∙◌, inl, inr, arith}
+use Rattle.std.specs.Prelude.{sum_by}
+use Rattle.std.specs.List.{range_with_len}
+use Rattle.std.proofs.lemmas.Bool.{cases_eq}
+use Rattle.std.proofs.lemmas.List.Sums.{sum_by_push}
+use Rattle.lane_board.specs.Field.{Field}
+use Rattle.prune.specs.Counts.{column_empties, run_empties}
+use Rattle.prune.specs.Walls.{IsWall, HasUnevenPart}
+use Rattle.prune.proofs.ColumnCounts.{range_more, column_empties-le}
+
+-- how many cells of so many neighbouring columns are empty
+abbrev pub empties_in : Field → ℕ → ℕ → ℕ → ℕ
+empties_in F rows first n = sum_by (column_empties F rows) (range_with_len first n)
+
+in-suc : (F : Field) (rows first n : ℕ) → empties_in F rows first (suc n) ≡ empties_in F rows first n + column_empties F rows (first + n)
+in-suc F rows first n = ap (sum_by (column_empties F rows)) (range_more first n) ∙ sum_by_push (column_empties F rows) (range_with_len first n) (first + n)
+
+in-both : (F : Field) (rows first n : ℕ) → empties_in F rows 0 (first + n) ≡ empties_in F rows 0 first + empties_in F rows first n
+in-both F rows first zero = ap (λ k. empties_in F rows 0 k) {x = first + 0} {y = first} (omega arith) ∙ omega arith
+in-both F rows first (suc n) =
+    let more : first + suc n ≡ suc (first + n) = omega arith in
+    let column : 0 + (first + n) ≡ first + n = omega arith in
+    omega (arith, ap (empties_in F rows 0) more, in-suc F rows 0 (first + n), ap (column_empties F rows) column, in-both F rows first n, in-suc F rows first n)
+
+-- after the columns before x: they have so many empty cells, and at each wall so far a multiple of four stands before it
+pub record Parts (F : Field) (rows x count : ℕ) : Type 0 where
+  pub counted : count ≡ empties_in F rows 0 x
+  pub even : (wall : ℕ) → wall ≤ x → IsWall F rows wall → empties_in F rows 0 wall % 4 ≡ 0
+  pub small : count ≤ 8 * x
+
+pub parts-start : (F : Field) (rows : ℕ) → Parts F rows 0 0
+parts-start F rows = record { counted = refl; even = λ wall low _. ap (λ n. empties_in F rows 0 n % 4) {x = wall} {y = 0} (omega arith); small = omega arith }
+
+-- one column more, behind which stands no wall, or a multiple of four before it
+pub parts-next : (F : Field) (rows x count empties : ℕ) → rows ≤ 8 → empties ≡ column_empties F rows x → ((count + empties) % 4 ≢ 0 → IsWall F rows (x + 1) → ⊥) → Parts F rows x count → Parts F rows (x + 1) (count + empties)
+parts-next F rows x count empties low here closed p = record {
+  counted = counted;
+  even = λ wall within is. at wall within is (cases_eq wall (x + 1));
+  small = omega (arith, p.small, here, column_empties-le F rows x);
+}
+  where
+    counted : count + empties ≡ empties_in F rows 0 (x + 1)
+    counted = let more : x + 1 ≡ suc x = omega arith in let column : 0 + x ≡ x = omega arith in omega (arith, ap (empties_in F rows 0) more, in-suc F rows 0 x, ap (column_empties F rows) column, p.counted, here)
+
+    at : (wall : ℕ) → wall ≤ x + 1 → IsWall F rows wall → (wall ≡ x + 1) ⊎ (wall ≢ x + 1) → empties_in F rows 0 wall % 4 ≡ 0
+    at wall within is (inr other) = p.even wall (omega (arith, other)) is
+    at wall within is (inl same) = elim (cases_eq ((count + empties) % 4) 0) [
+      | inl even ↦ ap (λ n. empties_in F rows 0 n % 4) same ∙ ap (λ n. n % 4) (sym counted) ∙ even
+      | inr uneven ↦ absurd (closed uneven (subst (λ n. IsWall F rows n) same is))
+    ]
+
+pub parts-found : (F : Field) (rows x count empties : ℕ) → x ≤ 9 → empties ≡ column_empties F rows x → (count + empties) % 4 ≢ 0 → IsWall F rows (x + 1) → Parts F rows x count → HasUnevenPart F rows
+unfolding run_empties
+parts-found F rows x count empties within here uneven is p = record {
+  first = 0;
+  last = x;
+  order = omega arith;
+  within = within;
+  left = record { apart = λ some _ y below before at. absurd (omega arith) };
+  right = is;
+  uneven = λ even.
+      let size : x + 1 - 0 ≡ suc x = omega arith in
+      let column : 0 + x ≡ x = omega arith in
+      uneven (omega (arith, even, ap (empties_in F rows 0) size, in-suc F rows 0 x, ap (column_empties F rows) column, p.counted, here));
+}
+
+-- at the end there is none
+pub parts-none : (F : Field) (rows x count : ℕ) → 10 ≤ x → Parts F rows x count → HasUnevenPart F rows → ⊥
+unfolding run_empties
+parts-none F rows x count end p u =
+    let size : u.first + (u.last + 1 - u.first) ≡ u.last + 1 = omega (arith, u.order) in
+    u.uneven (omega (
+      arith,
+      in-both F rows u.first (u.last + 1 - u.first),
+      ap (empties_in F rows 0) size,
+      p.even u.first (omega (arith, u.order, u.within)) u.left,
+      p.even (u.last + 1) (omega (arith, u.within)) u.right,
+    ))
