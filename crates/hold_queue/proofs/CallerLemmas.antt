@@ -3,3 +3,4 @@ pub use Rattle.hold_queue.proofs.PermitsTest.{permits-decides, queues_permit-dec
 pub use Rattle.hold_queue.proofs.SupplyLemmas.{supply-enough}
 pub use Rattle.hold_queue.proofs.AtHandLemmas.{permits-of_takes, takes-of_permits}
 pub use Rattle.hold_queue.proofs.CutLemmas.{takes-is_cut}
+pub use Rattle.hold_queue.proofs.SinglesLemmas.{queues-singles}

@@ -13,4 +13,5 @@ mod LengthLemmas
 mod SupplyLemmas
 mod AtHandLemmas
 mod CutLemmas
+mod SinglesLemmas
 pub mod CallerLemmas

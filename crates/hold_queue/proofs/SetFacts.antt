@@ -1,5 +1,5 @@
 -- What holds of each queue set.
-use Rattle.std.proofs.Common.{◌≡◌, ℕ, ◌<◌, ◌≤◌, ◌+◌, length, length-append, take, List, [], ◌∷◌, ◌++◌, true, false, subst, sym, ap, arith, ◌∙◌, Option, Some, None, add-one, set as list_set}
+use Rattle.std.proofs.Common.{◌≡◌, ℕ, ◌<◌, ◌+◌, length, length-append, take, List, [], ◌∷◌, ◌++◌, true, false, subst, sym, ap, arith, ◌∙◌, Option, add-one, set as list_set}
 use Rattle.std.proofs.Math.Seq.{take-suc-set}
 use Rattle.std.proofs.lemmas.List.{length-take}
 use Rattle.srs.specs.declared.piece.Piece.{Piece}
@@ -7,7 +7,7 @@ use Rattle.queue_pattern.specs.Pattern.{elements_of}
 use Rattle.queue_pattern.proofs.CallerLemmas.{pattern-short}
 use Rattle.hold_queue.specs.declared.set.QueueSet.{QueueSet}
 use Rattle.hold_queue.specs.QueueSet.{queues_in_play, QueuesPermit, queues_permit}
-use Rattle.hold_queue.specs.States.{AreStatesAfter, IsNextFamily, family_at, count_held}
+use Rattle.hold_queue.specs.States.{AreStatesAfter, IsNextFamily, family_at}
 use Rattle.hold_queue.proofs.FollowLemmas.{follows-next}
 use Rattle.hold_queue.proofs.HoldingLemmas.{Comes, permitted-comes, refused-none}
 use Rattle.hold_queue.proofs.LengthLemmas.{permits-length, queue-length}

@@ -16,6 +16,8 @@ mod FieldsReadAsSpelled
 mod LineReadAsSpelled
 -- Laws of the first line.
 mod FirstLine
+-- Laws of the lines of a text.
+mod TextLines
 -- Laws of texts of lines.
 mod PagesReadAsSpelled
 -- Laws of the bytes of fields.

@@ -10,9 +10,10 @@ use Rattle.page_list.specs.ListReading.{lines_of, first_line, numbered, numbered
 use Rattle.page_list.specs.LineReading.{line_in}
 use Rattle.fumen_digits.specs.Reading.{◌>>=◌}
 use Rattle.page_list.specs.LineSpelling.{SpellsPage, IsFirstLine, SpellsFirst, none, more, SpellsPages, IsFaultBehind, IsListFault, Spelled}
-use Rattle.page_list.proofs.ListLemmas.{behind, from_start, lines-more, none-left}
+use Rattle.page_list.proofs.ListLemmas.{behind, from_start, none-left}
 use Rattle.page_list.proofs.LineReadAsSpelled.{line_spelled, spelled_line_read, line_fault, faulty_line_read}
-use Rattle.page_list.proofs.FirstLine.{first_line_read, first_line_some, first_line_is}
+use Rattle.page_list.proofs.FirstLine.{first_line_read}
+use Rattle.page_list.proofs.TextLines.{has_first, lines_at, no_lines}
 
 abbrev Read : Type 0
 Read = Result (List Page) ListFault
@@ -88,37 +89,6 @@ fault_read count line fault number (inr less) =
     rw (le-ltb 10000 (count + 1) (omega (arith, less.0)), faulty_line_read line fault.kind less.1) (ap (λ (f : ListFault). Err f) (fault_is (count + 1) fault.kind fault number refl))
 
 -- ---- many lines
-
--- the lines of a text with a first line
-record HasFirst (text line : List ℕ) (lines : List (List ℕ)) : Type 0 where
-  behind : List ℕ
-  first : IsFirstLine text line behind
-  later : lines_of behind ≡ lines
-
-no_lines : (text : List ℕ) → lines_of text ≡ [] → text ≡ []
-no_lines [] is = refl
-no_lines (byte ∷ text) is = no_cons (first_line (byte ∷ text)).0 (lines_of (first_line (byte ∷ text)).1) (sym (lines-more (byte ∷ text) (omega arith)) ∙ is)
-  where
-    no_cons : (line : List ℕ) (lines : List (List ℕ)) → line ∷ lines ≡ [] → byte ∷ text ≡ []
-    no_cons line lines e = cc
-
-has_first : (text line : List ℕ) (lines : List (List ℕ)) → lines_of text ≡ line ∷ lines → HasFirst text line lines
-has_first [] line lines is = no_line (sym none-left ∙ is)
-  where
-    no_line : ◌≡◌ {A = List (List ℕ)} [] (line ∷ lines) → HasFirst [] line lines
-    no_line e = cc
-has_first (byte ∷ text) line lines is =
-    let whole = byte ∷ text in
-    let some : 0 < length whole = omega arith in
-    let same = parts (first_line whole).0 line (lines_of (first_line whole).1) lines (sym (lines-more whole some) ∙ is) in
-    record { behind = (first_line whole).1; first = subst (λ l. IsFirstLine whole l (first_line whole).1) same.0 (first_line_is whole some); later = same.1 }
-  where
-    parts : (one other : List ℕ) (ones others : List (List ℕ)) → one ∷ ones ≡ other ∷ others → (one ≡ other) × (ones ≡ others)
-    parts one other ones others e = (cc, cc)
-
-lines_at : (text line behind : List ℕ) → IsFirstLine text line behind → lines_of text ≡ line ∷ lines_of behind
-lines_at text line behind first =
-    lines-more text (first_line_some text line behind first) ∙ ap (λ (l : List ℕ × List ℕ). l.0 ∷ lines_of l.1) (first_line_read text line behind first)
 
 -- a page that was read, and what is read behind it
 record Taken {A : Type 0} (read : Result A ListFault) (next : A → Read) (answer : Read) : Type 0 where

@@ -80,6 +80,11 @@ pub data IsFirstLine : List ℕ → List ℕ → List ℕ → Type 0 where
   return_newline : {line behind : List ℕ} → HasNoNewline line → IsFirstLine (line ++ 13 ∷ 10 ∷ behind) line behind
   unended : {line : List ℕ} → HasNoNewline line → 0 < length line → IsFirstLine line line []
 
+-- these are the lines of a text, from the first to the last
+abbrev pub HasLines : List ℕ → List (List ℕ) → Type 0
+HasLines text [] = text ≡ []
+HasLines text (line ∷ lines) = (behind : List ℕ) × IsFirstLine text line behind × HasLines behind lines
+
 -- the first lines of a text spell these pages, one each, and this text stands behind them
 pub data SpellsFirst : List ℕ → List Page → List ℕ → Type 0 where
   none : {text : List ℕ} → SpellsFirst text [] text

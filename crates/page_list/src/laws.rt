@@ -9,8 +9,14 @@ ghost use Rattle.fumen_pages.specs.Sound.{IsSound};
 ghost use Rattle.fumen_pages.specs.declared.page.Page.{Page};
 ghost use Rattle.page_list.specs.declared.fault.ListFault.{ListFault};
 ghost use Rattle.page_list.specs.PrintedLine.{page_form};
-ghost use Rattle.page_list.specs.LineSpelling.{IsListFault, Spelled, SpellsPages};
-ghost use Rattle.page_list.specs.ListReading.{pages_in};
+ghost use Rattle.page_list.specs.LineSpelling.{HasLines, IsListFault, Spelled, SpellsPages};
+ghost use Rattle.page_list.specs.ListReading.{lines_of, pages_in};
+
+/// The lines of a text follow each other from its start to its end: each is the first line of what stands behind those
+/// before it. So each text has one list of lines.
+pub fn lines_follow_each_other()
+    ensures { (text : List ℕ) (lines : List (List ℕ)) → (lines_of text ≡ lines) ↔ HasLines text lines }
+{}
 
 /// A text is read as pages exactly where it spells them, and is refused with a fault exactly where it has this fault.
 pub fn texts_are_read_as_they_spell()

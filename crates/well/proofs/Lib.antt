@@ -5,5 +5,6 @@ mod LockLemmas
 mod CountLemmas
 mod RowsLemmas
 mod RowsTexts
+mod FirstFault
 mod Worked
 pub mod CallerLemmas

@@ -19,32 +19,32 @@ some_parts : (bytes : List ℕ) → 0 < length (slice_split is_slash bytes)
 some_parts bytes = omega (arith, length-slice_split is_slash bytes)
 
 -- what is due at a byte
-slash_goes_on : (row n place byte : ℕ) (bytes : List ℕ) → is_slash byte ≡ true → (n == 10) ≡ true → (row == 23) ≡ false
+pub slash_goes_on : (row n place byte : ℕ) (bytes : List ℕ) → is_slash byte ≡ true → (n == 10) ≡ true → (row == 23) ≡ false
     → fault_from row n place (byte ∷ bytes) ≡ fault_from (row + 1) 0 (place + 1) bytes
 unfolding fault_from
 slash_goes_on row n place byte bytes slash ten more = rw (slash, ten, more) refl
 
-slash_short : (row n place byte : ℕ) (bytes : List ℕ) → is_slash byte ≡ true → (n == 10) ≡ false
+pub slash_short : (row n place byte : ℕ) (bytes : List ℕ) → is_slash byte ≡ true → (n == 10) ≡ false
     → fault_from row n place (byte ∷ bytes) ≡ Some (BadRowLength row)
 unfolding fault_from
 slash_short row n place byte bytes slash short = rw (slash, short) refl
 
-slash_last : (row n place byte : ℕ) (bytes : List ℕ) → is_slash byte ≡ true → (n == 10) ≡ true → (row == 23) ≡ true
+pub slash_last : (row n place byte : ℕ) (bytes : List ℕ) → is_slash byte ≡ true → (n == 10) ≡ true → (row == 23) ≡ true
     → fault_from row n place (byte ∷ bytes) ≡ Some TooManyRows
 unfolding fault_from
 slash_last row n place byte bytes slash ten last = rw (slash, ten, last) refl
 
-character_goes_on : (row n place byte : ℕ) (bytes : List ℕ) → is_slash byte ≡ false → IsRowChar byte → (n == 10) ≡ false
+pub character_goes_on : (row n place byte : ℕ) (bytes : List ℕ) → is_slash byte ≡ false → IsRowChar byte → (n == 10) ≡ false
     → fault_from row n place (byte ∷ bytes) ≡ fault_from row (n + 1) (place + 1) bytes
 unfolding fault_from
 character_goes_on row n place byte bytes other character short = rw (other, character, short) refl
 
-character_past : (row n place byte : ℕ) (bytes : List ℕ) → is_slash byte ≡ false → IsRowChar byte → (n == 10) ≡ true
+pub character_past : (row n place byte : ℕ) (bytes : List ℕ) → is_slash byte ≡ false → IsRowChar byte → (n == 10) ≡ true
     → fault_from row n place (byte ∷ bytes) ≡ Some (BadRowLength row)
 unfolding fault_from
 character_past row n place byte bytes other character ten = rw (other, character, ten) refl
 
-character_bad : (row n place byte : ℕ) (bytes : List ℕ) → is_slash byte ≡ false → is_row_char byte ≡ false
+pub character_bad : (row n place byte : ℕ) (bytes : List ℕ) → is_slash byte ≡ false → is_row_char byte ≡ false
     → fault_from row n place (byte ∷ bytes) ≡ Some (BadRowChar place)
 unfolding fault_from
 character_bad row n place byte bytes other bad = rw (other, bad) refl

@@ -3,6 +3,7 @@ pub mod Free
 pub mod Lock
 pub mod LockLaws
 pub mod Rows
+pub mod RowsFaults
 pub mod Counts
 pub mod Well
 -- What serves proofs alone
