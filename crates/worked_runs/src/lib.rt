@@ -1,4 +1,4 @@
-// Worked runs of the commands, over sources and sinks in memory.
+// Worked runs of the commands on a field, over sources and sinks in memory.
 #![tactic(auto)]
 
 ghost use Rattle.std.specs.Prelude.{◌≡◌, ◌<◌};
@@ -10,20 +10,11 @@ use std::alloc::Global;
 use std::marker::Brand;
 use std::sync::ledger::{Blank, Ledger};
 
-#[cfg(test)]
-mod asserts;
+pub mod asserts;
 #[cfg(test)]
 mod combos;
 #[cfg(test)]
 mod covers;
-#[cfg(test)]
-mod cut_texts;
-#[cfg(test)]
-mod encodes;
-#[cfg(test)]
-mod failing_calls;
-#[cfg(test)]
-mod faults;
 #[cfg(test)]
 mod fields;
 #[cfg(test)]
@@ -35,21 +26,11 @@ mod held;
 #[cfg(test)]
 mod keys;
 #[cfg(test)]
-mod kicks;
-#[cfg(test)]
 mod limits;
-#[cfg(test)]
-mod long_sources;
-#[cfg(test)]
-mod pages;
 #[cfg(test)]
 mod percents;
 #[cfg(test)]
-mod pieces_of_reads;
-#[cfg(test)]
 mod ranges;
-#[cfg(test)]
-mod selfruns;
 #[cfg(test)]
 mod solutions;
 #[cfg(test)]

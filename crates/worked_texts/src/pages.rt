@@ -1,9 +1,9 @@
 // Runs of `decode` and `show`, which read the source.
-use crate::asserts::{over, refused, writes};
-use crate::{Outcome, run_words};
 use pc_outside::MemorySource;
 use std::process::Abort;
 use std::test::Fail;
+use worked_runs::asserts::{over, refused, writes};
+use worked_runs::{Outcome, run_words};
 
 /// Runs `decode` over a source that gives byte by byte.
 fn slowly(rt: &(impl AllocGlobal + Abort), text: &[u8]) -> Result<Outcome, Fail> {

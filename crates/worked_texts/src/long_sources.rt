@@ -1,7 +1,7 @@
 // Sources of as many bytes as may be read, and of one byte more.
-use crate::asserts::over;
 use std::process::Abort;
 use std::test::Fail;
+use worked_runs::asserts::over;
 
 const MOST: usize = 4_194_304;
 

@@ -1,11 +1,11 @@
 // Sources that give few bytes at a time: how a run ends doesn't depend on it.
 ghost use Rattle.std.specs.Prelude.{◌≤◌};
 
-use crate::asserts::over;
-use crate::{Outcome, run_words};
 use pc_outside::MemorySource;
 use std::process::Abort;
 use std::test::Fail;
+use worked_runs::asserts::over;
+use worked_runs::{Outcome, run_words};
 
 /// Asserts that a run over a text ends like another one where each read moves at most so many bytes.
 fn ends_like(

@@ -1,7 +1,7 @@
 // Fumen texts that are cut at each digit, and lists of as many pages as may be read.
-use crate::asserts::{over, refused, writes};
 use std::process::Abort;
 use std::test::Fail;
+use worked_runs::asserts::{over, refused, writes};
 
 /// How `decode` of a text ends.
 #[derive(Clone, Copy)]

@@ -1,10 +1,10 @@
 // Other tables of offsets: what they change for `path`, and what `kicks` writes of them.
-use crate::asserts::{lists, over, refused};
-use crate::run_words;
 use kick_file::{parse, print};
 use pc_outside::{MemorySource, Source};
 use std::process::Abort;
 use std::test::Fail;
+use worked_runs::asserts::{lists, over, refused};
+use worked_runs::run_words;
 
 const TWO_ROWS: &str = "path --rows XXXXXX____/XXXXXX____ --clear-line 2 --patterns LL";
 

@@ -1,9 +1,9 @@
 // Runs of `selfrun`, and its pages by the public calls.
-use crate::asserts::{lists, over, refused};
 use fumen_digits::Dialect;
 use fumen_text::{decode, encode};
 use pc_app::sample_pages;
 use std::test::Fail;
+use worked_runs::asserts::{lists, over, refused};
 
 #[test]
 fn pages_are_read_again(rt: HostRuntime) -> Result<(), Fail> {
