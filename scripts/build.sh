@@ -260,7 +260,7 @@ build_if_needed() {
         exec {lock}>"$here/out/build.lock"
         if ! flock -n "$lock"; then
             say "another ./pc builds the program here; waiting for it to end"
-            flock "$lock"
+            until flock -n "$lock"; do sleep 1; done
             why=$(reason)
         fi
     fi
