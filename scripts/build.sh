@@ -250,21 +250,22 @@ build() {
 # Notes that the program was proved and built, from sources with this sum.
 note_built() { printf 'kit %s\nsources %s\n' "$(kit)" "$1" >"$built"; }
 
+# Whether the lock is ours, or cannot be had on this file system.
+is_ours() { flock -n -E 75 "$1" 2>/dev/null || (($? != 75)); }
+
 build_if_needed() {
     local why lock
     mapfile -t names < <(crates)
     why=$(reason)
     [ -n "$why" ] || return 0
     mkdir -p "$here/out" 2>/dev/null || fail "$here cannot be written: the program is built inside the repository"
-    if command -v flock >/dev/null 2>&1; then
-        exec {lock}>"$here/out/build.lock"
-        if ! flock -n "$lock"; then
-            say "another ./pc builds the program here; waiting for it to end"
-            until flock -n "$lock"; do sleep 1; done
-            why=$(reason)
-        fi
+    exec {lock}>"$here/out/build.lock"
+    if ! is_ours "$lock"; then
+        say "another ./pc builds the program here; waiting for it to end"
+        until is_ours "$lock"; do sleep 1; done
+        why=$(reason)
     fi
     [ -z "$why" ] || build "$why"
     # (the lock goes with the file)
-    [ -z "${lock-}" ] || exec {lock}>&-
+    exec {lock}>&-
 }
