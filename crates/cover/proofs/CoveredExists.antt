@@ -21,12 +21,12 @@ use Rattle.queue_pattern.specs.Pattern.{elements_of}
 use Rattle.queue_pattern.specs.Queues.{queues}
 use Rattle.hold_queue.specs.Permits.{permits}
 use Rattle.hold_queue.proofs.CallerLemmas.{permits-decides}
-use Rattle.enumerate.specs.declared.problem.Problem.{Problem}
-use Rattle.enumerate.specs.Plays.{Plays}
-use Rattle.enumerate.specs.Problem.{IsFit}
-use Rattle.enumerate.specs.Solution.{pieces_of}
-use Rattle.enumerate.proofs.CallerLemmas.{IsLow, filled-low, locked-low, place-decides}
-use Rattle.moves.proofs.CallerLemmas.{place-free}
+use Rattle.problem.specs.declared.problem.Problem.{Problem}
+use Rattle.problem.specs.Plays.{Plays}
+use Rattle.problem.specs.Problem.{IsFit}
+use Rattle.problem.specs.Solution.{pieces_of}
+use Rattle.problem.proofs.CallerLemmas.{IsLow, filled-low, locked-low}
+use Rattle.moves.proofs.CallerLemmas.{is_place-decides, place-free}
 use Rattle.cover.specs.Covered.{IsCovered, IsCoveredList, PlaysIn}
 
 -- ---- whether a sequence clears a field
@@ -46,11 +46,11 @@ plays-decides table mode F rows (q ∷ rest) low = (
   λ is.
       let parts = and_parts (is_place table F mode q && is_below rows q) _ is in
       let first = and_parts (is_place table F mode q) (is_below rows q) parts.0 in
-      let place = (place-decides table F mode q).0 first.0 in
+      let place = (is_place-decides table F mode q).0 first.0 in
       (place, first.1, (plays-decides table mode (locked F q) (rows - rows_removed F q) rest (locked-low F rows q low first.1 (place-free table F mode q place))).0 parts.1),
   λ played.
       and_from (is_place table F mode q && is_below rows q) _
-      (and_from (is_place table F mode q) (is_below rows q) ((place-decides table F mode q).1 played.0) played.1)
+      (and_from (is_place table F mode q) (is_below rows q) ((is_place-decides table F mode q).1 played.0) played.1)
       ((plays-decides table mode (locked F q) (rows - rows_removed F q) rest (locked-low F rows q low played.1 (place-free table F mode q played.0))).1 played.2),
 )
 

@@ -6,9 +6,9 @@ use Rattle.srs.specs.declared.placement.Placement.{Placement}
 use Rattle.queue_pattern.specs.Pattern.{elements_of}
 use Rattle.queue_pattern.specs.Queues.{queues}
 use Rattle.hold_queue.specs.Permits.{Permits}
-use Rattle.enumerate.specs.declared.problem.Problem.{Problem}
-use Rattle.enumerate.specs.Search.{IsList}
-use Rattle.enumerate.specs.Solution.{IsSolution, pieces_of}
+use Rattle.problem.specs.declared.problem.Problem.{Problem}
+use Rattle.problem.specs.SolutionList.{IsList}
+use Rattle.problem.specs.Solution.{IsSolution, pieces_of}
 use Rattle.lists.proofs.CallerLemmas.{Contains-cases, Contains-here, Contains-none}
 use Rattle.cover.specs.Covered.{IsCovered}
 

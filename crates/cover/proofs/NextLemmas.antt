@@ -7,7 +7,7 @@ use Rattle.queue_pattern.specs.Pattern.{elements_of}
 use Rattle.queue_pattern.specs.Queues.{queues}
 use Rattle.hold_queue.specs.AtHand.{at_hand, Takes}
 use Rattle.hold_queue.proofs.CallerLemmas.{permits-of_takes, takes-of_permits}
-use Rattle.enumerate.specs.declared.problem.Problem.{Problem}
+use Rattle.problem.specs.declared.problem.Problem.{Problem}
 use Rattle.cover.specs.declared.hand.Hand.{Hand}
 use Rattle.cover.specs.declared.node.Node.{Node}
 use Rattle.cover.specs.Covered.{IsLeastFrom, IsPermitted}

@@ -7,8 +7,8 @@ use Rattle.well.specs.Lock.{locked, rows_removed}
 use Rattle.well.specs.LockLaws.{is_below}
 use Rattle.moves.specs.declared.key.DropMode.{DropMode}
 use Rattle.moves.specs.Place.{IsPlace}
-use Rattle.enumerate.specs.Plays.{Plays}
-use Rattle.enumerate.proofs.CallerLemmas.{IsLow, locked-low}
+use Rattle.problem.specs.Plays.{Plays}
+use Rattle.problem.proofs.CallerLemmas.{IsLow, locked-low}
 use Rattle.moves.proofs.CallerLemmas.{place-free}
 
 -- the whole clears the first field exactly where the rest clears the field that is left

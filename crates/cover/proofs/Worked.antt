@@ -10,8 +10,8 @@ use Rattle.queue_pattern.specs.Queues.{queues}
 use Rattle.hold_queue.specs.declared.hold.Hold.{Hold}
 use Rattle.hold_queue.specs.declared.hold.Hold.TheVariants.{Allowed}
 use Rattle.hold_queue.specs.Permits.{Permits, Way, plain, exchange, first_hold, last}
-use Rattle.enumerate.specs.declared.problem.Problem.{Problem}
-use Rattle.enumerate.specs.Solution.{pieces_of}
+use Rattle.problem.specs.declared.problem.Problem.{Problem}
+use Rattle.problem.specs.Solution.{pieces_of}
 use Rattle.cover.specs.Covered.{IsCovered, IsNextFrom, Keeps, PlaysIn}
 
 abbrev two_queues : List (List Piece)

@@ -9,9 +9,9 @@ use Rattle.well.specs.Well.{filled}
 use Rattle.queue_pattern.specs.Pattern.{elements_of}
 use Rattle.queue_pattern.specs.Queues.{queues}
 use Rattle.hold_queue.specs.Permits.{Permits}
-use Rattle.enumerate.specs.declared.problem.Problem.{Problem}
-use Rattle.enumerate.specs.Plays.{Plays}
-use Rattle.enumerate.specs.Solution.{pieces_of}
+use Rattle.problem.specs.declared.problem.Problem.{Problem}
+use Rattle.problem.specs.Plays.{Plays}
+use Rattle.problem.specs.Solution.{pieces_of}
 
 -- the sequence clears the field of the problem
 abbrev pub PlaysIn : Problem → List Placement → Type 0

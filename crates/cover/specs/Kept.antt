@@ -1,7 +1,7 @@
 -- What contracts see of a set of kept lists: its problem, and its lists of kinds in the order of first sight.
 use Rattle.std.specs.Prelude.{List, map}
 use Rattle.srs.specs.declared.piece.Piece.{Piece}
-use Rattle.enumerate.specs.declared.problem.Problem.{Problem}
+use Rattle.problem.specs.declared.problem.Problem.{Problem}
 use Rattle.cover.specs.declared.set.CoverSet.{CoverSet}
 use Rattle.cover.specs.Lists.{listed_kinds}
 

@@ -1,9 +1,9 @@
 // The kinds of a sequence.
 ghost use Rattle.std.specs.Prelude.{◌≡◌};
-ghost use Rattle.enumerate.specs.Solution.{pieces_of};
+ghost use Rattle.problem.specs.Solution.{pieces_of};
 
 use arrayvec::ArrayVec;
-use enumerate::Sequence;
+use problem::Sequence;
 use srs::Piece;
 
 /// The kinds of the placements of a sequence, in order.

@@ -4,10 +4,10 @@ ghost use Rattle.srs.specs.declared.piece.Piece.{Piece};
 ghost use Rattle.srs.specs.declared.placement.Placement.{Placement};
 ghost use Rattle.queue_pattern.specs.Pattern.{elements_of};
 ghost use Rattle.queue_pattern.specs.Queues.{queues};
-ghost use Rattle.enumerate.specs.declared.problem.Problem.{Problem};
-ghost use Rattle.enumerate.specs.Problem.{IsFit};
-ghost use Rattle.enumerate.specs.Search.{IsList};
-ghost use Rattle.enumerate.specs.Solution.{IsSolution};
+ghost use Rattle.problem.specs.declared.problem.Problem.{Problem};
+ghost use Rattle.problem.specs.Problem.{IsFit};
+ghost use Rattle.problem.specs.SolutionList.{IsList};
+ghost use Rattle.problem.specs.Solution.{IsSolution};
 ghost use Rattle.cover.specs.Covered.{IsCovered, IsCoveredList};
 
 /// Where the sequences are all solutions of a problem, a queue is covered exactly where some sequence is a solution for

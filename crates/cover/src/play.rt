@@ -1,9 +1,9 @@
 // Whether a sequence clears the field of a problem.
 ghost use Rattle.std.specs.Prelude.{◌+◌, ◌≤◌, ◌↔◌, IsTrue, length};
-ghost use Rattle.enumerate.specs.Problem.{IsFit};
+ghost use Rattle.problem.specs.Problem.{IsFit};
 ghost use Rattle.cover.specs.Covered.{PlaysIn};
 
-use enumerate::{Problem, Sequence, lies_below};
+use problem::{Problem, Sequence, lies_below};
 use reach::{Steps, places};
 use std::sync::ledger::Ledger;
 

@@ -1,7 +1,7 @@
 // The kinds of known sequences, and the queues that permit them.
 ghost use Rattle.std.specs.Prelude.{◌≡◌, List, OnErr, OnOk, map};
 ghost use Rattle.srs.specs.declared.piece.Piece.{Piece};
-ghost use Rattle.enumerate.specs.Problem.{IsFit};
+ghost use Rattle.problem.specs.Problem.{IsFit};
 ghost use Rattle.cover.specs.Covered.{Keeps};
 ghost use Rattle.cover.specs.Lists.{has_kinds, listed_kinds};
 ghost use Rattle.cover.specs.Nodes.{spells};
@@ -13,10 +13,10 @@ use crate::kinds::{Kinds, kinds_of};
 use crate::look::{Look, look_at};
 use crate::play::plays;
 use crate::tree::Tree;
-use enumerate::{Problem, Sequence};
 use hold_queue::Hold;
 use indexmap::IndexSet;
 use pc_outside::NoMemory;
+use problem::{Problem, Sequence};
 use reach::Steps;
 use std::alloc::Global;
 use std::sync::ledger::Ledger;
@@ -51,7 +51,7 @@ impl CoverSet {
     ghost use Rattle.std.specs.Prelude.{ℕ, ◌+◌, ◌≤◌, ◌↔◌, [], IfOk, IsOk, OnErr, IsTrue, length, if◌then◌else◌};
     ghost use Rattle.queue_pattern.specs.Pattern.{elements_of};
     ghost use Rattle.queue_pattern.specs.Queues.{queues};
-    ghost use Rattle.enumerate.specs.Solution.{pieces_of};
+    ghost use Rattle.problem.specs.Solution.{pieces_of};
     ghost use Rattle.cover.specs.Covered.{Adds, IsNextFrom, IsPermitted, PlaysIn};
     ghost use Rattle.cover.specs.Kept.{lists_of, kept_problem};
 

@@ -1,12 +1,12 @@
 // Sequences that clear a small field, and the queues that they answer.
 ghost use Rattle.std.specs.Prelude.{◌≡◌, ◌≤◌, ◌<◌};
-ghost use Rattle.enumerate.specs.Problem.{IsFit};
+ghost use Rattle.problem.specs.Problem.{IsFit};
 
 use crate::CoverSet;
-use enumerate::{Problem, Sequence};
 use hold_queue::Hold;
 use moves::DropMode;
 use pc_outside::NoMemory;
+use problem::{Problem, Sequence};
 use queue_pattern::Pattern;
 use reach::Steps;
 use srs::{Piece, Placement, Rotation, Rules};
@@ -21,18 +21,8 @@ fn problem(rt: &impl Abort, pattern: &str, hold: Hold) -> Problem
 {
     let well = Well::from_rows(b"XXXXXX____").expect(rt, "a rows text");
     let pattern = Pattern::parse(pattern).expect(rt, "a pattern");
-    assert!(rt; well.lowest_filled_from(1).is_none());
-    assert!(rt; well.lowest_full().is_none());
-    assert!(rt; well.empties_below(1) / 4 <= pattern.len());
-    Problem {
-        well,
-        height: 1,
-        pattern,
-        hold,
-        held: None,
-        drop_mode: DropMode::Soft,
-        rules: Rules::srs(),
-    }
+    let (drop_mode, rules) = (DropMode::Soft, Rules::srs());
+    Problem::new(well, 1, pattern, hold, None, drop_mode, rules).expect(rt, "a fit problem")
 }
 
 fn flat(piece: Piece) -> Sequence {

@@ -1,5 +1,4 @@
--- Lemmas on the search: the laws of the game that it needs, the solutions of a position, and the events of a walk.
-mod Game
+-- Lemmas on the search: the solutions of a position, and the events of a walk.
 mod Choices
 mod Solutions
 mod PermitLaws
@@ -19,8 +18,6 @@ mod Stacks
 mod SkipLemmas
 mod SeekLemmas
 mod SearchLemmas
-mod NeededCount
 mod SearchLists
+mod LivePrefixes
 mod SearchFacts
-mod ListLaws
-pub mod CallerLemmas

@@ -5,20 +5,20 @@ use Rattle.std.specs.List.{flat_map}
 use Rattle.std.proofs.lemmas.Bool.{eqb-true}
 use Rattle.std.proofs.lemmas.List.{append-nil}
 use Rattle.srs.specs.declared.piece.Piece.{Piece}
-use Rattle.srs.specs.declared.piece.Piece.TheVariants.{I, L, O, Z, T, J, S}
 use Rattle.srs.specs.declared.placement.Placement.{Placement}
 use Rattle.srs.specs.Piece.{all_pieces}
 use Rattle.lists.proofs.CallerLemmas.{Contains-cases, Contains-flat_map, Contains-from_flat_map, Contains-here, Contains-none}
 use Rattle.moves.specs.Place.{IsPlace}
 use Rattle.hold_queue.specs.QueueSet.{QueuesPermit}
-use Rattle.enumerate.specs.Plays.{Plays}
+use Rattle.problem.specs.Plays.{Plays}
 use Rattle.well.specs.LockLaws.{is_below}
-use Rattle.enumerate.specs.Solution.{pieces_of}
+use Rattle.problem.specs.Solution.{pieces_of}
+use Rattle.hold_queue.proofs.CallerLemmas.{queues_permit-decides}
 use Rattle.enumerate.specs.Position.{Position, after_of, can_be_tiled, may_play, is_live}
-use Rattle.enumerate.proofs.Game.{IsLow, locked-low, permits-decides, place-decides}
+use Rattle.problem.proofs.CallerLemmas.{IsLow, in_all_pieces, locked-low}
 use Rattle.enumerate.proofs.PermitLaws.{line_permits-front}
 use Rattle.enumerate.proofs.PlaceLaws.{lockable-listed, place-lockable}
-use Rattle.moves.proofs.CallerLemmas.{place-free}
+use Rattle.moves.proofs.CallerLemmas.{is_place-decides, place-free}
 use Rattle.enumerate.proofs.Solutions.{in_kind, of_kind, sols, to_kind, to_place}
 use Rattle.enumerate.proofs.Choices.{by_test}
 use Rattle.enumerate.proofs.TilingLaws.{played-tiled}
@@ -31,25 +31,16 @@ pub record IsSolved (left : ℕ) (n : Position) (s : List Placement) : Type 0 wh
 
 pub may_play-permits : (n : Position) (piece : Piece) → may_play n.line piece ≡ true → QueuesPermit n.line (n.line.played ++ piece ∷ [])
 unfolding may_play
-may_play-permits n piece played = (permits-decides n.line (n.line.played ++ piece ∷ [])).0 played
+may_play-permits n piece played = (queues_permit-decides n.line (n.line.played ++ piece ∷ [])).0 played
 
 pub permits-may_play : (n : Position) (piece : Piece) → QueuesPermit n.line (n.line.played ++ piece ∷ []) → may_play n.line piece ≡ true
 unfolding may_play
-permits-may_play n piece permitted = (permits-decides n.line (n.line.played ++ piece ∷ [])).1 permitted
+permits-may_play n piece permitted = (queues_permit-decides n.line (n.line.played ++ piece ∷ [])).1 permitted
 
 -- a position without a tiling has no solution
 live-where_solved : (left : ℕ) (n : Position) (s : List Placement) → IsLow n.field n.rows → IsSolved (suc left) n s → is_live left n ≡ true
 unfolding is_live
 live-where_solved left n s low solved = subst (λ k. can_be_tiled k n ≡ true) solved.long (played-tiled n s low solved.plays solved.permitted)
-
-pub in_all_pieces : (piece : Piece) → Contains all_pieces piece
-in_all_pieces I = (0, omega arith, refl)
-in_all_pieces L = (1, omega arith, refl)
-in_all_pieces O = (2, omega arith, refl)
-in_all_pieces Z = (3, omega arith, refl)
-in_all_pieces T = (4, omega arith, refl)
-in_all_pieces J = (5, omega arith, refl)
-in_all_pieces S = (6, omega arith, refl)
 
 pub low-after : (n : Position) (q : Placement) → IsLow n.field n.rows → is_below n.rows q ≡ true → IsPlace n.table n.field n.mode q → IsLow (after_of n q).field (after_of n q).rows
 unfolding after_of
@@ -88,7 +79,7 @@ sound (suc left) n low permitted s =
     (λ _ among.
     let found = Contains-from_flat_map (of_kind (sols left) n) all_pieces s among in
     let first = in_kind (sols left) n found.0 s found.2 in
-    let place = (place-decides n.table n.field n.mode first.first).0 first.is_one in
+    let place = (is_place-decides n.table n.field n.mode first.first).0 first.is_one in
     let rest = first.in_place in
     subst (IsSolved (suc left) n) rest.is
     (solved-cons left n first.first rest.rest place rest.below
@@ -112,5 +103,5 @@ complete (suc left) n (q ∷ s) low solved =
     (to_kind (sols left) n q (q ∷ s)
     (permits-may_play n q.piece (line_permits-front n.line (n.line.played ++ q.piece ∷ []) (pieces_of s) permitted))
     (lockable-listed n.field q.piece q (place-lockable n.table n.field n.mode q.piece q refl place))
-    ((place-decides n.table n.field n.mode q).1 place)
+    ((is_place-decides n.table n.field n.mode q).1 place)
     (to_place (sols left) n q s solved.plays.1 (complete left (after_of n q) s (low-after n q low solved.plays.1 place) rest))))

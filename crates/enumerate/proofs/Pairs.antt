@@ -15,19 +15,19 @@ use Rattle.srs.proofs.CallerLemmas.{placements_of-list}
 use Rattle.moves.specs.PlaceTest.{is_place}
 use Rattle.hold_queue.specs.QueueSet.{QueuesInPlay, QueuesPermit, queues_permit}
 use Rattle.well.specs.LockLaws.{is_below}
-use Rattle.enumerate.specs.Solution.{pieces_of}
+use Rattle.problem.specs.Solution.{pieces_of}
+use Rattle.hold_queue.proofs.CallerLemmas.{queues_permit-decides}
 use Rattle.enumerate.specs.Position.{Position, after_of, can_be_tiled, may_play, places_at, is_live}
 use Rattle.enumerate.specs.Events.{Tick, Flood, Found, floods, entered, tried, tried_in_turn, enter, begun}
 use Rattle.enumerate.specs.Work.{can_stand, can_be_played, stays_tiled, is_live_prefix, work_from}
 use Rattle.enumerate.proofs.FloodCounts.{floods-flat_map, floods-tried_in_turn}
-use Rattle.enumerate.proofs.Game.{permits-decides}
 use Rattle.enumerate.proofs.PermitLaws.{line_permits-front}
 use Rattle.enumerate.proofs.Choices.{if_false, if_true}
 
 -- the played pieces of a line have no part in what it permits
 line_permits-played : (line : QueuesInPlay) (played pieces : List Piece) → queues_permit (record line { played = played }) pieces ≡ queues_permit line pieces
 line_permits-played line played pieces =
-    one_answer (queues_permit (record line { played = played }) pieces) (queues_permit line pieces) (permits-decides (record line { played = played }) pieces) (permits-decides line pieces)
+    one_answer (queues_permit (record line { played = played }) pieces) (queues_permit line pieces) (queues_permit-decides (record line { played = played }) pieces) (queues_permit-decides line pieces)
 
 -- the position after a prefix, with so many placements to come and tilings before each placement of the prefix
 pub record IsAt (left : ℕ) (root : Position) (prefix : List Placement) (n : Position) : Type 0 where
@@ -174,8 +174,8 @@ root-dead : (root : Position) → root.line.played ≡ [] → can_be_played root
 unfolding can_be_played can_stand may_play
 root-dead root none dead c = elim (cases_Bool (queues_permit root.line (root.line.played ++ c ∷ []))) [
   | inl e ↦
-      let permitted : QueuesPermit root.line ([] ++ c ∷ []) = subst (λ l. QueuesPermit root.line (l ++ c ∷ [])) none ((permits-decides root.line (root.line.played ++ c ∷ [])).0 e) in
-      let start : queues_permit root.line [] ≡ true = (permits-decides root.line []).1 (line_permits-front root.line [] (c ∷ []) permitted) in
+      let permitted : QueuesPermit root.line ([] ++ c ∷ []) = subst (λ l. QueuesPermit root.line (l ++ c ∷ [])) none ((queues_permit-decides root.line (root.line.played ++ c ∷ [])).0 e) in
+      let start : queues_permit root.line [] ≡ true = (queues_permit-decides root.line []).1 (line_permits-front root.line [] (c ∷ []) permitted) in
       let live : (queues_permit root.line [] && true) ≡ true = and_both (queues_permit root.line []) true start refl in
       cc
   | inr e ↦ e

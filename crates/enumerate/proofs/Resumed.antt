@@ -19,7 +19,7 @@ use Rattle.lists.specs.Rising.{is_above}
 use Rattle.srs.specs.Placements.{placements_of}
 use Rattle.srs.proofs.CallerLemmas.{placements_of-list, placement_cmp-antisymmetric, placement_cmp-piece, placement_cmp-total, sequence_cmp-first}
 use Rattle.moves.specs.PlaceTest.{is_place}
-use Rattle.enumerate.proofs.Game.{place-decides}
+use Rattle.moves.proofs.CallerLemmas.{is_place-decides}
 use Rattle.enumerate.proofs.PlaceLaws.{lockable-listed, place-lockable}
 use Rattle.lists.proofs.CallerLemmas.{each-contained, Contains-filter, Contains-from_filter, Contains-from_flat_map, Contains-here, Contains-there, Contains-cases, Contains-none, filter-each, filter-true, filter-false, rising-first, rising-rest}
 use Rattle.well.specs.LockLaws.{is_below}
@@ -185,7 +185,7 @@ pub placed-there : (n : Position) (p : Placement) → is_place n.table n.field n
 unfolding places_at
 placed-there n p placed =
     Contains-filter (is_place n.table n.field n.mode) (placements_of p.piece) p
-    (((placements_of-list p.piece).members p).1 (lockable-listed n.field p.piece p (place-lockable n.table n.field n.mode p.piece p refl ((place-decides n.table n.field n.mode p).0 placed)))) placed
+    (((placements_of-list p.piece).members p).1 (lockable-listed n.field p.piece p (place-lockable n.table n.field n.mode p.piece p refl ((is_place-decides n.table n.field n.mode p).0 placed)))) placed
 
 pub there-placed : (n : Position) (p : Placement) → Contains (places_at n p.piece) p → is_place n.table n.field n.mode p ≡ true
 unfolding places_at

@@ -1,7 +1,7 @@
 -- What holds of every search.
 use Rattle.enumerate.specs.declared.search.Search.{Search}
 use Rattle.enumerate.specs.Items.{items_of}
-use Rattle.enumerate.specs.Search.{IsList}
+use Rattle.problem.specs.SolutionList.{IsList}
 use Rattle.enumerate.specs.ViewOf.{events_to_come, solutions, view_of}
 use Rattle.enumerate.proofs.SearchLists.{above-list}
 

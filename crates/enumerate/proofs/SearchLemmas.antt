@@ -12,9 +12,9 @@ use Rattle.well.specs.Well.{filled}
 use Rattle.moves.specs.declared.key.DropMode.{DropMode}
 use Rattle.hold_queue.specs.declared.set.QueueSet.{QueueSet}
 use Rattle.hold_queue.specs.QueueSet.{queues_in_play}
-use Rattle.enumerate.specs.declared.problem.Problem.{Problem}
+use Rattle.problem.specs.declared.problem.Problem.{Problem}
 use Rattle.enumerate.specs.declared.frame.Frame.{Frame}
-use Rattle.enumerate.specs.Problem.{needed_of}
+use Rattle.problem.specs.Problem.{needed_of}
 use Rattle.enumerate.specs.Position.{Position, is_live, line_at, root_of}
 use Rattle.enumerate.specs.Events.{Event, begun, sought}
 use Rattle.enumerate.specs.Frames.{has_room, position_of, stacked}

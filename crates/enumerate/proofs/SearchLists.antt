@@ -10,18 +10,18 @@ use Rattle.lists.proofs.CallerLemmas.{filter-each, filter-false, filter-true, fi
 use Rattle.srs.proofs.CallerLemmas.{sequence_cmp-total}
 use Rattle.hold_queue.specs.Permits.{SomePermits}
 use Rattle.hold_queue.specs.QueueSet.{QueuesPermit}
-use Rattle.enumerate.specs.declared.problem.Problem.{Problem}
-use Rattle.enumerate.specs.Problem.{IsFit, needed_of}
-use Rattle.enumerate.specs.Solution.{IsSolution, pieces_of, queues_that_count}
-use Rattle.enumerate.specs.Search.{IsList}
+use Rattle.problem.specs.declared.problem.Problem.{Problem}
+use Rattle.problem.specs.Problem.{IsFit, needed_of}
+use Rattle.problem.specs.Solution.{IsSolution, pieces_of, queues_that_count}
+use Rattle.problem.specs.SolutionList.{IsList}
 use Rattle.enumerate.specs.Position.{Position, line_at, root_of}
 use Rattle.enumerate.specs.Events.{begun, enter, found, floods, sought}
 use Rattle.enumerate.specs.Rest.{whole_from}
 use Rattle.enumerate.specs.Work.{pairs}
 use Rattle.enumerate.proofs.FloodCounts.{floods-sought}
-use Rattle.enumerate.proofs.Game.{IsLow, filled-low}
+use Rattle.problem.proofs.CallerLemmas.{IsLow, filled-low}
 use Rattle.enumerate.proofs.Members.{IsSolved, complete, sound}
-use Rattle.enumerate.proofs.NeededCount.{long-needed}
+use Rattle.problem.proofs.CallerLemmas.{long-needed}
 use Rattle.enumerate.proofs.Pairs.{floods-begun}
 use Rattle.enumerate.proofs.PermitLaws.{queues-singles}
 use Rattle.enumerate.proofs.Solutions.{sols, sols-rising}
@@ -77,7 +77,7 @@ rows-left n some = if_false (n.rows == 0) ([] ∷ []) [] (not-zero n.rows some)
 -- ---- the whole list
 
 module _ (problem : Problem) (fit : IsFit problem) (queue : Option (List Piece)) where
-  root-low : IsLow (root_of problem queue).field (root_of problem queue).rows
+  pub root-low : IsLow (root_of problem queue).field (root_of problem queue).rows
   unfolding root_of
   root-low = filled-low problem.well problem.height (omega (arith, fit.low)) fit.below
 
@@ -92,7 +92,7 @@ module _ (problem : Problem) (fit : IsFit problem) (queue : Option (List Piece))
       permitted None line = line
       permitted (Some q) line = subst (λ l. SomePermits problem.hold l problem.held (pieces_of s)) (queues-singles q) line
 
-  from-solution : (s : List Placement) → IsSolution problem queue s → IsSolved (needed_of problem) (root_of problem queue) s
+  pub from-solution : (s : List Placement) → IsSolution problem queue s → IsSolved (needed_of problem) (root_of problem queue) s
   unfolding root_of
   from-solution s solution = record {
     long = long-needed problem fit s solution.plays;

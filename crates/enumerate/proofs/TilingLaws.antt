@@ -29,16 +29,16 @@ use Rattle.prune.proofs.CallerLemmas.{cleared_is_tiled, full_rows_may_stand, mor
 use Rattle.packing.specs.Empties.{all_but, without_placement}
 use Rattle.packing.specs.HasTiling.{has_tiling}
 use Rattle.packing.proofs.CallerLemmas.{left_by_placement, tiling_below, tiling_decided}
-use Rattle.enumerate.specs.Plays.{Plays}
-use Rattle.enumerate.specs.Solution.{pieces_of}
+use Rattle.problem.specs.Plays.{Plays}
+use Rattle.problem.specs.Solution.{pieces_of}
 use Rattle.enumerate.specs.declared.frame.Frame.{Frame}
 use Rattle.enumerate.specs.Frames.{position_of}
 use Rattle.enumerate.specs.Position.{Position, after_of, can_be_tiled, is_live}
-use Rattle.enumerate.proofs.Game.{IsLow, locked-low}
+use Rattle.problem.proofs.CallerLemmas.{IsLow, locked-low}
 use Rattle.moves.proofs.CallerLemmas.{place-free}
 
 -- what plays clears all rows
-plays-clears : (table : Table) (mode : DropMode) (F : Field) (rows : ℕ) (s : List Placement) → Plays table mode F rows s → ClearsRows F rows s
+pub plays-clears : (table : Table) (mode : DropMode) (F : Field) (rows : ℕ) (s : List Placement) → Plays table mode F rows s → ClearsRows F rows s
 plays-clears table mode F rows [] plays = plays.0
 plays-clears table mode F rows (q ∷ s) plays = (place-free table F mode q plays.0, plays.1, plays-clears table mode (locked F q) (rows - rows_removed F q) s plays.2)
 

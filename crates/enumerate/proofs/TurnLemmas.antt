@@ -21,6 +21,8 @@ use Rattle.moves.specs.PlaceTest.{is_place}
 use Rattle.reach.specs.declared.held.Places.{Places}
 use Rattle.reach.specs.Places.{holds, piece_of}
 use Rattle.hold_queue.specs.QueueSet.{QueuesInPlay, QueuesPermit, queues_in_play, queues_permit}
+use Rattle.moves.proofs.CallerLemmas.{is_place-decides}
+use Rattle.hold_queue.proofs.CallerLemmas.{queues_permit-decides}
 use Rattle.enumerate.specs.declared.frame.Frame.{Frame}
 use Rattle.well.specs.LockLaws.{is_below}
 use Rattle.enumerate.specs.Position.{Position, after_of, may_play, places_at, is_live}
@@ -30,7 +32,6 @@ use Rattle.enumerate.specs.Frames.{position_of, places_left, entered_placement, 
 use Rattle.enumerate.specs.declared.turn.Turn.{Turn}
 use Rattle.enumerate.specs.declared.turn.Turn.TheVariants.{Passed, Flooded, Entered, Full, Over}
 use Rattle.enumerate.specs.Turns.{Enters, EntersAs, GoesAs, IsChild, SamePosition, Turns}
-use Rattle.enumerate.proofs.Game.{permits-decides, place-decides}
 use Rattle.enumerate.proofs.PlaceLaws.{place-lockable}
 use Rattle.enumerate.proofs.Choices.{if_false, if_true}
 
@@ -88,8 +89,8 @@ module _ (table : Table) (F : Field) (mode : DropMode) (piece : Piece) (places :
           and_true (holds places q)
           ∙ one_answer {P = IsPlace table F mode q × (is_below rows q ≡ true)} (holds places q) (is_place table F mode q && is_below rows q)
           (λ h. let all = (held q).0 h in (all.1, all.2), λ p. (held q).1 (of_kind, p.0, p.1)) (
-            λ h. let both = and_parts (is_place table F mode q) (is_below rows q) h in ((place-decides table F mode q).0 both.0, both.1),
-            λ p. and_from (is_place table F mode q) (is_below rows q) ((place-decides table F mode q).1 p.0) p.1,
+            λ h. let both = and_parts (is_place table F mode q) (is_below rows q) h in ((is_place-decides table F mode q).0 both.0, both.1),
+            λ p. and_from (is_place table F mode q) (is_below rows q) ((is_place-decides table F mode q).1 p.0) p.1,
           )
 
   pub flooded-lockable : Lockable F places
@@ -202,7 +203,7 @@ tried_in_turn-nil walk prefix n = refl
 -- the queues answer whether a kind may be played
 pub may_play-answer : (line : QueuesInPlay) (c : Piece) (r : Bool) → ((r ≡ true) ↔ QueuesPermit line (line.played ++ c ∷ [])) → may_play line c ≡ r
 unfolding may_play
-may_play-answer line c r answer = one_answer {P = QueuesPermit line (line.played ++ c ∷ [])} (queues_permit line (line.played ++ c ∷ [])) r (permits-decides line (line.played ++ c ∷ [])) answer
+may_play-answer line c r answer = one_answer {P = QueuesPermit line (line.played ++ c ∷ [])} (queues_permit line (line.played ++ c ∷ [])) r (queues_permit-decides line (line.played ++ c ∷ [])) answer
 
 pub goes-over : (table : Table) (mode : DropMode) (frame : Frame) → places_left frame.places frame.entered ≡ [] → drop frame.tried all_pieces ≡ [] → GoesAs table mode frame (λ prefix. Tick ∷ [])
 goes-over table mode frame none last = record {
@@ -308,7 +309,7 @@ module _ (table : Table) (mode : DropMode) (old mid : Frame) (same : SamePositio
 
 pub line-permits : (line : QueuesInPlay) (c : Piece) → may_play line c ≡ true → QueuesPermit line (line.played ++ c ∷ [])
 unfolding may_play
-line-permits line c played = (permits-decides line (line.played ++ c ∷ [])).0 played
+line-permits line c played = (queues_permit-decides line (line.played ++ c ∷ [])).0 played
 
 pub not-zero : (k : ℕ) → (k ≡ 0 → ⊥) → (k == 0) ≡ false
 not-zero k differs = elim (cases_Bool (k == 0)) [

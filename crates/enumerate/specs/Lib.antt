@@ -1,8 +1,4 @@
 -- What a reader must believe
-pub mod Plays
-pub mod Problem
-pub mod Solution
-pub mod Search
 pub mod Position
 pub mod Work
 pub mod Counted

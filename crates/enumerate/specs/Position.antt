@@ -14,7 +14,7 @@ use Rattle.queue_pattern.specs.Pattern.{elements_of}
 use Rattle.hold_queue.specs.QueueSet.{QueuesInPlay, queues_permit, singles}
 use Rattle.hold_queue.specs.Supply.{supply_of}
 use Rattle.packing.specs.HasTiling.{has_tiling}
-use Rattle.enumerate.specs.declared.problem.Problem.{Problem}
+use Rattle.problem.specs.declared.problem.Problem.{Problem}
 
 pub record Position : Type 0 where
   pub table : Table

@@ -3,9 +3,9 @@ use Rattle.std.specs.Prelude.{Bool, true, false, Option, Some, None, List, []}
 use Rattle.srs.specs.declared.piece.Piece.{Piece}
 use Rattle.srs.specs.declared.placement.Placement.{Placement}
 use Rattle.srs.specs.Rules.{table_of}
-use Rattle.enumerate.specs.declared.problem.Problem.{Problem}
+use Rattle.problem.specs.declared.problem.Problem.{Problem}
 use Rattle.enumerate.specs.declared.frame.Frame.{Frame}
-use Rattle.enumerate.specs.Problem.{needed_of}
+use Rattle.problem.specs.Problem.{needed_of}
 use Rattle.enumerate.specs.Position.{root_of}
 use Rattle.enumerate.specs.Events.{Event, begun, sought}
 use Rattle.enumerate.specs.Frames.{stacked}

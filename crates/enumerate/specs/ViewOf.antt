@@ -5,7 +5,7 @@ use Rattle.enumerate.specs.declared.search.Search.{Search}
 use Rattle.enumerate.specs.Events.{Event, found, floods}
 use Rattle.enumerate.specs.Items.{items_of}
 use Rattle.enumerate.specs.Rest.{events_from, whole_from}
-use Rattle.enumerate.specs.Search.{View}
+use Rattle.problem.specs.SolutionList.{View}
 
 unfoldable pub view_of : Search → View
 view_of search = record { problem = search.problem; queue = items_of search.queue; bound = items_of search.bound }

@@ -10,10 +10,10 @@ use Rattle.well.specs.Lock.{locked, rows_removed}
 use Rattle.moves.specs.declared.key.DropMode.{DropMode}
 use Rattle.moves.specs.PlaceTest.{is_place}
 use Rattle.hold_queue.specs.QueueSet.{queues_permit}
-use Rattle.enumerate.specs.declared.problem.Problem.{Problem}
+use Rattle.problem.specs.declared.problem.Problem.{Problem}
 use Rattle.well.specs.LockLaws.{is_below}
-use Rattle.enumerate.specs.Problem.{needed_of}
-use Rattle.enumerate.specs.Solution.{pieces_of}
+use Rattle.problem.specs.Problem.{needed_of}
+use Rattle.problem.specs.Solution.{pieces_of}
 use Rattle.enumerate.specs.Position.{Position, after_of, can_be_tiled, root_of}
 
 -- each placement is a place in the field before it and lies below the rows left there

@@ -8,9 +8,9 @@ ghost use Rattle.enumerate.specs.Walks.{Finds, IsTurn};
 
 use crate::frame::Frame;
 use crate::notes::Notes;
-use crate::search::Sequence;
 use crate::turn::Turn;
 use moves::DropMode;
+use problem::Sequence;
 use reach::{FloodRules, Steps};
 use std::sync::ledger::Ledger;
 

@@ -1,22 +1,20 @@
 // Laws of the definitions: functions with an empty body, whose contract is the law.
-ghost use Rattle.std.specs.Prelude.{◌≡◌, ◌++◌, length, List, [], ◌∷◌, Some, Option, Contains};
+ghost use Rattle.std.specs.Prelude.{ℕ, ◌++◌, ◌≤◌, length, List, Option, IsTrue};
+ghost use Rattle.lane_board.specs.Field.{Field};
 ghost use Rattle.srs.specs.declared.piece.Piece.{Piece};
 ghost use Rattle.srs.specs.declared.placement.Placement.{Placement};
-ghost use Rattle.enumerate.specs.declared.problem.Problem.{Problem};
-ghost use Rattle.enumerate.specs.Problem.{IsFit, needed_of};
-ghost use Rattle.enumerate.specs.Search.{View, IsList, Resumes};
-ghost use Rattle.enumerate.specs.Solution.{IsSolution};
-
-/// Each solution of a fit problem has as many placements as are needed.
-pub fn solutions_are_as_long_as_needed()
-    ensures { (problem : Problem) (queue : Option (List Piece)) (s : List Placement) → IsFit problem →
-        IsSolution problem queue s → length s ≡ needed_of problem }
-{}
-
-/// The list that a view asks for is determined.
-pub fn lists_are_determined()
-    ensures { (view : View) (xs ys : List (List Placement)) → IsList view xs → IsList view ys → xs ≡ ys }
-{}
+ghost use Rattle.srs.specs.Kick.{Table};
+ghost use Rattle.well.specs.LockLaws.{LiesBelow};
+ghost use Rattle.moves.specs.declared.key.DropMode.{DropMode};
+ghost use Rattle.prune.specs.Laws.{kinds_placed};
+ghost use Rattle.prune.specs.Tiling.{Tiling};
+ghost use Rattle.problem.specs.declared.problem.Problem.{Problem};
+ghost use Rattle.problem.specs.Plays.{Plays};
+ghost use Rattle.problem.specs.Problem.{IsFit};
+ghost use Rattle.problem.specs.Solution.{IsSolution};
+ghost use Rattle.problem.specs.SolutionList.{IsList};
+ghost use Rattle.enumerate.specs.Position.{root_of};
+ghost use Rattle.enumerate.specs.Work.{is_live_prefix};
 
 /// For a fit problem there is the list that a view asks for, whatever its bound.
 pub fn lists_exist()
@@ -25,15 +23,16 @@ pub fn lists_exist()
         × IsList (record { problem = problem; queue = queue; bound = bound }) sequences }
 {}
 
-/// The members of a list after one of them are the list after this one; and for a member the list is its members up to
-/// this one, followed by the list after it.
-pub fn lists_resume()
-    ensures after { (problem : Problem) (queue : Option (List Piece)) (bound : Option (List Placement))
-        (front rest : List (List Placement)) (s : List Placement) →
-        IsList (record { problem = problem; queue = queue; bound = bound }) ((front ++ s ∷ []) ++ rest) →
-        IsList (record { problem = problem; queue = queue; bound = Some s }) rest }
-    ensures divided { (problem : Problem) (queue : Option (List Piece)) (bound : Option (List Placement))
-        (whole rest : List (List Placement)) (s : List Placement) →
-        IsList (record { problem = problem; queue = queue; bound = bound }) whole → Contains whole s →
-        IsList (record { problem = problem; queue = queue; bound = Some s }) rest → Resumes whole s rest }
+/// Where a sequence plays from a field without a cell at or above the height, the empty cells below the height have a
+/// tiling with as many pieces of each kind as the sequence.
+pub fn what_plays_leaves_a_tiling()
+    ensures { (table : Table) (mode : DropMode) (F : Field) (height : ℕ) (sequence : List Placement) → height ≤ 23 →
+        LiesBelow F height → Plays table mode F height sequence → Tiling F height (kinds_placed sequence) }
+{}
+
+/// Every prefix of a solution of a fit problem is live.
+pub fn prefixes_of_solutions_are_live()
+    ensures { (problem : Problem) (queue : Option (List Piece)) (prefix rest : List Placement) → IsFit problem →
+        IsSolution problem queue (prefix ++ rest) →
+        IsTrue (is_live_prefix (length rest) (root_of problem queue) prefix) }
 {}

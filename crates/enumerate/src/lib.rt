@@ -2,12 +2,10 @@
 #![tactic(auto)]
 
 mod advance;
-mod count;
 mod frame;
 pub mod laws;
 mod left;
 mod notes;
-mod problem;
 mod search;
 mod seek;
 mod start;
@@ -17,7 +15,5 @@ mod tests;
 mod tilings;
 mod turn;
 
-pub use count::needed;
-pub use problem::Problem;
-pub use search::{Search, Sequence};
-pub use turn::lies_below;
+pub use problem::{Problem, Sequence, lies_below, needed};
+pub use search::Search;

@@ -4,7 +4,7 @@ ghost use Rattle.srs.specs.Order.{sequence_cmp};
 ghost use Rattle.srs.specs.Rules.{table_of};
 ghost use Rattle.lists.specs.Rising.{is_above};
 ghost use Rattle.reach.specs.FloodRules.{flood_table};
-ghost use Rattle.enumerate.specs.Problem.{IsFit};
+ghost use Rattle.problem.specs.Problem.{IsFit};
 ghost use Rattle.enumerate.specs.Counted.{as_count};
 ghost use Rattle.enumerate.specs.Events.{found, floods};
 ghost use Rattle.enumerate.specs.Frames.{has_room};
@@ -13,14 +13,9 @@ ghost use Rattle.enumerate.specs.Rest.{events_from, whole_from};
 
 use crate::frame::Frame;
 use crate::notes::Notes;
-use crate::problem::Problem;
-use arrayvec::ArrayVec;
+use problem::{Problem, Sequence};
 use queue_pattern::Queue;
 use reach::FloodRules;
-use srs::Placement;
-
-/// The placements of a solution, the first one first.
-pub type Sequence = ArrayVec<Placement, 22>;
 
 /// A search for the solutions of a problem, in rising order.
 #[derive(Drop)]

@@ -1,6 +1,6 @@
 // A search whose first position has no tiling, and searches that are resumed.
 ghost use Rattle.std.specs.Prelude.{◌≡◌, ◌≤◌, ◌<◌};
-ghost use Rattle.enumerate.specs.Problem.{IsFit};
+ghost use Rattle.problem.specs.Problem.{IsFit};
 
 use crate::{Problem, Search, Sequence, needed};
 use hold_queue::Hold;
@@ -15,24 +15,12 @@ use std::sync::ledger::{Blank, Ledger};
 use well::Well;
 
 fn problem(rt: &impl Abort, rows: &[u8], height: u8, pattern: &str, hold: Hold) -> Problem
-    requires some { 1 ≤ height }
-    requires low { height ≤ 8 }
     ensures { IsFit result }
 {
     let well = Well::from_rows(rows).expect(rt, "a rows text");
     let pattern = Pattern::parse(pattern).expect(rt, "a pattern");
-    assert!(rt; well.lowest_filled_from(height).is_none());
-    assert!(rt; well.lowest_full().is_none());
-    assert!(rt; well.empties_below(height) / 4 <= pattern.len());
-    Problem {
-        well,
-        height,
-        pattern,
-        hold,
-        held: None,
-        drop_mode: DropMode::Soft,
-        rules: Rules::srs(),
-    }
+    let (drop_mode, rules) = (DropMode::Soft, Rules::srs());
+    Problem::new(well, height, pattern, hold, None, drop_mode, rules).expect(rt, "a fit problem")
 }
 
 /// Whether the first answer of a search is a solution, how many floods it made for it, and how many dead boards it then

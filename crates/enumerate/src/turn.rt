@@ -1,7 +1,6 @@
 // One turn of the search at a frame.
 ghost use Rattle.std.specs.Prelude.{◌≡◌, ℕ, ◌+◌, ◌-◌, ◌≤◌, IsTrue, MatchOption, Some, None, [], ◌∷◌, drop, filter, length, min, slice_index_or};
 ghost use Rattle.std.specs.Option.{ForSome};
-ghost use Rattle.srs.specs.Cells.{is_inside_of};
 ghost use Rattle.srs.specs.declared.piece.Piece.{Piece};
 ghost use Rattle.srs.specs.Piece.{all_pieces};
 ghost use Rattle.srs.specs.Kick.{Table};
@@ -32,7 +31,7 @@ use crate::tilings::Tilings;
 use moves::DropMode;
 use packing::Empties;
 use reach::{FloodRules, Places, Steps};
-use srs::{Piece, Placement, cells};
+use srs::{Piece, Placement};
 use std::sync::ledger::Ledger;
 use well::Well;
 
@@ -52,16 +51,6 @@ pub enum Turn {
     Full,
     /// Nothing is left at the frame.
     Over,
-}
-
-/// Whether each cell of a placement inside the well lies in a row below this one.
-pub fn lies_below(placement: &Placement, rows: u8) -> bool
-    requires { IsTrue (is_inside_of placement.now) }
-    ensures { result ≡ is_below rows placement.now }
-{
-    cells(placement)
-        .iter()
-        .all(|cell| i16::from(cell.1) < i16::from(rows))
 }
 
 /// The kind at an index from 0, in the order of codes. `None` exactly where there is none.

@@ -27,9 +27,9 @@ use Rattle.queue_pattern.specs.declared.pattern.Pattern.{Pattern}
 use Rattle.queue_pattern.specs.Grammar.{choice, elements, elements_from, limited}
 use Rattle.queue_pattern.specs.Pattern.{elements_of}
 use Rattle.queue_pattern.specs.Queues.{falling_factor, pieces_in, queue_count, queues}
-use Rattle.enumerate.specs.declared.problem.Problem.{Problem}
-use Rattle.enumerate.specs.Problem.{IsFit, needed_of}
-use Rattle.enumerate.specs.Search.{IsList}
+use Rattle.problem.specs.declared.problem.Problem.{Problem}
+use Rattle.problem.specs.Problem.{IsFit, needed_of}
+use Rattle.problem.specs.SolutionList.{IsList}
 use Rattle.moves.specs.declared.key.DropMode.{DropMode}
 use Rattle.moves.specs.declared.key.DropMode.TheVariants.{Soft}
 use Rattle.hold_queue.specs.declared.hold.Hold.{Hold}

@@ -6,8 +6,8 @@ use Rattle.srs.specs.declared.placement.Placement.{Placement}
 use Rattle.queue_pattern.specs.Pattern.{elements_of}
 use Rattle.queue_pattern.specs.Queues.{queues}
 use Rattle.hold_queue.specs.Permits.{permits}
-use Rattle.enumerate.specs.declared.problem.Problem.{Problem}
-use Rattle.enumerate.specs.Solution.{pieces_of}
+use Rattle.problem.specs.declared.problem.Problem.{Problem}
+use Rattle.problem.specs.Solution.{pieces_of}
 use Rattle.cover.specs.Covered.{PlaysIn}
 
 -- the kinds of one of these sequences, which clears the field

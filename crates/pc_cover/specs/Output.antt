@@ -5,7 +5,7 @@ use Rattle.srs.specs.declared.placement.Placement.{Placement}
 use Rattle.well.specs.Counts.{empties_below}
 use Rattle.queue_pattern.specs.Pattern.{elements_of}
 use Rattle.queue_pattern.specs.Queues.{queues}
-use Rattle.enumerate.specs.declared.problem.Problem.{Problem}
+use Rattle.problem.specs.declared.problem.Problem.{Problem}
 use Rattle.cover.specs.Covered.{IsCoveredList}
 use Rattle.pc_settings.specs.Request.{FieldRequest}
 use Rattle.pc_source.specs.FieldText.{IsFieldOf}

@@ -6,10 +6,10 @@ ghost use Rattle.pc_cover.specs.Given.{given_in, is_count, is_counted, is_digit,
 ghost use Rattle.pc_cover.specs.LineSteps.{ReadsLine, RefusesLine};
 ghost use Rattle.pc_cover.specs.Sequences.{listed_placements};
 
-use enumerate::Sequence;
 use page_list::first_line;
 use pc_faults::{CoverFault, CoverKind};
 use pc_outside::Refused;
+use problem::Sequence;
 use sequence_text::sequence_in;
 use std::alloc::Global;
 

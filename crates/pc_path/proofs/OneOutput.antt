@@ -16,10 +16,10 @@ use Rattle.well.specs.Well.{filled}
 use Rattle.queue_pattern.specs.Queues.{queues}
 use Rattle.queue_pattern.specs.Pattern.{elements_of}
 use Rattle.hold_queue.specs.Permits.{SomePermits}
-use Rattle.enumerate.specs.declared.problem.Problem.{Problem}
-use Rattle.enumerate.specs.Problem.{needed_of}
-use Rattle.enumerate.specs.Plays.{Plays}
-use Rattle.enumerate.specs.Solution.{IsSolution, pieces_of}
+use Rattle.problem.specs.declared.problem.Problem.{Problem}
+use Rattle.problem.specs.Problem.{needed_of}
+use Rattle.problem.specs.Plays.{Plays}
+use Rattle.problem.specs.Solution.{IsSolution, pieces_of}
 use Rattle.lane_board.specs.Field.{Field}
 use Rattle.sequence_text.proofs.CallerLemmas.{one_sequence}
 use Rattle.pc_settings.specs.Request.{FieldRequest}

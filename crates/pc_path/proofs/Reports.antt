@@ -8,9 +8,9 @@ use Rattle.std.specs.Prelude.{Contains}
 use Rattle.srs.specs.Rules.{table_of}
 use Rattle.lists.proofs.CallerLemmas.{Contains-here}
 use Rattle.well.specs.Well.{filled}
-use Rattle.enumerate.specs.declared.problem.Problem.{Problem}
-use Rattle.enumerate.specs.Plays.{Plays}
-use Rattle.enumerate.specs.Search.{View, IsList}
+use Rattle.problem.specs.declared.problem.Problem.{Problem}
+use Rattle.problem.specs.Plays.{Plays}
+use Rattle.problem.specs.SolutionList.{View, IsList}
 use Rattle.srs.specs.declared.placement.Placement.{Placement}
 use Rattle.report.specs.Forms.{tail_form, report_form}
 use Rattle.report.specs.declared.tail.Tail.TheVariants.{End, Limit}

@@ -6,7 +6,7 @@ use Rattle.std.proofs.lemmas.List.Concat.{flat_map-append}
 use Rattle.srs.specs.declared.placement.Placement.{Placement}
 use Rattle.pc_outside.specs.Writes.{Grows, GrowsByFront}
 use Rattle.pc_outside.specs.WriteLaws.{grows_more}
-use Rattle.enumerate.specs.declared.problem.Problem.{Problem}
+use Rattle.problem.specs.declared.problem.Problem.{Problem}
 use Rattle.enumerate.specs.declared.search.Search.{Search}
 use Rattle.enumerate.specs.ViewOf.{after_given, view_of, work}
 use Rattle.enumerate.specs.Work.{pairs}

@@ -9,11 +9,11 @@ use Rattle.lane_board.specs.Field.{Field}
 use Rattle.well.specs.Well.{filled}
 use Rattle.well.specs.Lock.{locked, rows_removed}
 use Rattle.moves.specs.declared.key.DropMode.{DropMode}
-use Rattle.enumerate.specs.declared.problem.Problem.{Problem}
-use Rattle.enumerate.specs.Plays.{Plays}
-use Rattle.enumerate.specs.Problem.{IsFit, needed_of}
-use Rattle.enumerate.specs.Solution.{IsSolution}
-use Rattle.enumerate.proofs.CallerLemmas.{long-needed}
+use Rattle.problem.specs.declared.problem.Problem.{Problem}
+use Rattle.problem.specs.Plays.{Plays}
+use Rattle.problem.specs.Problem.{IsFit, needed_of}
+use Rattle.problem.specs.Solution.{IsSolution}
+use Rattle.problem.proofs.CallerLemmas.{long-needed}
 use Rattle.well.proofs.CallerLemmas.{free_inside}
 use Rattle.moves.proofs.CallerLemmas.{place-free}
 use Rattle.report.specs.Forms.{KeysOf, key_part, keyed, line_form}

@@ -5,7 +5,7 @@ use Rattle.srs.specs.declared.placement.Placement.{Placement}
 use Rattle.srs.specs.Rules.{table_of}
 use Rattle.well.specs.Well.{filled}
 use Rattle.pc_outside.specs.declared.answers.Failed.{Failed}
-use Rattle.enumerate.specs.declared.problem.Problem.{Problem}
+use Rattle.problem.specs.declared.problem.Problem.{Problem}
 use Rattle.path_settings.specs.declared.format.Format.{Format}
 use Rattle.path_settings.specs.declared.format.Format.TheVariants.{Text, Fumen, Grid}
 use Rattle.pc_faults.specs.declared.status.Status.{Status}

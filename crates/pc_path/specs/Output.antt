@@ -4,10 +4,10 @@ use Rattle.lane_board.specs.Field.{Field}
 use Rattle.srs.specs.declared.placement.Placement.{Placement}
 use Rattle.srs.specs.Order.{sequence_cmp}
 use Rattle.lists.specs.Rising.{IsRisingListOf}
-use Rattle.enumerate.specs.declared.problem.Problem.{Problem}
+use Rattle.problem.specs.declared.problem.Problem.{Problem}
 use Rattle.enumerate.specs.Counted.{as_count}
-use Rattle.enumerate.specs.Problem.{needed_of}
-use Rattle.enumerate.specs.Search.{IsSolutionAbove}
+use Rattle.problem.specs.Problem.{needed_of}
+use Rattle.problem.specs.SolutionList.{IsSolutionAbove}
 use Rattle.report.specs.Forms.{floods_form, report_form}
 use Rattle.sequence_text.specs.Form.{Spells}
 use Rattle.pc_source.specs.FieldText.{IsFieldOf}

@@ -3,9 +3,9 @@ ghost use Rattle.std.specs.Prelude.{◌≡◌, ◌↔◌, ◌++◌, ℕ, Bool, t
 ghost use Rattle.srs.specs.declared.placement.Placement.{Placement};
 ghost use Rattle.srs.specs.Rules.{table_of};
 ghost use Rattle.well.specs.Well.{filled};
-ghost use Rattle.enumerate.specs.declared.problem.Problem.{Problem};
-ghost use Rattle.enumerate.specs.Problem.{IsFit, needed_of};
-ghost use Rattle.enumerate.specs.Solution.{IsSolution};
+ghost use Rattle.problem.specs.declared.problem.Problem.{Problem};
+ghost use Rattle.problem.specs.Problem.{IsFit, needed_of};
+ghost use Rattle.problem.specs.Solution.{IsSolution};
 ghost use Rattle.report.specs.Forms.{key_part, line_form};
 ghost use Rattle.sequence_text.specs.Form.{IsRefusedAt, Spells};
 ghost use Rattle.path_settings.specs.Request.{PathRequest};

@@ -3,7 +3,7 @@ ghost use Rattle.std.specs.Prelude.{◌≡◌, ◌≤◌, option_copied, None, S
 ghost use Rattle.std.specs.Option.{ForSome};
 ghost use Rattle.arrayvec.specs.ArrayVec.{array_vec_len};
 ghost use Rattle.well.specs.Well.{filled};
-ghost use Rattle.enumerate.specs.Problem.{IsFit, needed_of};
+ghost use Rattle.problem.specs.Problem.{IsFit, needed_of};
 ghost use Rattle.enumerate.specs.Items.{items_of};
 ghost use Rattle.kick_file.specs.Reading.{kick_text};
 ghost use Rattle.pc_problem.specs.Problem.{IsProblemOf};
@@ -11,10 +11,10 @@ ghost use Rattle.path_settings.specs.Views.{path_view};
 ghost use Rattle.pc_path.specs.Faults.{after_fault, listing_fault};
 ghost use Rattle.pc_path.specs.Output.{IsGiven};
 
-use enumerate::{Problem, Sequence};
 use path_settings::PathSettings;
 use pc_faults::Fault;
 use pc_problem::problem_of;
+use problem::{Problem, Sequence};
 use sequence_text::sequence_in;
 use well::Well;
 

@@ -21,12 +21,13 @@ ghost use Rattle.pc_path.specs.Writer.{format_of};
 
 use crate::listing::listing_of;
 use crate::writer::{FormWriter, as_line, line_status, write_solution, writer_for};
-use enumerate::{Problem, Search};
+use enumerate::Search;
 use key_path::Finder;
 use path_settings::{Format, PathSettings};
 use pc_faults::Status;
 use pc_outside::Sink;
 use pc_source::field;
+use problem::Problem;
 use reach::Steps;
 use report::{Tail, WriteFault, finder_for, write_floods, write_tail};
 use std::alloc::Global;

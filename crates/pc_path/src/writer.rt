@@ -4,16 +4,16 @@ ghost use Rattle.srs.specs.Rules.{table_of};
 ghost use Rattle.well.specs.Well.{filled};
 ghost use Rattle.pc_outside.specs.Counts.{HasCause};
 ghost use Rattle.pc_outside.specs.Writes.{WritesAll};
-ghost use Rattle.enumerate.specs.Plays.{Plays};
+ghost use Rattle.problem.specs.Plays.{Plays};
 ghost use Rattle.report.specs.WriteCause.{HasWriteCause};
 ghost use Rattle.pc_path.specs.Formats.{as_line, line_status, solution_form};
 ghost use Rattle.pc_path.specs.Writer.{format_of};
 
-use enumerate::{Problem, Sequence};
 use key_path::Finder;
 use path_settings::Format;
 use pc_faults::Status;
 use pc_outside::{Failed, NoMemory, Sink};
+use problem::{Problem, Sequence};
 use report::{FumenWriter, WriteFault, write_grid, write_line};
 use std::alloc::Global;
 

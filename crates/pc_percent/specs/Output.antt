@@ -4,7 +4,7 @@ use Rattle.lane_board.specs.Field.{Field}
 use Rattle.srs.specs.declared.piece.Piece.{Piece}
 use Rattle.queue_pattern.specs.Pattern.{elements_of}
 use Rattle.queue_pattern.specs.Queues.{queues}
-use Rattle.enumerate.specs.declared.problem.Problem.{Problem}
+use Rattle.problem.specs.declared.problem.Problem.{Problem}
 use Rattle.percent.specs.Good.{Good}
 use Rattle.pc_source.specs.FieldText.{IsFieldOf}
 use Rattle.pc_problem.specs.Problem.{IsProblemOf}

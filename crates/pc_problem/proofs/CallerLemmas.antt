@@ -8,7 +8,7 @@ use Rattle.kick_file.specs.declared.fault.KickFault.{KickFault}
 use Rattle.queue_pattern.specs.declared.element.Element.{Element}
 use Rattle.queue_pattern.specs.declared.fault.PatternFault.{PatternFault}
 use Rattle.queue_pattern.specs.Pattern.{elements_of}
-use Rattle.enumerate.specs.declared.problem.Problem.{Problem}
+use Rattle.problem.specs.declared.problem.Problem.{Problem}
 use Rattle.pc_faults.specs.Inner.{IsInner}
 use Rattle.pc_settings.specs.Request.{FieldRequest}
 use Rattle.pc_problem.specs.Faults.{full_row_fault, pattern_fault, problem_fault}

@@ -5,7 +5,7 @@ use Rattle.well.specs.Counts.{empties_below, lowest_full, lowest_filled_from}
 use Rattle.queue_pattern.specs.declared.element.Element.{Element}
 use Rattle.queue_pattern.specs.declared.fault.PatternFault.{PatternFault}
 use Rattle.queue_pattern.specs.Queues.{queue_len}
-use Rattle.enumerate.specs.Problem.{held_count}
+use Rattle.problem.specs.Problem.{held_count}
 use Rattle.pc_faults.specs.declared.fault.Fault.TheVariants as faults
 use Rattle.pc_faults.specs.Inner.{IsInner}
 use Rattle.pc_faults.proofs.CallerLemmas.{inner_first, inner_map, inner_test}

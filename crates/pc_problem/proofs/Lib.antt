@@ -1,3 +1,4 @@
 -- Lemmas of this crate.
 pub mod CallerLemmas
 mod InnerFaults
+mod ToldFaults

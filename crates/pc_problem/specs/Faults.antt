@@ -6,7 +6,7 @@ use Rattle.queue_pattern.specs.declared.element.Element.{Element}
 use Rattle.queue_pattern.specs.declared.fault.PatternFault.{PatternFault}
 use Rattle.queue_pattern.specs.Grammar.{elements, limited}
 use Rattle.queue_pattern.specs.Queues.{queue_len}
-use Rattle.enumerate.specs.Problem.{held_count}
+use Rattle.problem.specs.Problem.{held_count}
 use Rattle.pc_faults.specs.declared.fault.Fault.{Fault}
 use Rattle.pc_faults.specs.declared.fault.Fault.TheVariants as faults
 use Rattle.pc_faults.specs.FirstFault.{first_of_these}

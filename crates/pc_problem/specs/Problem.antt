@@ -4,7 +4,7 @@ use Rattle.lane_board.specs.Field.{Field}
 use Rattle.srs.specs.Rules.{table_of}
 use Rattle.well.specs.Well.{filled}
 use Rattle.queue_pattern.specs.Pattern.{elements_of}
-use Rattle.enumerate.specs.declared.problem.Problem.{Problem}
+use Rattle.problem.specs.declared.problem.Problem.{Problem}
 use Rattle.kick_file.specs.Reading.{kick_text}
 use Rattle.pc_settings.specs.Request.{FieldRequest}
 use Rattle.pc_problem.specs.Faults.{elements_asked}

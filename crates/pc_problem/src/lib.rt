@@ -1,6 +1,6 @@
 // From what is asked about a field to a problem that the search takes.
 #![tactic(auto)]
 
-mod problem;
+mod asked;
 
-pub use problem::{open_rows, pattern_of, problem_of};
+pub use asked::{open_rows, pattern_of, problem_of};

@@ -5,8 +5,8 @@ use Rattle.queue_pattern.specs.declared.element.Element.{Element}
 use Rattle.queue_pattern.specs.declared.fault.PatternFault.{PatternFault}
 use Rattle.queue_pattern.specs.Pattern.{elements_of}
 use Rattle.queue_pattern.specs.Queues.{queue_len}
-use Rattle.enumerate.specs.declared.problem.Problem.{Problem}
-use Rattle.enumerate.specs.Problem.{IsFit, empties_of, needed_of}
+use Rattle.problem.specs.declared.problem.Problem.{Problem}
+use Rattle.problem.specs.Problem.{IsFit, empties_of, needed_of}
 use Rattle.pc_selfrun.specs.Problem.{IsColumnProblem}
 use Rattle.pc_selfrun.proofs.ColumnFacts.{five_of_all, no_full_row, no_high_cell, pattern_read, sixteen_empty}
 

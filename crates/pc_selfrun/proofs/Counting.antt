@@ -2,7 +2,7 @@
 use Rattle.std.proofs.Common.{◌≡◌, ◌∙◌, ℕ, ◌+◌, ◌-◌, ◌<◌, ◌≤◌, ◌^◌, List, [], ◌∷◌, length, Some, refl, ap, arith}
 use Rattle.srs.specs.declared.placement.Placement.{Placement}
 use Rattle.enumerate.specs.declared.search.Search.{Search}
-use Rattle.enumerate.specs.Search.{View}
+use Rattle.problem.specs.SolutionList.{View}
 use Rattle.enumerate.specs.ViewOf.{after_given, solutions, view_of, work}
 use Rattle.enumerate.specs.Work.{pairs}
 

@@ -12,10 +12,10 @@ use Rattle.queue_pattern.specs.Pattern.{elements_of}
 use Rattle.queue_pattern.specs.Queues.{queues}
 use Rattle.hold_queue.specs.Permits.{SomePermits}
 use Rattle.sample_pages.specs.Pages.{column_drawn, sample_pages}
-use Rattle.enumerate.specs.declared.problem.Problem.{Problem}
-use Rattle.enumerate.specs.Plays.{Plays}
-use Rattle.enumerate.specs.Search.{IsList, IsSolutionAbove, View}
-use Rattle.enumerate.specs.Solution.{pieces_of}
+use Rattle.problem.specs.declared.problem.Problem.{Problem}
+use Rattle.problem.specs.Plays.{Plays}
+use Rattle.problem.specs.SolutionList.{IsList, IsSolutionAbove, View}
+use Rattle.problem.specs.Solution.{pieces_of}
 use Rattle.pc_selfrun.specs.Lines.{selfrun_form}
 use Rattle.pc_selfrun.specs.Output.{IsSelfrunOutput}
 use Rattle.pc_selfrun.specs.Problem.{IsColumnProblem}

@@ -4,8 +4,8 @@ use Rattle.srs.specs.declared.placement.Placement.{Placement}
 use Rattle.fumen_digits.specs.declared.dialect.Dialect.TheVariants.{V115}
 use Rattle.fumen_text.specs.Written.{written}
 use Rattle.sample_pages.specs.Pages.{column_drawn, sample_pages}
-use Rattle.enumerate.specs.declared.problem.Problem.{Problem}
-use Rattle.enumerate.specs.Search.{IsList}
+use Rattle.problem.specs.declared.problem.Problem.{Problem}
+use Rattle.problem.specs.SolutionList.{IsList}
 use Rattle.pc_selfrun.specs.Lines.{selfrun_form}
 use Rattle.pc_selfrun.specs.Problem.{IsColumnProblem}
 

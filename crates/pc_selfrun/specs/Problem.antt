@@ -8,7 +8,7 @@ use Rattle.queue_pattern.specs.Grammar.{elements, limited}
 use Rattle.queue_pattern.specs.Pattern.{elements_of}
 use Rattle.hold_queue.specs.declared.hold.Hold.TheVariants.{Allowed}
 use Rattle.moves.specs.declared.key.DropMode.TheVariants.{Soft}
-use Rattle.enumerate.specs.declared.problem.Problem.{Problem}
+use Rattle.problem.specs.declared.problem.Problem.{Problem}
 
 -- the four columns from this one on
 unfoldable pub is_left_open : ℕ → ℕ → Bool

@@ -1,7 +1,7 @@
 -- What `selfrun` adds to the counter of floods.
 use Rattle.std.specs.Prelude.{◌≡◌, ℕ, None}
 use Rattle.sample_pages.specs.Pages.{column_drawn}
-use Rattle.enumerate.specs.declared.problem.Problem.{Problem}
+use Rattle.problem.specs.declared.problem.Problem.{Problem}
 use Rattle.enumerate.specs.Work.{pairs}
 use Rattle.pc_faults.specs.declared.status.Status.{Status}
 use Rattle.pc_faults.specs.declared.status.Status.TheVariants.{NoMemory}

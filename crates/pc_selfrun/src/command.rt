@@ -5,9 +5,9 @@ ghost use Rattle.pc_source.specs.Sink.{sink_change};
 ghost use Rattle.pc_source.specs.Work.{Works};
 ghost use Rattle.pc_selfrun.specs.SelfrunTask.{selfrun_task};
 
+use crate::column::column_problem;
 use crate::count::count_solutions;
 use crate::lines::{Findings, write_findings};
-use crate::problem::column_problem;
 use crate::text::checked_text;
 use enumerate::Search;
 use pc_faults::Status;

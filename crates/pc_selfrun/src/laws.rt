@@ -4,8 +4,8 @@ ghost use Rattle.fumen_digits.specs.declared.dialect.Dialect.TheVariants.{V115};
 ghost use Rattle.fumen_text.specs.Texts.{ReadsAs};
 ghost use Rattle.fumen_text.specs.Written.{list_encode_fault, written};
 ghost use Rattle.sample_pages.specs.Pages.{column_drawn, sample_pages};
-ghost use Rattle.enumerate.specs.declared.problem.Problem.{Problem};
-ghost use Rattle.enumerate.specs.Problem.{IsFit};
+ghost use Rattle.problem.specs.declared.problem.Problem.{Problem};
+ghost use Rattle.problem.specs.Problem.{IsFit};
 ghost use Rattle.pc_selfrun.specs.Output.{IsSelfrunOutput};
 ghost use Rattle.pc_selfrun.specs.Problem.{IsColumnProblem};
 

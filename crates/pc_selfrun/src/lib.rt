@@ -2,11 +2,11 @@
 // problem that is drawn behind them.
 #![tactic(auto)]
 
+mod column;
 mod command;
 mod count;
 pub mod laws;
 mod lines;
-mod problem;
 mod text;
 
 pub use command::run_selfrun;

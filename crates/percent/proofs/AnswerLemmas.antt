@@ -13,8 +13,8 @@ use Rattle.queue_pattern.specs.Pattern.{elements_of}
 use Rattle.queue_pattern.specs.Queues.{queues}
 use Rattle.number_sets.specs.Rising.{has}
 use Rattle.number_sets.proofs.CallerLemmas.{has-none, has-push, has-there}
-use Rattle.enumerate.specs.declared.problem.Problem.{Problem}
-use Rattle.enumerate.specs.Problem.{IsFit, empties_of, needed_of}
+use Rattle.problem.specs.declared.problem.Problem.{Problem}
+use Rattle.problem.specs.Problem.{IsFit, empties_of, needed_of}
 use Rattle.percent.specs.Hands.{hand_of}
 use Rattle.percent.specs.GoodHands.{game_of, hand_at, HasGoodHands, HasHandsBefore, is_good, is_good_queue}
 use Rattle.percent.proofs.TestLemmas.{or_first, or_second}

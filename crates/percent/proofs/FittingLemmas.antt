@@ -18,7 +18,7 @@ use Rattle.packing.specs.Empties.{all_but, empty_cells}
 use Rattle.packing.proofs.CallerLemmas.{tiling_below}
 use Rattle.number_sets.specs.Rising.{IsRising, AllBelow, has}
 use Rattle.number_sets.proofs.CallerLemmas.{has-none, has-push, has-more, has-all, rising-none, rising-push, below-push, below-more}
-use Rattle.enumerate.proofs.CallerLemmas.{IsLow}
+use Rattle.problem.proofs.CallerLemmas.{IsLow}
 use Rattle.percent.specs.declared.game.Game.{Game}
 use Rattle.percent.specs.declared.position.Position.{Position}
 use Rattle.percent.specs.declared.fitting.Verdict.{Verdict}

@@ -20,13 +20,13 @@ use Rattle.hold_queue.specs.declared.hold.Hold.{Hold}
 use Rattle.hold_queue.specs.declared.hold.Hold.TheVariants.{Allowed, Avoided}
 use Rattle.hold_queue.specs.AtHand.{at_hand, Take, Takes, taken_from}
 use Rattle.hold_queue.proofs.CallerLemmas.{permits-of_takes, takes-of_permits, takes-is_cut}
-use Rattle.enumerate.specs.declared.problem.Problem.{Problem}
-use Rattle.enumerate.specs.Plays.{Plays}
-use Rattle.enumerate.specs.Problem.{IsFit, empties_of, needed_of}
-use Rattle.enumerate.specs.Solution.{pieces_of}
-use Rattle.enumerate.proofs.CallerLemmas.{IsLow, filled-low, locked-low, place-decides, long-needed, needed-exact, in_all_pieces}
+use Rattle.problem.specs.declared.problem.Problem.{Problem}
+use Rattle.problem.specs.Plays.{Plays}
+use Rattle.problem.specs.Problem.{IsFit, empties_of, needed_of}
+use Rattle.problem.specs.Solution.{pieces_of}
+use Rattle.problem.proofs.CallerLemmas.{IsLow, filled-low, locked-low, long-needed, needed-exact, in_all_pieces}
 use Rattle.well.proofs.CallerLemmas.{free_inside}
-use Rattle.moves.proofs.CallerLemmas.{place-free}
+use Rattle.moves.proofs.CallerLemmas.{is_place-decides as place-decides, place-free}
 use Rattle.percent.specs.declared.game.Game.{Game}
 use Rattle.percent.specs.Hands.{number_of, hand_of, allows_hold, takes, without_first, without_second}
 use Rattle.percent.specs.GoodHands.{reached_places, is_good, is_good_after, game_of, is_good_queue}

@@ -23,9 +23,8 @@ use Rattle.moves.specs.Place.{IsPlace}
 use Rattle.moves.specs.PlaceTest.{is_place}
 use Rattle.reach.specs.declared.held.Places.{Places}
 use Rattle.reach.specs.Places.{holds}
-use Rattle.enumerate.proofs.CallerLemmas.{place-decides}
 use Rattle.well.proofs.CallerLemmas.{free_inside}
-use Rattle.moves.proofs.CallerLemmas.{place-free}
+use Rattle.moves.proofs.CallerLemmas.{is_place-decides as place-decides, place-free}
 use Rattle.percent.specs.declared.game.Game.{Game}
 use Rattle.percent.specs.declared.position.Position.{Position}
 use Rattle.percent.specs.GoodHands.{reached_places, is_good, is_good_after, is_good_at}

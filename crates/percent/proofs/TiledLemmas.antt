@@ -17,8 +17,8 @@ use Rattle.hold_queue.specs.declared.hold.Hold.{Hold}
 use Rattle.prune.specs.Tiling.{Supply, Tiling}
 use Rattle.prune.specs.Laws.{kinds_placed, with_one}
 use Rattle.prune.proofs.CallerLemmas.{cleared_is_tiled, more_pieces, one_placement}
-use Rattle.enumerate.proofs.CallerLemmas.{IsLow, locked-low, place-decides}
-use Rattle.moves.proofs.CallerLemmas.{place-free}
+use Rattle.problem.proofs.CallerLemmas.{IsLow, locked-low}
+use Rattle.moves.proofs.CallerLemmas.{is_place-decides as place-decides, place-free}
 use Rattle.percent.specs.declared.game.Game.{Game}
 use Rattle.percent.specs.Hands.{allows_hold, takes, without_first, without_second}
 use Rattle.percent.specs.Fitting.{codes_in, supply_at}

@@ -5,9 +5,9 @@ use Rattle.srs.specs.declared.placement.Placement.{Placement}
 use Rattle.srs.specs.Rules.{table_of}
 use Rattle.well.specs.Well.{filled}
 use Rattle.hold_queue.specs.Permits.{Permits}
-use Rattle.enumerate.specs.declared.problem.Problem.{Problem}
-use Rattle.enumerate.specs.Plays.{Plays}
-use Rattle.enumerate.specs.Solution.{pieces_of}
+use Rattle.problem.specs.declared.problem.Problem.{Problem}
+use Rattle.problem.specs.Plays.{Plays}
+use Rattle.problem.specs.Solution.{pieces_of}
 
 -- some sequence plays in the problem, and the queue permits its pieces
 pub record Good (problem : Problem) (queue : List Piece) : Type 0 where

@@ -3,13 +3,13 @@ ghost use Rattle.std.specs.Prelude.{◌≡◌, ℕ, ◌≤◌, IfOk, count_by, l
 ghost use Rattle.queue_pattern.specs.Pattern.{elements_of};
 ghost use Rattle.queue_pattern.specs.Queues.{queues};
 ghost use Rattle.number_sets.specs.Rising.{IsRising};
-ghost use Rattle.enumerate.specs.Problem.{IsFit};
+ghost use Rattle.problem.specs.Problem.{IsFit};
 ghost use Rattle.percent.specs.GoodHands.{HasGoodHands, HasHandsBefore, is_good_queue};
 
 use crate::start::{good_hands, hand};
-use enumerate::Problem;
 use number_sets::{as_set, holds};
 use pc_outside::NoMemory;
+use problem::Problem;
 use reach::Steps;
 use std::alloc::Global;
 use std::sync::ledger::Ledger;

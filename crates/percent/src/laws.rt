@@ -1,8 +1,8 @@
 // Laws of the definitions: functions with an empty body, whose contract is the law.
 ghost use Rattle.std.specs.Prelude.{◌↔◌, IsTrue, List};
 ghost use Rattle.srs.specs.declared.piece.Piece.{Piece};
-ghost use Rattle.enumerate.specs.declared.problem.Problem.{Problem};
-ghost use Rattle.enumerate.specs.Problem.{IsFit};
+ghost use Rattle.problem.specs.declared.problem.Problem.{Problem};
+ghost use Rattle.problem.specs.Problem.{IsFit};
 ghost use Rattle.percent.specs.Good.{Good};
 ghost use Rattle.percent.specs.GoodHands.{is_good_queue};
 

@@ -5,8 +5,8 @@ ghost use Rattle.well.specs.LockLaws.{LiesBelow};
 
 use crate::game::Game;
 use crate::order::roughness;
-use enumerate::lies_below;
 use pc_outside::NoMemory;
+use problem::lies_below;
 use reach::{Steps, places};
 use srs::{Piece, Placement};
 use std::alloc::Global;

@@ -1,11 +1,11 @@
 // Each call once, over fields that one piece or a few clear.
 ghost use Rattle.std.specs.Prelude.{◌≡◌, ◌≤◌, ◌<◌};
-ghost use Rattle.enumerate.specs.Problem.{IsFit};
+ghost use Rattle.problem.specs.Problem.{IsFit};
 
 use crate::{Answers, rate, solvable};
-use enumerate::Problem;
 use hold_queue::Hold;
 use moves::DropMode;
+use problem::Problem;
 use queue_pattern::Pattern;
 use reach::Steps;
 use srs::Rules;

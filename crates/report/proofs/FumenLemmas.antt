@@ -9,7 +9,7 @@ use Rattle.well.specs.Lock.{locked, rows_removed}
 use Rattle.moves.specs.declared.key.Key.{Key}
 use Rattle.moves.specs.declared.key.DropMode.{DropMode}
 use Rattle.key_path.proofs.CallerLemmas.{named_is_short}
-use Rattle.enumerate.specs.Plays.{Plays}
+use Rattle.problem.specs.Plays.{Plays}
 use Rattle.well.proofs.CallerLemmas.{free_inside}
 use Rattle.moves.proofs.CallerLemmas.{place-free}
 use Rattle.fumen_digits.specs.declared.dialect.Dialect.TheVariants.{V115}

@@ -14,7 +14,7 @@ use Rattle.moves.specs.declared.key.Key.{Key}
 use Rattle.key_path.specs.LeastKeyWord.{least_key_word}
 use Rattle.lane_board.proofs.CallerLemmas.{cell_count-le}
 use Rattle.lane_board.specs.CellCount.{cell_count}
-use Rattle.enumerate.specs.Plays.{Plays}
+use Rattle.problem.specs.Plays.{Plays}
 use Rattle.well.proofs.CallerLemmas.{free_inside}
 use Rattle.moves.proofs.CallerLemmas.{place-free}
 use Rattle.sequence_text.specs.Written.{keyed_form, sequence_form, without_keys}

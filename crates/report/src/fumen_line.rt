@@ -4,7 +4,7 @@ ghost use Rattle.srs.specs.Cells.{is_inside_of};
 ghost use Rattle.srs.specs.Rules.{table_of};
 ghost use Rattle.well.specs.Well.{filled};
 ghost use Rattle.pc_outside.specs.Writes.{WritesAll};
-ghost use Rattle.enumerate.specs.Plays.{Plays};
+ghost use Rattle.problem.specs.Plays.{Plays};
 ghost use Rattle.moves.specs.Keys.{key_letter};
 ghost use Rattle.report.specs.Forms.{key_part};
 ghost use Rattle.fumen_digits.specs.declared.dialect.Dialect.TheVariants.{V115};
@@ -16,13 +16,13 @@ ghost use Rattle.report.specs.WriteCause.{HasWriteCause};
 
 use crate::grey::grey_cells;
 use crate::write_fault::WriteFault;
-use enumerate::{Problem, Sequence};
 use fumen_comment::Comment;
 use fumen_digits::Dialect;
 use fumen_pages::{Page, next_cells};
 use fumen_text::encode;
 use key_path::{Finder, KeyWord};
 use pc_outside::{NoMemory, Refused, Sink};
+use problem::{Problem, Sequence};
 use srs::Placement;
 use std::alloc::Global;
 

@@ -8,15 +8,15 @@ ghost use Rattle.srs.specs.SameCells.{is_among};
 ghost use Rattle.well.specs.Well.{filled};
 ghost use Rattle.pc_outside.specs.Counts.{HasCause};
 ghost use Rattle.pc_outside.specs.Writes.{WritesAll};
-ghost use Rattle.enumerate.specs.Plays.{Plays};
+ghost use Rattle.problem.specs.Plays.{Plays};
 ghost use Rattle.report.specs.Forms.{key_part};
 ghost use Rattle.report.specs.Grid.{grid_form, grid_letter, grid_pictures, grid_row, grid_rows};
 
 use crate::line::write_line;
 use arrayvec::ArrayVec;
-use enumerate::{Problem, Sequence};
 use key_path::Finder;
 use pc_outside::{Failed, Sink};
+use problem::{Problem, Sequence};
 use srs::{Placement, cells};
 use well::Well;
 

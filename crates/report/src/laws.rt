@@ -4,7 +4,7 @@ ghost use Rattle.lane_board.specs.Field.{Field};
 ghost use Rattle.srs.specs.declared.placement.Placement.{Placement};
 ghost use Rattle.srs.specs.Kick.{Table};
 ghost use Rattle.moves.specs.declared.key.DropMode.{DropMode};
-ghost use Rattle.enumerate.specs.Plays.{Plays};
+ghost use Rattle.problem.specs.Plays.{Plays};
 ghost use Rattle.fumen_digits.specs.declared.dialect.Dialect.TheVariants.{V115};
 ghost use Rattle.fumen_text.specs.Texts.{ReadsAs, empty_page, most_pages};
 ghost use Rattle.fumen_text.specs.Written.{written};

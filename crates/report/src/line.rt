@@ -7,16 +7,16 @@ ghost use Rattle.well.specs.Well.{filled};
 ghost use Rattle.pc_outside.specs.Counts.{HasCause};
 ghost use Rattle.pc_outside.specs.Writes.{GrowsByFront, WritesAll};
 ghost use Rattle.key_path.specs.LeastKeyWord.{least_key_word};
-ghost use Rattle.enumerate.specs.Plays.{Plays};
+ghost use Rattle.problem.specs.Plays.{Plays};
 ghost use Rattle.sequence_text.specs.Written.{keyed_form, sequence_form, without_keys};
 ghost use Rattle.report.specs.Forms.{key_part, line_form};
 ghost use Rattle.report.specs.HandsOn.{HandsOn};
 ghost use Rattle.report.specs.Played.{AreFree};
 
-use enumerate::{Problem, Sequence};
 use key_path::{Finder, KeyWord};
 use moves::DropMode;
 use pc_outside::{Failed, Sink};
+use problem::{Problem, Sequence};
 use sequence_text::{SequenceText, placement_with_keys, push, sequence_text};
 use srs::{Placement, Rules};
 use well::Well;

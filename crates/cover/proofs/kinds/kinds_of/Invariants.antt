@@ -1,6 +1,6 @@
 -- The kinds so far are those of the first placements.
 use Rattle.std.proofs.Common.{◌≡◌, take}
-use Rattle.enumerate.specs.Solution.{pieces_of}
+use Rattle.problem.specs.Solution.{pieces_of}
 use Rattle.cover.proofs.kinds.kinds_of.Given as goal
 
 abbrev pub invariant-placements : goal.invariant-placements

@@ -5,7 +5,7 @@ use Rattle.srs.specs.declared.placement.Placement.{Placement}
 use Rattle.srs.specs.declared.piece.Piece.TheVariants.{I}
 use Rattle.srs.specs.declared.rotation.Rotation.TheVariants.{Spawn}
 use Rattle.well.specs.Well.{filled}
-use Rattle.enumerate.proofs.CallerLemmas.{filled-low}
+use Rattle.problem.proofs.CallerLemmas.{filled-low}
 use Rattle.well.proofs.CallerLemmas.{free_inside}
 use Rattle.moves.proofs.CallerLemmas.{place-free}
 use Rattle.cover.proofs.PlayLemmas.{IsPlayed, played-starts, played-goes_on}

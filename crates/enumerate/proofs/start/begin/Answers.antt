@@ -6,7 +6,7 @@ use Rattle.reach.specs.FloodRules.{flood_table}
 use Rattle.enumerate.specs.Items.{items_of}
 use Rattle.enumerate.specs.Rest.{whole_from}
 use Rattle.enumerate.specs.Seeks.{IsFresh}
-use Rattle.enumerate.proofs.NeededCount.{needed-few}
+use Rattle.problem.proofs.CallerLemmas.{needed-few}
 use Rattle.enumerate.proofs.SearchLemmas.{first-fresh, first-read, first-room, first-skips, nothing-room, nothing-skips, skips-by, sought-skips, whole-first, whole-nothing, whole-sought}
 use Rattle.enumerate.proofs.Counting.{counts-none}
 use Rattle.enumerate.proofs.start.begin.Goals as goal

@@ -5,7 +5,7 @@ use Rattle.prune.specs.Tiling.{supply_in}
 use Rattle.enumerate.specs.Frames.{position_of}
 use Rattle.enumerate.specs.Items.{items_of}
 use Rattle.enumerate.specs.Position.{line_at, may_play}
-use Rattle.enumerate.proofs.Game.{filled-low}
+use Rattle.problem.proofs.CallerLemmas.{filled-low}
 use Rattle.enumerate.proofs.SearchLemmas.{first-position}
 use Rattle.enumerate.proofs.TilingLaws.{supplies-read}
 use Rattle.enumerate.proofs.start.first_frame.Goals as goal

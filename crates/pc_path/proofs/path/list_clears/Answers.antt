@@ -1,12 +1,12 @@
 -- The list is that of the search which was started.
 use Rattle.std.proofs.Common.{◌≡◌, ◌-◌, ◌<◌, ◌++◌, ◌∙◌, ℕ, List, [], Option, None, Result, Ok, Err, OnOk, OnErr, IsOk, length, drop, refl, ap, sym, subst, arith}
 use Rattle.lane_board.specs.Field.{Field}
-use Rattle.enumerate.specs.Search.{View, IsList}
+use Rattle.problem.specs.SolutionList.{View, IsList}
 use Rattle.enumerate.specs.ViewOf.{after_given, solutions, view_of, work}
 use Rattle.enumerate.specs.Items.{items_of}
-use Rattle.enumerate.specs.Problem.{needed_of}
+use Rattle.problem.specs.Problem.{needed_of}
 use Rattle.enumerate.specs.Work.{pairs}
-use Rattle.enumerate.specs.declared.problem.Problem.{Problem}
+use Rattle.problem.specs.declared.problem.Problem.{Problem}
 use Rattle.enumerate.specs.declared.search.Search.{Search}
 use Rattle.report.specs.Forms.{report_form}
 use Rattle.report.specs.declared.write_fault.WriteFault.{WriteFault}

@@ -3,7 +3,7 @@ use Rattle.std.proofs.Common.{◌≡◌, ◌+◌, ◌-◌, ◌≤◌, drop, leng
 use Rattle.std.specs.Prelude.{is_some}
 use Rattle.pc_outside.specs.Writes.{WritesAll}
 use Rattle.pc_outside.specs.WriteLaws.{after_piece, failed_piece, grows_nothing, last_call, at_err}
-use Rattle.enumerate.specs.Search.{View}
+use Rattle.problem.specs.SolutionList.{View}
 use Rattle.enumerate.specs.ViewOf.{after_given, solutions, view_of, work}
 use Rattle.report.specs.declared.tail.Tail.TheVariants.{End, Limit}
 use Rattle.report.specs.Forms.{tail_form}

@@ -4,10 +4,10 @@ use Rattle.fumen_digits.specs.declared.dialect.Dialect.TheVariants.{V115}
 use Rattle.fumen_pages.specs.declared.page.Page.{Page}
 use Rattle.fumen_text.specs.Written.{list_encode_fault, written}
 use Rattle.sample_pages.specs.Pages.{column_drawn, sample_pages}
-use Rattle.enumerate.specs.Search.{IsList}
+use Rattle.problem.specs.SolutionList.{IsList}
 use Rattle.enumerate.specs.ViewOf.{solutions, view_of}
 use Rattle.enumerate.specs.Work.{pairs}
-use Rattle.enumerate.specs.declared.problem.Problem.{Problem}
+use Rattle.problem.specs.declared.problem.Problem.{Problem}
 use Rattle.enumerate.specs.declared.search.Search.{Search}
 use Rattle.pc_source.specs.Sink.{sink_change}
 use Rattle.pc_source.proofs.CallerLemmas.{written_answers, written_works}

@@ -1,6 +1,6 @@
 -- The cells of a fit problem lie below its height.
 use Rattle.std.proofs.Common.{arith}
-use Rattle.enumerate.proofs.CallerLemmas.{filled-low}
+use Rattle.problem.proofs.CallerLemmas.{filled-low}
 use Rattle.percent.proofs.start.first_position.Goals as goal
 
 pub invariant_of-result : goal.invariant_of-result

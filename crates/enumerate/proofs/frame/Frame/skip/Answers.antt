@@ -7,9 +7,9 @@ use Rattle.well.specs.LockLaws.{is_below}
 use Rattle.moves.specs.PlaceTest.{is_place}
 use Rattle.hold_queue.specs.QueueSet.{queues_in_play}
 use Rattle.reach.specs.Places.{piece_of}
+use Rattle.moves.proofs.CallerLemmas.{is_place-decides}
 use Rattle.enumerate.specs.Frames.{places_left, position_of}
 use Rattle.enumerate.specs.Position.{may_play}
-use Rattle.enumerate.proofs.Game.{place-decides}
 use Rattle.enumerate.proofs.PlaceLaws.{place-lockable}
 use Rattle.enumerate.proofs.SkipLemmas.{dead-result, held-below, held-place, left-above, passes-kind, skips-dead, skips-entered, skips-same, skips-unplaced, unheld-place}
 use Rattle.enumerate.proofs.TurnLemmas.{may_play-answer}
@@ -56,7 +56,7 @@ unfolding position_of
 enter-requires-clause-lockable g c =
     let placed = held-place (position_of (flood_table c.args.rules.now) c.args.drop_mode c.args.self.now) c.args.target.now _ c.flood.ensures.places c.reaches-reached.result c.reaches-reached.ensures c.if-not-reached.false in
     place-lockable (flood_table c.args.rules.now) (filled c.flood.new.self.well) c.args.drop_mode c.args.target.now.piece c.args.target.now refl
-    ((place-decides (flood_table c.args.rules.now) (filled c.flood.new.self.well) c.args.drop_mode c.args.target.now).0
+    ((is_place-decides (flood_table c.args.rules.now) (filled c.flood.new.self.well) c.args.drop_mode c.args.target.now).0
     (subst (λ w. is_place (flood_table c.args.rules.now) (filled w) c.args.drop_mode c.args.target.now ≡ true) (sym c.flood.ensures.same.well) placed))
 
 pub enter-requires-clause-below : goal.enter-requires-clause-below

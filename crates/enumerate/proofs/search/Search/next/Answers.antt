@@ -9,8 +9,8 @@ use Rattle.enumerate.specs.Frames.{stacked}
 use Rattle.enumerate.specs.Items.{items_of}
 use Rattle.enumerate.specs.Rest.{events_from, whole_from}
 use Rattle.enumerate.specs.ViewOf.{after_given, events_to_come, solutions, view_of, whole_of, work}
-use Rattle.enumerate.specs.Search.{IsList}
-use Rattle.enumerate.proofs.ListLaws.{next-first, next-none}
+use Rattle.problem.specs.SolutionList.{IsList}
+use Rattle.problem.proofs.CallerLemmas.{next-first, next-none}
 use Rattle.enumerate.proofs.SearchFacts.{search-list}
 use Rattle.enumerate.proofs.SearchLemmas.{none-found, none-used, one-found}
 use Rattle.enumerate.proofs.SearchLists.{floods-within, listed-next, whole-floods}

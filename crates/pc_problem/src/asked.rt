@@ -1,0 +1,98 @@
+// The problem that the settings name about a field.
+ghost use Rattle.std.specs.Prelude.{◌≡◌, ◌≤◌, None, Some, Ok, IfOk, IfErr, IsOk, IsSome, OnOk};
+ghost use Rattle.well.specs.Well.{filled};
+ghost use Rattle.well.specs.Counts.{lowest_full};
+ghost use Rattle.queue_pattern.specs.Grammar.{elements, limited};
+ghost use Rattle.queue_pattern.specs.Pattern.{elements_of};
+ghost use Rattle.problem.specs.Problem.{IsFit};
+ghost use Rattle.kick_file.specs.Reading.{kick_text};
+ghost use Rattle.pc_settings.specs.Views.{field_view};
+ghost use Rattle.pc_problem.specs.Faults.{filled_rows_fault, full_row_fault, pattern_fault, problem_fault};
+ghost use Rattle.pc_problem.specs.Problem.{IsProblemOf};
+ghost use Rattle.pc_problem.specs.Told;
+
+use kick_file::spelled;
+use pc_faults::Fault;
+use pc_settings::FieldSettings;
+use problem::{Problem, ProblemFault, check_field};
+use queue_pattern::Pattern;
+use well::Well;
+
+/// The program's fault for one of a problem whose height is 1 to 8.
+fn told(fault: ProblemFault) -> Fault
+    requires { IsSome (Told.told fault) }
+    ensures { Told.told fault ≡ Some result }
+{
+    match fault {
+        ProblemFault::BadHeight { .. } => unreachable!(),
+        ProblemFault::FieldTooHigh { row } => Fault::FieldTooHigh { row },
+        ProblemFault::FullRow { row } => Fault::FullRow { row },
+        ProblemFault::TooFewPieces { have, need } => Fault::TooFewPieces { have, need },
+    }
+}
+
+/// The field has no cell at or above the height and no full row.
+#[tactic(auto, unfolding(crate::specs::Faults::filled_rows_fault))]
+fn rows(well: &Well, height: u8) -> Result<(), Fault>
+    requires least { 1 ≤ height }
+    requires most { height ≤ 8 }
+    ensures fault { IfErr result (λ fault. filled_rows_fault (filled well.now) height ≡ Some fault) }
+    ensures none { OnOk result (filled_rows_fault (filled well.now) height ≡ None) }
+{
+    match check_field(well, height) {
+        Ok(()) => Ok(()),
+        Err(fault) => Err(told(fault)),
+    }
+}
+
+/// The field has no full row. The fault names the lowest one.
+pub fn open_rows(well: &Well) -> Result<(), Fault>
+    ensures fault { IfErr result (λ fault. full_row_fault (filled well.now) ≡ Some fault) }
+    ensures none { OnOk result (full_row_fault (filled well.now) ≡ None) }
+    ensures open_rows { OnOk result (lowest_full (filled well.now) ≡ None) }
+{
+    match well.lowest_full() {
+        Some(row) => Err(Fault::FullRow { row }),
+        None => Ok(()),
+    }
+}
+
+/// The pattern that a text is of, or its first fault.
+pub fn pattern_of(text: &str) -> Result<Pattern, Fault>
+    ensures fault { IfErr result (λ fault. pattern_fault (limited (elements text.now)) ≡ Some fault) }
+    ensures pattern { IfOk result (λ pattern. limited (elements text.now) ≡ Ok (elements_of pattern)) }
+{
+    match Pattern::parse(text) {
+        Ok(pattern) => Ok(pattern),
+        Err(fault) => Err(Fault::Pattern(fault)),
+    }
+}
+
+/// The problem that the settings name about a field, or the first fault of what they name: a cell at or above the
+/// height, a full row, the pattern, too few pieces at hand.
+#[tactic(auto, unfolding(crate::specs::Faults::problem_fault))]
+pub fn problem_of(well: Well, settings: &FieldSettings<'_>) -> Result<Problem, Fault>
+    requires least { 1 ≤ settings.now.height }
+    requires most { settings.now.height ≤ 8 }
+    requires spelled { IsOk (kick_text settings.now.kicks.now) }
+    ensures fault { IfErr result (λ fault. problem_fault (field_view settings.now) (filled well) ≡ Some fault) }
+    ensures none { OnOk result (problem_fault (field_view settings.now) (filled well) ≡ None) }
+    ensures problem { IfOk result (λ problem. IsProblemOf (field_view settings.now) (filled well) problem) }
+    ensures fit { IfOk result (λ problem. IsFit problem) }
+{
+    rows(&well, settings.height)?;
+    let pattern = pattern_of(settings.patterns)?;
+    let problem = Problem::new(
+        well,
+        settings.height,
+        pattern,
+        settings.hold,
+        settings.held,
+        settings.drop_mode,
+        spelled(settings.kicks),
+    );
+    match problem {
+        Ok(problem) => Ok(problem),
+        Err(fault) => Err(told(fault)),
+    }
+}

@@ -1,0 +1,6 @@
+-- What a reader must believe.
+pub mod Plays
+pub mod Problem
+pub mod Faults
+pub mod Solution
+pub mod SolutionList

@@ -1,0 +1,36 @@
+-- Which problems have a meaning, and how many placements each solution of one has.
+use Rattle.std.specs.Prelude.{◌≡◌, ℕ, ◌+◌, ◌/◌, ◌%◌, ◌≤◌, Option, Some, None}
+use Rattle.well.specs.Well.{filled}
+use Rattle.well.specs.Counts.{empties_below, lowest_full, lowest_filled_from}
+use Rattle.queue_pattern.specs.Pattern.{elements_of}
+use Rattle.queue_pattern.specs.Queues.{queue_len}
+use Rattle.srs.specs.declared.piece.Piece.{Piece}
+use Rattle.hold_queue.specs.declared.hold.Hold.{Hold}
+use Rattle.hold_queue.specs.declared.hold.Hold.TheVariants.{Allowed}
+use Rattle.problem.specs.declared.problem.Problem.{Problem}
+
+-- a piece held at the start may be played where hold is allowed
+abbrev pub held_count : Hold → Option Piece → ℕ
+held_count Allowed (Some piece) = 1
+held_count _ _ = 0
+
+-- the pieces of a queue and, where it may be played, the held one
+abbrev pub pieces_at_hand : Problem → ℕ
+pieces_at_hand problem = queue_len (elements_of problem.pattern) + held_count problem.hold problem.held
+
+-- the empty cells below the height
+abbrev pub empties_of : Problem → ℕ
+empties_of problem = empties_below (filled problem.well) problem.height
+
+-- a quarter of them, rounded down
+abbrev pub needed_of : Problem → ℕ
+needed_of problem = empties_of problem / 4
+
+-- The height is 1 to 8, no cell lies at or above it, no row is full, and where the empty cells are a multiple of four
+-- there are enough pieces.
+pub record IsFit (problem : Problem) : Type 0 where
+  pub some : 1 ≤ problem.height
+  pub low : problem.height ≤ 8
+  pub below : lowest_filled_from (filled problem.well) problem.height ≡ None
+  pub open_rows : lowest_full (filled problem.well) ≡ None
+  pub enough : empties_of problem % 4 ≡ 0 → needed_of problem ≤ pieces_at_hand problem
