@@ -22,7 +22,7 @@ pub fn show_page<O: Sink>(out: &mut O, number: u32, page: &Page) -> Result<(), F
     requires colours { All IsColour page.now.cells }
     requires inside { ForSome page.now.operation (λ placement. IsTrue (is_inside_of placement)) }
     ensures written { WritesAll (O.written out.old) (O.written out.new) result (shown_page number page.now) }
-    ensures cause { HasCause (O.faults out.old) (O.faults out.new) result }
+    ensures cause { HasCause O.counts_failures_alone (O.faults out.old) (O.faults out.new) result }
 {
     write_title(out, number)?;
     write_rows(out, &shown_letters(page))
@@ -30,7 +30,7 @@ pub fn show_page<O: Sink>(out: &mut O, number: u32, page: &Page) -> Result<(), F
 
 fn write_title<O: Sink>(out: &mut O, number: u32) -> Result<(), Failed>
     ensures written { WritesAll (O.written out.old) (O.written out.new) result (title_line number) }
-    ensures cause { HasCause (O.faults out.old) (O.faults out.new) result }
+    ensures cause { HasCause O.counts_failures_alone (O.faults out.old) (O.faults out.new) result }
 {
     let mut digits = Buffer::new();
     write_pieces(out, &[b"page ", digits.format(number).as_bytes(), b"\n"])
@@ -52,7 +52,7 @@ fn shown_letters(page: &Page) -> [u8; 240]
 /// The rows from the highest one that isn't blank down to row 0, and the garbage row.
 fn write_rows<O: Sink>(out: &mut O, letters: &[u8; 240]) -> Result<(), Failed>
     ensures written { WritesAll (O.written out.old) (O.written out.new) result (rows_lines letters.now) }
-    ensures cause { HasCause (O.faults out.old) (O.faults out.new) result }
+    ensures cause { HasCause O.counts_failures_alone (O.faults out.old) (O.faults out.new) result }
 {
     write_shown(out, letters)?;
     write_row(out, letters, 23)
@@ -62,7 +62,7 @@ fn write_rows<O: Sink>(out: &mut O, letters: &[u8; 240]) -> Result<(), Failed>
 fn write_shown<O: Sink>(out: &mut O, letters: &[u8; 240]) -> Result<(), Failed>
     ensures written { WritesAll (O.written out.old) (O.written out.new) result
         (flat_map row_line (shown_rows letters.now)) }
-    ensures cause { HasCause (O.faults out.old) (O.faults out.new) result }
+    ensures cause { HasCause O.counts_failures_alone (O.faults out.old) (O.faults out.new) result }
 {
     for index in first_shown(letters)..23 {
         write_row(out, letters, index)?;
@@ -74,7 +74,7 @@ fn write_row<O: Sink>(out: &mut O, letters: &[u8; 240], index: usize) -> Result<
     requires { index < 24 }
     ensures written { WritesAll (O.written out.old) (O.written out.new) result
         (row_line (take 10 (drop (10 * index) letters.now))) }
-    ensures cause { HasCause (O.faults out.old) (O.faults out.new) result }
+    ensures cause { HasCause O.counts_failures_alone (O.faults out.old) (O.faults out.new) result }
 {
     write_pieces(out, &[row(letters, index), b"\n"])
 }

@@ -228,7 +228,7 @@ sink_left task bytes sink Kept floods same SinkFault a = a.rose
 sink_left task bytes sink Kept floods same NoMemory a = (
   a.first,
   elim a.ended [
-    | inl kept ↦ same kept
+    | inl kept ↦ λ _. same kept
     | inr ended ↦ ended.kept
   ],
 )

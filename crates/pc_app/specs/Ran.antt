@@ -18,8 +18,8 @@ Ran task bytes sink Kept floods NoMemory =
 
 -- what holds of the sink whatever the source tells
 abbrev pub LeavesSink : Task → SinkChange → Type 0 → Status → Type 0
-LeavesSink task sink Kept Done = sink.now ≡ sink.before
+LeavesSink task sink Kept Done = sink.alone ≡ true → sink.now ≡ sink.before
 LeavesSink task sink Kept (Input found) = Kept
 LeavesSink task sink Kept SourceFault = Kept
 LeavesSink task sink Kept SinkFault = Rose sink.before sink.now
-LeavesSink task sink Kept NoMemory = (task.memory_first ≡ true → Kept) × (sink.now ≡ sink.before)
+LeavesSink task sink Kept NoMemory = (task.memory_first ≡ true → Kept) × (sink.alone ≡ true → sink.now ≡ sink.before)

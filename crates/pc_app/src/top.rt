@@ -55,11 +55,13 @@ fn answer<S: Source, O: Sink, L: Ledger>(
     steps: &mut Steps<L>,
 ) -> Status
     ensures ran { let task = task_of (texts words.now) in
-        let sink = sink_change (O.written out.old) (O.written out.new) (O.faults out.old) (O.faults out.new) in
+        let sink = sink_change O.counts_failures_alone (O.written out.old) (O.written out.new)
+            (O.faults out.old) (O.faults out.new) in
         ForBytes task (S.left source.old)
         (λ bytes. Ran task bytes sink (out.new ≡ out.old) (steps.new - steps.old) result) }
     ensures sink { let task = task_of (texts words.now) in
-        let sink = sink_change (O.written out.old) (O.written out.new) (O.faults out.old) (O.faults out.new) in
+        let sink = sink_change O.counts_failures_alone (O.written out.old) (O.written out.new)
+            (O.faults out.old) (O.faults out.new) in
         LeavesSink task sink (out.new ≡ out.old) result }
     ensures words_fault { (fault : WordsFault) → result ≡ Status.Input (Fault.Words fault)
         → request_in (texts words.now) ≡ Err fault }
@@ -68,9 +70,11 @@ fn answer<S: Source, O: Sink, L: Ledger>(
     ensures source { LeavesSource (reads_source (task_of (texts words.now)))
         (S.left source.old) (S.left source.new) (source.new ≡ source.old) result }
     ensures source_rose { result ≡ Status.SourceFault → Rose (S.faults source.old) (S.faults source.new) }
-    ensures source_kept { result ≢ Status.SourceFault → S.faults source.new ≡ S.faults source.old }
+    ensures source_kept { S.counts_failures_alone ≡ true → result ≢ Status.SourceFault
+        → S.faults source.new ≡ S.faults source.old }
     ensures work { let task = task_of (texts words.now) in
-        let sink = sink_change (O.written out.old) (O.written out.new) (O.faults out.old) (O.faults out.new) in
+        let sink = sink_change O.counts_failures_alone (O.written out.old) (O.written out.new)
+            (O.faults out.old) (O.faults out.new) in
         ForSomeBytes task (S.left source.old)
         (λ bytes. Works task (first_fault task bytes) bytes sink (steps.new - steps.old) result) }
     ensures rose { steps.old ≤ steps.new }
@@ -101,7 +105,8 @@ pub fn run<S: Source, O: Sink, E: Sink, L: Ledger>(
     steps: &mut Steps<L>,
 ) -> Status
     ensures done { let task = task_of (texts words.now) in
-        let sink = sink_change (O.written out.old) (O.written out.new) (O.faults out.old) (O.faults out.new) in
+        let sink = sink_change O.counts_failures_alone (O.written out.old) (O.written out.new)
+            (O.faults out.old) (O.faults out.new) in
         result ≡ Status.Done → ForBytes task (S.left source.old)
         (λ bytes. Wrote (task.IsOutput bytes (steps.new - steps.old)) sink) }
     ensures no_fault { let task = task_of (texts words.now) in
@@ -128,7 +133,8 @@ pub fn run<S: Source, O: Sink, E: Sink, L: Ledger>(
     ensures source_fault { result ≡ Status.SourceFault → Rose (S.faults source.old) (S.faults source.new)
         × (out.new ≡ out.old) × (steps.new ≡ steps.old) }
     ensures sink_fault { let task = task_of (texts words.now) in
-        let sink = sink_change (O.written out.old) (O.written out.new) (O.faults out.old) (O.faults out.new) in
+        let sink = sink_change O.counts_failures_alone (O.written out.old) (O.written out.new)
+            (O.faults out.old) (O.faults out.new) in
         result ≡ Status.SinkFault → ForBytes task (S.left source.old)
         (λ bytes. FailedAfterFront (first_fault task bytes) (task.IsOutput bytes (steps.new - steps.old)) sink) }
     ensures sink_rose { result ≡ Status.SinkFault → Rose (O.faults out.old) (O.faults out.new) }
@@ -140,10 +146,13 @@ pub fn run<S: Source, O: Sink, E: Sink, L: Ledger>(
         → (result ≡ Status.Done) ⊎ (result ≡ Status.NoMemory)) }
     ensures source { LeavesSource (reads_source (task_of (texts words.now)))
         (S.left source.old) (S.left source.new) (source.new ≡ source.old) result }
-    ensures source_kept { result ≢ Status.SourceFault → S.faults source.new ≡ S.faults source.old }
-    ensures sink_kept { result ≢ Status.SinkFault → O.faults out.new ≡ O.faults out.old }
+    ensures source_kept { S.counts_failures_alone ≡ true → result ≢ Status.SourceFault
+        → S.faults source.new ≡ S.faults source.old }
+    ensures sink_kept { O.counts_failures_alone ≡ true → result ≢ Status.SinkFault
+        → O.faults out.new ≡ O.faults out.old }
     ensures work { let task = task_of (texts words.now) in
-        let sink = sink_change (O.written out.old) (O.written out.new) (O.faults out.old) (O.faults out.new) in
+        let sink = sink_change O.counts_failures_alone (O.written out.old) (O.written out.new)
+            (O.faults out.old) (O.faults out.new) in
         ForSomeBytes task (S.left source.old)
         (λ bytes. Works task (first_fault task bytes) bytes sink (steps.new - steps.old) result) }
     ensures rose { steps.old ≤ steps.new }

@@ -32,7 +32,8 @@ pub fn exit_code<S: Source, O: Sink, E: Sink, L: Ledger>(
 ) -> u8
     ensures status { IsExitStatus result }
     ensures done { let task = task_of (texts words.now) in
-        let sink = sink_change (O.written out.old) (O.written out.new) (O.faults out.old) (O.faults out.new) in
+        let sink = sink_change O.counts_failures_alone (O.written out.old) (O.written out.new)
+            (O.faults out.old) (O.faults out.new) in
         result ≡ 0 → ForBytes task (S.left source.old)
         (λ bytes. Wrote (task.IsOutput bytes (steps.new - steps.old)) sink) }
     ensures no_fault { let task = task_of (texts words.now) in
@@ -51,20 +52,22 @@ pub fn exit_code<S: Source, O: Sink, E: Sink, L: Ledger>(
         → EndsByCode task.needs result × (out.new ≡ out.old) × (steps.new ≡ steps.old)) }
     ensures source { result ≡ 3 → Rose (S.faults source.old) (S.faults source.new)
         × (out.new ≡ out.old) × (steps.new ≡ steps.old) }
-    ensures source_kept { result ≢ 3 → S.faults source.new ≡ S.faults source.old }
+    ensures source_kept { S.counts_failures_alone ≡ true → result ≢ 3 → S.faults source.new ≡ S.faults source.old }
     ensures sink { let task = task_of (texts words.now) in
-        let sink = sink_change (O.written out.old) (O.written out.new) (O.faults out.old) (O.faults out.new) in
+        let sink = sink_change O.counts_failures_alone (O.written out.old) (O.written out.new)
+            (O.faults out.old) (O.faults out.new) in
         result ≡ 4 → ForBytes task (S.left source.old)
         (λ bytes. FailedAfterFront (first_fault task bytes) (task.IsOutput bytes (steps.new - steps.old)) sink) }
     ensures sink_rose { result ≡ 4 → Rose (O.faults out.old) (O.faults out.new) }
-    ensures sink_kept { result ≢ 4 → O.faults out.new ≡ O.faults out.old }
+    ensures sink_kept { O.counts_failures_alone ≡ true → result ≢ 4 → O.faults out.new ≡ O.faults out.old }
     ensures no_memory { (task_of (texts words.now)).memory_first ≡ true → result ≡ 5 → out.new ≡ out.old }
     ensures complete { let task = task_of (texts words.now) in
         ForBytes task (S.left source.old) (λ bytes. first_fault task bytes ≡ None
         → (Rose (S.faults source.old) (S.faults source.new) → ⊥) → (Rose (O.faults out.old) (O.faults out.new) → ⊥)
         → (result ≡ 0) ⊎ (result ≡ 5)) }
     ensures left { let task = task_of (texts words.now) in
-        let sink = sink_change (O.written out.old) (O.written out.new) (O.faults out.old) (O.faults out.new) in
+        let sink = sink_change O.counts_failures_alone (O.written out.old) (O.written out.new)
+            (O.faults out.old) (O.faults out.new) in
         HasStatus result (λ status. LeavesSource (reads_source task)
         (S.left source.old) (S.left source.new) (source.new ≡ source.old) status
         × ForSomeBytes task (S.left source.old)

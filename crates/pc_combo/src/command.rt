@@ -36,7 +36,7 @@ use well::Well;
 #[tactic(auto, unfolding(crate::specs::Output::count_form))]
 fn write_count<O: Sink>(out: &mut O, count: usize) -> Result<(), Failed>
     ensures written { WritesAll (O.written out.old) (O.written out.new) result (count_form count) }
-    ensures cause { HasCause (O.faults out.old) (O.faults out.new) result }
+    ensures cause { HasCause O.counts_failures_alone (O.faults out.old) (O.faults out.new) result }
 {
     let mut digits = Buffer::new();
     write_pieces(out, &[b"combo ", digits.format(count).as_bytes(), b"\n"])
@@ -54,7 +54,7 @@ fn write_line<O: Sink>(
     requires { Runs (table_of rules.now) drop_mode (filled well.now) run.now }
     ensures written { WritesAll (O.written out.old) (O.written out.new) result
         (run_form (key_part (is_some finder.old) (table_of rules.now) drop_mode) (filled well.now) run.now) }
-    ensures cause { HasCause (O.faults out.old) (O.faults out.new) result }
+    ensures cause { HasCause O.counts_failures_alone (O.faults out.old) (O.faults out.new) result }
 {
     match finder {
         Some(finder) => write_run(out, well, rules, drop_mode, run, Some(finder)),
@@ -74,7 +74,7 @@ fn write_lines<O: Sink>(
     requires { Runs (table_of rules.now) drop_mode (filled well.now) run.now }
     ensures written { WritesAll (O.written out.old) (O.written out.new) result
         (combo_form (key_part (is_some finder.old) (table_of rules.now) drop_mode) (filled well.now) run.now) }
-    ensures cause { HasCause (O.faults out.old) (O.faults out.new) result }
+    ensures cause { HasCause O.counts_failures_alone (O.faults out.old) (O.faults out.new) result }
 {
     write_line(out, well, rules, drop_mode, run, finder)?;
     write_count(out, run.len())
@@ -91,12 +91,13 @@ pub fn run_combo<O: Sink, L: Ledger>(
 ) -> Status
     requires page { 1 ≤ (combo_view settings.now).page }
     requires spelled { IsOk (kick_text (combo_view settings.now).kicks) }
-    ensures answers { let sink = sink_change (O.written out.old) (O.written out.new)
-        (O.faults out.old) (O.faults out.new) in
+    ensures answers { let sink = sink_change O.counts_failures_alone (O.written out.old) (O.written out.new)
+            (O.faults out.old) (O.faults out.new) in
         IsAnswered (combo_task (combo_view settings.now)) bytes.now sink (out.new ≡ out.old)
         (steps.new - steps.old) result }
     ensures works { let task = combo_task (combo_view settings.now) in
-        let sink = sink_change (O.written out.old) (O.written out.new) (O.faults out.old) (O.faults out.new) in
+        let sink = sink_change O.counts_failures_alone (O.written out.old) (O.written out.new)
+            (O.faults out.old) (O.faults out.new) in
         Works task (task.fault bytes.now) bytes.now sink (steps.new - steps.old) result }
     ensures counted { steps.old ≤ steps.new }
 {
@@ -115,12 +116,13 @@ fn write_longest<O: Sink, L: Ledger>(
     steps: &mut Steps<L>,
 ) -> Status
     requires { IsOk (kick_text (combo_view settings.now).kicks) }
-    ensures answers { let sink = sink_change (O.written out.old) (O.written out.new)
-        (O.faults out.old) (O.faults out.new) in
+    ensures answers { let sink = sink_change O.counts_failures_alone (O.written out.old) (O.written out.new)
+            (O.faults out.old) (O.faults out.new) in
         IsAnswered (run_task (combo_view settings.now) (filled well.now)) [] sink (out.new ≡ out.old)
         (steps.new - steps.old) result }
     ensures works { let task = run_task (combo_view settings.now) (filled well.now) in
-        let sink = sink_change (O.written out.old) (O.written out.new) (O.faults out.old) (O.faults out.new) in
+        let sink = sink_change O.counts_failures_alone (O.written out.old) (O.written out.new)
+            (O.faults out.old) (O.faults out.new) in
         Works task (task.fault []) [] sink (steps.new - steps.old) result }
     ensures counted { steps.old ≤ steps.new }
 {

@@ -38,7 +38,7 @@ fn write_answers<O: Sink>(out: &mut O, problem: &Problem, set: &CoverSet) -> Res
     requires { kept_problem set.now ≡ problem.now }
     ensures written { WritesAll (O.written out.old) (O.written out.new) result
         (cover_form (queues (elements_of problem.now.pattern)) (numbers_from problem.now (lists_of set.now) 0)) }
-    ensures cause { HasCause (O.faults out.old) (O.faults out.new) result }
+    ensures cause { HasCause O.counts_failures_alone (O.faults out.old) (O.faults out.new) result }
 {
     let good = write_covered(out, problem, set)?;
     write_numbers(out, problem.pattern.count(), good)
@@ -56,12 +56,13 @@ pub fn run_cover<O: Sink, L: Ledger>(
     requires range { IsInRange (field_view settings.now) }
     requires spelled { IsOk (kick_text (field_view settings.now).kicks) }
     requires short { length bytes.now ≤ most_bytes }
-    ensures answers { let sink = sink_change (O.written out.old) (O.written out.new)
-        (O.faults out.old) (O.faults out.new) in
+    ensures answers { let sink = sink_change O.counts_failures_alone (O.written out.old) (O.written out.new)
+            (O.faults out.old) (O.faults out.new) in
         IsAnswered (cover_task (field_view settings.now)) bytes.now sink (out.new ≡ out.old)
         (steps.new - steps.old) result }
     ensures works { let task = cover_task (field_view settings.now) in
-        let sink = sink_change (O.written out.old) (O.written out.new) (O.faults out.old) (O.faults out.new) in
+        let sink = sink_change O.counts_failures_alone (O.written out.old) (O.written out.new)
+            (O.faults out.old) (O.faults out.new) in
         Works task (task.fault bytes.now) bytes.now sink (steps.new - steps.old) result }
     ensures counted { steps.old ≤ steps.new }
 {
@@ -93,12 +94,13 @@ fn cover_all<O: Sink, L: Ledger>(
     requires range { IsInRange (field_view settings.now) }
     requires spelled { IsOk (kick_text (field_view settings.now).kicks) }
     requires short { length bytes.now ≤ most_bytes }
-    ensures answers { let sink = sink_change (O.written out.old) (O.written out.new)
-        (O.faults out.old) (O.faults out.new) in
+    ensures answers { let sink = sink_change O.counts_failures_alone (O.written out.old) (O.written out.new)
+            (O.faults out.old) (O.faults out.new) in
         IsAnswered (covering_task (field_view settings.now) (filled well)) bytes.now sink (out.new ≡ out.old)
         (steps.new - steps.old) result }
     ensures works { let task = covering_task (field_view settings.now) (filled well) in
-        let sink = sink_change (O.written out.old) (O.written out.new) (O.faults out.old) (O.faults out.new) in
+        let sink = sink_change O.counts_failures_alone (O.written out.old) (O.written out.new)
+            (O.faults out.old) (O.faults out.new) in
         Works task (task.fault bytes.now) bytes.now sink (steps.new - steps.old) result }
     ensures counted { steps.old ≤ steps.new }
 {

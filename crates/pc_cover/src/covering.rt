@@ -48,7 +48,7 @@ pub fn write_covered<O: Sink>(out: &mut O, problem: &Problem, set: &CoverSet) ->
         (queues_form (queues (elements_of problem.now.pattern)) (numbers_from problem.now (lists_of set.now) 0)) }
     ensures count { IfOk result (λ count. count ≡ length (numbers_from problem.now (lists_of set.now) 0)) }
     ensures within { IfOk result (λ count. count ≤ length (queues (elements_of problem.now.pattern))) }
-    ensures cause { HasCause (O.faults out.old) (O.faults out.new) result }
+    ensures cause { HasCause O.counts_failures_alone (O.faults out.old) (O.faults out.new) result }
 {
     permits_is_decided();
     let all = problem.pattern.count();

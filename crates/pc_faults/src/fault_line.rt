@@ -230,7 +230,7 @@ fn fault_numbers(fault: Fault) -> FaultNumbers
 fn write_named<E: Sink>(err: &mut E, name: &[u8], numbers: FaultNumbers) -> Result<(), Failed>
     ensures written { WritesAll (E.written err.old) (E.written err.new) result
         (line_with name.now (numbers_of numbers)) }
-    ensures cause { HasCause (E.faults err.old) (E.faults err.new) result }
+    ensures cause { HasCause E.counts_failures_alone (E.faults err.old) (E.faults err.new) result }
 {
     let mut one = Buffer::new();
     let mut other = Buffer::new();
@@ -252,7 +252,7 @@ fn write_named<E: Sink>(err: &mut E, name: &[u8], numbers: FaultNumbers) -> Resu
 #[tactic(auto, unfolding(crate::specs::FaultLine::fault_line))]
 pub fn write_fault<E: Sink>(err: &mut E, fault: Fault) -> Result<(), Failed>
     ensures written { WritesAll (E.written err.old) (E.written err.new) result (fault_line fault) }
-    ensures cause { HasCause (E.faults err.old) (E.faults err.new) result }
+    ensures cause { HasCause E.counts_failures_alone (E.faults err.old) (E.faults err.new) result }
 {
     write_named(err, fault_name(fault), fault_numbers(fault))
 }

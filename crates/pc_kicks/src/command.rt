@@ -14,7 +14,8 @@ use std::alloc::Global;
 /// Writes the table of offsets that a text without a fault spells, and the kicks that it gives.
 pub fn run_kicks<O: Sink>(alloc: Global, kicks: &str, out: &mut O) -> Status
     requires { IsOk (kick_text kicks.now) }
-    ensures { let sink = sink_change (O.written out.old) (O.written out.new) (O.faults out.old) (O.faults out.new) in
+    ensures { let sink = sink_change O.counts_failures_alone (O.written out.old) (O.written out.new)
+            (O.faults out.old) (O.faults out.new) in
         IsAnswered (kicks_task kicks.now) [] sink (out.new ≡ out.old) 0 result }
 {
     match lines_of(alloc, &spelled(kicks)) {

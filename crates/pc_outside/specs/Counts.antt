@@ -1,5 +1,5 @@
 -- Counts of 64 bits that never fall, what it means that one rose, and that a call failed for a cause.
-use Rattle.std.specs.Prelude.{◌≡◌, ℕ, ◌+◌, ◌-◌, ◌^◌, ◌≤◌, min, Result, OnOk, OnErr}
+use Rattle.std.specs.Prelude.{◌≡◌, ℕ, ◌+◌, ◌-◌, ◌^◌, ◌≤◌, min, Bool, true, Result, OnOk, OnErr}
 
 -- the count after one more; it stays at its last value
 abbrev pub next_count : ℕ → ℕ
@@ -9,8 +9,9 @@ next_count n = min (n + 1) (2 ^ 64 - 1)
 abbrev pub Rose : ℕ → ℕ → Type 0
 Rose before now = next_count before ≤ now
 
--- the count of faults never falls, and the call failed exactly where it rose
-pub record HasCause {T E : Type 0} (before now : ℕ) (result : Result T E) : Type 0 where
+-- The count of faults never falls, and a call fails only where it rose. Where failed calls alone are counted, one that
+-- does not fail leaves it as it was.
+pub record HasCause {T E : Type 0} (alone : Bool) (before now : ℕ) (result : Result T E) : Type 0 where
   pub later : before ≤ now
-  pub kept : OnOk result (now ≡ before)
+  pub kept : alone ≡ true → OnOk result (now ≡ before)
   pub failed : OnErr result (Rose before now)

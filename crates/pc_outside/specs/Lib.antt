@@ -5,6 +5,8 @@ pub mod Reads
 pub mod Writes
 pub mod MemorySource
 pub mod MemorySink
+pub mod SliceSink
+pub mod SliceSinkView
 -- What serves proofs alone
 pub mod CountLaws
 pub mod ReadLaws

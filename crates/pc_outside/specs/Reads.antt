@@ -13,7 +13,6 @@ pub record Moves (old new : Option (List ℕ)) (before after : List ℕ) (n : �
   pub within : n ≤ length before
   pub taken : TakesBytes old new (take n after)
   pub ended : 0 < length before → ForSome old (λ left. (n ≡ 0) ↔ (left ≡ []))
-  pub rest : ForSome old (λ _. drop n after ≡ drop n before)
 
 -- these bytes are all that was left, and the source is at its end
 pub record TakesAll (old new : Option (List ℕ)) (bytes : List ℕ) : Type 0 where

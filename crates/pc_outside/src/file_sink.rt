@@ -1,5 +1,5 @@
 // A sink over a writer of the standard library.
-ghost use Rattle.std.specs.Prelude.{◌≡◌, ℕ, ◌<◌, ◌≤◌, [], length, take, None, IsOk, IfOk, OnErr, is_ok, if◌then◌else◌};
+ghost use Rattle.std.specs.Prelude.{◌≡◌, ℕ, ◌<◌, ◌≤◌, [], length, take, true, None, IsOk, IfOk, OnErr, is_ok, if◌then◌else◌};
 ghost use Rattle.pc_outside.specs.Counts.{next_count, HasCause};
 ghost use Rattle.pc_outside.specs.Writes.{Grows, WritesAll};
 
@@ -68,9 +68,11 @@ impl<W: Write> Sink for FileSink<W> {
 
     ghost faults = { λ s. s.faults };
 
+    ghost counts_failures_alone = { true };
+
     fn write(&mut self, bytes: &[u8]) -> Result<(), Failed>
         ensures written { WritesAll None None result bytes.now }
-        ensures cause { HasCause self.old.faults self.new.faults result }
+        ensures cause { HasCause true self.old.faults self.new.faults result }
 
         // The count rises at a fault alone, and all bytes are passed on.
         ensures counted { self.new.faults ≡ (if is_ok result then self.old.faults else next_count self.old.faults) }

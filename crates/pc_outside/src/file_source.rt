@@ -1,5 +1,5 @@
 // A source over a reader of the standard library.
-ghost use Rattle.std.specs.Prelude.{◌≡◌, ℕ, [], None, IfOk, OnErr, is_ok, if◌then◌else◌};
+ghost use Rattle.std.specs.Prelude.{◌≡◌, ℕ, [], true, None, IfOk, OnErr, is_ok, if◌then◌else◌};
 ghost use Rattle.std.specs.Io.KnownBytes.{ReadConsumes};
 ghost use Rattle.pc_outside.specs.Counts.{next_count, HasCause};
 ghost use Rattle.pc_outside.specs.Reads.{Moves};
@@ -42,9 +42,11 @@ impl<R: Read> Source for FileSource<R> {
 
     ghost faults = { λ s. s.faults };
 
+    ghost counts_failures_alone = { true };
+
     fn read(&mut self, buf: &mut [u8]) -> Result<usize, Failed>
         ensures moved { IfOk result (Moves None None buf.old buf.new) }
-        ensures cause { HasCause self.old.faults self.new.faults result }
+        ensures cause { HasCause true self.old.faults self.new.faults result }
 
         // The count rises at an error alone, and what the reader gives is passed on.
         ensures counted { self.new.faults ≡ (if is_ok result then self.old.faults else next_count self.old.faults) }

@@ -10,6 +10,8 @@ mod memory_source;
 mod pieces;
 mod reading;
 mod sink;
+mod slice_sink;
+mod slice_source;
 mod source;
 
 pub use answers::{Failed, NoMemory, Refused};
@@ -20,4 +22,6 @@ pub use memory_source::MemorySource;
 pub use pieces::write_pieces;
 pub use reading::{ReadError, read_all};
 pub use sink::Sink;
+pub use slice_sink::SliceSink;
+pub use slice_source::SliceSource;
 pub use source::Source;

@@ -1,5 +1,5 @@
 // A sink in memory with a fixed room, whose writes fail where they are told to or where room is wanting.
-ghost use Rattle.std.specs.Prelude.{◌≡◌, ℕ, ◌+◌, ◌-◌, ◌/◌, ◌<◌, ◌≤◌, ◌↔◌, ◌⊎◌, ◌++◌, [], min, length, take, Some, IsOk, IsErr, IfOk, OnOk, OnErr, Contains};
+ghost use Rattle.std.specs.Prelude.{◌≡◌, ℕ, ◌+◌, ◌-◌, ◌/◌, ◌<◌, ◌≤◌, ◌↔◌, ◌⊎◌, ◌++◌, [], min, length, take, true, Some, IsOk, IsErr, IfOk, OnOk, OnErr, Contains};
 ghost use Rattle.pc_outside.specs.Counts.{next_count, HasCause};
 ghost use Rattle.pc_outside.specs.MemorySink.{front_with_room};
 ghost use Rattle.pc_outside.specs.Writes.{GrowsByFront, WritesAll};
@@ -92,10 +92,12 @@ impl Sink for MemorySink {
 
     ghost faults = { λ s. s.faults };
 
+    ghost counts_failures_alone = { true };
+
     #[tactic(auto, using(crate::specs::WriteLaws::at_err))]
     fn write(&mut self, bytes: &[u8]) -> Result<(), Failed>
         ensures written { WritesAll (Some self.old.bytes) (Some self.new.bytes) result bytes.now }
-        ensures cause { HasCause self.old.faults self.new.faults result }
+        ensures cause { HasCause true self.old.faults self.new.faults result }
 
         ensures fails { IsErr result ↔ ((0 < length bytes.now)
             × (Contains self.old.failing (next_count self.old.calls)

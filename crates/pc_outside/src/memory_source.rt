@@ -1,5 +1,5 @@
 // A source over bytes in memory, whose reads fail where they are told to.
-ghost use Rattle.std.specs.Prelude.{◌≡◌, ℕ, ◌-◌, ◌^◌, ◌<◌, ◌≤◌, ◌↔◌, ◌++◌, [], min, length, take, drop, Some, IsErr, IfOk, OnErr, Contains};
+ghost use Rattle.std.specs.Prelude.{◌≡◌, ℕ, ◌-◌, ◌^◌, ◌<◌, ◌≤◌, ◌↔◌, ◌++◌, [], min, length, take, drop, true, Some, IsErr, IfOk, OnErr, Contains};
 ghost use Rattle.pc_outside.specs.Counts.{next_count, HasCause};
 ghost use Rattle.pc_outside.specs.Reads.{Moves};
 
@@ -68,7 +68,7 @@ impl MemorySource {
 
 /// Moves the front of these bytes into the front of the buffer, at most so many.
 #[tactic(auto, using(crate::proofs::Moving::moves_front))]
-fn move_front(left: &[u8], buf: &mut [u8], most: usize) -> usize
+pub(crate) fn move_front(left: &[u8], buf: &mut [u8], most: usize) -> usize
     requires { 1 ≤ most }
     ensures amount { result ≡ min (min (length buf.old) (length left.now)) most }
     ensures buffer { buf.new ≡ take result left.now ++ drop result buf.old }
@@ -84,9 +84,11 @@ impl Source for MemorySource {
 
     ghost faults = { λ s. s.faults };
 
+    ghost counts_failures_alone = { true };
+
     fn read(&mut self, buf: &mut [u8]) -> Result<usize, Failed>
         ensures moved { IfOk result (Moves (Some self.old.bytes) (Some self.new.bytes) buf.old buf.new) }
-        ensures cause { HasCause self.old.faults self.new.faults result }
+        ensures cause { HasCause true self.old.faults self.new.faults result }
 
         ensures fails { IsErr result
             ↔ ((0 < length buf.old) × Contains self.old.failing (next_count self.old.calls)) }

@@ -9,7 +9,7 @@ use crate::{Failed, Sink};
 pub fn write_pieces<O: Sink>(out: &mut O, pieces: &[&[u8]]) -> Result<(), Failed>
     ensures written { WritesAll (O.written out.old) (O.written out.new) result
         (flat_map (λ piece. piece.now) pieces.now) }
-    ensures cause { HasCause (O.faults out.old) (O.faults out.new) result }
+    ensures cause { HasCause O.counts_failures_alone (O.faults out.old) (O.faults out.new) result }
 {
     for piece in pieces {
         out.write(piece)?;

@@ -1,5 +1,5 @@
 // Reading a source to its end, up to a limit.
-ghost use Rattle.std.specs.Prelude.{◌≡◌, ◌≢◌, ◌+◌, ◌<◌, ◌≤◌, vec_len, Err, IfOk};
+ghost use Rattle.std.specs.Prelude.{◌≡◌, ◌≢◌, ◌+◌, ◌<◌, ◌≤◌, vec_len, true, Err, IfOk};
 ghost use Rattle.pc_outside.specs.declared.reading.ReadError.{ReadError};
 ghost use Rattle.pc_outside.specs.Counts.{Rose};
 ghost use Rattle.pc_outside.specs.Reads.{TakesAll, TakesFirst, TakesAtMost};
@@ -49,7 +49,8 @@ pub fn read_all<S: Source>(
     ensures within { IfOk result (λ bytes. vec_len bytes ≤ limit) }
     ensures too_long { result ≡ Err ReadError.TooLong → TakesFirst (S.left source.old) (S.left source.new) (limit + 1) }
     ensures failed { result ≡ Err ReadError.Failed → Rose (S.faults source.old) (S.faults source.new) }
-    ensures kept { result ≢ Err ReadError.Failed → S.faults source.new ≡ S.faults source.old }
+    ensures kept { S.counts_failures_alone ≡ true → result ≢ Err ReadError.Failed
+        → S.faults source.new ≡ S.faults source.old }
     ensures later { S.faults source.old ≤ S.faults source.new }
     ensures front { TakesAtMost (S.left source.old) (S.left source.new) (limit + 1) }
 {

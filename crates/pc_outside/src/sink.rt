@@ -1,5 +1,5 @@
 // A sink of bytes.
-ghost use Rattle.std.specs.Prelude.{◌≡◌, ℕ, [], List, Option, IsOk};
+ghost use Rattle.std.specs.Prelude.{◌≡◌, ℕ, [], List, Bool, false, Option, IsOk};
 ghost use Rattle.pc_outside.specs.Counts.{HasCause};
 ghost use Rattle.pc_outside.specs.Writes.{WritesAll};
 
@@ -13,10 +13,14 @@ pub trait Sink {
     // How many faults there were.
     ghost faults: { Self → ℕ };
 
+    // Whether failed writes alone are counted. Of a sink that counts other faults too, as a write that it tried again,
+    // a write may raise the count and succeed.
+    ghost counts_failures_alone: { Bool } = { false };
+
     /// Appends the bytes. A write that fails has appended some front of them; one of no bytes
     /// doesn't fail.
     fn write(&mut self, bytes: &[u8]) -> Result<(), Failed>
         ensures written { WritesAll (written self.old) (written self.new) result bytes.now }
         ensures empty { bytes.now ≡ [] → IsOk result }
-        ensures cause { HasCause (faults self.old) (faults self.new) result };
+        ensures cause { HasCause counts_failures_alone (faults self.old) (faults self.new) result };
 }

@@ -1,5 +1,5 @@
 // A source of bytes.
-ghost use Rattle.std.specs.Prelude.{◌≡◌, ℕ, [], List, Option, IfOk, OnErr};
+ghost use Rattle.std.specs.Prelude.{◌≡◌, ℕ, [], List, Bool, false, Option, IfOk, OnErr};
 ghost use Rattle.pc_outside.specs.Counts.{HasCause};
 ghost use Rattle.pc_outside.specs.Reads.{Moves};
 
@@ -13,11 +13,15 @@ pub trait Source {
     // How many faults there were.
     ghost faults: { Self → ℕ };
 
+    // Whether failed reads alone are counted. Of a source that counts other faults too, as a read that it tried again,
+    // a read may raise the count and succeed.
+    ghost counts_failures_alone: { Bool } = { false };
+
     /// Moves bytes into the front of the buffer and answers how many. Into a buffer that has room
     /// it moves none only at the end. A read that fails takes no byte.
     fn read(&mut self, buf: &mut [u8]) -> Result<usize, Failed>
         ensures moved { IfOk result (Moves (left self.old) (left self.new) buf.old buf.new) }
         ensures kept { OnErr result (left self.new ≡ left self.old) }
         ensures empty { buf.old ≡ [] → result ≡ Ok 0 }
-        ensures cause { HasCause (faults self.old) (faults self.new) result };
+        ensures cause { HasCause counts_failures_alone (faults self.old) (faults self.new) result };
 }

@@ -1,5 +1,5 @@
 // The command `decode`: a line for each page of the fumen text that the source gives.
-ghost use Rattle.std.specs.Prelude.{◌≡◌, ◌≢◌, All, None, Err};
+ghost use Rattle.std.specs.Prelude.{◌≡◌, ◌≢◌, ◌≤◌, true, All, None, Err};
 ghost use Rattle.fumen_digits.specs.Framing.{digits_in};
 ghost use Rattle.pc_faults.specs.declared.status.Status.{Status};
 ghost use Rattle.std.specs.List.{flat_map};
@@ -44,8 +44,8 @@ impl From<NoMemory> for WriteFault {
 
 /// Reads the bytes as a fumen text, and writes a line for each of its pages.
 pub fn run_decode<O: Sink>(alloc: Global, bytes: &[u8], out: &mut O) -> Status
-    ensures answers { let sink = sink_change (O.written out.old) (O.written out.new)
-        (O.faults out.old) (O.faults out.new) in
+    ensures answers { let sink = sink_change O.counts_failures_alone (O.written out.old) (O.written out.new)
+            (O.faults out.old) (O.faults out.new) in
         IsAnswered decode_task bytes.now sink (out.new ≡ out.old) 0 result }
     ensures memory { result ≡ Status.NoMemory → digits_in bytes.now ≢ None }
 {
@@ -64,8 +64,10 @@ pub fn run_decode<O: Sink>(alloc: Global, bytes: &[u8], out: &mut O) -> Status
 fn write_lines<O: Sink>(alloc: Global, out: &mut O, pages: &[Page]) -> Result<(), WriteFault>
     requires { All IsShowable pages.now }
     ensures written { WritesAll (O.written out.old) (O.written out.new) result (flat_map page_form pages.now) }
+    ensures later { O.faults out.old ≤ O.faults out.new }
     ensures rose { result ≡ Err WriteFault.Failed → Rose (O.faults out.old) (O.faults out.new) }
-    ensures kept { result ≢ Err WriteFault.Failed → O.faults out.new ≡ O.faults out.old }
+    ensures kept { O.counts_failures_alone ≡ true → result ≢ Err WriteFault.Failed
+        → O.faults out.new ≡ O.faults out.old }
 {
     for page in pages {
         write_line(alloc, out, page)?;
@@ -76,8 +78,10 @@ fn write_lines<O: Sink>(alloc: Global, out: &mut O, pages: &[Page]) -> Result<()
 fn write_line<O: Sink>(alloc: Global, out: &mut O, page: &Page) -> Result<(), WriteFault>
     requires { IsShowable page.now }
     ensures written { WritesAll (O.written out.old) (O.written out.new) result (page_form page.now) }
+    ensures later { O.faults out.old ≤ O.faults out.new }
     ensures rose { result ≡ Err WriteFault.Failed → Rose (O.faults out.old) (O.faults out.new) }
-    ensures kept { result ≢ Err WriteFault.Failed → O.faults out.new ≡ O.faults out.old }
+    ensures kept { O.counts_failures_alone ≡ true → result ≢ Err WriteFault.Failed
+        → O.faults out.new ≡ O.faults out.old }
 {
     let line = print_page(alloc, page)?;
     out.write(&line)?;

@@ -22,8 +22,8 @@ use std::alloc::Global;
 /// asked for, counted from 1.
 pub fn run_show<O: Sink>(alloc: Global, asked: Option<u32>, bytes: &[u8], out: &mut O) -> Status
     requires { ForSome asked (λ number. 1 ≤ number) }
-    ensures answers { let sink = sink_change (O.written out.old) (O.written out.new)
-        (O.faults out.old) (O.faults out.new) in
+    ensures answers { let sink = sink_change O.counts_failures_alone (O.written out.old) (O.written out.new)
+            (O.faults out.old) (O.faults out.new) in
         IsAnswered (show_task asked) bytes.now sink (out.new ≡ out.old) 0 result }
     ensures memory { result ≡ Status.NoMemory → digits_in bytes.now ≢ None }
 {
@@ -45,7 +45,7 @@ fn show_all<O: Sink>(out: &mut O, pages: &[Page]) -> Result<(), Failed>
     requires showable { All IsShowable pages.now }
     requires few { length pages.now ≤ 10000 }
     ensures written { WritesAll (O.written out.old) (O.written out.new) result (shown_from 1 pages.now) }
-    ensures cause { HasCause (O.faults out.old) (O.faults out.new) result }
+    ensures cause { HasCause O.counts_failures_alone (O.faults out.old) (O.faults out.new) result }
 {
     for index in 0..pages.len() {
         show_page(out, index as u32 + 1, &pages[index])?;

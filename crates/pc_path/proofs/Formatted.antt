@@ -1,8 +1,9 @@
 -- What the last line of a report answers, and how the run ends by it.
-use Rattle.std.proofs.Common.{◌≡◌, ℕ, ◌+◌, ◌≤◌, List, [], Bool, true, false, Option, None, Result, Ok, Err, refl, sym, ap, subst, inl, inr}
+use Rattle.std.proofs.Common.{◌≡◌, ℕ, ◌+◌, ◌≤◌, List, [], Bool, true, false, Option, None, Result, Ok, Err, refl, sym, ap, subst, inl, inr, ◌∙◌, arith}
 use Rattle.lane_board.specs.Field.{Field}
 use Rattle.pc_outside.specs.declared.answers.Failed.{Failed}
 use Rattle.pc_outside.specs.Counts.{HasCause}
+use Rattle.pc_outside.specs.CountLaws.{NoneFailed}
 use Rattle.pc_outside.specs.Writes.{WritesAll}
 use Rattle.path_settings.specs.declared.format.Format.TheVariants.{Fumen}
 use Rattle.path_settings.specs.Request.{PathRequest}
@@ -26,9 +27,9 @@ pub line_writes : {T : Type 0} {old new : Option (List ℕ)} {bytes : List ℕ} 
 line_writes {old = old} {new = new} {bytes = bytes} (Ok x) line same written = subst (λ l. WritesAll old new l bytes) (sym same) (record { done = written.done; failed = tt })
 line_writes {old = old} {new = new} {bytes = bytes} (Err e) line same written = subst (λ l. WritesAll old new l bytes) (sym same) (record { done = tt; failed = written.failed })
 
-pub line_cause : {T : Type 0} {before now : ℕ} (r : Result T Failed) (line : Result T WriteFault) → line ≡ as_line r → HasCause before now r → HasWriteCause before now line
-line_cause {before = before} {now = now} (Ok x) line same cause = subst (HasWriteCause before now) (sym same) (record { later = cause.later; kept = λ _. cause.kept; failed = λ e. absurd cc })
-line_cause {before = before} {now = now} (Err e) line same cause = subst (HasWriteCause before now) (sym same) (record { later = cause.later; kept = λ other. absurd (other refl); failed = λ _. cause.failed })
+pub line_cause : {T : Type 0} {alone : Bool} {before now : ℕ} (r : Result T Failed) (line : Result T WriteFault) → line ≡ as_line r → HasCause alone before now r → HasWriteCause alone before now line
+line_cause {alone = alone} {before = before} {now = now} (Ok x) line same cause = subst (HasWriteCause alone before now) (sym same) (record { later = cause.later; kept = λ is _. cause.kept is; failed = λ e. absurd cc })
+line_cause {alone = alone} {before = before} {now = now} (Err e) line same cause = subst (HasWriteCause alone before now) (sym same) (record { later = cause.later; kept = λ _ other. absurd (other refl); failed = λ _. cause.failed })
 
 -- it wants no memory
 pub line_memory : {T : Type 0} {P : Type 0} (r : Result T Failed) (line : Result T WriteFault) → line ≡ as_line r → line ≡ Err fault.NoMemory → P
@@ -36,26 +37,37 @@ line_memory (Ok x) line same none = absurd cc
 line_memory (Err e) line same none = absurd cc
 
 -- how the cause of a line goes on over lines before it
-pub cause_after : {T : Type 0} {before between now : ℕ} {line : Result T WriteFault} → between ≡ before → HasWriteCause between now line → HasWriteCause before now line
-cause_after {now = now} {line = line} same cause = subst (λ b. HasWriteCause b now line) same cause
+pub cause_after : {T : Type 0} {alone : Bool} {before mid now : ℕ} {line : Result T WriteFault} → NoneFailed alone before mid → HasWriteCause alone mid now line → HasWriteCause alone before now line
+cause_after so_far cause = record {
+  later = let one = so_far.later in let other = cause.later in omega arith;
+  kept = λ is other. cause.kept is other ∙ so_far.kept is;
+  failed = λ is. let one = so_far.later in let rose = cause.failed is in omega arith;
+}
+
+-- one more line was written
+pub none_more_lines : {T : Type 0} {alone : Bool} {before mid now : ℕ} {x : T} → NoneFailed alone before mid → HasWriteCause {T = T} alone mid now (Ok x) → NoneFailed alone before now
+none_more_lines so_far cause = record {
+  later = let one = so_far.later in let other = cause.later in omega arith;
+  kept = λ is. cause.kept is (λ e. cc) ∙ so_far.kept is;
+}
 
 module _ (request : PathRequest) (F : Field) (sink : SinkChange) (floods : ℕ) (none : listing_fault request F ≡ None) where
-  answered : {T : Type 0} (Kept : Type 0) (output : List ℕ) → IsReportOf request F floods output → (line : Result T WriteFault) → WritesAll sink.held sink.holds line output → HasWriteCause sink.before sink.now line
+  answered : {T : Type 0} (Kept : Type 0) (output : List ℕ) → IsReportOf request F floods output → (line : Result T WriteFault) → WritesAll sink.held sink.holds line output → HasWriteCause sink.alone sink.before sink.now line
       → (line ≡ Err fault.NoMemory → request.format ≡ Fumen) → IsAnswered (listing_task request F) [] sink Kept floods (line_status line)
   answered Kept output is (Ok x) written cause memory =
-      record { none = none; wrote = record { output = output; is_output = is; grown = written.done }; kept = cause.kept (λ e. cc) }
+      record { none = none; wrote = record { output = output; is_output = is; grown = written.done }; kept = λ is. cause.kept is (λ e. cc) }
   answered Kept output is (Err fault.Failed) written cause memory =
       record { none = none; front = record { output = output; is_output = is; grown = written.failed }; rose = cause.failed refl }
   answered Kept output is (Err fault.NoMemory) written cause memory =
       record {
         known = λ _. none;
         first = λ first. let late : takes_memory_first request.format ≡ false = ap takes_memory_first (memory refl) in absurd cc;
-        ended = inr (record { none = none; front = record { output = output; is_output = is; grown = written.failed }; kept = cause.kept (λ e. cc) });
+        ended = inr (record { none = none; front = record { output = output; is_output = is; grown = written.failed }; kept = λ is. cause.kept is (λ e. cc) });
       }
 
   -- the report was written, or a part of it
   pub report_answers : {T : Type 0} (Kept : Type 0) (output : List ℕ) → IsReportOf request F floods output → (line : Result T WriteFault) (status : Status) → status ≡ line_status line
-      → WritesAll sink.held sink.holds line output → HasWriteCause sink.before sink.now line → (line ≡ Err fault.NoMemory → request.format ≡ Fumen) → IsAnswered (listing_task request F) [] sink Kept floods status
+      → WritesAll sink.held sink.holds line output → HasWriteCause sink.alone sink.before sink.now line → (line ≡ Err fault.NoMemory → request.format ≡ Fumen) → IsAnswered (listing_task request F) [] sink Kept floods status
   report_answers Kept output is line status same written cause memory =
       subst (IsAnswered (listing_task request F) [] sink Kept floods) (sym same) (answered Kept output is line written cause memory)
 

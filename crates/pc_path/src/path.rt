@@ -51,7 +51,7 @@ fn write_report<O: Sink, L: Ledger>(
     ensures written { WritesAll (O.written out.old) (O.written out.new) result
         (report_form (solution_form (format_of writer.old) (is_some finder.old) problem.now) limit
         (solutions search.old)) }
-    ensures cause { HasWriteCause (O.faults out.old) (O.faults out.new) result }
+    ensures cause { HasWriteCause O.counts_failures_alone (O.faults out.old) (O.faults out.new) result }
     ensures memory { result ≡ Err WriteFault.NoMemory → format_of writer.old ≡ Format.Fumen }
     ensures counted { steps.old ≤ steps.new }
     ensures searched { IsSearchOf problem.now (after_given search.old) search.new (steps.new - steps.old) }
@@ -89,7 +89,7 @@ fn write_listing<O: Sink, L: Ledger>(
     ensures written { WritesAll (O.written out.old) (O.written out.new) result
         (report_form (solution_form (format_of writer.old) (is_some finder.old) problem.now) settings.now.limit
         (solutions search.old) ++ stats_form settings.now.stats (steps.new - steps.old)) }
-    ensures cause { HasWriteCause (O.faults out.old) (O.faults out.new) result }
+    ensures cause { HasWriteCause O.counts_failures_alone (O.faults out.old) (O.faults out.new) result }
     ensures memory { result ≡ Err WriteFault.NoMemory → format_of writer.old ≡ Format.Fumen }
     ensures counted { steps.old ≤ steps.new }
     ensures searched { IsSearchOf problem.now (after_given search.old) search.new (steps.new - steps.old) }
@@ -127,12 +127,13 @@ pub fn run_path<O: Sink, L: Ledger>(
 ) -> Status
     requires range { IsInRange (path_view settings.now).common }
     requires spelled { IsOk (kick_text (path_view settings.now).common.kicks) }
-    ensures answers { let sink = sink_change (O.written out.old) (O.written out.new)
-        (O.faults out.old) (O.faults out.new) in
+    ensures answers { let sink = sink_change O.counts_failures_alone (O.written out.old) (O.written out.new)
+            (O.faults out.old) (O.faults out.new) in
         IsAnswered (path_task (path_view settings.now)) bytes.now sink (out.new ≡ out.old)
         (steps.new - steps.old) result }
     ensures works { let task = path_task (path_view settings.now) in
-        let sink = sink_change (O.written out.old) (O.written out.new) (O.faults out.old) (O.faults out.new) in
+        let sink = sink_change O.counts_failures_alone (O.written out.old) (O.written out.new)
+            (O.faults out.old) (O.faults out.new) in
         Works task (task.fault bytes.now) bytes.now sink (steps.new - steps.old) result }
     ensures counted { steps.old ≤ steps.new }
 {
@@ -152,12 +153,13 @@ fn list_clears<O: Sink, L: Ledger>(
 ) -> Status
     requires range { IsInRange (path_view settings.now).common }
     requires spelled { IsOk (kick_text (path_view settings.now).common.kicks) }
-    ensures answers { let sink = sink_change (O.written out.old) (O.written out.new)
-        (O.faults out.old) (O.faults out.new) in
+    ensures answers { let sink = sink_change O.counts_failures_alone (O.written out.old) (O.written out.new)
+            (O.faults out.old) (O.faults out.new) in
         IsAnswered (listing_task (path_view settings.now) (filled well)) [] sink (out.new ≡ out.old)
         (steps.new - steps.old) result }
     ensures works { let task = listing_task (path_view settings.now) (filled well) in
-        let sink = sink_change (O.written out.old) (O.written out.new) (O.faults out.old) (O.faults out.new) in
+        let sink = sink_change O.counts_failures_alone (O.written out.old) (O.written out.new)
+            (O.faults out.old) (O.faults out.new) in
         Works task (task.fault []) [] sink (steps.new - steps.old) result }
     ensures counted { steps.old ≤ steps.new }
 {

@@ -76,7 +76,7 @@ pub fn write_solution<O: Sink>(
     requires low { problem.now.height ≤ 23 }
     ensures written { WritesAll (O.written out.old) (O.written out.new) result
         (solution_form (format_of writer.old) (is_some finder.old) problem.now sequence.now.items) }
-    ensures cause { HasWriteCause (O.faults out.old) (O.faults out.new) result }
+    ensures cause { HasWriteCause O.counts_failures_alone (O.faults out.old) (O.faults out.new) result }
     ensures memory { result ≡ Err WriteFault.NoMemory → format_of writer.old ≡ Format.Fumen }
     ensures finder { is_some finder.new ≡ is_some finder.old }
     ensures form { format_of writer.new ≡ format_of writer.old }
@@ -100,7 +100,7 @@ fn write_text<O: Sink>(
         (filled problem.now.well) problem.now.height sequence.now.items }
     ensures written { WritesAll (O.written out.old) (O.written out.new) result
         (solution_form Format.Text (is_some finder.old) problem.now sequence.now.items) }
-    ensures cause { HasCause (O.faults out.old) (O.faults out.new) result }
+    ensures cause { HasCause O.counts_failures_alone (O.faults out.old) (O.faults out.new) result }
     ensures finder { is_some finder.new ≡ is_some finder.old }
 {
     match finder {
@@ -120,7 +120,7 @@ fn write_as_grid<O: Sink>(
     requires low { problem.now.height ≤ 23 }
     ensures written { WritesAll (O.written out.old) (O.written out.new) result
         (solution_form Format.Grid (is_some finder.old) problem.now sequence.now.items) }
-    ensures cause { HasCause (O.faults out.old) (O.faults out.new) result }
+    ensures cause { HasCause O.counts_failures_alone (O.faults out.old) (O.faults out.new) result }
     ensures finder { is_some finder.new ≡ is_some finder.old }
 {
     match finder {
@@ -141,7 +141,7 @@ fn write_as_fumen<O: Sink>(
         (filled problem.now.well) problem.now.height sequence.now.items }
     ensures written { WritesAll (O.written out.old) (O.written out.new) result
         (solution_form Format.Fumen (is_some finder.old) problem.now sequence.now.items) }
-    ensures cause { HasWriteCause (O.faults out.old) (O.faults out.new) result }
+    ensures cause { HasWriteCause O.counts_failures_alone (O.faults out.old) (O.faults out.new) result }
     ensures finder { is_some finder.new ≡ is_some finder.old }
 {
     match finder {

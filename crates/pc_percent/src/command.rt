@@ -43,7 +43,7 @@ fn write_all_failed<O: Sink>(
     requires fit { IsFit problem.now }
     ensures written { WritesAll (O.written out.old) (O.written out.new) result
         (failed_lines (is_good_queue problem.now) limit (queues (elements_of problem.now.pattern))) }
-    ensures cause { HasCause (O.faults out.old) (O.faults out.new) result }
+    ensures cause { HasCause O.counts_failures_alone (O.faults out.old) (O.faults out.new) result }
 {
     let mut left = limit;
     for number in 0..problem.pattern.count() {
@@ -66,7 +66,7 @@ fn write_answers<O: Sink>(
     requires fit { IsFit problem.now }
     ensures written { WritesAll (O.written out.old) (O.written out.new) result
         (percent_form (is_good_queue problem.now) limit (queues (elements_of problem.now.pattern))) }
-    ensures cause { HasCause (O.faults out.old) (O.faults out.new) result }
+    ensures cause { HasCause O.counts_failures_alone (O.faults out.old) (O.faults out.new) result }
 {
     write_all_failed(out, problem, answers, limit)?;
     write_numbers(out, problem.pattern.count(), answers.count_good())
@@ -83,12 +83,13 @@ pub fn run_percent<O: Sink, L: Ledger>(
 ) -> Status
     requires range { IsInRange (percent_view settings.now).common }
     requires spelled { IsOk (kick_text (percent_view settings.now).common.kicks) }
-    ensures answers { let sink = sink_change (O.written out.old) (O.written out.new)
-        (O.faults out.old) (O.faults out.new) in
+    ensures answers { let sink = sink_change O.counts_failures_alone (O.written out.old) (O.written out.new)
+            (O.faults out.old) (O.faults out.new) in
         IsAnswered (percent_task (percent_view settings.now)) bytes.now sink (out.new ≡ out.old)
         (steps.new - steps.old) result }
     ensures works { let task = percent_task (percent_view settings.now) in
-        let sink = sink_change (O.written out.old) (O.written out.new) (O.faults out.old) (O.faults out.new) in
+        let sink = sink_change O.counts_failures_alone (O.written out.old) (O.written out.new)
+            (O.faults out.old) (O.faults out.new) in
         Works task (task.fault bytes.now) bytes.now sink (steps.new - steps.old) result }
     ensures counted { steps.old ≤ steps.new }
 {
@@ -108,12 +109,13 @@ fn answer_all<O: Sink, L: Ledger>(
 ) -> Status
     requires range { IsInRange (percent_view settings.now).common }
     requires spelled { IsOk (kick_text (percent_view settings.now).common.kicks) }
-    ensures answers { let sink = sink_change (O.written out.old) (O.written out.new)
-        (O.faults out.old) (O.faults out.new) in
+    ensures answers { let sink = sink_change O.counts_failures_alone (O.written out.old) (O.written out.new)
+            (O.faults out.old) (O.faults out.new) in
         IsAnswered (asked_task (percent_view settings.now) (filled well)) [] sink (out.new ≡ out.old)
         (steps.new - steps.old) result }
     ensures works { let task = asked_task (percent_view settings.now) (filled well) in
-        let sink = sink_change (O.written out.old) (O.written out.new) (O.faults out.old) (O.faults out.new) in
+        let sink = sink_change O.counts_failures_alone (O.written out.old) (O.written out.new)
+            (O.faults out.old) (O.faults out.new) in
         Works task (task.fault []) [] sink (steps.new - steps.old) result }
     ensures counted { steps.old ≤ steps.new }
 {

@@ -12,7 +12,7 @@ use queue_pattern::Queue;
 #[tactic(auto, unfolding(crate::specs::Lines::failed_form, queue_lines::specs::Lines::queue_form))]
 pub fn write_failed<O: Sink>(out: &mut O, queue: &Queue) -> Result<(), Failed>
     ensures written { WritesAll (O.written out.old) (O.written out.new) result (failed_form queue.now.items) }
-    ensures cause { HasCause (O.faults out.old) (O.faults out.new) result }
+    ensures cause { HasCause O.counts_failures_alone (O.faults out.old) (O.faults out.new) result }
 {
     write_pieces(out, &[b"failed ", letters(queue).as_slice(), b"\n"])
 }

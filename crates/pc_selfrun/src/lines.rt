@@ -32,7 +32,7 @@ fn yes_or_no(yes: bool) -> &'static [u8]
 pub fn write_findings<O: Sink>(out: &mut O, found: &Findings) -> Result<(), Failed>
     ensures written { WritesAll (O.written out.old) (O.written out.new) result
         (selfrun_form found.now.pages found.now.bytes found.now.same found.now.column found.now.solutions) }
-    ensures cause { HasCause (O.faults out.old) (O.faults out.new) result }
+    ensures cause { HasCause O.counts_failures_alone (O.faults out.old) (O.faults out.new) result }
 {
     let mut pages = Buffer::new();
     let mut bytes = Buffer::new();

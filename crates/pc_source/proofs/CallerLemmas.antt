@@ -63,7 +63,7 @@ refused_works task fault bytes sink floods r status same none =
     subst (Works task fault bytes sink floods) (sym same) (refusal_works task fault bytes sink floods r none)
 
 writing_answers : {T E : Type 0} (task : Task) (bytes output : List ℕ) (sink : SinkChange) (Kept : Type 0) (floods : ℕ) (result : Result T E) → task.fault bytes ≡ None → task.IsOutput bytes floods output
-    → WritesAll sink.held sink.holds result output → HasCause sink.before sink.now result → IsAnswered task bytes sink Kept floods (written_status result)
+    → WritesAll sink.held sink.holds result output → HasCause sink.alone sink.before sink.now result → IsAnswered task bytes sink Kept floods (written_status result)
 writing_answers task bytes output sink Kept floods (Ok all) none is written cause =
     record { none = none; wrote = record { output = output; is_output = is; grown = written.done }; kept = cause.kept }
 writing_answers task bytes output sink Kept floods (Err failed) none is written cause =
@@ -71,7 +71,7 @@ writing_answers task bytes output sink Kept floods (Err failed) none is written 
 
 -- the last writes were made, or one of them failed
 pub written_answers : {T E : Type 0} (task : Task) (bytes output : List ℕ) (sink : SinkChange) (Kept : Type 0) (floods : ℕ) (result : Result T E) (status : Status) → status ≡ written_status result
-    → task.fault bytes ≡ None → task.IsOutput bytes floods output → WritesAll sink.held sink.holds result output → HasCause sink.before sink.now result → IsAnswered task bytes sink Kept floods status
+    → task.fault bytes ≡ None → task.IsOutput bytes floods output → WritesAll sink.held sink.holds result output → HasCause sink.alone sink.before sink.now result → IsAnswered task bytes sink Kept floods status
 written_answers task bytes output sink Kept floods result status same none is written cause =
     subst (IsAnswered task bytes sink Kept floods) (sym same) (writing_answers task bytes output sink Kept floods result none is written cause)
 

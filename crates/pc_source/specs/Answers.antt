@@ -20,11 +20,11 @@ pub record WroteFront (Outputs : List ℕ → Type 0) (sink : SinkChange) : Type
   pub is_output : Outputs output
   pub grown : GrowsByFront sink.held sink.holds output
 
--- all is well, an output was appended, and no write failed
+-- all is well, an output was appended, and, of a sink that counts failed writes alone, no write failed
 pub record DoneAfter (fault : Option Fault) (Outputs : List ℕ → Type 0) (sink : SinkChange) : Type 0 where
   pub none : fault ≡ None
   pub wrote : Wrote Outputs sink
-  pub kept : sink.now ≡ sink.before
+  pub kept : sink.alone ≡ true → sink.now ≡ sink.before
 
 -- no fault stands, a front of an output was appended, and the count of faults rose
 pub record FailedAfterFront (fault : Option Fault) (Outputs : List ℕ → Type 0) (sink : SinkChange) : Type 0 where
@@ -32,11 +32,11 @@ pub record FailedAfterFront (fault : Option Fault) (Outputs : List ℕ → Type 
   pub front : WroteFront Outputs sink
   pub rose : Rose sink.before sink.now
 
--- no fault stands, a front of an output was appended, and no write failed
+-- no fault stands, a front of an output was appended, and, of a sink that counts failed writes alone, no write failed
 pub record EndedAfterFront (fault : Option Fault) (Outputs : List ℕ → Type 0) (sink : SinkChange) : Type 0 where
   pub none : fault ≡ None
   pub front : WroteFront Outputs sink
-  pub kept : sink.now ≡ sink.before
+  pub kept : sink.alone ≡ true → sink.now ≡ sink.before
 
 -- Memory was wanted, where `Kept` says that nothing was written. It is wanted after the first byte only by a task that
 -- does not take all of it before, and before a fault only by a task that needs it to know its faults.

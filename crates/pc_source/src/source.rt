@@ -31,7 +31,8 @@ pub fn source_bytes<S: Source>(
     ensures most { reads ≡ true → TakesAtMost (S.left source.old) (S.left source.new) (most_bytes + 1) }
     ensures untouched { reads ≡ false → source.new ≡ source.old }
     ensures rose { result ≡ Err Status.SourceFault → Rose (S.faults source.old) (S.faults source.new) }
-    ensures kept { result ≢ Err Status.SourceFault → S.faults source.new ≡ S.faults source.old }
+    ensures kept { S.counts_failures_alone ≡ true → result ≢ Err Status.SourceFault
+        → S.faults source.new ≡ S.faults source.old }
 {
     if !reads {
         return Ok(Vec::new(alloc));

@@ -34,7 +34,7 @@ pub fn rate(good: u32, all: u32) -> u32
 #[tactic(auto, unfolding(crate::specs::Lines::queue_form))]
 pub fn write_queue<O: Sink>(out: &mut O, queue: &Queue) -> Result<(), Failed>
     ensures written { WritesAll (O.written out.old) (O.written out.new) result (queue_form queue.now.items) }
-    ensures cause { HasCause (O.faults out.old) (O.faults out.new) result }
+    ensures cause { HasCause O.counts_failures_alone (O.faults out.old) (O.faults out.new) result }
 {
     write_pieces(out, &[letters(queue).as_slice(), b"\n"])
 }
@@ -43,7 +43,7 @@ pub fn write_queue<O: Sink>(out: &mut O, queue: &Queue) -> Result<(), Failed>
 #[tactic(auto, unfolding(crate::specs::Lines::number_form))]
 pub fn write_number<O: Sink>(out: &mut O, name: &[u8], number: u32) -> Result<(), Failed>
     ensures written { WritesAll (O.written out.old) (O.written out.new) result (number_form name.now number) }
-    ensures cause { HasCause (O.faults out.old) (O.faults out.new) result }
+    ensures cause { HasCause O.counts_failures_alone (O.faults out.old) (O.faults out.new) result }
 {
     let mut digits = Buffer::new();
     write_pieces(out, &[name, digits.format(number).as_bytes(), b"\n"])
@@ -54,7 +54,7 @@ pub fn write_numbers<O: Sink>(out: &mut O, all: u32, good: u32) -> Result<(), Fa
     requires some { 0 < all }
     requires within { good ≤ all }
     ensures written { WritesAll (O.written out.old) (O.written out.new) result (numbers_form all good) }
-    ensures cause { HasCause (O.faults out.old) (O.faults out.new) result }
+    ensures cause { HasCause O.counts_failures_alone (O.faults out.old) (O.faults out.new) result }
 {
     write_number(out, b"queues ", all)?;
     write_number(out, b"good ", good)?;

@@ -84,11 +84,11 @@ line_failed {old = old} {new = new} fault written same = record { done = tt; fai
 pub nothing_written : {U : Type 0} (old : Option (List ℕ)) (whole : List ℕ) (fault : WriteFault) → WritesAll {T = U} {E = WriteFault} old old (Err fault) whole
 nothing_written old whole fault = record { done = tt; failed = is_front (begins old whole) }
 
-pub cause_written : {T U : Type 0} {before now : ℕ} {x : T} {y : U} → HasCause {T = T} {E = Failed} before now (Ok x) → HasWriteCause {T = U} before now (Ok y)
-cause_written cause = record { later = cause.later; kept = λ _. cause.kept; failed = λ e. absurd cc }
+pub cause_written : {T U : Type 0} {alone : Bool} {before now : ℕ} {x : T} {y : U} → HasCause {T = T} {E = Failed} alone before now (Ok x) → HasWriteCause {T = U} alone before now (Ok y)
+cause_written cause = record { later = cause.later; kept = λ is _. cause.kept is; failed = λ e. absurd cc }
 
-pub cause_failed : {T U : Type 0} {before now : ℕ} {e : Failed} → HasCause {T = T} {E = Failed} before now (Err e) → HasWriteCause {T = U} before now (Err faults.Failed)
-cause_failed cause = record { later = cause.later; kept = λ other. absurd (other refl); failed = λ _. cause.failed }
+pub cause_failed : {T U : Type 0} {alone : Bool} {before now : ℕ} {e : Failed} → HasCause {T = T} {E = Failed} alone before now (Err e) → HasWriteCause {T = U} alone before now (Err faults.Failed)
+cause_failed cause = record { later = cause.later; kept = λ _ other. absurd (other refl); failed = λ _. cause.failed }
 
-pub no_cause : {U : Type 0} (count : ℕ) → HasWriteCause {T = U} count count (Err faults.NoMemory)
-no_cause count = record { later = omega arith; kept = λ _. refl; failed = λ e. absurd cc }
+pub no_cause : {U : Type 0} (alone : Bool) (count : ℕ) → HasWriteCause {T = U} alone count count (Err faults.NoMemory)
+no_cause alone count = record { later = omega arith; kept = λ _ _. refl; failed = λ e. absurd cc }

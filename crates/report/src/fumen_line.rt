@@ -55,7 +55,7 @@ impl FumenWriter {
             (fumen_form (key_part (is_some finder.entry) (table_of problem.now.rules) problem.now.drop_mode)
             (filled problem.now.well) sequence.now.items) }
         ensures untouched { result ≡ Err WriteFault.NoMemory → out.new ≡ out.old }
-        ensures cause { HasWriteCause (O.faults out.old) (O.faults out.new) result }
+        ensures cause { HasWriteCause O.counts_failures_alone (O.faults out.old) (O.faults out.new) result }
     {
         let text = match self.text(alloc, problem, sequence.as_slice(), finder) {
             Ok(text) => text,
@@ -252,7 +252,7 @@ pub fn write_fumen_line<O: Sink>(
         (fumen_form (key_part (is_some finder.entry) (table_of problem.now.rules) problem.now.drop_mode)
         (filled problem.now.well) sequence.now.items) }
     ensures untouched { result ≡ Err WriteFault.NoMemory → out.new ≡ out.old }
-    ensures cause { HasWriteCause (O.faults out.old) (O.faults out.new) result }
+    ensures cause { HasWriteCause O.counts_failures_alone (O.faults out.old) (O.faults out.new) result }
 {
     match FumenWriter::new(alloc) {
         Ok(mut writer) => writer.write_line(alloc, out, problem, sequence, finder),

@@ -42,7 +42,7 @@ pub fn write_grid<O: Sink>(
     ensures written { WritesAll (O.written out.old) (O.written out.new) result
         (grid_form (key_part (is_some finder.entry) (table_of problem.now.rules) problem.now.drop_mode)
         (filled problem.now.well) problem.now.height sequence.now.items) }
-    ensures cause { HasCause (O.faults out.old) (O.faults out.new) result }
+    ensures cause { HasCause O.counts_failures_alone (O.faults out.old) (O.faults out.new) result }
 {
     write_line(out, problem, sequence, finder)?;
     write_pictures(out, problem, sequence.as_slice())
@@ -59,7 +59,7 @@ fn write_pictures<O: Sink>(
     requires low { problem.now.height ≤ 23 }
     ensures written { WritesAll (O.written out.old) (O.written out.new) result
         (grid_pictures (filled problem.now.well) problem.now.height placements.now) }
-    ensures cause { HasCause (O.faults out.old) (O.faults out.new) result }
+    ensures cause { HasCause O.counts_failures_alone (O.faults out.old) (O.faults out.new) result }
 {
     let mut well = problem.well;
     let mut rows = problem.height;

@@ -48,7 +48,7 @@ fn append<O: Sink>(out: &mut O, held: &mut SequenceText, bytes: &[u8]) -> Result
     ensures done { OnOk result (HandsOn (O.written out.old) (O.written out.new)
         held.old.items bytes.now held.new.items) }
     ensures failed { OnErr result (GrowsByFront (O.written out.old) (O.written out.new) held.old.items) }
-    ensures cause { HasCause (O.faults out.old) (O.faults out.new) result }
+    ensures cause { HasCause O.counts_failures_alone (O.faults out.old) (O.faults out.new) result }
 {
     if bytes.len() <= held.remaining_capacity() {
         push(held, bytes);
@@ -93,7 +93,7 @@ fn write_with_keys<O: Sink>(
     requires { AreFree (filled well.now) placements.now }
     ensures written { WritesAll (O.written out.old) (O.written out.new) result
         (line_form (key_part true (table_of rules.now) drop_mode) (filled well.now) placements.now) }
-    ensures cause { HasCause (O.faults out.old) (O.faults out.new) result }
+    ensures cause { HasCause O.counts_failures_alone (O.faults out.old) (O.faults out.new) result }
 {
     let mut before = *well;
     let mut divider: &[u8] = b"";
@@ -127,7 +127,7 @@ pub(crate) fn write_placements<O: Sink>(
     ensures written { WritesAll (O.written out.old) (O.written out.new) result
         (line_form (key_part (is_some finder.entry) (table_of rules.now) drop_mode)
         (filled well.now) placements.now) }
-    ensures cause { HasCause (O.faults out.old) (O.faults out.new) result }
+    ensures cause { HasCause O.counts_failures_alone (O.faults out.old) (O.faults out.new) result }
 {
     match finder {
         Some(finder) => write_with_keys(out, well, rules, drop_mode, placements, finder),
@@ -149,7 +149,7 @@ pub fn write_line<O: Sink>(
     ensures written { WritesAll (O.written out.old) (O.written out.new) result
         (line_form (key_part (is_some finder.entry) (table_of problem.now.rules) problem.now.drop_mode)
         (filled problem.now.well) sequence.now.items) }
-    ensures cause { HasCause (O.faults out.old) (O.faults out.new) result }
+    ensures cause { HasCause O.counts_failures_alone (O.faults out.old) (O.faults out.new) result }
 {
     let placements = sequence.as_slice();
     write_placements(

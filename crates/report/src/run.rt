@@ -27,7 +27,7 @@ pub fn write_run<O: Sink>(
     requires { Runs (table_of rules.now) drop_mode (filled well.now) run.now }
     ensures written { WritesAll (O.written out.old) (O.written out.new) result
         (run_form (key_part (is_some finder.entry) (table_of rules.now) drop_mode) (filled well.now) run.now) }
-    ensures cause { HasCause (O.faults out.old) (O.faults out.new) result }
+    ensures cause { HasCause O.counts_failures_alone (O.faults out.old) (O.faults out.new) result }
 {
     if run.is_empty() {
         return Ok(());

@@ -30,7 +30,7 @@ impl Tail {
 /// Writes the line that ends a report of so many sequences: `end 12` or `limit 12`.
 pub fn write_tail<O: Sink>(out: &mut O, tail: Tail, count: u64) -> Result<(), Failed>
     ensures written { WritesAll (O.written out.old) (O.written out.new) result (tail_form tail count) }
-    ensures cause { HasCause (O.faults out.old) (O.faults out.new) result }
+    ensures cause { HasCause O.counts_failures_alone (O.faults out.old) (O.faults out.new) result }
 {
     let mut digits = Buffer::new();
     write_pieces(out, &[tail.word(), digits.format(count).as_bytes(), b"\n"])
@@ -39,7 +39,7 @@ pub fn write_tail<O: Sink>(out: &mut O, tail: Tail, count: u64) -> Result<(), Fa
 /// Writes the line of a number of floods, which stands behind a report: `floods 3`.
 pub fn write_floods<O: Sink>(out: &mut O, floods: u64) -> Result<(), Failed>
     ensures written { WritesAll (O.written out.old) (O.written out.new) result (floods_form floods) }
-    ensures cause { HasCause (O.faults out.old) (O.faults out.new) result }
+    ensures cause { HasCause O.counts_failures_alone (O.faults out.old) (O.faults out.new) result }
 {
     let mut digits = Buffer::new();
     write_pieces(out, &[b"floods ", digits.format(floods).as_bytes(), b"\n"])

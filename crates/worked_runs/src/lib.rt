@@ -4,7 +4,7 @@
 ghost use Rattle.std.specs.Prelude.{◌≡◌, ◌<◌};
 
 use pc_app::{Status, run};
-use pc_outside::{MemorySink, MemorySource, NoMemory};
+use pc_outside::{MemorySink, MemorySource, NoMemory, Sink};
 use reach::Steps;
 use std::alloc::Global;
 use std::marker::Brand;
@@ -26,6 +26,8 @@ mod held;
 #[cfg(test)]
 mod keys;
 #[cfg(test)]
+mod left_alone;
+#[cfg(test)]
 mod limits;
 #[cfg(test)]
 mod percents;
@@ -46,12 +48,12 @@ pub struct Outcome {
     pub source: MemorySource,
 }
 
-fn counted<L: Ledger>(
+fn counted<L: Ledger, O: Sink>(
     alloc: Global,
     blank: Blank,
     words: &[String],
     source: &mut MemorySource,
-    out: &mut MemorySink,
+    out: &mut O,
     err: &mut MemorySink,
 ) -> Status
     requires name { blank.name ≡ L.name }
@@ -62,16 +64,8 @@ fn counted<L: Ledger>(
     run(alloc, words, source, out, err, &mut steps)
 }
 
-/// Runs the words over a source, into these sinks. The words are those of the line, divided by single blanks, and after
-/// them these more, which may have blanks.
-pub fn run_into(
-    alloc: Global,
-    line: &str,
-    more: &[&str],
-    mut source: MemorySource,
-    mut out: MemorySink,
-    mut err: MemorySink,
-) -> Result<Outcome, NoMemory> {
+/// The words of a line, divided by single blanks, and after them these more, which may have blanks.
+fn words_of(alloc: Global, line: &str, more: &[&str]) -> Result<Vec<String>, NoMemory> {
     let mut words = Vec::new(alloc);
     if !line.is_empty() {
         for word in line.split(' ') {
@@ -81,7 +75,20 @@ pub fn run_into(
     for word in more {
         words.push(String::from_str(alloc, word)?)?;
     }
-    let status = counted::<Brand>(
+    Ok(words)
+}
+
+/// Runs the words of a line and these more over a source, into these sinks.
+pub fn run_into(
+    alloc: Global,
+    line: &str,
+    more: &[&str],
+    mut source: MemorySource,
+    mut out: MemorySink,
+    mut err: MemorySink,
+) -> Result<Outcome, NoMemory> {
+    let words = words_of(alloc, line, more)?;
+    let status = counted::<Brand, MemorySink>(
         alloc,
         Blank::new(1),
         &words,

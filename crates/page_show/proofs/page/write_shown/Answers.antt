@@ -1,6 +1,7 @@
 -- Each row is the first of those that are left.
 use Rattle.std.proofs.Common.{◌≡◌, ◌+◌, ◌∙◌, ap, sym, subst, arith, refl}
 use Rattle.std.specs.List.{flat_map}
+use Rattle.pc_outside.specs.CountLaws.{none_more, none_yet}
 use Rattle.pc_outside.specs.Writes.{GrowsUpTo}
 use Rattle.pc_outside.specs.WriteLaws.{begins, after_piece, failed_piece, ends, at_err}
 use Rattle.page_list.specs.Letters.{shown_rows}
@@ -12,7 +13,7 @@ pub loop-index-init : goal.loop-index-init
 loop-index-init g c =
     let first = c.first_shown-index.ensures in
     let shown = shown-left c.args.letters.now c.first_shown-index.result first.value first.most in
-    (subst (λ rows. GrowsUpTo (g.O.Sink.written c.args.out.now) (g.O.Sink.written c.args.out.now) (flat_map row_line rows) (flat_map row_line (rows_left c.args.letters.now c.first_shown-index.result))) (sym shown) (begins _ _), refl)
+    (subst (λ rows. GrowsUpTo (g.O.Sink.written c.args.out.now) (g.O.Sink.written c.args.out.now) (flat_map row_line rows) (flat_map row_line (rows_left c.args.letters.now c.first_shown-index.result))) (sym shown) (begins _ _), none_yet _ _)
 
 pub returns-in_err-write_row-clause-written : goal.returns-in_err-write_row-clause-written
 returns-in_err-write_row-clause-written g c =
@@ -22,7 +23,7 @@ returns-in_err-write_row-clause-written g c =
 pub loop-index-preserved : goal.loop-index-preserved
 loop-index-preserved g c =
     let more = rows_left-more c.args.letters.now c.loop-index.index c.loop-index-test.true in
-    (after_piece c.loop-index.invariant.0 (ap (flat_map row_line) more) c.in_ok-write_row.ensures.written, c.in_ok-write_row.ensures.cause.kept ∙ c.loop-index.invariant.1)
+    (after_piece c.loop-index.invariant.0 (ap (flat_map row_line) more) c.in_ok-write_row.ensures.written, none_more c.loop-index.invariant.1 c.in_ok-write_row.ensures.cause)
 
 pub returns-clause-written : goal.returns-clause-written
 returns-clause-written g c =

@@ -1,6 +1,7 @@
--- The rows so far are written, and the count of faults stayed.
+-- The rows so far are written, and no write failed.
 use Rattle.std.proofs.Common.{◌≡◌, ◌≤◌}
 use Rattle.std.specs.List.{flat_map}
+use Rattle.pc_outside.specs.CountLaws.{NoneFailed}
 use Rattle.pc_outside.specs.Writes.{GrowsUpTo}
 use Rattle.page_list.specs.Letters.{shown_rows}
 use Rattle.page_list.proofs.CallerLemmas.{rows_left}
@@ -10,4 +11,4 @@ use Rattle.page_show.proofs.page.write_shown.Given as goal
 abbrev pub invariant-loop-index : goal.invariant-loop-index
 invariant-loop-index g l =
     GrowsUpTo (g.O.Sink.written l.initial.out) (g.O.Sink.written l.out) (flat_map row_line (shown_rows l.letters)) (flat_map row_line (rows_left l.letters l.index))
-    × (g.O.Sink.faults l.out ≡ g.O.Sink.faults l.initial.out)
+    × NoneFailed g.O.Sink.counts_failures_alone (g.O.Sink.faults l.initial.out) (g.O.Sink.faults l.out)

@@ -20,7 +20,7 @@ returns-in-Err-clause-ran g c = λ bytes told. (refused_words (asked_in (request
 
 pub returns-in-Err-clause-work : goal.returns-in-Err-clause-work
 returns-in-Err-clause-work g c =
-    let sink = sink_change (g.O.Sink.written c.args.out.now) (g.O.Sink.written c.args.out.now) (g.O.Sink.faults c.args.out.now) (g.O.Sink.faults c.args.out.now) in
+    let sink = sink_change g.O.Sink.counts_failures_alone (g.O.Sink.written c.args.out.now) (g.O.Sink.written c.args.out.now) (g.O.Sink.faults c.args.out.now) (g.O.Sink.faults c.args.out.now) in
     refused_work (asked_in (request_in (texts c.args.words.now))) c.in-Err.fault c.in-Err.ensures.value _ sink (c.args.steps.now - c.args.steps.now) c.in-Err.fault (none_added c.args.steps.now c.args.steps.now refl)
 
 pub returns-in-Err-clause-words_fault : goal.returns-in-Err-clause-words_fault
@@ -100,7 +100,7 @@ returns-in-Err-source_bytes-clause-ran g c =
 pub returns-in-Err-source_bytes-clause-work : goal.returns-in-Err-source_bytes-clause-work
 returns-in-Err-source_bytes-clause-work g c =
     let read = c.in-Err-source_bytes.ensures in
-    let sink = sink_change (g.O.Sink.written c.args.out.now) (g.O.Sink.written c.args.out.now) (g.O.Sink.faults c.args.out.now) (g.O.Sink.faults c.args.out.now) in
+    let sink = sink_change g.O.Sink.counts_failures_alone (g.O.Sink.written c.args.out.now) (g.O.Sink.written c.args.out.now) (g.O.Sink.faults c.args.out.now) (g.O.Sink.faults c.args.out.now) in
     works_unread (asked_in (request_in (texts c.args.words.now))) (settings_view c.in-Ok.settings) c.in-Ok.ensures.value _ sink (c.args.steps.now - c.args.steps.now) c.in-Err-source_bytes.status
     (sym c.reads_source.ensures ∙ read.unread.0) read.unread.1 (none_added c.args.steps.now c.args.steps.now refl)
 

@@ -49,7 +49,7 @@ pub returns-clause-source : goal.returns-clause-source
 returns-clause-source g c = λ is. c.run.ensures.source_fault (source_at_3 c.run.result (sym c.code.ensures ∙ is))
 
 pub returns-clause-source_kept : goal.returns-clause-source_kept
-returns-clause-source_kept g c = λ other. c.run.ensures.source_kept (no_source c.run.result (λ is. other (c.code.ensures ∙ is)))
+returns-clause-source_kept g c = λ alone other. c.run.ensures.source_kept alone (no_source c.run.result (λ is. other (c.code.ensures ∙ is)))
 
 pub returns-clause-sink : goal.returns-clause-sink
 returns-clause-sink g c = λ is. c.run.ensures.sink_fault (sink_at_4 c.run.result (sym c.code.ensures ∙ is))
@@ -58,7 +58,7 @@ pub returns-clause-sink_rose : goal.returns-clause-sink_rose
 returns-clause-sink_rose g c = λ is. c.run.ensures.sink_rose (sink_at_4 c.run.result (sym c.code.ensures ∙ is))
 
 pub returns-clause-sink_kept : goal.returns-clause-sink_kept
-returns-clause-sink_kept g c = λ other. c.run.ensures.sink_kept (no_sink c.run.result (λ is. other (c.code.ensures ∙ is)))
+returns-clause-sink_kept g c = λ alone other. c.run.ensures.sink_kept alone (no_sink c.run.result (λ is. other (c.code.ensures ∙ is)))
 
 pub returns-clause-no_memory : goal.returns-clause-no_memory
 returns-clause-no_memory g c = λ first is. c.run.ensures.no_memory first (no_memory_at_5 c.run.result (sym c.code.ensures ∙ is))

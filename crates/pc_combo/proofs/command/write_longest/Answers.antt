@@ -37,5 +37,5 @@ returns-clause-answers g c =
 pub returns-clause-works : goal.returns-clause-works
 returns-clause-works g c =
     let task = run_task (combo_view c.args.settings.now) (filled c.args.well.now) in
-    let sink = sink_change (g.O.Sink.written c.args.out.now) (g.O.Sink.written c.write_lines.new.out) (g.O.Sink.faults c.args.out.now) (g.O.Sink.faults c.write_lines.new.out) in
+    let sink = sink_change g.O.Sink.counts_failures_alone (g.O.Sink.written c.args.out.now) (g.O.Sink.written c.write_lines.new.out) (g.O.Sink.faults c.args.out.now) (g.O.Sink.faults c.write_lines.new.out) in
     written_works task (task.fault []) [] sink (c.longest-run.new.steps - c.args.steps.now) c.write_lines.result c.after_writes.result c.after_writes.ensures (λ all is. tt) (λ failed is. tt)

@@ -52,7 +52,7 @@ returns-clause-answers g c =
 pub returns-clause-works : goal.returns-clause-works
 returns-clause-works g c =
     let task = covering_task (field_view c.args.settings.now) (filled c.args.well) in
-    let sink = sink_change (g.O.Sink.written c.args.out.now) (g.O.Sink.written c.write_answers.new.out) (g.O.Sink.faults c.args.out.now) (g.O.Sink.faults c.write_answers.new.out) in
+    let sink = sink_change g.O.Sink.counts_failures_alone (g.O.Sink.written c.args.out.now) (g.O.Sink.written c.write_answers.new.out) (g.O.Sink.faults c.args.out.now) (g.O.Sink.faults c.write_answers.new.out) in
     written_works task (task.fault c.args.bytes.now) c.args.bytes.now sink (c.covering.new.steps - c.args.steps.now) c.write_answers.result c.after_writes.result c.after_writes.ensures (λ all is. tt) (λ failed is. tt)
 
 pub returns-in-Err-sequences_in-clause-answers : goal.returns-in-Err-sequences_in-clause-answers

@@ -1,5 +1,6 @@
 -- The next covered queue is written, or there is none.
 use Rattle.std.proofs.Common.{◌≡◌, ◌∙◌, ◌+◌, ◌-◌, ◌<◌, ◌≤◌, ◌++◌, ℕ, List, length, [], ◌∷◌, refl, sym, ap, subst, arith, None}
+use Rattle.pc_outside.specs.CountLaws.{none_more}
 use Rattle.pc_outside.specs.Writes.{GrowsUpTo}
 use Rattle.pc_outside.specs.WriteLaws.{after_piece, at_err, ends, failed_piece}
 use Rattle.queue_pattern.specs.Pattern.{elements_of}
@@ -43,7 +44,7 @@ loop-from-preserved g c =
     let line = form-next (queues (elements_of problem.pattern)) (numbers_from problem lists c.loop-from.from) (numbers_from problem lists (c.in-Some.number + 1)) c.in-Some.number c.queue.result.items next c.queue.ensures in
     let long : length (numbers_from problem lists c.loop-from.from) ≡ length (numbers_from problem lists (c.in-Some.number + 1)) + 1 = omega (arith, ap length next) in (
       after_piece c.loop-from.invariant.0 line c.in_ok-write_queue.ensures.written,
-      c.in_ok-write_queue.ensures.cause.kept ∙ c.loop-from.invariant.1,
+      none_more c.loop-from.invariant.1 c.in_ok-write_queue.ensures.cause,
       omega (arith, c.loop-from.invariant.2, long),
       omega (arith, c.loop-from.invariant.3, least.above),
       omega (arith, within),

@@ -30,7 +30,7 @@ returns-in-Ok-write_lines-clause-answers g c =
     record {
       none = text_reads None c.args.bytes.now c.deref.result.now has;
       wrote = record { output = _; is_output = lines_of c.args.bytes.now c.deref.result.now has; grown = c.in-Ok-write_lines.ensures.written.done };
-      kept = c.in-Ok-write_lines.ensures.kept (λ is. cc);
+      kept = λ alone. c.in-Ok-write_lines.ensures.kept alone (λ is. cc);
     }
 
 pub returns-in-Err-Failed-clause-answers : goal.returns-in-Err-Failed-clause-answers
@@ -51,7 +51,7 @@ returns-clause-answers g c =
       ended = inr (record {
         none = text_reads None c.args.bytes.now c.deref.result.now has;
         front = record { output = _; is_output = lines_of c.args.bytes.now c.deref.result.now has; grown = c.in-Err-NoMemory.ensures.written.failed };
-        kept = c.in-Err-NoMemory.ensures.kept (other_fault c.in-Err-NoMemory.field-0 c.in-Err-NoMemory.field-0-is);
+        kept = λ alone. c.in-Err-NoMemory.ensures.kept alone (other_fault c.in-Err-NoMemory.field-0 c.in-Err-NoMemory.field-0-is);
       });
     }
 

@@ -1,5 +1,5 @@
 -- Each line is the first of those that are left.
-use Rattle.std.proofs.Common.{sym, subst, ◌∙◌}
+use Rattle.std.proofs.Common.{sym, subst, ◌∙◌, arith}
 use Rattle.page_list.specs.PrintedLine.{page_form}
 use Rattle.pc_outside.specs.WriteLaws.{next_item, item_failed, at_err}
 use Rattle.pc_source.specs.Had.{IsShowable}
@@ -19,5 +19,8 @@ pub loop-page-preserved : goal.loop-page-preserved
 loop-page-preserved g c = (
   next_item page_form c.args.pages.now c.loop-page.page-index c.page-item.result c.loop-page-test.true c.loop-page.invariant.0
       (item_written page_form c.page-item.result _ c.page-item.is c.in_ok-write_line.ensures.written),
-  c.in_ok-write_line.ensures.kept (λ is. cc) ∙ c.loop-page.invariant.1,
+  record {
+    later = omega (arith, c.in_ok-write_line.ensures.later, c.loop-page.invariant.1.later);
+    kept = λ alone. c.in_ok-write_line.ensures.kept alone (λ is. cc) ∙ c.loop-page.invariant.1.kept alone;
+  },
 )

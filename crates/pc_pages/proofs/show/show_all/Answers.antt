@@ -1,5 +1,6 @@
 -- Each page is the first of those that are left.
 use Rattle.std.proofs.Common.{◌+◌, sym, subst, ◌∙◌}
+use Rattle.pc_outside.specs.CountLaws.{none_more}
 use Rattle.pc_outside.specs.Writes.{GrowsUpTo}
 use Rattle.pc_outside.specs.WriteLaws.{after_piece, failed_piece, ends, at_err}
 use Rattle.page_show.specs.Page.{shown_page}
@@ -26,7 +27,7 @@ pub loop-index-preserved : goal.loop-index-preserved
 loop-index-preserved g c = (
   after_piece c.loop-index.invariant.0 (shown-more c.args.pages.now c.loop-index.index c.index-pages-index.result c.loop-index-test.true)
       (item_written (shown_page (c.loop-index.index + 1)) c.index-pages-index.result _ c.index-pages-index.is c.in_ok-show_page.ensures.written),
-  c.in_ok-show_page.ensures.cause.kept ∙ c.loop-index.invariant.1,
+  none_more c.loop-index.invariant.1 c.in_ok-show_page.ensures.cause,
 )
 
 pub returns-clause-written : goal.returns-clause-written

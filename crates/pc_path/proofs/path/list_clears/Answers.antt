@@ -69,7 +69,7 @@ returns-clause-answers g c =
     c.in-Ok-writer_for.ensures.form
     (subst (λ keys. WritesAll {T = Unit {0}} {E = WriteFault} (g.O.Sink.written c.args.out.now) (g.O.Sink.written c.write_listing-written.new.out) c.write_listing-written.result (report_form (solution_form (format_of c.in-Ok-writer_for.writer) keys problem) c.args.settings.now.limit (solutions search) ++ stats_form c.args.settings.now.stats floods))
     c.in-Ok-finder_for.ensures.finder c.write_listing-written.ensures.written) in
-    report_answers request F (sink_change _ _ _ _) floods c.in-Ok.ensures.none _ report (record { listed = listed; report = refl }) c.write_listing-written.result c.line_status.result c.line_status.ensures written c.write_listing-written.ensures.cause
+    report_answers request F (sink_change _ _ _ _ _) floods c.in-Ok.ensures.none _ report (record { listed = listed; report = refl }) c.write_listing-written.result c.line_status.result c.line_status.ensures written c.write_listing-written.ensures.cause
     (λ is. sym c.in-Ok-writer_for.ensures.form ∙ c.write_listing-written.ensures.memory is)
 
 pub returns-clause-works : goal.returns-clause-works
@@ -80,7 +80,7 @@ returns-clause-works g c =
     let before = c.in-Ok-start.search in
     let search = c.write_listing-written.new.search in
     let floods = c.write_listing-written.new.steps - c.args.steps.now in
-    let sink = sink_change (g.O.Sink.written c.args.out.now) (g.O.Sink.written c.write_listing-written.new.out) (g.O.Sink.faults c.args.out.now) (g.O.Sink.faults c.write_listing-written.new.out) in
+    let sink = sink_change g.O.Sink.counts_failures_alone (g.O.Sink.written c.args.out.now) (g.O.Sink.written c.write_listing-written.new.out) (g.O.Sink.faults c.args.out.now) (g.O.Sink.faults c.write_listing-written.new.out) in
     let listed = listed_of request F problem (items_of c.in-Ok.listing.after) before c.in-Ok.ensures.problem c.in-Ok.ensures.after c.in-Ok-start.ensures.view c.in-Ok-start.ensures.list in
     let searched = subst (λ after. IsSearchOf problem after search floods) c.in-Ok-start.ensures.after c.write_listing-written.ensures.searched in
     let stopped = subst (λ format. OnErr {T = Unit {0}} {E = WriteFault} c.write_listing-written.result (StoppedBefore (solution_form format request.keys problem) (solutions before) (solutions search) sink.held sink.holds))

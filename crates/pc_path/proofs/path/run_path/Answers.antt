@@ -17,7 +17,7 @@ returns-in-Err-clause-answers g c =
 pub returns-in-Err-clause-works : goal.returns-in-Err-clause-works
 returns-in-Err-clause-works g c =
     let task = path_task (path_view c.args.settings.now) in
-    let sink = sink_change (g.O.Sink.written c.args.out.now) (g.O.Sink.written c.args.out.now) (g.O.Sink.faults c.args.out.now) (g.O.Sink.faults c.args.out.now) in
+    let sink = sink_change g.O.Sink.counts_failures_alone (g.O.Sink.written c.args.out.now) (g.O.Sink.written c.args.out.now) (g.O.Sink.faults c.args.out.now) (g.O.Sink.faults c.args.out.now) in
     refused_works task (task.fault c.args.bytes.now) c.args.bytes.now sink (c.args.steps.now - c.args.steps.now) c.in-Err.refused c.from.result c.from.ensures (none_added _ _ refl)
 
 pub returns-in-Ok-clause-answers : goal.returns-in-Ok-clause-answers
@@ -25,5 +25,5 @@ returns-in-Ok-clause-answers g c = lists (path_view c.args.settings.now) c.args.
 
 pub returns-in-Ok-clause-works : goal.returns-in-Ok-clause-works
 returns-in-Ok-clause-works g c =
-    let sink = sink_change (g.O.Sink.written c.args.out.now) (g.O.Sink.written c.list_clears.new.out) (g.O.Sink.faults c.args.out.now) (g.O.Sink.faults c.list_clears.new.out) in
+    let sink = sink_change g.O.Sink.counts_failures_alone (g.O.Sink.written c.args.out.now) (g.O.Sink.written c.list_clears.new.out) (g.O.Sink.faults c.args.out.now) (g.O.Sink.faults c.list_clears.new.out) in
     lists_work (path_view c.args.settings.now) c.args.bytes.now (filled c.in-Ok.well) c.in-Ok.ensures.field sink (c.list_clears.new.steps - c.args.steps.now) c.list_clears.result c.list_clears.ensures.works

@@ -1,6 +1,7 @@
 -- The report, and behind it the floods.
 use Rattle.std.proofs.Common.{◌≡◌, ◌-◌, ◌++◌, ◌∙◌, take, length, min, nat_le, if◌then◌else◌, refl, sym, ap, subst}
 use Rattle.std.specs.Prelude.{is_some}
+use Rattle.pc_outside.specs.CountLaws.{none_yet}
 use Rattle.pc_outside.specs.Writes.{WritesAll}
 use Rattle.pc_outside.specs.WriteLaws.{first_failed, two_calls}
 use Rattle.enumerate.specs.Counted.{as_count}
@@ -10,7 +11,7 @@ use Rattle.report.specs.Forms.{floods_form, report_form, tail_form}
 use Rattle.report.specs.declared.write_fault.WriteFault.{WriteFault}
 use Rattle.pc_path.specs.Formats.{solution_form}
 use Rattle.pc_path.specs.Writer.{format_of}
-use Rattle.pc_path.proofs.Formatted.{cause_after, line_cause, line_memory, line_writes}
+use Rattle.pc_path.proofs.Formatted.{cause_after, line_cause, line_memory, line_writes, none_more_lines}
 use Rattle.pc_path.specs.Output.{stats_form}
 use Rattle.pc_path.proofs.Searching.{more_on_err, stopped_after}
 use Rattle.pc_path.proofs.path.write_listing.Goals as goal
@@ -27,7 +28,7 @@ returns-then-settings-clause-written g c =
     two_calls c.in_ok-write_report.ensures.written line
 
 pub returns-then-settings-clause-cause : goal.returns-then-settings-clause-cause
-returns-then-settings-clause-cause g c = cause_after (c.in_ok-write_report.ensures.cause.kept (λ e. cc)) (line_cause c.write_floods.result c.as_line.result c.as_line.ensures c.write_floods.ensures.cause)
+returns-then-settings-clause-cause g c = cause_after (none_more_lines (none_yet _ _) c.in_ok-write_report.ensures.cause) (line_cause c.write_floods.result c.as_line.result c.as_line.ensures c.write_floods.ensures.cause)
 
 pub returns-then-settings-clause-memory : goal.returns-then-settings-clause-memory
 returns-then-settings-clause-memory g c = λ none. line_memory c.write_floods.result c.as_line.result c.as_line.ensures none

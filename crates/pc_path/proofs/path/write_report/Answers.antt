@@ -10,7 +10,8 @@ use Rattle.report.specs.Forms.{tail_form}
 use Rattle.report.specs.declared.write_fault.WriteFault.{WriteFault}
 use Rattle.pc_path.specs.Formats.{solution_form}
 use Rattle.pc_path.specs.Writer.{format_of}
-use Rattle.pc_path.proofs.Formatted.{cause_after, line_cause, line_memory, line_writes}
+use Rattle.pc_outside.specs.CountLaws.{none_yet}
+use Rattle.pc_path.proofs.Formatted.{cause_after, line_cause, line_memory, line_writes, none_more_lines}
 use Rattle.pc_path.proofs.Reports.{report_begins, left_over, left_next, left_full, left_as, next_plays}
 use Rattle.pc_path.proofs.Searching.{all_pairs, drop_next, drop_over, goes_on, lines_more, more_on_err, never_ok, no_ok, not_begun, on_err, on_ok, stopped_behind, stopped_line, within_next}
 use Rattle.pc_path.proofs.path.write_report.Goals as goal
@@ -18,7 +19,7 @@ use Rattle.pc_path.proofs.path.write_report.Goals as goal
 pub loop-count-init : goal.loop-count-init
 loop-count-init g c = (
   report_begins _ _ _ _,
-  refl,
+  none_yet _ _,
   refl,
   omega arith,
   not_begun c.args.problem.now (after_given c.args.search.now) c.args.search.now c.args.steps.now c.requires.searching,
@@ -99,7 +100,7 @@ loop-count-preserved g c =
     c.loop-count.invariant.2 c.in_ok-write_solution.ensures.written) in
     let next = sym c.loop-count.invariant.5 ∙ c.in-Some.ensures.found.0 in (
       after_piece c.loop-count.invariant.0 (left_next _ _ _ _ _ _ c.loop-count-test.true c.in-Some.ensures.found.0) written,
-      c.in_ok-write_solution.ensures.cause.kept (λ e. cc) ∙ c.loop-count.invariant.1,
+      none_more_lines c.loop-count.invariant.1 c.in_ok-write_solution.ensures.cause,
       c.write_solution.ensures.finder ∙ c.loop-count.invariant.2,
       omega (arith, c.loop-count.invariant.3, c.in-Some.ensures.rose),
       goes_on c.args.problem.now (after_given c.args.search.now) c.loop-count.search c.next.new.self c.args.steps.now c.loop-count.steps c.next.new.steps c.loop-count.invariant.4 c.loop-count.invariant.3

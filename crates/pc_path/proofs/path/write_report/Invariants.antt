@@ -2,6 +2,7 @@
 use Rattle.std.proofs.Common.{◌≡◌, ◌-◌, ◌≤◌, length, take, drop}
 use Rattle.std.specs.Prelude.{is_some}
 use Rattle.std.specs.List.{flat_map}
+use Rattle.pc_outside.specs.CountLaws.{NoneFailed}
 use Rattle.pc_outside.specs.Writes.{Grows, GrowsUpTo}
 use Rattle.enumerate.specs.ViewOf.{after_given, solutions}
 use Rattle.report.specs.Forms.{report_form}
@@ -16,7 +17,7 @@ invariant-loop-count g l =
     GrowsUpTo (g.O.Sink.written l.initial.out) (g.O.Sink.written l.out)
     (report_form (solution_form (format_of l.initial.writer) (is_some l.initial.finder) l.problem) l.limit (solutions l.initial.search))
     (report_from (solution_form (format_of l.initial.writer) (is_some l.initial.finder) l.problem) l.count (l.limit - l.count) (solutions l.search))
-    × (g.O.Sink.faults l.out ≡ g.O.Sink.faults l.initial.out)
+    × NoneFailed g.O.Sink.counts_failures_alone (g.O.Sink.faults l.initial.out) (g.O.Sink.faults l.out)
     × (is_some l.finder ≡ is_some l.initial.finder)
     × (l.initial.steps ≤ l.steps)
     × IsSearchOf l.problem (after_given l.initial.search) l.search (l.steps - l.initial.steps)

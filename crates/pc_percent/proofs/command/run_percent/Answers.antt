@@ -17,7 +17,7 @@ returns-in-Err-clause-answers g c =
 pub returns-in-Err-clause-works : goal.returns-in-Err-clause-works
 returns-in-Err-clause-works g c =
     let task = percent_task (percent_view c.args.settings.now) in
-    let sink = sink_change (g.O.Sink.written c.args.out.now) (g.O.Sink.written c.args.out.now) (g.O.Sink.faults c.args.out.now) (g.O.Sink.faults c.args.out.now) in
+    let sink = sink_change g.O.Sink.counts_failures_alone (g.O.Sink.written c.args.out.now) (g.O.Sink.written c.args.out.now) (g.O.Sink.faults c.args.out.now) (g.O.Sink.faults c.args.out.now) in
     refused_works task (task.fault c.args.bytes.now) c.args.bytes.now sink (c.args.steps.now - c.args.steps.now) c.in-Err.refused c.from.result c.from.ensures (none_added _ _ refl)
 
 pub returns-in-Ok-clause-answers : goal.returns-in-Ok-clause-answers
@@ -26,5 +26,5 @@ returns-in-Ok-clause-answers g c =
 
 pub returns-in-Ok-clause-works : goal.returns-in-Ok-clause-works
 returns-in-Ok-clause-works g c =
-    let sink = sink_change (g.O.Sink.written c.args.out.now) (g.O.Sink.written c.answer_all.new.out) (g.O.Sink.faults c.args.out.now) (g.O.Sink.faults c.answer_all.new.out) in
+    let sink = sink_change g.O.Sink.counts_failures_alone (g.O.Sink.written c.args.out.now) (g.O.Sink.written c.answer_all.new.out) (g.O.Sink.faults c.args.out.now) (g.O.Sink.faults c.answer_all.new.out) in
     asks_work (percent_view c.args.settings.now) c.args.bytes.now (filled c.in-Ok.well) c.in-Ok.ensures.field sink (c.answer_all.new.steps - c.args.steps.now) c.answer_all.result c.answer_all.ensures.works

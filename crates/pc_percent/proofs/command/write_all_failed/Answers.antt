@@ -1,5 +1,7 @@
 -- Each turn writes the line of a failed queue, or passes one over.
 use Rattle.std.proofs.Common.{◌≡◌, ◌<◌, ◌≤◌, ◌∙◌, ◌+◌, ◌-◌, false, true, length, drop, refl, sym, ap, subst, arith}
+use Rattle.pc_outside.specs.CountLaws.{NoneFailed}
+use Rattle.pc_outside.specs.CountLaws as laws
 use Rattle.pc_outside.specs.Writes.{GrowsUpTo}
 use Rattle.pc_outside.specs.WriteLaws.{after_piece, at_err, ends, failed_piece}
 use Rattle.queue_pattern.specs.Pattern.{elements_of}
@@ -38,7 +40,8 @@ loop-number-preserved g c =
           let line = failed_more test qs n c.loop-number.left c.if-left-gt0.left w.queue.result.items (omega (arith, w.if-left-gt0.true)) w.left-is within w.queue.ensures bad in (
             subst (λ o. GrowsUpTo (g.O.Sink.written c.args.out.now) (g.O.Sink.written o) whole (failed_lines test c.if-left-gt0.left (drop (n + 1) qs))) (sym w.out-is)
                 (after_piece c.loop-number.invariant.0 line w.in_ok-write_failed.ensures.written),
-            ap (λ o. g.O.Sink.faults o) w.out-is ∙ w.in_ok-write_failed.ensures.cause.kept ∙ c.loop-number.invariant.1,
+            subst (λ o. NoneFailed g.O.Sink.counts_failures_alone (g.O.Sink.faults c.args.out.now) (g.O.Sink.faults o)) (sym w.out-is)
+                (laws.none_more c.loop-number.invariant.1 w.in_ok-write_failed.ensures.cause),
           )
       | else-left-gt0 w ↦
           let passed : failed_lines test c.loop-number.left (drop n qs) ≡ failed_lines test c.loop-number.left (drop (n + 1) qs) = elim w.else-left-gt0.branch [
@@ -50,7 +53,7 @@ loop-number-preserved g c =
           let left = passed ∙ ap (λ l. failed_lines test l (drop (n + 1) qs)) (sym w.left-is) in (
             subst (λ o. GrowsUpTo (g.O.Sink.written c.args.out.now) (g.O.Sink.written o) whole (failed_lines test c.if-left-gt0.left (drop (n + 1) qs))) (sym w.out-is)
                 (subst (λ l. GrowsUpTo (g.O.Sink.written c.args.out.now) (g.O.Sink.written c.loop-number.out) whole l) left c.loop-number.invariant.0),
-            ap (λ o. g.O.Sink.faults o) w.out-is ∙ c.loop-number.invariant.1,
+            subst (λ o. NoneFailed g.O.Sink.counts_failures_alone (g.O.Sink.faults c.args.out.now) (g.O.Sink.faults o)) (sym w.out-is) c.loop-number.invariant.1,
           )
     ]
 

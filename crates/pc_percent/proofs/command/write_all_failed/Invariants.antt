@@ -1,5 +1,6 @@
 -- The lines of the failed queues so far are written, and those of the queues that are left make the rest.
 use Rattle.std.proofs.Common.{◌≡◌, drop}
+use Rattle.pc_outside.specs.CountLaws.{NoneFailed}
 use Rattle.pc_outside.specs.Writes.{GrowsUpTo}
 use Rattle.queue_pattern.specs.Pattern.{elements_of}
 use Rattle.queue_pattern.specs.Queues.{queues}
@@ -12,4 +13,4 @@ invariant-loop-number g l =
     GrowsUpTo (g.O.Sink.written l.initial.out) (g.O.Sink.written l.out)
     (failed_lines (is_good_queue l.problem) l.limit (queues (elements_of l.problem.pattern)))
     (failed_lines (is_good_queue l.problem) l.left (drop l.number (queues (elements_of l.problem.pattern))))
-    × (g.O.Sink.faults l.out ≡ g.O.Sink.faults l.initial.out)
+    × NoneFailed g.O.Sink.counts_failures_alone (g.O.Sink.faults l.initial.out) (g.O.Sink.faults l.out)

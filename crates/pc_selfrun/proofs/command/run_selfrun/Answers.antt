@@ -75,5 +75,5 @@ returns-clause-works g c =
     let all : floods ≡ pairs problem None =
     c.count_solutions-solutions.ensures.all start.after start.work ∙ (λ i. pairs (start.view i).problem (start.view i).queue) in
     let work : IsWholeSearch (column_drawn number pages) floods = record { problem = problem; named = named; all = all } in
-    let sink = sink_change (g.O.Sink.written c.args.out.now) (g.O.Sink.written c.write_findings.new.out) (g.O.Sink.faults c.args.out.now) (g.O.Sink.faults c.write_findings.new.out) in
+    let sink = sink_change g.O.Sink.counts_failures_alone (g.O.Sink.written c.args.out.now) (g.O.Sink.written c.write_findings.new.out) (g.O.Sink.faults c.args.out.now) (g.O.Sink.faults c.write_findings.new.out) in
     written_works (selfrun_task number pages) None [] sink floods c.write_findings.result c.after_writes.result c.after_writes.ensures (λ all is. work) (λ failed is. work)

@@ -5,6 +5,7 @@ use Rattle.srs.specs.declared.piece.Piece.TheVariants.{I}
 use Rattle.srs.specs.declared.rotation.Rotation.TheVariants.{Spawn}
 use Rattle.srs.specs.Rules.{table_of}
 use Rattle.well.specs.Well.{filled}
+use Rattle.pc_outside.specs.CountLaws.{none_more, none_yet}
 use Rattle.pc_outside.specs.Writes.{GrowsUpTo}
 use Rattle.pc_outside.specs.WriteLaws.{begins, after_piece, ends, failed_piece, at_err}
 use Rattle.report.specs.Grid.{grid_pictures}
@@ -17,7 +18,7 @@ abbrev default : Placement
 default = record { piece = I; rotation = Spawn; x = 0; y = 0 }
 
 pub loop-placement-init : goal.loop-placement-init
-loop-placement-init g c = (begins (g.O.Sink.written c.args.out.now) _, record { rows = c.args.problem.now.height; plays = c.requires.plays }, c.requires.low, refl)
+loop-placement-init g c = (begins (g.O.Sink.written c.args.out.now) _, record { rows = c.args.problem.now.height; plays = c.requires.plays }, c.requires.low, none_yet _ _)
 
 pub picture-requires-clause-column : goal.picture-requires-clause-column
 picture-requires-clause-column g c =
@@ -51,7 +52,7 @@ loop-placement-preserved g c =
       after_piece c.loop-placement.invariant.0 next c.in_ok-write.ensures.written,
       subst (λ F. PlaysOn table mode F s (i + 1)) (sym c.lock-locked.ensures.field) (plays_next table mode F s i default c.loop-placement-test.true c.loop-placement.invariant.1),
       omega (arith, c.saturating_sub-rows.ensures, c.loop-placement.invariant.2),
-      c.in_ok-write.ensures.cause.kept ∙ c.loop-placement.invariant.3,
+      none_more c.loop-placement.invariant.3 c.in_ok-write.ensures.cause,
     )
 
 pub returns-clause-written : goal.returns-clause-written

@@ -2,6 +2,7 @@
 use Rattle.std.proofs.Common.{◌≡◌, ◌≤◌, drop}
 use Rattle.srs.specs.Rules.{table_of}
 use Rattle.well.specs.Well.{filled}
+use Rattle.pc_outside.specs.CountLaws.{NoneFailed}
 use Rattle.pc_outside.specs.Writes.{GrowsUpTo}
 use Rattle.report.specs.Grid.{grid_pictures}
 use Rattle.report.proofs.LineLemmas.{PlaysOn}
@@ -14,4 +15,4 @@ invariant-loop-placement g l =
     (grid_pictures (filled l.well) l.rows (drop l.placement-index l.placements))
     × PlaysOn (table_of l.problem.rules) l.problem.drop_mode (filled l.well) l.placements l.placement-index
     × (l.rows ≤ 23)
-    × (g.O.Sink.faults l.out ≡ g.O.Sink.faults l.initial.out)
+    × NoneFailed g.O.Sink.counts_failures_alone (g.O.Sink.faults l.initial.out) (g.O.Sink.faults l.out)

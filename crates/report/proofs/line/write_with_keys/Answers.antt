@@ -6,6 +6,7 @@ use Rattle.srs.specs.declared.piece.Piece.TheVariants.{I}
 use Rattle.srs.specs.declared.rotation.Rotation.TheVariants.{Spawn}
 use Rattle.srs.specs.Rules.{table_of}
 use Rattle.well.specs.Well.{filled}
+use Rattle.pc_outside.specs.CountLaws.{none_more, none_yet}
 use Rattle.pc_outside.specs.Writes.{GrowsUpTo}
 use Rattle.pc_outside.specs.WriteLaws.{begins, stops, last_call, at_err}
 use Rattle.report.specs.Forms.{key_part, line_form}
@@ -26,7 +27,7 @@ loop-placement-init g c =
           (whole_line keys F c.args.placements.now ∙ ap (λ held. held ++ line_from keys [] F c.args.placements.now) (sym c.new-held.ensures)) (begins (g.O.Sink.written c.args.out.now) _),
       c.requires,
       omega arith,
-      refl,
+      none_yet _ _,
     )
 
 pub word_of-word-requires-clause-inside : goal.word_of-word-requires-clause-inside
@@ -49,7 +50,7 @@ loop-placement-preserved g c =
       goes_held (line_from (key_part true table mode) (32 ∷ []) (filled c.lock.result.0) (drop (i + 1) c.args.placements.now)) c.loop-placement.invariant.0 next c.in_ok-append.ensures.done,
       subst (λ F. AreFree F (drop (i + 1) c.args.placements.now)) (sym c.lock.ensures.field) (next_free F c.args.placements.now i default c.loop-placement-test.true c.loop-placement.invariant.1),
       omega arith,
-      c.in_ok-append.ensures.cause.kept ∙ c.loop-placement.invariant.3,
+      none_more c.loop-placement.invariant.3 c.in_ok-append.ensures.cause,
     )
 
 pub returns-in_err-append-2-clause-written : goal.returns-in_err-append-2-clause-written

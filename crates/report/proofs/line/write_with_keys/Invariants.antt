@@ -2,6 +2,7 @@
 use Rattle.std.proofs.Common.{◌≡◌, ◌++◌, ◌≤◌, true, length, drop}
 use Rattle.srs.specs.Rules.{table_of}
 use Rattle.well.specs.Well.{filled}
+use Rattle.pc_outside.specs.CountLaws.{NoneFailed}
 use Rattle.pc_outside.specs.Writes.{GrowsUpTo}
 use Rattle.report.specs.Forms.{key_part, line_form}
 use Rattle.report.specs.Played.{AreFree}
@@ -15,4 +16,4 @@ invariant-loop-placement g l =
     (l.held.items ++ line_from (key_part true (table_of l.rules) l.drop_mode) l.divider (filled l.before) (drop l.placement-index l.placements))
     × AreFree (filled l.before) (drop l.placement-index l.placements)
     × (length l.divider ≤ 1)
-    × (g.O.Sink.faults l.out ≡ g.O.Sink.faults l.initial.out)
+    × NoneFailed g.O.Sink.counts_failures_alone (g.O.Sink.faults l.initial.out) (g.O.Sink.faults l.out)
