@@ -19,7 +19,7 @@ use Rattle.prune.proofs.CallerLemmas.{with_part, TakenPart, taken_part}
 use Rattle.packing.specs.declared.span.Span.{Span}
 use Rattle.packing.specs.Empties.{all_but}
 use Rattle.packing.specs.Spans.{HasNoCell, IsFirst}
-use Rattle.packing.specs.Stacks.{is_allowed, CanFill, StacksOver, StacksPiece, in_stack, without_stack}
+use Rattle.packing.specs.Stacks.{is_allowed, CanFill, Stacks, StacksOver, StacksPiece, in_stack, without_stack}
 use Rattle.packing.proofs.StackLemmas.{Rises, IsWithin, IsSmall, Follows, Chosen}
 use Rattle.packing.proofs.ChosenLemmas.{chosen, stacked, follows-first}
 use Rattle.packing.proofs.FormLemmas.{leftmost, lowest, form_at, form, distance, place_in, rotation_at, Matches, sent_column, same_cells, left_cell, left_in_stack, stack_right_of, level_within, level_up, row_up, cell_at_level, row_by_level, form_within, form_of_place}
@@ -63,7 +63,7 @@ fills_nothing height E supply none = record {
     covered (negsuc x, negsuc y) = refl
 
 -- a cell of sent cells comes from one of them
-sent_from : (f : Cell → Cell) (cells : List Cell) (d : Cell) → is_among (map f cells) d ≡ true → (c : Cell) × (is_among cells c ≡ true) × (f c ≡ d)
+pub sent_from : (f : Cell → Cell) (cells : List Cell) (d : Cell) → is_among (map f cells) d ≡ true → (c : Cell) × (is_among cells c ≡ true) × (f c ≡ d)
 unfolding is_among
 sent_from f [] d has = absurd (false≢true has)
 sent_from f (c ∷ cells) d has = elim (or_cases (cell_eq (f c) d) _ has) [
@@ -71,7 +71,7 @@ sent_from f (c ∷ cells) d has = elim (or_cases (cell_eq (f c) d) _ has) [
   | inr later ↦ let found = sent_from f cells d later in (found.0, or_right (cell_eq c found.0) _ found.1, found.2)
 ]
 
-sent_has : (f : Cell → Cell) (cells : List Cell) (c : Cell) → is_among cells c ≡ true → is_among (map f cells) (f c) ≡ true
+pub sent_has : (f : Cell → Cell) (cells : List Cell) (c : Cell) → is_among cells c ≡ true → is_among (map f cells) (f c) ≡ true
 unfolding is_among
 sent_has f [] c has = absurd (false≢true has)
 sent_has f (d ∷ cells) c has = elim (or_cases (cell_eq d c) _ has) [
@@ -91,7 +91,7 @@ left_by E piece rotation move row x rows matches = fun_ext (λ a. fun_ext (λ b.
     less true false = refl
     less false q = refl
 
-one_back : (supply : Supply) (piece : Piece) → 0 < supply piece → with_one (less_one supply piece) piece ≡ supply
+pub one_back : (supply : Supply) (piece : Piece) → 0 < supply piece → with_one (less_one supply piece) piece ≡ supply
 unfolding with_one less_one
 one_back supply piece some = fun_ext (λ other. elim (cases_Bool (piece_code piece == piece_code other)) [
   | inl same ↦
@@ -216,6 +216,29 @@ filled_by height E supply x0 y0 small here filling = by_part (taken_part (all_bu
             (subst (λ (d : Cell). is_empty_below (all_but E) height d ≡ true) (negative_at piece rotation move t.generalized.row n c.0 (ap (λ z. z +ℤ move) c.2 ∙ moved))
             (empty (sent move t.generalized.row c.0) (sent_has (sent move t.generalized.row) (shape piece rotation) c.0 c.1))))
 
+-- spans of a piece that have the first cell of a set are stacked over it
+pub over_first : (E : Field) (x y : ℕ) (piece : Piece) (rotation : Rotation) (left : ℕ) (rows : ℕ → ℕ) (Fact : Field → Type 0) → IsFirst E x y → Rises rows (length (form piece rotation)) →
+    IsWithin E left rows (form piece rotation) → in_stack left rows (form piece rotation) x y ≡ true → Fact (without_stack E left rows (form piece rotation)) → Stacks (is_allowed y) Fact E x 0 (form piece rotation)
+over_first E x y piece rotation left rows Fact first rises within has fact =
+    subst (λ k. Stacks (is_allowed y) Fact E k 0 spans) same_column
+    (stacked (is_allowed y) Fact E left 0 rows spans rises (λ k below. omega arith) within follows fact)
+  where
+    spans : List Span
+    spans = form piece rotation
+
+    same_column : left ≡ x
+    same_column =
+        let there = left_in_stack piece rotation left rows in
+        let upper : left ≤ x = stack_right_of left rows spans x y has in
+        elim (cases_lt left x) [
+          | inl less ↦ absurd (both_ways (E left there.0) (first.leftmost left there.0 less) (within.inside left there.0 there.1))
+          | inr other ↦ omega arith
+        ]
+
+    follows : Follows (is_allowed y) 0 rows spans
+    follows = follows-first E left y 0 rows spans (λ b below. ap (λ k. E k b) same_column ∙ first.lowest b below) rises (λ k below. omega arith) within
+        (subst (λ k. in_stack left rows spans k y ≡ true) (sym same_column) has)
+
 -- the lowest cell of the leftmost column is covered by spans that begin in that column
 pub record StackedFirst (E : Field) (supply : Supply) (x y : ℕ) : Type 0 where
   pub piece : Piece
@@ -223,34 +246,17 @@ pub record StackedFirst (E : Field) (supply : Supply) (x y : ℕ) : Type 0 where
   pub stacks : StacksPiece (less_one supply piece) E x y piece
 
 pub stacked_first : (E : Field) (supply : Supply) (x y : ℕ) → IsSmall 8 E → IsFirst E x y → CanFill 8 supply E → StackedFirst E supply x y
-stacked_first E supply x y small first filling = record {
-  piece = by.piece;
-  some = by.some;
-  stacks = record { place = form_at by.piece by.rotation; known = form_within by.piece by.rotation; stacks = stacks };
-}
-  where
-    by : FilledBy 8 E supply x y
-    by = filled_by 8 E supply x y small first.filled filling
-
-    spans : List Span
-    spans = form by.piece by.rotation
-
-    same_column : by.x ≡ x
-    same_column =
-        let left = left_in_stack by.piece by.rotation by.x by.rows in
-        let upper : by.x ≤ x = stack_right_of by.x by.rows spans x y by.has in
-        elim (cases_lt by.x x) [
-          | inl less ↦ absurd (both_ways (E by.x left.0) (first.leftmost by.x left.0 less) (by.within.inside by.x left.0 left.1))
-          | inr other ↦ omega arith
-        ]
-
-    follows : Follows (is_allowed y) 0 by.rows spans
-    follows = follows-first E by.x y 0 by.rows spans (λ b below. ap (λ k. E k b) same_column ∙ first.lowest b below) by.rises (λ k below. omega arith) by.within
-        (subst (λ k. in_stack by.x by.rows spans k y ≡ true) (sym same_column) by.has)
-
-    stacks : StacksOver (less_one supply by.piece) E x y 0 spans
-    stacks = subst (λ k. StacksOver (less_one supply by.piece) E k y 0 spans) same_column
-        (stacked (is_allowed y) (CanFill 8 (less_one supply by.piece)) E by.x 0 by.rows spans by.rises (λ k below. omega arith) by.within follows by.rest)
+stacked_first E supply x y small first filling =
+    let by = filled_by 8 E supply x y small first.filled filling in
+    record {
+      piece = by.piece;
+      some = by.some;
+      stacks = record {
+        place = form_at by.piece by.rotation;
+        known = form_within by.piece by.rotation;
+        stacks = over_first E x y by.piece by.rotation by.x by.rows (CanFill 8 (less_one supply by.piece)) first by.rises by.within by.has by.rest;
+      };
+    }
 
 -- and where the spans of a piece stack so, the set can be filled
 pub fills_stacked : (E : Field) (supply : Supply) (piece : Piece) (x y : ℕ) → IsSmall 8 E → 0 < supply piece → StacksPiece (less_one supply piece) E x y piece → CanFill 8 supply E

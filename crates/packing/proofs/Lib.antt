@@ -4,6 +4,7 @@ mod ColumnBits
 mod Mirrors
 mod EmptiesLemmas
 mod SupplyLemmas
+mod MarkLemmas
 mod StackLemmas
 mod ChosenLemmas
 mod FormLemmas
@@ -13,4 +14,9 @@ mod SearchLemmas
 mod PlacedBits
 mod SameTilings
 mod HasTilingLemmas
+mod FirstCells
+mod WalkLemmas
+mod WalkSteps
+mod WalkRows
+mod WalkGains
 pub mod CallerLemmas

@@ -1,7 +1,9 @@
 -- What a reader must believe
 pub mod Empties
+pub mod TiledPieces
 -- What serves proofs alone
 pub mod Spans
 pub mod ShapeBits
 pub mod Stacks
 pub mod HasTiling
+pub mod Walks

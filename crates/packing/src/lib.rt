@@ -4,19 +4,25 @@
 mod columns;
 mod decided;
 mod empties;
+mod forms;
 pub mod laws;
 mod mirror;
+mod pieces;
 mod placed;
 mod rows;
 mod search;
 mod span;
 mod store;
 mod supply;
+mod walk;
+mod walked;
 mod wells;
 
 pub use empties::Empties;
+pub use pieces::TiledPieces;
 pub use store::TilingStore;
 pub use supply::without_one;
+pub use walk::PieceStore;
 pub use wells::tiles;
 
 #[cfg(test)]

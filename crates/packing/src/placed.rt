@@ -1,13 +1,19 @@
 // The cells that a placement leaves.
-ghost use Rattle.std.specs.Prelude.{◌≡◌, ◌≤◌, ◌+◌, ◌*◌, ◌&&◌, ℕ, nat_le, pos};
+ghost use Rattle.std.specs.Prelude.{◌≡◌, ◌≤◌, ◌+◌, ◌*◌, ◌&&◌, ℕ, nat_le, pos, neg_ℤ, ◌+ℤ◌, IfSome, MatchOption};
+ghost use Rattle.std.specs.List.{list_all};
 ghost use Rattle.lane_board.specs.Lanes.{has_bit};
 ghost use Rattle.srs.specs.Cells.{cells_of};
 ghost use Rattle.srs.specs.SameCells.{is_among};
 ghost use Rattle.packing.specs.Empties.{empty_cells, without_placement};
 ghost use Rattle.packing.specs.ShapeBits.{shape_bits};
+ghost use Rattle.packing.specs.TiledPieces.{has_cell};
+ghost use Rattle.packing.specs.Walks.{first_offset, IsOver};
+ghost use Rattle.srs.specs.declared.placement.Placement.{Placement};
 
 use crate::empties::Empties;
-use srs::{Piece, Placement, Rotation};
+use crate::rows::has_row;
+use crate::span::Span;
+use srs::{Piece, Placement, Rotation, cells};
 
 impl Empties {
     /// The set without the cells of a placement.
@@ -17,6 +23,26 @@ impl Empties {
         ensures { empty_cells result ≡ without_placement (empty_cells self.now) placement.now }
     {
         self.without_bits(bits_of(placement))
+    }
+
+    /// Whether the set has all cells of a placement.
+    pub(crate) fn has_all(&self, placement: &Placement) -> bool
+        requires column { placement.now.x ≤ 31 }
+        requires row { placement.now.y ≤ 31 }
+        ensures { result ≡ list_all (has_cell (empty_cells self.now)) (cells_of placement.now) }
+    {
+        cells(placement).iter().all(|cell| self.has(*cell))
+    }
+
+    /// Whether it has a cell, as column and row.
+    fn has(&self, cell: (i8, i8)) -> bool
+        ensures { result ≡ has_cell (empty_cells self.now) cell }
+    {
+        let (x, y) = cell;
+        if x < 0 || 9 < x || y < 0 || 7 < y {
+            return false;
+        }
+        has_row(self.rows_with(x as u8, Span::First), y as u8)
     }
 }
 
@@ -70,5 +96,58 @@ fn shape_bits(piece: Piece, rotation: Rotation) -> u64
         T: 0x40c_0400, 0x40e_0000, 0x406_0400, 0xe_0400;
         J: 0x404_0c00, 0x80e_0000, 0x604_0400, 0xe_0200;
         S: 0x80c_0400, 0x60c_0000, 0x406_0200, 0x6_0c00;
+    }
+}
+
+/// The placement of a piece in a rotation whose lowest cell in its leftmost column is this one. `None` where its pivot
+/// would lie below row 0.
+pub(crate) fn placement_over(piece: Piece, rotation: Rotation, x: u8, y: u8) -> Option<Placement>
+    requires column { x ≤ 9 }
+    requires row { y ≤ 7 }
+    ensures kind { IfSome result (λ q. (q.piece ≡ piece) × (q.rotation ≡ rotation)) }
+    ensures small { IfSome result (λ q. (q.x ≤ 31) × (q.y ≤ 31)) }
+    ensures over { MatchOption result
+        ((q : Placement) → q.piece ≡ piece → q.rotation ≡ rotation → IsOver x y q → ⊥)
+        (IsOver x y) }
+{
+    let (right, up) = to_pivot(piece, rotation);
+    if y + up < 2 {
+        return None;
+    }
+    Some(Placement {
+        piece,
+        rotation,
+        x: x + right,
+        y: y + up - 2,
+    })
+}
+
+/// How many columns to the right, and how many rows up with two more, the pivot lies from the lowest cell of the
+/// leftmost column.
+fn to_pivot(piece: Piece, rotation: Rotation) -> (u8, u8)
+    ensures column { pos result.0 ≡ neg_ℤ (first_offset piece rotation).0 }
+    ensures row { pos result.1 ≡ pos 2 +ℤ neg_ℤ (first_offset piece rotation).1 }
+    ensures small { (result.0 ≤ 2) × (result.1 ≤ 4) }
+{
+    macro_rules! pivots {
+        ($($kind:ident: $spawn:expr, $right:expr, $reverse:expr, $left:expr;)*) => {
+            match piece {
+                $(Piece::$kind => match rotation {
+                    Rotation::Spawn => $spawn,
+                    Rotation::Right => $right,
+                    Rotation::Reverse => $reverse,
+                    Rotation::Left => $left,
+                },)*
+            }
+        };
+    }
+    pivots! {
+        I: (1, 2), (0, 4), (2, 2), (0, 3);
+        L: (1, 2), (0, 3), (1, 3), (1, 1);
+        O: (0, 2), (0, 3), (1, 3), (1, 2);
+        Z: (1, 1), (0, 3), (1, 2), (1, 3);
+        T: (1, 2), (0, 3), (1, 2), (1, 2);
+        J: (1, 2), (0, 3), (1, 2), (1, 3);
+        S: (1, 2), (0, 2), (1, 3), (1, 2);
     }
 }

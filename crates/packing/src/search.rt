@@ -368,7 +368,7 @@ impl Empties {
 /// The rows from `floor` on that a span may take so that the lowest span with the first column takes row `y`: until
 /// that one has come, so where `floor` is `y` or below.
 #[inline(always)]
-fn allowed(y: u8, floor: u8, span: Span) -> u8
+pub(crate) fn allowed(y: u8, floor: u8, span: Span) -> u8
     requires row { y ≤ 7 }
     requires start { floor ≤ 8 }
     ensures { (row : ℕ) → row < 8

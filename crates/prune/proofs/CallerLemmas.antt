@@ -5,4 +5,4 @@ pub use Rattle.prune.proofs.MirrorLemmas.{kind_again, tiling_mirrored}
 pub use Rattle.prune.proofs.RefusalLemmas.{no_uneven_part, none_refused}
 pub use Rattle.prune.proofs.UnevenParts.{Parts, parts-found, parts-next, parts-none, parts-start}
 pub use Rattle.prune.proofs.EvenColumns.{even_columns}
-pub use Rattle.prune.proofs.PlacedLemmas.{cleared_is_tiled, full_rows_may_stand, more_pieces, one_placement}
+pub use Rattle.prune.proofs.PlacedLemmas.{cleared_is_tiled, full_rows_may_stand, more_pieces, one_placement, placed, placed_generalized}

@@ -30,7 +30,7 @@ map-agree f g ok (c ∷ cs) all agree =
     let parts = and_parts (ok c) (list_all ok cs) all in
     λ i. agree c parts.0 i ∷ map-agree f g ok cs parts.1 agree i
 
-abbrev placed : Placement → Part
+abbrev pub placed : Placement → Part
 placed q = record { piece = q.piece; cells = cells_of q }
 
 -- the row of the field in which a row of the shape lies
@@ -60,7 +60,7 @@ module _ (q : Placement) (inside : is_inside_of q ≡ true) where
       below_of (negsuc a) (pos b) lower = omega (arith, ints)
       below_of (negsuc a) (negsuc b) lower = omega (arith, ints, ltb-true b a lower)
 
-  placed_generalized : IsGeneralized (placed q)
+  pub placed_generalized : IsGeneralized (placed q)
   placed_generalized = record {
     rotation = q.rotation;
     move = pos q.x;
