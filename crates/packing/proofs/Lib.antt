@@ -4,6 +4,7 @@ mod ColumnBits
 mod Mirrors
 mod EmptiesLemmas
 mod SupplyLemmas
+mod PivotLemmas
 mod MarkLemmas
 mod StackLemmas
 mod ChosenLemmas

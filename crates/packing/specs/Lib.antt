@@ -2,6 +2,7 @@
 pub mod Empties
 pub mod TiledPieces
 -- What serves proofs alone
+pub mod Pivots
 pub mod Spans
 pub mod ShapeBits
 pub mod Stacks

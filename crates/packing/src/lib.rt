@@ -6,8 +6,10 @@ mod decided;
 mod empties;
 mod forms;
 pub mod laws;
+mod memory;
 mod mirror;
 mod pieces;
+mod pivots;
 mod placed;
 mod rows;
 mod search;
@@ -19,6 +21,7 @@ mod walked;
 mod wells;
 
 pub use empties::Empties;
+pub use memory::PlaceMemory;
 pub use pieces::TiledPieces;
 pub use store::TilingStore;
 pub use supply::without_one;

@@ -1,13 +1,21 @@
--- One bit more.
-use Rattle.std.proofs.Common.{arith}
+-- The pivots of its kind have one more.
+use Rattle.std.proofs.Common.{◌≡◌, ℕ, ◌-◌, [], get_or, subst, arith, true, false}
+use Rattle.srs.specs.declared.placement.Placement.{Placement}
+use Rattle.packing.specs.Pivots.{has_pivot}
 use Rattle.packing.proofs.MarkLemmas.{has_mark, keeps_marks, only_mark}
 use Rattle.packing.proofs.pieces.TiledPieces.mark.Goals as goal
 
 pub returns-clause-marked : goal.returns-clause-marked
-returns-clause-marked c = rw c.place_among.ensures.place (has_mark c.args.self.now (omega arith) c.args.placement.now c.requires.column c.requires.row)
+returns-clause-marked c = rw c.code.ensures (has_mark c.args.self.now (omega arith) c.args.placement.now c.add.new.self c.add.ensures.added
+    (subst (λ (code : ℕ). (r : Placement) → has_pivot (get_or c.args.self.now.kinds (code - 1) (record { rotations = [] })) r ≡ true → has_pivot c.add.new.self r ≡ true) c.code.ensures c.add.ensures.kept)
+    (subst (λ (code : ℕ). (r : Placement) → r.piece ≡ c.args.placement.now.piece → has_pivot c.add.new.self r ≡ true → has_pivot (get_or c.args.self.now.kinds (code - 1) (record { rotations = [] })) r ≡ false → r ≡ c.args.placement.now) c.code.ensures c.add.ensures.only))
 
 pub returns-clause-kept : goal.returns-clause-kept
-returns-clause-kept c = rw c.place_among.ensures.place (keeps_marks c.args.self.now (omega arith) c.args.placement.now c.requires.column c.requires.row)
+returns-clause-kept c = rw c.code.ensures (keeps_marks c.args.self.now (omega arith) c.args.placement.now c.add.new.self c.add.ensures.added
+    (subst (λ (code : ℕ). (r : Placement) → has_pivot (get_or c.args.self.now.kinds (code - 1) (record { rotations = [] })) r ≡ true → has_pivot c.add.new.self r ≡ true) c.code.ensures c.add.ensures.kept)
+    (subst (λ (code : ℕ). (r : Placement) → r.piece ≡ c.args.placement.now.piece → has_pivot c.add.new.self r ≡ true → has_pivot (get_or c.args.self.now.kinds (code - 1) (record { rotations = [] })) r ≡ false → r ≡ c.args.placement.now) c.code.ensures c.add.ensures.only))
 
 pub returns-clause-only : goal.returns-clause-only
-returns-clause-only c = rw c.place_among.ensures.place (only_mark c.args.self.now (omega arith) c.args.placement.now c.requires.column c.requires.row)
+returns-clause-only c = rw c.code.ensures (only_mark c.args.self.now (omega arith) c.args.placement.now c.add.new.self c.add.ensures.added
+    (subst (λ (code : ℕ). (r : Placement) → has_pivot (get_or c.args.self.now.kinds (code - 1) (record { rotations = [] })) r ≡ true → has_pivot c.add.new.self r ≡ true) c.code.ensures c.add.ensures.kept)
+    (subst (λ (code : ℕ). (r : Placement) → r.piece ≡ c.args.placement.now.piece → has_pivot c.add.new.self r ≡ true → has_pivot (get_or c.args.self.now.kinds (code - 1) (record { rotations = [] })) r ≡ false → r ≡ c.args.placement.now) c.code.ensures c.add.ensures.only))

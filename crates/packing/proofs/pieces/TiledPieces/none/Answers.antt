@@ -1,7 +1,11 @@
--- No bit is set.
-use Rattle.packing.specs.TiledPieces.{mark_place}
-use Rattle.packing.proofs.MarkLemmas.{no_mark, zeros}
+-- No kind has a pivot.
+use Rattle.std.proofs.Common.{ap, ◌∙◌}
+use Rattle.packing.specs.declared.pivots.Pivots.{Pivots}
+use Rattle.packing.specs.Pivots.{has_pivot}
+use Rattle.packing.specs.TiledPieces.{is_marked}
+use Rattle.packing.proofs.MarkLemmas.{of_each_kind}
 use Rattle.packing.proofs.pieces.TiledPieces.none.Goals as goal
 
 pub returns : goal.returns
-returns c = λ q. no_mark _ q (zeros 28 (mark_place q))
+unfolding is_marked
+returns c = λ q. ap (λ (pivots : Pivots). has_pivot pivots q) (of_each_kind c.none.result q.piece) ∙ c.none.ensures q

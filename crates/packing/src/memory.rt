@@ -1,0 +1,152 @@
+// What placements leave, remembered.
+ghost use Rattle.std.specs.Prelude.{◌≡◌, ◌↔◌, ◌≤◌, ◌<◌, IsTrue, IfSome, IfOk, true, false, length};
+ghost use Rattle.srs.specs.declared.placement.Placement.{Placement};
+ghost use Rattle.prune.specs.Tiling.{supply_in, Tiling};
+ghost use Rattle.packing.specs.Empties.{all_but, empty_cells, without_placement};
+ghost use Rattle.packing.specs.HasTiling.{has_tiling};
+ghost use Rattle.packing.specs.Pivots.{has_pivot};
+
+use crate::decided::place_of;
+use crate::empties::Empties;
+use crate::pivots::Pivots;
+use crate::store::TilingStore;
+use pc_outside::NoMemory;
+use srs::{Piece, Placement};
+use std::alloc::Global;
+
+/// The number of sets that are remembered.
+const PLACES: usize = 32768;
+
+/// Which placements of a piece leave a tiling of a set of cells by a supply, of those that were asked.
+#[derive(Clone, Copy)]
+struct Remembered {
+    cells: Empties,
+    supply: [u8; 7],
+    piece: Piece,
+    live: Pivots,
+    dead: Pivots,
+    ghost live_is_true: { (q : Placement) → q.piece ≡ piece → has_pivot live q ≡ true
+        → has_tiling (all_but (without_placement (empty_cells cells) q)) 8 (supply_in supply) ≡ true },
+    ghost dead_is_true: { (q : Placement) → q.piece ≡ piece → has_pivot dead q ≡ true
+        → has_tiling (all_but (without_placement (empty_cells cells) q)) 8 (supply_in supply) ≡ false },
+}
+
+impl Remembered {
+    /// Nothing was asked yet.
+    fn nothing(cells: &Empties, supply: &[u8; 7], piece: Piece) -> Remembered
+        ensures cells { result.cells ≡ cells.now }
+        ensures supply { result.supply ≡ supply.now }
+        ensures piece { result.piece ≡ piece }
+    {
+        Remembered {
+            cells: *cells,
+            supply: *supply,
+            piece,
+            live: Pivots::none(),
+            dead: Pivots::none(),
+        }
+    }
+
+    /// Whether it is about these cells, this supply and this piece.
+    #[inline(always)]
+    fn is_about(&self, cells: &Empties, supply: &[u8; 7], piece: Piece) -> bool
+        ensures cells { IsTrue result → empty_cells self.now.cells ≡ empty_cells cells.now }
+        ensures supply { IsTrue result → self.now.supply ≡ supply.now }
+        ensures piece { IsTrue result → self.now.piece ≡ piece }
+    {
+        self.cells.is_equal(cells)
+            && self.supply == *supply
+            && self.piece.code() == piece.code()
+    }
+
+    /// Whether a placement leaves a tiling, where it was asked.
+    #[inline(always)]
+    fn answer_to(&self, cells: &Empties, supply: &[u8; 7], placement: &Placement) -> Option<bool>
+        ensures { IfSome result (λ answer. answer ≡ has_tiling
+            (all_but (without_placement (empty_cells cells.now) placement.now)) 8 (supply_in supply.now)) }
+    {
+        if !self.is_about(cells, supply, placement.piece) {
+            return None;
+        }
+        if self.live.has(placement) {
+            return Some(true);
+        }
+        if self.dead.has(placement) {
+            return Some(false);
+        }
+        None
+    }
+
+    /// The same with the answer for one placement more.
+    fn with(&self, placement: &Placement, answer: bool) -> Remembered
+        requires column { placement.now.x ≤ 9 }
+        requires row { placement.now.y ≤ 7 }
+        requires piece { placement.now.piece ≡ self.now.piece }
+        requires answer { answer ≡ has_tiling
+            (all_but (without_placement (empty_cells self.now.cells) placement.now)) 8 (supply_in self.now.supply) }
+    {
+        let mut more = *self;
+        if answer {
+            more.live.add(placement);
+        } else {
+            more.dead.add(placement);
+        }
+        more
+    }
+}
+
+/// Remembers which placements leave a tiling, by the cells, the supply and the piece. A later set takes the place of an
+/// earlier one.
+#[derive(Drop)]
+pub struct PlaceMemory {
+    sets: Vec<Remembered>,
+    ghost room: { length sets.items ≡ 32768 },
+}
+
+impl PlaceMemory {
+    /// Nothing is remembered yet. `NoMemory` where its memory is refused.
+    pub fn new(alloc: Global) -> Result<PlaceMemory, NoMemory> {
+        let nothing = Remembered::nothing(&Empties::empty(), &[0; 7], Piece::I);
+        let sets = vec![in alloc; nothing; PLACES]?;
+        Ok(PlaceMemory { sets })
+    }
+
+    /// Whether what a placement leaves of the cells has a tiling by the supply. What wasn't asked before is asked of the
+    /// store, by a search that begins at the side that is nearer to the placement.
+    pub fn leaves_tiling(
+        &mut self,
+        cells: &Empties,
+        placement: &Placement,
+        supply: &[u8; 7],
+        store: &mut TilingStore,
+    ) -> bool
+        requires column { placement.now.x ≤ 9 }
+        requires row { placement.now.y ≤ 31 }
+        ensures { result ≡ has_tiling (all_but (without_placement (empty_cells cells.now) placement.now)) 8
+            (supply_in supply.now) }
+    {
+        let place = place_of(cells, supply, self.sets.len());
+        if let Some(answer) = self.sets[place].answer_to(cells, supply, placement) {
+            return answer;
+        }
+        let answer = store.has_tiling_near(&cells.without(placement), placement.x, supply);
+        if placement.y < 8 {
+            self.sets[place] = self.known(place, cells, supply, placement).with(placement, answer);
+        }
+        answer
+    }
+
+    /// What is remembered of a question, or that nothing is.
+    fn known(&self, place: usize, cells: &Empties, supply: &[u8; 7], placement: &Placement) -> Remembered
+        requires { place < 32768 }
+        ensures cells { empty_cells result.cells ≡ empty_cells cells.now }
+        ensures supply { result.supply ≡ supply.now }
+        ensures piece { result.piece ≡ placement.now.piece }
+    {
+        let known = &self.sets[place];
+        if known.is_about(cells, supply, placement.piece) {
+            return *known;
+        }
+        Remembered::nothing(cells, supply, placement.piece)
+    }
+}
