@@ -1,14 +1,15 @@
-// A counter of floods that takes no bytes.
-ghost use Rattle.std.specs.Prelude.{◌≡◌, ℕ, ◌+◌, ◌<◌};
+// A counter of floods.
+ghost use Rattle.std.specs.Prelude.{◌≡◌, ℕ, ◌+◌, ◌-◌, ◌^◌, ◌<◌, min};
 
 use std::marker::Model;
 use std::sync::ledger::{Blank, Book, Ledger, Share};
 
-/// How many floods were made. It takes no bytes, and only a flood adds to it.
+/// How many floods were made. Only a flood adds to it.
 #[derive(Drop)]
 pub struct Steps<L: Ledger> {
     book: Book<L>,
     share: Share<L>,
+    count: u64,
 }
 
 impl<L: Ledger> Model for Steps<L> {
@@ -16,7 +17,7 @@ impl<L: Ledger> Model for Steps<L> {
 
     ghost view = { λ s. s.book.total };
 
-    ghost invariant = { λ s. 0 < s.share.parts };
+    ghost invariant = { λ s. (0 < s.share.parts) × (s.count ≡ min s.book.total (2 ^ 64 - 1)) };
 }
 
 impl<L: Ledger> Steps<L> {
@@ -28,7 +29,18 @@ impl<L: Ledger> Steps<L> {
         ensures { result ≡ 0 }
     {
         let (book, share) = blank.open();
-        Steps { book, share }
+        Steps {
+            book,
+            share,
+            count: 0,
+        }
+    }
+
+    /// How many floods were made, or the greatest value of a u64 where there were more.
+    pub fn count(&self) -> u64
+        ensures { result ≡ min self.now (2 ^ 64 - 1) }
+    {
+        self.count
     }
 
     /// Counts a flood.
@@ -36,5 +48,6 @@ impl<L: Ledger> Steps<L> {
         ensures { self.new ≡ self.old + 1 }
     {
         self.book.add(&mut self.share, 1);
+        self.count = self.count.saturating_add(1);
     }
 }
