@@ -14,7 +14,7 @@ begun=$here/out/build.begun
 
 # What one job takes of memory, and the whole build of disk, in MB.
 job_memory=3000
-whole_disk=3000
+whole_disk=6000
 
 # The crates that the program is made of, itself included, a line each.
 crates() {
@@ -109,7 +109,7 @@ processors() {
 # Ends where something is missing without which the build would fail after minutes.
 look_around() {
     local said free left
-    command -v rt >/dev/null 2>&1 || fail "the toolchain's command rt is not on the path: README.md, 'Set-up', says what is needed"
+    command -v rt >/dev/null 2>&1 || fail "the toolchain's command rt is not on the path (README.md, 'Set-up')"
     said=$(rt version 2>&1) || fail "rt does not start: ${said##*$'\n'}"
     if ! mkdir -p "$here/crates/pc_cli/out" 2>/dev/null || ! : 2>/dev/null >"$begun"; then
         fail "$here cannot be written: the program is built inside the repository"
@@ -218,8 +218,11 @@ tell_failure() {
 prove() {
     local status=0
     watched "$here/scripts/prove-libraries" "$jobs" || status=$?
-    ((status != 3)) || watched rt all check --jobs "$jobs" || status=$?
-    ((status == 0 || status == 3))
+    if ((status == 3)); then
+        watched rt all check --jobs "$jobs"
+    else
+        return "$status"
+    fi
 }
 
 # The question that the built program is asked: rt builds a program in order to run it, and proves it before.
@@ -244,6 +247,8 @@ build() {
     trap - INT TERM HUP
     end_progress
     note_built "$sum"
+    # (a source that was changed meanwhile is newer)
+    touch -r "$begun" "$built"
     say "proved and built in $(((SECONDS - start) / 60)) min $(((SECONDS - start) % 60)) s"
 }
 
@@ -258,7 +263,9 @@ build_if_needed() {
     mapfile -t names < <(crates)
     why=$(reason)
     [ -n "$why" ] || return 0
-    mkdir -p "$here/out" 2>/dev/null || fail "$here cannot be written: the program is built inside the repository"
+    if ! mkdir -p "$here/out" 2>/dev/null || ! : 2>/dev/null >>"$here/out/build.lock"; then
+        fail "$here cannot be written: the program is built inside the repository"
+    fi
     exec {lock}>"$here/out/build.lock"
     if ! is_ours "$lock"; then
         say "another ./pc builds the program here; waiting for it to end"
