@@ -1,6 +1,8 @@
 -- What `cover` answers where its field is had, and where it is not.
-use Rattle.std.proofs.Common.{◌≡◌, ◌≢◌, ◌∙◌, ℕ, ◌/◌, List, [], ◌∷◌, Option, Some, None, Ok, Err, refl, sym, ap, subst, inl, inr}
+use Rattle.std.proofs.Common.{◌≡◌, ◌≢◌, ◌∙◌, ℕ, ◌+◌, ◌-◌, ◌≤◌, ◌/◌, List, [], length, map, sum_by, arith, Option, Some, None, Ok, Err, refl, sym, ap, subst, inl}
+use Rattle.arrayvec.specs.ArrayVec.{ArrayVec}
 use Rattle.lane_board.specs.Field.{Field}
+use Rattle.srs.specs.declared.placement.Placement.{Placement}
 use Rattle.well.specs.Counts.{empties_below}
 use Rattle.pc_outside.specs.declared.answers.Refused.{Refused}
 use Rattle.pc_outside.specs.declared.answers.Refused.TheVariants as refused
@@ -26,6 +28,8 @@ use Rattle.pc_cover.specs.CoverTask.{cover_task}
 use Rattle.pc_cover.specs.CoveringTask.{covering_task, status_of_lines}
 use Rattle.pc_cover.specs.Faults.{cover_fault, covering_fault, dash, given_fault}
 use Rattle.pc_cover.specs.Given.{Given, given_in}
+use Rattle.pc_cover.specs.Sequences.{listed_placements}
+use Rattle.pc_cover.specs.Work.{IsCoveringWork}
 
 pub reads-something : source_bytes ≢ nothing
 reads-something e = cc
@@ -64,7 +68,7 @@ module _ (request : FieldRequest) (bytes : List ℕ) (F : Field) (has : HasField
   pub asks_work : (floods : ℕ) (status : Status) → Works (covering_task request F) (covering_fault request F bytes) bytes sink floods status
       → Works (cover_task request) (cover_fault request bytes) bytes sink floods status
   asks_work floods status works =
-      part_works (covering_task request F) (cover_task request) bytes bytes sink floods (had_fault request bytes F has) (λ status work. work) status works
+      part_works (covering_task request F) (cover_task request) bytes bytes sink floods (had_fault request bytes F has) (λ status work. record { field = F; asked = has.is; covering = work }) status works
 
 -- ---- what is asked about the field, and then the lines
 
@@ -116,3 +120,13 @@ lines_refused request F bytes needed sink Kept floods r status same none is read
 pub lines_works : (request : FieldRequest) (F : Field) (bytes : List ℕ) (fault : Option Fault) (sink : SinkChange) (floods : ℕ) (r : Refused CoverFault) → floods ≡ 0 → Works (covering_task request F) fault bytes sink floods (status_of_lines r)
 lines_works request F bytes fault sink floods (refused.Fault f) idle = idle
 lines_works request F bytes fault sink floods refused.NoMemory idle = inl idle
+
+-- ---- the floods
+
+pub few_floods : (request : FieldRequest) (F : Field) (bytes : List ℕ) (needed : ℕ) (sequences : List (List Placement)) (floods : ℕ) → needed ≡ empties_below F request.height / 4 → given_in needed bytes ≡ Ok sequences
+    → floods ≤ sum_by length sequences → IsCoveringWork request F bytes floods
+few_floods request F bytes needed sequences floods is read few =
+    record { sequences = sequences; given = ap (λ n. given_in n bytes) (sym is) ∙ read; few = few }
+
+pub at_most : (old new : ℕ) (items given : List (ArrayVec Placement)) → items ≡ given → new ≤ old + sum_by length (map listed_placements items) → new - old ≤ sum_by length (map listed_placements given)
+at_most old new items given same few = omega (arith, few, ap (λ (l : List (ArrayVec Placement)). sum_by length (map listed_placements l)) same)

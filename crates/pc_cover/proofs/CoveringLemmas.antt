@@ -1,12 +1,15 @@
 -- Kept lists, and the numbers of the queues that permit one.
-use Rattle.std.proofs.Common.{◌≡◌, ◌⊎◌, ◌↔◌, ℕ, zero, suc, ◌+◌, ◌-◌, ◌<◌, ◌≤◌, Bool, true, false, IsTrue, ◌||◌, List, [], ◌∷◌, ◌++◌, Contains, Option, Some, None, filter, length, slice_get, get_or, refl, sym, ap, subst, ◌∙◌, inl, inr, arith}
+use Rattle.std.proofs.Common.{◌≡◌, ◌⊎◌, ◌↔◌, ℕ, zero, suc, ◌+◌, ◌-◌, ◌<◌, ◌≤◌, Bool, true, false, IsTrue, ◌||◌, List, [], ◌∷◌, ◌++◌, Contains, Option, Some, filter, length, map, sum_by, take, drop, take-append-drop, slice_get, get_or, refl, sym, ap, subst, ◌∙◌, inl, inr, arith}
 use Rattle.std.specs.List.{flat_map, list_any, range_with_len}
 use Rattle.std.specs.Ordering.{nat_cmp}
 use Rattle.std.proofs.lemmas.Bool.{cases_Bool, cases_eq, both_ways}
-use Rattle.std.proofs.lemmas.List.Elements.{Contains-append_cases, Contains-append_left, Contains-append_right, Contains-push}
+use Rattle.std.proofs.lemmas.List.{map-append}
+use Rattle.std.proofs.lemmas.List.Elements.{Contains-append_cases, Contains-append_left, Contains-push}
 use Rattle.std.proofs.lemmas.List.Kept.{IsStrictlySortedBy-filter}
+use Rattle.std.proofs.lemmas.List.Sums.{sum_by-append, sum_by-cons}
 use Rattle.std.proofs.lemmas.Option.{get_or_from_slice_get, slice_get-get_or, slice_get_within}
 use Rattle.lists.proofs.CallerLemmas.{Contains-cases, Contains-filter, Contains-from_filter, Contains-here, Contains-none, Contains-range, Contains-there, filter-false, filter-true, range-from, rising-range}
+use Rattle.arrayvec.specs.ArrayVec.{ArrayVec}
 use Rattle.srs.specs.declared.piece.Piece.{Piece}
 use Rattle.srs.specs.declared.placement.Placement.{Placement}
 use Rattle.queue_pattern.specs.Pattern.{elements_of}
@@ -18,6 +21,7 @@ use Rattle.problem.specs.Solution.{pieces_of}
 use Rattle.cover.specs.Covered.{Adds, IsCovered, IsCoveredList, IsLeastFrom, IsNextFrom, IsPermitted, Keeps, PlaysIn}
 use Rattle.queue_lines.specs.Lines.{queue_form}
 use Rattle.pc_cover.specs.Lines.{queues_form}
+use Rattle.pc_cover.specs.Sequences.{listed_placements}
 use Rattle.pc_cover.specs.Covering.{AreKinds, KeepsKindsOf, numbers_from, permits_one}
 
 -- ---- what is kept
@@ -229,3 +233,15 @@ form-next all numbers rest number queue is there =
 pub form-none : (all : List (List Piece)) (numbers : List ℕ) → numbers ≡ [] → queues_form all numbers ≡ []
 unfolding queues_form
 form-none all numbers none = ap (λ l. flat_map (λ n. queue_form (get_or all n [])) l) none
+
+pub size-more : (before : List (List Placement)) (sequence : List Placement) → sum_by length (before ++ sequence ∷ []) ≡ sum_by length before + length sequence
+size-more before sequence = omega (arith, sum_by-append length before (sequence ∷ []), sum_by-cons length sequence [])
+
+-- the first sequences have no more placements than all
+pub size-front : (sequences : List (ArrayVec Placement)) (i : ℕ) → sum_by length (map listed_placements (take i sequences)) ≤ sum_by length (map listed_placements sequences)
+size-front sequences i =
+    omega (
+      arith,
+      ap (sum_by length) (sym (map-append listed_placements (take i sequences) (drop i sequences)) ∙ ap (map listed_placements) (take-append-drop i sequences)),
+      sum_by-append length (map listed_placements (take i sequences)) (map listed_placements (drop i sequences)),
+    )

@@ -1,14 +1,11 @@
 -- What `cover` writes is determined by its request and the bytes of the source.
-use Rattle.std.proofs.Common.{◌≡◌, ◌∙◌, ◌↔◌, ℕ, ◌/◌, List, Result, Ok, slice_get, Some, sym, ap, subst, refl}
+use Rattle.std.proofs.Common.{◌≡◌, ◌∙◌, ℕ, List, Result, Ok, slice_get, Some, sym, subst}
 use Rattle.std.specs.Ordering.{nat_cmp}
 use Rattle.std.proofs.lemmas.Cmp.{nat_cmp_total}
-use Rattle.std.specs.FinMap.{nat_cmp-IsAntisymmetric}
-use Rattle.lists.specs.Rising.{IsRisingListOf}
 use Rattle.lists.proofs.CallerLemmas.{IsRisingListOf-unique}
 use Rattle.srs.specs.declared.placement.Placement.{Placement}
 use Rattle.srs.specs.Rules.{table_of}
 use Rattle.lane_board.specs.Field.{Field}
-use Rattle.well.specs.Counts.{empties_below}
 use Rattle.well.specs.Well.{filled}
 use Rattle.queue_pattern.specs.Pattern.{elements_of}
 use Rattle.queue_pattern.specs.Queues.{queues}
@@ -23,7 +20,6 @@ use Rattle.pc_problem.specs.Problem.{IsProblemOf}
 use Rattle.pc_problem.proofs.CallerLemmas.{same_elements, same_table}
 use Rattle.pc_faults.specs.declared.cover_fault.CoverFault.{CoverFault}
 use Rattle.pc_cover.specs.Faults.{dash}
-use Rattle.pc_cover.specs.Given.{given_in}
 use Rattle.pc_cover.specs.Lines.{cover_form}
 use Rattle.pc_cover.specs.Output.{IsCoverFor, IsCoverOutput, IsCoveringOf}
 

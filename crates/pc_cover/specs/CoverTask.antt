@@ -2,9 +2,9 @@
 use Rattle.std.specs.Prelude.{true}
 use Rattle.pc_settings.specs.Request.{FieldRequest}
 use Rattle.pc_source.specs.Task.{Task, source_bytes}
-use Rattle.pc_source.specs.Work.{any_floods}
 use Rattle.pc_cover.specs.Faults.{cover_fault}
 use Rattle.pc_cover.specs.Output.{IsCoverOutput}
+use Rattle.pc_cover.specs.Work.{IsCoverWork}
 
 abbrev pub cover_task : FieldRequest → Task
 cover_task request = record {
@@ -12,5 +12,5 @@ cover_task request = record {
   memory_first = true;
   fault = cover_fault request;
   IsOutput = λ bytes floods output. IsCoverOutput request bytes output;
-  IsWork = any_floods;
+  IsWork = λ bytes sink status floods. IsCoverWork request bytes floods;
 }

@@ -9,9 +9,9 @@ use Rattle.pc_faults.specs.declared.status.Status.{Status}
 use Rattle.pc_faults.specs.declared.status.Status.TheVariants.{Input, NoMemory}
 use Rattle.pc_settings.specs.Request.{FieldRequest}
 use Rattle.pc_source.specs.Task.{Task, source_bytes}
-use Rattle.pc_source.specs.Work.{any_floods}
 use Rattle.pc_cover.specs.Faults.{covering_fault}
 use Rattle.pc_cover.specs.Output.{IsCoveringOf}
+use Rattle.pc_cover.specs.Work.{IsCoveringWork}
 
 abbrev pub covering_task : FieldRequest → Field → Task
 covering_task request F = record {
@@ -19,7 +19,7 @@ covering_task request F = record {
   memory_first = true;
   fault = covering_fault request F;
   IsOutput = λ bytes floods output. IsCoveringOf request F bytes output;
-  IsWork = any_floods;
+  IsWork = λ bytes sink status floods. IsCoveringWork request F bytes floods;
 }
 
 -- how a run ends where the lines of the source are refused

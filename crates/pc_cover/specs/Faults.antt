@@ -1,6 +1,6 @@
 -- The first fault of `cover`: that of its field, then of what is asked about the field, then of the lines of the
 -- source.
-use Rattle.std.specs.Prelude.{ℕ, ◌/◌, List, [], ◌∷◌, Option, Some, None, Result, Ok, Err, codes}
+use Rattle.std.specs.Prelude.{ℕ, ◌/◌, List, [], ◌∷◌, Option, Some, None, Ok, Err, codes}
 use Rattle.lane_board.specs.Field.{Field}
 use Rattle.well.specs.Counts.{empties_below}
 use Rattle.pc_faults.specs.declared.fault.Fault.{Fault}

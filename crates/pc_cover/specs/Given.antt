@@ -1,6 +1,6 @@
 -- How the lines of the source are read. The law `lines_are_read_as_they_spell` says that what is read is what they
 -- spell, and that the fault is that of the first line that spells nothing.
-use Rattle.std.specs.Prelude.{◌≡◌, ℕ, ◌+◌, Bool, ◌&&◌, ◌||◌, nat_le, nat_lt, if◌then◌else◌, List, [], ◌∷◌, codes, drop, length, take, Result, Ok, Err}
+use Rattle.std.specs.Prelude.{ℕ, ◌+◌, Bool, ◌&&◌, ◌||◌, nat_le, nat_lt, if◌then◌else◌, List, [], ◌∷◌, codes, drop, length, take, Result, Ok, Err}
 use Rattle.std.specs.List.{list_all}
 use Rattle.std.specs.Str.{bytes_eq}
 use Rattle.srs.specs.declared.placement.Placement.{Placement}

@@ -4,6 +4,7 @@ pub mod Given
 pub mod Faults
 pub mod Lines
 pub mod Output
+pub mod Work
 pub mod CoverTask
 -- What serves proofs alone.
 pub mod LineSteps

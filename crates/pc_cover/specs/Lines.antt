@@ -1,5 +1,5 @@
 -- The lines that `cover` writes, by the numbers of the covered queues.
-use Rattle.std.specs.Prelude.{ℕ, List, [], ◌∷◌, ◌++◌, length, slice_index_or}
+use Rattle.std.specs.Prelude.{ℕ, List, [], ◌++◌, length, slice_index_or}
 use Rattle.std.specs.List.{flat_map}
 use Rattle.srs.specs.declared.piece.Piece.{Piece}
 use Rattle.queue_lines.specs.Lines.{numbers_form, queue_form}

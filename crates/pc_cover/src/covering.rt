@@ -1,5 +1,5 @@
 // The queues that permit the kinds of given sequences.
-ghost use Rattle.std.specs.Prelude.{◌≡◌, ◌≤◌, IfOk, length, map};
+ghost use Rattle.std.specs.Prelude.{◌≡◌, ◌+◌, ◌≤◌, IfOk, length, map, sum_by};
 ghost use Rattle.pc_outside.specs.Counts.{HasCause};
 ghost use Rattle.pc_outside.specs.Writes.{WritesAll};
 ghost use Rattle.queue_pattern.specs.Pattern.{elements_of};
@@ -20,7 +20,8 @@ use reach::Steps;
 use std::alloc::Global;
 use std::sync::ledger::Ledger;
 
-/// The set that keeps the kinds of those of the sequences that clear the field. Want of memory is the only refusal.
+/// The set that keeps the kinds of those of the sequences that clear the field. Adds at most one step for each of their
+/// placements. Want of memory is the only refusal.
 pub fn covering<L: Ledger>(
     alloc: Global,
     problem: &Problem,
@@ -32,6 +33,7 @@ pub fn covering<L: Ledger>(
     ensures covered { IfOk result (λ set. IsCoveredList problem.now (map listed_placements sequences.now)
         (numbers_from problem.now (lists_of set) 0)) }
     ensures counted { steps.old ≤ steps.new }
+    ensures few { steps.new ≤ steps.old + sum_by length (map listed_placements sequences.now) }
 {
     permits_is_decided();
     let mut set = CoverSet::start(alloc, *problem)?;

@@ -4,6 +4,7 @@ mod ColumnFacts
 mod ColumnField
 mod ColumnProblem
 mod Counting
+mod PageEqual
 mod LineText
 mod MadePages
 mod OneOutput

@@ -1,5 +1,5 @@
 // The fumen text of pages, read again.
-ghost use Rattle.std.specs.Prelude.{◌≡◌, length, true, None, IfOk};
+ghost use Rattle.std.specs.Prelude.{◌≡◌, ◌↔◌, length, true, None, IfOk, IsTrue};
 ghost use Rattle.fumen_digits.specs.declared.dialect.Dialect.TheVariants.{V115};
 ghost use Rattle.fumen_text.specs.Written.{list_encode_fault, written};
 
@@ -20,7 +20,7 @@ pub struct TextCheck {
 
 /// Whether pages that were read in a dialect are these pages of 23 rows.
 fn is_same(dialect: Dialect, again: &[Page], pages: &[Page]) -> bool
-    ensures { dialect ≡ V115 → again.now ≡ pages.now → result ≡ true }
+    ensures { IsTrue result ↔ ((dialect ≡ V115) × (again.now ≡ pages.now)) }
 {
     dialect == Dialect::V115 && again == pages
 }

@@ -1,5 +1,5 @@
 -- The covered queues are those of the problem that is asked about the field.
-use Rattle.std.proofs.Common.{◌≡◌, ◌-◌, ◌/◌, ◌∙◌, refl, sym, ap, subst, map, inl, inr, arith}
+use Rattle.std.proofs.Common.{◌-◌, ◌/◌, ◌∙◌, refl, sym, ap, subst, map, inr}
 use Rattle.well.specs.Well.{filled}
 use Rattle.queue_pattern.specs.Pattern.{elements_of}
 use Rattle.queue_pattern.specs.Queues.{queues}
@@ -13,7 +13,7 @@ use Rattle.pc_cover.specs.CoveringTask.{covering_task}
 use Rattle.pc_cover.specs.Given.{given_in}
 use Rattle.pc_cover.specs.Lines.{cover_form}
 use Rattle.pc_cover.specs.Sequences.{listed_placements}
-use Rattle.pc_cover.proofs.CoverAnswers.{lines_refused, lines_read, problem_first}
+use Rattle.pc_cover.proofs.CoverAnswers.{lines_refused, lines_read, problem_first, few_floods, at_most}
 use Rattle.pc_cover.proofs.command.cover_all.Goals as goal
 
 pub returns-in-Err-clause-answers : goal.returns-in-Err-clause-answers
@@ -28,7 +28,8 @@ returns-in-Err-covering-clause-works g c =
     inr (
       lines_read (field_view c.args.settings.now) (filled c.args.well) c.args.bytes.now (c.empties_below-needed.result / 4) (map listed_placements c.in-Ok-sequences_in.sequences.items) c.in-Ok.ensures.none
           (ap (λ n. n / 4) c.empties_below-needed.ensures) c.in-Ok-sequences_in.ensures,
-      tt,
+      few_floods (field_view c.args.settings.now) (filled c.args.well) c.args.bytes.now (c.empties_below-needed.result / 4) (map listed_placements c.in-Ok-sequences_in.sequences.items) _ (ap (λ n. n / 4) c.empties_below-needed.ensures)
+          c.in-Ok-sequences_in.ensures (at_most c.args.steps.now c.covering.new.steps _ _ c.as_slice.ensures.value c.covering.ensures.few),
     )
 
 pub returns-clause-answers : goal.returns-clause-answers
@@ -53,7 +54,10 @@ pub returns-clause-works : goal.returns-clause-works
 returns-clause-works g c =
     let task = covering_task (field_view c.args.settings.now) (filled c.args.well) in
     let sink = sink_change g.O.Sink.counts_failures_alone (g.O.Sink.written c.args.out.now) (g.O.Sink.written c.write_answers.new.out) (g.O.Sink.faults c.args.out.now) (g.O.Sink.faults c.write_answers.new.out) in
-    written_works task (task.fault c.args.bytes.now) c.args.bytes.now sink (c.covering.new.steps - c.args.steps.now) c.write_answers.result c.after_writes.result c.after_writes.ensures (λ all is. tt) (λ failed is. tt)
+    let few =
+        few_floods (field_view c.args.settings.now) (filled c.args.well) c.args.bytes.now (c.empties_below-needed.result / 4) (map listed_placements c.in-Ok-sequences_in.sequences.items) _ (ap (λ n. n / 4) c.empties_below-needed.ensures)
+        c.in-Ok-sequences_in.ensures (at_most c.args.steps.now c.covering.new.steps _ _ c.as_slice.ensures.value c.covering.ensures.few) in
+    written_works task (task.fault c.args.bytes.now) c.args.bytes.now sink (c.covering.new.steps - c.args.steps.now) c.write_answers.result c.after_writes.result c.after_writes.ensures (λ all is. few) (λ failed is. few)
 
 pub returns-in-Err-sequences_in-clause-answers : goal.returns-in-Err-sequences_in-clause-answers
 returns-in-Err-sequences_in-clause-answers g c =

@@ -1,10 +1,8 @@
 -- The covered queues, and then the lines of the numbers.
-use Rattle.std.proofs.Common.{◌≡◌, length, subst, refl}
+use Rattle.std.proofs.Common.{length, subst, refl}
 use Rattle.pc_outside.specs.declared.answers.Failed.{Failed}
 use Rattle.pc_outside.specs.Writes.{WritesAll}
 use Rattle.pc_outside.specs.WriteLaws.{after_piece, at_err, begins, failed_piece, last_call}
-use Rattle.queue_pattern.specs.Pattern.{elements_of}
-use Rattle.queue_pattern.specs.Queues.{queues}
 use Rattle.cover.specs.Kept.{lists_of}
 use Rattle.queue_lines.specs.Lines.{numbers_form}
 use Rattle.pc_cover.specs.Covering.{numbers_from}

@@ -6,7 +6,7 @@ use Rattle.pc_outside.specs.WriteLaws.{after_piece, at_err, ends, failed_piece}
 use Rattle.queue_pattern.specs.Pattern.{elements_of}
 use Rattle.queue_pattern.specs.Queues.{queues}
 use Rattle.cover.specs.Covered.{IsLeastFrom, IsNextFrom, IsPermitted}
-use Rattle.cover.specs.Kept.{lists_of, kept_problem}
+use Rattle.cover.specs.Kept.{lists_of}
 use Rattle.pc_cover.specs.Covering.{numbers_from}
 use Rattle.pc_cover.specs.Lines.{queues_form}
 use Rattle.pc_cover.proofs.CoveringLemmas.{form-next, form-none, numbers-next, numbers-none, numbers-over, permitted-within}

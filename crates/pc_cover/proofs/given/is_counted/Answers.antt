@@ -1,5 +1,5 @@
 -- By what stands behind the name.
-use Rattle.std.proofs.Common.{◌≡◌, ◌∙◌, ◌&&◌, drop, length, sym, ap}
+use Rattle.std.proofs.Common.{◌∙◌, ◌&&◌, drop, length, sym, ap}
 use Rattle.pc_cover.specs.Given.{is_count, is_counted}
 use Rattle.pc_cover.proofs.given.is_counted.Goals as goal
 

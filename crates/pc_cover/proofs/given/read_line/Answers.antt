@@ -1,5 +1,5 @@
 -- The line is passed over, or its sequence is the last one.
-use Rattle.std.proofs.Common.{◌≡◌, ◌∙◌, ◌∷◌, [], length, map, sym, ap}
+use Rattle.std.proofs.Common.{◌∙◌, ◌∷◌, [], map, sym, ap}
 use Rattle.std.proofs.lemmas.List.{length-map, map-append}
 use Rattle.pc_cover.specs.Sequences.{listed_placements}
 use Rattle.pc_cover.proofs.GivenLemmas.{line-passed, line-taken, line-refused}

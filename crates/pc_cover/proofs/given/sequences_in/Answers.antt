@@ -1,5 +1,5 @@
 -- One more line is read, or has a fault, or the text ends.
-use Rattle.std.proofs.Common.{◌≡◌, ◌+◌, ◌<◌, ◌∙◌, length, map, arith, sym, ap, subst, refl}
+use Rattle.std.proofs.Common.{◌<◌, length, map, arith, sym, ap, subst}
 use Rattle.std.proofs.lemmas.List.{nil_from_length}
 use Rattle.page_list.proofs.CallerLemmas.{behind_shorter}
 use Rattle.pc_cover.specs.Sequences.{listed_placements}
