@@ -2,14 +2,15 @@
 ghost use Rattle.std.specs.Prelude.{◌≡◌, ◌≤◌, ◌↔◌, [], IfOk, IsTrue};
 ghost use Rattle.well.specs.Well.{filled};
 ghost use Rattle.prune.specs.Tiling.{supply_in, Tiling};
-ghost use Rattle.packing.specs.Empties.{all_but, empty_cells};
+ghost use Rattle.packing.specs.Empties.{all_but, empty_cells, without_placement};
 ghost use Rattle.packing.specs.HasTiling.{has_tiling};
 ghost use Rattle.dead_memo.specs.Memo.{kept};
 
 use dead_memo::DeadMemo;
-use packing::{Empties, TilingStore};
+use packing::{Empties, PlaceMemory, TilingStore};
 use pc_outside::NoMemory;
 use prune::cheap_no;
+use srs::Placement;
 use std::alloc::Global;
 use well::Well;
 
@@ -21,6 +22,8 @@ const DEAD: usize = 65_536;
 pub struct Tilings {
     /// What was decided lately.
     decided: TilingStore,
+    /// Which placements leave a tiling, of those that were asked lately.
+    left: PlaceMemory,
     /// What was found to have no tiling.
     pub dead: DeadMemo,
 }
@@ -31,8 +34,13 @@ impl Tilings {
         ensures { IfOk result (λ tilings. kept tilings.dead ≡ []) }
     {
         let decided = TilingStore::new(alloc)?;
+        let left = PlaceMemory::new(alloc)?;
         let dead = DeadMemo::new(alloc, DEAD)?;
-        Ok(Tilings { decided, dead })
+        Ok(Tilings {
+            decided,
+            left,
+            dead,
+        })
     }
 
     /// Whether the empty cells below the rows left have a tiling by the supply. What has none is kept where memory
@@ -54,10 +62,14 @@ impl Tilings {
         false
     }
 
-    /// Whether a set of cells has a tiling by the supply. The search begins at the side that is nearer to a column.
-    pub fn can_fill(&mut self, cells: &Empties, column: u8, supply: &[u8; 7]) -> bool
-        ensures { IsTrue result ↔ Tiling (all_but (empty_cells cells.now)) 8 (supply_in supply.now) }
+    /// Whether what a placement leaves of a set of cells has a tiling by the supply.
+    pub fn leaves_tiling(&mut self, cells: &Empties, placement: &Placement, supply: &[u8; 7]) -> bool
+        requires column { placement.now.x ≤ 9 }
+        requires row { placement.now.y ≤ 31 }
+        ensures { IsTrue result ↔ Tiling (all_but (without_placement (empty_cells cells.now) placement.now)) 8
+            (supply_in supply.now) }
     {
-        self.decided.has_tiling_near(cells, column, supply)
+        self.left
+            .leaves_tiling(cells, placement, supply, &mut self.decided)
     }
 }

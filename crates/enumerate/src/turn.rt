@@ -83,7 +83,7 @@ impl Frame {
             (self.now.rows - rows_removed (filled self.now.well) placement.now) (supply_in supply.now) }
     {
         if self.left < MANY {
-            return tilings.can_fill(&self.empties.without(placement), placement.x, supply);
+            return tilings.leaves_tiling(&self.empties, placement, supply);
         }
         let (well, removed) = self.well.lock(placement);
         tilings.has_tiling(&well, self.rows.saturating_sub(removed), supply)

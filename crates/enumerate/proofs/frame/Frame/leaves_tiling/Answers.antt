@@ -4,19 +4,19 @@ use Rattle.well.specs.Well.{filled}
 use Rattle.well.specs.Lock.{locked}
 use Rattle.well.proofs.CallerLemmas.{free_pivot_inside}
 use Rattle.prune.specs.Tiling.{supply_in}
-use Rattle.packing.specs.Empties.{without_placement}
+use Rattle.packing.specs.Empties.{empty_cells, without_placement}
 use Rattle.packing.specs.HasTiling.{has_tiling}
 use Rattle.enumerate.proofs.PlaceLaws.{lockable-free}
 use Rattle.enumerate.proofs.TilingLaws.{left-tiled}
 use Rattle.enumerate.proofs.frame.Frame.leaves_tiling.Goals as goal
 
-pub without-requires-clause-column : goal.without-requires-clause-column
-without-requires-clause-column c =
+pub leaves_tiling-requires-clause-column : goal.leaves_tiling-requires-clause-column
+leaves_tiling-requires-clause-column c =
     let inside = free_pivot_inside (filled c.args.self.now.well) c.args.placement.now (lockable-free (filled c.args.self.now.well) c.args.placement.now.piece c.args.placement.now c.requires.lockable) in
     omega (arith, inside.in_columns)
 
-pub without-requires-clause-row : goal.without-requires-clause-row
-without-requires-clause-row c =
+pub leaves_tiling-requires-clause-row : goal.leaves_tiling-requires-clause-row
+leaves_tiling-requires-clause-row c =
     let inside = free_pivot_inside (filled c.args.self.now.well) c.args.placement.now (lockable-free (filled c.args.self.now.well) c.args.placement.now.piece c.args.placement.now c.requires.lockable) in
     omega (arith, inside.in_rows)
 
@@ -27,8 +27,8 @@ pub returns-then-self-lt-MANY : goal.returns-then-self-lt-MANY
 returns-then-self-lt-MANY c =
     let frame = c.args.self.now in
     let q = c.args.placement.now in
-    left-tiled (filled frame.well) _ frame.rows q (supply_in c.args.supply.now) c.can_fill.result frame.low frame.bounded (lockable-free (filled frame.well) q.piece q c.requires.lockable) c.requires.below
-    (c.without.ensures ∙ ap (λ E. without_placement E q) frame.emptied) c.can_fill.ensures
+    left-tiled (filled frame.well) (without_placement (empty_cells frame.empties) q) frame.rows q (supply_in c.args.supply.now) c.leaves_tiling.result frame.low frame.bounded (lockable-free (filled frame.well) q.piece q c.requires.lockable) c.requires.below
+    (ap (λ E. without_placement E q) frame.emptied) c.leaves_tiling.ensures
 
 pub returns : goal.returns
 returns c =
