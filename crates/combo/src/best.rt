@@ -181,6 +181,8 @@ fn cleared(well: &Well, placement: &Placement) -> Option<Well>
 
 /// The longest run of placements that each remove a row and that the queue permits, with the piece held at the start;
 /// of those that are as long, the one that comes first. Adds a step for each flood.
+// What is kept lies on the stack, and not on that of callers into which this would be inlined.
+#[inline(never)]
 pub fn longest<L: Ledger>(
     well: &Well,
     rules: &Rules,

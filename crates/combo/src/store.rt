@@ -8,8 +8,8 @@ use crate::known::Known;
 use crate::run::Run;
 use well::Well;
 
-/// So many runs are kept at most.
-pub const PLACES: usize = 4096;
+/// So many runs are kept at most, in some 170 KB of the stack.
+pub const PLACES: usize = 1024;
 
 /// The run that is kept in a place, where it is of this field and of these pieces at hand.
 pub fn kept(entry: &Option<Known>, well: &Well, hand: Hand) -> Option<Run>
