@@ -82,10 +82,10 @@ reason() {
 # The first number of a file, or nothing.
 number_in() { sed -n 's/^\([0-9][0-9]*\).*/\1/p;q' "$1" 2>/dev/null || true; }
 
-# The memory in MB that is free here, under the limit of a control group too.
+# The memory in MB that is free here, under the limit of a control group too. (PC_MEMINFO: what checks/set-up has it read.)
 free_memory() {
     local free limit used folder=/sys/fs/cgroup
-    free=$(awk '/^(MemAvailable|SwapFree):/ { sum += $2 } END { print int(sum / 1024) }' /proc/meminfo)
+    free=$(awk '/^(MemAvailable|SwapFree):/ { sum += $2 } END { print int(sum / 1024) }' "${PC_MEMINFO:-/proc/meminfo}")
     limit=$(number_in $folder/memory.max) used=$(number_in $folder/memory.current)
     if [ -z "$limit" ]; then
         limit=$(number_in $folder/memory/memory.limit_in_bytes) used=$(number_in $folder/memory/memory.usage_in_bytes)
@@ -232,7 +232,7 @@ build() {
     look_around
     local sum signal minutes=$((60 / jobs > 15 ? 60 / jobs : 15))
     start=$SECONDS
-    say "$1: proving and building it, $jobs crates at a time"
+    say "$1: proving and building it, $jobs at a time"
     say "from nothing this takes about $minutes minutes; when it is stopped, the next ./pc goes on from there"
     sum=$(sum_of_sources)
     : >"$log"
