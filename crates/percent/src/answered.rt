@@ -77,7 +77,7 @@ pub fn answered<L: Ledger>(
     }
     let found = explored(alloc, kept, position, left - 1, unknown.as_slice(), steps)?;
     let missed = without(alloc, unknown.as_slice(), found.as_slice())?;
-    kept.note(alloc, position, left, found.as_slice(), missed.as_slice())?;
+    kept.note(alloc, position, left, found.as_slice(), missed.as_slice());
     merged(alloc, known.as_slice(), found.as_slice())
 }
 
@@ -132,7 +132,7 @@ fn tried<L: Ledger>(
     if rests.is_empty() {
         return Ok(Vec::new(alloc));
     }
-    let children = position.children(alloc, &kept.game, piece, steps)?;
+    let children = position.children(alloc, &kept.game, &kept.flood, piece, steps)?;
     let mut open = Vec::from_slice(alloc, rests)?;
     for child in &children {
         let good = answered(alloc, kept, child, left, open.as_slice(), steps)?;

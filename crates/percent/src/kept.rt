@@ -1,5 +1,7 @@
 // Answers that are kept, each of them true. Any may be dropped, which costs time alone.
 ghost use Rattle.std.specs.Prelude.{◌≡◌, ◌≤◌, ◌<◌, All, length};
+ghost use Rattle.srs.specs.Rules.{table_of};
+ghost use Rattle.reach.specs.FloodRules.{flood_table};
 ghost use Rattle.percent.specs.Kept.{answers_in, answers_of, IsTrueSlot};
 
 use crate::game::Game;
@@ -8,6 +10,7 @@ use dead_memo::cells_below;
 use number_sets::{merged, without};
 use packing::TilingStore;
 use pc_outside::NoMemory;
+use reach::FloodRules;
 use std::alloc::Global;
 
 /// The hands that are known to be good at a position, and those that are known not to be.
@@ -52,12 +55,14 @@ const MOST: usize = 4_194_304;
 #[derive(Drop)]
 pub struct Kept {
     pub game: Game,
+    pub flood: FloodRules,
     pub tilings: TilingStore,
     slots: Vec<Slot>,
     /// How many answers are kept.
     count: usize,
     /// The slot that goes next where there is no room.
     next: usize,
+    ghost floods: { flood_table flood ≡ table_of game.rules },
     ghost are_true: { All (IsTrueSlot game) slots.items },
     ghost counted: { count ≡ answers_in slots.items },
     ghost bounded: { count ≤ 4194304 },
@@ -80,6 +85,7 @@ impl Kept {
         let tilings = TilingStore::new(alloc)?;
         Ok(Kept {
             game,
+            flood: FloodRules::new(&game.rules),
             tilings,
             slots,
             count: 0,
@@ -168,7 +174,7 @@ impl Kept {
     }
 
     /// Keeps hands that are good at a position and hands that are not, beside those that are known. Others may be
-    /// dropped for them, and where there is no room for them they are not kept.
+    /// dropped for them, and where there is no room or no memory for them they are not kept.
     pub fn note(
         &mut self,
         alloc: Global,
@@ -176,7 +182,7 @@ impl Kept {
         left: u8,
         found: &[u64],
         missed: &[u64],
-    ) -> Result<(), NoMemory>
+    )
         requires found_rises { IsRising found.now }
         requires missed_rises { IsRising missed.now }
         requires found_true { (hand : ℕ) → has found.now hand ≡ true
@@ -187,8 +193,12 @@ impl Kept {
         ensures bounded { answers_in self.new.slots.items ≤ 4194304 }
     {
         let (found_before, missed_before) = self.known(position, left);
-        let found = merged(alloc, found_before, found)?;
-        let missed = merged(alloc, missed_before, missed)?;
+        let Ok(found) = merged(alloc, found_before, found) else {
+            return;
+        };
+        let Ok(missed) = merged(alloc, missed_before, missed) else {
+            return;
+        };
         let cells = cells_below(&position.well, position.rows);
         let slot = Slot {
             cells,
@@ -199,13 +209,12 @@ impl Kept {
         };
         let count = slot.len();
         if count > MOST {
-            return Ok(());
+            return;
         }
         self.make_room(alloc, count);
         let place = self.place_of(cells, left);
         if place < self.slots.len() && self.count <= MOST - count {
             self.replace(place, slot);
         }
-        Ok(())
     }
 }

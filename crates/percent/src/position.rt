@@ -6,8 +6,7 @@ ghost use Rattle.well.specs.LockLaws.{LiesBelow};
 use crate::game::Game;
 use crate::order::roughness;
 use pc_outside::NoMemory;
-use problem::lies_below;
-use reach::{Steps, places};
+use reach::{FloodRules, Places, Steps};
 use srs::{Piece, Placement};
 use std::alloc::Global;
 use std::sync::ledger::Ledger;
@@ -27,9 +26,11 @@ pub struct Position {
 
 impl Position {
     ghost use Rattle.std.specs.Prelude.{◌≡◌, ℕ, ◌+◌, ◌-◌, IsTrue, IfOk};
+    ghost use Rattle.srs.specs.Rules.{table_of};
     ghost use Rattle.well.specs.Free.{is_free};
     ghost use Rattle.well.specs.Lock.{locked, rows_removed};
     ghost use Rattle.well.specs.LockLaws.{is_below};
+    ghost use Rattle.reach.specs.FloodRules.{flood_table};
     ghost use Rattle.percent.specs.GoodHands.{is_good_after, is_good_at};
 
     /// The position after a placement below the rows left.
@@ -54,20 +55,21 @@ impl Position {
         &self,
         alloc: Global,
         game: &Game,
+        rules: &FloodRules,
         piece: Piece,
         steps: &mut Steps<L>,
     ) -> Result<Vec<Position>, NoMemory>
+        requires { flood_table rules.now ≡ table_of game.now.rules }
         ensures good { IfOk result (λ v. (left hand : ℕ) → is_good_at game.now v.items left hand
             ≡ is_good_after game.now (filled self.now.well) self.now.rows piece left hand) }
         ensures counted { steps.new ≡ steps.old + 1 }
     {
-        let places = places(&self.well, &game.rules, piece, game.drop_mode, steps);
+        let mut places = Places::none(piece);
+        rules.flood_below(&self.well, piece, game.drop_mode, self.rows, steps, &mut places);
         let mut children = Vec::new(alloc);
         let mut last = None;
         while let Some(placement) = places.next_after(last.as_ref()) {
-            if lies_below(&placement, self.rows) {
-                children.push(self.after(&placement))?;
-            }
+            children.push(self.after(&placement))?;
             last = Some(placement);
         }
         children.sort_unstable_by_key(|child| child.roughness);

@@ -17,6 +17,7 @@ invariant_of-self c =
     let few = one-of-all kept.slots.items c.args.place c.index.result.now c.requires.place c.index.ensures in
     let change = replaced kept.slots.items c.args.place c.args.slot c.index.result.now c.requires.place c.index.ensures in
     record {
+      floods = kept.floods;
       are_true = All-set (IsTrueSlot kept.game) kept.slots.items c.args.place c.args.slot c.requires.holds kept.are_true;
       counted = omega (arith, few, change, kept.counted, c.len.ensures, c.len-2.ensures);
       bounded = omega (arith, kept.bounded, c.requires.room, c.len.ensures, c.len-2.ensures);

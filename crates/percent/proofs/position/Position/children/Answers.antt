@@ -1,5 +1,5 @@
 -- The places come in order, and each that lies below the rows left is entered.
-use Rattle.std.proofs.Common.{◌≡◌, ◌∙◌, [], length, IsTrue, ap, subst, sym, arith}
+use Rattle.std.proofs.Common.{◌≡◌, ◌↔◌, ◌∙◌, ℕ, [], length, IsTrue, ap, subst, sym, arith}
 use Rattle.std.specs.Prelude.{Option, Some, None}
 use Rattle.lane_board.specs.Field.{Field}
 use Rattle.srs.specs.declared.piece.Piece.{Piece}
@@ -9,60 +9,54 @@ use Rattle.lists.specs.Rising.{IsNextAbove}
 use Rattle.well.specs.Well.{filled}
 use Rattle.reach.specs.declared.held.Places.{Places}
 use Rattle.reach.specs.Places.{holds}
-use Rattle.well.proofs.CallerLemmas.{free_inside}
+use Rattle.srs.specs.Kick.{Table}
+use Rattle.srs.specs.Rules.{table_of}
+use Rattle.well.specs.LockLaws.{is_below}
+use Rattle.moves.specs.Place.{IsPlace}
 use Rattle.percent.specs.declared.game.Game.{Game}
-use Rattle.percent.proofs.PlaceLemmas.{Held, NextPlace, next-place, places_above, follow-starts, follow-more, follow-pass, follow-ends, in-any-order}
+use Rattle.percent.proofs.PlaceLemmas.{Held, NextPlace, next-place, places_above, follow-starts, follow-more, follow-ends, in-any-order}
 use Rattle.percent.proofs.position.Position.children.Goals as goal
 
--- what the next placement is, where the bound is that of the loop
-next : (game : Game) (F : Field) (piece : Piece) (places : Places) → Held game F piece places → (last bound result : Option Placement) → bound ≡ last
-    → IsNextAbove placement_cmp (λ q. IsTrue (holds places q)) bound result → NextPlace game F piece last result
-next game F piece places held last bound result same is =
-    next-place game F piece places held last result (subst (λ l. IsNextAbove placement_cmp (λ q. IsTrue (holds places q)) l result) same is)
+-- what the next placement is, where the bound is that of the loop, and the flood is by rules for many floods
+next : (game : Game) (T : Table) (F : Field) (rows : ℕ) (piece : Piece) (places : Places) → T ≡ table_of game.rules
+    → ((q : Placement) → (IsTrue (holds places q)) ↔ ((q.piece ≡ piece) × IsPlace T F game.drop_mode q × IsTrue (is_below rows q)))
+    → (last bound result : Option Placement) → bound ≡ last
+    → IsNextAbove placement_cmp (λ q. IsTrue (holds places q)) bound result → NextPlace game F rows piece last result
+next game T F rows piece places rules held last bound result same is =
+    next-place game F rows piece places
+    (subst (λ T. (q : Placement) → (IsTrue (holds places q)) ↔ ((q.piece ≡ piece) × IsPlace T F game.drop_mode q × IsTrue (is_below rows q))) rules held)
+    last result (subst (λ l. IsNextAbove placement_cmp (λ q. IsTrue (holds places q)) l result) same is)
 
 pub loop-placement-init : goal.loop-placement-init
 loop-placement-init g c = (rw c.new-children.ensures.items (follow-starts c.args.game.now (filled c.args.self.now.well) c.args.self.now.rows c.args.piece), tt)
 
-pub lies_below-requires : goal.lies_below-requires
-lies_below-requires g c =
-    let n = next c.args.game.now (filled c.args.self.now.well) c.args.piece c.places-places.result c.places-places.ensures.held c.loop-placement.last _ (Some c.in-Some.placement) c.as_ref.ensures.value c.in-Some.ensures in
-    free_inside (filled c.args.self.now.well) c.in-Some.placement n.2
-
 pub after-requires-clause-free : goal.after-requires-clause-free
 after-requires-clause-free g c =
-    let n = next c.args.game.now (filled c.args.self.now.well) c.args.piece c.places-places.result c.places-places.ensures.held c.loop-placement.last _ (Some c.in-Some.placement) c.as_ref.ensures.value c.in-Some.ensures in
+    let n = next c.args.game.now _ (filled c.args.self.now.well) c.args.self.now.rows c.args.piece c.flood_below.new.held c.requires c.flood_below.ensures.held c.loop-placement.last _ (Some c.in-Some.placement) c.as_ref.ensures.value c.in-Some.ensures in
     n.2
 
-pub loop-placement-smaller-in_ok-push : goal.loop-placement-smaller-in_ok-push
-loop-placement-smaller-in_ok-push g c =
-    let n = next c.args.game.now (filled c.args.self.now.well) c.args.piece c.places-places.result c.places-places.ensures.held c.loop-placement.last _ (Some c.in-Some.placement) c.as_ref.ensures.value c.in-Some.ensures in
-    omega (arith, ap length n.0)
-
-pub loop-placement-preserved-in_ok-push : goal.loop-placement-preserved-in_ok-push
-loop-placement-preserved-in_ok-push g c =
-    let n = next c.args.game.now (filled c.args.self.now.well) c.args.piece c.places-places.result c.places-places.ensures.held c.loop-placement.last _ (Some c.in-Some.placement) c.as_ref.ensures.value c.in-Some.ensures in (
-      rw c.in_ok-push.ensures.items (follow-more c.args.game.now (filled c.args.self.now.well) c.args.self.now.rows c.args.piece c.loop-placement.children.items c.loop-placement.last c.in-Some.placement c.after.result
-          c.loop-placement.invariant.0 n.0 (sym c.if-lies_below.ensures) c.after.ensures.field c.after.ensures.rows),
-      n.1,
-    )
+pub after-requires-clause-below : goal.after-requires-clause-below
+after-requires-clause-below g c =
+    let n = next c.args.game.now _ (filled c.args.self.now.well) c.args.self.now.rows c.args.piece c.flood_below.new.held c.requires c.flood_below.ensures.held c.loop-placement.last _ (Some c.in-Some.placement) c.as_ref.ensures.value c.in-Some.ensures in
+    n.3
 
 pub loop-placement-smaller : goal.loop-placement-smaller
 loop-placement-smaller g c =
-    let n = next c.args.game.now (filled c.args.self.now.well) c.args.piece c.places-places.result c.places-places.ensures.held c.loop-placement.last _ (Some c.in-Some.placement) c.as_ref.ensures.value c.in-Some.ensures in
+    let n = next c.args.game.now _ (filled c.args.self.now.well) c.args.self.now.rows c.args.piece c.flood_below.new.held c.requires c.flood_below.ensures.held c.loop-placement.last _ (Some c.in-Some.placement) c.as_ref.ensures.value c.in-Some.ensures in
     omega (arith, ap length n.0)
 
 pub loop-placement-preserved : goal.loop-placement-preserved
 loop-placement-preserved g c =
-    let n = next c.args.game.now (filled c.args.self.now.well) c.args.piece c.places-places.result c.places-places.ensures.held c.loop-placement.last _ (Some c.in-Some.placement) c.as_ref.ensures.value c.in-Some.ensures in (
-      follow-pass c.args.game.now (filled c.args.self.now.well) c.args.self.now.rows c.args.piece c.loop-placement.children.items c.loop-placement.last c.in-Some.placement
-          c.loop-placement.invariant.0 n.0 (sym c.if-lies_below.ensures),
+    let n = next c.args.game.now _ (filled c.args.self.now.well) c.args.self.now.rows c.args.piece c.flood_below.new.held c.requires c.flood_below.ensures.held c.loop-placement.last _ (Some c.in-Some.placement) c.as_ref.ensures.value c.in-Some.ensures in (
+      rw c.in_ok-push.ensures.items (follow-more c.args.game.now (filled c.args.self.now.well) c.args.self.now.rows c.args.piece c.loop-placement.children.items c.loop-placement.last c.in-Some.placement c.after.result
+          c.loop-placement.invariant.0 n.0 n.3 c.after.ensures.field c.after.ensures.rows),
       n.1,
     )
 
 pub returns-clause-good : goal.returns-clause-good
 returns-clause-good g c = λ left hand.
     let F = filled c.args.self.now.well in
-    let none : places_above c.args.game.now F c.args.piece c.loop-placement.last ≡ [] =
-    next c.args.game.now F c.args.piece c.places-places.result c.places-places.ensures.held c.loop-placement.last _ None c.as_ref.ensures.value c.in_default.ensures in
+    let none : places_above c.args.game.now F c.args.self.now.rows c.args.piece c.loop-placement.last ≡ [] =
+    next c.args.game.now _ F c.args.self.now.rows c.args.piece c.flood_below.new.held c.requires c.flood_below.ensures.held c.loop-placement.last _ None c.as_ref.ensures.value c.in_default.ensures in
     in-any-order c.args.game.now c.loop-placement.children.items c.sort_unstable_by_key.new.self.items left hand c.sort_unstable_by_key.ensures.permutation
     ∙ follow-ends c.args.game.now F c.args.self.now.rows c.args.piece c.loop-placement.children.items c.loop-placement.last c.loop-placement.invariant.0 none left hand

@@ -9,4 +9,4 @@ invariant-loop-placement g l =
     Following l.game (filled l.fn.self.well) l.fn.self.rows l.fn.piece l.children.items l.last × IfSome l.last (λ q. q.piece ≡ l.fn.piece)
 
 abbrev pub decreases-loop-placement : goal.decreases-loop-placement
-decreases-loop-placement g l = length (places_above l.game (filled l.fn.self.well) l.fn.piece l.last)
+decreases-loop-placement g l = length (places_above l.game (filled l.fn.self.well) l.fn.self.rows l.fn.piece l.last)
