@@ -1,9 +1,9 @@
 -- The hands of all queues, and how many of them are good.
-use Rattle.std.proofs.Common.{ℕ, ◌≡◌, ◌+◌, ◌%◌, ◌<◌, ◌≤◌, ◌↔◌, IsTrue, Bool, true, false, ◌&&◌, ◌==◌, List, [], ◌∷◌, ◌++◌, length, take, refl, ap, subst, ◌∙◌, sym, arith, inl, inr}
+use Rattle.std.proofs.Common.{ℕ, ◌≡◌, ◌+◌, ◌%◌, ◌<◌, ◌≤◌, ◌↔◌, IsTrue, Bool, true, false, ◌&&◌, ◌==◌, List, [], ◌∷◌, ◌++◌, length, length-append, get_or, take, ◌-◌, refl, ap, subst, ◌∙◌, sym, arith, inl, inr}
 use Rattle.std.specs.Prelude.{Some, slice_get, count_by}
 use Rattle.std.proofs.lemmas.Bool.{cases_lt}
 use Rattle.std.proofs.lemmas.Bool.Decides.{nat_tests}
-use Rattle.std.proofs.lemmas.List.{take_all, length-take}
+use Rattle.std.proofs.lemmas.List.{take_all, length-take, get_or_append_left, get_or-append_right}
 use Rattle.std.proofs.lemmas.List.Sums.{count_by_more_no, count_by_more_yes, count_by-le-length}
 use Rattle.std.proofs.lemmas.Option.{get_or_from_slice_get}
 use Rattle.srs.specs.declared.piece.Piece.{Piece}
@@ -16,7 +16,7 @@ use Rattle.number_sets.proofs.CallerLemmas.{has-none, has-push, has-there}
 use Rattle.problem.specs.declared.problem.Problem.{Problem}
 use Rattle.problem.specs.Problem.{IsFit, empties_of, needed_of}
 use Rattle.percent.specs.Hands.{hand_of}
-use Rattle.percent.specs.GoodHands.{game_of, hand_at, HasGoodHands, HasHandsBefore, is_good, is_good_queue}
+use Rattle.percent.specs.GoodHands.{AreAnswers, game_of, hand_at, HasGoodHands, HasHandsBefore, is_good, is_good_queue}
 use Rattle.percent.proofs.TestLemmas.{or_first, or_second}
 use Rattle.percent.proofs.GoodLemmas.{good-decides, uneven-none}
 
@@ -63,16 +63,16 @@ pub record Counting (problem : Problem) (number count : ℕ) : Type 0 where
 pub count-starts : (problem : Problem) → Counting problem 0 0
 count-starts problem = record { is = refl }
 
-pub count-yes : (problem : Problem) (good : List ℕ) (number count : ℕ) → HasGoodHands problem good → number < length (queues (elements_of problem.pattern)) → has good (hand_at problem number) ≡ true
-    → Counting problem number count → Counting problem (number + 1) (count + 1)
-count-yes problem good number count exact within passes state = record {
-  is = ap (λ n. n + 1) state.is ∙ sym (count_by_more_yes (is_good_queue problem) (queues (elements_of problem.pattern)) number [] within (sym (exact.each number within) ∙ passes));
+pub count-yes : (problem : Problem) (answers : List Bool) (all number count : ℕ) → AreAnswers problem answers all → all ≡ length (queues (elements_of problem.pattern)) → number < all
+    → get_or answers number false ≡ true → Counting problem number count → Counting problem (number + 1) (count + 1)
+count-yes problem answers all number count are whole within passes state = record {
+  is = ap (λ n. n + 1) state.is ∙ sym (count_by_more_yes (is_good_queue problem) (queues (elements_of problem.pattern)) number [] (omega (arith, whole, within)) (sym (are.each number within) ∙ passes));
 }
 
-pub count-no : (problem : Problem) (good : List ℕ) (number count : ℕ) → HasGoodHands problem good → number < length (queues (elements_of problem.pattern)) → has good (hand_at problem number) ≡ false
-    → Counting problem number count → Counting problem (number + 1) count
-count-no problem good number count exact within fails state = record {
-  is = state.is ∙ sym (count_by_more_no (is_good_queue problem) (queues (elements_of problem.pattern)) number [] within (sym (exact.each number within) ∙ fails));
+pub count-no : (problem : Problem) (answers : List Bool) (all number count : ℕ) → AreAnswers problem answers all → all ≡ length (queues (elements_of problem.pattern)) → number < all
+    → get_or answers number false ≡ false → Counting problem number count → Counting problem (number + 1) count
+count-no problem answers all number count are whole within fails state = record {
+  is = state.is ∙ sym (count_by_more_no (is_good_queue problem) (queues (elements_of problem.pattern)) number [] (omega (arith, whole, within)) (sym (are.each number within) ∙ fails));
 }
 
 pub count-few : (problem : Problem) (number count : ℕ) → Counting problem number count → count ≤ number
@@ -97,12 +97,33 @@ one-answer problem queue hand good result fit hand_is good_is result_is =
     (result_is ∙ good_is hand ∙ ap (λ b. b && is_good (game_of problem) (filled problem.well) problem.height (needed_of problem) hand) (has-there (hand ∷ []) 0 hand (omega arith) refl)
     ∙ ap (is_good (game_of problem) (filled problem.well) problem.height (needed_of problem)) hand_is)
 
--- the answer for the hand of a numbered queue is that for the queue
-pub numbered-answer : (problem : Problem) (number : ℕ) (queue : List Piece) (good : List ℕ) (result : Bool) → IsFit problem → HasGoodHands problem good
-    → number < length (queues (elements_of problem.pattern)) → slice_get (queues (elements_of problem.pattern)) number ≡ Some queue
-    → result ≡ has good (hand_at problem number) → IsTrue result ↔ Good problem queue
-numbered-answer problem number queue good result fit exact within read result_is =
-    decided problem queue result fit (result_is ∙ exact.each number within ∙ ap (is_good_queue problem) (get_or_from_slice_get (queues (elements_of problem.pattern)) number queue [] read))
+-- the answer for a numbered queue
+pub numbered-answer : (problem : Problem) (number : ℕ) (queue : List Piece) (answers : List Bool) (all : ℕ) (result : Bool) → IsFit problem → AreAnswers problem answers all
+    → number < all → slice_get (queues (elements_of problem.pattern)) number ≡ Some queue
+    → result ≡ get_or answers number false → IsTrue result ↔ Good problem queue
+numbered-answer problem number queue answers all result fit are within read result_is =
+    decided problem queue result fit (result_is ∙ are.each number within ∙ ap (is_good_queue problem) (get_or_from_slice_get (queues (elements_of problem.pattern)) number queue [] read))
+
+pub judge-starts : (problem : Problem) (answers : List Bool) → answers ≡ [] → AreAnswers problem answers 0
+judge-starts problem answers nil = record { size = ap length nil; each = λ number within. absurd (omega arith) }
+
+-- whether one queue more is good, by its hand
+pub judge-more : (problem : Problem) (good : List ℕ) (answers : List Bool) (number hand : ℕ) (answer : Bool) → HasGoodHands problem good → number < length (queues (elements_of problem.pattern))
+    → hand ≡ hand_at problem number → answer ≡ has good hand → AreAnswers problem answers number → AreAnswers problem (answers ++ answer ∷ []) (number + 1)
+judge-more problem good answers number hand answer exact within hand_is is state =
+    let size = state.size in
+    let more = length-append answers (answer ∷ []) in record {
+      size = omega (arith, size, more);
+      each = λ k below. elim (cases_lt k number) [
+        | inl before ↦ get_or_append_left answers (answer ∷ []) false k (omega (arith, size)) ∙ state.each k before
+        | inr last ↦
+            let at : k ≡ number = omega arith in
+            let zero : k - length answers ≡ 0 = omega (arith, size) in
+            get_or-append_right answers (answer ∷ []) (length answers) k false refl (omega (arith, size)) ∙ ap (λ n. get_or (answer ∷ []) n false) zero
+            ∙ is ∙ ap (has good) hand_is ∙ exact.each number within
+            ∙ ap (λ n. is_good_queue problem (get_or (queues (elements_of problem.pattern)) n [])) (sym at)
+      ];
+    }
 
 never : (a b : Bool) → b ≡ false → false ≡ (a && b)
 never true b h = sym h

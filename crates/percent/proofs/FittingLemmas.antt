@@ -27,7 +27,7 @@ use Rattle.percent.specs.GoodHands.{is_good}
 use Rattle.percent.proofs.HandLemmas.{code-few}
 use Rattle.percent.proofs.TiledLemmas.{codes-few, good-tiled}
 
-low-position : (p : Position) → IsLow (filled p.well) p.rows
+pub low-position : (p : Position) → IsLow (filled p.well) p.rows
 low-position p = record { none = p.below.none; within = omega (arith, p.few) }
 
 -- where pieces of a supply that has those of a hand have no tiling, the hand is not good

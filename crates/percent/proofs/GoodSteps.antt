@@ -14,7 +14,7 @@ use Rattle.hold_queue.specs.declared.hold.Hold.{Hold}
 use Rattle.number_sets.specs.Rising.{IsRising, has}
 use Rattle.number_sets.proofs.CallerLemmas.{has-none}
 use Rattle.percent.specs.declared.game.Game.{Game}
-use Rattle.percent.specs.declared.position.Position.{Position}
+use Rattle.percent.specs.declared.position.Child.{Child}
 use Rattle.percent.specs.Hands.{allows_hold, takes, with_first, with_second, without_first, without_second}
 use Rattle.percent.specs.GoodHands.{is_good, is_good_after, is_good_at}
 use Rattle.percent.proofs.RestSteps.{first_back, second_back}
@@ -147,13 +147,13 @@ explore-ends order game now F rows left hands asked found before after i same st
 -- ---- one child after the other
 
 -- the rests that are good at none of the first i children are still asked about
-pub record Trying (game now : Game) (left : ℕ) (children : List Position) (rests asked : List ℕ) (before after : ℕ) (i : ℕ) : Type 0 where
+pub record Trying (game now : Game) (left : ℕ) (children : List Child) (rests asked : List ℕ) (before after : ℕ) (i : ℕ) : Type 0 where
   pub same : now ≡ game
   pub rises : IsRising asked
   pub counted : before ≤ after
   pub members : (rest : ℕ) → has asked rest ≡ (has rests rest && not (is_good_at game (take i children) left rest))
 
-pub try-starts : (game : Game) (left : ℕ) (children : List Position) (rests asked : List ℕ) (before after : ℕ) → asked ≡ rests → IsRising rests → before ≤ after → Trying game game left children rests asked before after 0
+pub try-starts : (game : Game) (left : ℕ) (children : List Child) (rests asked : List ℕ) (before after : ℕ) → asked ≡ rests → IsRising rests → before ≤ after → Trying game game left children rests asked before after 0
 unfolding is_good_at
 try-starts game left children rests asked before after is up more = record {
   same = refl;
@@ -167,9 +167,9 @@ and_again false a g = refl
 and_again true true g = refl
 and_again true false g = refl
 
-pub try-more : (game now next_game : Game) (left : ℕ) (children : List Position) (rests asked good next : List ℕ) (before middle after i : ℕ) (child : Position)
+pub try-more : (game now next_game : Game) (left : ℕ) (children : List Child) (rests asked good next : List ℕ) (before middle after i : ℕ) (child : Child)
     → Trying game now left children rests asked before middle i → i < length children → get_or children i child ≡ child
-    → ((rest : ℕ) → has good rest ≡ (has asked rest && is_good now (filled child.well) child.rows left rest))
+    → ((rest : ℕ) → has good rest ≡ (has asked rest && is_good now (filled child.position.well) child.position.rows left rest))
     → next_game ≡ now → middle ≤ after
     → IsRising next → ((rest : ℕ) → has next rest ≡ (has asked rest && not (has good rest)))
     → Trying game next_game left children rests next before after (i + 1)
@@ -179,8 +179,8 @@ try-more game now next_game left children rests asked good next before middle af
   rises = rises;
   counted = omega (arith, state.counted, later);
   members = λ rest.
-      let test : Position → Bool = λ p. is_good game (filled p.well) p.rows left rest in
-      let here : is_good now (filled child.well) child.rows left rest ≡ test child = ap (λ (g : Game). is_good g (filled child.well) child.rows left rest) state.same in
+      let test : Child → Bool = λ child. is_good game (filled child.position.well) child.position.rows left rest in
+      let here : is_good now (filled child.position.well) child.position.rows left rest ≡ test child = ap (λ (g : Game). is_good g (filled child.position.well) child.position.rows left rest) state.same in
       let more : list_any test (take (i + 1) children) ≡ (list_any test (take i children) || test child) =
       list_any_more test children i child within ∙ ap (λ p. list_any test (take i children) || test p) at in
       next_is rest ∙ ap (λ b. has asked rest && not b) (good_is rest ∙ ap (λ b. has asked rest && b) here)
@@ -189,21 +189,21 @@ try-more game now next_game left children rests asked good next before middle af
       ∙ ap (λ b. has rests rest && not b) (sym more);
 }
 
-pub try-step : (game now next_game : Game) (left : ℕ) (children : List Position) (rests asked asked1 asked2 good good1 next : List ℕ) (before middle after i : ℕ) (child : Position)
+pub try-step : (game now next_game : Game) (left : ℕ) (children : List Child) (rests asked asked1 asked2 good good1 next : List ℕ) (before middle after i : ℕ) (child : Child)
     → Trying game now left children rests asked before middle i → i < length children → get_or children i child ≡ child
     → asked1 ≡ asked
-    → ((rest : ℕ) → has good rest ≡ (has asked1 rest && is_good now (filled child.well) child.rows left rest))
+    → ((rest : ℕ) → has good rest ≡ (has asked1 rest && is_good now (filled child.position.well) child.position.rows left rest))
     → next_game ≡ now → middle ≤ after
     → IsRising next → asked2 ≡ asked → good1 ≡ good
     → ((rest : ℕ) → has next rest ≡ (has asked2 rest && not (has good1 rest)))
     → Trying game next_game left children rests next before after (i + 1)
 try-step game now next_game left children rests asked asked1 asked2 good good1 next before middle after i child state within at e1 good_is same later rises e2 e3 next_is =
     try-more game now next_game left children rests asked good next before middle after i child state within at
-    (subst (λ l. (rest : ℕ) → has good rest ≡ (has l rest && is_good now (filled child.well) child.rows left rest)) e1 good_is)
+    (subst (λ l. (rest : ℕ) → has good rest ≡ (has l rest && is_good now (filled child.position.well) child.position.rows left rest)) e1 good_is)
     same later rises
     (subst (λ l. (rest : ℕ) → has next rest ≡ (has asked rest && not (has l rest))) e3 (subst (λ l. (rest : ℕ) → has next rest ≡ (has l rest && not (has good1 rest))) e2 next_is))
 
-pub try-ends : (game now : Game) (F : Field) (rows : ℕ) (piece : Piece) (left : ℕ) (children : List Position) (rests asked found : List ℕ) (before after i : ℕ)
+pub try-ends : (game now : Game) (F : Field) (rows : ℕ) (piece : Piece) (left : ℕ) (children : List Child) (rests asked found : List ℕ) (before after i : ℕ)
     → Trying game now left children rests asked before after i → length children ≤ i
     → ((left hand : ℕ) → is_good_at game children left hand ≡ is_good_after game F rows piece left hand)
     → ((rest : ℕ) → has found rest ≡ (has rests rest && not (has asked rest)))

@@ -6,6 +6,7 @@ mod GoodLemmas
 mod NumberSteps
 mod RestSteps
 mod KeptLemmas
+mod MarkLemmas
 mod PlaceLemmas
 mod GoodSteps
 mod AnswerLemmas

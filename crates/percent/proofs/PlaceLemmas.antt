@@ -27,7 +27,8 @@ use Rattle.reach.specs.Places.{holds}
 use Rattle.well.proofs.CallerLemmas.{free_inside}
 use Rattle.moves.proofs.CallerLemmas.{is_place-decides as place-decides, place-free}
 use Rattle.percent.specs.declared.game.Game.{Game}
-use Rattle.percent.specs.declared.position.Position.{Position}
+use Rattle.percent.specs.declared.position.Child.{Child}
+use Rattle.percent.specs.Children.{IsChild}
 use Rattle.percent.specs.GoodHands.{reached_places, is_good, is_good_after, is_good_at}
 
 -- the reached places whose cells lie below a row
@@ -98,7 +99,7 @@ unfoldable pub good_after_some : Game → Field → ℕ → List Placement → �
 good_after_some game F rows qs left hand = list_any (λ q. is_below rows q && is_good game (locked F q) (rows - rows_removed F q) left hand) qs
 
 -- the positions so far and the places above the last one make up all
-pub record Following (game : Game) (F : Field) (rows : ℕ) (piece : Piece) (children : List Position) (last : Option Placement) : Type 0 where
+pub record Following (game : Game) (F : Field) (rows : ℕ) (piece : Piece) (children : List Child) (last : Option Placement) : Type 0 where
   pub same : (left hand : ℕ) → (is_good_at game children left hand || good_after_some game F rows (places_above game F rows piece last) left hand) ≡ is_good_after game F rows piece left hand
 
 all_above : (qs : List Placement) → filter (λ q. true) qs ≡ qs
@@ -128,15 +129,15 @@ or_false : (a : Bool) → (a || false) ≡ a
 or_false true = refl
 or_false false = refl
 
-pub follow-more : (game : Game) (F : Field) (rows : ℕ) (piece : Piece) (children : List Position) (last : Option Placement) (q : Placement) (child : Position)
+pub follow-more : (game : Game) (F : Field) (rows : ℕ) (piece : Piece) (children : List Child) (last : Option Placement) (q : Placement) (child : Child)
     → Following game F rows piece children last → places_above game F rows piece last ≡ q ∷ places_above game F rows piece (Some q)
-    → is_below rows q ≡ true → filled child.well ≡ locked F q → child.rows ≡ rows - rows_removed F q
+    → is_below rows q ≡ true → filled child.position.well ≡ locked F q → child.position.rows ≡ rows - rows_removed F q
     → Following game F rows piece (children ++ child ∷ []) (Some q)
 unfolding good_after_some is_good_at
 follow-more game F rows piece children last q child state first below field left_rows = record {
   same = λ left hand.
       let test : Placement → Bool = λ q. is_below rows q && is_good game (locked F q) (rows - rows_removed F q) left hand in
-      let good : Position → Bool = λ p. is_good game (filled p.well) p.rows left hand in
+      let good : Child → Bool = λ child. is_good game (filled child.position.well) child.position.rows left hand in
       let here : good child ≡ test q = (λ i. is_good game (field i) (left_rows i) left hand) ∙ sym (ap (λ b. b && is_good game (locked F q) (rows - rows_removed F q) left hand) below) in
       ap (λ b. b || list_any test (places_above game F rows piece (Some q))) (list_any-append good children (child ∷ []) ∙ ap (λ b. list_any good children || b) (or_false (good child) ∙ here))
       ∙ or_next (list_any good children) (test q) (list_any test (places_above game F rows piece (Some q)))
@@ -144,7 +145,7 @@ follow-more game F rows piece children last q child state first below field left
       ∙ state.same left hand;
 }
 
-pub follow-ends : (game : Game) (F : Field) (rows : ℕ) (piece : Piece) (children : List Position) (last : Option Placement)
+pub follow-ends : (game : Game) (F : Field) (rows : ℕ) (piece : Piece) (children : List Child) (last : Option Placement)
     → Following game F rows piece children last → places_above game F rows piece last ≡ []
     → (left hand : ℕ) → is_good_at game children left hand ≡ is_good_after game F rows piece left hand
 unfolding good_after_some
@@ -153,6 +154,6 @@ follow-ends game F rows piece children last state none left hand =
     sym (ap (λ l. is_good_at game children left hand || list_any test l) none ∙ or_false (is_good_at game children left hand)) ∙ state.same left hand
 
 -- positions are good in any order
-pub in-any-order : (game : Game) (children ordered : List Position) (left hand : ℕ) → IsPermutation children ordered → is_good_at game ordered left hand ≡ is_good_at game children left hand
+pub in-any-order : (game : Game) (children ordered : List Child) (left hand : ℕ) → IsPermutation children ordered → is_good_at game ordered left hand ≡ is_good_at game children left hand
 unfolding is_good_at
-in-any-order game children ordered left hand same = sym (list_any-IsPermutation (λ p. is_good game (filled p.well) p.rows left hand) children ordered same)
+in-any-order game children ordered left hand same = sym (list_any-IsPermutation (λ child. is_good game (filled child.position.well) child.position.rows left hand) children ordered same)

@@ -1,5 +1,6 @@
 -- How many pieces of each kind a hand has, and what is known of filling empty cells with so many.
 use Rattle.std.specs.Prelude.{◌≡◌, ℕ, zero, suc, ◌+◌, ◌/◌, ◌%◌, ◌==◌, false, if◌then◌else◌, List, slice_index}
+use Rattle.srs.specs.declared.piece.Piece.{Piece}
 use Rattle.srs.specs.Piece.{piece_code}
 use Rattle.prune.specs.Tiling.{Supply, Tiling}
 use Rattle.packing.specs.declared.empties.Empties.{Empties}
@@ -10,6 +11,10 @@ use Rattle.percent.specs.declared.fitting.Verdict.{Verdict}
 unfoldable pub codes_in : ℕ → ℕ → ℕ → ℕ
 codes_in zero hand code = 0
 codes_in (suc count) hand code = (if hand % 8 == code then 1 else 0) + codes_in count (hand / 8) code
+
+-- the same with a piece more
+unfoldable pub codes_with : Piece → ℕ → ℕ → ℕ → ℕ
+codes_with piece count hand code = (if piece_code piece == code then 1 else 0) + codes_in count hand code
 
 -- the supply of the first so many pieces of a hand
 unfoldable pub supply_at : ℕ → ℕ → Supply

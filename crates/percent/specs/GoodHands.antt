@@ -1,5 +1,5 @@
 -- Good hands, piece by piece: whether some way to take a piece and place it leaves a good hand.
-use Rattle.std.specs.Prelude.{◌≡◌, ℕ, zero, suc, ◌-◌, ◌<◌, Bool, true, ◌&&◌, ◌==◌, List, [], filter, length, slice_index_or}
+use Rattle.std.specs.Prelude.{◌≡◌, ℕ, zero, suc, ◌-◌, ◌<◌, Bool, true, false, ◌&&◌, ◌==◌, List, [], filter, length, slice_index_or}
 use Rattle.std.specs.List.{list_any}
 use Rattle.lane_board.specs.Field.{Field}
 use Rattle.srs.specs.declared.piece.Piece.{Piece}
@@ -17,7 +17,7 @@ use Rattle.queue_pattern.specs.Queues.{queues}
 use Rattle.problem.specs.declared.problem.Problem.{Problem}
 use Rattle.problem.specs.Problem.{needed_of}
 use Rattle.percent.specs.declared.game.Game.{Game}
-use Rattle.percent.specs.declared.position.Position.{Position}
+use Rattle.percent.specs.declared.position.Child.{Child}
 use Rattle.percent.specs.Hands.{hand_of, takes}
 
 -- the placements of a piece that legal keys reach, in order
@@ -39,8 +39,9 @@ is_good_after game F rows piece left rest =
     (reached_places game F piece)
 
 -- good at one of these positions
-unfoldable pub is_good_at : Game → List Position → ℕ → ℕ → Bool
-is_good_at game positions left hand = list_any (λ p. is_good game (filled p.well) p.rows left hand) positions
+unfoldable pub is_good_at : Game → List Child → ℕ → ℕ → Bool
+is_good_at game children left hand =
+    list_any (λ child. is_good game (filled child.position.well) child.position.rows left hand) children
 
 abbrev pub game_of : Problem → Game
 game_of problem = record { rules = problem.rules; drop_mode = problem.drop_mode; hold = problem.hold }
@@ -65,4 +66,10 @@ pub record HasHandsBefore (problem : Problem) (hands : List ℕ) (number : ℕ) 
 pub record HasGoodHands (problem : Problem) (hands : List ℕ) : Type 0 where
   pub each : (number : ℕ) → number < length (queues (elements_of problem.pattern))
       → has hands (hand_at problem number)
+      ≡ is_good_queue problem (slice_index_or (queues (elements_of problem.pattern)) number [])
+
+-- whether each of the first so many queues is good
+pub record AreAnswers (problem : Problem) (answers : List Bool) (count : ℕ) : Type 0 where
+  pub size : length answers ≡ count
+  pub each : (number : ℕ) → number < count → slice_index_or answers number false
       ≡ is_good_queue problem (slice_index_or (queues (elements_of problem.pattern)) number [])

@@ -6,3 +6,5 @@ pub mod Hands
 pub mod GoodHands
 pub mod Kept
 pub mod Fitting
+pub mod Children
+pub mod Marks

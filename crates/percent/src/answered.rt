@@ -4,9 +4,9 @@ ghost use Rattle.number_sets.specs.Rising.{IsRising, has};
 ghost use Rattle.well.specs.Well.{filled};
 ghost use Rattle.percent.specs.GoodHands.{is_good, is_good_after};
 
-use crate::fitting::fitting;
 use crate::hand::{not_leading_to, rests_of};
 use crate::kept::Kept;
+use crate::marks::{Marks, fitting_after, marks_of};
 use crate::order::wanted_first;
 use crate::position::Position;
 use number_sets::{merged, without};
@@ -67,11 +67,7 @@ pub fn answered<L: Ledger>(
     if hands.is_empty() {
         return Ok(Vec::new(alloc));
     }
-    let fit = fitting(alloc, &mut kept.tilings, position, left, hands)?;
-    if fit.is_empty() {
-        return Ok(fit);
-    }
-    let (known, unknown) = kept.recalled(alloc, position, left, fit.as_slice())?;
+    let (known, unknown) = kept.recalled(alloc, position, left, hands)?;
     if unknown.is_empty() {
         return Ok(known);
     }
@@ -99,22 +95,23 @@ fn explored<L: Ledger>(
     ensures game { kept.new.game ≡ kept.old.game }
     ensures counted { steps.old ≤ steps.new }
 {
+    let marks = marks_of(alloc, &mut kept.pieces, position, left, hands)?;
     let mut open = Vec::from_slice(alloc, hands)?;
     for piece in wanted_first(kept.game.hold, hands) {
         let hold = kept.game.hold;
         let rests = rests_of(alloc, hold, piece, open.as_slice())?;
-        let good = tried(alloc, kept, position, left, piece, rests.as_slice(), steps)?;
+        let good = tried(alloc, kept, &marks, left, piece, rests.as_slice(), steps)?;
         open = not_leading_to(alloc, hold, piece, open.as_slice(), good.as_slice())?;
     }
     without(alloc, hands, open.as_slice())
 }
 
-/// The rests that are good after one of the places of a piece.
+/// The rests that are good after one of the places of a piece at the position of the marks.
 #[cycle(search)]
 fn tried<L: Ledger>(
     alloc: Global,
     kept: &mut Kept,
-    position: &Position,
+    marks: &Marks,
     left: u8,
     piece: Piece,
     rests: &[u64],
@@ -124,18 +121,19 @@ fn tried<L: Ledger>(
     requires rises { IsRising rests.now }
     ensures rises { IfOk result (λ v. IsRising v.items) }
     ensures members { IfOk result (λ v. (rest : ℕ) → has v.items rest
-        ≡ (has rests.now rest
-        && is_good_after kept.old.game (filled position.now.well) position.now.rows piece left rest)) }
+        ≡ (has rests.now rest && is_good_after kept.old.game (filled marks.now.position.well)
+        marks.now.position.rows piece left rest)) }
     ensures game { kept.new.game ≡ kept.old.game }
     ensures counted { steps.old ≤ steps.new }
 {
     if rests.is_empty() {
         return Ok(Vec::new(alloc));
     }
-    let children = position.children(alloc, &kept.game, &kept.flood, piece, steps)?;
+    let children = marks.position.children(alloc, &kept.game, &kept.flood, piece, steps)?;
     let mut open = Vec::from_slice(alloc, rests)?;
     for child in &children {
-        let good = answered(alloc, kept, child, left, open.as_slice(), steps)?;
+        let fit = fitting_after(alloc, &mut kept.tilings, marks, child, left, open.as_slice())?;
+        let good = answered(alloc, kept, &child.position, left, fit.as_slice(), steps)?;
         open = less(alloc, open, good.as_slice())?;
     }
     without(alloc, rests, open.as_slice())

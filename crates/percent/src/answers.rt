@@ -4,7 +4,7 @@ ghost use Rattle.queue_pattern.specs.Pattern.{elements_of};
 ghost use Rattle.queue_pattern.specs.Queues.{queues};
 ghost use Rattle.number_sets.specs.Rising.{IsRising};
 ghost use Rattle.problem.specs.Problem.{IsFit};
-ghost use Rattle.percent.specs.GoodHands.{HasGoodHands, HasHandsBefore, is_good_queue};
+ghost use Rattle.percent.specs.GoodHands.{AreAnswers, HasGoodHands, HasHandsBefore, is_good_queue};
 
 use crate::start::{good_hands, hand};
 use number_sets::{as_set, holds};
@@ -29,16 +29,29 @@ fn hands_of(alloc: Global, problem: &Problem) -> Result<Vec<u64>, NoMemory>
     as_set(alloc, hands)
 }
 
-/// How many queues are good.
-fn count_good(problem: &Problem, good: &[u64]) -> u32
+/// Whether each queue is good, by its number: whether its hand is one of the good ones.
+fn judged(alloc: Global, problem: &Problem, hands: &[u64]) -> Result<Vec<bool>, NoMemory>
     requires fit { IsFit problem.now }
-    requires rises { IsRising good.now }
-    requires exact { HasGoodHands problem.now good.now }
+    requires rises { IsRising hands.now }
+    requires exact { HasGoodHands problem.now hands.now }
+    ensures { IfOk result (λ v. AreAnswers problem.now v.items (length (queues (elements_of problem.now.pattern)))) }
+{
+    let count = problem.pattern.count();
+    let mut answers = Vec::with_capacity(alloc, count as usize)?;
+    for number in 0..count {
+        answers.push(holds(hands, hand(problem, number)))?;
+    }
+    Ok(answers)
+}
+
+/// How many queues are good.
+fn count_good(problem: &Problem, answers: &[bool]) -> u32
+    requires { AreAnswers problem.now answers.now (length (queues (elements_of problem.now.pattern))) }
     ensures { result ≡ count_by (is_good_queue problem.now) (queues (elements_of problem.now.pattern)) }
 {
     let mut count = 0;
     for number in 0..problem.pattern.count() {
-        if holds(good, hand(problem, number)) {
+        if answers[number as usize] {
             count += 1;
         }
     }
@@ -49,11 +62,10 @@ fn count_good(problem: &Problem, good: &[u64]) -> u32
 #[derive(Drop)]
 pub struct Answers {
     problem: Problem,
-    good: Vec<u64>,
+    good: Vec<bool>,
     count: u32,
     ghost fit: { IsFit problem },
-    ghost rises: { IsRising good.items },
-    ghost exact: { HasGoodHands problem good.items },
+    ghost exact: { AreAnswers problem good.items (length (queues (elements_of problem.pattern))) },
     ghost counted: { count ≡ count_by (is_good_queue problem) (queues (elements_of problem.pattern)) },
 }
 
@@ -75,6 +87,7 @@ impl Answers {
     {
         let hands = hands_of(alloc, problem)?;
         let good = good_hands(alloc, problem, hands.as_slice(), steps)?;
+        let good = judged(alloc, problem, good.as_slice())?;
         let count = count_good(problem, good.as_slice());
         Ok(Answers {
             problem: *problem,
@@ -90,7 +103,7 @@ impl Answers {
             slice_get (queues (elements_of (problem_of self.now).pattern)) number ≡ Some queue →
             IsTrue result ↔ Good (problem_of self.now) queue }
     {
-        holds(self.good.as_slice(), hand(&self.problem, number))
+        self.good[number as usize]
     }
 
     /// How many queues are good, of all of the pattern: at most 10,000,000.

@@ -15,7 +15,7 @@ use prune::cheap_no;
 use std::alloc::Global;
 
 /// How many pieces there are of each code. No piece has the code 0.
-type Counts = [u8; 8];
+pub type Counts = [u8; 8];
 
 /// What was found of some pieces: where they may not fit, they don't fill the cells that were asked about.
 #[derive(Clone, Copy)]
@@ -35,7 +35,7 @@ struct Verdicts {
 }
 
 /// The counts of the first so many pieces of a hand.
-fn counts_of(hand: u64, pieces: u8) -> Counts
+pub fn counts_of(hand: u64, pieces: u8) -> Counts
     ensures { (code : ℕ) → code < 8 → slice_index result code ≡ codes_in pieces hand code }
 {
     let mut counts = [0; 8];

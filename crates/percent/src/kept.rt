@@ -8,7 +8,7 @@ use crate::game::Game;
 use crate::position::Position;
 use dead_memo::cells_below;
 use number_sets::{merged, without};
-use packing::TilingStore;
+use packing::{PieceStore, TilingStore};
 use pc_outside::NoMemory;
 use reach::FloodRules;
 use std::alloc::Global;
@@ -57,6 +57,7 @@ pub struct Kept {
     pub game: Game,
     pub flood: FloodRules,
     pub tilings: TilingStore,
+    pub pieces: PieceStore,
     slots: Vec<Slot>,
     /// How many answers are kept.
     count: usize,
@@ -83,10 +84,12 @@ impl Kept {
             slots.push(Slot::empty(alloc))?;
         }
         let tilings = TilingStore::new(alloc)?;
+        let pieces = PieceStore::new(alloc)?;
         Ok(Kept {
             game,
             flood: FloodRules::new(&game.rules),
             tilings,
+            pieces,
             slots,
             count: 0,
             next: 0,
@@ -139,6 +142,9 @@ impl Kept {
             ≡ (has hands.now hand && is_good self.now.game (filled position.now.well) position.now.rows left hand)) }
     {
         let (found, missed) = self.known(position, left);
+        if found.is_empty() && missed.is_empty() {
+            return Ok((Vec::new(alloc), Vec::from_slice(alloc, hands)?));
+        }
         let open = without(alloc, hands, missed)?;
         let unknown = without(alloc, open.as_slice(), found)?;
         let good = without(alloc, open.as_slice(), unknown.as_slice())?;

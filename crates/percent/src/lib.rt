@@ -8,6 +8,7 @@ mod game;
 mod hand;
 mod kept;
 pub mod laws;
+mod marks;
 mod order;
 mod position;
 mod start;

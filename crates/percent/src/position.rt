@@ -24,13 +24,21 @@ pub struct Position {
     ghost below: { LiesBelow (filled well) rows },
 }
 
+/// The position after a placement.
+#[derive(Clone, Copy)]
+pub struct Child {
+    pub placement: Placement,
+    pub position: Position,
+}
+
 impl Position {
-    ghost use Rattle.std.specs.Prelude.{◌≡◌, ℕ, ◌+◌, ◌-◌, IsTrue, IfOk};
+    ghost use Rattle.std.specs.Prelude.{◌≡◌, ℕ, ◌+◌, ◌-◌, All, IsTrue, IfOk};
     ghost use Rattle.srs.specs.Rules.{table_of};
     ghost use Rattle.well.specs.Free.{is_free};
     ghost use Rattle.well.specs.Lock.{locked, rows_removed};
     ghost use Rattle.well.specs.LockLaws.{is_below};
     ghost use Rattle.reach.specs.FloodRules.{flood_table};
+    ghost use Rattle.percent.specs.Children.{IsChild};
     ghost use Rattle.percent.specs.GoodHands.{is_good_after, is_good_at};
 
     /// The position after a placement below the rows left.
@@ -58,8 +66,9 @@ impl Position {
         rules: &FloodRules,
         piece: Piece,
         steps: &mut Steps<L>,
-    ) -> Result<Vec<Position>, NoMemory>
+    ) -> Result<Vec<Child>, NoMemory>
         requires { flood_table rules.now ≡ table_of game.now.rules }
+        ensures after { IfOk result (λ v. All (IsChild (filled self.now.well) self.now.rows) v.items) }
         ensures good { IfOk result (λ v. (left hand : ℕ) → is_good_at game.now v.items left hand
             ≡ is_good_after game.now (filled self.now.well) self.now.rows piece left hand) }
         ensures counted { steps.new ≡ steps.old + 1 }
@@ -69,10 +78,13 @@ impl Position {
         let mut children = Vec::new(alloc);
         let mut last = None;
         while let Some(placement) = places.next_after(last.as_ref()) {
-            children.push(self.after(&placement))?;
+            children.push(Child {
+                placement,
+                position: self.after(&placement),
+            })?;
             last = Some(placement);
         }
-        children.sort_unstable_by_key(|child| child.roughness);
+        children.sort_unstable_by_key(|child| child.position.roughness);
         Ok(children)
     }
 }

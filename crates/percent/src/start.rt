@@ -9,6 +9,7 @@ ghost use Rattle.percent.specs.Good.{Good};
 ghost use Rattle.percent.specs.GoodHands.{game_of, hand_at, is_good};
 
 use crate::answered::answered;
+use crate::fitting::fitting;
 use crate::game::Game;
 use crate::hand::hand_of;
 use crate::kept::Kept;
@@ -70,7 +71,9 @@ pub fn good_hands<L: Ledger>(
     }
     let mut kept = Kept::new(alloc, game(problem), room_for(hands.len()))?;
     let position = first_position(problem);
-    answered(alloc, &mut kept, &position, needed(problem), hands, steps)
+    let left = needed(problem);
+    let fit = fitting(alloc, &mut kept.tilings, &position, left, hands)?;
+    answered(alloc, &mut kept, &position, left, fit.as_slice(), steps)
 }
 
 /// The hand of the queue with this number, from 0.

@@ -1,16 +1,21 @@
 -- Each answer is made of lists whose contracts say what they have.
-use Rattle.std.proofs.Common.{◌≡◌, ℕ, ◌==◌, ◌&&◌, Bool, not, List, length, true, refl, ap, subst, ◌∙◌, sym, arith}
+use Rattle.std.proofs.Common.{◌≡◌, ◌<◌, ℕ, ◌==◌, ◌&&◌, All, Bool, not, List, length, get_or, true, refl, ap, subst, ◌∙◌, sym, arith}
 use Rattle.std.specs.Prelude.{vec_len, IsPermutation}
 use Rattle.srs.specs.declared.piece.Piece.{Piece}
+use Rattle.srs.specs.declared.piece.Piece.TheVariants.{I}
 use Rattle.srs.specs.Piece.{all_pieces}
+use Rattle.lane_board.specs.Field.{Field}
 use Rattle.std.proofs.lemmas.Bool.Decides.{nat_tests}
 use Rattle.std.proofs.lemmas.List.{nil_from_length}
 use Rattle.std.proofs.lemmas.List.Sorted.{length_permutation}
 use Rattle.well.specs.Well.{filled}
 use Rattle.number_sets.specs.Rising.{has}
 use Rattle.number_sets.proofs.CallerLemmas.{has-none}
+use Rattle.percent.specs.declared.position.Child.{Child}
+use Rattle.percent.specs.declared.position.Position.{Position}
+use Rattle.percent.specs.Children.{IsChild}
 use Rattle.percent.specs.GoodHands.{is_good, is_good_after, is_good_at}
-use Rattle.percent.proofs.GoodSteps.{good-ends, answer-kept, answer-known, answer-none, explore-ends, explore-step, try-ends, try-step, try-starts, ok-map}
+use Rattle.percent.proofs.GoodSteps.{good-ends, answer-kept, answer-known, explore-ends, explore-step, try-ends, try-step, try-starts, ok-map}
 use Rattle.percent.proofs.answered.+search.Goals as goal
 
 pub answered-returns-then-left-eq0-clause-members : goal.answered-returns-then-left-eq0-clause-members
@@ -31,20 +36,12 @@ answered-returns-then-is_empty-clause-members g t c = λ hand.
 pub answered-returns-then-is_empty-2-clause-members : goal.answered-returns-then-is_empty-2-clause-members
 answered-returns-then-is_empty-2-clause-members g t c =
     let p = c.args.position.now in
-    let none : (vec_len c.in_ok-fit.fit == 0) ≡ true = sym c.is_empty-2.ensures ∙ c.if-is_empty-2.true in
-    let short : length c.in_ok-fit.fit.items ≡ 0 = grind (arith, nat_tests) in
-    answer-none c.in_ok-fit.fit.items c.args.hands.now (is_good c.args.kept.now.game (filled p.well) p.rows c.args.left) (nil_from_length c.in_ok-fit.fit.items short)
-    (c.in_ok-fit.ensures.members c.args.kept.now.game)
-
-pub answered-returns-then-is_empty-3-clause-members : goal.answered-returns-then-is_empty-3-clause-members
-answered-returns-then-is_empty-3-clause-members g t c =
-    let p = c.args.position.now in
     let good : ℕ → Bool = is_good c.args.kept.now.game (filled p.well) p.rows c.args.left in
-    let none : (vec_len c.in_ok-known.unknown == 0) ≡ true = sym c.is_empty-3.ensures ∙ c.if-is_empty-3.true in
+    let none : (vec_len c.in_ok-known.unknown == 0) ≡ true = sym c.is_empty-2.ensures ∙ c.if-is_empty-2.true in
     let short : length c.in_ok-known.unknown.items ≡ 0 = grind (arith, nat_tests) in
     let nil = nil_from_length c.in_ok-known.unknown.items short in
     answer-known c.in_ok-known.known.items c.in_ok-known.unknown.items c.args.hands.now good
-    (λ hand. c.in_ok-known.ensures.members hand ∙ answer-kept c.in_ok-fit.fit.items c.as_slice.result.now c.args.hands.now good c.as_slice.ensures.value (c.in_ok-fit.ensures.members c.args.kept.now.game) hand)
+    c.in_ok-known.ensures.members
     (λ hand. ap (λ l. has l hand) nil ∙ has-none hand)
 
 seven : (order : List Piece) → IsPermutation all_pieces order → length order ≡ 7
@@ -59,7 +56,9 @@ explored-loop-piece-preserved g t c =
     c.args.steps.now c.loop-piece.steps c.tried.new.steps c.loop-piece.piece-index _
     c.loop-piece.invariant (omega (arith, seven c.wanted_first-piece-items.result c.wanted_first-piece-items.ensures, c.loop-piece-test.true))
     c.as_slice.ensures.value c.in_ok-rests.ensures.members
-    c.as_slice-in-loop-piece.ensures.value c.in_ok-good.ensures.members
+    c.as_slice-in-loop-piece.ensures.value
+    (subst (λ (m : Position). (rest : ℕ) → has c.in_ok-good.good.items rest ≡ (has c.as_slice-in-loop-piece.result.now rest
+    && is_good_after c.loop-piece.kept.game (filled m.well) m.rows (get_or c.wanted_first-piece-items.result c.loop-piece.piece-index I) c.args.left rest)) c.in_ok-marks.ensures c.in_ok-good.ensures.members)
     c.in_ok-good.ensures.game c.in_ok-good.ensures.counted
     c.in_ok-open-2.ensures.rises c.as_slice-in-loop-piece-2.ensures.value c.as_slice-in-loop-piece-3.ensures.value c.in_ok-open-2.ensures.members
 
@@ -73,7 +72,7 @@ explored-returns-clause-members g t c =
 
 pub tried-returns-then-is_empty-clause-members : goal.tried-returns-then-is_empty-clause-members
 tried-returns-then-is_empty-clause-members g t c = λ rest.
-    let p = c.args.position.now in
+    let p = c.args.marks.now.position in
     let none : (length c.args.rests.now == 0) ≡ true = sym c.is_empty.ensures ∙ c.if-is_empty.true in
     let short : length c.args.rests.now ≡ 0 = grind (arith, nat_tests) in
     let nil = nil_from_length c.args.rests.now short in
@@ -85,19 +84,35 @@ tried-loop-child-init g t c =
     try-starts c.args.kept.now.game c.args.left c.deref-child-items.result.now c.args.rests.now c.in_ok-open.open.items c.args.steps.now c.children.new.steps
     c.in_ok-open.ensures.items c.requires.rises (omega (arith, c.in_ok-children.ensures.counted))
 
+-- the child of the iteration comes after a placement
+child_is : (F : Field) (rows : ℕ) (items children : List Child) (i : ℕ) (child : Child) → children ≡ items → All (IsChild F rows) items → i < length children → child ≡ get_or children i child
+    → IsChild F rows child
+child_is F rows items children i child same all within is = subst (IsChild F rows) (sym is) (subst (All (IsChild F rows)) (sym same) all i child within)
+
+pub tried-fitting_after-requires-clause-child : goal.tried-fitting_after-requires-clause-child
+tried-fitting_after-requires-clause-child g t c =
+    let p = c.args.marks.now.position in
+    child_is (filled p.well) p.rows c.in_ok-children.children.items c.deref-child-items.result.now c.loop-child.child-index c.child-item.result
+    c.deref-child-items.ensures.value c.in_ok-children.ensures.after c.loop-child-test.true c.child-item.is
+
 pub tried-loop-child-preserved : goal.tried-loop-child-preserved
 tried-loop-child-preserved g t c =
     try-step c.args.kept.now.game c.loop-child.kept.game c.answered.new.kept.game c.args.left c.deref-child-items.result.now c.args.rests.now
-    c.loop-child.open.items c.as_slice.result.now c.loop-child.open.items c.in_ok-good.good.items c.as_slice-in-loop-child.result.now c.in_ok-open-2.open.items
+    c.loop-child.open.items c.as_slice.result.now c.loop-child.open.items c.in_ok-good.good.items c.as_slice-in-loop-child-2.result.now c.in_ok-open-2.open.items
     c.args.steps.now c.loop-child.steps c.answered.new.steps c.loop-child.child-index c.child-item.result
     c.loop-child.invariant c.loop-child-test.true (sym c.child-item.is)
-    c.as_slice.ensures.value c.in_ok-good.ensures.members
+    c.as_slice.ensures.value
+    (λ rest.
+    c.in_ok-good.ensures.members rest
+    ∙ answer-kept c.in_ok-fit.fit.items c.as_slice-in-loop-child.result.now c.as_slice.result.now
+    (is_good c.loop-child.kept.game (filled c.child-item.result.position.well) c.child-item.result.position.rows c.args.left)
+    c.as_slice-in-loop-child.ensures.value (c.in_ok-fit.ensures.members c.loop-child.kept.game) rest)
     c.in_ok-good.ensures.game c.in_ok-good.ensures.counted
-    c.in_ok-open-2.ensures.rises refl c.as_slice-in-loop-child.ensures.value c.in_ok-open-2.ensures.members
+    c.in_ok-open-2.ensures.rises refl c.as_slice-in-loop-child-2.ensures.value c.in_ok-open-2.ensures.members
 
 pub tried-returns-clause-members : goal.tried-returns-clause-members
 tried-returns-clause-members g t c =
-    let p = c.args.position.now in
+    let p = c.args.marks.now.position in
     ok-map c.without.result _ _
     (λ v h. try-ends c.args.kept.now.game c.loop-child.kept.game (filled p.well) p.rows c.args.piece c.args.left c.deref-child-items.result.now c.args.rests.now c.loop-child.open.items v.items
     c.args.steps.now c.loop-child.steps c.loop-child.child-index c.loop-child.invariant c.loop-child-test.false

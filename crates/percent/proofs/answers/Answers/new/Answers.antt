@@ -7,8 +7,8 @@ use Rattle.percent.specs.GoodHands.{HasGoodHands, HasHandsBefore}
 use Rattle.percent.proofs.AnswerLemmas.{good-hands}
 use Rattle.percent.proofs.answers.Answers.new.Goals as goal
 
-pub count_good-count-requires-clause-exact : goal.count_good-count-requires-clause-exact
-count_good-count-requires-clause-exact g c =
+pub judged-requires-clause-exact : goal.judged-requires-clause-exact
+judged-requires-clause-exact g c =
     subst (HasGoodHands c.args.problem.now) (sym c.as_slice-2.ensures.value)
     (good-hands c.args.problem.now c.as_slice.result.now c.in_ok-good.good.items
     (subst (λ l. HasHandsBefore c.args.problem.now l (length (queues (elements_of c.args.problem.now.pattern)))) (sym c.as_slice.ensures.value) c.in_ok-hands.ensures.each) c.in_ok-good.ensures.members)
@@ -16,9 +16,7 @@ count_good-count-requires-clause-exact g c =
 pub invariant_of-result : goal.invariant_of-result
 invariant_of-result g c = record {
   fit = c.requires;
-  rises = c.in_ok-good.ensures.rises;
-  exact = good-hands c.args.problem.now c.as_slice.result.now c.in_ok-good.good.items
-      (subst (λ l. HasHandsBefore c.args.problem.now l (length (queues (elements_of c.args.problem.now.pattern)))) (sym c.as_slice.ensures.value) c.in_ok-hands.ensures.each) c.in_ok-good.ensures.members;
+  exact = c.in_ok-good-2.ensures;
   counted = c.count_good-count.ensures;
 }
 

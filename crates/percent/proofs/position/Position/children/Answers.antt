@@ -1,6 +1,8 @@
 -- The places come in order, and each that lies below the rows left is entered.
-use Rattle.std.proofs.Common.{◌≡◌, ◌↔◌, ◌∙◌, ℕ, [], length, IsTrue, ap, subst, sym, arith}
+use Rattle.std.proofs.Common.{◌≡◌, ◌↔◌, ◌∙◌, ℕ, [], All, length, IsTrue, ap, subst, sym, arith}
 use Rattle.std.specs.Prelude.{Option, Some, None}
+use Rattle.std.proofs.lemmas.List.Elements.{All-nil, All-push}
+use Rattle.std.proofs.lemmas.List.Sorted.{All-permutation}
 use Rattle.lane_board.specs.Field.{Field}
 use Rattle.srs.specs.declared.piece.Piece.{Piece}
 use Rattle.srs.specs.declared.placement.Placement.{Placement}
@@ -14,6 +16,7 @@ use Rattle.srs.specs.Rules.{table_of}
 use Rattle.well.specs.LockLaws.{is_below}
 use Rattle.moves.specs.Place.{IsPlace}
 use Rattle.percent.specs.declared.game.Game.{Game}
+use Rattle.percent.specs.Children.{IsChild}
 use Rattle.percent.proofs.PlaceLemmas.{Held, NextPlace, next-place, places_above, follow-starts, follow-more, follow-ends, in-any-order}
 use Rattle.percent.proofs.position.Position.children.Goals as goal
 
@@ -28,7 +31,11 @@ next game T F rows piece places rules held last bound result same is =
     last result (subst (λ l. IsNextAbove placement_cmp (λ q. IsTrue (holds places q)) l result) same is)
 
 pub loop-placement-init : goal.loop-placement-init
-loop-placement-init g c = (rw c.new-children.ensures.items (follow-starts c.args.game.now (filled c.args.self.now.well) c.args.self.now.rows c.args.piece), tt)
+loop-placement-init g c = (
+  rw c.new-children.ensures.items (follow-starts c.args.game.now (filled c.args.self.now.well) c.args.self.now.rows c.args.piece),
+  subst (All (IsChild (filled c.args.self.now.well) c.args.self.now.rows)) (sym c.new-children.ensures.items) (All-nil (IsChild (filled c.args.self.now.well) c.args.self.now.rows)),
+  tt,
+)
 
 pub after-requires-clause-free : goal.after-requires-clause-free
 after-requires-clause-free g c =
@@ -48,8 +55,11 @@ loop-placement-smaller g c =
 pub loop-placement-preserved : goal.loop-placement-preserved
 loop-placement-preserved g c =
     let n = next c.args.game.now _ (filled c.args.self.now.well) c.args.self.now.rows c.args.piece c.flood_below.new.held c.requires c.flood_below.ensures.held c.loop-placement.last _ (Some c.in-Some.placement) c.as_ref.ensures.value c.in-Some.ensures in (
-      rw c.in_ok-push.ensures.items (follow-more c.args.game.now (filled c.args.self.now.well) c.args.self.now.rows c.args.piece c.loop-placement.children.items c.loop-placement.last c.in-Some.placement c.after.result
+      rw c.in_ok-push.ensures.items (follow-more c.args.game.now (filled c.args.self.now.well) c.args.self.now.rows c.args.piece c.loop-placement.children.items c.loop-placement.last c.in-Some.placement (record { placement = c.in-Some.placement; position = c.after.result })
           c.loop-placement.invariant.0 n.0 n.3 c.after.ensures.field c.after.ensures.rows),
+      subst (All (IsChild (filled c.args.self.now.well) c.args.self.now.rows)) (sym c.in_ok-push.ensures.items)
+          (All-push (IsChild (filled c.args.self.now.well) c.args.self.now.rows) c.loop-placement.children.items _ c.loop-placement.invariant.1
+          (record { free = n.2; below = n.3; field = c.after.ensures.field; left = c.after.ensures.rows })),
       n.1,
     )
 
@@ -60,3 +70,7 @@ returns-clause-good g c = λ left hand.
     next c.args.game.now _ F c.args.self.now.rows c.args.piece c.flood_below.new.held c.requires c.flood_below.ensures.held c.loop-placement.last _ None c.as_ref.ensures.value c.in_default.ensures in
     in-any-order c.args.game.now c.loop-placement.children.items c.sort_unstable_by_key.new.self.items left hand c.sort_unstable_by_key.ensures.permutation
     ∙ follow-ends c.args.game.now F c.args.self.now.rows c.args.piece c.loop-placement.children.items c.loop-placement.last c.loop-placement.invariant.0 none left hand
+
+pub returns-clause-after : goal.returns-clause-after
+returns-clause-after g c =
+    All-permutation (IsChild (filled c.args.self.now.well) c.args.self.now.rows) c.loop-placement.children.items c.sort_unstable_by_key.new.self.items c.sort_unstable_by_key.ensures.permutation c.loop-placement.invariant.1

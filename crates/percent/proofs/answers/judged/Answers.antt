@@ -1,0 +1,18 @@
+-- Each queue is judged by its hand.
+use Rattle.std.proofs.Common.{subst, sym, ◌∙◌, ap, arith}
+use Rattle.number_sets.specs.Rising.{has}
+use Rattle.percent.specs.GoodHands.{AreAnswers}
+use Rattle.percent.proofs.AnswerLemmas.{judge-starts, judge-more}
+use Rattle.percent.proofs.answers.judged.Goals as goal
+
+pub loop-number-init : goal.loop-number-init
+loop-number-init c = judge-starts c.args.problem.now c.in_ok-answers.answers.items c.in_ok-answers.ensures.items
+
+pub loop-number-preserved : goal.loop-number-preserved
+loop-number-preserved c =
+    rw c.in_ok-push.ensures.items
+    (judge-more c.args.problem.now c.args.hands.now c.loop-number.answers.items c.loop-number.number c.hand.result c.holds.result c.requires.exact
+    (omega (arith, c.loop-number-test.true, c.count-count.ensures.number)) c.hand.ensures c.holds.ensures c.loop-number.invariant)
+
+pub returns : goal.returns
+returns c = subst (AreAnswers c.args.problem.now c.loop-number.answers.items) (omega (arith, c.loop-number-test.false, c.loop-number.auto.number-end, c.count-count.ensures.number)) c.loop-number.invariant

@@ -1,0 +1,7 @@
+use Rattle.well.specs.Well.{filled}
+use Rattle.percent.specs.GoodHands.{is_good}
+use Rattle.percent.proofs.FittingLemmas.{Sifting}
+use Rattle.percent.proofs.marks.Marks.likely.Given as goal
+
+abbrev pub invariant-loop-rest : goal.invariant-loop-rest
+invariant-loop-rest l = Sifting (λ game. is_good game (filled l.child.position.well) l.child.position.rows l.left) l.rests l.v.items l.rest-index
