@@ -63,7 +63,12 @@ impl Tilings {
     }
 
     /// Whether what a placement leaves of a set of cells has a tiling by the supply.
-    pub fn leaves_tiling(&mut self, cells: &Empties, placement: &Placement, supply: &[u8; 7]) -> bool
+    pub fn leaves_tiling(
+        &mut self,
+        cells: &Empties,
+        placement: &Placement,
+        supply: &[u8; 7],
+    ) -> bool
         requires column { placement.now.x ≤ 9 }
         requires row { placement.now.y ≤ 31 }
         ensures { IsTrue result ↔ Tiling (all_but (without_placement (empty_cells cells.now) placement.now)) 8

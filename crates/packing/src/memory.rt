@@ -54,9 +54,7 @@ impl Remembered {
         ensures supply { IsTrue result → self.now.supply ≡ supply.now }
         ensures piece { IsTrue result → self.now.piece ≡ piece }
     {
-        self.cells.is_equal(cells)
-            && self.supply == *supply
-            && self.piece.code() == piece.code()
+        self.cells.is_equal(cells) && self.supply == *supply && self.piece.code() == piece.code()
     }
 
     /// Whether a placement leaves a tiling, where it was asked.
@@ -131,13 +129,21 @@ impl PlaceMemory {
         }
         let answer = store.has_tiling_near(&cells.without(placement), placement.x, supply);
         if placement.y < 8 {
-            self.sets[place] = self.known(place, cells, supply, placement).with(placement, answer);
+            self.sets[place] = self
+                .known(place, cells, supply, placement)
+                .with(placement, answer);
         }
         answer
     }
 
     /// What is remembered of a question, or that nothing is.
-    fn known(&self, place: usize, cells: &Empties, supply: &[u8; 7], placement: &Placement) -> Remembered
+    fn known(
+        &self,
+        place: usize,
+        cells: &Empties,
+        supply: &[u8; 7],
+        placement: &Placement,
+    ) -> Remembered
         requires { place < 32768 }
         ensures cells { empty_cells result.cells ≡ empty_cells cells.now }
         ensures supply { result.supply ≡ supply.now }

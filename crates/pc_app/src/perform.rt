@@ -54,11 +54,11 @@ pub fn perform<O: Sink, L: Ledger>(
     requires short { length bytes.now ≤ most_bytes }
     ensures answers { let task = task_for (settings_view settings.now) in
         let sink = sink_change O.counts_failures_alone (O.written out.old) (O.written out.new)
-            (O.faults out.old) (O.faults out.new) in
+        (O.faults out.old) (O.faults out.new) in
         IsAnswered task bytes.now sink (out.new ≡ out.old) (steps.new - steps.old) result }
     ensures works { let task = task_for (settings_view settings.now) in
         let sink = sink_change O.counts_failures_alone (O.written out.old) (O.written out.new)
-            (O.faults out.old) (O.faults out.new) in
+        (O.faults out.old) (O.faults out.new) in
         Works task (task.fault bytes.now) bytes.now sink (steps.new - steps.old) result }
     ensures counted { steps.old ≤ steps.new }
 {

@@ -56,12 +56,12 @@ fn answer<S: Source, O: Sink, L: Ledger>(
 ) -> Status
     ensures ran { let task = task_of (texts words.now) in
         let sink = sink_change O.counts_failures_alone (O.written out.old) (O.written out.new)
-            (O.faults out.old) (O.faults out.new) in
+        (O.faults out.old) (O.faults out.new) in
         ForBytes task (S.left source.old)
         (λ bytes. Ran task bytes sink (out.new ≡ out.old) (steps.new - steps.old) result) }
     ensures sink { let task = task_of (texts words.now) in
         let sink = sink_change O.counts_failures_alone (O.written out.old) (O.written out.new)
-            (O.faults out.old) (O.faults out.new) in
+        (O.faults out.old) (O.faults out.new) in
         LeavesSink task sink (out.new ≡ out.old) result }
     ensures words_fault { (fault : WordsFault) → result ≡ Status.Input (Fault.Words fault)
         → request_in (texts words.now) ≡ Err fault }
@@ -74,7 +74,7 @@ fn answer<S: Source, O: Sink, L: Ledger>(
         → S.faults source.new ≡ S.faults source.old }
     ensures work { let task = task_of (texts words.now) in
         let sink = sink_change O.counts_failures_alone (O.written out.old) (O.written out.new)
-            (O.faults out.old) (O.faults out.new) in
+        (O.faults out.old) (O.faults out.new) in
         ForSomeBytes task (S.left source.old)
         (λ bytes. Works task (first_fault task bytes) bytes sink (steps.new - steps.old) result) }
     ensures rose { steps.old ≤ steps.new }
@@ -106,7 +106,7 @@ pub fn run<S: Source, O: Sink, E: Sink, L: Ledger>(
 ) -> Status
     ensures done { let task = task_of (texts words.now) in
         let sink = sink_change O.counts_failures_alone (O.written out.old) (O.written out.new)
-            (O.faults out.old) (O.faults out.new) in
+        (O.faults out.old) (O.faults out.new) in
         result ≡ Status.Done → ForBytes task (S.left source.old)
         (λ bytes. Wrote (task.IsOutput bytes (steps.new - steps.old)) sink) }
     ensures no_fault { let task = task_of (texts words.now) in
@@ -134,7 +134,7 @@ pub fn run<S: Source, O: Sink, E: Sink, L: Ledger>(
         × (out.new ≡ out.old) × (steps.new ≡ steps.old) }
     ensures sink_fault { let task = task_of (texts words.now) in
         let sink = sink_change O.counts_failures_alone (O.written out.old) (O.written out.new)
-            (O.faults out.old) (O.faults out.new) in
+        (O.faults out.old) (O.faults out.new) in
         result ≡ Status.SinkFault → ForBytes task (S.left source.old)
         (λ bytes. FailedAfterFront (first_fault task bytes) (task.IsOutput bytes (steps.new - steps.old)) sink) }
     ensures sink_rose { result ≡ Status.SinkFault → Rose (O.faults out.old) (O.faults out.new) }
@@ -152,7 +152,7 @@ pub fn run<S: Source, O: Sink, E: Sink, L: Ledger>(
         → O.faults out.new ≡ O.faults out.old }
     ensures work { let task = task_of (texts words.now) in
         let sink = sink_change O.counts_failures_alone (O.written out.old) (O.written out.new)
-            (O.faults out.old) (O.faults out.new) in
+        (O.faults out.old) (O.faults out.new) in
         ForSomeBytes task (S.left source.old)
         (λ bytes. Works task (first_fault task bytes) bytes sink (steps.new - steps.old) result) }
     ensures rose { steps.old ≤ steps.new }

@@ -33,7 +33,7 @@ pub fn exit_code<S: Source, O: Sink, E: Sink, L: Ledger>(
     ensures status { IsExitStatus result }
     ensures done { let task = task_of (texts words.now) in
         let sink = sink_change O.counts_failures_alone (O.written out.old) (O.written out.new)
-            (O.faults out.old) (O.faults out.new) in
+        (O.faults out.old) (O.faults out.new) in
         result ≡ 0 → ForBytes task (S.left source.old)
         (λ bytes. Wrote (task.IsOutput bytes (steps.new - steps.old)) sink) }
     ensures no_fault { let task = task_of (texts words.now) in
@@ -55,7 +55,7 @@ pub fn exit_code<S: Source, O: Sink, E: Sink, L: Ledger>(
     ensures source_kept { S.counts_failures_alone ≡ true → result ≢ 3 → S.faults source.new ≡ S.faults source.old }
     ensures sink { let task = task_of (texts words.now) in
         let sink = sink_change O.counts_failures_alone (O.written out.old) (O.written out.new)
-            (O.faults out.old) (O.faults out.new) in
+        (O.faults out.old) (O.faults out.new) in
         result ≡ 4 → ForBytes task (S.left source.old)
         (λ bytes. FailedAfterFront (first_fault task bytes) (task.IsOutput bytes (steps.new - steps.old)) sink) }
     ensures sink_rose { result ≡ 4 → Rose (O.faults out.old) (O.faults out.new) }
@@ -67,7 +67,7 @@ pub fn exit_code<S: Source, O: Sink, E: Sink, L: Ledger>(
         → (result ≡ 0) ⊎ (result ≡ 5)) }
     ensures left { let task = task_of (texts words.now) in
         let sink = sink_change O.counts_failures_alone (O.written out.old) (O.written out.new)
-            (O.faults out.old) (O.faults out.new) in
+        (O.faults out.old) (O.faults out.new) in
         HasStatus result (λ status. LeavesSource (reads_source task)
         (S.left source.old) (S.left source.new) (source.new ≡ source.old) status
         × ForSomeBytes task (S.left source.old)

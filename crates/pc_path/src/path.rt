@@ -128,12 +128,12 @@ pub fn run_path<O: Sink, L: Ledger>(
     requires range { IsInRange (path_view settings.now).common }
     requires spelled { IsOk (kick_text (path_view settings.now).common.kicks) }
     ensures answers { let sink = sink_change O.counts_failures_alone (O.written out.old) (O.written out.new)
-            (O.faults out.old) (O.faults out.new) in
+        (O.faults out.old) (O.faults out.new) in
         IsAnswered (path_task (path_view settings.now)) bytes.now sink (out.new ≡ out.old)
         (steps.new - steps.old) result }
     ensures works { let task = path_task (path_view settings.now) in
         let sink = sink_change O.counts_failures_alone (O.written out.old) (O.written out.new)
-            (O.faults out.old) (O.faults out.new) in
+        (O.faults out.old) (O.faults out.new) in
         Works task (task.fault bytes.now) bytes.now sink (steps.new - steps.old) result }
     ensures counted { steps.old ≤ steps.new }
 {
@@ -154,12 +154,12 @@ fn list_clears<O: Sink, L: Ledger>(
     requires range { IsInRange (path_view settings.now).common }
     requires spelled { IsOk (kick_text (path_view settings.now).common.kicks) }
     ensures answers { let sink = sink_change O.counts_failures_alone (O.written out.old) (O.written out.new)
-            (O.faults out.old) (O.faults out.new) in
+        (O.faults out.old) (O.faults out.new) in
         IsAnswered (listing_task (path_view settings.now) (filled well)) [] sink (out.new ≡ out.old)
         (steps.new - steps.old) result }
     ensures works { let task = listing_task (path_view settings.now) (filled well) in
         let sink = sink_change O.counts_failures_alone (O.written out.old) (O.written out.new)
-            (O.faults out.old) (O.faults out.new) in
+        (O.faults out.old) (O.faults out.new) in
         Works task (task.fault []) [] sink (steps.new - steps.old) result }
     ensures counted { steps.old ≤ steps.new }
 {

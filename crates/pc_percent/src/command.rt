@@ -84,12 +84,12 @@ pub fn run_percent<O: Sink, L: Ledger>(
     requires range { IsInRange (percent_view settings.now).common }
     requires spelled { IsOk (kick_text (percent_view settings.now).common.kicks) }
     ensures answers { let sink = sink_change O.counts_failures_alone (O.written out.old) (O.written out.new)
-            (O.faults out.old) (O.faults out.new) in
+        (O.faults out.old) (O.faults out.new) in
         IsAnswered (percent_task (percent_view settings.now)) bytes.now sink (out.new ≡ out.old)
         (steps.new - steps.old) result }
     ensures works { let task = percent_task (percent_view settings.now) in
         let sink = sink_change O.counts_failures_alone (O.written out.old) (O.written out.new)
-            (O.faults out.old) (O.faults out.new) in
+        (O.faults out.old) (O.faults out.new) in
         Works task (task.fault bytes.now) bytes.now sink (steps.new - steps.old) result }
     ensures counted { steps.old ≤ steps.new }
 {
@@ -110,12 +110,12 @@ fn answer_all<O: Sink, L: Ledger>(
     requires range { IsInRange (percent_view settings.now).common }
     requires spelled { IsOk (kick_text (percent_view settings.now).common.kicks) }
     ensures answers { let sink = sink_change O.counts_failures_alone (O.written out.old) (O.written out.new)
-            (O.faults out.old) (O.faults out.new) in
+        (O.faults out.old) (O.faults out.new) in
         IsAnswered (asked_task (percent_view settings.now) (filled well)) [] sink (out.new ≡ out.old)
         (steps.new - steps.old) result }
     ensures works { let task = asked_task (percent_view settings.now) (filled well) in
         let sink = sink_change O.counts_failures_alone (O.written out.old) (O.written out.new)
-            (O.faults out.old) (O.faults out.new) in
+        (O.faults out.old) (O.faults out.new) in
         Works task (task.fault []) [] sink (steps.new - steps.old) result }
     ensures counted { steps.old ≤ steps.new }
 {

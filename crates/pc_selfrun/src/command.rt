@@ -30,11 +30,11 @@ pub fn run_selfrun<O: Sink, L: Ledger>(
     requires least { 1 ≤ pages }
     requires most { pages ≤ 10000 }
     ensures answers { let sink = sink_change O.counts_failures_alone (O.written out.old) (O.written out.new)
-            (O.faults out.old) (O.faults out.new) in
+        (O.faults out.old) (O.faults out.new) in
         IsAnswered (selfrun_task number pages) [] sink (out.new ≡ out.old) (steps.new - steps.old) result }
     ensures works { let task = selfrun_task number pages in
         let sink = sink_change O.counts_failures_alone (O.written out.old) (O.written out.new)
-            (O.faults out.old) (O.faults out.new) in
+        (O.faults out.old) (O.faults out.new) in
         Works task (task.fault []) [] sink (steps.new - steps.old) result }
     ensures counted { steps.old ≤ steps.new }
 {

@@ -129,10 +129,19 @@ fn tried<L: Ledger>(
     if rests.is_empty() {
         return Ok(Vec::new(alloc));
     }
-    let children = marks.position.children(alloc, &kept.game, &kept.flood, piece, steps)?;
+    let children = marks
+        .position
+        .children(alloc, &kept.game, &kept.flood, piece, steps)?;
     let mut open = Vec::from_slice(alloc, rests)?;
     for child in &children {
-        let fit = fitting_after(alloc, &mut kept.tilings, marks, child, left, open.as_slice())?;
+        let fit = fitting_after(
+            alloc,
+            &mut kept.tilings,
+            marks,
+            child,
+            left,
+            open.as_slice(),
+        )?;
         let good = answered(alloc, kept, &child.position, left, fit.as_slice(), steps)?;
         open = less(alloc, open, good.as_slice())?;
     }

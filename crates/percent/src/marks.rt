@@ -58,7 +58,12 @@ fn counts_with(hand: u64, pieces: u8, piece: Piece) -> Counts
 }
 
 /// The counts of some hands, each once; none where they are more than so many.
-fn all_counts(alloc: Global, hands: &[u64], pieces: u8, most: usize) -> Result<Vec<Counts>, NoMemory> {
+fn all_counts(
+    alloc: Global,
+    hands: &[u64],
+    pieces: u8,
+    most: usize,
+) -> Result<Vec<Counts>, NoMemory> {
     let mut v = Vec::new(alloc);
     for hand in hands {
         let counts = counts_of(*hand, pieces);

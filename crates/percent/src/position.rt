@@ -74,7 +74,14 @@ impl Position {
         ensures counted { steps.new ≡ steps.old + 1 }
     {
         let mut places = Places::none(piece);
-        rules.flood_below(&self.well, piece, game.drop_mode, self.rows, steps, &mut places);
+        rules.flood_below(
+            &self.well,
+            piece,
+            game.drop_mode,
+            self.rows,
+            steps,
+            &mut places,
+        );
         let mut children = Vec::new(alloc);
         let mut last = None;
         while let Some(placement) = places.next_after(last.as_ref()) {

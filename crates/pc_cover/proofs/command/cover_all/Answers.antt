@@ -55,8 +55,8 @@ returns-clause-works g c =
     let task = covering_task (field_view c.args.settings.now) (filled c.args.well) in
     let sink = sink_change g.O.Sink.counts_failures_alone (g.O.Sink.written c.args.out.now) (g.O.Sink.written c.write_answers.new.out) (g.O.Sink.faults c.args.out.now) (g.O.Sink.faults c.write_answers.new.out) in
     let few =
-        few_floods (field_view c.args.settings.now) (filled c.args.well) c.args.bytes.now (c.empties_below-needed.result / 4) (map listed_placements c.in-Ok-sequences_in.sequences.items) _ (ap (λ n. n / 4) c.empties_below-needed.ensures)
-        c.in-Ok-sequences_in.ensures (at_most c.args.steps.now c.covering.new.steps _ _ c.as_slice.ensures.value c.covering.ensures.few) in
+    few_floods (field_view c.args.settings.now) (filled c.args.well) c.args.bytes.now (c.empties_below-needed.result / 4) (map listed_placements c.in-Ok-sequences_in.sequences.items) _ (ap (λ n. n / 4) c.empties_below-needed.ensures)
+    c.in-Ok-sequences_in.ensures (at_most c.args.steps.now c.covering.new.steps _ _ c.as_slice.ensures.value c.covering.ensures.few) in
     written_works task (task.fault c.args.bytes.now) c.args.bytes.now sink (c.covering.new.steps - c.args.steps.now) c.write_answers.result c.after_writes.result c.after_writes.ensures (λ all is. few) (λ failed is. few)
 
 pub returns-in-Err-sequences_in-clause-answers : goal.returns-in-Err-sequences_in-clause-answers
