@@ -10,6 +10,7 @@ use Rattle.lists.proofs.CallerLemmas.{filter-each, filter-false, filter-true, fi
 use Rattle.srs.proofs.CallerLemmas.{sequence_cmp-total}
 use Rattle.hold_queue.specs.Permits.{SomePermits}
 use Rattle.hold_queue.specs.QueueSet.{QueuesPermit}
+use Rattle.hold_queue.proofs.CallerLemmas.{queues-singles}
 use Rattle.problem.specs.declared.problem.Problem.{Problem}
 use Rattle.problem.specs.Problem.{IsFit, needed_of}
 use Rattle.problem.specs.Solution.{IsSolution, pieces_of, queues_that_count}
@@ -23,7 +24,6 @@ use Rattle.problem.proofs.CallerLemmas.{IsLow, filled-low}
 use Rattle.enumerate.proofs.Members.{IsSolved, complete, sound}
 use Rattle.problem.proofs.CallerLemmas.{long-needed}
 use Rattle.enumerate.proofs.Pairs.{floods-begun}
-use Rattle.enumerate.proofs.PermitLaws.{queues-singles}
 use Rattle.enumerate.proofs.Solutions.{sols, sols-rising}
 use Rattle.enumerate.proofs.Sought.{found-sought}
 use Rattle.enumerate.proofs.Choices.{if_false}
