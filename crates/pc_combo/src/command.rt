@@ -92,12 +92,12 @@ pub fn run_combo<O: Sink, L: Ledger>(
     requires page { 1 ≤ (combo_view settings.now).page }
     requires spelled { IsOk (kick_text (combo_view settings.now).kicks) }
     ensures answers { let sink = sink_change O.counts_failures_alone (O.written out.old) (O.written out.new)
-            (O.faults out.old) (O.faults out.new) in
+        (O.faults out.old) (O.faults out.new) in
         IsAnswered (combo_task (combo_view settings.now)) bytes.now sink (out.new ≡ out.old)
         (steps.new - steps.old) result }
     ensures works { let task = combo_task (combo_view settings.now) in
         let sink = sink_change O.counts_failures_alone (O.written out.old) (O.written out.new)
-            (O.faults out.old) (O.faults out.new) in
+        (O.faults out.old) (O.faults out.new) in
         Works task (task.fault bytes.now) bytes.now sink (steps.new - steps.old) result }
     ensures counted { steps.old ≤ steps.new }
 {
@@ -117,12 +117,12 @@ fn write_longest<O: Sink, L: Ledger>(
 ) -> Status
     requires { IsOk (kick_text (combo_view settings.now).kicks) }
     ensures answers { let sink = sink_change O.counts_failures_alone (O.written out.old) (O.written out.new)
-            (O.faults out.old) (O.faults out.new) in
+        (O.faults out.old) (O.faults out.new) in
         IsAnswered (run_task (combo_view settings.now) (filled well.now)) [] sink (out.new ≡ out.old)
         (steps.new - steps.old) result }
     ensures works { let task = run_task (combo_view settings.now) (filled well.now) in
         let sink = sink_change O.counts_failures_alone (O.written out.old) (O.written out.new)
-            (O.faults out.old) (O.faults out.new) in
+        (O.faults out.old) (O.faults out.new) in
         Works task (task.fault []) [] sink (steps.new - steps.old) result }
     ensures counted { steps.old ≤ steps.new }
 {

@@ -15,7 +15,7 @@ use std::alloc::Global;
 pub fn run_kicks<O: Sink>(alloc: Global, kicks: &str, out: &mut O) -> Status
     requires { IsOk (kick_text kicks.now) }
     ensures { let sink = sink_change O.counts_failures_alone (O.written out.old) (O.written out.new)
-            (O.faults out.old) (O.faults out.new) in
+        (O.faults out.old) (O.faults out.new) in
         IsAnswered (kicks_task kicks.now) [] sink (out.new ≡ out.old) 0 result }
 {
     match lines_of(alloc, &spelled(kicks)) {

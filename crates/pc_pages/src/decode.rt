@@ -45,7 +45,7 @@ impl From<NoMemory> for WriteFault {
 /// Reads the bytes as a fumen text, and writes a line for each of its pages.
 pub fn run_decode<O: Sink>(alloc: Global, bytes: &[u8], out: &mut O) -> Status
     ensures answers { let sink = sink_change O.counts_failures_alone (O.written out.old) (O.written out.new)
-            (O.faults out.old) (O.faults out.new) in
+        (O.faults out.old) (O.faults out.new) in
         IsAnswered decode_task bytes.now sink (out.new ≡ out.old) 0 result }
     ensures memory { result ≡ Status.NoMemory → digits_in bytes.now ≢ None }
 {

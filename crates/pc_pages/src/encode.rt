@@ -23,7 +23,7 @@ use std::alloc::Global;
 /// Reads the bytes as a list of pages, and writes their fumen text in a dialect, and a newline.
 pub fn run_encode<O: Sink>(alloc: Global, dialect: Dialect, bytes: &[u8], out: &mut O) -> Status
     ensures answers { let sink = sink_change O.counts_failures_alone (O.written out.old) (O.written out.new)
-            (O.faults out.old) (O.faults out.new) in
+        (O.faults out.old) (O.faults out.new) in
         IsAnswered (encode_task dialect) bytes.now sink (out.new ≡ out.old) 0 result }
     ensures memory { result ≡ Status.NoMemory → (f : ListFault) → IsListFault bytes.now f → 1 < f.line }
 {

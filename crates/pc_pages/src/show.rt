@@ -23,7 +23,7 @@ use std::alloc::Global;
 pub fn run_show<O: Sink>(alloc: Global, asked: Option<u32>, bytes: &[u8], out: &mut O) -> Status
     requires { ForSome asked (λ number. 1 ≤ number) }
     ensures answers { let sink = sink_change O.counts_failures_alone (O.written out.old) (O.written out.new)
-            (O.faults out.old) (O.faults out.new) in
+        (O.faults out.old) (O.faults out.new) in
         IsAnswered (show_task asked) bytes.now sink (out.new ≡ out.old) 0 result }
     ensures memory { result ≡ Status.NoMemory → digits_in bytes.now ≢ None }
 {
