@@ -5,6 +5,7 @@ pub mod Counted
 pub mod Items
 pub mod ViewOf
 -- What serves proofs alone
+pub mod Settled
 pub mod Events
 pub mod Standing
 pub mod Frames

@@ -1,6 +1,8 @@
 -- How a search is seen.
 use Rattle.std.specs.Prelude.{ℕ, ◌-◌, List, Option, take}
 use Rattle.srs.specs.declared.placement.Placement.{Placement}
+use Rattle.dead_memo.specs.Memo.{kept}
+use Rattle.dead_memo.specs.Question.{Question}
 use Rattle.enumerate.specs.declared.search.Search.{Search}
 use Rattle.enumerate.specs.Events.{Event, found, floods}
 use Rattle.enumerate.specs.Items.{items_of}
@@ -29,3 +31,7 @@ solutions search = found (events_to_come search)
 -- how many floods the search has made
 unfoldable pub work : Search → ℕ
 work search = floods (whole_of search) - floods (events_to_come search)
+
+-- the boards that it keeps, each found to have no tiling
+unfoldable pub dead_questions : Search → List Question
+dead_questions search = kept search.notes.tilings.dead

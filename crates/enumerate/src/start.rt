@@ -1,5 +1,5 @@
 // A search is started, and goes from solution to solution.
-ghost use Rattle.std.specs.Prelude.{◌≡◌, ℕ, ◌+◌, ◌-◌, ◌≤◌, ◌&&◌, nat_lt, length, List, IfOk, IsTrue, MatchOption, Some, None, [], ◌∷◌, Contains, take, ⊤};
+ghost use Rattle.std.specs.Prelude.{◌≡◌, ℕ, ◌+◌, ◌-◌, ◌≤◌, ◌&&◌, nat_lt, length, List, IfOk, IsTrue, All, MatchOption, Some, None, [], ◌∷◌, Contains, take, ⊤};
 ghost use Rattle.std.specs.Option.{ForSome};
 ghost use Rattle.srs.specs.Rules.{table_of};
 ghost use Rattle.srs.specs.Order.{sequence_cmp};
@@ -21,8 +21,9 @@ ghost use Rattle.enumerate.specs.Walks.{Finds};
 ghost use Rattle.enumerate.specs.Seeks.{SkipsTo};
 ghost use Rattle.problem.specs.SolutionList.{View, IsList};
 ghost use Rattle.dead_memo.specs.Memo.{kept};
+ghost use Rattle.dead_memo.specs.Question.{HasNoTiling};
 ghost use Rattle.enumerate.specs.Work.{pairs};
-ghost use Rattle.enumerate.specs.ViewOf.{view_of, solutions, work, after_given};
+ghost use Rattle.enumerate.specs.ViewOf.{view_of, solutions, work, after_given, dead_questions};
 
 use crate::advance::{advance, path};
 use crate::frame::Frame;
@@ -175,9 +176,11 @@ impl Search {
     fn new(notes: Notes, problem: Problem, queue: Option<Queue>, after: Option<Sequence>) -> Search
         requires fit { IsFit problem }
         requires none { notes.floods ≡ 0 }
+        requires alive { kept notes.tilings.dead ≡ [] }
         ensures view { view_of result ≡ record { problem = problem; queue = items_of queue; bound = items_of after } }
         ensures after { after_given result ≡ items_of after }
         ensures work { work result ≡ 0 }
+        ensures dead { dead_questions result ≡ [] }
     {
         let first = first_frame(&problem, &queue);
         let bound = copied_if_any(&after);
@@ -209,6 +212,7 @@ impl Search {
         ensures list { IfOk result (λ search. IsList (view_of search) (solutions search)) }
         ensures after { IfOk result (λ search. after_given search ≡ items_of after) }
         ensures work { IfOk result (λ search. work search ≡ 0) }
+        ensures dead { IfOk result (λ search. dead_questions search ≡ []) }
     {
         let notes = Notes::new(alloc)?;
         Ok(Search::new(notes, problem, None, after))
@@ -223,6 +227,7 @@ impl Search {
         ensures list { IfOk result (λ search. IsList (view_of search) (solutions search)) }
         ensures after { IfOk result (λ search. after_given search ≡ None) }
         ensures work { IfOk result (λ search. work search ≡ 0) }
+        ensures dead { IfOk result (λ search. dead_questions search ≡ []) }
     {
         let notes = Notes::new(alloc)?;
         match Queue::try_from(queue.as_slice()) {
@@ -240,7 +245,7 @@ impl Search {
 
     /// How many boards this search keeps that were found to have no tiling.
     pub fn dead_boards(&self) -> usize
-        ensures { result ≡ length (kept self.now.notes.tilings.dead) }
+        ensures { result ≡ length (dead_questions self.now) }
     {
         self.notes.tilings.dead.len()
     }
@@ -261,6 +266,7 @@ impl Search {
         ensures bounded { work self.new ≤ pairs (view_of self.old).problem (view_of self.old).queue }
         ensures whole { after_given self.old ≡ None →
             MatchOption result (work self.new ≡ pairs (view_of self.old).problem (view_of self.old).queue) (λ _. ⊤) }
+        ensures dead { All HasNoTiling (dead_questions self.new) }
     {
         self.depth = go_on(
             &self.problem,

@@ -1,10 +1,11 @@
 // What a search knows of tilings.
-ghost use Rattle.std.specs.Prelude.{◌≡◌, ◌≤◌, ◌↔◌, [], IfOk, IsTrue};
+ghost use Rattle.std.specs.Prelude.{◌≡◌, ◌≤◌, ◌↔◌, [], false, IfOk, IsTrue};
 ghost use Rattle.well.specs.Well.{filled};
 ghost use Rattle.prune.specs.Tiling.{supply_in, Tiling};
 ghost use Rattle.packing.specs.Empties.{all_but, empty_cells, without_placement};
 ghost use Rattle.packing.specs.HasTiling.{has_tiling};
 ghost use Rattle.dead_memo.specs.Memo.{kept};
+ghost use Rattle.enumerate.specs.Settled.{IsSettled};
 
 use dead_memo::DeadMemo;
 use packing::{Empties, PlaceMemory, TilingStore};
@@ -26,6 +27,8 @@ pub struct Tilings {
     left: PlaceMemory,
     /// What was found to have no tiling.
     pub dead: DeadMemo,
+    /// Whether memory for such a question was refused.
+    out_of_memory: bool,
 }
 
 impl Tilings {
@@ -40,6 +43,7 @@ impl Tilings {
             decided,
             left,
             dead,
+            out_of_memory: false,
         })
     }
 
@@ -47,9 +51,14 @@ impl Tilings {
     /// allows.
     pub fn has_tiling(&mut self, well: &Well, rows_left: u8, supply: &[u8; 7]) -> bool
         requires { rows_left ≤ 8 }
-        ensures { result ≡ has_tiling (filled well.now) rows_left (supply_in supply.now) }
+        ensures answer { result ≡ has_tiling (filled well.now) rows_left (supply_in supply.now) }
+        ensures settled { result ≡ false → IsSettled (filled well.now) rows_left supply.now
+            (kept self.new.dead) self.new.out_of_memory }
     {
-        if cheap_no(well, rows_left, supply) || self.dead.is_dead(well, rows_left, supply) {
+        if cheap_no(well, rows_left, supply) {
+            return false;
+        }
+        if self.dead.is_dead(well, rows_left, supply) {
             return false;
         }
         if self
@@ -58,8 +67,20 @@ impl Tilings {
         {
             return true;
         }
-        let _ = self.dead.note_dead(well, rows_left, supply);
+        self.note(well, rows_left, supply);
         false
+    }
+
+    /// Keeps a question that has no tiling, where memory allows.
+    fn note(&mut self, well: &Well, rows_left: u8, supply: &[u8; 7])
+        requires low { rows_left ≤ 8 }
+        requires dead { Tiling (filled well.now) rows_left (supply_in supply.now) → ⊥ }
+        ensures { IsSettled (filled well.now) rows_left supply.now (kept self.new.dead) self.new.out_of_memory }
+    {
+        match self.dead.note_dead(well, rows_left, supply) {
+            Ok(()) => {}
+            Err(_) => self.out_of_memory = true,
+        }
     }
 
     /// Whether what a placement leaves of a set of cells has a tiling by the supply.

@@ -50,6 +50,12 @@ impl Empties {
         self.cells == other.cells
     }
 
+    /// Whether it has so few cells that one piece fills them, or none does.
+    #[inline(always)]
+    pub(crate) fn is_few(&self) -> bool {
+        self.cells.count_ones() <= 4
+    }
+
     /// A number that tells most sets apart.
     pub(crate) fn mixed(&self) -> u64 {
         let low = (self.cells & 0xffff_ffff_ffff_ffff) as u64;

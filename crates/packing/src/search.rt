@@ -74,7 +74,7 @@ impl Empties {
         requires { IsFirst (empty_cells self.now) 0 y }
         ensures { IsTrue result ↔ Tiling (all_but (empty_cells self.now)) 8 (supply_in supply.now) }
     {
-        if known.is_empty() {
+        if known.is_empty() || self.is_few() {
             return self.covers(y, supply, known);
         }
         if self.has_wrong_parity(supply) {

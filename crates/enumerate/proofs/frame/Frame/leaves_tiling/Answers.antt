@@ -34,6 +34,6 @@ pub returns : goal.returns
 returns c =
     let frame = c.args.self.now in
     let q = c.args.placement.now in
-    c.has_tiling.ensures
+    c.has_tiling.ensures.answer
     ∙ ap (λ F. has_tiling F c.saturating_sub.result (supply_in c.args.supply.now)) c.lock-removed.ensures.field
     ∙ ap (λ rows. has_tiling (locked (filled frame.well) q) rows (supply_in c.args.supply.now)) (c.saturating_sub.ensures ∙ ap (λ k. frame.rows - k) c.lock-removed.ensures.removed)

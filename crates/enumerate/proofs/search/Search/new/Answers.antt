@@ -6,7 +6,7 @@ use Rattle.lists.specs.Rising.{is_above}
 use Rattle.enumerate.specs.Events.{found}
 use Rattle.enumerate.specs.Items.{items_of}
 use Rattle.enumerate.specs.Rest.{events_from, whole_from}
-use Rattle.enumerate.specs.ViewOf.{after_given, events_to_come, view_of, whole_of, work}
+use Rattle.enumerate.specs.ViewOf.{dead_questions, after_given, events_to_come, view_of, whole_of, work}
 use Rattle.enumerate.proofs.SearchLemmas.{nothing-room}
 use Rattle.enumerate.proofs.SearchLists.{listed-start}
 use Rattle.enumerate.proofs.search.Search.new.Goals as goal
@@ -35,3 +35,7 @@ returns-clause-after c = refl
 pub returns-clause-work : goal.returns-clause-work
 unfolding work whole_of events_to_come events_from
 returns-clause-work c = omega arith
+
+pub returns-clause-dead : goal.returns-clause-dead
+unfolding dead_questions
+returns-clause-dead c = c.requires.alive

@@ -8,7 +8,8 @@ use Rattle.enumerate.specs.Events.{found, floods}
 use Rattle.enumerate.specs.Frames.{stacked}
 use Rattle.enumerate.specs.Items.{items_of}
 use Rattle.enumerate.specs.Rest.{events_from, whole_from}
-use Rattle.enumerate.specs.ViewOf.{after_given, events_to_come, solutions, view_of, whole_of, work}
+use Rattle.dead_memo.specs.Memo.{kept}
+use Rattle.enumerate.specs.ViewOf.{dead_questions, after_given, events_to_come, solutions, view_of, whole_of, work}
 use Rattle.problem.specs.SolutionList.{IsList}
 use Rattle.problem.proofs.CallerLemmas.{next-first, next-none}
 use Rattle.enumerate.proofs.SearchFacts.{search-list}
@@ -112,3 +113,11 @@ returns-clause-next g c =
     one-found _ _ _ c.go_on-self.result c.if-self-eq0.false c.go_on-self.ensures.found
     ∙ ap (λ p. p ∷ found (stacked (table_of c.args.self.now.problem.rules) c.args.self.now.problem.drop_mode [] (take c.go_on-self.result c.go_on-self.new.frames))) (sym c.path-sequence.ensures) in
     next-first c.args.self.now.problem (items_of c.args.self.now.queue) (items_of c.args.self.now.bound) c.path-sequence.result.items _ (subst (IsList (view_of c.args.self.now)) first (search-list c.args.self.now))
+
+pub returns-then-self-eq0-clause-dead : goal.returns-then-self-eq0-clause-dead
+unfolding dead_questions kept
+returns-then-self-eq0-clause-dead g c = c.go_on-self.new.notes.tilings.dead.dead
+
+pub returns-clause-dead : goal.returns-clause-dead
+unfolding dead_questions kept
+returns-clause-dead g c = c.go_on-self.new.notes.tilings.dead.dead
