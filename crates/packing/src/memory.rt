@@ -109,8 +109,8 @@ impl PlaceMemory {
         Ok(PlaceMemory { sets })
     }
 
-    /// Whether what a placement leaves of the cells has a tiling by the supply. What wasn't asked before is asked of the
-    /// store, by a search that begins at the side that is nearer to the placement.
+    /// Whether what a placement leaves of the cells has a tiling by the supply. What wasn't asked before is asked of
+    /// the store, by a search that begins at the side that is nearer to the placement.
     pub fn leaves_tiling(
         &mut self,
         cells: &Empties,
