@@ -6,8 +6,8 @@ mod perform;
 mod top;
 
 pub use combo_settings::ComboSettings;
-pub use path_settings::PathSettings;
-pub use pc_faults::{Fault, Status, WordsFault, WordsKind};
+pub use path_settings::{Format, PathSettings};
+pub use pc_faults::{CoverFault, CoverKind, Fault, Status, WordsFault, WordsKind};
 pub use pc_settings::{FieldSettings, FieldWords};
 pub use pc_words::{Settings, read_words};
 pub use percent_settings::PercentSettings;
