@@ -1,0 +1,266 @@
+-- What a run over slices leaves in them, by what its clauses say of its sinks.
+use Rattle.std.proofs.Common.{◌≡◌, ◌≢◌, ℕ, ◌+◌, ◌-◌, ◌<◌, ◌≤◌, Bool, true, false, List, [], ◌∷◌, ◌++◌, length, length-append, length-take, length-drop, take, Some, None, nat_lt, if◌then◌else◌, inl, inr, refl, sym, ap, subst, ◌∙◌, append_assoc, append-nil, lt-ltb, ltb-true, ltb-false, arith}
+use Rattle.std.proofs.lemmas.Bool.{cases_Bool}
+use Rattle.std.proofs.lemmas.List.{take_all, take_at}
+use Rattle.std.proofs.lemmas.Option.{same_Some}
+use Rattle.pc_outside.specs.declared.slice_sink.SliceSink.{SliceSink}
+use Rattle.pc_outside.specs.Counts.{Rose}
+use Rattle.pc_outside.specs.SliceSink.{held_bytes}
+use Rattle.pc_outside.specs.SliceSinkView.{sink_view}
+use Rattle.pc_outside.specs.WriteLaws.{grows_told}
+use Rattle.pc_outside.specs.Writes.{Grows, GrowsByFront}
+use Rattle.pc_faults.specs.declared.fault.Fault.{Fault}
+use Rattle.pc_faults.specs.declared.status.Status.{Status}
+use Rattle.pc_faults.specs.declared.status.Status.TheVariants.{Done, Input, SourceFault, SinkFault, NoMemory}
+use Rattle.pc_faults.specs.Codes.{status_code}
+use Rattle.pc_faults.specs.FaultLine.{fault_line}
+use Rattle.pc_source.specs.Answers.{FailedAfterFront, Wrote}
+use Rattle.pc_source.specs.Sink.{SinkChange, sink_change}
+use Rattle.pc_source.specs.Task.{ForBytes, ForSomeBytes, HasBytes, Sees, Task, first_fault, reads_source}
+use Rattle.pc_source.specs.Work.{Works}
+use Rattle.pc_c.specs.Call.{TellsFault, WritesCut, WritesFront, WritesOutput, seen}
+use Rattle.pc_c.specs.Ended.{EndedBy, LeavesErr, LeavesOut}
+
+-- ---- what a sink over a slice holds
+
+-- nothing was missed
+unmissed : (s : SliceSink) → s.faults ≡ 0 → held_bytes (sink_view s) ≡ (sink_view s).bytes
+unmissed s none =
+    ap (λ n. (sink_view s).bytes ++ (if nat_lt 0 n then s.missed ∷ [] else [])) none ∙ append-nil (sink_view s).bytes
+
+-- a byte was missed, and the slice is full
+missed_one : (s : SliceSink) → 0 < s.faults → held_bytes (sink_view s) ≡ (sink_view s).bytes ++ s.missed ∷ []
+missed_one s some = ap (λ b. (sink_view s).bytes ++ (if b then s.missed ∷ [] else [])) (lt-ltb 0 s.faults some)
+
+full_slice : (s : SliceSink) → 0 < s.faults → length (sink_view s).bytes ≡ length s.buffer.now
+full_slice s some =
+    let full = s.full some in
+    let size = length-take s.count s.buffer.now in
+    omega (arith, full, size)
+
+within_slice : (s : SliceSink) → length (sink_view s).bytes ≤ length s.buffer.now
+within_slice s =
+    let within = s.within in
+    let size = length-take s.count s.buffer.now in
+    omega (arith, within, size)
+
+-- a front of a text, one byte longer than the room
+cut_text : (bytes text rest : List ℕ) (byte room : ℕ) → text ≡ (bytes ++ byte ∷ []) ++ rest → length bytes ≡ room
+    → (room < length text) × (bytes ≡ take room text)
+cut_text bytes text rest byte room is size =
+    let whole = is ∙ append_assoc bytes (byte ∷ []) rest in
+    let long = ap length whole in (
+      omega (arith, long, length-append bytes (byte ∷ rest), size),
+      sym (ap (take room) whole ∙ take_at bytes (byte ∷ rest) room size),
+    )
+
+-- a text that fits the room
+whole_text : (text : List ℕ) (room : ℕ) → length text ≤ room → text ≡ take room text
+whole_text text room fits = sym (take_all room text fits)
+
+-- what a sink that held nothing holds now
+told_now : (holds text : List ℕ) → Grows (Some []) (Some holds) text → holds ≡ text
+told_now holds text grown = same_Some holds text (grows_told (Some []) (Some holds) [] text grown refl)
+
+front_now : (holds text : List ℕ) → GrowsByFront (Some []) (Some holds) text → (rest : List ℕ) × (text ≡ holds ++ rest)
+front_now holds text part =
+    (part.rest, part.up_to.divided ∙ ap (λ (l : List ℕ). l ++ part.rest) (sym (told_now holds part.up_to.front part.up_to.grown)))
+
+-- a text was written, or as much of it as there is room for
+cut_or_whole : (s : SliceSink) (text : List ℕ) → GrowsByFront (Some []) (Some (held_bytes (sink_view s))) text
+    → ((Rose 0 s.faults → ⊥) → Grows (Some []) (Some (held_bytes (sink_view s))) text)
+    → (sink_view s).bytes ≡ take (length s.buffer.now) text
+cut_or_whole s text part whole = elim (cases_Bool (nat_lt 0 s.faults)) [
+  | inl some ↦ full (ltb-true 0 s.faults some)
+  | inr none ↦ fits (let bound = ltb-false 0 s.faults none in omega arith)
+] where
+  full : 0 < s.faults → (sink_view s).bytes ≡ take (length s.buffer.now) text
+  full some =
+      let front = front_now (held_bytes (sink_view s)) text part in
+      (cut_text (sink_view s).bytes text front.0 s.missed (length s.buffer.now)
+      (front.1 ∙ ap (λ (l : List ℕ). l ++ front.0) (missed_one s some)) (full_slice s some)).1
+
+  fits : s.faults ≡ 0 → (sink_view s).bytes ≡ take (length s.buffer.now) text
+  fits none =
+      let all = sym (unmissed s none) ∙ told_now (held_bytes (sink_view s)) text (whole (λ rose. omega (arith, none, rose))) in
+      let size = within_slice s in
+      all ∙ whole_text text (length s.buffer.now) (omega (arith, ap length all, size))
+
+-- ---- what the command saw
+
+sees : (task : Task) (input : List ℕ) → Sees (reads_source task) (Some input) (seen task input)
+sees task input = by (reads_source task) where
+  by : (reads : Bool) → Sees reads (Some input) (if reads then input else [])
+  by true = refl
+  by false = refl
+
+saw : (task : Task) (input bytes : List ℕ) → HasBytes (reads_source task) (Some input) bytes → bytes ≡ seen task input
+saw task input bytes has = by (reads_source task) has where
+  by : (reads : Bool) → HasBytes reads (Some input) bytes → bytes ≡ (if reads then input else [])
+  by true all = all input refl
+  by false none = none
+
+-- ---- how the run ended
+
+-- the clauses of a run that speak of `out`
+pub record Runs (task : Task) (input : List ℕ) (out : SliceSink) (floods : ℕ) (status : Status) (sink : SinkChange)
+    : Type 0 where
+  pub done : status ≡ Done → ForBytes task (Some input) (λ bytes. Wrote (task.IsOutput bytes floods) sink)
+  pub no_fault : status ≡ Done → ForBytes task (Some input) (λ bytes. first_fault task bytes ≡ None)
+  pub front : ForBytes task (Some input) (λ bytes. (output : List ℕ) → task.IsOutput bytes floods output → GrowsByFront sink.held sink.holds output)
+  pub faulty : (fault : Fault) → status ≡ Input fault → ForBytes task (Some input) (λ bytes. first_fault task bytes ≡ Some fault)
+  pub quiet : ForBytes task (Some input) (λ bytes. (fault : Fault) → first_fault task bytes ≡ Some fault → (sink_view out).bytes ≡ [])
+  pub input_quiet : (fault : Fault) → status ≡ Input fault → (sink_view out).bytes ≡ []
+  pub source_fault : status ≡ SourceFault → Rose 0 0
+  pub sink_fault : status ≡ SinkFault → ForBytes task (Some input) (λ bytes. FailedAfterFront (first_fault task bytes) (task.IsOutput bytes floods) sink)
+  pub sink_rose : status ≡ SinkFault → Rose sink.before sink.now
+  pub no_memory : task.memory_first ≡ true → status ≡ NoMemory → (sink_view out).bytes ≡ []
+  pub sink_kept : status ≢ SinkFault → sink.now ≡ sink.before
+  pub work : ForSomeBytes task (Some input) (λ bytes. Works task (first_fault task bytes) bytes sink floods status)
+
+-- the change of a sink over a slice that held nothing
+abbrev pub change_of : SliceSink → SinkChange
+change_of out = sink_change true (Some []) (Some (held_bytes (sink_view out))) 0 out.faults
+
+pub held_nothing : (old new : SliceSink) → (sink_view old).bytes ≡ [] → (sink_view old).missed ≡ [] → old.faults ≡ 0
+    → sink_change true (Some (held_bytes (sink_view old))) (Some (held_bytes (sink_view new))) old.faults new.faults ≡ change_of new
+held_nothing old new empty unmissed faults =
+    let held : held_bytes (sink_view old) ≡ [] = ap (λ (l : List ℕ). l ++ (sink_view old).missed) empty ∙ unmissed in
+    ap (λ (l : List ℕ). sink_change true (Some l) (Some (held_bytes (sink_view new))) old.faults new.faults) held
+    ∙ ap (λ n. sink_change true (Some []) (Some (held_bytes (sink_view new))) n new.faults) faults
+
+module _ (task : Task) (input : List ℕ) (out : SliceSink) (floods : ℕ) where
+  left_done : Runs task input out floods Done (change_of out)
+      → WritesOutput task (seen task input) (sink_view out).bytes
+  left_done run =
+      let wrote = run.done refl (seen task input) (sees task input) in
+      let none = run.sink_kept (λ e. cc) in
+      let all = sym (unmissed out none) ∙ told_now (held_bytes (sink_view out)) wrote.output wrote.grown in
+      record {
+        none = run.no_fault refl (seen task input) (sees task input);
+        floods = floods;
+        is_output = subst (task.IsOutput (seen task input) floods) (sym all) wrote.is_output;
+        work = work none run.work;
+      }
+    where
+      same_sink : out.faults ≡ 0 → change_of out ≡ sink_change true (Some []) (Some (sink_view out).bytes) 0 0
+      same_sink none =
+          ap (λ (l : List ℕ). sink_change true (Some []) (Some l) 0 out.faults) (unmissed out none)
+          ∙ ap (λ n. sink_change true (Some []) (Some (sink_view out).bytes) 0 n) none
+
+      work : out.faults ≡ 0 → ForSomeBytes task (Some input) (λ bytes. Works task (first_fault task bytes) bytes (change_of out) floods Done)
+          → task.IsWork (seen task input) (sink_change true (Some []) (Some (sink_view out).bytes) 0 0) Done floods
+      work none made =
+          subst (λ (sink : SinkChange). task.IsWork (seen task input) sink Done floods) (same_sink none)
+          (subst (λ (bytes : List ℕ). task.IsWork bytes (change_of out) Done floods) (saw task input made.bytes made.seen) made.holds)
+
+  left_cut : Runs task input out floods SinkFault (change_of out)
+      → WritesCut task (seen task input) (sink_view out).bytes (length out.buffer.now)
+  left_cut run =
+      let failed = run.sink_fault refl (seen task input) (sees task input) in
+      let rose = run.sink_rose refl in
+      let some : 0 < out.faults = omega (arith, rose) in
+      let front = front_now (held_bytes (sink_view out)) failed.front.output failed.front.grown in
+      let cut = cut_text (sink_view out).bytes failed.front.output front.0 out.missed (length out.buffer.now)
+      (front.1 ∙ ap (λ (l : List ℕ). l ++ front.0) (missed_one out some)) (full_slice out some) in
+      record {
+        none = failed.none;
+        floods = floods;
+        output = failed.front.output;
+        is_output = failed.front.is_output;
+        longer = cut.0;
+        front = cut.1;
+      }
+
+  left_front : Runs task input out floods NoMemory (change_of out)
+      → WritesFront task (seen task input) (sink_view out).bytes
+  left_front run = record {
+    floods = floods;
+    front = λ output is.
+        let none = run.sink_kept (λ e. cc) in
+        let part = front_now (held_bytes (sink_view out)) output (run.front (seen task input) (sees task input) output is) in
+        (part.0, part.1 ∙ ap (λ (l : List ℕ). l ++ part.0) (unmissed out none));
+    first = λ first. run.no_memory first refl;
+    faulty = λ fault is. run.quiet (seen task input) (sees task input) fault is;
+  }
+
+  -- what a run leaves in the slice of `out`
+  pub leaves_out : (status : Status) → Runs task input out floods status (change_of out)
+      → LeavesOut task (seen task input) (sink_view out).bytes (length out.buffer.now) status
+  leaves_out Done run = left_done run
+  leaves_out (Input fault) run =
+      (run.faulty fault refl (seen task input) (sees task input), run.input_quiet fault refl)
+  leaves_out SourceFault run = let rose = run.source_fault refl in omega (arith, rose)
+  leaves_out SinkFault run = left_cut run
+  leaves_out NoMemory run = left_front run
+
+-- what a run leaves in the slice of `err`
+pub leaves_err : (err : SliceSink) (status : Status)
+    → ((fault : Fault) → status ≡ Input fault → GrowsByFront (Some []) (Some (held_bytes (sink_view err))) (fault_line fault))
+    → ((fault : Fault) → status ≡ Input fault → (Rose 0 err.faults → ⊥) → Grows (Some []) (Some (held_bytes (sink_view err))) (fault_line fault))
+    → (((fault : Fault) → status ≢ Input fault) → (sink_view err).bytes ≡ []) → LeavesErr (sink_view err).bytes (length err.buffer.now) status
+leaves_err err Done front whole none = none (λ fault e. cc)
+leaves_err err (Input fault) front whole none = cut_or_whole err (fault_line fault) (front fault refl) (whole fault refl)
+leaves_err err SourceFault front whole none = none (λ fault e. cc)
+leaves_err err SinkFault front whole none = none (λ fault e. cc)
+leaves_err err NoMemory front whole none = none (λ fault e. cc)
+
+-- the bytes that were written and those behind them are the slice
+pub whole_slice : (s : SliceSink) → length (sink_view s).bytes + length (sink_view s).rest ≡ length s.buffer.now
+whole_slice s =
+    let within = s.within in
+    let front = length-take s.count s.buffer.now in
+    let back = length-drop s.count s.buffer.now in
+    omega (arith, within, front, back)
+
+-- what is equal has equal parts
+pub via : {A B : Type 0} {x y : A} → x ≡ y → (f : A → B) → f x ≡ f y
+via same f = ap f same
+
+-- ---- what the number of a status says
+
+module _ (task : Task) (bytes written : List ℕ) (room : ℕ) (told : List ℕ) (err_room code : ℕ) where
+  done_by : (status : Status) → code ≡ status_code status → code ≡ 0 → LeavesOut task bytes written room status → WritesOutput task bytes written
+  done_by Done is code out = out
+  done_by (Input fault) is code out = absurd (omega (arith, is, code))
+  done_by SourceFault is code out = absurd out
+  done_by SinkFault is code out = absurd (omega (arith, is, code))
+  done_by NoMemory is code out = absurd (omega (arith, is, code))
+
+  fault_by : (status : Status) → code ≡ status_code status → code ≡ 2 → LeavesOut task bytes written room status → LeavesErr told err_room status
+      → TellsFault task bytes told err_room
+  fault_by Done is code out err = absurd (omega (arith, is, code))
+  fault_by (Input fault) is code out err = record { fault = fault; first = out.0; line = err }
+  fault_by SourceFault is code out err = absurd out
+  fault_by SinkFault is code out err = absurd (omega (arith, is, code))
+  fault_by NoMemory is code out err = absurd (omega (arith, is, code))
+
+  cut_by : (status : Status) → code ≡ status_code status → code ≡ 4 → LeavesOut task bytes written room status → WritesCut task bytes written room
+  cut_by Done is code out = absurd (omega (arith, is, code))
+  cut_by (Input fault) is code out = absurd (omega (arith, is, code))
+  cut_by SourceFault is code out = absurd out
+  cut_by SinkFault is code out = out
+  cut_by NoMemory is code out = absurd (omega (arith, is, code))
+
+  front_by : (status : Status) → code ≡ status_code status → code ≡ 5 → LeavesOut task bytes written room status → WritesFront task bytes written
+  front_by Done is code out = absurd (omega (arith, is, code))
+  front_by (Input fault) is code out = absurd (omega (arith, is, code))
+  front_by SourceFault is code out = absurd out
+  front_by SinkFault is code out = absurd (omega (arith, is, code))
+  front_by NoMemory is code out = out
+
+  pub at_done : EndedBy task bytes written room told err_room code → code ≡ 0 → WritesOutput task bytes written
+  at_done ended is = done_by ended.status ended.is is ended.out
+
+  pub at_fault : EndedBy task bytes written room told err_room code → code ≡ 2 → TellsFault task bytes told err_room
+  at_fault ended is = fault_by ended.status ended.is is ended.out ended.err
+
+  pub at_cut : EndedBy task bytes written room told err_room code → code ≡ 4 → WritesCut task bytes written room
+  at_cut ended is = cut_by ended.status ended.is is ended.out
+
+  pub at_no_memory : EndedBy task bytes written room told err_room code → code ≡ 5 → WritesFront task bytes written
+  at_no_memory ended is = front_by ended.status ended.is is ended.out
+
+-- before the words are had, nothing is written
+pub nothing_written : (task : Task) (bytes : List ℕ) → WritesFront task bytes []
+nothing_written task bytes = record { floods = 0; front = λ output is. (output, refl); first = λ first. refl; faulty = λ fault is. refl }

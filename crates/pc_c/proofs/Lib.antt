@@ -1,0 +1,4 @@
+-- Lemmas on words and on runs over slices.
+pub mod CallLemmas
+pub mod NulLemmas
+pub mod WordLemmas

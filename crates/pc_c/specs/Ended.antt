@@ -1,0 +1,37 @@
+-- How a run over slices ended, and what it left in them.
+use Rattle.std.specs.Prelude.{◌≡◌, ℕ, List, [], take, Some}
+use Rattle.pc_outside.specs.SliceSink.{SliceSinkState}
+use Rattle.pc_faults.specs.declared.status.Status.{Status}
+use Rattle.pc_faults.specs.declared.status.Status.TheVariants.{Done, Input, SourceFault, SinkFault, NoMemory}
+use Rattle.pc_faults.specs.Codes.{status_code}
+use Rattle.pc_faults.specs.FaultLine.{fault_line}
+use Rattle.pc_source.specs.Task.{Task, first_fault}
+use Rattle.pc_c.specs.Call.{WritesCut, WritesFront, WritesOutput}
+
+-- a sink that has filled nothing of its slice
+pub record IsFresh (sink : SliceSinkState) (slice : ℕ) (before : List ℕ) : Type 0 where
+  pub same : sink.slice ≡ slice
+  pub rest : sink.rest ≡ before
+  pub empty : sink.bytes ≡ []
+  pub unmissed : sink.missed ≡ []
+  pub faults : sink.faults ≡ 0
+
+-- what was written to `out`, which had so much room
+abbrev pub LeavesOut : (task : Task) (bytes written : List ℕ) (room : ℕ) → Status → Type 0
+LeavesOut task bytes written room Done = WritesOutput task bytes written
+LeavesOut task bytes written room (Input fault) = (first_fault task bytes ≡ Some fault) × (written ≡ [])
+LeavesOut task bytes written room SourceFault = ⊥
+LeavesOut task bytes written room SinkFault = WritesCut task bytes written room
+LeavesOut task bytes written room NoMemory = WritesFront task bytes written
+
+-- what was written to `err`, which had so much room
+abbrev pub LeavesErr : (told : List ℕ) (room : ℕ) → Status → Type 0
+LeavesErr told room (Input fault) = told ≡ take room (fault_line fault)
+LeavesErr told room other = told ≡ []
+
+-- the status of a call is that of a run that left this in the slices
+pub record EndedBy (task : Task) (bytes written : List ℕ) (room : ℕ) (told : List ℕ) (err_room code : ℕ) : Type 0 where
+  pub status : Status
+  pub is : code ≡ status_code status
+  pub out : LeavesOut task bytes written room status
+  pub err : LeavesErr told err_room status

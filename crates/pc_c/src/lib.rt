@@ -1,0 +1,111 @@
+// The commands, called from C.
+#![tactic(auto)]
+
+ghost use Rattle.std.specs.Prelude.{◌≡◌, ◌≢◌, ◌≤◌, ◌⊎◌, ℕ, List, length, take, drop};
+ghost use Rattle.pc_words.specs.Words.{texts};
+ghost use Rattle.pc_app.specs.Tasks.{task_of};
+ghost use Rattle.pc_c.specs.Call.{IsStatus, TellsFault, WritesCut, WritesFront, WritesOutput, seen};
+ghost use Rattle.pc_c.specs.Ended.{EndedBy};
+ghost use Rattle.pc_c.specs.Words.{SpellsNoWords, SpellsWords};
+
+mod slots;
+mod words;
+
+use pc_outside::SliceSink;
+use slots::run_into;
+use std::alloc::Global;
+use std::marker::Brand;
+use std::sync::ledger::Blank;
+use words::{NoWords, words_in};
+
+/// The status where there is no memory.
+const NO_MEMORY: u8 = 5;
+
+/// The status where the words are not in UTF-8, or the last one has no NUL byte behind it.
+const NO_WORDS: u8 = 6;
+
+/// The status of a call, and how many bytes it wrote to each buffer.
+#[derive(Drop)]
+struct Ended {
+    status: u8,
+    written: usize,
+    told: usize,
+}
+
+/// Runs the words over the input, into these buffers.
+fn run_words(alloc: Global, words: &[String], input: &[u8], out: &mut [u8], err: &mut [u8]) -> Ended
+    ensures written { result.written ≤ length out.new }
+    ensures told { result.told ≤ length err.new }
+    ensures out_rest { drop result.written out.new ≡ drop result.written out.old }
+    ensures err_rest { drop result.told err.new ≡ drop result.told err.old }
+    ensures ended { let task = task_of (texts words.now) in
+        EndedBy task (seen task input.now) (take result.written out.new) (length out.old)
+        (take result.told err.new) (length err.old) result.status }
+{
+    let mut out_sink = SliceSink::new(out);
+    let mut err_sink = SliceSink::new(err);
+    let status = run_into::<Brand, Brand, Brand>(
+        alloc,
+        Blank::new(1),
+        words,
+        input,
+        &mut out_sink,
+        &mut err_sink,
+    );
+    Ended {
+        status: status.code(),
+        written: out_sink.count(),
+        told: err_sink.count(),
+    }
+}
+
+/// Does what the program does, over memory. The words are those behind the program's name, each ended by a NUL byte;
+/// the input is what the program reads from standard input. What the program writes to standard output goes into `out`,
+/// and what it writes to standard error into `err`: the first `out_length` and `err_length` bytes, and no others. The
+/// answer is the program's exit status: 0 done, 2 a fault of the input, 4 the output is longer than `out`, 5 no memory,
+/// 6 a word is not in UTF-8 or the last one has no NUL byte behind it. Nothing is kept from call to call.
+#[unsafe(no_mangle)]
+pub extern "C" fn voidosier_run(
+    alloc: Global,
+    words: &[u8],
+    input: &[u8],
+    out: &mut [u8],
+    out_length: &mut usize,
+    err: &mut [u8],
+    err_length: &mut usize,
+) -> u8
+    ensures status { IsStatus result }
+    // Which bytes of the buffers change.
+    ensures out_within { out_length.new ≤ length out.new }
+    ensures out_rest { drop out_length.new out.new ≡ drop out_length.new out.old }
+    ensures err_within { err_length.new ≤ length err.new }
+    ensures err_rest { drop err_length.new err.new ≡ drop err_length.new err.old }
+    // What each status says.
+    ensures done { (texts : List (List ℕ)) → SpellsWords words.now texts → result ≡ 0
+        → let task = task_of texts in WritesOutput task (seen task input.now) (take out_length.new out.new) }
+    ensures faulty { (texts : List (List ℕ)) → SpellsWords words.now texts → result ≡ 2
+        → let task = task_of texts in
+        TellsFault task (seen task input.now) (take err_length.new err.new) (length err.old) }
+    ensures cut { (texts : List (List ℕ)) → SpellsWords words.now texts → result ≡ 4
+        → let task = task_of texts in
+        WritesCut task (seen task input.now) (take out_length.new out.new) (length out.old) }
+    ensures no_memory { (texts : List (List ℕ)) → SpellsWords words.now texts → result ≡ 5
+        → let task = task_of texts in WritesFront task (seen task input.now) (take out_length.new out.new) }
+    ensures no_words { result ≡ 6 → SpellsNoWords words.now }
+    ensures unspelled { SpellsNoWords words.now → (result ≡ 5) ⊎ (result ≡ 6) }
+    ensures quiet { (result ≡ 2) ⊎ (result ≡ 6) → out_length.new ≡ 0 }
+    ensures no_line { result ≢ 2 → err_length.new ≡ 0 }
+{
+    *out_length = 0;
+    *err_length = 0;
+    match words_in(alloc, words) {
+        Ok(texts) => {
+            let ended = run_words(alloc, &texts, input, out, err);
+            *out_length = ended.written;
+            *err_length = ended.told;
+            ended.status
+        }
+        Err(NoWords::Unspelled) => NO_WORDS,
+        Err(NoWords::NoMemory) => NO_MEMORY,
+    }
+}
