@@ -61,10 +61,8 @@ enum {
  *   err         is given the line of a fault, which the program writes to standard error, or the first err_room bytes
  *               of it. VOIDOSIER_FAULT_ROOM bytes are enough for each line.
  *   err_length  is given how many bytes of err were written. Those behind them are as they were.
- *   floods      is given how many floods were made. A flood finds all places of one piece in one field, so their
- *               number measures the work.
  *
- * No text that is written ends with a NUL byte. The three numbers are written whatever the status. It is one of:
+ * No text that is written ends with a NUL byte. Both numbers are written whatever the status. It is one of:
  *
  *   VOIDOSIER_DONE       out has exactly what the program writes, and err nothing.
  *   VOIDOSIER_FAULT      err has the line of the first fault, "input: ..\n", and out nothing.
@@ -79,8 +77,7 @@ enum {
 uint8_t voidosier_run(const char *words, size_t words_size,
                       const char *input, size_t input_size,
                       char *out, size_t out_room, size_t *out_length,
-                      char *err, size_t err_room, size_t *err_length,
-                      uint64_t *floods);
+                      char *err, size_t err_room, size_t *err_length);
 
 #ifdef __cplusplus
 }

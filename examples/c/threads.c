@@ -35,10 +35,9 @@ static struct question questions[THREADS] = {
 static int ask(const struct question *asked, char *answer, size_t *length) {
     char fault[VOIDOSIER_FAULT_ROOM];
     size_t fault_length;
-    uint64_t floods;
 
     return voidosier_run(asked->words, asked->words_size, "", 0, answer, ROOM, length,
-                         fault, sizeof fault, &fault_length, &floods);
+                         fault, sizeof fault, &fault_length);
 }
 
 static void *ask_often(void *at) {
