@@ -1,9 +1,7 @@
 // Runs, and what is asked of how they end.
 use crate::{Outcome, run_words};
 use pc_outside::MemorySource;
-
-/// What a run has in place of what was asked of it.
-pub type Difference = &'static str;
+use std::test::Fail;
 
 /// Runs the words of a line, and after them these more, over a source of these bytes.
 pub fn over(
@@ -11,46 +9,37 @@ pub fn over(
     line: &str,
     more: &[&str],
     text: &[u8],
-) -> Result<Outcome, Difference> {
+) -> Result<Outcome, Fail> {
     let Ok(bytes) = Vec::from_slice(rt.alloc(), text) else {
-        return Err("no memory for the source");
+        return Err(Fail::new("no memory for the source"));
     };
     let source = MemorySource::new(bytes, Vec::new(rt.alloc()));
-    run_words(rt.alloc(), line, more, source, &[])
-        .ok()
-        .ok_or("no memory for the run")
+    match run_words(rt.alloc(), line, more, source, &[]) {
+        Ok(ended) => Ok(ended),
+        Err(_) => Err(Fail::new("no memory for the run")),
+    }
 }
 
-fn ends(ended: &Outcome, code: u8, output: &[u8], fault: &[u8]) -> Result<(), Difference> {
+fn ends(ended: &Outcome, code: u8, output: &[u8], fault: &[u8]) -> Result<(), Fail> {
     if ended.status.code() != code {
-        return Err("another status");
+        return Err(Fail::new("another status"));
     }
     if ended.out.bytes() != output {
-        return Err("another output");
+        return Err(Fail::new("another output"));
     }
     if ended.err.bytes() != fault {
-        return Err("another line of a fault");
+        return Err(Fail::new("another line of a fault"));
     }
     Ok(())
 }
 
 /// Asks that a run over this text ends with this output and no fault.
-pub fn writes(
-    rt: &impl AllocGlobal,
-    line: &str,
-    text: &[u8],
-    output: &[u8],
-) -> Result<(), Difference> {
+pub fn writes(rt: &impl AllocGlobal, line: &str, text: &[u8], output: &[u8]) -> Result<(), Fail> {
     ends(&over(rt, line, &[], text)?, 0, output, b"")
 }
 
 /// Asks that a run of these words ends with this output and no fault.
-pub fn lists(
-    rt: &impl AllocGlobal,
-    line: &str,
-    more: &[&str],
-    output: &[u8],
-) -> Result<(), Difference> {
+pub fn lists(rt: &impl AllocGlobal, line: &str, more: &[&str], output: &[u8]) -> Result<(), Fail> {
     ends(&over(rt, line, more, b"")?, 0, output, b"")
 }
 
@@ -61,6 +50,6 @@ pub fn refused(
     more: &[&str],
     text: &[u8],
     fault: &[u8],
-) -> Result<(), Difference> {
+) -> Result<(), Fail> {
     ends(&over(rt, line, more, text)?, 2, b"", fault)
 }
