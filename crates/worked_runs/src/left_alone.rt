@@ -100,5 +100,5 @@ fn each_write_of_the_others(rt: HostRuntime) -> Result<(), Fail> {
     each_write_is_the_last(&rt, "decode", b"v115@vhBVQJAAA")?;
     each_write_is_the_last(&rt, "show", b"v115@vhBVQJAAA")?;
     each_write_is_the_last(&rt, "encode", b"| T0:4,0 --cl #hello\n")?;
-    each_write_is_the_last(&rt, "selfrun --pages 3", b"")
+    each_write_is_the_last(&rt, "selfrun --number 0 --pages 3", b"")
 }
