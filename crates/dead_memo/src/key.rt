@@ -7,7 +7,8 @@ ghost use Rattle.lane_board.specs.Field.{intersection, rows_below};
 
 use well::Well;
 
-/// The cells below the rows left, ten bits for each row from the lowest up; the rows left; and the supply.
+/// The cells of the rows that are left, ten bits for each row from the lowest up; the number of rows left; and the
+/// supply.
 #[derive(Clone, Copy, PartialEq, Eq, Hash)]
 pub struct Key {
     cells: u128,
@@ -29,7 +30,7 @@ impl Key {
     }
 }
 
-/// The cells of rows 0 to `rows_left - 1`: bit `10 * y + x` for the cell in column x and row y.
+/// The cells of the rows below `rows_left`: bit `10 * y + x` stands for the cell in column x and row y.
 pub fn cells_below(well: &Well, rows_left: u8) -> u128
     requires { rows_left ≤ 8 }
     ensures { cells_in_bits result ≡ intersection (filled well.now) (rows_below rows_left) }

@@ -1,4 +1,4 @@
-// A store of questions that were found to have no tiling, which drops the one that wasn't used for longest.
+// A store of questions that are known to have no tiling. When it is full, it evicts the least recently used one.
 #![tactic(auto)]
 
 mod key;

@@ -13,8 +13,8 @@ use std::alloc::Global;
 use std::num::NonZeroUsize;
 use well::Well;
 
-/// Questions that have no tiling, in the order of their use. A question is the cells of a well below the rows left,
-/// the rows left, and the supply.
+/// Questions that have no tiling, in the order of their use. A question is the cells of a well in the rows that are
+/// left, the number of these rows, and the supply.
 #[derive(Drop)]
 pub struct DeadMemo {
     cache: LruCache<Key, ()>,
@@ -24,7 +24,7 @@ pub struct DeadMemo {
 impl DeadMemo {
     ghost use Rattle.dead_memo.specs.Memo.{kept, capacity_of};
 
-    /// A store that keeps nothing, of at most `capacity` questions. `NoMemory` where its memory is refused.
+    /// An empty store for at most `capacity` questions. `NoMemory` if there is not enough memory.
     pub fn new(alloc: Global, capacity: usize) -> Result<DeadMemo, NoMemory>
         requires some { 1 ≤ capacity }
         requires most { capacity ≤ 65536 }
@@ -36,15 +36,15 @@ impl DeadMemo {
         Ok(DeadMemo { cache })
     }
 
-    /// How many questions it keeps.
+    /// How many questions the store keeps.
     pub fn len(&self) -> usize
         ensures { result ≡ length (kept self.now) }
     {
         self.cache.len()
     }
 
-    /// Whether it keeps the question of the well, the rows left and the supply, which is then the one that was used
-    /// last.
+    /// Whether the store keeps the question of this well, these rows left and this supply. If so, it becomes the most
+    /// recently used one.
     pub fn is_dead(&mut self, well: &Well, rows_left: u8, supply: &[u8; 7]) -> bool
         requires { rows_left ≤ 8 }
         ensures found { IsTrue result ↔ Contains (kept self.old) (question (filled well.now) rows_left supply.now) }
@@ -57,9 +57,9 @@ impl DeadMemo {
         self.cache.promote(&Key::new(well, rows_left, supply))
     }
 
-    /// Keeps the question of the well, the rows left and the supply as the one that was used last. Where it wasn't
-    /// kept and the store is full, the one that wasn't used for longest goes. `NoMemory` where memory is refused; all
-    /// is then as before.
+    /// Keeps the question of this well, these rows left and this supply as the most recently used one. If it is new and
+    /// the store is full, the least recently used one is evicted. `NoMemory` if there is not enough memory; the store
+    /// is then unchanged.
     pub fn note_dead(
         &mut self,
         well: &Well,

@@ -1,4 +1,4 @@
-// A store that is filled, asked and emptied.
+// A store that is filled, queried and evicts.
 use crate::DeadMemo;
 use prune::cheap_no;
 use well::Well;
@@ -18,7 +18,7 @@ fn questions_are_kept(rt: HostRuntime) {
     assert!(rt; !memo.is_dead(&well, 1, &[0; 7]));
 }
 
-/// Notes what counts show of the lowest row.
+/// Notes a question that counts show to have no tiling.
 fn note(memo: &mut DeadMemo, well: &Well, supply: &[u8; 7]) -> bool {
     cheap_no(well, 1, supply) && memo.note_dead(well, 1, supply).is_ok()
 }

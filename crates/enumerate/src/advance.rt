@@ -1,4 +1,4 @@
-// Frames go on to the next solution.
+// The step from one solution to the next.
 ghost use Rattle.std.specs.Prelude.{◌≡◌, ℕ, ◌+◌, ◌<◌, ◌≤◌, Bool, true, IsTrue, MatchOption, [], ◌∷◌, length, nat_lt, take};
 ghost use Rattle.reach.specs.FloodRules.{flood_table};
 ghost use Rattle.enumerate.specs.Counted.{CountsUp};
@@ -14,7 +14,7 @@ use problem::Sequence;
 use reach::{FloodRules, Steps};
 use std::sync::ledger::Ledger;
 
-/// The placements that were entered last at these frames.
+/// The placement that each of these frames entered last, in order.
 pub fn path(frames: &[Frame]) -> Sequence
     requires { length frames.now ≤ 20 }
     ensures { result.items ≡ path_of frames.now }
@@ -28,7 +28,8 @@ pub fn path(frames: &[Frame]) -> Sequence
     sequence
 }
 
-/// One turn at the deepest of the frames in use: how many are in use afterwards, and whether a solution was completed.
+/// One turn at the deepest of the frames in use. Returns how many frames are in use afterwards, and whether a solution
+/// was completed.
 fn turn<L: Ledger>(
     frames: &mut [Frame; 20],
     depth: usize,
@@ -58,7 +59,7 @@ fn turn<L: Ledger>(
     }
 }
 
-/// Goes on to the next solution: how many frames are in use afterwards, which is 0 where no solution is left.
+/// Goes on to the next solution. Returns how many frames are in use afterwards, which is 0 if no solution is left.
 pub fn advance<L: Ledger>(
     frames: &mut [Frame; 20],
     depth: usize,

@@ -1,4 +1,4 @@
-// One level of the search: a position, and which of its next placements are still to be walked.
+// One level of the search: a position, and which of its next placements are still to be searched.
 ghost use Rattle.std.specs.Prelude.{◌≡◌, ℕ, ◌+◌, ◌≤◌, IsTrue, map};
 ghost use Rattle.std.specs.Option.{ForSome};
 ghost use Rattle.lane_board.specs.Field.{difference, rows_below};
@@ -20,13 +20,13 @@ use reach::Places;
 use srs::{Piece, Placement};
 use well::Well;
 
-/// A position, the kinds that were tried there, and the places of the last of them with the one that was entered last.
+/// A position, how many kinds were tried there, and the places of the last of them with the one that was entered last.
 #[derive(Clone, Copy)]
 pub struct Frame {
     pub well: Well,
     /// How many rows are left.
     pub rows: u8,
-    /// The empty cells of these rows.
+    /// The empty cells of the rows that are left.
     pub empties: Empties,
     pub queues: QueueSet,
     /// Whether each kind may come next, in the order of codes.

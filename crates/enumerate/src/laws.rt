@@ -1,4 +1,4 @@
-// Laws of the definitions: functions with an empty body, whose contract is the law.
+// Laws of the definitions: functions with an empty body whose contract is the law.
 ghost use Rattle.std.specs.Prelude.{ℕ, ◌++◌, ◌≤◌, length, List, Option, IsTrue};
 ghost use Rattle.lane_board.specs.Field.{Field};
 ghost use Rattle.srs.specs.declared.piece.Piece.{Piece};
@@ -16,15 +16,15 @@ ghost use Rattle.problem.specs.SolutionList.{IsList};
 ghost use Rattle.enumerate.specs.Position.{root_of};
 ghost use Rattle.enumerate.specs.Work.{is_live_prefix};
 
-/// For a fit problem there is the list that a view asks for, whatever its bound.
+/// For a fit problem, the list that a view asks for exists, whatever its bound.
 pub fn lists_exist()
     ensures { (problem : Problem) (queue : Option (List Piece)) (bound : Option (List Placement)) → IsFit problem →
         (sequences : List (List Placement))
         × IsList (record { problem = problem; queue = queue; bound = bound }) sequences }
 {}
 
-/// Where a sequence plays from a field without a cell at or above the height, the empty cells below the height have a
-/// tiling with as many pieces of each kind as the sequence.
+/// If a sequence can be played in a field without a cell at or above the height, the empty cells below the height have
+/// a tiling with as many pieces of each kind as the sequence has.
 pub fn what_plays_leaves_a_tiling()
     ensures { (table : Table) (mode : DropMode) (F : Field) (height : ℕ) (sequence : List Placement) → height ≤ 23 →
         LiesBelow F height → Plays table mode F height sequence → Tiling F height (kinds_placed sequence) }

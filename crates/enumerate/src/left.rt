@@ -1,4 +1,4 @@
-// The placements of a flood that are left to enter.
+// The placements of a flood that are still to be entered.
 ghost use Rattle.std.specs.Prelude.{◌≡◌, IsTrue, MatchOption, Option, Some, None, Contains, [], ◌∷◌};
 ghost use Rattle.srs.specs.declared.placement.Placement.{Placement};
 ghost use Rattle.srs.specs.Order.{placement_cmp};
@@ -11,7 +11,7 @@ use reach::Places;
 use srs::{Placement, compare};
 use std::cmp::Ordering;
 
-/// Whether a placement comes after the bound. Where there is no bound, each does.
+/// Whether a placement comes after the bound. If there is no bound, every placement does.
 fn is_above(bound: &Option<Placement>, placement: &Placement) -> bool
     ensures { result ≡ Rising.is_above placement_cmp bound.now placement.now }
 {
@@ -21,7 +21,8 @@ fn is_above(bound: &Option<Placement>, placement: &Placement) -> bool
     }
 }
 
-/// Takes out the least held placement above the bound, and all before it. `None` exactly where none is above it.
+/// Removes the least placement above the bound, and all before it. Returns it; `None` exactly if none is above the
+/// bound.
 pub fn take_above(places: &mut Places, bound: &Option<Placement>) -> Option<Placement>
     requires { (q : Placement) → IsTrue (holds places.old q) → Contains (placements_of (piece_of places.old)) q }
     ensures piece { piece_of places.new ≡ piece_of places.old }

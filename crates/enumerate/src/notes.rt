@@ -1,4 +1,4 @@
-// What a search notes on its way.
+// What a search notes as it goes on.
 ghost use Rattle.std.specs.Prelude.{◌≡◌, [], IfOk};
 ghost use Rattle.dead_memo.specs.Memo.{kept};
 
@@ -6,16 +6,16 @@ use crate::tilings::Tilings;
 use pc_outside::NoMemory;
 use std::alloc::Global;
 
-/// What a search found out, and how many floods it made.
+/// What a search has found out about tilings, and how many floods it has made.
 #[derive(Drop)]
 pub struct Notes {
     pub tilings: Tilings,
-    /// How many floods were made, or u64's greatest value where there were more.
+    /// How many floods were made, at most the greatest value of a u64.
     pub floods: u64,
 }
 
 impl Notes {
-    /// Nothing is noted yet. `NoMemory` where memory is refused.
+    /// Notes of a search that has not begun. `NoMemory` if there is not enough memory.
     pub fn new(alloc: Global) -> Result<Notes, NoMemory>
         ensures floods { IfOk result (λ notes. notes.floods ≡ 0) }
         ensures dead { IfOk result (λ notes. kept notes.tilings.dead ≡ []) }

@@ -21,12 +21,12 @@ use reach::FloodRules;
 #[derive(Drop)]
 pub struct Search {
     pub(crate) problem: Problem,
-    /// The rules of the problem.
+    /// The rules of the problem, prepared for many floods.
     pub(crate) rules: FloodRules,
     pub(crate) queue: Option<Queue>,
     pub(crate) after: Option<Sequence>,
     pub(crate) bound: Option<Sequence>,
-    /// Whether the search has yet to go to its start.
+    /// Whether the search still has to go to its start.
     pub(crate) pending: bool,
     pub(crate) frames: [Frame; 20],
     /// How many frames are in use.

@@ -1,4 +1,4 @@
-// Frames go to the place of a given sequence, so that what is still to come is what comes after it.
+// Moving frames to a given sequence, so that the search goes on with what comes after it.
 ghost use Rattle.std.specs.Prelude.{◌≡◌, ◌↔◌, ℕ, suc, ◌+◌, ◌-◌, ◌<◌, ◌≤◌, true, IsTrue, MatchOption, Some, Contains, [], ◌∷◌, length, take, drop, slice_index_or};
 ghost use Rattle.std.specs.Option.{ForSome};
 ghost use Rattle.reach.specs.FloodRules.{flood_table};
@@ -20,7 +20,7 @@ use std::cmp::Ordering;
 use std::sync::ledger::Ledger;
 
 impl Frame {
-    /// The frame with this placement as the one that was entered last.
+    /// The same frame with this placement as the one that was entered last.
     fn with_entered(&self, placement: Placement) -> Frame
         requires { ForSome self.now.places (λ p. placement.piece ≡ piece_of p) }
         ensures places { result.places ≡ self.now.places }
@@ -31,7 +31,7 @@ impl Frame {
         frame
     }
 
-    /// Whether a placement is among those that are left to enter.
+    /// Whether a placement is among those still to be entered.
     fn reaches(&self, target: &Placement) -> bool
         ensures { IsTrue result ↔ Contains (places_left self.now.places self.now.entered) target.now }
     {
@@ -46,8 +46,8 @@ impl Frame {
         false
     }
 
-    /// Passes all that comes before a placement. True where it can be entered: then the first of the frames behind is
-    /// the one after it.
+    /// Passes everything that comes before a placement. True if the placement can be entered: then the first frame
+    /// behind is the position after it.
     fn skip<L: Ledger>(
         &mut self,
         target: &Placement,
@@ -84,8 +84,8 @@ impl Frame {
     }
 }
 
-/// Passes, at the last of the frames in use, all that comes before a placement. True where one more frame is in use
-/// then, which is the frame after it.
+/// Passes everything that comes before a placement, at the last of the frames in use. True if one more frame is in use
+/// then, which is the position after the placement.
 fn skip_at<L: Ledger>(
     frames: &mut [Frame; 20],
     top: usize,
@@ -107,7 +107,7 @@ fn skip_at<L: Ledger>(
     frame.skip(target, rules, drop_mode, behind, notes, steps)
 }
 
-/// Goes from a fresh first frame to the place of a given sequence: how many frames are in use then.
+/// Moves from a fresh first frame to a given sequence. Returns how many frames are in use then.
 pub fn seek<L: Ledger>(
     frames: &mut [Frame; 20],
     given: &[Placement],

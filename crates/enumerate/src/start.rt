@@ -1,4 +1,4 @@
-// A search is started, and goes from solution to solution.
+// Starting a search, and going from solution to solution.
 ghost use Rattle.std.specs.Prelude.{◌≡◌, ℕ, ◌+◌, ◌-◌, ◌≤◌, ◌&&◌, nat_lt, length, List, IfOk, IsTrue, All, MatchOption, Some, None, [], ◌∷◌, Contains, take, ⊤};
 ghost use Rattle.std.specs.Option.{ForSome};
 ghost use Rattle.srs.specs.Rules.{table_of};
@@ -50,7 +50,7 @@ fn copied(sequence: &Sequence) -> Sequence
     }
 }
 
-/// A sequence with the same placements, where there is one.
+/// A copy of the sequence, if there is one.
 fn copied_if_any(sequence: &Option<Sequence>) -> Option<Sequence>
     ensures { items_of result ≡ items_of sequence.now }
 {
@@ -97,7 +97,7 @@ fn has_frame(problem: &Problem, first: &Frame, tilings: &mut Tilings) -> bool
     needed(problem) > 0 && first.is_live(tilings)
 }
 
-/// Goes from where a search stands to its next solution: how many frames are in use then, which is 0 where no
+/// Goes from where a search stands to its next solution. Returns how many frames are in use then, which is 0 if no
 /// solution is left.
 fn go_on<L: Ledger>(
     problem: &Problem,
@@ -134,7 +134,7 @@ fn go_on<L: Ledger>(
     advance(frames, depth, rules, problem.drop_mode, notes, steps)
 }
 
-/// Puts the first frame where there is one, and goes to the place of a given sequence: how many frames are in use then.
+/// Makes the first frame if there is one, and moves to the given sequence. Returns how many frames are in use then.
 fn begin<L: Ledger>(
     problem: &Problem,
     rules: &FloodRules,
@@ -172,7 +172,7 @@ fn begin<L: Ledger>(
 }
 
 impl Search {
-    /// A search that has yet to go to its start.
+    /// A search that still has to go to its start.
     fn new(notes: Notes, problem: Problem, queue: Option<Queue>, after: Option<Sequence>) -> Search
         requires fit { IsFit problem }
         requires none { notes.floods ≡ 0 }
@@ -198,8 +198,8 @@ impl Search {
         }
     }
 
-    /// A search of all queues, for the solutions after a sequence where one is given. `NoMemory` where its memory is
-    /// refused.
+    /// Starts a search of all queues, for the solutions after the given sequence if there is one. `NoMemory` if there
+    /// is not enough memory.
     pub fn start(
         alloc: Global,
         problem: Problem,
@@ -218,7 +218,7 @@ impl Search {
         Ok(Search::new(notes, problem, None, after))
     }
 
-    /// A search of one of the pattern's queues alone. `NoMemory` where its memory is refused.
+    /// Starts a search of only this queue of the pattern. `NoMemory` if there is not enough memory.
     pub fn start_one(alloc: Global, problem: Problem, queue: &Queue) -> Result<Search, NoMemory>
         requires fit { IsFit problem }
         requires listed { Contains (queues (elements_of problem.pattern)) queue.now.items }
@@ -236,22 +236,22 @@ impl Search {
         }
     }
 
-    /// How many floods this search has made, or u64's greatest value where there were more.
+    /// How many floods this search has made, at most the greatest value of a u64.
     pub fn floods(&self) -> u64
         ensures { result ≡ as_count (work self.now) }
     {
         self.notes.floods
     }
 
-    /// How many boards this search keeps that were found to have no tiling.
+    /// How many boards without a tiling this search keeps.
     pub fn dead_boards(&self) -> usize
         ensures { result ≡ length (dead_questions self.now) }
     {
         self.notes.tilings.dead.len()
     }
 
-    /// The least solution after the bound, which becomes the bound; or `None` where there is none, and the bound stays.
-    /// It takes no memory.
+    /// The least solution after the bound; it becomes the bound. `None` if there is none; the bound stays. A call needs
+    /// no memory.
     pub fn next<L: Ledger>(&mut self, steps: &mut Steps<L>) -> Option<Sequence>
         ensures list { IsList (view_of self.old) (solutions self.old) }
         ensures found { MatchOption result

@@ -1,4 +1,4 @@
-// How many pieces of each kind may still be played, from placement to placement.
+// How many pieces of each kind may still be played, from one placement to the next.
 ghost use Rattle.std.specs.Prelude.{◌≡◌, min};
 ghost use Rattle.srs.specs.declared.piece.Piece.{Piece};
 ghost use Rattle.prune.specs.Tiling.{supply_in};
@@ -7,7 +7,7 @@ ghost use Rattle.prune.specs.OnePart.{less_one};
 use packing::without_one;
 use srs::Piece;
 
-/// One piece of a kind fewer, and of each kind at most so many.
+/// The supply after a piece is played: one fewer of its kind, and of each kind at most `left`.
 pub fn supply_after(supply: &[u8; 7], piece: Piece, left: u8) -> [u8; 7]
     ensures { (other : Piece)
         → supply_in result other ≡ min left (less_one (supply_in supply.now) piece other) }

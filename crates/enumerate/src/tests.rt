@@ -23,8 +23,8 @@ fn problem(rt: &impl Abort, rows: &[u8], height: u8, pattern: &str, hold: Hold) 
     Problem::new(well, height, pattern, hold, None, drop_mode, rules).expect(rt, "a fit problem")
 }
 
-/// Whether the first answer of a search is a solution, how many floods it made for it, and how many dead boards it then
-/// keeps. `None` where it had no memory.
+/// Whether the first answer of a search is a solution, how many floods it took, and how many dead boards the search
+/// keeps then. `None` if it had no memory.
 fn first_answer<L: Ledger>(
     alloc: Global,
     blank: Blank,
@@ -52,7 +52,7 @@ fn is_same(one: &Option<Sequence>, other: &Option<Sequence>) -> bool {
     }
 }
 
-/// The first answer of a search after a sequence. `None` too where it had no memory.
+/// The first answer of a search after a sequence. `None` also if it had no memory.
 fn resumed<L: Ledger>(
     alloc: Global,
     problem: Problem,
@@ -79,8 +79,8 @@ fn resumed<L: Ledger>(
     }
 }
 
-/// How many solutions a search gives, where the search that is resumed after each of them gives the next one. `None`
-/// where one differs, where there are more than `most`, or where it had no memory.
+/// How many solutions a search gives, if the search that is resumed after each of them gives the next one. `None` if
+/// one differs, if there are more than `most`, or if it had no memory.
 fn count_resumed<L: Ledger>(alloc: Global, blank: Blank, problem: Problem, most: u32) -> Option<u32>
     requires name { blank.name ≡ L.name }
     requires parts { blank.parts ≡ L.parts }

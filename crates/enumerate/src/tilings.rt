@@ -21,18 +21,18 @@ const DEAD: usize = 65_536;
 /// What a search knows of tilings.
 #[derive(Drop)]
 pub struct Tilings {
-    /// What was decided lately.
+    /// Answers of recent questions.
     decided: TilingStore,
-    /// Which placements leave a tiling, of those that were asked lately.
+    /// Which placements leave a tiling, for recent questions.
     left: PlaceMemory,
-    /// What was found to have no tiling.
+    /// Questions that have no tiling.
     pub dead: DeadMemo,
-    /// Whether memory for such a question was refused.
+    /// Whether memory to keep such a question has run out.
     out_of_memory: bool,
 }
 
 impl Tilings {
-    /// Nothing is known yet. `NoMemory` where memory is refused.
+    /// Nothing is known yet. `NoMemory` if there is not enough memory.
     pub fn new(alloc: Global) -> Result<Tilings, NoMemory>
         ensures { IfOk result (λ tilings. kept tilings.dead ≡ []) }
     {
@@ -47,8 +47,8 @@ impl Tilings {
         })
     }
 
-    /// Whether the empty cells below the rows left have a tiling by the supply. What has none is kept where memory
-    /// allows.
+    /// Whether the empty cells of the rows that are left have a tiling by the supply. If not, the question is kept, as
+    /// far as memory allows.
     pub fn has_tiling(&mut self, well: &Well, rows_left: u8, supply: &[u8; 7]) -> bool
         requires { rows_left ≤ 8 }
         ensures answer { result ≡ has_tiling (filled well.now) rows_left (supply_in supply.now) }
@@ -71,7 +71,7 @@ impl Tilings {
         false
     }
 
-    /// Keeps a question that has no tiling, where memory allows.
+    /// Keeps a question that has no tiling, as far as memory allows.
     fn note(&mut self, well: &Well, rows_left: u8, supply: &[u8; 7])
         requires low { rows_left ≤ 8 }
         requires dead { Tiling (filled well.now) rows_left (supply_in supply.now) → ⊥ }
@@ -83,7 +83,7 @@ impl Tilings {
         }
     }
 
-    /// Whether what a placement leaves of a set of cells has a tiling by the supply.
+    /// Whether a set of cells without those of a placement has a tiling by the supply.
     pub fn leaves_tiling(
         &mut self,
         cells: &Empties,

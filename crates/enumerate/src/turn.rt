@@ -35,25 +35,25 @@ use srs::{Piece, Placement};
 use std::sync::ledger::Ledger;
 use well::Well;
 
-/// From so many placements to come on, a position that is found to have no tiling is kept.
+/// A position without a tiling is kept if at least this many placements are to come.
 const MANY: u8 = 8;
 
-/// What a turn came to.
+/// What a turn did.
 #[derive(Clone, Copy)]
 pub enum Turn {
-    /// A dead end was passed.
+    /// It passed a dead end.
     Passed,
-    /// A kind was flooded.
+    /// It flooded a kind.
     Flooded,
-    /// A placement was entered, and the first of the frames behind is the one after it.
+    /// It entered a placement. The first frame behind is the position after it.
     Entered,
-    /// A placement was entered that completes a solution.
+    /// It entered a placement that completes a solution.
     Full,
     /// Nothing is left at the frame.
     Over,
 }
 
-/// The kind at an index from 0, in the order of codes. `None` exactly where there is none.
+/// The kind with this index, from 0 in the order of codes. `None` exactly if there is none.
 fn kind_at(index: u8) -> Option<Piece>
     ensures { MatchOption result (drop index all_pieces ≡ []) (λ piece. drop index all_pieces
         ≡ piece ∷ drop (index + 1) all_pieces) }
@@ -67,7 +67,7 @@ fn kind_at(index: u8) -> Option<Piece>
 }
 
 impl Frame {
-    /// Whether the empty cells of the rows left have a tiling by what may still be played.
+    /// Whether the empty cells of the rows that are left have a tiling by what may still be played.
     pub fn is_live(&self, tilings: &mut Tilings) -> bool
         ensures { (table : Table) (mode : DropMode)
             → result ≡ is_live self.now.left (position_of table mode self.now) }
@@ -75,7 +75,7 @@ impl Frame {
         tilings.has_tiling(&self.well, self.rows, &self.supply)
     }
 
-    /// Whether what a placement leaves has a tiling by so many pieces of each kind.
+    /// Whether what a placement leaves has a tiling by this many pieces of each kind.
     fn leaves_tiling(&self, placement: &Placement, supply: &[u8; 7], tilings: &mut Tilings) -> bool
         requires lockable { IsTrue (may_lock (filled self.now.well) placement.now.piece placement.now) }
         requires below { IsTrue (is_below self.now.rows placement.now) }
@@ -89,7 +89,7 @@ impl Frame {
         tilings.has_tiling(&well, self.rows.saturating_sub(removed), supply)
     }
 
-    /// Takes out the next placement to be entered.
+    /// Removes the next placement to be entered and returns it.
     pub fn take_upcoming(&mut self) -> Option<Placement>
         ensures next { MatchOption result
             ((places_left self.old.places self.old.entered ≡ []) × (places_left self.new.places self.new.entered ≡ []))
@@ -109,7 +109,7 @@ impl Frame {
         }
     }
 
-    /// The empty cells of the rows that a placement leaves. Where it removes none, only its own cells go.
+    /// The empty cells of the rows that are left after a placement. If it removes no row, only its own cells go.
     fn empties_after(&self, placement: &Placement, well: &Well, rows: u8, removed: u8) -> Empties
         requires lockable { IsTrue (may_lock (filled self.now.well) placement.now.piece placement.now) }
         requires field { filled well.now ≡ locked (filled self.now.well) placement.now }
@@ -123,7 +123,7 @@ impl Frame {
         Empties::below(well, rows)
     }
 
-    /// Enters a placement after which none is to come.
+    /// Enters a placement that must be the last one.
     fn complete(&self, placement: &Placement) -> Turn
         requires lockable { IsTrue (may_lock (filled self.now.well) placement.now.piece placement.now) }
         requires below { IsTrue (is_below self.now.rows placement.now) }
@@ -137,7 +137,7 @@ impl Frame {
         Turn::Passed
     }
 
-    /// Makes another frame the one after a placement that leaves a tiling.
+    /// Makes `child` the frame after a placement that leaves a tiling.
     fn lead_to(&self, placement: &Placement, supply: &[u8; 7], child: &mut Frame)
         requires lockable { IsTrue (may_lock (filled self.now.well) placement.now.piece placement.now) }
         requires below { IsTrue (is_below self.now.rows placement.now) }
@@ -164,7 +164,7 @@ impl Frame {
         child.entered = None;
     }
 
-    /// Enters a placement. The first of the frames behind becomes the one after it where that is worth a look.
+    /// Enters a placement. The first frame behind becomes the position after it, if that is worth a look.
     pub fn enter(&self, placement: &Placement, tilings: &mut Tilings, behind: &mut [Frame]) -> Turn
         requires lockable { IsTrue (may_lock (filled self.now.well) placement.now.piece placement.now) }
         requires below { IsTrue (is_below self.now.rows placement.now) }
@@ -235,7 +235,7 @@ impl Frame {
         Turn::Flooded
     }
 
-    /// Enters the next placement, or tries the next kind where none is left.
+    /// Enters the next placement, or tries the next kind if none is left.
     pub fn turn<L: Ledger>(
         &mut self,
         rules: &FloodRules,

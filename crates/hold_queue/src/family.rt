@@ -1,4 +1,4 @@
-// Families of sets of drawn pieces, and how they change when one more piece is drawn.
+// Families of sets of drawn pieces, and how drawing one more piece changes them.
 ghost use Rattle.std.specs.Prelude.{◌≡◌, ℕ, ◌<◌, ◌≤◌, ◌||◌, ◌==◌, ◌↔◌, IsTrue, true, false};
 ghost use Rattle.std.specs.Int.{bit_at};
 ghost use Rattle.queue_pattern.specs.Pattern.{elements_of};
@@ -9,22 +9,22 @@ ghost use Rattle.hold_queue.specs.States;
 use queue_pattern::{Element, Pattern};
 use srs::Piece;
 
-/// A family of sets of pieces, one bit for each of the 128 sets: the low number has those without S, the high number
-/// those with it. In the number of a set bit `c - 1` stands for the piece with code `c`.
+/// A family of sets of pieces, with one bit for each of the 128 sets. `low` has the sets without S, `high` those with
+/// S. In the number of a set, bit `c - 1` stands for the piece with code `c`.
 #[derive(Clone, Copy)]
 pub struct Family {
     pub low: u64,
     pub high: u64,
 }
 
-/// What the next piece of a queue is drawn from: an element, and whether it is the element's last.
+/// What the next piece of a queue is drawn from: an element, and whether this draw is the element's last.
 #[derive(Clone, Copy)]
 pub struct Draw {
     pub element: Element,
     pub is_last: bool,
 }
 
-/// For each piece but S, the sets without S that lack it.
+/// For each piece except S, the sets without S that lack it.
 const LACKING: [u64; 6] = [
     0x5555_5555_5555_5555,
     0x3333_3333_3333_3333,
@@ -34,7 +34,7 @@ const LACKING: [u64; 6] = [
     0x0000_0000_ffff_ffff,
 ];
 
-/// What the next piece is drawn from, after so many drawn pieces; `None` where the queue is used up.
+/// What the next piece is drawn from after `drawn` pieces. `None` if the queue is used up.
 pub fn in_progress(pattern: &Pattern, drawn: u8) -> Option<Draw>
     ensures { result ≡ States.in_progress (elements_of pattern.now) drawn }
 {
@@ -50,7 +50,7 @@ pub fn in_progress(pattern: &Pattern, drawn: u8) -> Option<Draw>
     None
 }
 
-/// Whether no bit of a number is set.
+/// Whether a number has no bit set.
 fn has_none(bits: u64) -> bool
     ensures { IsTrue result ↔ ((place : ℕ) → place < 64 → (bit_at bits place == 1) ≡ false) }
 {
@@ -58,7 +58,7 @@ fn has_none(bits: u64) -> bool
 }
 
 impl Family {
-    /// No set.
+    /// The family without sets.
     pub const EMPTY: Family = Family { low: 0, high: 0 };
 
     /// Whether the family has no set.
@@ -78,7 +78,7 @@ impl Family {
         }
     }
 
-    /// The sets that lack a piece, with it.
+    /// The sets that lack the piece, each with the piece added.
     fn with(self, piece: Piece) -> Family
         ensures { (set : ℕ) → set < 128 → has_set result set ≡ with_piece piece (has_set self) set }
     {

@@ -1,10 +1,10 @@
 // Whether a piece may be held.
 
-/// Whether there is a place for a held piece.
+/// Whether a piece may be held.
 #[derive(Clone, Copy, Debug, PartialEq, Eq)]
 pub enum Hold {
-    /// A piece may be held, and is played in exchange for the next one or when the queue is used up.
+    /// A piece may be held. It is played in exchange for the next piece, or when the queue is used up.
     Allowed,
-    /// No piece is held, and one that is held at the start is never played.
+    /// No piece is held. A piece that is held at the start is never played.
     Avoided,
 }

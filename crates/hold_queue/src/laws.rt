@@ -1,4 +1,4 @@
-// Laws of the definitions: functions with an empty body, whose contract is the law.
+// Laws of the definitions: functions with an empty body whose contract is the law.
 ghost use Rattle.std.specs.Prelude.{◌≡◌, ◌≤◌, ◌↔◌, ◌++◌, ◌+◌, ◌==◌, [], ◌∷◌, ℕ, IsTrue, List, length, take, count_by, Option, Some, None};
 ghost use Rattle.srs.specs.declared.piece.Piece.{Piece};
 ghost use Rattle.srs.specs.Piece.{piece_code};
@@ -11,7 +11,7 @@ ghost use Rattle.hold_queue.specs.States.{count_held};
 ghost use Rattle.hold_queue.specs.Supply.{supply_of};
 ghost use Rattle.queue_pattern.specs.Queues.{queue_len, queues};
 
-/// What a queue permits, and what one of the queues permits, is decided by a test.
+/// A test decides what a queue permits, and what the queues of a pattern permit.
 pub fn permits_is_decided()
     ensures queue { (hold : Hold) (queue : List Piece) (held : Option Piece) (pieces : List Piece) →
         IsTrue (permits hold queue held pieces) ↔ Permits hold queue held pieces }
@@ -19,19 +19,19 @@ pub fn permits_is_decided()
         IsTrue (queues_permit line pieces) ↔ QueuesPermit line pieces }
 {}
 
-/// No permitted list that goes on by `left` pieces has more of a kind than the supply.
+/// No permitted list that goes on by `left` pieces has more pieces of a kind than the supply.
 pub fn supply_is_enough()
     ensures { (line : QueuesInPlay) (more : List Piece) (piece : Piece) → QueuesPermit line (line.played ++ more) →
         count_by (λ other. piece_code other == piece_code piece) more ≤ supply_of line (length more) piece }
 {}
 
-/// A permitted list has at most the pieces of a queue and the piece that is held at the start.
+/// A permitted list has at most as many pieces as the queue, and one more for the piece held at the start.
 pub fn permitted_lists_are_short()
     ensures { (line : QueuesInPlay) (pieces : List Piece) → QueuesPermit line pieces →
         length pieces ≤ queue_len line.elements + count_held line.held }
 {}
 
-/// A queue permits just what can be taken from the pieces at hand, and a held piece is like a first piece of the queue.
+/// A queue permits exactly what can be taken from the pieces at hand. A held piece is like a first piece of the queue.
 pub fn permitting_is_taking()
     ensures taken { (hold : Hold) (queue : List Piece) (held : Option Piece) (pieces : List Piece) →
         Permits hold queue held pieces ↔ Takes hold (at_hand hold held queue) pieces }
@@ -45,7 +45,7 @@ pub fn later_pieces_are_cut()
         Takes hold hand pieces ↔ Takes hold (take count hand) pieces }
 {}
 
-/// The elements of one queue, each piece alone, stand for this queue and no other.
+/// The pattern with each piece of one queue as an element stands for this queue and no other.
 pub fn one_queue_is_alone()
     ensures { (queue : List Piece) → queues (singles queue) ≡ queue ∷ [] }
 {}

@@ -1,4 +1,4 @@
-// Queues under hold: which pieces may be played next, over all queues of a pattern at once.
+// Queues under hold: which pieces may be played next, for all queues of a pattern at once.
 #![tactic(auto)]
 
 mod family;

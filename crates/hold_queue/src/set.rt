@@ -12,9 +12,9 @@ use crate::supply::{count_played, elements_with, from_hold};
 use queue_pattern::{Pattern, Queue};
 use srs::Piece;
 
-/// The queues of a pattern, a hold rule, a piece held at the start or none, and the pieces that were played since. The
-/// states are the families of drawn sets: two numbers of 64 bits for each piece that may be held, by its code, and for
-/// none.
+/// The queues of a pattern, the hold rule, the piece held at the start (or none), and the pieces played since. The
+/// states are families of drawn sets: two numbers of 64 bits for each piece that may be held, by its code, and for no
+/// held piece.
 #[derive(Clone, Copy)]
 pub struct QueueSet {
     pattern: Pattern,
@@ -32,14 +32,14 @@ pub struct QueueSet {
         due.holding ≡ in_progress (elements_of pattern) (drawn_by held number (Some piece)) },
 }
 
-/// What the next piece is drawn from where nothing is held, and where a piece is held.
+/// What the next piece is drawn from if nothing is held, and if a piece is held.
 #[derive(Clone, Copy)]
 struct Draws {
     empty_handed: Option<Draw>,
     holding: Option<Draw>,
 }
 
-/// Where the two numbers for what is held stand among the states.
+/// The index of the two numbers for what is held among the states.
 fn place_of(held: Option<Piece>) -> usize
     ensures value { result ≡ 2 * States.held_code held }
     ensures within { result ≤ 14 }
@@ -61,7 +61,7 @@ fn family_at(states: &[u64; 16], held: Option<Piece>) -> Family
     }
 }
 
-/// What the next piece is drawn from where a piece is held, after so many played ones.
+/// What the next piece is drawn from if a piece is held, after `number` played pieces.
 fn drawn_holding(pattern: &Pattern, held: Option<Piece>, number: u8) -> Option<Draw>
     requires { number ≤ 23 }
     ensures { (piece : Piece) →
@@ -105,8 +105,8 @@ impl QueueSet {
         QueueSet::start(&Pattern::from_queue(queue), hold, held)
     }
 
-    /// The drawn sets after one more piece where nothing is held then: it was drawn, or it was held and the queue is
-    /// used up.
+    /// The drawn sets after one more piece if nothing is held then: the piece was drawn, or it was held and the queue
+    /// is used up.
     fn next_empty_handed(&self, piece: Piece) -> Family
         ensures { IsNextFamily (elements_of self.now.pattern) self.now.hold self.now.held self.now.states
             self.now.number piece None result }
@@ -121,8 +121,8 @@ impl QueueSet {
         plain.or(family_at(&self.states, Some(piece)))
     }
 
-    /// The drawn sets after one more piece where `first` is held then: it may be held before the piece is drawn, or it
-    /// is drawn and takes the place of the piece.
+    /// The drawn sets after one more piece if `first` is held then: `first` may be held before the next draw and the
+    /// piece is drawn, or the piece is held and `first` is drawn in exchange.
     #[inline(always)]
     fn next_holding(&self, piece: Piece, first: Piece) -> Family
         ensures { IsNextFamily (elements_of self.now.pattern) self.now.hold self.now.held self.now.states
@@ -170,8 +170,8 @@ impl QueueSet {
         ]
     }
 
-    /// The drawn sets with which a piece may be held before the next one is drawn: it is held, or it is drawn where
-    /// nothing is held.
+    /// The drawn sets with which this piece may be held before the next draw: it is held, or nothing is held and it is
+    /// drawn.
     fn with_held(&self, first: Piece) -> Family
         ensures { IsHeldFamily (elements_of self.now.pattern) self.now.hold self.now.held self.now.states
             self.now.number first result }
@@ -183,7 +183,7 @@ impl QueueSet {
         held.or(family_at(&self.states, None).draw(self.due.empty_handed, first))
     }
 
-    /// The drawn sets with which some piece may be held before the next one is drawn.
+    /// The drawn sets with which some piece may be held before the next draw.
     fn holding(&self) -> Family
         ensures { IsHolding (elements_of self.now.pattern) self.now.hold self.now.held self.now.states
             self.now.number all_pieces result }
@@ -199,7 +199,8 @@ impl QueueSet {
         four.or(held_t).or(held_j).or(held_s)
     }
 
-    /// Whether a piece may come next: it is drawn where nothing is held, or where a piece is held, or it is held.
+    /// Whether a piece may come next: it can be drawn while nothing is held or while a piece is held, or it is the held
+    /// piece.
     fn permits(&self, holding: Family, piece: Piece) -> bool
         requires { IsHolding (elements_of self.now.pattern) self.now.hold self.now.held self.now.states
             self.now.number all_pieces holding }
@@ -230,7 +231,7 @@ impl QueueSet {
         self.permits(self.holding(), piece)
     }
 
-    /// For each kind, in the order of codes, whether some queue permits the pieces played so far followed by it.
+    /// For each kind, in the order of codes, whether some queue permits the pieces played so far followed by that kind.
     pub fn permitted(&self) -> [bool; 7]
         ensures { result ≡ map (λ piece. queues_permit (queues_in_play self.now)
             ((queues_in_play self.now).played ++ piece ∷ [])) all_pieces }
@@ -270,8 +271,8 @@ impl QueueSet {
     }
 
     /// For each kind, in the order of codes, a number that no permitted list of `left` further pieces exceeds: the
-    /// smaller of `left` and the elements that have the kind, with a piece that is held at the start, less those
-    /// played.
+    /// smaller of `left` and the number of elements that have the kind, plus one if it is held at the start, minus the
+    /// pieces of this kind played so far.
     pub fn supply(&self, left: u8) -> [u8; 7]
         ensures { result ≡ supplies (queues_in_play self.now) left }
     {

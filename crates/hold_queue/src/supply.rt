@@ -22,7 +22,7 @@ pub fn elements_with(pattern: &Pattern, piece: Piece) -> u8
     count
 }
 
-/// One where hold is allowed and this piece is held at the start, else 0.
+/// 1 if hold is allowed and this piece is held at the start, else 0.
 pub fn from_hold(hold: Hold, held: Option<Piece>, piece: Piece) -> u8
     ensures value { result ≡ Supply.from_hold hold held piece }
     ensures small { result ≤ 1 }
@@ -36,7 +36,7 @@ pub fn from_hold(hold: Hold, held: Option<Piece>, piece: Piece) -> u8
     }
 }
 
-/// How many of some played pieces are this one.
+/// How many of the played pieces are of this kind.
 pub fn count_played(played: &[Piece], piece: Piece) -> u8
     requires { length played.now ≤ 23 }
     ensures { result ≡ count_by (λ other. piece_code other == piece_code piece) played.now }

@@ -9,14 +9,14 @@ use moves::fall;
 use srs::{Placement, canonical};
 use well::Well;
 
-/// Whether the state's rest has the cells of the canonical placement.
+/// Whether the state comes to rest on the cells of the canonical placement.
 pub(crate) fn rests_on(well: &Well, aim: &Placement, state: &Placement) -> bool
     requires canonical { IsCanonical aim.now }
     requires kind { state.now.piece ≡ aim.now.piece }
     requires free { IsTrue (is_free (filled well.now) state.now) }
     ensures { result ≡ comes_to_rest (filled well.now) aim.now state.now }
 {
-    // A fall changes the row alone, so few states have to fall.
+    // A fall changes only the row, so few states have to fall.
     let above = canonical(state);
     if above.rotation.place() != aim.rotation.place() || above.x != aim.x {
         return false;

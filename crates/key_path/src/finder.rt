@@ -26,13 +26,13 @@ use srs::{Placement, Rules, canonical};
 use std::alloc::Global;
 use well::Well;
 
-/// Keys, the first one first. A least key word has fewer than 920 of them, one for each state that it leaves.
+/// Keys, first key first. A least key word has fewer than 920 of them, one for each state that it leaves.
 pub type KeyWord = ArrayVec<Key, 920>;
 
-/// A finder of least key words, with the memory of its search.
+/// A finder of least key words, with the memory for its search.
 #[derive(Drop)]
 pub struct Finder {
-    /// States that were reached and from which no key was pressed yet, those of lesser key words first.
+    /// States that were reached and from which no key has been pressed yet. States with lesser key words come first.
     waiting: HeapCircularBuffer<Placement, Global>,
     /// The words that were found last.
     known: Known,
@@ -40,7 +40,7 @@ pub struct Finder {
 }
 
 impl Finder {
-    /// A finder. `NoMemory` where its memory is refused.
+    /// Makes a finder. `NoMemory` if there is not enough memory.
     pub fn new(alloc: Global) -> Result<Finder, NoMemory> {
         let known = Known::new(alloc)?;
         match HeapCircularBuffer::with_capacity(alloc, STATES) {
@@ -49,9 +49,9 @@ impl Finder {
         }
     }
 
-    /// Of the key words of allowed keys that lead from the spawn to a state whose rest has the target's cells, the
-    /// shortest, and among these the least by the order of keys L, R, D, C, A, the first difference deciding. `None`
-    /// exactly where no key word leads there.
+    /// The least key word: the shortest word of allowed keys that leads from the spawn to a state whose rest has the
+    /// target's cells. Among words of equal length, the first difference decides, by the key order L, R, D, C, A.
+    /// `None` exactly if no key word leads there.
     #[tactic(auto, using(crate::proofs::KeyWordLemmas::named_is_least))]
     pub fn find(
         &mut self,
@@ -69,8 +69,8 @@ impl Finder {
         self.named_word(well, rules, target, drop_mode)
     }
 
-    /// What `find` finds under the offsets of the Super Rotation System, for a caller who knows that these are the
-    /// rules.
+    /// What `find` finds under the offsets of the Super Rotation System, for a caller that knows that its rules are
+    /// these.
     #[tactic(auto, using(crate::proofs::KeyWordLemmas::is_key_word))]
     pub fn find_by_srs(
         &mut self,
@@ -92,7 +92,7 @@ impl Finder {
         word
     }
 
-    /// The least key word, looked up where it was found before.
+    /// The least key word, looked up if it was found before.
     #[tactic(auto, using(crate::proofs::KeyWordLemmas::is_key_word))]
     fn named_word(
         &mut self,
@@ -135,8 +135,8 @@ impl Finder {
         self.word_from(&states, rules, &aim, drop_mode)
     }
 
-    /// The least key word that leads from the spawn to a canonical placement, where at least one key is needed: the
-    /// states are gone through in the order of their least key words.
+    /// The least key word that leads from the spawn to a canonical placement, if that needs at least one key. States
+    /// are visited in the order of their least key words.
     fn word_from(
         &mut self,
         states: &FreeStates,
@@ -165,8 +165,8 @@ impl Finder {
         None
     }
 
-    /// Presses each allowed key in a state. New states are marked and wait, up to the first that comes to rest on the
-    /// aim, which is answered.
+    /// Presses each allowed key in a state. New states are marked and wait. The first one that comes to rest on the
+    /// target is returned at once.
     fn press_keys(
         &mut self,
         marks: &mut Marks,
@@ -203,7 +203,7 @@ impl Finder {
     }
 }
 
-/// The state to which an allowed key leads, where no key word led to it before.
+/// The state that an allowed key leads to, if no key word led to it before.
 fn new_state(
     states: &FreeStates,
     rules: &Rules,

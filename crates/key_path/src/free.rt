@@ -1,4 +1,4 @@
-// The states that a well leaves free, at hand as boards, and keys that nothing hinders.
+// The free states of a well, kept as boards, and keys that nothing hinders.
 ghost use Rattle.std.specs.Prelude.{◌≡◌, ◌≤◌, ◌<◌, ◌⊎◌, IfSome, IsTrue, true, pos, List, ◌∷◌};
 ghost use Rattle.lane_board.specs.Board.{field_of};
 ghost use Rattle.srs.specs.Cells.{Cell, moved, pivot_of};
@@ -18,7 +18,7 @@ use reach::free_pivots;
 use srs::{Offset, Piece, Placement, Rotation, Rules, kick};
 use well::Well;
 
-/// A well, and boards of the pivots at which it leaves a piece free, one for each rotation.
+/// A well, and for each rotation a board of the pivots at which a piece is free in it.
 #[derive(Drop)]
 pub(crate) struct FreeStates {
     pub(crate) well: Well,
@@ -49,7 +49,7 @@ impl FreeStates {
         }
     }
 
-    /// The state to which a key leads by the Super Rotation System, or `None` where it makes no move.
+    /// The state that a key leads to by the Super Rotation System. `None` if the key makes no move.
     pub(crate) fn step(&self, rules: &Rules, state: &Placement, key: Key) -> Option<Placement>
         requires kind { state.now.piece ≡ self.now.piece }
         requires free { IsTrue (is_free (filled self.now.well) state.now) }
@@ -61,7 +61,7 @@ impl FreeStates {
         step(&self.well, rules, state, key)
     }
 
-    /// The state to which a key leads, where its first test already makes it free.
+    /// The state that a key leads to, if its first test already makes it free.
     fn unhindered(&self, rules: &Rules, state: &Placement, key: Key) -> Option<Placement>
         requires kind { state.now.piece ≡ self.now.piece }
         requires pivot { IsPivot state.now }
@@ -77,7 +77,7 @@ impl FreeStates {
         }
     }
 
-    /// The state in another rotation, where the first test makes it free.
+    /// The state in another rotation, if the first test makes it free.
     fn turned(&self, rules: &Rules, state: &Placement, to: Rotation) -> Option<Placement>
         requires kind { state.now.piece ≡ self.now.piece }
         requires pivot { IsPivot state.now }
@@ -88,7 +88,7 @@ impl FreeStates {
         self.moved(state, to, kick(rules, state.piece, state.rotation, to, 1))
     }
 
-    /// The state in a rotation and with its pivot moved, where a board has it.
+    /// The state in this rotation with its pivot moved, if a board has it.
     fn moved(&self, state: &Placement, rotation: Rotation, change: Offset) -> Option<Placement>
         requires kind { state.now.piece ≡ self.now.piece }
         requires pivot { IsPivot state.now }
@@ -137,7 +137,7 @@ impl FreeStates {
     }
 }
 
-/// The pivots at which a well leaves a piece free in a rotation.
+/// The pivots at which a piece in a rotation is free in a well.
 fn pivots_in(well: &Well, piece: Piece, rotation: Rotation) -> LaneBoard<24>
     ensures { AreFreePivots (filled well.now) piece rotation (field_of result) }
 {

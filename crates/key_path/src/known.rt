@@ -12,10 +12,10 @@ use srs::Placement;
 use std::alloc::Global;
 use well::Well;
 
-/// How many words are kept at most.
+/// The most words that are kept.
 const PLACES: usize = 8192;
 
-/// A word that is kept, of at most so many keys.
+/// A kept word. It has at most 40 keys.
 type ShortWord = ArrayVec<Key, 40>;
 
 /// A placement in a well, and its least key word there.
@@ -32,7 +32,7 @@ impl Found {
     ghost use Rattle.std.specs.Prelude.{true};
     ghost use Rattle.key_path.specs.Known.{AsksFor};
 
-    /// Whether this is the placement and the well that are asked for.
+    /// Whether this is the answer for the placement, the well and the drop mode.
     fn is_for(&self, well: &Well, target: &Placement, drop_mode: DropMode) -> bool
         ensures { result ≡ true → AsksFor self.now (filled well.now) drop_mode target.now }
     {
@@ -42,7 +42,7 @@ impl Found {
         is_same_well(&self.well, well)
     }
 
-    /// Whether this is the placement that is asked for, with these keys.
+    /// Whether this is the answer for the placement and the drop mode, whatever the well.
     fn has_target(&self, target: &Placement, drop_mode: DropMode) -> bool
         ensures target { result ≡ true → self.now.target ≡ target.now }
         ensures mode { result ≡ true → self.now.drop_mode ≡ drop_mode }
@@ -67,7 +67,7 @@ fn is_same_well(well: &Well, other: &Well) -> bool
     well.board().equal(&other.board())
 }
 
-/// The place of a question among those of the words that are kept.
+/// The index at which the answer to this question is kept.
 fn place_of(well: &Well, target: &Placement) -> usize {
     let board = well.board();
     let [piece, rotation] = [target.piece.code(), target.rotation.place()];
@@ -79,15 +79,15 @@ fn place_of(well: &Well, target: &Placement) -> usize {
     (mixed >> 32) as usize % PLACES
 }
 
-/// Key words that were found: each has one place, and a later one takes it from an earlier one. Each is a true one;
-/// that one is not kept costs time alone.
+/// Key words that were found. Each has one place, and a later word evicts an earlier one. Eviction costs time, never
+/// correctness: every kept word is a true one.
 #[derive(Drop)]
 pub(crate) struct Known {
     places: Vec<Option<Found>>,
 }
 
 impl Known {
-    /// No words, with memory for those that are found.
+    /// An empty store, with memory for the words to come.
     pub(crate) fn new(alloc: Global) -> Result<Known, NoMemory> {
         let mut places = Vec::with_capacity(alloc, PLACES)?;
         for _ in 0..PLACES {
@@ -96,7 +96,7 @@ impl Known {
         Ok(Known { places })
     }
 
-    /// The least key word of a placement in a well, where it is kept.
+    /// The least key word of a placement in a well, if it is kept.
     pub(crate) fn get(
         &self,
         well: &Well,
@@ -112,7 +112,7 @@ impl Known {
         }
     }
 
-    /// Keeps the least key word of a placement in a well, in place of the one before where there is one.
+    /// Keeps the least key word of a placement in a well, in place of the word before it.
     pub(crate) fn keep(
         &mut self,
         well: &Well,
@@ -136,7 +136,7 @@ impl Known {
     }
 }
 
-/// The same word with little room, where it has few keys.
+/// The same word in less room, if it has few keys.
 fn short_word(word: &KeyWord) -> Option<ShortWord>
     ensures { IfSome result (λ short. short.items ≡ word.now.items) }
 {

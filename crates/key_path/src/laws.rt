@@ -1,4 +1,4 @@
-// Laws of key words: functions with an empty body, whose contract is the law.
+// Laws of key words: functions with an empty body whose contract is the law.
 ghost use Rattle.std.specs.Prelude.{◌≡◌, ◌<◌, IsTrue, Option, Some, List, length, is_some};
 ghost use Rattle.std.specs.Cmp.{IsTotalOrder};
 ghost use Rattle.lane_board.specs.Field.{Field};
@@ -12,13 +12,13 @@ ghost use Rattle.key_path.specs.KeyWords.{key_word_cmp};
 
 use std::cmp::Ordering;
 
-/// The order of key words is total, and Equal only of equal key words.
+/// The order of key words is total. Only equal key words compare as Equal.
 pub fn words_are_ordered()
     ensures total { IsTotalOrder key_word_cmp }
     ensures equal { (word other : List Key) → key_word_cmp word other ≡ Ordering.Equal → word ≡ other }
 {}
 
-/// A placement has one key word, or none: the one that `least_key_word` names.
+/// A placement has one least key word or none: the one that `least_key_word` names.
 pub fn key_words_are_found()
     ensures one { (table : Table) (F : Field) (mode : DropMode) (target : Placement) →
         IsLeastKeyWord table F mode target (least_key_word table F mode target) }
@@ -32,7 +32,7 @@ pub fn key_words_are_short()
         IsLeastKeyWord table F mode target (Some word) → length word < 920 }
 {}
 
-/// Each placement that legal keys reach has a key word.
+/// Every placement that legal keys lead to has a key word.
 pub fn places_have_key_words()
     ensures { (table : Table) (F : Field) (mode : DropMode) (placement : Placement) → IsPlace table F mode placement →
         IsTrue (is_some (least_key_word table F mode placement)) }

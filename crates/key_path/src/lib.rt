@@ -1,4 +1,4 @@
-// Least key words: the fewest keys, and the least key word of them, that lead a piece to a placement.
+// Least key words: the fewest keys that lead a piece to a placement, and the first such word in the key order.
 #![tactic(auto)]
 
 mod aim;

@@ -7,17 +7,17 @@ use crate::finder::KeyWord;
 use moves::Key;
 use srs::Placement;
 
-/// A piece has at most so many free states: 4 rotations, 23 rows and 10 columns.
+/// The most free states that a piece has: 4 rotations, 23 rows and 10 columns.
 pub(crate) const STATES: usize = 920;
 
 /// How a state was first reached.
 #[derive(Clone, Copy)]
 pub(crate) enum Mark {
-    /// It was not.
+    /// It has not been reached.
     Unseen,
-    /// The piece appears in it.
+    /// The piece spawns in it.
     Start,
-    /// From this state, by this key.
+    /// It was reached from this state, by this key.
     From(Placement, Key),
 }
 
@@ -28,7 +28,7 @@ pub(crate) struct Marks {
 }
 
 impl Marks {
-    /// No state is reached.
+    /// Marks by which no state has been reached.
     pub(crate) fn new() -> Marks
         ensures { result.marks ≡ replicate 920 Mark.Unseen }
     {
@@ -37,7 +37,7 @@ impl Marks {
         }
     }
 
-    /// Whether a state was not reached yet.
+    /// Whether a state has not been reached yet.
     pub(crate) fn is_unseen(&self, state: &Placement) -> bool
         requires { IsPivot state.now }
         ensures { result ≡ is_unseen (mark_at self.now.marks state.now) }
@@ -80,7 +80,7 @@ impl Marks {
     }
 }
 
-/// The number of a state among all with its pivot in the well.
+/// The index of a state among all states with their pivot in the well.
 #[tactic(auto, unfolding(moves::specs::States::state_code))]
 fn code(state: &Placement) -> usize
     requires { IsPivot state.now }

@@ -6,7 +6,7 @@ use moves::DropMode;
 use srs::{Piece, Placement, Rotation, Rules, is_inside};
 use well::Well;
 
-/// A T in rotation 0 in column 4.
+/// A T in rotation 0 with its pivot in column 4.
 fn t_piece(y: u8) -> Placement
     ensures x { result.x ≡ 4 }
     ensures y { result.y ≡ y }

@@ -23,7 +23,7 @@ impl<const N: usize> LaneBoard<N> {
     ghost use Rattle.lane_board.specs.Field.{empty_field, with_cell};
     ghost use Rattle.lane_board.specs.Lanes.{has_bit};
 
-    /// The board with no cell.
+    /// The board without cells.
     pub fn empty() -> LaneBoard<N>
         requires { IsTrue (is_lane_count N) }
         ensures { field_of result ≡ empty_field }
@@ -48,7 +48,7 @@ impl<const N: usize> LaneBoard<N> {
         self.rows[y as usize]
     }
 
-    /// The board with the cell in column `x` and row `y` added.
+    /// The board plus the cell in column `x` and row `y`.
     pub fn with(&self, x: u8, y: u8) -> LaneBoard<N>
         requires column { x ≤ 9 }
         requires row { y < N }

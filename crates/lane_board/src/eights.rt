@@ -15,7 +15,7 @@ pub(crate) fn load(rows: &[u16], at: usize) -> u16x8
     u16x8::from_slice(&rows[at..])
 }
 
-/// The eight rows from row `at` on, or eight empty rows past the last.
+/// The eight rows from row `at` on, or eight empty rows if `at` is past the last.
 #[inline(always)]
 pub(crate) fn load_or_none(rows: &[u16], at: usize) -> u16x8
     requires fits { at + 8 < 2 ^ 64 }
@@ -30,7 +30,7 @@ pub(crate) fn load_or_none(rows: &[u16], at: usize) -> u16x8
     u16x8::splat(0)
 }
 
-/// Writes eight rows from row `at` on.
+/// Writes the eight rows from row `at` on.
 #[inline(always)]
 pub(crate) fn store(rows: &mut [u16], at: usize, lanes: u16x8)
     requires within { at + 8 ≤ length rows.old }
@@ -40,11 +40,11 @@ pub(crate) fn store(rows: &mut [u16], at: usize, lanes: u16x8)
     lanes.copy_to_slice(&mut rows[at..])
 }
 
-/// What is made of a row of one board and the same row of another.
+/// How a row of one board and the same row of another become one row.
 pub(crate) trait Combine {
     ghost of_rows: { ℕ → ℕ → ℕ };
 
-    /// The same of eight rows and eight.
+    /// The same for eight rows of each.
     fn of_lanes(a: u16x8, b: u16x8) -> u16x8
         ensures { result ≡ zip2 of_rows a b };
 }
@@ -82,7 +82,7 @@ impl Combine for AndNot {
     }
 }
 
-/// What is made of the rows of two boards, row by row.
+/// The rows of two boards combined, row by row.
 #[inline(always)]
 pub(crate) fn combined<C: Combine, const N: usize>(a: &[u16; N], b: &[u16; N]) -> [u16; N]
     requires { N % 8 ≡ 0 }
@@ -98,7 +98,7 @@ pub(crate) fn combined<C: Combine, const N: usize>(a: &[u16; N], b: &[u16; N]) -
     rows
 }
 
-/// Whether two boards agree in the eight rows from row `at` on.
+/// Whether two boards are the same in the eight rows from row `at` on.
 #[inline(always)]
 pub(crate) fn agree(a: &[u16], b: &[u16], at: usize) -> bool
     requires left { at + 8 ≤ length a.now }
@@ -108,7 +108,7 @@ pub(crate) fn agree(a: &[u16], b: &[u16], at: usize) -> bool
     load(a, at).simd_ne(load(b, at)).to_bitmask() == 0
 }
 
-/// A row with its ten cells.
+/// A row with all ten cells.
 pub(crate) const FULL: u16 = 1023;
 
 /// Which of the eight rows from row `at` on are full: bit `k` is for row `at + k`.
@@ -122,7 +122,7 @@ pub(crate) fn full_in(rows: &[u16], at: usize) -> u32
     mask as u32
 }
 
-/// How many cells the eight rows from row `at` on have.
+/// How many cells are in the eight rows from row `at` on.
 #[inline(always)]
 pub(crate) fn count_in(rows: &[u16], at: usize) -> u16
     requires { at + 8 ≤ length rows.now }
@@ -131,7 +131,7 @@ pub(crate) fn count_in(rows: &[u16], at: usize) -> u16
     load(rows, at).count_ones().reduce_sum()
 }
 
-/// Eight rows moved so many columns to the left.
+/// Eight rows moved `left` columns to the left.
 #[inline(always)]
 fn moved_left(lanes: u16x8, left: u16) -> u16x8
     requires eight { length lanes ≡ 8 }
@@ -141,7 +141,7 @@ fn moved_left(lanes: u16x8, left: u16) -> u16x8
     lanes >> u16x8::splat(left)
 }
 
-/// Eight rows moved so many columns to the right.
+/// Eight rows moved `right` columns to the right.
 #[inline(always)]
 fn moved_right(lanes: u16x8, right: u16) -> u16x8
     requires eight { length lanes ≡ 8 }
@@ -151,7 +151,7 @@ fn moved_right(lanes: u16x8, right: u16) -> u16x8
     (lanes << u16x8::splat(right)) & u16x8::splat(FULL)
 }
 
-/// Eight rows moved `dx` columns to the right; what leaves columns 0 to 9 is dropped.
+/// Eight rows moved `dx` columns to the right. Cells that leave columns 0 to 9 are dropped.
 #[inline(always)]
 pub(crate) fn moved_columns(lanes: u16x8, dx: i8) -> u16x8
     requires eight { length lanes ≡ 8 }
@@ -168,7 +168,7 @@ pub(crate) fn moved_columns(lanes: u16x8, dx: i8) -> u16x8
     moved_right(lanes, right)
 }
 
-/// Eight of sixteen rows, from place `from` on.
+/// Eight of sixteen rows, from row `from` on.
 #[inline(always)]
 pub(crate) fn eight_from(low: u16x8, high: u16x8, from: u8) -> u16x8
     requires low { length low ≡ 8 }

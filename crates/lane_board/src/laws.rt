@@ -1,18 +1,18 @@
 // Laws of full rows and their removal. Each is the contract of a call that does nothing.
 ghost use Rattle.lane_board.specs.RemovalLaws.{LowersEachCell, FullHasTen, TakesTenEach};
 
-/// A row is full exactly where it has ten cells.
+/// A row is full exactly if it has ten cells.
 pub fn full_row_has_ten_cells()
     ensures { FullHasTen }
 {}
 
-/// What is left after full rows are removed: the cells of the other rows, each lowered by the number of full rows
-/// below its row.
+/// After full rows are removed, the cells of the other rows remain. Each moves down by the number of full rows below
+/// it.
 pub fn removal_lowers_each_cell()
     ensures { LowersEachCell }
 {}
 
-/// The number of cells that are left, and ten for each full row, is the number before.
+/// Removal takes ten cells for each full row, and no other cell.
 pub fn removal_takes_ten_cells_each()
     ensures { TakesTenEach }
 {}

@@ -1,4 +1,4 @@
-// Boards of ten columns whose rows are bits, with the set operations that a flood is made of.
+// Boards of ten columns whose rows are bits, with the set operations that a flood needs.
 #![tactic(auto)]
 
 mod board;

@@ -1,6 +1,6 @@
-// The keys of a player, and the two ways to drop.
+// The keys of a player, and the two drop modes.
 
-/// A key that moves a piece by one column or row, or turns it by a quarter.
+/// A key. It moves a piece by one column or row, or turns it by a quarter.
 #[derive(Clone, Copy, Debug, Default, PartialEq, Eq)]
 pub enum Key {
     #[default]
@@ -11,7 +11,7 @@ pub enum Key {
     Anti,
 }
 
-/// Whether Down may be pressed: with soft drop it may, with hard drop a piece only falls at the end.
+/// Whether Down may be pressed. With soft drop it may; with hard drop a piece falls only at its end.
 #[derive(Clone, Copy, Debug, PartialEq, Eq)]
 pub enum DropMode {
     Soft,
@@ -43,7 +43,7 @@ impl DropMode {
     ghost use Rattle.std.specs.Prelude.{◌≡◌};
     ghost use Rattle.moves.specs.Keys.{allows};
 
-    /// Whether a key may be pressed.
+    /// Whether this key may be pressed.
     pub fn allows(self, key: Key) -> bool
         ensures { result ≡ allows self key }
     {

@@ -1,4 +1,4 @@
-// Laws of the definitions: functions with an empty body, whose contract is the law.
+// Laws of the definitions: functions with an empty body whose contract is the law.
 ghost use Rattle.std.specs.Prelude.{◌≡◌, ◌↔◌, IsTrue, true, Some, List};
 ghost use Rattle.lane_board.specs.Field.{Field};
 ghost use Rattle.srs.specs.declared.piece.Piece.{Piece};
@@ -16,12 +16,12 @@ ghost use Rattle.moves.specs.Step.{step_of};
 
 use crate::key::Key;
 
-/// `Key::ALL` has the keys in the order of their letters.
+/// `Key::ALL` lists the keys in the order of their letters.
 pub fn all_keys_are_listed()
     ensures { Key.ALL ≡ all_keys }
 {}
 
-/// A key leads from any state to free states of its piece only.
+/// From any state, a key leads only to free states of the same piece.
 pub fn steps_stay_free()
     ensures free { (table : Table) (F : Field) (state : Placement) (key : Key) (next : Placement) →
         step_of table F state key ≡ Some next → IsTrue (is_free F next) }
@@ -29,7 +29,7 @@ pub fn steps_stay_free()
         step_of table F state key ≡ Some next → next.piece ≡ state.piece }
 {}
 
-/// Keys lead from the spawn to free states of its piece only.
+/// From the spawn, keys lead only to free states of its piece.
 pub fn keys_stay_free()
     ensures free { (table : Table) (F : Field) (piece : Piece) (keys : List Key) (state : Placement) →
         state_after table F piece keys ≡ Some state → IsTrue (is_free F state) }
@@ -37,14 +37,14 @@ pub fn keys_stay_free()
         state_after table F piece keys ≡ Some state → state.piece ≡ piece }
 {}
 
-/// A free state has one rest, the one that `rest_of` names.
+/// A free state has exactly one rest: the state that `rest_of` names.
 pub fn free_states_have_one_rest()
     ensures one { (F : Field) (state : Placement) → IsTrue (is_free F state) → IsRest F state (rest_of F state) }
     ensures no_other { (F : Field) (state rest : Placement) → IsTrue (is_free F state) → IsRest F state rest →
         rest ≡ rest_of F state }
 {}
 
-/// `is_place` decides which placements legal keys reach.
+/// `is_place` decides whether legal keys reach a placement.
 pub fn places_are_decided()
     ensures { (table : Table) (F : Field) (mode : DropMode) (placement : Placement) →
         (is_place table F mode placement ≡ true) ↔ IsPlace table F mode placement }

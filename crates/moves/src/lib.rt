@@ -1,4 +1,4 @@
-// Single keys: the spawn, what a key does to a state, and the rest of a state.
+// Single keys: the spawn, what a key does to a state, and where a state comes to rest.
 #![tactic(auto)]
 
 mod key;

@@ -7,7 +7,7 @@ ghost use Rattle.moves.specs.Rest.{IsRest};
 use srs::Placement;
 use well::Well;
 
-/// The state moved down as far as it stays free.
+/// The state moved down as long as it stays free.
 pub fn fall(well: &Well, state: &Placement) -> Placement
     requires { IsTrue (is_free (filled well.now) state.now) }
     ensures { IsRest (filled well.now) state.now result }

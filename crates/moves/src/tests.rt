@@ -5,7 +5,7 @@ use crate::{DropMode, Key, fall, spawn, step};
 use srs::{Piece, Placement, Rotation, Rules};
 use well::Well;
 
-/// An L at a pivot.
+/// An L with its pivot at this cell.
 fn l_piece(rotation: Rotation, x: u8, y: u8) -> Placement
     ensures x { result.x ≡ x }
     ensures y { result.y ≡ y }

@@ -13,7 +13,7 @@ use crate::key::Key;
 use srs::{Offset, Piece, Placement, Rotation, Rules, kick};
 use well::Well;
 
-/// The state in which a piece appears: rotation 0, with its pivot in column 4 and row 20.
+/// The state in which a piece spawns: rotation 0, with its pivot in column 4 and row 20.
 pub fn spawn(piece: Piece) -> Placement
     ensures { result ≡ spawn_of piece }
 {
@@ -25,7 +25,7 @@ pub fn spawn(piece: Piece) -> Placement
     }
 }
 
-/// The state to which a key leads by the Super Rotation System, or `None` where it makes no move.
+/// The state that a key leads to by the Super Rotation System. `None` if the key makes no move.
 pub fn step(well: &Well, rules: &Rules, state: &Placement, key: Key) -> Option<Placement>
     requires { IsTrue (is_free (filled well.now) state.now) }
     ensures { result ≡ step_of (table_of rules.now) (filled well.now) state.now key }
@@ -39,7 +39,7 @@ pub fn step(well: &Well, rules: &Rules, state: &Placement, key: Key) -> Option<P
     }
 }
 
-/// The state with its pivot moved, where that is free.
+/// The state with its pivot moved, if that is free.
 fn shifted(well: &Well, state: &Placement, change: Offset) -> Option<Placement>
     requires free { IsTrue (is_free (filled well.now) state.now) }
     requires short { IsShort change }
@@ -48,7 +48,7 @@ fn shifted(well: &Well, state: &Placement, change: Offset) -> Option<Placement>
     free_at(well, state, state.rotation, change)
 }
 
-/// The state in another rotation, by the first of the five tests that makes it free.
+/// The state in another rotation, by the first of the five tests that leads to a free one.
 fn turned(well: &Well, rules: &Rules, state: &Placement, to: Rotation) -> Option<Placement>
     requires free { IsTrue (is_free (filled well.now) state.now) }
     requires neighbour { (to ≡ clockwise_of state.now.rotation) ⊎ (to ≡ anticlockwise_of state.now.rotation) }
@@ -63,7 +63,7 @@ fn turned(well: &Well, rules: &Rules, state: &Placement, to: Rotation) -> Option
     None
 }
 
-/// The state in a rotation and with its pivot moved, where that is free.
+/// The state in this rotation with its pivot moved, if that is free.
 fn free_at(well: &Well, state: &Placement, rotation: Rotation, change: Offset) -> Option<Placement>
     requires free { IsTrue (is_free (filled well.now) state.now) }
     requires short { IsShort change }

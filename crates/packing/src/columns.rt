@@ -1,4 +1,4 @@
-// The cells of a set column by column: a quick test that it has no tiling.
+// The cells of a set column by column: quick tests that show that it has no tiling.
 ghost use Rattle.std.specs.Prelude.{◌≡◌, ◌≤◌, ◌↔◌, ◌+◌, ◌*◌, IsTrue, sum_by};
 ghost use Rattle.std.specs.List.{range_with_len};
 ghost use Rattle.prune.specs.Tiling.{supply_in, Supply, Tiling};
@@ -13,8 +13,8 @@ use prune::pieces;
 use srs::Piece;
 
 impl Empties {
-    /// Whether some columns that stand between two walls have a number of cells that is no multiple of four: then there
-    /// is no tiling. A wall stands between two columns where no row has a cell in both, and at each side.
+    /// Whether some columns between two walls have a number of cells that is not a multiple of four. Then there is no
+    /// tiling. A wall stands between two columns if no row has a cell in both, and at each side.
     pub(crate) fn has_uneven_part(&self) -> bool
         ensures exact { IsTrue result ↔ HasUnevenPart (all_but (empty_cells self.now)) 8 }
         ensures none { IsTrue result → (supply : Supply)
@@ -30,7 +30,7 @@ impl Empties {
         false
     }
 
-    /// Whether a wall stands behind a column.
+    /// Whether a wall stands to the right of a column.
     #[inline(always)]
     fn is_walled(&self, x: u8) -> bool
         requires { x ≤ 9 }
@@ -49,8 +49,8 @@ impl Empties {
         self.rows_with(x, Span::First).count_ones() as u8
     }
 
-    /// Whether the cells would use up the supply, which has no T, and those in even columns are an even number where L
-    /// and J together are an odd one, or the other way round. Then there is no tiling.
+    /// Whether parity shows that there is no tiling: the supply has no T, the cells would use it up, and the number of
+    /// cells in even columns is even while that of L and J pieces together is odd, or the other way round.
     #[inline(always)]
     pub(crate) fn has_wrong_parity(&self, supply: &[u8; 7]) -> bool
         ensures { IsTrue result → Tiling (all_but (empty_cells self.now)) 8 (supply_in supply.now) → ⊥ }
@@ -67,7 +67,7 @@ impl Empties {
         4 * pieces(supply) == u16::from(cells)
     }
 
-    /// How many cells every other column has from column 0 or 1 on.
+    /// How many cells every second column has, from column `first` on, which is 0 or 1.
     #[inline(always)]
     fn in_five_columns(&self, first: u8) -> u8
         requires { first ≤ 1 }

@@ -1,4 +1,4 @@
-// Questions that were decided: a set of cells and a supply, with the answer.
+// Decided questions: a set of cells and a supply, with the answer.
 ghost use Rattle.std.specs.Prelude.{◌≡◌, ◌<◌};
 ghost use Rattle.prune.specs.Tiling.{supply_in};
 ghost use Rattle.packing.specs.Empties.{all_but, empty_cells};
@@ -6,7 +6,7 @@ ghost use Rattle.packing.specs.HasTiling.{has_tiling};
 
 use crate::empties::Empties;
 
-/// Whether a set of cells has a tiling by a supply. What is kept is true by itself.
+/// The answer whether a set of cells has a tiling by a supply. It is always a true one.
 #[derive(Clone, Copy)]
 pub(crate) struct Decided {
     cells: Empties,
@@ -30,12 +30,12 @@ impl Decided {
         }
     }
 
-    /// The empty set, which needs no piece.
+    /// The empty set, which needs no pieces.
     pub(crate) fn nothing() -> Decided {
         Decided::new(Empties::empty(), [0; 7], true)
     }
 
-    /// The answer, where this is the question.
+    /// The answer, if it is the one to this question.
     pub(crate) fn answer_to(&self, cells: &Empties, supply: &[u8; 7]) -> Option<bool>
         ensures { IfSome result
             (λ answer. IsTrue answer ↔ Tiling (all_but (empty_cells cells.now)) 8 (supply_in supply.now)) }
@@ -47,7 +47,7 @@ impl Decided {
     }
 }
 
-/// The place of a question among so many.
+/// The index of a question in a store of this size.
 pub(crate) fn place_of(cells: &Empties, supply: &[u8; 7], count: usize) -> usize
     requires { 0 < count }
     ensures { result < count }

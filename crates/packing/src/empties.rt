@@ -4,10 +4,10 @@ ghost use Rattle.std.specs.Prelude.{◌≡◌, ℕ, ◌<◌, ◌^◌};
 use crate::span::Span;
 use well::Well;
 
-/// A set of cells in columns 0 to 9 and rows 0 to 7, of which it is asked whether pieces can fill them.
+/// A set of cells in columns 0 to 9 and rows 0 to 7. The question is whether pieces can fill them.
 #[derive(Clone, Copy)]
 pub struct Empties {
-    /// Bit `8 * column + row` is set exactly where the set has the cell.
+    /// Bit `8 * column + row` is set exactly if the set has the cell.
     cells: u128,
     ghost in_columns: { cells < 2 ^ 80 },
 }
@@ -43,27 +43,27 @@ impl Empties {
         Empties { cells }
     }
 
-    /// Whether the sets have the same cells.
+    /// Whether both sets have the same cells.
     pub(crate) fn is_equal(&self, other: &Empties) -> bool
         ensures { IsTrue result → empty_cells self.now ≡ empty_cells other.now }
     {
         self.cells == other.cells
     }
 
-    /// Whether it has so few cells that one piece fills them, or none does.
+    /// Whether the set has at most four cells.
     #[inline(always)]
     pub(crate) fn is_few(&self) -> bool {
         self.cells.count_ones() <= 4
     }
 
-    /// A number that tells most sets apart.
+    /// A number that differs for most sets.
     pub(crate) fn mixed(&self) -> u64 {
         let low = (self.cells & 0xffff_ffff_ffff_ffff) as u64;
         let high = (self.cells >> 64) as u64;
         low ^ high.wrapping_mul(0x9e37_79b9_7f4a_7c15)
     }
 
-    /// The lowest cell of the leftmost column that has cells, as column and row. `None` exactly where there is no cell.
+    /// The lowest cell of the leftmost column that has cells, as column and row. `None` exactly if the set is empty.
     pub(crate) fn first(&self) -> Option<(u8, u8)>
         ensures { MatchOption result (HasNoCell (empty_cells self.now))
             (λ cell. IsFirst (empty_cells self.now) cell.0 cell.1) }
@@ -75,7 +75,7 @@ impl Empties {
         Some((place / 8, place % 8))
     }
 
-    /// The set with its columns counted from one of them on; what lies in those before it is dropped.
+    /// The set with its columns counted from column `x` on. Cells in the columns before it are dropped.
     #[inline(always)]
     pub(crate) fn from_column(&self, x: u8) -> Empties
         requires { x ≤ 9 }
@@ -98,13 +98,13 @@ impl Empties {
         Empties { cells }
     }
 
-    /// Whether more cells lie before a column than from it on.
+    /// Whether more cells lie before a column than in it and after it.
     pub(crate) fn lies_right(&self, column: u8) -> bool {
         let before = self.cells & ((1 << (8 * column.min(10))) - 1);
         2 * before.count_ones() > self.cells.count_ones()
     }
 
-    /// The rows in which the set has all cells of a span whose first column is `x`: bit `y` stands for row `y`.
+    /// The rows in which the set has all cells of a span whose first column is `x`. Bit `y` stands for row `y`.
     #[inline(always)]
     pub(crate) fn rows_with(&self, x: u8, span: Span) -> u8
         requires { x ≤ 9 }
@@ -113,7 +113,7 @@ impl Empties {
         (span.starts(self.cells >> (8 * x)) & 255) as u8
     }
 
-    /// The set without some cells, one in bit `8 * column + row`.
+    /// The set without these cells: bit `8 * column + row` stands for a cell.
     #[inline(always)]
     pub(crate) fn without_bits(&self, bits: u128) -> Empties
         ensures { (x y : ℕ) → empty_cells result x y

@@ -6,8 +6,8 @@ use crate::span::Span;
 use Span::{AllFour, First, FirstThree, FirstTwo, Second, SecondTwo, Third};
 use srs::Piece;
 
-/// The spans of a piece from its lowest row up, for each rotation that has cells of its own a list. `None` exactly
-/// where there is none at this place.
+/// The spans of a piece from its lowest row up. The index numbers the rotations of the piece that have different
+/// shapes. `None` exactly if there is no rotation with this index.
 pub(crate) fn form_of(piece: Piece, place: u8) -> Option<&'static [Span]>
     ensures { MatchOption result (length (forms_of piece) ≤ place) (λ spans. (place < length (forms_of piece))
         × (spans.now ≡ slice_index_or (forms_of piece) place [])) }

@@ -1,10 +1,10 @@
-// Laws of tilings: functions with an empty body, whose contract is the law.
+// Laws of tilings: functions with an empty body whose contract is the law.
 ghost use Rattle.std.specs.Prelude.{◌≡◌, ℕ, true, ◌↔◌};
 ghost use Rattle.lane_board.specs.Field.{Field};
 ghost use Rattle.prune.specs.Tiling.{Supply, Tiling};
 ghost use Rattle.packing.specs.HasTiling.{has_tiling};
 
-/// Whether a tiling exists is decided by a test.
+/// A test decides whether a tiling exists.
 pub fn tilings_are_decided()
     ensures { (F : Field) (rows : ℕ) (supply : Supply)
         → (has_tiling F rows supply ≡ true) ↔ Tiling F rows supply }

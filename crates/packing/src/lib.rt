@@ -1,4 +1,5 @@
-// Whether the empty cells of the lowest rows can be divided into generalized pieces.
+// Whether generalized pieces can fill the empty cells of the lowest rows. A generalized piece is a rotated piece whose
+// rows may be pulled apart.
 #![tactic(auto)]
 
 mod columns;

@@ -1,4 +1,4 @@
-// What placements leave, remembered.
+// A memory of which placements leave a tiling.
 ghost use Rattle.std.specs.Prelude.{◌≡◌, ◌↔◌, ◌≤◌, ◌<◌, IsTrue, IfSome, IfOk, true, false, length};
 ghost use Rattle.srs.specs.declared.placement.Placement.{Placement};
 ghost use Rattle.prune.specs.Tiling.{supply_in, Tiling};
@@ -14,10 +14,10 @@ use pc_outside::NoMemory;
 use srs::{Piece, Placement};
 use std::alloc::Global;
 
-/// The number of sets that are remembered.
+/// How many sets are remembered.
 const PLACES: usize = 32768;
 
-/// Which placements of a piece leave a tiling of a set of cells by a supply, of those that were asked.
+/// Which placements of a piece leave a tiling of a set of cells by a supply, as far as that was asked.
 #[derive(Clone, Copy)]
 struct Remembered {
     cells: Empties,
@@ -32,7 +32,7 @@ struct Remembered {
 }
 
 impl Remembered {
-    /// Nothing was asked yet.
+    /// A memory in which nothing was asked yet.
     fn nothing(cells: &Empties, supply: &[u8; 7], piece: Piece) -> Remembered
         ensures cells { result.cells ≡ cells.now }
         ensures supply { result.supply ≡ supply.now }
@@ -47,7 +47,7 @@ impl Remembered {
         }
     }
 
-    /// Whether it is about these cells, this supply and this piece.
+    /// Whether this is about these cells, this supply and this piece.
     #[inline(always)]
     fn is_about(&self, cells: &Empties, supply: &[u8; 7], piece: Piece) -> bool
         ensures cells { IsTrue result → empty_cells self.now.cells ≡ empty_cells cells.now }
@@ -57,7 +57,7 @@ impl Remembered {
         self.cells.is_equal(cells) && self.supply == *supply && self.piece.code() == piece.code()
     }
 
-    /// Whether a placement leaves a tiling, where it was asked.
+    /// Whether a placement leaves a tiling, if that was asked before.
     #[inline(always)]
     fn answer_to(&self, cells: &Empties, supply: &[u8; 7], placement: &Placement) -> Option<bool>
         ensures { IfSome result (λ answer. answer ≡ has_tiling
@@ -75,7 +75,7 @@ impl Remembered {
         None
     }
 
-    /// The same with the answer for one placement more.
+    /// The same, with the answer for one more placement.
     fn with(&self, placement: &Placement, answer: bool) -> Remembered
         requires column { placement.now.x ≤ 9 }
         requires row { placement.now.y ≤ 7 }
@@ -93,8 +93,8 @@ impl Remembered {
     }
 }
 
-/// Remembers which placements leave a tiling, by the cells, the supply and the piece. A later set takes the place of an
-/// earlier one.
+/// Remembers which placements leave a tiling, by the cells, the supply and the piece. A later set evicts an earlier
+/// one.
 #[derive(Drop)]
 pub struct PlaceMemory {
     sets: Vec<Remembered>,
@@ -102,15 +102,15 @@ pub struct PlaceMemory {
 }
 
 impl PlaceMemory {
-    /// Nothing is remembered yet. `NoMemory` where its memory is refused.
+    /// An empty memory. `NoMemory` if there is not enough memory.
     pub fn new(alloc: Global) -> Result<PlaceMemory, NoMemory> {
         let nothing = Remembered::nothing(&Empties::empty(), &[0; 7], Piece::I);
         let sets = vec![in alloc; nothing; PLACES]?;
         Ok(PlaceMemory { sets })
     }
 
-    /// Whether what a placement leaves of the cells has a tiling by the supply. What wasn't asked before is asked of
-    /// the store, by a search that begins at the side that is nearer to the placement.
+    /// Whether the cells without those of a placement have a tiling by the supply. A question that was not asked before
+    /// goes to the store; its search begins at the side nearer to the placement.
     pub fn leaves_tiling(
         &mut self,
         cells: &Empties,
@@ -136,7 +136,7 @@ impl PlaceMemory {
         answer
     }
 
-    /// What is remembered of a question, or that nothing is.
+    /// What is remembered about a question, possibly nothing.
     fn known(
         &self,
         place: usize,

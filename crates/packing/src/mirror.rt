@@ -1,10 +1,10 @@
-// A set of cells and a supply seen in a mirror, so that a search begins at the right.
+// The mirror image of a set of cells and a supply, for a search that begins at the right.
 ghost use Rattle.std.specs.Prelude.{◌≡◌, ◌≤◌, ◌-◌, ℕ};
 ghost use Rattle.prune.specs.Mirror.{mirrored_supply};
 ghost use Rattle.prune.specs.Tiling.{supply_in};
 ghost use Rattle.packing.specs.Empties.{empty_cells};
 
-/// The supply of the kinds as which a mirror shows these.
+/// The supply with each kind replaced by its mirror image.
 pub(crate) fn mirrored_supply(supply: &[u8; 7]) -> [u8; 7]
     ensures { supply_in result ≡ mirrored_supply (supply_in supply.now) }
 {

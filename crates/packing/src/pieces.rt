@@ -1,21 +1,21 @@
-// Marks of placements: the unbroken pieces that stand in some tiling of a set of cells.
+// Marked placements: the unbroken pieces that stand in some tiling of a set of cells.
 ghost use Rattle.std.specs.Prelude.{◌≡◌, ◌≤◌, true, false, IsTrue};
 ghost use Rattle.srs.specs.declared.placement.Placement.{Placement};
 
 use crate::pivots::Pivots;
 use srs::Placement;
 
-/// The placements that stand in some tiling of a set of cells: unbroken pieces, whose rows follow each other.
+/// The placements that stand in some tiling of a set of cells as unbroken pieces: their rows are consecutive.
 #[derive(Clone, Copy)]
 pub struct TiledPieces {
-    /// Those of each kind, in the order of piece codes.
+    /// The placements of each kind, in the order of piece codes.
     kinds: [Pivots; 7],
 }
 
 impl TiledPieces {
     ghost use Rattle.packing.specs.TiledPieces.{is_marked};
 
-    /// No placement.
+    /// The empty set of placements.
     pub(crate) fn none() -> TiledPieces
         ensures { (q : Placement) → is_marked result q ≡ false }
     {
@@ -24,14 +24,14 @@ impl TiledPieces {
         }
     }
 
-    /// Whether a placement is one of them.
+    /// Whether a placement is one of these.
     pub fn has(&self, placement: &Placement) -> bool
         ensures { result ≡ is_marked self.now placement.now }
     {
         self.kinds[placement.piece.code() as usize - 1].has(placement)
     }
 
-    /// One placement more.
+    /// Adds a placement.
     pub(crate) fn mark(&mut self, placement: &Placement)
         requires column { placement.now.x ≤ 9 }
         requires row { placement.now.y ≤ 7 }

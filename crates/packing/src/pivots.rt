@@ -4,24 +4,24 @@ ghost use Rattle.srs.specs.declared.placement.Placement.{Placement};
 
 use srs::Placement;
 
-/// Placements of one piece with the pivot in columns 0 to 9 and rows 0 to 7.
+/// Placements of one piece with their pivot in columns 0 to 9 and rows 0 to 7.
 #[derive(Clone, Copy)]
 pub(crate) struct Pivots {
-    /// For each rotation the pivots: bit `8 * column + row`.
+    /// The pivots of each rotation: bit `8 * column + row`.
     rotations: [u128; 4],
 }
 
 impl Pivots {
     ghost use Rattle.packing.specs.Pivots.{has_pivot};
 
-    /// No placement.
+    /// The empty set of placements.
     pub(crate) fn none() -> Pivots
         ensures { (q : Placement) → has_pivot result q ≡ false }
     {
         Pivots { rotations: [0; 4] }
     }
 
-    /// Whether a placement is one of them.
+    /// Whether a placement is one of these.
     #[inline(always)]
     pub(crate) fn has(&self, placement: &Placement) -> bool
         ensures { result ≡ has_pivot self.now placement.now }
@@ -36,7 +36,7 @@ impl Pivots {
         rows >> (8 * placement.x + placement.y) & 1 == 1
     }
 
-    /// One placement more.
+    /// Adds a placement.
     pub(crate) fn add(&mut self, placement: &Placement)
         requires column { placement.now.x ≤ 9 }
         requires row { placement.now.y ≤ 7 }

@@ -34,7 +34,7 @@ impl Empties {
         cells(placement).iter().all(|cell| self.has(*cell))
     }
 
-    /// Whether it has a cell, as column and row.
+    /// Whether the set has the cell at this column and row.
     fn has(&self, cell: (i8, i8)) -> bool
         ensures { result ≡ has_cell (empty_cells self.now) cell }
     {
@@ -46,8 +46,8 @@ impl Empties {
     }
 }
 
-/// The cells of a placement that lie in the columns and rows of a set: bit `8 * column + row`. Where the pivot lies
-/// further off, none does.
+/// The cells of a placement that lie in the columns and rows of a set: bit `8 * column + row`. If its pivot is too far
+/// away, there are none.
 #[inline(always)]
 fn bits_of(placement: &Placement) -> u128
     ensures { (a b : ℕ) → a ≤ 9 → b ≤ 7
@@ -61,7 +61,7 @@ fn bits_of(placement: &Placement) -> u128
     u128::from(bits) << (8 * x + y) >> 18
 }
 
-/// The rows of five columns that come to rows 0 to 7 where row 2 comes to this one: bit `8 * column + row`.
+/// If row 2 of five columns moves to row `y`: which of their rows move to rows 0 to 7. Bit `8 * column + row`.
 #[inline(always)]
 fn rows_kept(y: u8) -> u64
     requires { y ≤ 9 }
@@ -71,7 +71,7 @@ fn rows_kept(y: u8) -> u64
     (0x3fc >> y & 0xff) * 0x1_0101_0101
 }
 
-/// The cells of a piece whose pivot lies in column 2 and row 2: bit `8 * column + row`.
+/// The cells of a piece whose pivot is in column 2 and row 2: bit `8 * column + row`.
 #[inline(always)]
 fn shape_bits(piece: Piece, rotation: Rotation) -> u64
     ensures { result ≡ shape_bits piece rotation }
@@ -99,8 +99,8 @@ fn shape_bits(piece: Piece, rotation: Rotation) -> u64
     }
 }
 
-/// The placement of a piece in a rotation whose lowest cell in its leftmost column is this one. `None` where its pivot
-/// would lie below row 0.
+/// The placement of a piece in a rotation whose leftmost column has its lowest cell here. `None` if its pivot would lie
+/// below row 0.
 pub(crate) fn placement_over(piece: Piece, rotation: Rotation, x: u8, y: u8) -> Option<Placement>
     requires column { x ≤ 9 }
     requires row { y ≤ 7 }
@@ -122,8 +122,8 @@ pub(crate) fn placement_over(piece: Piece, rotation: Rotation, x: u8, y: u8) -> 
     })
 }
 
-/// How many columns to the right, and how many rows up with two more, the pivot lies from the lowest cell of the
-/// leftmost column.
+/// From the lowest cell of the leftmost column to the pivot: how many columns to the right, and how many rows up, plus
+/// two.
 fn to_pivot(piece: Piece, rotation: Rotation) -> (u8, u8)
     ensures column { pos result.0 ≡ neg_ℤ (first_offset piece rotation).0 }
     ensures row { pos result.1 ≡ pos 2 +ℤ neg_ℤ (first_offset piece rotation).1 }

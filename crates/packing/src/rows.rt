@@ -1,8 +1,8 @@
-// Sets of rows 0 to 7: bit `y` stands for row `y`.
+// Sets of rows 0 to 7. Bit `y` stands for row `y`.
 ghost use Rattle.std.specs.Prelude.{◌≡◌, ◌≤◌, ◌<◌, ◌&&◌, ◌==◌, ℕ, not, nat_le, true};
 ghost use Rattle.lane_board.specs.Lanes.{has_bit};
 
-/// The rows from one on.
+/// The rows from this one on.
 #[inline(always)]
 pub(crate) fn rows_from(row: u8) -> u8
     requires { row ≤ 8 }
@@ -20,7 +20,7 @@ pub(crate) fn has_row(rows: u8, row: u8) -> bool
     rows >> row & 1 == 1
 }
 
-/// The rows of a set that aren't in another one.
+/// The rows of one set that the other doesn't have.
 #[inline(always)]
 pub(crate) fn rows_without(rows: u8, others: u8) -> u8
     ensures { (y : ℕ) → has_bit result y ≡ (has_bit rows y && not (has_bit others y)) }
@@ -28,7 +28,7 @@ pub(crate) fn rows_without(rows: u8, others: u8) -> u8
     rows ^ (rows & others)
 }
 
-/// The lowest of some rows.
+/// The lowest row of a set.
 #[inline(always)]
 pub(crate) fn lowest_row(rows: u8) -> u8
     requires { 0 < rows }
@@ -38,7 +38,7 @@ pub(crate) fn lowest_row(rows: u8) -> u8
     rows.trailing_zeros() as u8
 }
 
-/// The rows without one of them.
+/// The set without this row.
 #[inline(always)]
 pub(crate) fn without_row(rows: u8, row: u8) -> u8
     requires { row < 8 }

@@ -1,4 +1,4 @@
-// The search for a tiling: some piece covers the lowest cell of the leftmost column.
+// The search for a tiling: some piece must cover the lowest cell of the leftmost column.
 ghost use Rattle.std.specs.Prelude.{ℕ, ◌≡◌, ◌↔◌, ◌≤◌, ◌<◌, ◌&&◌, nat_le, [], ◌∷◌, IsTrue, true};
 ghost use Rattle.lane_board.specs.Lanes.{has_bit};
 ghost use Rattle.srs.specs.declared.piece.Piece.TheVariants.{I, L, O, Z, T, J, S};
@@ -15,7 +15,7 @@ use crate::supply::{count_of, without_one};
 use Span::{AllFour, First, FirstThree, FirstTwo, Second, SecondTwo, Third};
 use srs::Piece;
 
-// Whether the lowest span can take an allowed row so that what follows holds of the cells that are left.
+// Whether the lowest span can take an allowed row so that the rest holds of the cells that are left.
 macro_rules! some_row {
     ($cells:expr, $y:expr, $floor:expr, $span:expr, $rest:ident, $row:ident => $others:expr) => {{
         let mut rows = $cells.rows_with(0, $span) & allowed($y, $floor, $span);
@@ -31,7 +31,7 @@ macro_rules! some_row {
     }};
 }
 
-// Whether one of some calls answers true; those behind it are not made.
+// Whether one of these calls answers true. The calls after it are not made.
 macro_rules! any_of {
     ($last:expr) => {
         $last
@@ -46,7 +46,7 @@ macro_rules! any_of {
 
 impl Empties {
     /// Whether the cells are the disjoint union of generalized pieces, with at most as many of each kind as the supply
-    /// has, whose entries stand in the order of piece codes.
+    /// has. The supply's entries stand in the order of piece codes.
     pub fn has_tiling(&self, supply: &[u8; 7]) -> bool
         ensures { IsTrue result ↔ Tiling (all_but (empty_cells self.now)) 8 (supply_in supply.now) }
     {
@@ -56,7 +56,7 @@ impl Empties {
         self.decide(supply, &mut [])
     }
 
-    /// The same, by what was decided and with what is decided on the way.
+    /// The same. It uses the answers in `known`, and adds its own.
     #[cycle(search)]
     pub(crate) fn decide(&self, supply: &[u8; 7], known: &mut [Decided]) -> bool
         ensures { IsTrue result ↔ Tiling (all_but (empty_cells self.now)) 8 (supply_in supply.now) }
@@ -67,7 +67,7 @@ impl Empties {
         self.from_column(x).recall(y, supply, known)
     }
 
-    /// The same of a set that has cells in column 0, the lowest of them in this row.
+    /// The same for a set that has cells in column 0; `y` is the row of the lowest of them.
     #[cycle(search)]
     #[inline(always)]
     fn recall(&self, y: u8, supply: &[u8; 7], known: &mut [Decided]) -> bool
@@ -89,7 +89,7 @@ impl Empties {
         answer
     }
 
-    /// Whether a piece of the supply can cover the first cell so that the others fill what it leaves.
+    /// Whether some piece of the supply can cover the first cell so that the others fill what is left.
     #[cycle(search)]
     fn covers(&self, y: u8, supply: &[u8; 7], known: &mut [Decided]) -> bool
         requires { IsFirst (empty_cells self.now) 0 y }
@@ -106,8 +106,7 @@ impl Empties {
         )
     }
 
-    /// Whether the supply has a piece of this kind, which can cover the first cell so that the others fill what it
-    /// leaves.
+    /// Whether the supply has a piece of this kind that can cover the first cell so that the others fill what is left.
     #[cycle(search)]
     #[inline(always)]
     fn takes(&self, y: u8, piece: Piece, supply: &[u8; 7], known: &mut [Decided]) -> bool
@@ -122,7 +121,7 @@ impl Empties {
         self.stacks_piece(y, piece, &left, known)
     }
 
-    /// Whether a piece of this kind can cover the first cell so that the supply fills what it leaves.
+    /// Whether a piece of this kind can cover the first cell so that the supply fills what is left.
     #[cycle(search)]
     #[inline(always)]
     fn stacks_piece(&self, y: u8, piece: Piece, supply: &[u8; 7], known: &mut [Decided]) -> bool
@@ -141,7 +140,7 @@ impl Empties {
         }
     }
 
-    /// Whether an I can cover the first cell so that the supply fills what it leaves.
+    /// Whether an I can cover the first cell so that the supply fills what is left.
     #[cycle(search)]
     fn stacks_i(&self, y: u8, supply: &[u8; 7], known: &mut [Decided]) -> bool
         requires { y ≤ 7 }
@@ -152,7 +151,7 @@ impl Empties {
             || self.first_four(y, First, First, First, First, supply, known)
     }
 
-    /// Whether an L can cover the first cell so that the supply fills what it leaves.
+    /// Whether an L can cover the first cell so that the supply fills what is left.
     #[cycle(search)]
     fn stacks_l(&self, y: u8, supply: &[u8; 7], known: &mut [Decided]) -> bool
         requires { y ≤ 7 }
@@ -167,7 +166,7 @@ impl Empties {
         )
     }
 
-    /// Whether an O can cover the first cell so that the supply fills what it leaves.
+    /// Whether an O can cover the first cell so that the supply fills what is left.
     #[cycle(search)]
     fn stacks_o(&self, y: u8, supply: &[u8; 7], known: &mut [Decided]) -> bool
         requires { y ≤ 7 }
@@ -177,7 +176,7 @@ impl Empties {
         self.first_two(y, FirstTwo, FirstTwo, supply, known)
     }
 
-    /// Whether a Z can cover the first cell so that the supply fills what it leaves.
+    /// Whether a Z can cover the first cell so that the supply fills what is left.
     #[cycle(search)]
     fn stacks_z(&self, y: u8, supply: &[u8; 7], known: &mut [Decided]) -> bool
         requires { y ≤ 7 }
@@ -188,7 +187,7 @@ impl Empties {
             || self.first_three(y, First, FirstTwo, Second, supply, known)
     }
 
-    /// Whether a T can cover the first cell so that the supply fills what it leaves.
+    /// Whether a T can cover the first cell so that the supply fills what is left.
     #[cycle(search)]
     fn stacks_t(&self, y: u8, supply: &[u8; 7], known: &mut [Decided]) -> bool
         requires { y ≤ 7 }
@@ -203,7 +202,7 @@ impl Empties {
         )
     }
 
-    /// Whether a J can cover the first cell so that the supply fills what it leaves.
+    /// Whether a J can cover the first cell so that the supply fills what is left.
     #[cycle(search)]
     fn stacks_j(&self, y: u8, supply: &[u8; 7], known: &mut [Decided]) -> bool
         requires { y ≤ 7 }
@@ -218,7 +217,7 @@ impl Empties {
         )
     }
 
-    /// Whether an S can cover the first cell so that the supply fills what it leaves.
+    /// Whether an S can cover the first cell so that the supply fills what is left.
     #[cycle(search)]
     fn stacks_s(&self, y: u8, supply: &[u8; 7], known: &mut [Decided]) -> bool
         requires { y ≤ 7 }
@@ -229,7 +228,7 @@ impl Empties {
             || self.stacks_three(y, 0, Second, FirstTwo, First, supply, known)
     }
 
-    /// Whether a span in a row from `floor` on can cover the first cell so that the supply fills what it leaves.
+    /// Whether a span in a row from `floor` on can cover the first cell so that the supply fills what is left.
     #[cycle(search)]
     #[inline(always)]
     fn stacks_one(&self, y: u8, floor: u8, a: Span, supply: &[u8; 7], known: &mut [Decided]) -> bool
@@ -241,7 +240,7 @@ impl Empties {
         some_row!(self, y, floor, a, rest, row => rest.decide(supply, known))
     }
 
-    /// The same of two spans, one above the other.
+    /// The same for two spans, one above the other.
     #[cycle(search)]
     #[inline(always)]
     fn stacks_two(
@@ -261,7 +260,7 @@ impl Empties {
         some_row!(self, y, floor, a, rest, row => rest.stacks_one(y, row + 1, b, supply, known))
     }
 
-    /// The same of three spans.
+    /// The same for three spans, one above the other.
     #[cycle(search)]
     #[inline(always)]
     fn stacks_three(
@@ -282,8 +281,8 @@ impl Empties {
         some_row!(self, y, floor, a, rest, row => rest.stacks_two(y, row + 1, b, c, supply, known))
     }
 
-    /// Whether a span with the first column can cover the first cell, in its row, so that the supply fills what it
-    /// leaves.
+    /// Whether a span with the first column can cover the first cell, in its row, so that the supply fills what is
+    /// left.
     #[cycle(search)]
     #[inline(always)]
     fn first_one(&self, y: u8, a: Span, supply: &[u8; 7], known: &mut [Decided]) -> bool
@@ -299,7 +298,7 @@ impl Empties {
         rest.decide(supply, known)
     }
 
-    /// The same of such a span and one above it.
+    /// The same for such a span and one above it.
     #[cycle(search)]
     #[inline(always)]
     fn first_two(&self, y: u8, a: Span, b: Span, supply: &[u8; 7], known: &mut [Decided]) -> bool
@@ -315,7 +314,7 @@ impl Empties {
         rest.stacks_one(y, y + 1, b, supply, known)
     }
 
-    /// The same of such a span and two above it.
+    /// The same for such a span and two above it.
     #[cycle(search)]
     #[inline(always)]
     fn first_three(
@@ -339,7 +338,7 @@ impl Empties {
         rest.stacks_two(y, y + 1, b, c, supply, known)
     }
 
-    /// The same of such a span and three above it.
+    /// The same for such a span and three above it.
     #[cycle(search)]
     #[inline(always)]
     fn first_four(
@@ -365,8 +364,8 @@ impl Empties {
     }
 }
 
-/// The rows from `floor` on that a span may take so that the lowest span with the first column takes row `y`: until
-/// that one has come, so where `floor` is `y` or below.
+/// The rows from `floor` on that a span may take so that the lowest span with the first column takes row `y`. The rule
+/// binds as long as that span is still to come, that is, while `floor` is at most `y`.
 #[inline(always)]
 pub(crate) fn allowed(y: u8, floor: u8, span: Span) -> u8
     requires row { y ≤ 7 }

@@ -1,4 +1,4 @@
-// The rows of pieces, from the lowest up: which neighbouring columns each takes.
+// The rows of pieces, from the lowest up: which neighbouring columns each row takes.
 ghost use Rattle.std.specs.Prelude.{◌≡◌, ℕ, ◌+◌, ◌*◌, ◌==◌, ◌<◌, ◌^◌};
 ghost use Rattle.std.specs.List.{list_all, list_any};
 ghost use Rattle.lane_board.specs.Lanes.{has_bit};
@@ -17,7 +17,7 @@ pub(crate) enum Span {
 }
 
 impl Span {
-    /// Whether it has the leftmost column.
+    /// Whether the span has the leftmost column.
     #[inline(always)]
     pub(crate) fn has_first(self) -> bool
         ensures { result ≡ has_first self }
@@ -28,7 +28,7 @@ impl Span {
         }
     }
 
-    /// Its columns as a set of cells of row 0: bit `8 * column`.
+    /// The columns as a set of cells of row 0: bit `8 * column`.
     #[inline(always)]
     pub(crate) fn cells(self) -> u64
         ensures bits { (k : ℕ)
@@ -46,7 +46,7 @@ impl Span {
         }
     }
 
-    /// The cells of a set, one in bit `8 * column + row`, with which the set has the whole span to the right of them.
+    /// The cells from which a set has the whole span, to the right of them. Bit `8 * column + row` stands for a cell.
     #[inline(always)]
     pub(crate) fn starts(self, cells: u128) -> u128
         ensures { (k : ℕ)

@@ -9,32 +9,32 @@ use crate::mirror::mirrored_supply;
 use pc_outside::NoMemory;
 use std::alloc::Global;
 
-/// The number of questions that a store keeps.
+/// How many questions a store keeps.
 const PLACES: usize = 32768;
 
-/// Keeps the answers to questions that were asked of it, each in one place. A later one takes the place of an earlier
-/// one.
+/// Keeps the answers to questions that it was asked, each in one place. A later one evicts an earlier one.
 #[derive(Drop)]
 pub struct TilingStore {
     decided: Vec<Decided>,
 }
 
 impl TilingStore {
-    /// A store that has decided nothing yet. `NoMemory` where its memory is refused.
+    /// An empty store. `NoMemory` if there is not enough memory.
     pub fn new(alloc: Global) -> Result<TilingStore, NoMemory> {
         let decided = vec![in alloc; Decided::nothing(); PLACES]?;
         Ok(TilingStore { decided })
     }
 
     /// Whether the cells are the disjoint union of generalized pieces, with at most as many of each kind as the supply
-    /// has, whose entries stand in the order of piece codes. What was decided before is not searched again.
+    /// has. The supply's entries stand in the order of piece codes. A question whose answer is kept is not searched
+    /// again.
     pub fn has_tiling(&mut self, cells: &Empties, supply: &[u8; 7]) -> bool
         ensures { IsTrue result ↔ Tiling (all_but (empty_cells cells.now)) 8 (supply_in supply.now) }
     {
         self.has_tiling_near(cells, 0, supply)
     }
 
-    /// The same, by a search that begins at the side that is nearer to a column.
+    /// The same, by a search that begins at the side nearer to a column.
     pub fn has_tiling_near(&mut self, cells: &Empties, column: u8, supply: &[u8; 7]) -> bool
         ensures { IsTrue result ↔ Tiling (all_but (empty_cells cells.now)) 8 (supply_in supply.now) }
     {

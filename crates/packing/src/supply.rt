@@ -5,7 +5,7 @@ ghost use Rattle.prune.specs.Tiling.{supply_in};
 
 use srs::Piece;
 
-/// How many pieces of this kind there are.
+/// How many pieces of this kind the supply has.
 #[inline(always)]
 pub(crate) fn count_of(supply: &[u8; 7], piece: Piece) -> u8
     ensures { result ≡ supply_in supply.now piece }
@@ -13,7 +13,7 @@ pub(crate) fn count_of(supply: &[u8; 7], piece: Piece) -> u8
     supply[piece.code() as usize - 1]
 }
 
-/// One piece of this kind fewer, or none where there is none.
+/// The supply with one piece of this kind fewer, if it has one.
 #[inline(always)]
 pub fn without_one(supply: &[u8; 7], piece: Piece) -> [u8; 7]
     ensures { supply_in result ≡ less_one (supply_in supply.now) piece }

@@ -17,7 +17,7 @@ fn one_and_two_pieces(rt: HostRuntime) {
     assert!(rt; !tiles(&two, 3, &[0, 0, 2, 0, 0, 0, 0]));
 }
 
-/// Rows of four that rise strictly: each front of each of these lists. Row 9 is none.
+/// Four rows that rise strictly: every front of each of these lists. Row 9 stands for none.
 const RISING: [[u8; 4]; 8] = [
     [0, 1, 2, 3],
     [0, 1, 3, 9],
@@ -29,8 +29,8 @@ const RISING: [[u8; 4]; 8] = [
     [3, 9, 9, 9],
 ];
 
-/// Bit `4 * column + row` of each cell of a piece that is moved to a column and whose rows are these, or 0 where a cell
-/// lies outside four columns and four rows.
+/// The cells of a piece that is moved to a column and has these rows: bit `4 * column + row`. 0 if a cell lies outside
+/// four columns and four rows.
 fn part(shape: &[(i8, i8); 4], column: i8, rows: &[u8; 4]) -> u16 {
     let mut left = 31;
     let mut lowest = 31;
@@ -50,7 +50,7 @@ fn part(shape: &[(i8, i8); 4], column: i8, rows: &[u8; 4]) -> u16 {
     bits
 }
 
-/// Whether so many pieces of the supply can be put one after another, anywhere, until no cell is left.
+/// Whether this many pieces of the supply can be put one after another, anywhere, until no cell is left.
 fn can_fill(cells_left: u16, supply: [u8; 7], pieces: u8) -> bool {
     if cells_left == 0 {
         return true;
@@ -87,13 +87,13 @@ fn can_fill(cells_left: u16, supply: [u8; 7], pieces: u8) -> bool {
     false
 }
 
-/// The next of a list of numbers that look random.
+/// The next number of a list that looks random.
 fn next(seed: u64) -> u64 {
     seed.wrapping_mul(6364136223846793005)
         .wrapping_add(1442695040888963407)
 }
 
-/// One of each kind whose bit is set.
+/// One piece of each kind whose bit is set.
 fn supply_of(kinds: u8) -> [u8; 7] {
     let mut supply = [0; 7];
     for kind in 0..7 {
@@ -102,7 +102,7 @@ fn supply_of(kinds: u8) -> [u8; 7] {
     supply
 }
 
-/// The well in which of rows 0 to 3 only these cells of columns 0 to 3 are empty: bit `4 * column + row`.
+/// The well in which, of rows 0 to 3, only these cells of columns 0 to 3 are empty: bit `4 * column + row`.
 fn well_without(empties: u16) -> Well {
     let mut well = Well::empty();
     for x in 0..10 {
@@ -134,7 +134,7 @@ fn a_plain_search_says_the_same(rt: HostRuntime) {
     assert!(rt; tiled > 20, "{tiled}");
 }
 
-/// A placement in columns and rows of the field.
+/// A placement with its pivot at this column and row.
 fn at(piece: Piece, rotation: Rotation, x: u8, y: u8) -> Placement {
     Placement {
         piece,
@@ -146,7 +146,7 @@ fn at(piece: Piece, rotation: Rotation, x: u8, y: u8) -> Placement {
 
 #[test]
 fn pieces_of_all_tilings(rt: HostRuntime) {
-    // A T, an O and an I clear it in one way, in which the O has a row between its rows.
+    // A T, an O and an I clear it in exactly one way, and the O has a row between its rows.
     let opener = field(b"XXXX____XX/XXXX___XXX/XXXX__XXXX/XXXX___XXX");
     let cells = Empties::below(&opener, 4);
     let mut store = PieceStore::new(rt.alloc()).expect(&rt, "memory");

@@ -1,4 +1,4 @@
-// The pieces of all tilings, by a walk over them.
+// The pieces of all tilings, found by a walk over the tilings.
 ghost use Rattle.std.specs.Prelude.{ℕ, ◌≡◌, ◌↔◌, ◌≤◌, ◌<◌, IsTrue, All, length, false};
 ghost use Rattle.srs.specs.declared.placement.Placement.{Placement};
 ghost use Rattle.prune.specs.Tiling.{supply_in};
@@ -24,23 +24,23 @@ use pc_outside::NoMemory;
 use srs::{Piece, Placement, Rotation};
 use std::alloc::Global;
 
-/// The number of questions that a store keeps.
+/// How many questions a store keeps.
 const PLACES: usize = 32768;
 
 /// Finds the pieces of all tilings, and keeps which questions have no tiling.
 #[derive(Drop)]
 pub struct PieceStore {
     known: Vec<Walked>,
-    /// The number of the walk at hand.
+    /// The number of the current walk.
     walk: u64,
-    /// What was found in it.
+    /// What the current walk has found.
     pieces: TiledPieces,
     ghost room: { length known.items ≡ 32768 },
     ghost are_true: { All (IsTrueIn walk pieces) known.items },
 }
 
 impl PieceStore {
-    /// A store that knows nothing yet. `NoMemory` where its memory is refused.
+    /// An empty store. `NoMemory` if there is not enough memory.
     pub fn new(alloc: Global) -> Result<PieceStore, NoMemory> {
         let known = vec![in alloc; Walked::nothing(); PLACES]?;
         Ok(PieceStore {
@@ -50,9 +50,9 @@ impl PieceStore {
         })
     }
 
-    /// The placements of the pieces that stand in some tiling of the cells, with at most as many of each kind as the
-    /// supply has, whose entries stand in the order of piece codes. Such a piece is unbroken: its rows follow each
-    /// other.
+    /// The placements that stand as unbroken pieces in some tiling of the cells, with at most as many of each kind as
+    /// the supply has. The supply's entries stand in the order of piece codes. The rows of an unbroken piece are
+    /// consecutive.
     pub fn pieces(&mut self, cells: &Empties, supply: &[u8; 7]) -> TiledPieces
         ensures { (q : Placement) → IsTrue (is_marked result q)
             ↔ StandsInTiling (empty_cells cells.now) (supply_in supply.now) q }
@@ -62,7 +62,7 @@ impl PieceStore {
         self.pieces
     }
 
-    /// Begins a walk, in which nothing is found yet.
+    /// Begins a walk, which has found nothing yet.
     fn begin(&mut self)
         ensures { (q : Placement) → is_marked self.new.pieces q ≡ false }
     {
@@ -70,7 +70,7 @@ impl PieceStore {
         self.pieces = TiledPieces::none();
     }
 
-    /// A number above that of the walk at hand. Where there is none, all is forgotten first.
+    /// A number above that of the current walk. If there is none, the store forgets everything first.
     fn next_number(&mut self) -> u64
         ensures { self.new.walk < result }
     {
@@ -81,7 +81,7 @@ impl PieceStore {
         1
     }
 
-    /// Nothing is known any more.
+    /// Forgets everything.
     fn forget(&mut self)
         ensures { self.new.walk ≡ 0 }
     {
@@ -89,7 +89,7 @@ impl PieceStore {
         self.walk = 0;
     }
 
-    /// One placement more is found.
+    /// Marks one more placement as found.
     fn mark(&mut self, placement: &Placement)
         requires column { placement.now.x ≤ 9 }
         requires row { placement.now.y ≤ 7 }
@@ -99,7 +99,8 @@ impl PieceStore {
         self.pieces.mark(placement);
     }
 
-    /// Goes through all tilings of the cells, and marks the placements that stand in one. Whether there is a tiling.
+    /// Goes through all tilings of the cells and marks the placements that stand in one. Returns whether there is a
+    /// tiling.
     #[cycle(walk)]
     fn search(&mut self, cells: &Empties, supply: &[u8; 7]) -> bool
         ensures { Gains (noted false self.old.pieces) (noted result self.new.pieces)
@@ -121,7 +122,7 @@ impl PieceStore {
         answer
     }
 
-    /// The same of cells whose lowest one in the leftmost column is this one.
+    /// The same for cells whose first one (the lowest of the leftmost column) is at this column and row.
     #[cycle(walk)]
     fn covers(&mut self, cells: &Empties, x: u8, y: u8, supply: &[u8; 7]) -> bool
         requires { IsFirst (empty_cells cells.now) x y }
@@ -139,7 +140,7 @@ impl PieceStore {
         i | l | o | z | t | j | s
     }
 
-    /// The same of the tilings in which a piece of this kind has the first cell.
+    /// The same for the tilings in which a piece of this kind covers the first cell.
     #[cycle(walk)]
     fn takes(&mut self, cells: &Empties, x: u8, y: u8, piece: Piece, supply: &[u8; 7]) -> bool
         requires { IsFirst (empty_cells cells.now) x y }
@@ -156,7 +157,7 @@ impl PieceStore {
         whole | stacked
     }
 
-    /// The same of those in which an unbroken piece of this kind has it, in any rotation.
+    /// The same for those in which an unbroken piece of this kind covers it, in any rotation.
     #[cycle(walk)]
     fn wholes(&mut self, cells: &Empties, x: u8, y: u8, piece: Piece, fewer: &[u8; 7]) -> bool
         requires { IsFirst (empty_cells cells.now) x y }
@@ -172,7 +173,7 @@ impl PieceStore {
         spawn | right | reverse | left
     }
 
-    /// The same of those in which an unbroken piece in this rotation has it.
+    /// The same for those in which an unbroken piece in this rotation covers it.
     #[cycle(walk)]
     fn whole(
         &mut self,
@@ -201,7 +202,7 @@ impl PieceStore {
         true
     }
 
-    /// The same of those in which a piece of this kind has it, its rows apart or not.
+    /// The same for those in which a piece of this kind covers it, whether its rows are apart or not.
     #[cycle(walk)]
     fn forms(&mut self, cells: &Empties, x: u8, y: u8, piece: Piece, fewer: &[u8; 7]) -> bool
         requires { IsFirst (empty_cells cells.now) x y }
@@ -216,7 +217,7 @@ impl PieceStore {
         first | second | third | fourth
     }
 
-    /// The same of those in which it has it with these of its spans.
+    /// The same for those in which it covers it in the shape with this index.
     #[cycle(walk)]
     fn form(
         &mut self,
@@ -238,7 +239,7 @@ impl PieceStore {
         self.stacks(cells, x, y, 0, spans, fewer)
     }
 
-    /// The same of those in which spans from a row on are stacked so that they cover the cell in row `y`.
+    /// The same for those in which these spans are stacked from row `floor` on so that they cover the cell in row `y`.
     #[cycle(walk)]
     fn stacks(
         &mut self,

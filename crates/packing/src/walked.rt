@@ -1,20 +1,20 @@
-// What a walk over tilings found out, kept.
+// Kept results of walks over tilings.
 ghost use Rattle.std.specs.Prelude.{◌≡◌, ℕ, IfSome, true, false};
 ghost use Rattle.packing.specs.Empties.{empty_cells};
 ghost use Rattle.packing.specs.declared.walked.Outcome.{Outcome};
 
 use crate::empties::Empties;
 
-/// What came of a question.
+/// The result for a question.
 #[derive(Clone, Copy)]
 pub(crate) enum Outcome {
     /// There is no tiling.
     NoTiling,
-    /// All tilings were gone through, in the walk with this number.
+    /// There is a tiling. All tilings were visited in the walk with this number.
     Walked(u64),
 }
 
-/// A question, which is a set of cells and a supply, and what came of it.
+/// A question, which is a set of cells and a supply, and its result.
 #[derive(Clone, Copy)]
 pub(crate) struct Walked {
     pub(crate) cells: Empties,
@@ -45,7 +45,7 @@ impl Walked {
         }
     }
 
-    /// No cell, which needs no piece.
+    /// The empty set, which needs no pieces.
     pub(crate) fn nothing() -> Walked
         ensures { (walk : ℕ) (pieces : TiledPieces) → IsTrueIn walk pieces result }
     {
@@ -56,7 +56,8 @@ impl Walked {
         }
     }
 
-    /// Whether there is a tiling, where this is the question and it was asked in the walk with this number or has none.
+    /// Whether there is a tiling. `None` if this is another question, or if there is a tiling but it was asked in
+    /// another walk.
     pub(crate) fn answer_to(&self, cells: &Empties, supply: &[u8; 7], walk: u64) -> Option<bool>
         ensures same { IfSome result (λ answer. (empty_cells self.now.cells ≡ empty_cells cells.now)
             × (self.now.supply ≡ supply.now)) }

@@ -6,8 +6,8 @@ ghost use Rattle.prune.specs.Tiling.{supply_in, Tiling};
 use crate::empties::Empties;
 use well::Well;
 
-/// Whether the empty cells of rows 0 to `rows_left - 1` are the disjoint union of generalized pieces, with at most as
-/// many of each kind as the supply has, whose entries stand in the order of piece codes.
+/// Whether the empty cells of the rows below `rows_left` are the disjoint union of generalized pieces, with at most as
+/// many of each kind as the supply has. The supply's entries stand in the order of piece codes.
 pub fn tiles(well: &Well, rows_left: u8, supply: &[u8; 7]) -> bool
     requires { rows_left ≤ 8 }
     ensures { IsTrue result ↔ Tiling (filled well.now) rows_left (supply_in supply.now) }

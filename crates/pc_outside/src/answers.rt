@@ -1,23 +1,23 @@
-// The answers that are not results: memory that is not there, a fault of the input, a failed read or write.
+// Answers other than results: no memory, a fault of the input, a failed read or write.
 ghost use Rattle.std.specs.Prelude.{◌≡◌};
 ghost use Rattle.pc_outside.specs.declared.answers.Refused.{Refused};
 
 use std::alloc::{AllocError, AllocFailed};
 
-/// Memory was asked for and is not there.
+/// There was not enough memory.
 #[derive(Clone, Copy, Debug, PartialEq, Eq)]
 pub struct NoMemory;
 
-/// A call that takes memory refuses by a fault of its input, or for want of memory.
+/// Why a call that needs memory gave no result: its input has a fault, or memory ran out.
 #[derive(Clone, Copy, Debug, PartialEq, Eq)]
 pub enum Refused<F> {
     /// The first fault of the input.
     Fault(F),
-    /// Memory was asked for and is not there.
+    /// There was not enough memory.
     NoMemory,
 }
 
-/// A read or a write failed, and the count of faults of its source or sink rose.
+/// A read or write failed, and its source or sink counted one more fault.
 #[derive(Clone, Copy, Debug, PartialEq, Eq)]
 pub struct Failed;
 

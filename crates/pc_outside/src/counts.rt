@@ -1,4 +1,4 @@
-// Counts of 64 bits that stay at their last value, and the lists of calls that fail.
+// Counts of 64 bits that stay at their greatest value, and lists of the calls that fail.
 ghost use Rattle.std.specs.Prelude.{◌≡◌, ◌↔◌, IsTrue, Contains};
 ghost use Rattle.pc_outside.specs.Counts.{next_count};
 
@@ -8,7 +8,7 @@ pub(crate) fn next_count(count: u64) -> u64
     count.saturating_add(1)
 }
 
-/// Whether the call of this number is one of those that fail.
+/// Whether the call with this number is one of those that fail.
 pub(crate) fn is_listed(failing: &[u32], number: u64) -> bool
     ensures { IsTrue result ↔ Contains failing.now number }
 {

@@ -8,8 +8,8 @@ use crate::{Failed, Sink};
 use std::io::Write;
 use std::marker::Model;
 
-/// A sink over a writer, as a file or standard output. It doesn't tell what it holds, and counts
-/// each error of the writer as a fault, an interrupted write too, and a write that takes nothing.
+/// A sink over a writer, such as a file or standard output. It doesn't tell what it holds. It counts each error of the
+/// writer as a fault, also an interrupted write and a write that takes no bytes.
 #[derive(Drop)]
 pub struct FileSink<W: Write> {
     writer: W,
@@ -36,7 +36,7 @@ impl<W: Write> FileSink<W> {
     }
 }
 
-/// Writes some of these bytes, at least one, and says how many.
+/// Writes at least one of these bytes and returns how many it wrote.
 fn write_some<W: Write>(writer: &mut W, bytes: &[u8]) -> Result<usize, Failed>
     requires { 0 < length bytes.now }
     ensures some { IfOk result (λ n. (0 < n) × (n ≤ length bytes.now)) }
@@ -50,7 +50,7 @@ fn write_some<W: Write>(writer: &mut W, bytes: &[u8]) -> Result<usize, Failed>
     }
 }
 
-/// Writes all of these bytes, up to the first fault.
+/// Writes these bytes, and stops at the first fault.
 fn write_whole<W: Write>(writer: &mut W, bytes: &[u8]) -> Result<(), Failed>
     ensures passed { WritesAll (W.contents writer.old) (W.contents writer.new) result bytes.now }
     ensures idle { bytes.now ≡ [] → IsOk result × (writer.new ≡ writer.old) }
@@ -94,7 +94,7 @@ mod tests {
     use super::*;
     use std::io::{self, ErrorKind};
 
-    /// Takes two bytes a call, but nothing in its fourth call, and is interrupted in its sixth.
+    /// Takes two bytes a call, none in its fourth call, and is interrupted in its sixth.
     #[derive(Drop)]
     struct Writer {
         calls: u8,

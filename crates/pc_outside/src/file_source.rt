@@ -9,8 +9,8 @@ use crate::{Failed, Source};
 use std::io::Read;
 use std::marker::Model;
 
-/// A source over a reader, as a file or standard input. It doesn't tell what it has left, and
-/// counts each error of the reader as a fault, an interrupted read too.
+/// A source over a reader, such as a file or standard input. It doesn't tell what is left. It counts each error of the
+/// reader as a fault, also an interrupted read.
 #[derive(Drop)]
 pub struct FileSource<R: Read> {
     reader: R,
@@ -71,7 +71,7 @@ mod tests {
     use super::*;
     use std::io::{self, ErrorKind};
 
-    /// Gives "ab", is interrupted, gives "c", and is at its end.
+    /// Gives "ab", is interrupted, gives "c", and then ends.
     #[derive(Drop)]
     struct Reader {
         calls: u8,

@@ -1,4 +1,4 @@
-// What the product asks of the outside: memory, a source of bytes and sinks of bytes, each of which may fail.
+// What the program needs from outside: memory, a source of bytes and sinks of bytes. Each of them may fail.
 #![tactic(auto)]
 
 mod answers;

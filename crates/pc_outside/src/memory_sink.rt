@@ -1,4 +1,4 @@
-// A sink in memory with a fixed room, whose writes fail where they are told to or where room is wanting.
+// A sink in memory with fixed room. A write fails where it is told to, or where there is no room for it.
 ghost use Rattle.std.specs.Prelude.{◌≡◌, ℕ, ◌+◌, ◌-◌, ◌/◌, ◌<◌, ◌≤◌, ◌↔◌, ◌⊎◌, ◌++◌, [], min, length, take, true, Some, IsOk, IsErr, IfOk, OnOk, OnErr, Contains};
 ghost use Rattle.pc_outside.specs.Counts.{next_count, HasCause};
 ghost use Rattle.pc_outside.specs.MemorySink.{front_with_room};
@@ -9,8 +9,8 @@ use crate::{Failed, NoMemory, Sink};
 use std::alloc::Global;
 use std::marker::Model;
 
-/// A sink in memory that holds at most its room of bytes. Its writes of at least one byte are
-/// counted from 1, and those whose numbers are listed fail.
+/// A sink in memory that holds a fixed number of bytes at most. Its writes of at least one byte are numbered from 1;
+/// those whose numbers are listed fail.
 #[derive(Drop)]
 pub struct MemorySink {
     content: Vec<u8>,
@@ -38,8 +38,7 @@ impl Model for MemorySink {
 }
 
 impl MemorySink {
-    /// An empty sink with room for so many bytes, which it takes now, and whose writes with these
-    /// numbers fail.
+    /// An empty sink with room for this many bytes, which it allocates now. The writes with these numbers fail.
     pub fn new(alloc: Global, room: usize, failing: Vec<u32>) -> Result<MemorySink, NoMemory>
         ensures { IfOk result (λ s. s ≡ record {
           bytes = [];
@@ -67,7 +66,7 @@ impl MemorySink {
         &self.content
     }
 
-    /// Appends the first so many of these bytes, as far as they fit, and fails.
+    /// Appends the first `most` of these bytes, as far as they fit, and fails.
     #[tactic(auto, using(crate::specs::WriteLaws::front_taken))]
     fn fail_after(&mut self, bytes: &[u8], most: usize) -> Result<(), Failed>
         requires { most ≤ length bytes.now }

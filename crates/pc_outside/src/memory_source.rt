@@ -7,8 +7,8 @@ use crate::counts::{is_listed, next_count};
 use crate::{Failed, Source};
 use std::marker::Model;
 
-/// A source over bytes in memory. Its reads into buffers that have room are counted from 1, and
-/// those whose numbers are listed fail.
+/// A source over bytes in memory. Its reads into buffers that have room are numbered from 1; those whose numbers are
+/// listed fail.
 #[derive(Drop)]
 pub struct MemorySource {
     content: Vec<u8>,
@@ -37,7 +37,7 @@ impl Model for MemorySource {
 }
 
 impl MemorySource {
-    /// A source that has these bytes left, and whose reads with these numbers fail.
+    /// A source with these bytes left. The reads with these numbers fail.
     pub fn new(bytes: Vec<u8>, failing: Vec<u32>) -> MemorySource
         ensures { result ≡ record {
           bytes = bytes.items;
@@ -57,7 +57,7 @@ impl MemorySource {
         }
     }
 
-    /// The same source, each of whose reads moves at most so many bytes.
+    /// The same source with reads that move at most `piece` bytes each.
     pub fn with_piece(self, piece: usize) -> MemorySource
         requires { 1 ≤ piece }
         ensures { result ≡ record self { piece = piece } }
@@ -66,7 +66,7 @@ impl MemorySource {
     }
 }
 
-/// Moves the front of these bytes into the front of the buffer, at most so many.
+/// Moves bytes from the front of `left` to the front of the buffer, `most` of them at most.
 #[tactic(auto, using(crate::proofs::Moving::moves_front))]
 pub(crate) fn move_front(left: &[u8], buf: &mut [u8], most: usize) -> usize
     requires { 1 ≤ most }

@@ -10,11 +10,11 @@ use std::alloc::{AllocError, Global};
 /// Why a source could not be read to its end.
 #[derive(Clone, Copy, Debug, PartialEq, Eq)]
 pub enum ReadError {
-    /// It gives more bytes than the limit.
+    /// The source has more bytes than the limit.
     TooLong,
     /// A read failed.
     Failed,
-    /// There is no memory for its bytes.
+    /// There was not enough memory for its bytes.
     NoMemory,
 }
 
@@ -36,8 +36,8 @@ impl From<AllocError> for ReadError {
 
 const CHUNK: usize = 4096;
 
-/// All the bytes that the source has left, where they are at most so many. It reads until a read
-/// gives none, or until one byte more than the limit was read.
+/// All bytes that the source has left, if they are within the limit. It reads until a read gives none, or until it has
+/// one byte more than the limit.
 #[tactic(auto, using(crate::specs::ReadLaws::takes_at_most))]
 pub fn read_all<S: Source>(
     alloc: Global,

@@ -5,7 +5,7 @@ ghost use Rattle.pc_outside.specs.Writes.{WritesAll};
 
 use crate::Failed;
 
-/// What bytes are written to. A write may fail.
+/// Something that bytes are written to. A write may fail.
 pub trait Sink {
     // The bytes that the sink holds, where it tells them.
     ghost written: { Self → Option (List ℕ) };
@@ -17,8 +17,8 @@ pub trait Sink {
     // a write may raise the count and succeed.
     ghost counts_failures_alone: { Bool } = { false };
 
-    /// Appends the bytes. A write that fails has appended some front of them; one of no bytes
-    /// doesn't fail.
+    /// Appends the bytes. A write that fails has appended a front part of them, possibly none. A write of no bytes
+    /// never fails.
     fn write(&mut self, bytes: &[u8]) -> Result<(), Failed>
         ensures written { WritesAll (written self.old) (written self.new) result bytes.now }
         ensures empty { bytes.now ≡ [] → IsOk result }

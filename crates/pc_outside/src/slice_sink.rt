@@ -6,9 +6,9 @@ ghost use Rattle.pc_outside.specs.Writes.{WritesAll};
 use crate::counts::next_count;
 use crate::{Failed, Sink};
 
-/// A sink over a borrowed slice, which it fills from the front. A write whose bytes don't fit behind those that were
-/// written appends those that fit, and fails. The first byte that doesn't fit is held beside the slice, so that what
-/// the sink holds is longer than the slice exactly where a write failed.
+/// A sink over a borrowed slice, which it fills from the front. A write that doesn't fit appends the bytes that fit,
+/// and fails. The first byte that doesn't fit is kept beside the slice, so the sink holds more bytes than the slice
+/// exactly when a write has failed.
 #[derive(Drop)]
 pub struct SliceSink<'a> {
     buffer: &'a mut [u8],
@@ -40,7 +40,7 @@ impl<'a> SliceSink<'a> {
         }
     }
 
-    /// How many bytes were written so far.
+    /// How many bytes have been written.
     pub fn count(&self) -> usize
         ensures { result ≡ length (sink_view self.now).bytes }
     {

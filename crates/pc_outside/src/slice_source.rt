@@ -7,7 +7,7 @@ use crate::memory_source::move_front;
 use crate::{Failed, Source};
 use std::marker::Model;
 
-/// A source over a borrowed slice, whose reads don't fail.
+/// A source over a borrowed slice. Its reads never fail.
 #[derive(Drop)]
 pub struct SliceSource<'a> {
     rest: &'a [u8],
@@ -23,7 +23,7 @@ impl<'a> Model for SliceSource<'a> {
 }
 
 impl<'a> SliceSource<'a> {
-    /// A source that has these bytes left.
+    /// A source with these bytes left.
     pub fn new(bytes: &'a [u8]) -> SliceSource<'a>
         ensures { result ≡ bytes.now }
     {

@@ -5,7 +5,7 @@ ghost use Rattle.pc_outside.specs.Reads.{Moves};
 
 use crate::Failed;
 
-/// What bytes are read from. A read may fail.
+/// Something that bytes are read from. A read may fail.
 pub trait Source {
     // The bytes still to come, where the source tells them.
     ghost left: { Self → Option (List ℕ) };
@@ -17,8 +17,8 @@ pub trait Source {
     // a read may raise the count and succeed.
     ghost counts_failures_alone: { Bool } = { false };
 
-    /// Moves bytes into the front of the buffer and answers how many. Into a buffer that has room
-    /// it moves none only at the end. A read that fails takes no byte.
+    /// Moves bytes into the front of the buffer and returns how many. If the buffer has room, it moves none only at the
+    /// end. A read that fails takes no byte.
     fn read(&mut self, buf: &mut [u8]) -> Result<usize, Failed>
         ensures moved { IfOk result (Moves (left self.old) (left self.new) buf.old buf.new) }
         ensures kept { OnErr result (left self.new ≡ left self.old) }

@@ -5,7 +5,7 @@ ghost use Rattle.well.specs.LockLaws.{is_below};
 
 use srs::{Placement, cells};
 
-/// Whether each cell of a placement inside the well lies in a row below this one.
+/// Whether all cells of a placement inside the well lie below this row.
 pub fn lies_below(placement: &Placement, rows: u8) -> bool
     requires { IsTrue (is_inside_of placement.now) }
     ensures { result ≡ is_below rows placement.now }

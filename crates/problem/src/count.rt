@@ -4,7 +4,7 @@ ghost use Rattle.problem.specs.Problem.{IsFit, needed_of};
 
 use crate::problem::Problem;
 
-/// A quarter of the empty cells below the height, rounded down.
+/// How many placements a solution has: a quarter of the empty cells below the height, rounded down.
 pub fn needed(problem: &Problem) -> u8
     requires { IsFit problem.now }
     ensures { result ≡ needed_of problem.now }

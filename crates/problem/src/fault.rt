@@ -1,14 +1,14 @@
-// What keeps a problem from having a meaning.
+// Why a problem is refused.
 
-/// The first thing that keeps a problem from being fit, in the order of these.
+/// The first condition of a fit problem that fails, in this order.
 #[derive(Clone, Copy, Debug, PartialEq, Eq)]
 pub enum ProblemFault {
     /// The height is not 1 to 8.
     BadHeight { height: u8 },
-    /// The lowest row at or above the height that has a filled cell.
+    /// A cell at or above the height is filled; `row` is the lowest such row.
     FieldTooHigh { row: u8 },
-    /// The lowest row that is full.
+    /// A row is full; `row` is the lowest full row.
     FullRow { row: u8 },
-    /// There are fewer pieces at hand than are needed.
+    /// Fewer pieces are at hand than a solution needs.
     TooFewPieces { have: u8, need: u8 },
 }

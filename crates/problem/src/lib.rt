@@ -1,4 +1,4 @@
-// A problem: a field to clear, the queues to clear it with, and the rules of play; and what its solutions are.
+// A problem: a field to clear, the queues to clear it with, and the rules of play. What its solutions are.
 #![tactic(auto)]
 
 mod below;

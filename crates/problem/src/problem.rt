@@ -12,7 +12,7 @@ use queue_pattern::Pattern;
 use srs::{Piece, Rules};
 use well::Well;
 
-/// A field whose rows below the height are to be removed, the queues of a pattern, and the rules of play.
+/// A field, the height below which its rows are to be removed, the queues of a pattern, and the rules of play.
 #[derive(Clone, Copy)]
 pub struct Problem {
     pub well: Well,
@@ -20,14 +20,14 @@ pub struct Problem {
     pub height: u8,
     pub pattern: Pattern,
     pub hold: Hold,
-    /// The piece held at the start.
+    /// The piece that is held at the start, if any.
     pub held: Option<Piece>,
     pub drop_mode: DropMode,
     pub rules: Rules,
 }
 
-/// Whether the height is 1 to 8, the field has no cell at or above it, and no row is full. The fault is the first of
-/// these that is not so.
+/// Checks a field: the height is 1 to 8, the field has no cell at or above it, and no row is full. The fault is the
+/// first of these that fails.
 pub fn check_field(well: &Well, height: u8) -> Result<(), ProblemFault>
     ensures fit { OnOk result (IsFitField (filled well.now) height) }
     ensures fault { IfErr result (IsFieldFault (filled well.now) height) }
@@ -45,9 +45,9 @@ pub fn check_field(well: &Well, height: u8) -> Result<(), ProblemFault>
 }
 
 impl Problem {
-    /// The problem of these parts, where it is fit: the height is 1 to 8, no cell lies at or above it, no row is full,
-    /// and where the empty cells below the height are a multiple of four, a quarter of them are pieces at hand. The
-    /// fault is the first of these that is not so.
+    /// Makes a problem of these parts if it is fit: the height is 1 to 8, no cell lies at or above it, no row is full,
+    /// and, if the number of empty cells below the height is a multiple of four, at least a quarter of that number of
+    /// pieces are at hand. The fault is the first of these that fails.
     pub fn new(
         well: Well,
         height: u8,
@@ -82,7 +82,7 @@ impl Problem {
         Ok(problem)
     }
 
-    /// The pieces of a queue and, where it may be played, the one held at the start.
+    /// How many pieces are at hand: those of a queue, and the one held at the start if it may be played.
     pub fn pieces_at_hand(&self) -> u8
         ensures { result ≡ pieces_at_hand self.now }
     {
@@ -92,7 +92,7 @@ impl Problem {
         }
     }
 
-    /// Whether a problem of a fit field has enough pieces at hand.
+    /// Checks that a problem with a fit field has enough pieces at hand.
     fn check_pieces(&self) -> Result<(), ProblemFault>
         requires { IsFitField (filled self.now.well) self.now.height }
         ensures fit { OnOk result (IsFit self.now) }

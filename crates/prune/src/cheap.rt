@@ -1,4 +1,4 @@
-// A quick test, by counts of empty cells, that there is no tiling.
+// A quick test by counts of empty cells. It shows that there is no tiling.
 ghost use Rattle.std.specs.Prelude.{◌≡◌, ◌≤◌, IsTrue, ◌↔◌, sum_by};
 ghost use Rattle.srs.specs.Piece.{all_pieces};
 ghost use Rattle.well.specs.Well.{filled};
@@ -7,10 +7,10 @@ ghost use Rattle.prune.specs.Counts.{column_empties, HasUnevenRun, IsRefusedByCo
 
 use well::Well;
 
-/// Whether counts show that the empty cells of rows 0 to `rows_left - 1` have no tiling with at most `supply` pieces of
-/// each kind, in the order of piece codes. It is true exactly where one of three holds: their number is no multiple of
-/// four; it is more than four times the sum of the supply; or some longest run of neighbouring columns that each have
-/// an empty cell has a number of them that is no multiple of four.
+/// Whether counts show that the empty cells of the rows below `rows_left` have no tiling with at most `supply` pieces
+/// of each kind, in the order of piece codes. True exactly if one of three things holds: the number of empty cells is
+/// not a multiple of four; it is more than four times the sum of the supply; or some longest run of neighbouring
+/// columns that each have an empty cell has a number of empty cells that is not a multiple of four.
 pub fn cheap_no(well: &Well, rows_left: u8, supply: &[u8; 7]) -> bool
     requires { rows_left ≤ 8 }
     ensures counts { IsTrue result ↔ IsRefusedByCounts (filled well.now) rows_left (supply_in supply.now) }
@@ -23,7 +23,7 @@ pub fn cheap_no(well: &Well, rows_left: u8, supply: &[u8; 7]) -> bool
     has_uneven_run(well, rows_left)
 }
 
-/// How many pieces of all kinds a supply has, whose entries stand in the order of piece codes.
+/// How many pieces a supply has in all. Its entries stand in the order of piece codes.
 #[tactic(auto, unfolding(crate::specs::Tiling::supply_in))]
 pub fn pieces(supply: &[u8; 7]) -> u16
     ensures number { result ≡ sum_by (supply_in supply.now) all_pieces }
@@ -34,7 +34,7 @@ pub fn pieces(supply: &[u8; 7]) -> u16
 }
 
 /// Whether some longest run of neighbouring columns that each have an empty cell below `rows_left` has a number of
-/// empty cells that is no multiple of four.
+/// empty cells that is not a multiple of four.
 fn has_uneven_run(well: &Well, rows_left: u8) -> bool
     requires { rows_left ≤ 8 }
     ensures { IsTrue result ↔ HasUnevenRun (filled well.now) rows_left }
@@ -54,7 +54,7 @@ fn has_uneven_run(well: &Well, rows_left: u8) -> bool
     run % 4 != 0
 }
 
-/// How many cells of a column are empty in rows 0 to `rows_left - 1`.
+/// How many cells of a column are empty in the rows below `rows_left`.
 pub(crate) fn column_empties(well: &Well, rows_left: u8, x: u8) -> u8
     requires rows { rows_left ≤ 8 }
     requires column { x ≤ 9 }

@@ -1,4 +1,5 @@
-// What can't be packed isn't searched: tilings of the empty cells that are left, quick tests by counts and by walls.
+// What can't be packed isn't searched: tilings of the empty cells that are left, and quick tests by counts and by
+// walls.
 #![tactic(auto)]
 
 mod cheap;

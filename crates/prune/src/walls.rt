@@ -1,4 +1,4 @@
-// A test by walls between columns that there is no tiling.
+// A test by walls between columns. It shows that there is no tiling.
 ghost use Rattle.std.specs.Prelude.{◌≤◌, ◌+◌, IsTrue, ◌↔◌};
 ghost use Rattle.well.specs.Well.{filled};
 ghost use Rattle.prune.specs.Tiling.{Supply, Tiling};
@@ -7,9 +7,9 @@ ghost use Rattle.prune.specs.Walls.{IsWall, HasUnevenPart};
 use crate::cheap::column_empties;
 use well::Well;
 
-/// Whether some columns that stand between two walls have a number of empty cells in rows 0 to `rows_left - 1` that is
-/// no multiple of four. A wall stands between two columns where no row has an empty cell in both, and at each side of
-/// the field. No piece reaches over a wall, so there is no tiling then.
+/// Whether some columns between two walls have a number of empty cells in the rows below `rows_left` that is not a
+/// multiple of four. A wall stands between two columns if no row has an empty cell in both, and at each side of the
+/// field. No piece crosses a wall, so there is no tiling then.
 pub fn has_uneven_part(well: &Well, rows_left: u8) -> bool
     requires { rows_left ≤ 8 }
     ensures exact { IsTrue result ↔ HasUnevenPart (filled well.now) rows_left }
@@ -25,7 +25,7 @@ pub fn has_uneven_part(well: &Well, rows_left: u8) -> bool
     false
 }
 
-/// Whether a wall stands behind a column.
+/// Whether a wall stands to the right of a column.
 fn is_walled(well: &Well, rows_left: u8, x: u8) -> bool
     requires rows { rows_left ≤ 8 }
     requires column { x ≤ 9 }

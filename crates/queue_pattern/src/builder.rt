@@ -1,4 +1,4 @@
-// The elements of a text so far, within the limits of a pattern or past them.
+// The elements that a text has spelled so far, within the limits of a pattern or beyond them.
 ghost use Rattle.std.specs.Prelude.{◌≡◌, ℕ, ◌+◌, ◌<◌, ◌≤◌, ◌++◌, ◌∷◌, [], List, length, IsTrue};
 ghost use Rattle.queue_pattern.specs.Queues.{pieces_in, falling_factor};
 ghost use Rattle.queue_pattern.specs.Sound.{is_sound};
@@ -7,13 +7,13 @@ ghost use Rattle.queue_pattern.specs.declared.element.Element.{Element};
 use crate::element::Element;
 use crate::sets::size;
 
-/// The pieces that each queue may have.
+/// The most pieces that a queue may have.
 pub const MOST_PIECES: u8 = 22;
-/// The queues that a pattern may have.
+/// The most queues that a pattern may have.
 pub const MOST_QUEUES: u32 = 10_000_000;
 
-/// The first 22 elements that were read, and how many pieces and queues all of them make, up to one more than is
-/// allowed.
+/// The first 22 elements of a text, and how many pieces and queues all its elements make. Counting stops at one more
+/// than is allowed.
 #[derive(Clone, Copy)]
 pub struct Builder {
     pub elements: [Element; 22],
@@ -26,7 +26,7 @@ pub struct Builder {
     ghost count_limit: { count ≤ 10000001 },
 }
 
-/// In how many ways so many of this many pieces can be chosen in order.
+/// How many ways there are to choose `chosen` of `pieces` pieces in order.
 fn falling_product(pieces: u8, chosen: u8) -> u64
     requires few { pieces ≤ 7 }
     requires within { chosen ≤ pieces }
@@ -54,7 +54,7 @@ fn choice_count(element: Element) -> u64
 impl Builder {
     ghost use Rattle.queue_pattern.specs.Builder.{Holds};
 
-    /// No elements yet.
+    /// A builder without elements.
     #[tactic(auto, unfolding(crate::specs::Queues::queue_count))]
     pub fn new() -> Builder
         ensures { Holds result [] }
@@ -67,7 +67,7 @@ impl Builder {
         }
     }
 
-    /// One more element.
+    /// Adds one element.
     pub fn add(&mut self, element: Element)
         requires { IsTrue (is_sound element) }
         ensures { (elements : List Element) → Holds self.old elements → Holds self.new (elements ++ element ∷ []) }

@@ -7,10 +7,10 @@ ghost use Rattle.srs.specs.Piece.{piece_code};
 use crate::sets::is_in;
 use srs::Piece;
 
-/// An ordered choice of some different pieces of a set.
+/// An element: an ordered choice of some different pieces of a set.
 #[derive(Clone, Copy, Debug, Default, PartialEq, Eq)]
 pub struct Element {
-    /// Bit `c - 1` is set exactly where the piece with code `c` is in the set.
+    /// Bit `c - 1` is set exactly if the piece with code `c` is in the set.
     pub set: u8,
     /// How many pieces are chosen.
     pub chosen: u8,

@@ -1,16 +1,16 @@
-// What a pattern text is refused for.
+// Why a pattern text is refused.
 
-/// Why a text is no pattern. A `place` is an index of a byte of the text, from 0.
+/// Why a text is not a pattern. A `place` is the index of a byte of the text, from 0.
 #[derive(Clone, Copy, Debug, PartialEq, Eq)]
 pub enum PatternFault {
-    /// A byte that cannot continue any pattern, or the text's end within an element.
+    /// A byte that no pattern can have here, or the text ends within an element.
     Unexpected { place: usize },
-    /// The second of two equal pieces between brackets.
+    /// The same piece stands twice between brackets; the place is that of the second.
     RepeatedPiece { place: usize },
-    /// More pieces are chosen than the set has, or the set is empty; the place is the element's first byte.
+    /// An element chooses more pieces than its set has, or its set is empty. The place is the element's first byte.
     TooManyChosen { place: usize },
-    /// The queues have more than 22 pieces.
+    /// Each queue would have more than 22 pieces.
     PatternTooLong,
-    /// There are more than 10,000,000 queues.
+    /// There would be more than 10,000,000 queues.
     TooManyQueues,
 }

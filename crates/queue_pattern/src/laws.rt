@@ -1,4 +1,4 @@
-// Laws of the definitions: functions with an empty body, whose contract is the law.
+// Laws of the definitions: functions with an empty body whose contract is the law.
 ghost use Rattle.std.specs.Prelude.{◌≡◌, ◌≢◌, ◌↔◌, ℕ, ◌<◌, ◌≤◌, List, Ok, Err, All, length, slice_get};
 ghost use Rattle.std.specs.List.Sorted.{IsStrictlySortedBy};
 ghost use Rattle.lists.specs.Forms.{LeavesForm};
@@ -14,7 +14,7 @@ ghost use Rattle.queue_pattern.specs.Pattern.{elements_of};
 ghost use Rattle.queue_pattern.specs.Queues.{queues, queue_count, queue_len};
 ghost use Rattle.queue_pattern.specs.Spelling.{SpellsElements};
 
-/// The list of queues has as many members as the factors of its elements make.
+/// The number of queues is the product of the numbers of choices of the elements.
 pub fn queues_are_counted()
     ensures { (elements : List Element) → length (queues elements) ≡ queue_count elements }
 {}
@@ -24,20 +24,20 @@ pub fn queues_are_as_long()
     ensures { (elements : List Element) → All (λ queue. length queue ≡ queue_len elements) (queues elements) }
 {}
 
-/// The list of queues rises in the order of queues, so no two of them are equal.
+/// The list of queues rises strictly in the order of queues, so no two of them are equal.
 pub fn queues_rise()
     ensures rising { (elements : List Element) → IsStrictlySortedBy queue_cmp (queues elements) }
     ensures distinct { (elements : List Element) (i j : ℕ) → i < j → j < length (queues elements) →
         slice_get (queues elements) i ≢ slice_get (queues elements) j }
 {}
 
-/// A pattern has a queue, and its queues have at most 22 pieces.
+/// A pattern has at least one queue, and its queues have at most 22 pieces.
 pub fn patterns_are_within_limits()
     ensures some { (pattern : Pattern) → 0 < length (queues (elements_of pattern)) }
     ensures short { (pattern : Pattern) → queue_len (elements_of pattern) ≤ 22 }
 {}
 
-/// A text is read as these elements exactly where it spells them.
+/// A text is read as these elements exactly if it spells them.
 pub fn texts_are_read_as_they_spell()
     ensures { (text : List ℕ) (elements : List Element) →
         (Grammar.elements text ≡ Ok elements) ↔ SpellsElements text elements }
@@ -49,16 +49,16 @@ pub fn texts_without_a_fault_have_a_pattern()
         → (pattern : Pattern) × (elements_of pattern ≡ elements) }
 {}
 
-/// A text is refused exactly by its first fault: an unexpected byte, a piece that is repeated or a choice of too many,
-/// whichever stands first behind whole elements; or else by a limit.
+/// A text is refused exactly by its first fault: an unexpected byte, a repeated piece or a choice of too many,
+/// whichever stands first behind whole elements. If it has none of these, a limit is the fault.
 pub fn texts_are_refused_by_their_first_fault()
     ensures { (text : List ℕ) (fault : PatternFault) →
         (Grammar.limited (Grammar.elements text) ≡ Err fault) ↔ IsPatternFault text fault }
 {}
 
-/// Unexpected is the fault of a text exactly at the first byte that no pattern text goes on with, whatever pieces are
-/// listed and chosen, or at its end where it ends within an element, where what stands before are whole elements and
-/// the beginning of one.
+/// Unexpected is a text's fault exactly at the first byte with which no pattern text goes on, whatever pieces are
+/// listed and chosen, or at its end if it ends within an element. Whole elements and the beginning of one stand before
+/// it.
 pub fn unexpected_bytes_leave_the_form()
     ensures exact { (text : List ℕ) (place : ℕ) →
         (Grammar.elements text ≡ Err (Unexpected place)) ↔ IsUnexpectedAt text place }

@@ -13,11 +13,11 @@ use crate::text::next_element;
 use arrayvec::ArrayVec;
 use srs::Piece;
 
-/// A queue of at most 22 pieces, the first piece first.
+/// A queue of at most 22 pieces, first piece first.
 pub type Queue = ArrayVec<Piece, 22>;
 
-/// A list of elements. Its queues are all joined choices, one for each element: at most 22 pieces in each, and at most
-/// 10,000,000 queues.
+/// A list of elements. Each of its queues joins one choice of each element. A queue has at most 22 pieces, and there
+/// are at most 10,000,000 queues.
 #[derive(Clone, Copy)]
 pub struct Pattern {
     elements: [Element; 22],
@@ -56,7 +56,7 @@ impl Pattern {
         Pattern::within_limits(builder)
     }
 
-    /// The pattern with one queue: each piece is an element.
+    /// The pattern that stands for one queue: each piece is an element.
     pub fn from_queue(queue: &Queue) -> Pattern
         ensures { elements_of result ≡ map (λ piece. record { set = set_of piece; chosen = 1 }) queue.now.items }
     {
@@ -71,7 +71,7 @@ impl Pattern {
         }
     }
 
-    /// The pattern of a builder, where its elements are within the limits.
+    /// The pattern of a builder, if its elements are within the limits.
     #[tactic(auto, unfolding(crate::specs::Pattern::elements_of))]
     fn within_limits(builder: Builder) -> Result<Pattern, PatternFault>
         requires { (elements : List Element) × Holds builder elements }
@@ -114,7 +114,7 @@ impl Pattern {
         self.pieces
     }
 
-    /// The queue with this number, from 0.
+    /// The queue with this number, counted from 0.
     pub fn queue(&self, index: u32) -> Queue
         requires { index < length (queues (elements_of self.now)) }
         ensures { slice_get (queues (elements_of self.now)) index ≡ Some result.items }
@@ -144,7 +144,7 @@ impl Pattern {
         self.number
     }
 
-    /// The element with this number, from 0.
+    /// The element with this number, counted from 0.
     #[tactic(auto, unfolding(crate::specs::Pattern::elements_of))]
     pub fn element(&self, index: u8) -> Element
         requires { index < length (elements_of self.now) }

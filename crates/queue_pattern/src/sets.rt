@@ -1,4 +1,4 @@
-// Sets of pieces, as bits: bit `c - 1` for the piece with code `c`.
+// Sets of pieces as bits: bit `c - 1` stands for the piece with code `c`.
 ghost use Rattle.std.specs.Prelude.{◌≡◌, ℕ, ◌-◌, ◌<◌, ◌≤◌, ◌==◌, length, IsTrue, Some, slice_get};
 ghost use Rattle.std.specs.Int.{bit_at};
 ghost use Rattle.srs.specs.Piece.{piece_code};
@@ -17,7 +17,7 @@ pub fn is_in(piece: Piece, set: u8) -> bool
     set >> (piece.code() - 1) & 1 == 1
 }
 
-/// The set of one piece.
+/// The set with one piece.
 pub fn set_of_one(piece: Piece) -> u8
     ensures { result ≡ set_of piece }
 {
@@ -36,7 +36,7 @@ pub fn size(set: u8) -> u8
         .count() as u8
 }
 
-/// The set without one of its pieces.
+/// The set without this piece, which it has.
 pub fn without(set: u8, piece: Piece) -> u8
     requires { set < 128 }
     ensures rest { pieces_in result ≡ others piece (pieces_in set) }
@@ -45,7 +45,7 @@ pub fn without(set: u8, piece: Piece) -> u8
     set & !set_of_one(piece)
 }
 
-/// The piece of a set with this number, from 0, in the order of codes.
+/// The piece of a set with this number, counted from 0 in the order of codes.
 pub fn nth(set: u8, number: u32) -> Piece
     requires { number < length (pieces_in set) }
     ensures { slice_get (pieces_in set) number ≡ Some result }

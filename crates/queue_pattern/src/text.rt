@@ -28,7 +28,7 @@ fn choice(start: usize, set: u8, chosen: u8) -> Result<Element, PatternFault>
     Ok(Element { set, chosen })
 }
 
-/// The set that brackets stand for: what they list, or with `^` all else.
+/// The set that brackets stand for: what they list or, after `^`, every other piece.
 fn bracketed(except: bool, listed: u8) -> u8
     requires { listed < 128 }
     ensures value { result ≡ Grammar.bracketed except listed }
@@ -37,7 +37,7 @@ fn bracketed(except: bool, listed: u8) -> u8
     if except { ALL - listed } else { listed }
 }
 
-/// What stands between brackets, of which the first is before `place`.
+/// The pieces that are listed between brackets, the first of which stands before `place`.
 fn listed_set(
     text: &[u8],
     start: usize,
@@ -75,14 +75,14 @@ fn set_in_brackets(text: &[u8], start: usize) -> Result<(u8, usize), PatternFaul
     }
 }
 
-/// The byte at a place, or 0 past the text's end.
+/// The byte at a place, or 0 past the end of the text.
 fn byte_at(text: &[u8], place: usize) -> u8
     ensures { result ≡ slice_index text.now place }
 {
     text.get(place).copied().unwrap_or(0)
 }
 
-/// How many pieces are chosen of a set that ends before `place`, and the place after what says so.
+/// How many pieces are chosen of a set that ends before `place`, and the place after that count.
 fn chosen_after(text: &[u8], set: u8, place: usize) -> Result<(u8, usize), PatternFault>
     requires { place ≤ length text.now }
     ensures chosen { IsChosen text.now set place result }
@@ -119,7 +119,7 @@ fn chosen_element(
     Ok((element, after))
 }
 
-/// The element that begins at `start` with this byte, which is no gap, and the place after it.
+/// The element that begins at `start` with this byte, which is not a gap, and the place after it.
 fn element_from(text: &[u8], start: usize) -> Result<(Element, usize), PatternFault>
     requires within { start < length text.now }
     requires no_gap { is_gap (slice_index text.now start) ≡ false }
@@ -153,7 +153,7 @@ fn is_gap(byte: u8) -> bool
     matches!(byte, b' ' | b'\t' | b',')
 }
 
-/// The first element from `place` on, and the place after it; `None` where only gaps are left.
+/// The first element from `place` on, and the place after it. `None` if only gaps are left.
 pub fn next_element(text: &[u8], place: usize) -> Result<Option<(Element, usize)>, PatternFault>
     requires { place ≤ length text.now }
     ensures found { IsNext text.now place result }

@@ -23,8 +23,8 @@ use srs::{Piece, Rules};
 use std::sync::ledger::Ledger;
 use well::Well;
 
-/// The canonical placements of a piece with the cells of the rest of some state to which allowed keys lead from the
-/// spawn; none where the spawn is not free. Adds one step.
+/// The places of a piece: its canonical placements with the cells in which some state comes to rest that allowed keys
+/// lead to from the spawn. There are none if the spawn is not free. Counts one flood.
 pub fn places<L: Ledger>(
     well: &Well,
     rules: &Rules,
@@ -41,7 +41,7 @@ pub fn places<L: Ledger>(
     places_where(well, rules, srs, piece, drop_mode, steps)
 }
 
-/// The same placements. `srs` is true at most where all offsets of the piece are those of the Super Rotation System.
+/// The same places. `srs` may be true only if all offsets of the piece are those of the Super Rotation System.
 pub(crate) fn places_where<L: Ledger>(
     well: &Well,
     rules: &Rules,
@@ -61,7 +61,7 @@ pub(crate) fn places_where<L: Ledger>(
     Places::of_states(piece, &held)
 }
 
-/// The pivots of these placements.
+/// The pivots of these places.
 pub(crate) fn pivots_where(
     well: &Well,
     rules: &Rules,
@@ -79,15 +79,15 @@ pub(crate) fn pivots_where(
     whole_places(&filled, rules, piece, drop_mode)
 }
 
-/// Whether no cell lies at or above row 8, as `window_places` requires.
+/// Whether all cells lie below row 8, as `window_places` requires.
 pub fn is_low(well: &Well) -> bool
     ensures { IsTrue result ↔ IsClearFrom 8 (filled well.now) }
 {
     is_clear_from(&well.board(), 8)
 }
 
-/// The same placements by the Super Rotation System, where no cell lies at or above row 8: those to which allowed keys
-/// lead within rows 0 to 15 from two to four rows above all cells. Adds one step.
+/// The same places by the Super Rotation System, if all cells lie below row 8. Keys lead to them within rows 0 to 15,
+/// from two to four rows above all cells. Counts one flood.
 pub fn window_places<L: Ledger>(
     well: &Well,
     piece: Piece,

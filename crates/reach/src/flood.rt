@@ -1,4 +1,4 @@
-// The flood: from a set of states to all that allowed keys reach from it.
+// The flood: from a set of states to all states that allowed keys lead to.
 ghost use Rattle.std.specs.Prelude.{◌≡◌, ◌⊎◌, ℕ};
 ghost use Rattle.lane_board.specs.Field.{empty_field, union};
 ghost use Rattle.srs.specs.Rotation.{clockwise_of, anticlockwise_of};
@@ -15,8 +15,8 @@ use crate::turn::turned;
 use moves::DropMode;
 use srs::{Piece, Rotation, Rules};
 
-/// All states to which allowed keys lead from the start states, where the free states are given. A rotation is visited
-/// again only where its states have changed.
+/// All states that allowed keys lead to from the start states, given the free states. A rotation is visited again only
+/// if its states have changed.
 pub(crate) fn flood<const N: usize>(
     free: &Pivots<N>,
     rules: &Rules,
@@ -36,7 +36,7 @@ pub(crate) fn flood<const N: usize>(
     reached
 }
 
-/// The states with all that single moves and then a quarter turn reach from those in one rotation.
+/// The states, plus all that single moves within one rotation and then a quarter turn lead to.
 fn settle<const N: usize>(
     free: &Pivots<N>,
     rules: &Rules,
@@ -71,7 +71,7 @@ fn shifts(mode: DropMode) -> Shifts
     }
 }
 
-/// The states with those that a quarter turn reaches from the states in one rotation.
+/// The states, plus those that a quarter turn leads to from the states in one rotation.
 fn turn<const N: usize>(
     free: &Pivots<N>,
     rules: &Rules,

@@ -1,4 +1,4 @@
-// Rules of kicks for many floods.
+// Kick rules, prepared for many floods.
 ghost use Rattle.std.specs.Prelude.{◌≡◌, ◌-◌, ◌↔◌, IsTrue, false, length, slice_index_or};
 ghost use Rattle.srs.specs.declared.piece.Piece.{Piece};
 ghost use Rattle.srs.specs.Kick.{srs_table};
@@ -15,11 +15,11 @@ use srs::{Piece, Rules};
 use std::sync::ledger::Ledger;
 use well::Well;
 
-/// Rules of kicks, and for which pieces they are those of the Super Rotation System: looked at once for many floods.
+/// Kick rules, and for which pieces they are those of the Super Rotation System. This is tested once for many floods.
 #[derive(Clone, Copy)]
 pub struct FloodRules {
     rules: Rules,
-    /// Whether all offsets of each piece are, in the order of codes.
+    /// For each piece, in the order of codes, whether all its offsets are those of the Super Rotation System.
     srs: [bool; 7],
     ghost seven: { length srs ≡ 7 },
     ghost known: { (piece : Piece) → IsTrue (slice_index_or srs (piece_code piece - 1) false)
@@ -36,7 +36,7 @@ impl FloodRules {
     ghost use Rattle.reach.specs.Places.{holds, piece_of};
 
     #[tactic(auto, unfolding(crate::specs::FloodRules::flood_table))]
-    /// These rules.
+    /// Prepares these rules.
     pub fn new(rules: &Rules) -> FloodRules
         ensures { flood_table result ≡ table_of rules.now }
     {
@@ -62,7 +62,7 @@ impl FloodRules {
     }
 
     #[tactic(auto, unfolding(crate::specs::FloodRules::flood_table))]
-    /// The places that `places` gives by these rules. Adds one step.
+    /// The places that `places` gives by these rules. Counts one flood.
     pub fn places<L: Ledger>(
         &self,
         well: &Well,
@@ -80,8 +80,8 @@ impl FloodRules {
     }
 
     #[tactic(auto, unfolding(crate::specs::FloodRules::flood_table))]
-    /// Floods, and makes these the places that `places` gives whose cells all lie in rows below the given one. Adds one
-    /// step.
+    /// Floods, and sets `held` to the places that `places` gives whose cells all lie below row `rows`. Counts one
+    /// flood.
     pub fn flood_below<L: Ledger>(
         &self,
         well: &Well,

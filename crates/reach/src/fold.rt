@@ -7,7 +7,7 @@ ghost use Rattle.reach.specs.States.{states_of};
 use crate::pivots::Pivots;
 use srs::{Piece, Placement, Rotation, canonical};
 
-/// The canonical placements with the cells of these states.
+/// The canonical placements that have the cells of these states.
 #[tactic(auto, unfolding(crate::specs::Folded::folded))]
 pub(crate) fn folded<const N: usize>(piece: Piece, states: &Pivots<N>) -> Pivots<N>
     ensures { states_of result ≡ folded piece N (states_of states.now) }
@@ -20,7 +20,7 @@ pub(crate) fn folded<const N: usize>(piece: Piece, states: &Pivots<N>) -> Pivots
 }
 
 #[tactic(auto, unfolding(crate::specs::Folded::folded_with))]
-/// The placements with those that have the cells of the states in one rotation.
+/// The placements, plus those with the cells of the states in one rotation.
 fn folded_with<const N: usize>(
     piece: Piece,
     states: &Pivots<N>,
@@ -34,7 +34,7 @@ fn folded_with<const N: usize>(
     held.with(to, &held.board(to).or(&moved))
 }
 
-/// The earliest rotation in which the piece can have the cells of this one, and what its pivot moves by.
+/// The earliest rotation in which the piece can have the cells of this one, and how far its pivot moves for that.
 fn canonical_change(piece: Piece, rotation: Rotation) -> (Rotation, (i8, i8))
     ensures rotation { result.0 ≡ canonical_rotation piece rotation }
     ensures pivot { result.1 ≡ canonical_move piece rotation }
@@ -51,7 +51,7 @@ fn canonical_change(piece: Piece, rotation: Rotation) -> (Rotation, (i8, i8))
     )
 }
 
-/// Four less.
+/// The number minus four.
 fn less_four(number: u8) -> i8
     requires { number ≤ 8 }
     ensures { result ≡ pos number -ℤ pos 4 }

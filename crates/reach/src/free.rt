@@ -1,4 +1,4 @@
-// The states of a piece that a field leaves free.
+// The free states of a piece in a field.
 ghost use Rattle.std.specs.Prelude.{◌≡◌, pos, ◌≤ℤ◌, IsTrue};
 ghost use Rattle.std.specs.List.{list_all};
 ghost use Rattle.lane_board.specs.Board.{field_of};
@@ -11,7 +11,7 @@ use crate::pivots::Pivots;
 use lane_board::LaneBoard;
 use srs::{Piece, Placement, Rotation, cells};
 
-/// The states of a piece whose cells lie in the well and on no filled cell.
+/// The states of a piece whose cells all lie in the well and are not filled.
 pub(crate) fn free_states(filled: &LaneBoard<24>, piece: Piece) -> Pivots<24>
     ensures { IsFreeMap (field_of filled.now) piece (states_of result) }
 {
@@ -23,8 +23,8 @@ pub(crate) fn free_states(filled: &LaneBoard<24>, piece: Piece) -> Pivots<24>
     }
 }
 
-/// The pivots, as columns and rows of a board, at which the cells of a piece in a rotation lie in the well and on no
-/// filled cell.
+/// The pivots at which a piece in a rotation is free: its cells all lie in the well and are not filled. The board's
+/// columns and rows are those of the pivots.
 pub fn free_pivots(filled: &LaneBoard<24>, piece: Piece, rotation: Rotation) -> LaneBoard<24>
     ensures { AreFreePivots (field_of filled.now) piece rotation (field_of result) }
 {
@@ -44,7 +44,7 @@ fn blank_pivots(blank: &LaneBoard<24>, piece: Piece, rotation: Rotation) -> Lane
     opened(blank, d, &third)
 }
 
-/// The offsets of the four cells of a piece from its pivot: its cells where the pivot is in column 0 and row 0.
+/// The offsets of the four cells of a piece from its pivot, which are its cells if the pivot is in column 0 and row 0.
 fn offsets(piece: Piece, rotation: Rotation) -> [(i8, i8); 4]
     ensures shape { result ≡ shape piece rotation }
     ensures near { IsTrue (list_all is_near result) }
@@ -57,7 +57,7 @@ fn offsets(piece: Piece, rotation: Rotation) -> [(i8, i8); 4]
     })
 }
 
-/// Those of the pivots that have a blank cell at the offset.
+/// The pivots among these with a blank cell at the offset.
 #[tactic(auto, unfolding(crate::specs::Opened::opened))]
 #[inline(always)]
 fn opened(blank: &LaneBoard<24>, offset: (i8, i8), pivots: &LaneBoard<24>) -> LaneBoard<24>

@@ -1,5 +1,5 @@
-// The places of a hard drop: the resting states under an open sky, with no flood. `KIND` numbers the copies that are
-// compiled, as in `soft`.
+// The places of a hard drop: the resting states under an open sky. They need no flood. `KIND` numbers the compiled
+// copies, as in `soft`.
 ghost use Rattle.std.specs.Prelude.{◌≡◌, ◌≤ℤ◌, pos, neg_ℤ};
 ghost use Rattle.lane_board.specs.Board.{field_of};
 ghost use Rattle.srs.specs.Cells.{shape};
@@ -12,7 +12,7 @@ use crate::pivots::Pivots;
 use lane_board::LaneBoard;
 use srs::{Piece, Rotation};
 
-/// The canonical placements with the cells of resting states under an open sky.
+/// The canonical placements that have the cells of resting states under an open sky.
 pub(crate) fn hard_places<const KIND: u8, const N: usize>(
     filled: &LaneBoard<N>,
     piece: Piece,
@@ -73,7 +73,7 @@ pub(crate) fn lane_pivots<const N: usize>(
     places.resized::<24>().moved(0, rows)
 }
 
-/// By how many rows the pivot lies above the lowest cell.
+/// How many rows the pivot lies above the lowest cell.
 #[inline(always)]
 fn rows_over_lane(piece: Piece, rotation: Rotation) -> i8
     ensures rows { result ≡ neg_ℤ (lowest (shape piece rotation)) }

@@ -1,4 +1,4 @@
-// The placements that a flood holds.
+// The placements that a flood found.
 ghost use Rattle.std.specs.Prelude.{◌≡◌};
 
 use crate::numbers::Numbers;
@@ -7,7 +7,7 @@ use crate::scan::{first_state, state_with};
 use crate::tops::rows_left;
 use srs::{Piece, Placement};
 
-/// The canonical placements of one piece that a flood reached.
+/// The canonical placements of one piece that a flood found.
 #[derive(Clone, Copy)]
 pub struct Places {
     piece: Piece,
@@ -36,7 +36,7 @@ impl Places {
         }
     }
 
-    /// No placement of a piece.
+    /// The empty set of placements of a piece.
     pub fn none(piece: Piece) -> Places
         ensures piece { piece_of result ≡ piece }
         ensures held { (q : Placement) → holds result q ≡ false }
@@ -47,7 +47,7 @@ impl Places {
         }
     }
 
-    /// Makes them the placements of a piece with these pivots whose cells all lie in rows below the given one.
+    /// Sets these to the placements of a piece with the given pivots whose cells all lie below row `rows`.
     #[inline(always)]
     pub(crate) fn fill(&mut self, piece: Piece, states: &Pivots<24>, rows: u8)
         ensures piece { piece_of self.new ≡ piece }
@@ -59,14 +59,15 @@ impl Places {
     }
 
     #[tactic(auto, unfolding(crate::specs::Places::holds))]
-    /// Whether they hold a placement.
+    /// Whether the placement is one of these.
     pub fn contains(&self, placement: &Placement) -> bool
         ensures { result ≡ holds self.now placement.now }
     {
         placement.piece.code() == self.piece.code() && self.numbers.has(placement)
     }
 
-    /// The least held placement above the bound, or the least of all. `None` exactly where there is none.
+    /// The least of these placements above the bound, or the least of all if there is no bound. `None` exactly if there
+    /// is none.
     pub fn next_after(&self, bound: Option<&Placement>) -> Option<Placement>
         requires { IfSome (option_copied bound) (λ q. q.piece ≡ piece_of self.now) }
         ensures { IsNextAbove placement_cmp (λ q. IsTrue (holds self.now q)) (option_copied bound.entry) result }
@@ -83,7 +84,7 @@ impl Places {
         }
     }
 
-    /// Takes out the least placement. `None` exactly where none is held.
+    /// Removes the least placement and returns it. `None` exactly if there is none.
     pub fn take_least(&mut self) -> Option<Placement>
         ensures piece { piece_of self.new ≡ piece_of self.old }
         ensures least { IsNextAbove placement_cmp (λ q. IsTrue (holds self.old q)) None result }
@@ -95,7 +96,7 @@ impl Places {
         }
     }
 
-    /// Those of the placements whose cells all lie in rows below the given one.
+    /// The placements among these whose cells all lie below row `rows`.
     pub fn below(&self, rows: u8) -> Places
         ensures piece { piece_of result ≡ piece_of self.now }
         ensures held { (q : Placement) → IsTrue (holds result q)

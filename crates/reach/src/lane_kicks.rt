@@ -1,4 +1,4 @@
-// What the tests of a turn move a place on lanes by, under the Super Rotation System.
+// How far the tests of a turn move a place on lanes, under the Super Rotation System.
 ghost use Rattle.std.specs.Prelude.{◌≡◌, ◌≤◌, ◌≤ℤ◌, pos};
 ghost use Rattle.srs.specs.Canonical.{canonical_move};
 ghost use Rattle.srs.specs.Cells.{minus, shape};
@@ -8,7 +8,7 @@ ghost use Rattle.reach.specs.LaneTurns.{lane_move};
 
 use srs::{Piece, Rotation};
 
-/// What test 1 to 5 of a turn moves the place of a state by: the column of its canonical pivot, and its lane.
+/// How far test 1 to 5 of a turn moves the place of a state: by columns of its canonical pivot, and by lanes.
 #[inline(always)]
 pub(crate) fn lane_kick(piece: Piece, from: Rotation, to: Rotation, test: u8) -> (i8, i8)
     requires first { 1 ≤ test }
@@ -26,7 +26,7 @@ pub(crate) fn lane_kick(piece: Piece, from: Rotation, to: Rotation, test: u8) ->
     (left_x - reached_x + dx, left_y - reached_y + dy)
 }
 
-/// The offset of the Super Rotation System for test 1 to 5.
+/// The offset of the Super Rotation System for test 1 to 5 of a turn.
 #[inline(always)]
 pub(crate) fn srs_offset(piece: Piece, rotation: Rotation, test: u8) -> (i8, i8)
     requires first { 1 ≤ test }
@@ -55,7 +55,7 @@ pub(crate) fn srs_offset(piece: Piece, rotation: Rotation, test: u8) -> (i8, i8)
     }
 }
 
-/// By how many columns the canonical pivot lies to the right of the pivot.
+/// How many columns the canonical pivot lies to the right of the pivot.
 #[inline(always)]
 fn canonical_columns(piece: Piece, rotation: Rotation) -> i8
     ensures columns { result ≡ (canonical_move piece rotation).0 }
@@ -70,7 +70,7 @@ fn canonical_columns(piece: Piece, rotation: Rotation) -> i8
     }
 }
 
-/// By how many rows the lowest cell lies above the pivot.
+/// How many rows the lowest cell lies above the pivot.
 #[inline(always)]
 fn lowest_row(piece: Piece, rotation: Rotation) -> i8
     ensures rows { result ≡ lowest (shape piece rotation) }

@@ -1,4 +1,4 @@
-// The places of a rotation on lanes: the free ones, those under an open sky, and those at rest.
+// The places of a rotation on lanes: free ones, ones under an open sky, and ones at rest.
 ghost use Rattle.std.specs.Prelude.{◌≡◌, ◌≤◌, IsTrue};
 ghost use Rattle.std.specs.List.{list_all};
 ghost use Rattle.lane_board.specs.Board.{field_of};
@@ -12,7 +12,7 @@ use crate::lane_shapes::lane_cells;
 use lane_board::LaneBoard;
 use srs::{Piece, Rotation};
 
-/// The places in whose column the piece fits.
+/// The places in columns in which the piece fits.
 #[tactic(auto, using(crate::proofs::LaneMaps::fitting_inside))]
 #[inline(always)]
 pub(crate) fn inside_lanes<const N: usize>(piece: Piece, rotation: Rotation) -> LaneBoard<N>
@@ -22,7 +22,7 @@ pub(crate) fn inside_lanes<const N: usize>(piece: Piece, rotation: Rotation) -> 
     fitting_all(piece, rotation)
 }
 
-/// The places from whose column each offset of the piece leads to a column of the well.
+/// The places in columns from which each offset of the piece leads to a column of the well.
 #[tactic(auto, unfolding(crate::specs::LaneMap::fitting_all))]
 #[inline(always)]
 fn fitting_all<const N: usize>(piece: Piece, rotation: Rotation) -> LaneBoard<N>
@@ -37,7 +37,8 @@ fn fitting_all<const N: usize>(piece: Piece, rotation: Rotation) -> LaneBoard<N>
     fitting(&all, d, &third)
 }
 
-/// Those of the places from whose column the offset leads to a column of the well. The board of all cells is given.
+/// The places among these in columns from which the offset leads to a column of the well. `all` is the board of all
+/// cells.
 #[tactic(auto, unfolding(crate::specs::LaneMap::fitting))]
 #[inline(always)]
 fn fitting<const N: usize>(
@@ -52,7 +53,7 @@ fn fitting<const N: usize>(
     places.and(&all.moved(0 - offset.0, 0))
 }
 
-/// The places at which no cell of the piece is outside the columns or filled.
+/// The places at which all cells of the piece are inside the columns and none is filled.
 #[tactic(auto, unfolding(crate::specs::LaneMap::free_lanes))]
 #[inline(always)]
 pub(crate) fn free_lanes<const N: usize>(
@@ -65,7 +66,7 @@ pub(crate) fn free_lanes<const N: usize>(
     inside_lanes(piece, rotation).minus(&hit_all(filled, piece, rotation))
 }
 
-/// The places from which an offset of the piece leads to a filled cell.
+/// The places from which some offset of the piece leads to a filled cell.
 #[tactic(auto, unfolding(crate::specs::LaneMap::hit_all))]
 #[inline(always)]
 fn hit_all<const N: usize>(filled: &LaneBoard<N>, piece: Piece, rotation: Rotation) -> LaneBoard<N>
@@ -78,7 +79,7 @@ fn hit_all<const N: usize>(filled: &LaneBoard<N>, piece: Piece, rotation: Rotati
     hit(filled, d, &third)
 }
 
-/// The places, and those from which the offset leads to a filled cell.
+/// The places, plus those from which the offset leads to a filled cell.
 #[tactic(auto, unfolding(crate::specs::LaneMap::hit))]
 #[inline(always)]
 fn hit<const N: usize>(
@@ -92,7 +93,7 @@ fn hit<const N: usize>(
     places.or(&filled.moved(0 - offset.0, 0 - offset.1))
 }
 
-/// The places of the columns that fit with none blocked at or above them, where the free ones are given.
+/// Given the free places: the places in columns that fit with no blocked place at or above them.
 #[tactic(auto, unfolding(crate::specs::SkyBoard::sky_board))]
 #[inline(always)]
 pub(crate) fn sky_board<const N: usize>(
@@ -110,7 +111,7 @@ pub(crate) fn sky_board<const N: usize>(
     inside.minus(&eight)
 }
 
-/// The places, and the same so many rows lower.
+/// The places, plus the same places `rows` rows lower.
 #[tactic(auto, unfolding(crate::specs::SkyBoard::with_lower))]
 #[inline(always)]
 fn with_lower<const N: usize>(places: &LaneBoard<N>, rows: u8) -> LaneBoard<N>
@@ -120,7 +121,7 @@ fn with_lower<const N: usize>(places: &LaneBoard<N>, rows: u8) -> LaneBoard<N>
     places.or(&places.moved(0, 0 - rows as i8))
 }
 
-/// Those of the places with no free one below.
+/// The places among these with no free place just below.
 #[tactic(auto, unfolding(crate::specs::LaneMap::resting_lanes))]
 #[inline(always)]
 pub(crate) fn resting_lanes<const N: usize>(

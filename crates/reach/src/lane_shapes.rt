@@ -1,11 +1,11 @@
-// The shapes of the Super Rotation System, from the lowest cell on.
+// The shapes of the Super Rotation System, counted from the lowest cell.
 ghost use Rattle.std.specs.Prelude.{◌≡◌, IsTrue};
 ghost use Rattle.std.specs.List.{list_all};
 ghost use Rattle.reach.specs.LaneShapes.{lane_cells, is_near_lane};
 
 use srs::{Piece, Rotation};
 
-/// The four cells of a piece in a rotation, from the column of its pivot and the row of its lowest cell.
+/// The four cells of a piece in a rotation, counted from the column of its pivot and the row of its lowest cell.
 #[inline(always)]
 pub(crate) fn lane_cells(piece: Piece, rotation: Rotation) -> [(i8, i8); 4]
     ensures cells { result ≡ lane_cells piece rotation }

@@ -1,4 +1,4 @@
-// A quarter turn of places on lanes. `KIND`, `TO` and `CLOCKWISE` number the copies that are compiled, as in `soft`.
+// A quarter turn of places on lanes. `KIND`, `TO` and `CLOCKWISE` number the compiled copies, as in `soft`.
 ghost use Rattle.std.specs.Prelude.{◌≡◌, ◌-◌, ◌≤ℤ◌, pos, IsTrue};
 ghost use Rattle.lane_board.specs.Board.{field_of};
 ghost use Rattle.lane_board.specs.Field.{empty_field, difference, intersection, union, moved_within};
@@ -13,8 +13,8 @@ use crate::lane_map::inside_lanes;
 use lane_board::LaneBoard;
 use srs::{Piece, Rotation};
 
-/// The places to which a quarter turn leads, each by the first test that succeeds. The free places of the rotation that
-/// is turned to are given.
+/// The places that a quarter turn leads to, each by the first test that succeeds. `free` are the free places of the new
+/// rotation.
 #[inline(always)]
 pub(crate) fn arrivals<const KIND: u8, const TO: u8, const CLOCKWISE: bool, const N: usize>(
     piece: Piece,
@@ -59,14 +59,14 @@ pub(crate) fn arrivals<const KIND: u8, const TO: u8, const CLOCKWISE: bool, cons
     .reached
 }
 
-/// The places that a test leaves to the next ones, and those that are reached.
+/// The places that a test leaves to the next test, and the places that are reached.
 #[derive(Clone, Copy)]
 struct Turning<const N: usize> {
     left: LaneBoard<N>,
     reached: LaneBoard<N>,
 }
 
-/// One test: the places from which the move leads to an open place go there.
+/// One test: each place from which the move leads to an open place goes there.
 #[inline(always)]
 fn tested<const N: usize>(
     free: &LaneBoard<N>,
@@ -94,7 +94,7 @@ fn tested<const N: usize>(
     }
 }
 
-/// The places from which the move leads to a free place, or above the lanes in a column that fits.
+/// The places from which the move leads to a free place, or to a place above the lanes in a column that fits.
 #[tactic(auto, unfolding(crate::specs::LaneTests::opening))]
 #[inline(always)]
 fn opening<const N: usize>(
@@ -113,7 +113,7 @@ fn opening<const N: usize>(
     free.moved(0 - change.0, 0 - change.1).or(&above)
 }
 
-/// How many lanes a move by so many rows leaves on the board.
+/// How many lanes stay on the board when places move by this many rows.
 #[inline(always)]
 fn lanes_staying<const N: usize>(rows: i8) -> u8
     requires lanes { IsTrue (is_lane_count N) }

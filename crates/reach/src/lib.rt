@@ -1,4 +1,4 @@
-// Floods: the placements that legal keys reach, and the counter of floods.
+// Floods: the placements that legal keys lead to, and the counter of floods.
 #![tactic(auto)]
 
 mod find;

@@ -1,4 +1,4 @@
-// Places in fields of few rows, under the Super Rotation System: a board of eight or sixteen lanes is enough.
+// Places in low fields under the Super Rotation System: a board of eight or sixteen lanes is enough.
 ghost use Rattle.std.specs.Prelude.{◌≡◌, ◌-◌, ◌≤◌, ◌↔◌, IsTrue};
 ghost use Rattle.lane_board.specs.Board.{field_of};
 ghost use Rattle.srs.specs.Kick.{srs_table};
@@ -15,7 +15,7 @@ use lane_board::LaneBoard;
 use moves::DropMode;
 use srs::Piece;
 
-/// The places of a piece, where no cell lies at or above row 8.
+/// The places of a piece, if all cells lie below row 8.
 pub(crate) fn low_places(filled: &LaneBoard<24>, piece: Piece, drop_mode: DropMode) -> Pivots<24>
     requires { IsClearFrom 8 (field_of filled.now) }
     ensures { ArePlaces srs_table (field_of filled.now) drop_mode piece (states_of result) }
@@ -65,8 +65,8 @@ fn low_hard_places(filled: &LaneBoard<24>, piece: Piece) -> Pivots<24>
     hard_copies(&filled.resized::<16>(), piece)
 }
 
-/// The canonical placements with the cells of resting states under an open sky, by the copy that is compiled for the
-/// piece.
+/// The places of a hard drop on lanes, by the copy that is compiled for the piece: the canonical placements that have
+/// the cells of resting states under an open sky.
 fn hard_copies<const N: usize>(filled: &LaneBoard<N>, piece: Piece) -> Pivots<24>
     ensures { states_of result ≡ hard_board piece N (field_of filled.now) }
 {
@@ -81,7 +81,7 @@ fn hard_copies<const N: usize>(filled: &LaneBoard<N>, piece: Piece) -> Pivots<24
     }
 }
 
-/// Whether no cell lies in a row or above.
+/// Whether no cell lies at or above a row.
 #[inline(always)]
 pub(crate) fn is_clear_from(filled: &LaneBoard<24>, row: u8) -> bool
     requires { row ≤ 24 }

@@ -11,21 +11,21 @@ use srs::Placement;
 /// How many words of 64 bits a set has.
 const WORDS: usize = 24;
 
-/// How many of them are for each rotation.
+/// How many of these words each rotation has.
 const EACH: usize = 6;
 
-/// A set of numbers below 1,536: bit `k` of word `w` is for the number `64 w + k`.
+/// A set of numbers below 1,536: bit `k` of word `w` stands for the number `64 w + k`.
 #[derive(Clone, Copy)]
 pub(crate) struct Numbers {
     words: [u64; WORDS],
-    /// Bit `w` is set wherever word `w` has a bit.
+    /// Bit `w` is set if word `w` has a bit.
     in_use: u64,
     ghost size: { length words ≡ 24 },
     ghost few: { (w : ℕ) → w < 64 → has_bit in_use w ≡ true → w < 24 },
     ghost none_else: { (w : ℕ) → w < 24 → has_bit in_use w ≡ false → slice_index words w ≡ 0 },
 }
 
-/// The first so many words of each rotation, as bits.
+/// The first `count` words of each rotation, as bits.
 #[inline(always)]
 fn first_words(count: usize) -> u64
     requires { count ≤ 6 }
@@ -80,7 +80,7 @@ impl Numbers {
         }
     }
 
-    /// Makes it the set of the numbers of those states that lie in a row below the given one of their rotation.
+    /// Sets this to the numbers of those states that lie below the given row of their rotation.
     #[inline(always)]
     pub(crate) fn fill(&mut self, states: &Pivots<24>, rows: [u8; 4])
         requires { length rows ≡ 4 }
@@ -114,7 +114,7 @@ impl Numbers {
         has_bit(self.words[usize::from(number / 64)], number % 64)
     }
 
-    /// The least number of the set from one on. `None` exactly where there is none.
+    /// The least number of the set from `from` on. `None` exactly if there is none.
     pub(crate) fn first_from(&self, from: u16) -> Option<u16>
         requires { from ≤ 1536 }
         ensures { IsNumberFrom self.now from result }
@@ -130,7 +130,7 @@ impl Numbers {
         self.first_in_words(at as u16 + 1)
     }
 
-    /// The least number of the words from one on. `None` exactly where they have none.
+    /// The least number in the words from `start` on. `None` exactly if they have none.
     #[inline(always)]
     fn first_in_words(&self, start: u16) -> Option<u16>
         requires { start ≤ 24 }
@@ -142,7 +142,7 @@ impl Numbers {
         }
     }
 
-    /// The first of some words that has a bit. `None` exactly where none of them has one.
+    /// The first of these words that has a bit. `None` exactly if none of them has one.
     #[inline(always)]
     fn first_word(&self, among: u64) -> Option<u16>
         requires { (w : ℕ) → w < 64 → has_bit among w ≡ true → w < 24 }
@@ -159,7 +159,7 @@ impl Numbers {
         None
     }
 
-    /// Takes the least number out of the set. `None` exactly where the set has none.
+    /// Removes the least number and returns it. `None` exactly if the set is empty.
     #[inline(always)]
     pub(crate) fn take_first(&mut self) -> Option<u16>
         ensures first { IsNumberFrom self.old 0 result }
@@ -180,7 +180,7 @@ impl Numbers {
         }
     }
 
-    /// The numbers of states in a row below the given one of their rotation.
+    /// The numbers of the states that lie below the given row of their rotation.
     pub(crate) fn in_rows_below(&self, rows: [u8; 4]) -> Numbers
         requires { length rows ≡ 4 }
         ensures { (place y x : ℕ) → place < 4 → y < 24 → x < 16 → has_number result (number_of_state place y x)

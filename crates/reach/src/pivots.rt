@@ -5,7 +5,7 @@ ghost use Rattle.lane_board.specs.Lanes.{is_lane_count};
 use lane_board::LaneBoard;
 use srs::Rotation;
 
-/// A set of states of one piece: for each rotation the cells of their pivots.
+/// A set of states of one piece: the cells of their pivots, for each rotation.
 #[derive(Clone, Copy)]
 pub(crate) struct Pivots<const N: usize> {
     pub(crate) spawn: LaneBoard<N>,
@@ -20,7 +20,7 @@ impl<const N: usize> Pivots<N> {
     ghost use Rattle.reach.specs.Folded.{no_states};
     ghost use Rattle.reach.specs.States.{states_of, states_with};
 
-    /// No state.
+    /// The empty set of states.
     pub(crate) fn empty() -> Pivots<N>
         requires { IsTrue (is_lane_count N) }
         ensures { states_of result ≡ no_states }
@@ -47,7 +47,7 @@ impl<const N: usize> Pivots<N> {
         }
     }
 
-    /// The set with other pivots in one rotation.
+    /// The same set with other pivots in one rotation.
     #[inline(always)]
     pub(crate) fn with(&self, rotation: Rotation, board: &LaneBoard<N>) -> Pivots<N>
         ensures { states_of result ≡ states_with (states_of self.now) rotation (field_of board.now) }
@@ -72,7 +72,7 @@ impl<const N: usize> Pivots<N> {
         }
     }
 
-    /// A rotation in which the sets differ. `None` exactly where they are the same.
+    /// A rotation in which the sets differ. `None` exactly if they are the same.
     pub(crate) fn difference(&self, other: &Pivots<N>) -> Option<Rotation>
         ensures { MatchOption result (states_of self.now ≡ states_of other.now)
             (λ r. states_of self.now r ≢ states_of other.now r) }

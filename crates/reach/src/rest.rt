@@ -8,7 +8,7 @@ use crate::pivots::Pivots;
 use crate::spread::{Shifts, spread};
 use lane_board::LaneBoard;
 
-/// The states to which those of a set fall.
+/// The states in which the states of a set come to rest.
 pub(crate) fn resting<const N: usize>(free: &Pivots<N>, states: &Pivots<N>) -> Pivots<N>
     ensures { AreRested N (states_of free.now) (states_of states.now) (states_of result) }
 {
@@ -20,7 +20,7 @@ pub(crate) fn resting<const N: usize>(free: &Pivots<N>, states: &Pivots<N>) -> P
     }
 }
 
-/// The pivots to which those of one rotation fall: spread down, and with no free pivot below.
+/// The pivots at which those of one rotation come to rest: they spread down, and those with no free pivot below stay.
 fn rests<const N: usize>(free: &LaneBoard<N>, pivots: &LaneBoard<N>) -> LaneBoard<N>
     ensures { IsRested N (field_of free.now) (field_of pivots.now) (field_of result) }
 {

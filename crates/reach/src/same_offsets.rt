@@ -1,5 +1,5 @@
-// Whether a table has the offsets of the Super Rotation System for one piece: no other offset matters to its places.
-// `KIND` numbers the copies that are compiled, as in `soft`.
+// Whether a table has the offsets of the Super Rotation System for one piece. No other offset matters to its places.
+// `KIND` numbers the compiled copies, as in `soft`.
 ghost use Rattle.std.specs.Prelude.{◌≡◌, ◌≤◌, ◌↔◌, IsTrue};
 ghost use Rattle.srs.specs.Kick.{srs_table, offset_in};
 ghost use Rattle.srs.specs.Rules.{table_of};
@@ -23,7 +23,7 @@ pub(crate) fn has_srs_offsets(rules: &Rules, piece: Piece) -> bool
     }
 }
 
-/// Whether those of each rotation are.
+/// The same for its offsets in each rotation.
 fn agrees<const KIND: u8>(rules: &Rules, piece: Piece) -> bool
     ensures { IsTrue result ↔ HaveSameOffsets (table_of rules.now) srs_table piece }
 {
@@ -39,7 +39,7 @@ fn agrees<const KIND: u8>(rules: &Rules, piece: Piece) -> bool
     agrees_in(rules, piece, Rotation::Reverse)
 }
 
-/// Whether those of one rotation are.
+/// The same for its offsets in one rotation.
 #[inline(always)]
 fn agrees_in(rules: &Rules, piece: Piece, rotation: Rotation) -> bool
     ensures { IsTrue result ↔ AgreeIn (table_of rules.now) srs_table piece rotation }
@@ -59,7 +59,7 @@ fn agrees_in(rules: &Rules, piece: Piece, rotation: Rotation) -> bool
     agrees_at(rules, piece, rotation, 5)
 }
 
-/// Whether that of one test is.
+/// The same for its offset in one test.
 #[inline(always)]
 fn agrees_at(rules: &Rules, piece: Piece, rotation: Rotation, test: u8) -> bool
     requires first { 1 ≤ test }

@@ -1,4 +1,4 @@
-// The first state from a place on, by rotation, then row, then column, in a set of numbers.
+// The first state from a given one on, by rotation, then row, then column, in a set of numbers.
 ghost use Rattle.std.specs.Prelude.{◌≡◌, ℕ, ◌<◌, ◌≤◌, ◌↔◌, ◌/◌, ◌%◌};
 ghost use Rattle.srs.specs.Rotation.{rotation_place};
 ghost use Rattle.reach.specs.Numbers.{number_of_state, states_in};
@@ -7,7 +7,7 @@ ghost use Rattle.reach.specs.Scan.{place_number, IsStateFrom};
 use crate::numbers::Numbers;
 use srs::{Piece, Placement, Rotation};
 
-/// The first state from a place on.
+/// The first state at or after this rotation, row and column.
 pub(crate) fn first_state(
     numbers: &Numbers,
     piece: Piece,
@@ -25,7 +25,7 @@ pub(crate) fn first_state(
     }
 }
 
-/// The number from which on the numbers of the states from a place on are.
+/// The least number that a state at or after this rotation, row and column can have.
 fn number_from(first: u8, y: u8, x: u16) -> u16
     requires rotation { first < 4 }
     requires column { x ≤ 256 }
@@ -68,7 +68,7 @@ pub(crate) fn state_with(piece: Piece, number: u16) -> Placement
     }
 }
 
-/// The rotation at a place in the order 0, R, 2, L.
+/// The rotation with this index in the order 0, R, 2, L.
 #[inline(always)]
 pub(crate) fn rotation_at(place: u8) -> Rotation
     requires { place < 4 }

@@ -1,5 +1,5 @@
-// The places of a soft drop in a field of few rows. `KIND` and `TO` are in no contract: they number the copies that are
-// compiled, one for each piece and each rotation, in which shapes and kicks are constants.
+// The places of a soft drop in a low field. `KIND` and `TO` are in no contract. They number the compiled copies, one
+// for each piece and rotation, in which shapes and kicks are constants.
 ghost use Rattle.std.specs.Prelude.{◌≡◌, ◌-◌, ◌≤◌, IsTrue};
 ghost use Rattle.lane_board.specs.Board.{field_of};
 ghost use Rattle.srs.specs.Kick.{srs_table};
@@ -19,7 +19,7 @@ use lane_board::LaneBoard;
 use moves::DropMode;
 use srs::{Piece, Rotation};
 
-/// The canonical placements with the cells of resting states to which keys lead, where two lanes lie above all cells.
+/// The canonical placements that have the cells of resting states that keys lead to, if two lanes lie above all cells.
 pub(crate) fn soft_places<const KIND: u8, const N: usize>(
     filled: &LaneBoard<N>,
     piece: Piece,
@@ -38,7 +38,7 @@ pub(crate) fn soft_places<const KIND: u8, const N: usize>(
     }
 }
 
-/// The free places of each rotation, on the board of the canonical one.
+/// The free places of each rotation, on the board of its canonical rotation.
 fn free_boards<const KIND: u8, const N: usize>(filled: &LaneBoard<N>, piece: Piece) -> Pivots<N>
     ensures { states_of result ≡ free_boards piece N (field_of filled.now) }
 {
@@ -50,7 +50,7 @@ fn free_boards<const KIND: u8, const N: usize>(filled: &LaneBoard<N>, piece: Pie
     }
 }
 
-/// The places that single moves and turns reach from the sky, or enough of them to hold all rests.
+/// The places that single moves and turns lead to from the sky, or enough of them to have every rest.
 fn flood<const KIND: u8, const N: usize>(piece: Piece, free: &Pivots<N>) -> Pivots<N>
     ensures { IsSoftFlood piece N (states_of free.now) (states_of result) }
 {
@@ -71,7 +71,7 @@ fn flood<const KIND: u8, const N: usize>(piece: Piece, free: &Pivots<N>) -> Pivo
     }
 }
 
-/// The sky of each rotation.
+/// The places under the open sky, for each rotation.
 fn skies<const KIND: u8, const N: usize>(piece: Piece, free: &Pivots<N>) -> Pivots<N>
     ensures { states_of result ≡ skies piece N (states_of free.now) }
 {
@@ -83,7 +83,7 @@ fn skies<const KIND: u8, const N: usize>(piece: Piece, free: &Pivots<N>) -> Pivo
     }
 }
 
-/// The places of each rotation with all that single moves reach from them.
+/// The places of each rotation, plus all that single moves lead to from them.
 fn spread_all<const KIND: u8, const N: usize>(free: &Pivots<N>, places: &Pivots<N>) -> Pivots<N>
     ensures { AreSpread N (states_of free.now) (states_of places.now) (states_of result) }
 {
@@ -109,7 +109,7 @@ fn round<const KIND: u8, const N: usize>(
     turned_into::<KIND, 3, N>(piece, Rotation::Left, free, &three)
 }
 
-/// The places with those that both turns into a rotation lead to, and all that single moves reach from there.
+/// The places, plus those that both turns into a rotation lead to, plus all that single moves lead to from there.
 #[inline(always)]
 fn turned_into<const KIND: u8, const TO: u8, const N: usize>(
     piece: Piece,
@@ -134,7 +134,7 @@ fn turned_into<const KIND: u8, const TO: u8, const N: usize>(
     places.with(to, &spread(there, Shifts::All, &wide))
 }
 
-/// Whether the places hold all resting states.
+/// Whether the places include every resting state.
 fn has_all_rests<const KIND: u8, const N: usize>(
     piece: Piece,
     free: &Pivots<N>,
@@ -149,7 +149,7 @@ fn has_all_rests<const KIND: u8, const N: usize>(
         .is_empty()
 }
 
-/// The rests of a canonical rotation that the places lack.
+/// The rests of a canonical rotation that are not among the places.
 #[tactic(auto, unfolding(crate::specs::SoftLanes::lacking))]
 #[inline(always)]
 fn lacks<const N: usize>(
@@ -176,7 +176,7 @@ fn rests_in<const N: usize>(free: &Pivots<N>, rotation: Rotation) -> LaneBoard<N
     resting_lanes(board, board)
 }
 
-/// The places of all rotations with the given canonical one.
+/// The places of all rotations that have the given canonical rotation.
 #[tactic(auto, unfolding(crate::specs::SoftLanes::places_of))]
 #[inline(always)]
 fn places_of<const N: usize>(piece: Piece, places: &Pivots<N>, canonical: Rotation) -> LaneBoard<N>
@@ -189,7 +189,7 @@ fn places_of<const N: usize>(piece: Piece, places: &Pivots<N>, canonical: Rotati
     with_rotation(piece, places, canonical, Rotation::Left, &three)
 }
 
-/// The board with the places of a rotation, where its canonical one is the given one.
+/// The board, plus the places of a rotation if its canonical rotation is the given one.
 #[tactic(auto, unfolding(crate::specs::SoftLanes::with_rotation))]
 #[inline(always)]
 fn with_rotation<const N: usize>(

@@ -5,7 +5,7 @@ ghost use Rattle.reach.specs.Shifts.{sideways, lower, neighbours, widened, IsSpr
 
 use lane_board::LaneBoard;
 
-/// The moves by which pivots spread: by one column, by one row down, or by either.
+/// The moves by which pivots spread: by one column, by one row down, or both.
 #[derive(Clone, Copy)]
 pub(crate) enum Shifts {
     Sideways,
@@ -13,7 +13,7 @@ pub(crate) enum Shifts {
     All,
 }
 
-/// The pivots and all free ones that chains of these moves lead to through free ones.
+/// The pivots, plus all free pivots that chains of these moves through free pivots lead to.
 pub(crate) fn spread<const N: usize>(
     free: &LaneBoard<N>,
     shifts: Shifts,
@@ -31,7 +31,7 @@ pub(crate) fn spread<const N: usize>(
     }
 }
 
-/// The pivots and the free ones beside them.
+/// The pivots, plus the free pivots one move away.
 #[tactic(auto, unfolding(crate::specs::Shifts::widened))]
 #[inline(always)]
 fn widened<const N: usize>(free: &LaneBoard<N>, shifts: Shifts, from: &LaneBoard<N>) -> LaneBoard<N>
@@ -41,7 +41,7 @@ fn widened<const N: usize>(free: &LaneBoard<N>, shifts: Shifts, from: &LaneBoard
     from.or(&free.and(&near))
 }
 
-/// The pivots moved by one of these moves.
+/// Where one of these moves takes the pivots.
 #[inline(always)]
 fn neighbours<const N: usize>(shifts: Shifts, from: &LaneBoard<N>) -> LaneBoard<N>
     ensures { field_of result ≡ neighbours shifts N (field_of from.now) }
@@ -53,7 +53,7 @@ fn neighbours<const N: usize>(shifts: Shifts, from: &LaneBoard<N>) -> LaneBoard<
     }
 }
 
-/// The pivots moved by one column.
+/// Where a move by one column takes the pivots.
 #[tactic(auto, unfolding(crate::specs::Shifts::sideways))]
 #[inline(always)]
 fn sideways<const N: usize>(from: &LaneBoard<N>) -> LaneBoard<N>
@@ -62,7 +62,7 @@ fn sideways<const N: usize>(from: &LaneBoard<N>) -> LaneBoard<N>
     from.moved(-1, 0).or(&from.moved(1, 0))
 }
 
-/// The pivots moved by one row down.
+/// Where a move by one row down takes the pivots.
 #[tactic(auto, unfolding(crate::specs::Shifts::lower))]
 #[inline(always)]
 fn lower<const N: usize>(from: &LaneBoard<N>) -> LaneBoard<N>

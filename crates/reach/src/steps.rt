@@ -4,7 +4,7 @@ ghost use Rattle.std.specs.Prelude.{◌≡◌, ℕ, ◌+◌, ◌-◌, ◌^◌, �
 use std::marker::Model;
 use std::sync::ledger::{Blank, Book, Ledger, Share};
 
-/// How many floods were made. Only a flood adds to it.
+/// How many floods were made. Only a flood counts.
 #[derive(Drop)]
 pub struct Steps<L: Ledger> {
     book: Book<L>,
@@ -21,7 +21,7 @@ impl<L: Ledger> Model for Steps<L> {
 }
 
 impl<L: Ledger> Steps<L> {
-    /// A counter at 0, for a ledger that no other counter is of.
+    /// A counter at 0, for a ledger that no other counter uses.
     pub fn new(blank: Blank) -> Steps<L>
         requires name { blank.name ≡ L.name }
         requires parts { blank.parts ≡ L.parts }
@@ -36,14 +36,14 @@ impl<L: Ledger> Steps<L> {
         }
     }
 
-    /// How many floods were made, or the greatest value of a u64 where there were more.
+    /// How many floods were made, at most the greatest value of a u64.
     pub fn count(&self) -> u64
         ensures { result ≡ min self.now (2 ^ 64 - 1) }
     {
         self.count
     }
 
-    /// Counts a flood.
+    /// Counts one flood.
     pub(crate) fn tick(&mut self)
         ensures { self.new ≡ self.old + 1 }
     {

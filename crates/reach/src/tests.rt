@@ -1,4 +1,4 @@
-// Floods of the empty well, and of one in which the spawn is not free.
+// Floods of the empty well, and of a well in which the spawn is not free.
 ghost use Rattle.std.specs.Prelude.{◌≡◌, ◌<◌};
 ghost use Rattle.reach.specs.Places.{piece_of};
 

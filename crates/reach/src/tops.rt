@@ -1,4 +1,4 @@
-// How low a pivot lies where all cells of a placement lie below a row.
+// How low the pivot lies if all cells of a placement lie below a row.
 ghost use Rattle.std.specs.Prelude.{◌≡◌, ℕ, ◌-◌, ◌≤◌, length, slice_index};
 ghost use Rattle.srs.specs.Cells.{Cell};
 ghost use Rattle.srs.specs.Rotation.{rotation_place};
@@ -7,7 +7,7 @@ ghost use Rattle.reach.specs.Tops.{rows_over_pivot};
 
 use srs::{Piece, Rotation};
 
-/// For each rotation the row below which a pivot lies exactly where all cells of the piece lie below the given row.
+/// For each rotation, the row that a pivot lies below exactly if all cells of the piece lie below row `rows`.
 pub(crate) fn rows_left(piece: Piece, rows: u8) -> [u8; 4]
     ensures four { length result ≡ 4 }
     ensures left { (rotation : Rotation) → slice_index result (rotation_place rotation)
@@ -21,7 +21,7 @@ pub(crate) fn rows_left(piece: Piece, rows: u8) -> [u8; 4]
     ]
 }
 
-/// By how many rows the highest cell lies above the pivot.
+/// How many rows the highest cell lies above the pivot.
 #[inline(always)]
 fn rows_over_pivot(piece: Piece, rotation: Rotation) -> u8
     ensures { result ≡ rows_over_pivot piece rotation }

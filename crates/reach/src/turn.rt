@@ -11,8 +11,7 @@ ghost use Rattle.reach.specs.Kicks.{reversed, kicked_to, left_by, turned_from};
 use lane_board::LaneBoard;
 use srs::{Offset, Piece, Rotation, Rules, kick};
 
-/// Where the pivots of one rotation go by a quarter turn: each to the pivot to which the first of the five tests that
-/// succeeds takes it.
+/// Where a quarter turn takes the pivots of one rotation, each by the first of the five tests that succeeds.
 pub(crate) fn turned<const N: usize>(
     free: &LaneBoard<N>,
     rules: &Rules,
@@ -50,7 +49,7 @@ fn kicked_to<const N: usize>(
     free.and(&pivots.moved(offset.dx, offset.dy))
 }
 
-/// The pivots that the test takes nowhere, where those that it takes them to are given.
+/// The pivots that the test takes nowhere, given those that it takes them to.
 #[tactic(auto, unfolding(crate::specs::Kicks::left_by))]
 #[inline(always)]
 fn left_by<const N: usize>(
@@ -65,7 +64,7 @@ fn left_by<const N: usize>(
     pivots.minus(&hits.moved(back.dx, back.dy))
 }
 
-/// The move back.
+/// The opposite move.
 #[inline(always)]
 fn reversed(offset: Offset) -> Offset
     requires { IsShort offset }

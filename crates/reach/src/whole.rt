@@ -1,4 +1,4 @@
-// Places in any field and by any table of offsets: a flood of the whole well.
+// Places in any field and by any table of offsets, from a flood of the whole well.
 ghost use Rattle.std.specs.Prelude.{◌≡◌};
 ghost use Rattle.lane_board.specs.Board.{field_of};
 ghost use Rattle.srs.specs.Rules.{table_of};
@@ -31,7 +31,7 @@ pub(crate) fn whole_places(
 }
 
 #[tactic(auto, unfolding(crate::specs::Started::started, crate::specs::States::states_of))]
-/// The state in which a piece appears, in rotation 0 with its pivot in column 4 and row 20, where it is free.
+/// The state in which a piece spawns, with its pivot in column 4 and row 20 in rotation 0, if that state is free.
 fn started(free: &Pivots<24>) -> Pivots<24>
     ensures { states_of result ≡ started (states_of free.now) }
 {

@@ -1,4 +1,4 @@
-// The bits of words of 64 bits.
+// Bits of words of 64 bits.
 ghost use Rattle.std.specs.Prelude.{◌≡◌, ℕ, ◌*◌, ◌+◌, ◌<◌, ◌≤◌, nat_le, nat_lt, ◌&&◌, ◌==◌, not, true};
 ghost use Rattle.lane_board.specs.Board.{field_of};
 ghost use Rattle.lane_board.specs.Lanes.{has_bit};
@@ -7,7 +7,7 @@ ghost use Rattle.reach.specs.LowestBit.{IsLowestBit};
 
 use lane_board::LaneBoard;
 
-/// Four rows of a board from one on, sixteen bits for each.
+/// Four rows of a board from this row on, sixteen bits each.
 #[inline(always)]
 pub(crate) fn four_rows(board: &LaneBoard<24>, row: u8) -> u64
     requires { row + 4 ≤ 24 }
@@ -19,7 +19,7 @@ pub(crate) fn four_rows(board: &LaneBoard<24>, row: u8) -> u64
         | u64::from(board.row(row + 3)) << 48
 }
 
-/// The bits of a word from one on.
+/// The bits of a word from bit `low` on.
 #[inline(always)]
 pub(crate) fn bits_from(word: u64, low: u16) -> u64
     requires { low < 64 }
@@ -28,7 +28,7 @@ pub(crate) fn bits_from(word: u64, low: u16) -> u64
     word >> low << low
 }
 
-/// The place of the lowest bit.
+/// The index of the lowest bit.
 #[inline(always)]
 pub(crate) fn lowest_bit(word: u64) -> u16
     requires { 0 < word }
@@ -59,7 +59,7 @@ pub(crate) fn without_lowest(word: u64) -> u64
     word & (word - 1)
 }
 
-/// The bits of the first so many of the four rows of a word.
+/// The bits of the first `rows` of the four rows of a word.
 #[inline(always)]
 pub(crate) fn in_low_rows(word: u64, rows: u8) -> u64
     ensures { (k : ℕ) → k < 64 → has_bit result k ≡ (has_bit word k && nat_lt k (16 * rows)) }

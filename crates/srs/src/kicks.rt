@@ -9,8 +9,8 @@ use crate::piece::Piece;
 use crate::rotation::Rotation;
 use crate::rules::Rules;
 
-/// How test 1 to 5 of a quarter turn moves the pivot: the offset of the rotation that is left, less that of the
-/// rotation that is turned to.
+/// How far test 1 to 5 of a quarter turn moves the pivot: the offset of the old rotation minus the offset of the new
+/// one.
 pub fn kick(rules: &Rules, piece: Piece, from: Rotation, to: Rotation, test: u8) -> Offset
     requires neighbour { (to ≡ clockwise_of from) ⊎ (to ≡ anticlockwise_of from) }
     requires first { 1 ≤ test }

@@ -1,4 +1,4 @@
-// Laws of the definitions: functions with an empty body, whose contract is the law.
+// Laws of the definitions: functions with an empty body whose contract is the law.
 ghost use Rattle.std.specs.Prelude.{◌≡◌, ◌↔◌, IsTrue, List, Some, map};
 ghost use Rattle.std.specs.Cmp.{IsTotalOrder};
 ghost use Rattle.srs.specs.declared.placement.Placement.{Placement};
@@ -18,13 +18,14 @@ use crate::rotation::Rotation;
 use crate::rules::Rules;
 use std::cmp::Ordering;
 
-/// `Piece::ALL` has the pieces in the order of their codes, and `Rotation::ALL` the rotations in the order 0, R, 2, L.
+/// `Piece::ALL` lists the pieces in the order of their codes, and `Rotation::ALL` the rotations in the order 0, R, 2,
+/// L.
 pub fn all_are_listed()
     ensures pieces { Piece.ALL ≡ all_pieces }
     ensures rotations { Rotation.ALL ≡ all_rotations }
 {}
 
-/// Codes and letters name their pieces and rotations.
+/// Each code and each letter names its piece or rotation.
 pub fn names_are_read_back()
     ensures code { (piece : Piece) → piece_with_code (piece_code piece) ≡ Some piece }
     ensures letter { (piece : Piece) → piece_with_letter (piece_letter piece) ≡ Some piece }
@@ -37,32 +38,32 @@ pub fn turns_undo_each_other()
     ensures anticlockwise { (rotation : Rotation) → anticlockwise_of (clockwise_of rotation) ≡ rotation }
 {}
 
-/// The shapes of a piece follow each other by quarter turns about the pivot.
+/// Each shape of a piece is the one before it, turned by a quarter about the pivot.
 pub fn shapes_turn()
     ensures { (piece : Piece) (rotation : Rotation) →
         shape piece (clockwise_of rotation) ≡ map turned_clockwise (shape piece rotation) }
 {}
 
-/// The order of placements is total, and Equal only of equal placements.
+/// The order of placements is total. Only equal placements compare as Equal.
 pub fn placements_are_ordered()
     ensures total { IsTotalOrder placement_cmp }
     ensures equal { (s t : Placement) → (placement_cmp s t ≡ Ordering.Equal) ↔ (s ≡ t) }
 {}
 
-/// The order of sequences is total, and Equal only of equal sequences.
+/// The order of sequences is total. Only equal sequences compare as Equal.
 pub fn sequences_are_ordered()
     ensures total { IsTotalOrder sequence_cmp }
     ensures equal { (s t : List Placement) → (sequence_cmp s t ≡ Ordering.Equal) ↔ (s ≡ t) }
 {}
 
-/// Placements with the same cells are of one piece, and one of them is canonical: the one that the test takes.
+/// Placements with the same cells are of one piece, and exactly one of them is canonical. A test decides which.
 pub fn canonical_is_unique()
     ensures piece { (s t : Placement) → HasSameCells s t → s.piece ≡ t.piece }
     ensures unique { (s t : Placement) → IsCanonical s → IsCanonical t → HasSameCells s t → s ≡ t }
     ensures tested { (s : Placement) → IsTrue (is_canonical s) ↔ IsCanonical s }
 {}
 
-/// The canonical placements of a piece inside the well make a rising list.
+/// The canonical placements of a piece inside the well form a strictly rising list.
 pub fn placements_are_listed()
     ensures { (piece : Piece) → IsRisingListOf placement_cmp (IsCanonicalInside piece) (placements_of piece) }
 {}
@@ -72,7 +73,7 @@ pub fn rules_are_their_table()
     ensures { (rules others : Rules) → table_of rules ≡ table_of others → rules ≡ others }
 {}
 
-/// The table of any rules has five offsets for each piece and rotation, of at most three columns and three rows.
+/// Every table has five offsets for each piece and rotation. Each is at most three columns and three rows.
 pub fn offsets_are_small(rules: &Rules)
     ensures { IsSmallTable (table_of rules.now) }
 {}

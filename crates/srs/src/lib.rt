@@ -1,5 +1,5 @@
-// Pieces of the Super Rotation System (SRS) in a well of ten columns and 23 rows: their cells, their kicks, the
-// placements that stand for others with the same cells, and the order of placements.
+// Pieces of the Super Rotation System (SRS) in a well of ten columns and 23 rows: their cells, their kicks, canonical
+// placements, and the order of placements.
 #![tactic(auto)]
 
 mod kicks;

@@ -1,6 +1,6 @@
 // How far a pivot moves.
 
-/// A move of a pivot: `dx` columns to the right and `dy` rows up.
+/// How far a pivot moves: `dx` columns to the right and `dy` rows up.
 #[derive(Clone, Copy, Debug, PartialEq, Eq)]
 pub struct Offset {
     pub dx: i8,

@@ -5,8 +5,8 @@ ghost use Rattle.srs.specs.Order.{placement_cmp};
 use crate::placement::Placement;
 use std::cmp::Ordering;
 
-/// Compares by piece code, then by rotation in the order 0, R, 2, L, then by row and then by column of the pivot. Equal
-/// exactly for equal placements.
+/// Compares by the piece's code, then by rotation in the order 0, R, 2, L, then by the pivot's row, then by its column.
+/// Equal exactly for equal placements.
 #[tactic(auto, using(crate::proofs::OrderLemmas::then_assoc))]
 pub fn compare(left: &Placement, right: &Placement) -> Ordering
     ensures order { result ≡ placement_cmp left.now right.now }

@@ -2,7 +2,7 @@
 ghost use Rattle.std.specs.Prelude.{◌≡◌};
 ghost use Rattle.srs.specs.Piece.{piece_code, piece_letter, piece_with_code, piece_with_letter};
 
-/// A kind of piece. Codes run from 1 to 7 in this order, which is that of fumen.
+/// A kind of piece. Codes run from 1 to 7 in this order, as in fumen.
 #[derive(Clone, Copy, Debug, Default, PartialEq, Eq, Hash)]
 pub enum Piece {
     #[default]
@@ -42,7 +42,7 @@ impl Piece {
         }
     }
 
-    /// The piece with this code. `None` exactly where the code is not 1 to 7.
+    /// The piece with this code. `None` exactly if the code is not 1 to 7.
     pub fn from_code(code: u8) -> Option<Piece>
         ensures { result ≡ piece_with_code code }
     {
@@ -58,7 +58,7 @@ impl Piece {
         }
     }
 
-    /// The capital letter, as an ASCII byte.
+    /// The piece's capital letter, as an ASCII byte.
     pub fn letter(self) -> u8
         ensures { result ≡ piece_letter self }
     {
@@ -73,7 +73,7 @@ impl Piece {
         }
     }
 
-    /// The piece with this letter, capital or small. `None` exactly where the byte is no such letter.
+    /// The piece with this letter, capital or small. `None` exactly if the byte is no piece's letter.
     pub fn from_letter(byte: u8) -> Option<Piece>
         ensures { result ≡ piece_with_letter byte }
     {

@@ -2,7 +2,7 @@
 use crate::piece::Piece;
 use crate::rotation::Rotation;
 
-/// A piece in a rotation with its pivot at a cell: x counts columns from 0 at the left, y counts rows from 0 at the
+/// A piece in a rotation with its pivot at a cell. `x` counts columns from 0 at the left; `y` counts rows from 0 at the
 /// bottom.
 #[derive(Clone, Copy, Debug, Default, PartialEq, Eq, Hash)]
 pub struct Placement {

@@ -2,7 +2,7 @@
 ghost use Rattle.std.specs.Prelude.{◌≡◌};
 ghost use Rattle.srs.specs.Rotation.{rotation_place, rotation_letter, rotation_with_letter, clockwise_of, anticlockwise_of};
 
-/// A rotation of a piece: as it appears, and turned from there by a quarter clockwise, by a half, and by a quarter
+/// A rotation of a piece: as it spawns, or turned from there by a quarter clockwise, by a half, or by a quarter
 /// anticlockwise.
 #[derive(Clone, Copy, Debug, Default, PartialEq, Eq, Hash)]
 pub enum Rotation {
@@ -22,7 +22,7 @@ impl Rotation {
         Rotation::Left,
     ];
 
-    /// The place in the order 0, R, 2, L, from 0 to 3.
+    /// The index in the order 0, R, 2, L, from 0 to 3.
     pub fn place(self) -> u8
         ensures { result ≡ rotation_place self }
     {
@@ -46,7 +46,7 @@ impl Rotation {
         }
     }
 
-    /// The rotation with this letter, a digit or a capital. `None` exactly where the byte is no such letter.
+    /// The rotation with this letter: a digit or a capital. `None` exactly if the byte is no rotation's letter.
     pub fn from_letter(byte: u8) -> Option<Rotation>
         ensures { result ≡ rotation_with_letter byte }
     {

@@ -1,4 +1,4 @@
-// The table of offsets that the kicks of turns come from.
+// The table of offsets that gives the kicks of all turns.
 ghost use Rattle.std.specs.Prelude.{◌≡◌, ◌-◌, ◌≤◌, ◌↔◌, IsTrue, length, map, slice_set};
 ghost use Rattle.std.specs.List.{list_all};
 ghost use Rattle.srs.specs.Kick.{is_small, pair_of, offset_in, srs_table, turns_with, table_with, turns_eq, table_eq};
@@ -8,7 +8,7 @@ use crate::offset::Offset;
 use crate::piece::Piece;
 use crate::rotation::Rotation;
 
-/// The offsets of one piece in one rotation, for the tests 1 to 5 of a turn.
+/// The offsets of one piece in one rotation, for tests 1 to 5 of a turn.
 #[derive(Clone, Copy, Debug, PartialEq, Eq)]
 struct Tests {
     offsets: [Offset; 5],
@@ -16,7 +16,7 @@ struct Tests {
     ghost small: { IsTrue (list_all is_small offsets) },
 }
 
-/// The offsets of one piece.
+/// The offsets of one piece in its four rotations.
 #[derive(Clone, Copy, Debug, PartialEq, Eq)]
 struct Turns {
     spawn: Tests,
@@ -25,8 +25,8 @@ struct Turns {
     left: Tests,
 }
 
-/// A table of offsets: five for each piece and rotation, for the tests 1 to 5 of a turn. Each is at most three columns
-/// and three rows.
+/// A table of offsets: five for each piece and rotation, for tests 1 to 5 of a turn. Each is at most three columns and
+/// three rows.
 #[derive(Clone, Copy, Debug, PartialEq, Eq)]
 pub struct Rules {
     i: Turns,
@@ -39,14 +39,14 @@ pub struct Rules {
 }
 
 impl Tests {
-    /// Whether the offsets are the same.
+    /// Whether the five offsets are the same.
     fn is_same(&self, other: &Tests) -> bool
         ensures { result ≡ cells_eq (map pair_of self.now.offsets) (map pair_of other.now.offsets) }
     {
         self.offsets == other.offsets
     }
 
-    /// The offsets with this one for test 1 to 5.
+    /// The same offsets, with this one for the given test (1 to 5).
     fn with_offset(&self, test: u8, offset: Offset) -> Tests
         requires first { 1 ≤ test }
         requires last { test ≤ 5 }
@@ -74,7 +74,7 @@ impl Turns {
         }
     }
 
-    /// Whether the offsets are the same in each rotation.
+    /// Whether the offsets are the same in every rotation.
     fn is_same(&self, other: &Turns) -> bool
         ensures { result ≡ turns_eq (turns_table self.now) (turns_table other.now) }
     {
@@ -84,7 +84,7 @@ impl Turns {
             && self.left.is_same(&other.left)
     }
 
-    /// The offsets with this one in a rotation for test 1 to 5.
+    /// The same offsets, with this one for the given rotation and test (1 to 5).
     fn with_offset(&self, rotation: Rotation, test: u8, offset: Offset) -> Turns
         requires first { 1 ≤ test }
         requires last { test ≤ 5 }
@@ -143,7 +143,7 @@ impl Rules {
         }
     }
 
-    /// The offset of a piece in a rotation for test 1 to 5.
+    /// The offset of a piece in a rotation for the given test (1 to 5).
     pub fn offset(&self, piece: Piece, rotation: Rotation, test: u8) -> Offset
         requires first { 1 ≤ test }
         requires last { test ≤ 5 }
@@ -153,7 +153,7 @@ impl Rules {
         self.turns(piece).tests(rotation).offsets[test as usize - 1]
     }
 
-    /// Whether every offset is that of `Rules::srs()`.
+    /// Whether the table is that of `Rules::srs()`.
     pub fn is_srs(&self) -> bool
         ensures { IsTrue result ↔ (table_of self.now ≡ srs_table) }
     {
@@ -176,7 +176,7 @@ impl Rules {
         }
     }
 
-    /// Whether all offsets are the same.
+    /// Whether all offsets of the two tables are the same.
     #[tactic(auto, unfolding(crate::specs::Rules::table_of))]
     fn is_same(&self, other: &Rules) -> bool
         ensures { result ≡ table_eq (table_of self.now) (table_of other.now) }
@@ -190,7 +190,7 @@ impl Rules {
             && self.s.is_same(&other.s)
     }
 
-    /// The table with this offset for a piece, a rotation and test 1 to 5, and with every other offset as it is.
+    /// The same table, with this offset for the given piece, rotation and test (1 to 5).
     pub fn with_offset(&self, piece: Piece, rotation: Rotation, test: u8, offset: Offset) -> Rules
         requires first { 1 ≤ test }
         requires last { test ≤ 5 }

@@ -1,4 +1,4 @@
-// The cells of placements, by the shapes of the Super Rotation System.
+// The cells of placements, from the shapes of the Super Rotation System.
 ghost use Rattle.std.specs.Prelude.{◌≡◌, ◌≤◌, ◌+ℤ◌, ◌≤ℤ◌, pos, IsTrue};
 ghost use Rattle.std.specs.List.{list_all};
 ghost use Rattle.srs.specs.Cells.{shape, moved, cells_of, in_well, is_inside_of, is_near};
@@ -7,7 +7,7 @@ use crate::piece::Piece;
 use crate::placement::Placement;
 use crate::rotation::Rotation;
 
-/// The four cells of a placement, as pairs of column and row, in the order of its shape.
+/// The four cells of a placement, as pairs of column and row, in the order of the piece's shape.
 pub fn cells(placement: &Placement) -> [(i8, i8); 4]
     requires column { placement.now.x ≤ 31 }
     requires row { placement.now.y ≤ 31 }
@@ -23,7 +23,7 @@ pub fn cells(placement: &Placement) -> [(i8, i8); 4]
     ]
 }
 
-/// Whether all four cells of a placement lie in the well: in columns 0 to 9 and rows 0 to 22.
+/// Whether all four cells of a placement lie in the well: columns 0 to 9 and rows 0 to 22.
 pub fn is_inside(placement: &Placement) -> bool
     requires column { placement.now.x ≤ 31 }
     requires row { placement.now.y ≤ 31 }
@@ -41,7 +41,7 @@ fn is_in_well(cell: (i8, i8)) -> bool
 }
 
 #[tactic(auto, unfolding(crate::specs::Cells::moved))]
-/// The cell that lies by an offset from the pivot.
+/// The cell at an offset from the pivot.
 pub fn cell_at(pivot: (i8, i8), offset: (i8, i8)) -> (i8, i8)
     requires left { pos 0 ≤ℤ pivot.0 }
     requires right { pivot.0 ≤ℤ pos 31 }

@@ -1,4 +1,4 @@
-// Placements that have the same cells, and the one that stands for them.
+// Placements with the same cells, and the canonical one among them.
 ghost use Rattle.std.specs.Prelude.{◌≡◌, pos, IsTrue};
 ghost use Rattle.srs.specs.Cells.{is_inside_of, pivot_of, moved};
 ghost use Rattle.srs.specs.SameCells.{HasSameCells};
@@ -9,7 +9,8 @@ use crate::placement::Placement;
 use crate::rotation::Rotation;
 use crate::shapes::cell_at;
 
-/// The placement of this piece that has the same cells and the earliest rotation with them, in the order 0, R, 2, L.
+/// The canonical placement: the one of this piece with the same cells and the earliest possible rotation, in the order
+/// 0, R, 2, L.
 #[tactic(auto, using(crate::proofs::CanonicalLemmas::found_cells, crate::proofs::CanonicalLemmas::found_canonical))]
 pub fn canonical(placement: &Placement) -> Placement
     requires { IsTrue (is_inside_of placement.now) }
@@ -23,7 +24,7 @@ pub fn canonical(placement: &Placement) -> Placement
     moved_pivot(placement)
 }
 
-/// The placement in the earliest rotation, with its pivot moved.
+/// The placement with the pivot that has the same cells in the earliest rotation.
 fn moved_pivot(placement: &Placement) -> Placement
     requires { IsTrue (is_inside_of placement.now) }
     ensures piece { result.piece ≡ placement.now.piece }
@@ -41,7 +42,7 @@ fn moved_pivot(placement: &Placement) -> Placement
     }
 }
 
-/// The earliest rotation in which the piece can have the cells of this one, and what its pivot moves by.
+/// The earliest rotation in which the piece can have the cells of this one, and how far its pivot moves for that.
 fn earliest(piece: Piece, rotation: Rotation) -> (Rotation, (i8, i8))
     ensures rotation { result.0 ≡ canonical_rotation piece rotation }
     ensures pivot { result.1 ≡ canonical_move piece rotation }

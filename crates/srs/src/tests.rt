@@ -1,4 +1,4 @@
-// Values of the Super Rotation System: names, cells, kicks, canonical placements and the order.
+// Values of the Super Rotation System: names, cells, kicks, canonical placements and the order of placements.
 ghost use Rattle.std.specs.Prelude.{◌≡◌};
 
 use crate::{

@@ -1,4 +1,4 @@
-// A reader of rows text, byte by byte.
+// A reader of rows texts, byte by byte.
 ghost use Rattle.std.specs.Prelude.{◌≡◌, ℕ, ◌≤◌, false};
 ghost use Rattle.well.specs.Rows.{is_empty_char, is_filled_char};
 ghost use Rattle.well.specs.Well.{filled};
@@ -7,8 +7,8 @@ use crate::rows::RowsFault;
 use crate::well::Well;
 use srs::Piece;
 
-/// What was read of a rows text so far: its cells, of which those of the row that is being read lie in row 0, the
-/// number of that row, counted from 1, and how many of its characters were read.
+/// What has been read of a rows text: its cells (those of the current row lie in row 0), the number of the current row,
+/// counted from 1, and how many of its characters have been read.
 #[derive(Clone, Copy)]
 pub(crate) struct RowsReader {
     pub(crate) well: Well,
@@ -26,7 +26,7 @@ impl RowsReader {
     ghost use Rattle.well.specs.Rows.{fault_at_byte, fault_at_end};
     ghost use Rattle.well.specs.RowsReading.{ReadsByte, raised};
 
-    /// Nothing is read.
+    /// The reader before the first byte.
     pub(crate) fn start() -> RowsReader
         ensures cells { filled result.well ≡ empty_field }
         ensures row { result.row ≡ 1 }
@@ -39,7 +39,7 @@ impl RowsReader {
         }
     }
 
-    /// One more byte is read, which stands at this place of the text. A refusal is the fault at this byte.
+    /// Reads one more byte, which stands at this index of the text. A refusal is the fault at this byte.
     pub(crate) fn read(&self, place: usize, byte: u8) -> Result<RowsReader, RowsFault>
         ensures next { IfOk result (λ next. ReadsByte self.now byte next) }
         ensures form { IfOk result (λ _. fault_at_byte self.now.row self.now.characters place byte ≡ None) }
@@ -54,7 +54,7 @@ impl RowsReader {
         Ok(self.next_character(byte))
     }
 
-    /// The cells that were read, where the text ends here. A refusal is the fault at its end.
+    /// The cells that were read, if the text ends here. A refusal is the fault at its end.
     pub(crate) fn finish(&self) -> Result<Well, RowsFault>
         ensures well { IfOk result (λ well. well ≡ self.now.well) }
         ensures form { IfOk result (λ _. fault_at_end self.now.row self.now.characters ≡ None) }
@@ -66,7 +66,7 @@ impl RowsReader {
         Ok(self.well)
     }
 
-    /// The fault at a byte, which stands at this place of the text.
+    /// The fault at a byte that stands at this index of the text.
     fn fault_at(&self, place: usize, byte: u8) -> Option<RowsFault>
         ensures { result ≡ fault_at_byte self.now.row self.now.characters place byte }
     {
@@ -82,7 +82,7 @@ impl RowsReader {
         (self.characters == 10).then_some(RowsFault::BadRowLength { row: self.row })
     }
 
-    /// A row begins below those that were read.
+    /// Begins a row below those that were read.
     fn next_row(&self) -> RowsReader
         requires { self.now.row < 23 }
         ensures row { result.row ≡ self.now.row + 1 }
@@ -96,7 +96,7 @@ impl RowsReader {
         }
     }
 
-    /// One more character of the row.
+    /// Reads one more character of the row.
     fn next_character(&self, byte: u8) -> RowsReader
         requires { self.now.characters < 10 }
         ensures row { result.row ≡ self.now.row }
@@ -117,14 +117,14 @@ impl RowsReader {
     }
 }
 
-/// Whether the byte is the character of an empty cell.
+/// Whether the byte stands for an empty cell.
 fn is_empty(byte: u8) -> bool
     ensures { result ≡ is_empty_char byte }
 {
     byte == b'_' || byte == b'.'
 }
 
-/// Whether the byte is the character of a filled cell.
+/// Whether the byte stands for a filled cell.
 fn is_filled(byte: u8) -> bool
     ensures { result ≡ is_filled_char byte }
 {

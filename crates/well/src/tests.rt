@@ -1,9 +1,9 @@
-// Each call once, and the table of rows texts.
+// Each call once, and a table of rows texts.
 use crate::{RowsFault, Well};
 use lane_board::LaneBoard;
 use srs::{Piece, Placement, Rotation};
 
-/// Rows texts that are refused, and what for.
+/// Rows texts that are refused, each with its fault.
 const REFUSED: [(&str, RowsFault); 9] = [
     ("XXXXXX___", RowsFault::BadRowLength { row: 1 }),
     ("XXXXXX_____", RowsFault::BadRowLength { row: 1 }),

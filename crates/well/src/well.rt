@@ -1,4 +1,4 @@
-// The well: its cells, the text it is read from, what is free in it, what locking leaves, and its counts.
+// The well: its cells, the text that it is read from, what is free in it, what locking leaves, and its counts.
 ghost use Rattle.std.specs.Prelude.{◌≡◌, ℕ, false};
 ghost use Rattle.lane_board.specs.Board.{field_of};
 
@@ -26,7 +26,7 @@ impl Well {
     ghost use Rattle.well.specs.Lock.{with_place, together, locked, rows_removed};
     ghost use Rattle.well.specs.Rows.{rows_fault, written_cells};
 
-    /// The well with no cell.
+    /// The well without cells.
     pub fn empty() -> Well
         ensures { filled result ≡ empty_field }
     {
@@ -44,7 +44,7 @@ impl Well {
         self.board.get(x, y)
     }
 
-    /// The well with the cell in column `x` and row `y` filled.
+    /// The same well, with the cell in column `x` and row `y` filled.
     pub fn with(&self, x: u8, y: u8) -> Well
         requires column { x ≤ 9 }
         requires row { y ≤ 22 }
@@ -55,7 +55,7 @@ impl Well {
         }
     }
 
-    /// Every cell one row higher, where row 22 is empty.
+    /// Every cell one row higher. Row 22 must be empty.
     pub(crate) fn raised(&self) -> Well
         requires { (x : ℕ) → filled self.now x 22 ≡ false }
         ensures { filled result ≡ raised (filled self.now) }
@@ -72,9 +72,9 @@ impl Well {
         self.board
     }
 
-    /// The well of a rows text: rows from the top one down to row 0, divided by `/`, each of ten characters. `_` and
-    /// `.` are empty, `X` and the letters of the pieces are filled, in either case. The empty text has no rows, and
-    /// rows that are not written are empty. A refusal is the first fault from the left.
+    /// The well that a rows text spells: rows from the top one down to row 0, separated by `/`, each of ten characters.
+    /// `_` and `.` are empty cells; `X` and the letters of the pieces, in either case, are filled ones. The empty text
+    /// has no rows. Rows above those that are written are empty. A refusal is the first fault from the left.
     pub fn from_rows(text: &[u8]) -> Result<Well, RowsFault>
         ensures cells { IfOk result (λ well. filled well ≡ written_cells text.now) }
         ensures form { IfOk result (λ _. rows_fault text.now ≡ None) }
@@ -90,7 +90,7 @@ impl Well {
         reader.finish()
     }
 
-    /// Whether the placement lies inside the well and on no filled cell.
+    /// Whether the placement lies inside the well and covers no filled cell.
     #[tactic(auto, unfolding(crate::specs::Free::is_free_at))]
     pub fn is_free(&self, placement: &Placement) -> bool
         requires x { placement.now.x ≤ 31 }
@@ -100,7 +100,7 @@ impl Well {
         cells(placement).iter().all(|cell| self.is_open(*cell))
     }
 
-    /// The well in which the placement's cells are filled and full rows are removed, and how many rows went.
+    /// Fills the placement's cells and removes full rows. Returns the well that is left and the number of removed rows.
     pub fn lock(&self, placement: &Placement) -> (Well, u8)
         requires { IsTrue (is_free (filled self.now) placement.now) }
         ensures field { filled result.0 ≡ locked (filled self.now) placement.now }
@@ -109,7 +109,7 @@ impl Well {
         self.with_placement(placement).without_full_rows()
     }
 
-    /// Whether a cell, as column and row, is a cell of the well that is not filled.
+    /// Whether a pair of column and row is an empty cell of the well.
     fn is_open(&self, cell: (i8, i8)) -> bool
         ensures { result ≡ is_open (filled self.now) cell }
     {
@@ -120,7 +120,7 @@ impl Well {
         !self.cell(x as u8, y as u8)
     }
 
-    /// The well with the placement's cells filled.
+    /// The same well, with the placement's cells filled.
     fn with_placement(&self, placement: &Placement) -> Well
         requires { IsTrue (is_free (filled self.now) placement.now) }
         ensures { filled result ≡ together (filled self.now) placement.now }
@@ -129,7 +129,7 @@ impl Well {
         self.with_place(a).with_place(b).with_place(c).with_place(d)
     }
 
-    /// The well with a cell, as column and row, filled.
+    /// The same well, with the cell at this column and row filled.
     fn with_place(&self, cell: (i8, i8)) -> Well
         requires { IsTrue (in_well cell) }
         ensures { filled result ≡ with_place (filled self.now) cell }
@@ -138,7 +138,8 @@ impl Well {
         self.with(x as u8, y as u8)
     }
 
-    /// The well without its full rows, every other cell lowered by the full rows below it; and how many rows went.
+    /// The well without its full rows, and how many there were. Every other cell moves down by the number of full rows
+    /// below it.
     fn without_full_rows(&self) -> (Well, u8)
         ensures field { filled result.0 ≡ without_full_rows (filled self.now) 23 }
         ensures removed { result.1 ≡ full_below (filled self.now) 23 }
@@ -150,7 +151,7 @@ impl Well {
         (well, removed as u8)
     }
 
-    /// How many cells of rows 0 to `height - 1` are empty.
+    /// How many cells of the rows below `height` are empty.
     pub fn empties_below(&self, height: u8) -> u8
         requires { height ≤ 23 }
         ensures { result ≡ empties_below (filled self.now) height }
@@ -159,7 +160,7 @@ impl Well {
         10 * height - cells as u8
     }
 
-    /// The lowest full row. `None` exactly where no row is full.
+    /// The lowest full row. `None` exactly if no row is full.
     pub fn lowest_full(&self) -> Option<u8>
         ensures { result ≡ lowest_full (filled self.now) }
     {
@@ -170,7 +171,7 @@ impl Well {
         Some(full.trailing_zeros() as u8)
     }
 
-    /// The lowest row at or above the height that has a filled cell. `None` exactly where there is none.
+    /// The lowest row at or above the height that has a filled cell. `None` exactly if there is none.
     pub fn lowest_filled_from(&self, height: u8) -> Option<u8>
         requires { height ≤ 23 }
         ensures { result ≡ lowest_filled_from (filled self.now) height }

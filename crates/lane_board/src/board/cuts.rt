@@ -1,4 +1,4 @@
-// The rows below a height, and boards of another number of rows.
+// The rows below a height, and boards with another number of rows.
 ghost use Rattle.std.specs.Prelude.{◌≡◌, ◌≤◌, IsTrue};
 ghost use Rattle.lane_board.specs.Board.{field_of};
 ghost use Rattle.lane_board.specs.Field.{intersection, rows_below};
@@ -8,7 +8,7 @@ use super::LaneBoard;
 use crate::eights::{FULL, load, store};
 
 impl<const N: usize> LaneBoard<N> {
-    /// The board with all cells of the rows below `height`.
+    /// The board with every cell of the rows below `height`.
     pub fn rows_below(height: u8) -> LaneBoard<N>
         requires lanes { IsTrue (is_lane_count N) }
         requires within { height ≤ N }
@@ -21,7 +21,7 @@ impl<const N: usize> LaneBoard<N> {
         LaneBoard { rows }
     }
 
-    /// The same cells on a board of `M` rows; those in row `M` and above are dropped.
+    /// The same cells on a board of `M` rows. Cells in row `M` and above are dropped.
     #[inline(always)]
     pub fn resized<const M: usize>(&self) -> LaneBoard<M>
         requires { IsTrue (is_lane_count M) }

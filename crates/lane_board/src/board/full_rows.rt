@@ -8,7 +8,7 @@ use super::LaneBoard;
 use crate::eights::{FULL, full_in};
 
 impl<const N: usize> LaneBoard<N> {
-    /// Which rows are full: bit `y` is set exactly where row `y` has its ten cells.
+    /// Which rows are full: bit `y` is set exactly if row `y` has all ten cells.
     #[inline(always)]
     pub fn full_rows(&self) -> u32
         ensures rows { has_bit result ≡ is_full (field_of self.now) }
@@ -22,7 +22,7 @@ impl<const N: usize> LaneBoard<N> {
         full
     }
 
-    /// The board without its full rows: every other cell is lowered by the number of full rows below its row.
+    /// The board without its full rows. Every other cell moves down by the number of full rows below it.
     pub fn without_full_rows(&self) -> LaneBoard<N>
         ensures { field_of result ≡ without_full_rows (field_of self.now) N }
     {

@@ -16,7 +16,7 @@ impl<const N: usize> LaneBoard<N> {
         LaneBoard { rows }
     }
 
-    /// The cells that one of the boards has.
+    /// The cells that either board has.
     #[inline(always)]
     pub fn or(&self, other: &LaneBoard<N>) -> LaneBoard<N>
         ensures { field_of result ≡ union (field_of self.now) (field_of other.now) }
@@ -25,7 +25,7 @@ impl<const N: usize> LaneBoard<N> {
         LaneBoard { rows }
     }
 
-    /// The cells that the other board does not have.
+    /// The cells of this board that the other doesn't have.
     #[inline(always)]
     pub fn minus(&self, other: &LaneBoard<N>) -> LaneBoard<N>
         ensures { field_of result ≡ difference (field_of self.now) (field_of other.now) }
@@ -47,7 +47,7 @@ impl<const N: usize> LaneBoard<N> {
         true
     }
 
-    /// Whether the board has no cell.
+    /// Whether the board has no cells.
     #[inline(always)]
     pub fn is_empty(&self) -> bool
         ensures { IsTrue result ↔ (field_of self.now ≡ empty_field) }

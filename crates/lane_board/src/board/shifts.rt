@@ -9,8 +9,8 @@ use crate::eights::{eight_from, load, load_or_none, moved_columns, store};
 use std::simd::prelude::*;
 
 impl<const N: usize> LaneBoard<N> {
-    /// Each cell moved `dx` columns to the right and `dy` rows up, by nine at most either way. A cell that leaves the
-    /// board is dropped.
+    /// Every cell moved `dx` columns to the right and `dy` rows up, each from -9 to 9. Cells that leave the board are
+    /// dropped.
     #[inline(always)]
     pub fn moved(&self, dx: i8, dy: i8) -> LaneBoard<N>
         requires left { negsuc 8 ≤ℤ dx }
@@ -24,10 +24,10 @@ impl<const N: usize> LaneBoard<N> {
     }
 }
 
-/// How far a board is moved at most, in columns or in rows.
+/// The furthest that a board is moved, in columns or in rows.
 const FURTHEST: usize = 9;
 
-/// The most rows of a board, and the furthest move below and above them.
+/// The most rows that a board has, and nine more below and above them.
 const FRAME: usize = 50;
 
 /// The rows moved `dx` columns to the right and `dy` rows up.
@@ -49,7 +49,7 @@ fn moved_rows<const N: usize>(rows: &[u16; N], dx: i8, dy: i8) -> [u16; N]
     near_rows(rows, dx, dy)
 }
 
-/// The same by eight rows at most.
+/// The same, for moves of at most eight rows.
 #[inline(always)]
 fn near_rows<const N: usize>(rows: &[u16; N], dx: i8, dy: i8) -> [u16; N]
     requires eights { N % 8 ≡ 0 }
@@ -68,7 +68,7 @@ fn near_rows<const N: usize>(rows: &[u16; N], dx: i8, dy: i8) -> [u16; N]
     moved
 }
 
-/// The eight rows that lie `dy` rows below those from row `at` on; rows that the board doesn't have are empty.
+/// The eight rows that lie `dy` rows below those from row `at` on. Rows outside the board are empty.
 #[inline(always)]
 fn eight_below(rows: &[u16], at: usize, dy: i8) -> u16x8
     requires in_eights { length rows.now % 8 ≡ 0 }
@@ -87,7 +87,7 @@ fn eight_below(rows: &[u16], at: usize, dy: i8) -> u16x8
     eight_from(load_before(rows, at), lanes, (8 - dy) as u8)
 }
 
-/// The eight rows before row `at`, or eight empty rows before the first.
+/// The eight rows before row `at`, or eight empty rows if `at` is the first.
 #[inline(always)]
 fn load_before(rows: &[u16], at: usize) -> u16x8
     requires at_eight { at % 8 ≡ 0 }
@@ -101,7 +101,7 @@ fn load_before(rows: &[u16], at: usize) -> u16x8
     load(rows, at - 8)
 }
 
-/// The rows moved `dx` columns to the right, in a frame of empty rows: nine below them, and no less above.
+/// The rows moved `dx` columns to the right, in a frame of empty rows: nine below them, and at least nine above.
 #[inline(always)]
 fn framed<const N: usize>(rows: &[u16; N], dx: i8) -> [u16; FRAME]
     requires eights { N % 8 ≡ 0 }
