@@ -38,7 +38,7 @@ impl Random {
     }
 }
 
-/// Fields of so many rows of cells, each with its own share of filled ones.
+/// Fields whose lowest `rows` rows have cells, each with its own share of filled ones.
 pub(crate) fn ragged_fields(alloc: Global, rows: u32) -> Result<Vec<Well>, AllocError> {
     let mut random = Random { state: 7 };
     let mut wells = Vec::new(alloc);
@@ -62,7 +62,7 @@ fn ragged_field(random: &mut Random, rows: u32) -> Well {
     well
 }
 
-/// Fields that are played in the lowest so many rows, each by another number of pieces.
+/// Fields in which pieces were played in the lowest `rows` rows, each with another number of pieces.
 pub(crate) fn played_fields<L: Ledger>(
     alloc: Global,
     rows: u32,
@@ -76,7 +76,7 @@ pub(crate) fn played_fields<L: Ledger>(
     Ok(wells)
 }
 
-/// One such field: pieces at random, each in one of its places whose cells lie in these rows.
+/// One such field: random pieces, each in one of its places whose cells lie in these rows.
 fn played_field<L: Ledger>(random: &mut Random, rows: u8, steps: &mut Steps<L>) -> Well {
     let mut well = Well::empty();
     for _ in 0..random.below(10 * u64::from(rows) / 4 + 1) {
@@ -90,7 +90,7 @@ fn played_field<L: Ledger>(random: &mut Random, rows: u8, steps: &mut Steps<L>) 
     well
 }
 
-/// One of the placements that are held.
+/// One of these placements.
 fn chosen(random: &mut Random, held: Places) -> Option<Placement> {
     let count = count(held);
     if count == 0 {
@@ -103,7 +103,7 @@ fn chosen(random: &mut Random, held: Places) -> Option<Placement> {
     held.take_least()
 }
 
-/// How many placements are held, if fewer than a thousand.
+/// How many placements there are, counted up to a thousand.
 fn count(held: Places) -> u64 {
     let mut held = held;
     for number in 0..1000 {
@@ -114,7 +114,7 @@ fn count(held: Places) -> u64 {
     1000
 }
 
-/// The well with the placement locked, where it is free.
+/// The well with the placement locked, if it is free there.
 fn locked(well: &Well, placement: &Placement) -> Well {
     if placement.x <= 9 && placement.y <= 22 && well.is_free(placement) {
         return well.lock(placement).0;

@@ -1,7 +1,7 @@
-// Floods fields as often as its first argument says, and prints a checksum of what was held. Without more arguments
-// these are three fixed fields with either drop. Further arguments are `ragged` or `played` fields, their number of
-// rows, `soft` or `hard`, and what is made of each flood: `first` looks at one placement, `list` takes all, and `rules`
-// looks at one by the call that looks at the table first.
+// Floods fields as often as the first argument says, and prints a checksum of the placements. Without more arguments it
+// floods three fixed fields with either drop mode. Further arguments are `ragged` or `played` fields, their number of
+// rows, `soft` or `hard`, and what is done with each flood: `first` looks at one placement, `list` takes all, and
+// `rules` looks at one by the call that tests the table first.
 #![tactic(auto)]
 
 ghost use Rattle.std.specs.Prelude.{◌≡◌, ◌<◌, ◌≤◌};
@@ -22,7 +22,7 @@ use well::Well;
 
 const MODES: [DropMode; 2] = [DropMode::Soft, DropMode::Hard];
 
-/// What is flooded, and what is made of each flood.
+/// What is flooded, and what is done with each flood.
 #[derive(Clone, Copy)]
 struct Task {
     rounds: u32,
@@ -32,7 +32,7 @@ struct Task {
     look: Look,
 }
 
-/// What is made of a flood.
+/// What is done with a flood.
 #[derive(Clone, Copy)]
 enum Look {
     First,
@@ -66,7 +66,7 @@ fn task_of(words: &Vec<String>) -> Task {
     }
 }
 
-/// What is made of a flood by this word.
+/// What this word says is done with a flood.
 fn look_of(word: Option<&String>) -> Look {
     if is_word(word, "list") {
         return Look::All;
@@ -77,7 +77,7 @@ fn look_of(word: Option<&String>) -> Look {
     Look::First
 }
 
-/// The number that a word says, or 1.
+/// The number in a word, or 1.
 fn number(word: Option<&String>) -> u32 {
     match word {
         Some(word) => word.parse::<u32>().unwrap_or(1),
@@ -85,7 +85,7 @@ fn number(word: Option<&String>) -> u32 {
     }
 }
 
-/// Whether the word is there.
+/// Whether the word is this text.
 fn is_word(word: Option<&String>, text: &str) -> bool {
     match word {
         Some(word) => word.as_str() == text,
@@ -93,7 +93,7 @@ fn is_word(word: Option<&String>, text: &str) -> bool {
     }
 }
 
-/// The checksum of all placements that so many rounds hold.
+/// The checksum of all placements in this many rounds.
 fn flooded<L: Ledger>(blank: Blank, rounds: u32) -> u64
     requires name { blank.name ≡ L.name }
     requires parts { blank.parts ≡ L.parts }
@@ -142,7 +142,7 @@ fn low_flooded<L: Ledger>(blank: Blank, alloc: Global, task: Task) -> Result<u64
     Ok(sum)
 }
 
-/// The checksum with what is looked at in the flood of a low field.
+/// The checksum, with what is looked at in the flood of a low field added.
 #[inline(always)]
 fn low_sum<L: Ledger>(
     sum: u64,
@@ -161,7 +161,7 @@ fn low_sum<L: Ledger>(
     }
 }
 
-/// The checksum with the least placement that is held.
+/// The checksum, with the least of these placements added.
 fn first_sum(sum: u64, held: &Places) -> u64 {
     match held.next_after(None) {
         None => sum,
@@ -169,7 +169,7 @@ fn first_sum(sum: u64, held: &Places) -> u64 {
     }
 }
 
-/// The checksum with all placements that are held, which are taken one after the other.
+/// The checksum, with all these placements added, taken one after the other.
 fn taken_sum(sum: u64, held: Places) -> u64 {
     let mut sum = sum;
     let mut held = held;
@@ -182,7 +182,7 @@ fn taken_sum(sum: u64, held: Places) -> u64 {
     sum
 }
 
-/// The checksum with one placement.
+/// The checksum, with one placement added.
 #[inline(always)]
 fn with_placement(sum: u64, placement: &Placement) -> u64 {
     let number = u64::from(placement.rotation.place()) * 65536
@@ -191,7 +191,7 @@ fn with_placement(sum: u64, placement: &Placement) -> u64 {
     sum.wrapping_mul(31).wrapping_add(number)
 }
 
-/// The checksum with the placements that are held.
+/// The checksum, with all these placements added.
 fn mixed(sum: u64, held: &Places) -> u64 {
     let mut sum = sum;
     let mut last: Option<Placement> = None;

@@ -32,7 +32,7 @@ struct Play {
     hold: Hold,
 }
 
-/// The best of the runs that the pieces at hand permit, by what is kept and with what is found on the way.
+/// The best run that the pieces at hand permit. It uses kept runs, and keeps what it finds.
 #[cycle(runs)]
 fn best_run<L: Ledger>(
     play: &Play,
@@ -59,8 +59,8 @@ fn best_run<L: Ledger>(
     best
 }
 
-/// The best of the runs that begin with one of the two turns. The one with the lesser piece is looked at first, and the
-/// other one only where a run of it can be better.
+/// The best run that begins with one of the two turns. The turn with the lesser piece is searched first. The other one
+/// is searched only if it can give a better run.
 #[cycle(runs)]
 fn best_turn<L: Ledger>(
     play: &Play,
@@ -93,7 +93,7 @@ fn best_turn<L: Ledger>(
     best_of_two(play, queue, well, plain, by_hold, most, store, steps)
 }
 
-/// The best of the runs that begin with one of two turns.
+/// The best run that begins with one of two turns.
 #[cycle(runs)]
 fn best_of_two<L: Ledger>(
     play: &Play,
@@ -125,7 +125,7 @@ fn best_of_two<L: Ledger>(
     better(best, other)
 }
 
-/// The best of the runs that begin with a turn, if there is one. None is longer than `most`.
+/// The best run that begins with a turn, if there is one. No run is longer than `most`.
 #[cycle(runs)]
 fn best_after<L: Ledger>(
     play: &Play,
@@ -165,7 +165,7 @@ fn best_after<L: Ledger>(
     best
 }
 
-/// What a placement leaves, where it removes a row.
+/// What a placement leaves, if it removes a row.
 fn cleared(well: &Well, placement: &Placement) -> Option<Well>
     requires { IsTrue (is_free (filled well.now) placement.now) }
     ensures removes { IfSome result (λ _. 1 ≤ rows_removed (filled well.now) placement.now) }
@@ -179,9 +179,9 @@ fn cleared(well: &Well, placement: &Placement) -> Option<Well>
     Some(next)
 }
 
-/// The longest run of placements that each remove a row and that the queue permits, with the piece held at the start;
-/// of those that are as long, the one that comes first. Adds a step for each flood.
-// What is kept lies on the stack, and not on that of callers into which this would be inlined.
+/// The longest run that the queue and the held piece permit, in which each placement removes a row. Ties go to the
+/// first in order. Counts one step for each flood.
+// What is kept lies on this stack, not on that of callers into which this would be inlined.
 #[inline(never)]
 pub fn longest<L: Ledger>(
     well: &Well,

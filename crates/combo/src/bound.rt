@@ -8,7 +8,7 @@ use crate::hand::{Hand, count};
 use srs::Piece;
 use well::Well;
 
-/// No run of the pieces at hand is longer. Each placement adds four cells, and removes ten or more.
+/// No run of the pieces at hand is longer than this. Each placement adds four cells and removes at least ten.
 pub fn most(queue: &[Piece], well: &Well, hand: Hand) -> usize
     requires { hand_count queue.now hand ≤ 23 }
     ensures { result ≡ min (hand_count queue.now hand) (cell_count (filled well.now) 23 / 6) }

@@ -1,4 +1,4 @@
-// The pieces at hand: what is left of a queue, and a held piece.
+// The pieces at hand: the rest of a queue, and a held piece.
 ghost use Rattle.std.specs.Prelude.{◌≡◌, ◌<◌, ◌≤◌, ◌+◌, ◌↔◌, IsTrue, Some, None, ◌-◌, drop, length, List};
 ghost use Rattle.std.specs.Option.{option_map};
 ghost use Rattle.srs.specs.declared.piece.Piece.{Piece};
@@ -9,7 +9,7 @@ ghost use Rattle.combo.specs.Turns.{plain_next, second_next, hold_next, next_of,
 use hold_queue::Hold;
 use srs::Piece;
 
-/// How many pieces of the queue are taken, and which piece is held.
+/// How many pieces of the queue have been taken, and which piece is held.
 #[derive(Clone, Copy, PartialEq, Eq)]
 pub struct Hand {
     pub taken: usize,
@@ -24,8 +24,8 @@ pub struct Turn {
 }
 
 impl Hand {
-    /// What is at hand at the start. Where hold is allowed and no piece is held, the first piece of the queue is like a
-    /// held one.
+    /// What is at hand at the start. If hold is allowed and no piece is held, the first piece of the queue counts as
+    /// held.
     #[tactic(auto, using(crate::proofs::TurnLemmas::first_is_held))]
     pub fn start(queue: &[Piece], hold: Hold, held: Option<Piece>) -> Hand
         ensures same { (pieces : List Piece) → Permits hold (drop result.taken queue.now) result.held pieces
@@ -50,7 +50,7 @@ impl Hand {
 }
 
 impl Turn {
-    /// Whether two turns play the same piece and leave the same at hand.
+    /// Whether two turns play the same piece and leave the same hand.
     pub fn is_same(one: &Option<Turn>, other: &Option<Turn>) -> bool
         ensures { IsTrue result → one.now ≡ other.now }
     {
@@ -63,7 +63,7 @@ impl Turn {
         }
     }
 
-    /// Whether the piece of one turn comes before that of the other.
+    /// Whether the piece of one turn comes before the piece of the other.
     pub fn is_before(one: &Option<Turn>, other: &Option<Turn>) -> bool
         ensures { IsTrue result → ComesBefore one.now other.now }
     {
@@ -109,7 +109,7 @@ pub fn plain_turn(queue: &[Piece], hand: Hand) -> Option<Turn>
     })
 }
 
-/// Plays the held piece, and holds the first one of the queue, if any.
+/// Plays the held piece, and holds the first piece of the queue, if any.
 fn exchanged(queue: &[Piece], piece: Piece, taken: usize) -> Turn
     ensures next { Some (next_of queue.now result) ≡ hold_next Hold.Allowed (drop taken queue.now) (Some piece) }
     ensures fewer { hand_count queue.now result.hand + 1 ≤ (length queue.now - taken) + 1 }
@@ -129,7 +129,7 @@ fn exchanged(queue: &[Piece], piece: Piece, taken: usize) -> Turn
     }
 }
 
-/// Plays the second piece of the queue, and holds the first one.
+/// Plays the second piece of the queue, and holds the first.
 fn second_turn(queue: &[Piece], taken: usize) -> Option<Turn>
     ensures next { option_map (next_of queue.now) result ≡ hold_next Hold.Allowed (drop taken queue.now) None }
     ensures fewer { turn_count queue.now result ≤ length queue.now - taken }
@@ -145,7 +145,7 @@ fn second_turn(queue: &[Piece], taken: usize) -> Option<Turn>
     })
 }
 
-/// Plays the held piece, or the second one of the queue with the first one held.
+/// Plays the held piece, or the second piece of the queue while the first is held.
 pub fn hold_turn(queue: &[Piece], hold: Hold, hand: Hand) -> Option<Turn>
     ensures next { option_map (next_of queue.now) result ≡ hold_next hold (drop hand.taken queue.now) hand.held }
     ensures fewer { turn_count queue.now result ≤ hand_count queue.now hand }

@@ -1,4 +1,4 @@
-// Runs that are kept, each with its field and with what was at hand.
+// Kept runs, each with its field and the pieces that were at hand.
 ghost use Rattle.std.specs.Prelude.{◌≡◌, ◌≤◌, IfSome, take};
 ghost use Rattle.well.specs.Well.{filled};
 
@@ -37,7 +37,7 @@ impl Known {
         }
     }
 
-    /// The run, where these are the field and the pieces at hand.
+    /// The run, if this is the field and these are the pieces at hand.
     pub fn run_of(&self, well: &Well, hand: Hand) -> Option<Run>
         ensures well { IfSome result (λ _. filled self.now.well ≡ filled well.now) }
         ensures hand { IfSome result (λ _. self.now.hand ≡ hand) }

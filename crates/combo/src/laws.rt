@@ -1,4 +1,4 @@
-// Laws of the definitions: functions with an empty body, whose contract is the law.
+// Laws of the definitions: functions with an empty body whose contract is the law.
 ghost use Rattle.std.specs.Prelude.{◌≡◌, ◌≤◌, ◌*◌, List, Option, length};
 ghost use Rattle.lane_board.specs.Field.{Field};
 ghost use Rattle.lane_board.specs.CellCount.{cell_count};
@@ -10,7 +10,7 @@ ghost use Rattle.hold_queue.specs.declared.hold.Hold.{Hold};
 ghost use Rattle.combo.specs.Runs.{Runs};
 ghost use Rattle.combo.specs.Longest.{IsLongest};
 
-/// Of a field, its rules and a queue there is one longest run at most.
+/// A field, its rules and a queue have at most one longest run: ties go to the first in order.
 #[tactic(auto, using(crate::proofs::LongestLemmas::one_longest))]
 pub fn longest_runs_are_determined()
     ensures { (table : Table) (mode : DropMode) (F : Field) (hold : Hold) (queue : List Piece) (held : Option Piece)
@@ -18,7 +18,7 @@ pub fn longest_runs_are_determined()
         → IsLongest table mode F hold queue held other → one ≡ other }
 {}
 
-/// And there is one.
+/// A longest run exists.
 pub fn longest_runs_exist()
     ensures { (table : Table) (mode : DropMode) (F : Field) (hold : Hold) (queue : List Piece) (held : Option Piece)
         → (run : List Placement) × IsLongest table mode F hold queue held run }

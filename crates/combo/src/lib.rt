@@ -1,4 +1,4 @@
-// A longest run of placements that each remove a row.
+// The longest run of placements that each remove a row.
 #![tactic(auto)]
 
 mod best;

@@ -12,7 +12,7 @@ use std::cmp::Ordering;
 /// A run of placements: at most the 22 pieces of a queue and a held one.
 pub type Run = ArrayVec<Placement, 23>;
 
-/// Compares place by place, the first difference deciding.
+/// Compares by the first difference, placement by placement.
 fn compare_sequences(one: &[Placement], other: &[Placement]) -> Ordering
     ensures { result ≡ sequence_cmp one.now other.now }
 {
@@ -26,7 +26,7 @@ fn compare_sequences(one: &[Placement], other: &[Placement]) -> Ordering
     }
 }
 
-/// The longer of two runs, and of two that are as long the one that comes before.
+/// The longer of two runs. If they are equally long, the one that comes first.
 pub fn better(one: Run, other: Run) -> Run
     ensures { result.items ≡ (if is_gt (run_cmp one.items other.items) then other.items else one.items) }
 {
@@ -41,7 +41,7 @@ pub fn better(one: Run, other: Run) -> Run
     }
 }
 
-/// A run that begins with a placement.
+/// A run that begins with this placement.
 pub fn with_first(placement: Placement, rest: &Run) -> Run
     requires { array_vec_len rest.now + 1 ≤ 23 }
     ensures { result.items ≡ placement ∷ rest.now.items }

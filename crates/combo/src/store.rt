@@ -1,4 +1,4 @@
-// A store of fixed room for runs: each has one place, and a later one takes it from an earlier one.
+// A store for a fixed number of runs. Each run has one place, and a later one evicts an earlier one.
 ghost use Rattle.std.specs.Prelude.{◌<◌, IfSome};
 ghost use Rattle.well.specs.Well.{filled};
 ghost use Rattle.combo.specs.Known.{KeepsRun};
@@ -8,10 +8,10 @@ use crate::known::Known;
 use crate::run::Run;
 use well::Well;
 
-/// So many runs are kept at most, in some 170 KB of the stack.
+/// The most runs that are kept, in about 170 KB of the stack.
 pub const PLACES: usize = 1024;
 
-/// The run that is kept in a place, where it is of this field and of these pieces at hand.
+/// The run that is kept here, if it is for this field and these pieces at hand.
 pub fn kept(entry: &Option<Known>, well: &Well, hand: Hand) -> Option<Run>
     ensures { IfSome result (λ run. KeepsRun entry.now (filled well.now) hand run.items) }
 {
@@ -21,7 +21,7 @@ pub fn kept(entry: &Option<Known>, well: &Well, hand: Hand) -> Option<Run>
     }
 }
 
-/// The place of a field and of the pieces at hand, among so many.
+/// The index for a field and the pieces at hand in a store of this size.
 pub fn place_of(well: &Well, hand: Hand, count: usize) -> usize
     requires { 0 < count }
     ensures { result < count }

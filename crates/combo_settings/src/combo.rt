@@ -4,13 +4,13 @@ use moves::DropMode;
 use pc_settings::FieldWords;
 use srs::Piece;
 
-/// What `combo` is asked for.
+/// What a call of `combo` asks for.
 #[derive(Clone, Copy, Debug, PartialEq, Eq)]
 pub struct ComboSettings<'a> {
     pub field: FieldWords<'a>,
-    /// The number of the page that is the field where it is a fumen's, counted from 1.
+    /// If the field is a fumen's, the number of its page, counted from 1.
     pub page: u32,
-    /// The text of a pattern of queues, which is to have one queue.
+    /// The text of a pattern, which must stand for exactly one queue.
     pub patterns: &'a str,
     pub hold: Hold,
     /// The piece that is held at the start.

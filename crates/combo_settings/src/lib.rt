@@ -1,4 +1,4 @@
-// What `combo` is asked for.
+// What a call of `combo` asks for.
 #![tactic(auto)]
 
 mod combo;

@@ -9,23 +9,23 @@ use queue_pattern::laws::queues_rise;
 use queue_pattern::{Pattern, Queue};
 use srs::Piece;
 
-/// The first so many pieces, or all where there are fewer.
+/// The first `count` pieces, or all if there are fewer.
 fn front(pieces: &[Piece], count: usize) -> &[Piece]
     ensures { result.now ≡ take count pieces.now }
 {
     &pieces[..count.min(pieces.len())]
 }
 
-/// Whether two queues have the same first so many pieces.
+/// Whether the first `count` pieces of two queues are the same.
 fn has_same_front(queue: &[Piece], other: &[Piece], count: usize) -> bool
     ensures { IsTrue result → HasSameFront count queue.now other.now }
 {
     front(other, count) == front(queue, count)
 }
 
-/// The number after a queue's and those of some queues that follow it and have the same first so many pieces: where
-/// all that follow have them, the number of queues. The steps get longer as long as they find such queues, and shorter
-/// again.
+/// A number above `number`: every queue from `number` up to it, not included, has the queue's first `count` pieces. It
+/// is the number of queues if all further queues have them. The steps grow while they find such queues, and shrink
+/// after that.
 pub fn end_of_front(pattern: &Pattern, number: u32, queue: &Queue, count: usize) -> u32
     requires { slice_get (queues (elements_of pattern.now)) number ≡ Some queue.now.items }
     ensures after { number < result }

@@ -2,7 +2,7 @@
 use hold_queue::Hold;
 use srs::Piece;
 
-/// A piece that stands in front, if any, and from which place of the queue on its pieces are at hand.
+/// A piece that stands in front, if any, and the index in the queue from which its pieces are at hand.
 #[derive(Clone, Copy)]
 pub struct Hand {
     pub kept: Option<Piece>,
@@ -15,7 +15,7 @@ impl Hand {
     ghost use Rattle.hold_queue.specs.AtHand.{at_hand};
     ghost use Rattle.cover.specs.Look.{IsFirstAtHand, pieces_at};
 
-    /// The pieces at hand at the start: a held piece, where it may be played, and the whole queue.
+    /// The pieces at hand at the start: the held piece if it may be played, and the whole queue.
     pub fn start(hold: Hold, held: Option<Piece>) -> Hand
         ensures at { (queue : List Piece) → pieces_at queue result ≡ at_hand hold held queue }
         ensures place { result.place ≡ 0 }
@@ -27,7 +27,7 @@ impl Hand {
         Hand { kept, place: 0 }
     }
 
-    /// The first piece at hand, and the others. `None` exactly where there is none.
+    /// The first piece at hand, and the other pieces. `None` exactly if there is none.
     pub fn first(self, queue: &[Piece]) -> Option<(Piece, Hand)>
         requires { self.place ≤ length queue.now }
         ensures { IsFirstAtHand queue.now self result }

@@ -1,4 +1,4 @@
-// Laws of the definitions: functions with an empty body, whose contract is the law.
+// Laws of the definitions: functions with an empty body whose contract is the law.
 ghost use Rattle.std.specs.Prelude.{◌≡◌, ◌↔◌, ℕ, List, None, Some, slice_get};
 ghost use Rattle.srs.specs.declared.piece.Piece.{Piece};
 ghost use Rattle.srs.specs.declared.placement.Placement.{Placement};
@@ -10,8 +10,8 @@ ghost use Rattle.problem.specs.SolutionList.{IsList};
 ghost use Rattle.problem.specs.Solution.{IsSolution};
 ghost use Rattle.cover.specs.Covered.{IsCovered, IsCoveredList};
 
-/// Where the sequences are all solutions of a problem, a queue is covered exactly where some sequence is a solution for
-/// it alone.
+/// If the sequences are all solutions of a problem, a queue is covered exactly if some sequence solves the problem with
+/// this queue alone.
 pub fn all_solutions_cover_each_queue_that_has_one()
     ensures { (problem : Problem) (sequences : List (List Placement)) (number : ℕ) (queue : List Piece) →
         IsList (record { problem = problem; queue = None; bound = None }) sequences →
@@ -20,7 +20,7 @@ pub fn all_solutions_cover_each_queue_that_has_one()
         ↔ ((sequence : List Placement) × IsSolution problem (Some queue) sequence) }
 {}
 
-/// For a fit problem there is the rising list of the covered queues, whatever the sequences.
+/// For a fit problem, the rising list of the covered queues exists, whatever the sequences are.
 pub fn covered_lists_exist()
     ensures { (problem : Problem) (sequences : List (List Placement)) → IsFit problem
         → (numbers : List ℕ) × IsCoveredList problem sequences numbers }

@@ -1,4 +1,4 @@
-// Which queues of a pattern some known sequences answer.
+// Which queues of a pattern some known sequences cover.
 #![tactic(auto)]
 
 mod front;

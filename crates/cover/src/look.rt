@@ -1,4 +1,4 @@
-// Looking for a list of a tree that can be taken from the pieces at hand.
+// Looking in a tree for a list that can be taken from the pieces at hand.
 ghost use Rattle.std.specs.Prelude.{◌≤◌, ◌<◌, length};
 ghost use Rattle.cover.specs.Look.{Looks, LooksBelow};
 ghost use Rattle.cover.specs.Tree.{nodes_of};
@@ -8,12 +8,12 @@ use crate::tree::Tree;
 use hold_queue::Hold;
 use srs::Piece;
 
-/// What looking came to.
+/// The result of looking.
 #[derive(Clone, Copy)]
 pub enum Look {
     /// A list was found.
     Found,
-    /// There is none for any queue with the same first so many pieces.
+    /// No list can be taken, for any queue with the same first pieces, this many of them.
     Missed(usize),
 }
 

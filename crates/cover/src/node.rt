@@ -3,7 +3,7 @@ ghost use Rattle.std.specs.Prelude.{◌≡◌, length};
 
 use srs::Piece;
 
-/// The node below for each kind, in the order of codes, or 0 where there is none; and whether a list ends here.
+/// The node below for each kind, in the order of codes, or 0 if there is none; and whether a list ends here.
 #[derive(Clone, Copy)]
 pub struct Node {
     below: [usize; 7],
@@ -14,7 +14,7 @@ pub struct Node {
 impl Node {
     ghost use Rattle.cover.specs.Nodes.{IsBlank, IsWith, node_child};
 
-    /// With nothing below, where no list ends.
+    /// A node with nothing below, at which no list ends.
     pub fn blank() -> Node
         ensures { IsBlank result }
     {
@@ -31,7 +31,7 @@ impl Node {
         self.below[usize::from(kind.code() - 1)]
     }
 
-    /// The node with another one below it for a kind.
+    /// The same node, with another node below it for a kind.
     pub fn with(&self, kind: Piece, child: usize) -> Node
         ensures { IsWith self.now kind child result }
     {

@@ -7,8 +7,8 @@ use problem::{Problem, Sequence, lies_below};
 use reach::{Steps, places};
 use std::sync::ledger::Ledger;
 
-/// Whether each placement of a sequence is reached by legal keys in the field before it, below the rows that are left
-/// there, and the last one leaves no row and no cell. Adds at most one step for each placement.
+/// Whether legal keys lead to each placement of the sequence, in the field before it and below the rows that are left
+/// there, and the last one leaves no row and no cell. Counts at most one flood for each placement.
 pub fn plays<L: Ledger>(problem: &Problem, sequence: &Sequence, steps: &mut Steps<L>) -> bool
     requires { IsFit problem.now }
     ensures exact { IsTrue result ↔ PlaysIn problem.now sequence.now.items }

@@ -21,7 +21,8 @@ use reach::Steps;
 use std::alloc::Global;
 use std::sync::ledger::Ledger;
 
-/// A problem, and the distinct lists of the kinds of sequences that clear its field, in the order of first sight.
+/// A problem, and the different lists of kinds of those sequences that clear its field, in the order in which they
+/// came.
 #[derive(Drop)]
 pub struct CoverSet {
     problem: Problem,
@@ -32,7 +33,7 @@ pub struct CoverSet {
         spells (nodes_of tree) 0 kinds ≡ has_kinds (map listed_kinds lists.keys) kinds },
 }
 
-/// Keeps a list in a tree and in a set. Want of memory is the only refusal.
+/// Keeps a list in a tree and in a set. The only refusal is that memory runs out.
 fn keep(tree: &mut Tree, lists: &mut IndexSet<Kinds>, kinds: Kinds) -> Result<(), NoMemory>
     requires { (other : List Piece) →
         spells (nodes_of tree.old) 0 other ≡ has_kinds (map listed_kinds lists.old.keys) other }
@@ -55,7 +56,7 @@ impl CoverSet {
     ghost use Rattle.cover.specs.Covered.{Adds, IsNextFrom, IsPermitted, PlaysIn};
     ghost use Rattle.cover.specs.Kept.{lists_of, kept_problem};
 
-    /// A set that keeps nothing yet, for a fit problem. Want of memory is the only refusal.
+    /// A set for a fit problem that keeps nothing yet. The only refusal is that memory runs out.
     pub fn start(alloc: Global, problem: Problem) -> Result<CoverSet, NoMemory>
         requires { IsFit problem }
         ensures problem { IfOk result (λ set. kept_problem set ≡ problem) }
@@ -69,9 +70,9 @@ impl CoverSet {
         })
     }
 
-    /// Keeps the kinds of a sequence where it clears the field of the problem, and says whether it does. Adds at most
-    /// one step for each placement. Want of memory is the only refusal, and then all is as before; for a sequence that
-    /// leaves cells it is not answered.
+    /// Keeps the kinds of a sequence if it clears the field of the problem, and returns whether it does. Counts at most
+    /// one flood for each placement. The only refusal is that memory runs out, and the set is then unchanged. A
+    /// sequence that leaves cells is never refused.
     pub fn add<L: Ledger>(
         &mut self,
         sequence: &Sequence,
@@ -93,7 +94,7 @@ impl CoverSet {
         Ok(true)
     }
 
-    /// The least number, at or above one, of a queue that permits a kept list of kinds. `None` exactly where there is
+    /// The least number, at or above `from`, of a queue that permits a kept list of kinds. `None` exactly if there is
     /// none.
     pub fn next_covered(&self, from: u32) -> Option<u32>
         requires { from ≤ length (queues (elements_of (kept_problem self.now).pattern)) }

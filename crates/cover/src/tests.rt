@@ -1,4 +1,4 @@
-// Sequences that clear a small field, and the queues that they answer.
+// Sequences that clear a small field, and the queues that they cover.
 ghost use Rattle.std.specs.Prelude.{◌≡◌, ◌≤◌, ◌<◌};
 ghost use Rattle.problem.specs.Problem.{IsFit};
 
@@ -36,7 +36,7 @@ fn flat(piece: Piece) -> Sequence {
     sequence
 }
 
-/// How many queues a sequence answers, and the first of them.
+/// How many queues a sequence covers, and the first of them.
 fn answered<L: Ledger>(
     alloc: Global,
     blank: Blank,

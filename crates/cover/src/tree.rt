@@ -1,4 +1,4 @@
-// Lists of kinds as a tree: each list is a way down from the first node.
+// Lists of kinds as a tree: each list is a path down from the first node.
 ghost use Rattle.std.specs.Prelude.{◌≡◌, ◌<◌, length};
 ghost use Rattle.cover.specs.Nodes.{IsTree};
 
@@ -7,7 +7,7 @@ use pc_outside::NoMemory;
 use srs::Piece;
 use std::alloc::Global;
 
-/// A tree of nodes. The first node is that of the empty list.
+/// A tree of nodes. The first node is the one of the empty list.
 #[derive(Drop)]
 pub struct Tree {
     nodes: Vec<Node>,
@@ -20,7 +20,7 @@ impl Tree {
     ghost use Rattle.cover.specs.Nodes.{Ends, HasGrown, LeadsTo, child, has_end, spells};
     ghost use Rattle.cover.specs.Tree.{nodes_of};
 
-    /// The tree of no list. Want of memory is the only refusal.
+    /// A tree without lists. The only refusal is that memory runs out.
     pub fn new(alloc: Global) -> Result<Tree, NoMemory>
         ensures none { IfOk result (λ tree. (kinds : List Piece) → spells (nodes_of tree) 0 kinds ≡ false) }
     {
@@ -38,7 +38,7 @@ impl Tree {
         self.nodes[at].ends
     }
 
-    /// The node below another one for a kind, or 0 where there is none.
+    /// The node below this one for a kind, or 0 if there is none.
     #[tactic(auto, unfolding(crate::specs::Tree::nodes_of))]
     pub fn below(&self, at: usize, kind: Piece) -> usize
         requires { at < length (nodes_of self.now) }
@@ -47,7 +47,7 @@ impl Tree {
         self.nodes[at].child(kind)
     }
 
-    /// The node below another one for a kind, which is made where there is none. Want of memory is the only refusal.
+    /// The node below this one for a kind, which is made if there is none. The only refusal is that memory runs out.
     fn grown(&mut self, at: usize, kind: Piece) -> Result<usize, NoMemory>
         requires { at < length (nodes_of self.old) }
         ensures grows { HasGrown (nodes_of self.old) (nodes_of self.new) }
@@ -64,8 +64,8 @@ impl Tree {
         Ok(node)
     }
 
-    /// The node of a list, with those on the way there; no more lists end in the tree. Want of memory is the only
-    /// refusal.
+    /// The node of a list, made with those on the path to it if need be. No further list ends in the tree. The only
+    /// refusal is that memory runs out.
     pub fn way(&mut self, kinds: &[Piece]) -> Result<usize, NoMemory>
         ensures grows { HasGrown (nodes_of self.old) (nodes_of self.new) }
         ensures leads { IfOk result (λ node. LeadsTo (nodes_of self.new) (reverse kinds.now) node) }
@@ -77,7 +77,7 @@ impl Tree {
         Ok(node)
     }
 
-    /// Lets a list end at its node.
+    /// Makes a list end at this node.
     pub fn end_at(&mut self, node: usize)
         requires { node < length (nodes_of self.old) }
         ensures { Ends (nodes_of self.old) (nodes_of self.new) node }

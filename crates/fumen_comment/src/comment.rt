@@ -3,7 +3,7 @@ ghost use Rattle.std.specs.Prelude.{◌≡◌, ℕ, List};
 
 use std::marker::Model;
 
-/// The comment of a page: code units of 16 bits, as ECMAScript's text has them.
+/// The comment of a page: code units of 16 bits, as in ECMAScript's strings.
 #[derive(Debug, Drop)]
 pub struct Comment {
     units: Vec<u16>,
@@ -16,7 +16,7 @@ impl Model for Comment {
 }
 
 impl Comment {
-    /// The comment of these units.
+    /// The comment with these units.
     pub fn from_units(units: Vec<u16>) -> Comment
         ensures { result ≡ units.items }
     {

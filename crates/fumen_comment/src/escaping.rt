@@ -1,4 +1,4 @@
-// Escaped text from units.
+// Escaping units into text.
 ghost use Rattle.std.specs.Prelude.{◌≡◌, ℕ, ◌<◌, ◌++◌, [], All, IsOk, IfOk, OnOk};
 ghost use Rattle.fumen_comment.specs.Escape.{escaped, escaped_unit, hex_byte, hex_digit, IsPrintable, stays};
 
@@ -7,8 +7,8 @@ use std::alloc::Global;
 
 /// The escaped text of some units, as ECMAScript's `escape` (Annex B) gives it.
 ///
-/// Letters, digits and `@ * _ + - . /` stay. Another unit below 256 is `%` and two capital hexadecimal
-/// digits, and every other one is `%u` and four. Of no units want of memory is not answered.
+/// Letters, digits and `@ * _ + - . /` stay. Another unit below 256 becomes `%` and two capital hexadecimal digits.
+/// Every other unit becomes `%u` and four. Without units, memory cannot run out.
 pub fn escape(alloc: Global, units: &[u16]) -> Result<Vec<u8>, NoMemory>
     ensures exact { IfOk result (λ text. text.items ≡ escaped units.now) }
     ensures printable { IfOk result (λ text. All IsPrintable text.items) }
@@ -40,7 +40,7 @@ fn push_unit(text: &mut Vec<u8>, unit: u16) -> Result<(), NoMemory>
     push_hex_byte(text, (unit % 256) as u8)
 }
 
-/// A unit below 256.
+/// Appends the escaped text of a unit below 256.
 fn push_low_unit(text: &mut Vec<u8>, unit: u8) -> Result<(), NoMemory>
     ensures { OnOk result (text.new.items ≡ text.old.items ++ escaped_unit unit) }
 {

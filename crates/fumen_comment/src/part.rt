@@ -20,7 +20,7 @@ use std::alloc::Global;
 /// Why a comment part can't be read. A place is an index among the digits.
 #[derive(Clone, Copy, Debug, PartialEq, Eq)]
 pub enum CommentFault {
-    /// A byte that is no digit stands at this place.
+    /// The byte at this place is not a digit.
     BadDigit { place: usize },
     /// The digits end within the number that begins at this place.
     Truncated { place: usize },
@@ -40,9 +40,8 @@ impl From<CommentFault> for FumenFault {
     }
 }
 
-/// Appends the comment part of an escaped text, as fumen writes it: its length in two digits, and five
-/// digits for each group of four characters, the last one filled up with 0. After NoMemory `out` is as
-/// before.
+/// Appends the comment part of an escaped text, as fumen writes it: its length in two digits, and five digits for each
+/// group of four characters. The last group is filled up with 0. After NoMemory `out` is unchanged.
 pub fn write_comment(out: &mut Vec<u8>, escaped: &[u8]) -> Result<(), NoMemory>
     requires short { length escaped.now ≤ 4095 }
     requires printable { All IsPrintable escaped.now }
@@ -57,7 +56,7 @@ pub fn write_comment(out: &mut Vec<u8>, escaped: &[u8]) -> Result<(), NoMemory>
     written
 }
 
-/// Appends the length and the groups, or a front of them.
+/// Appends the length and the groups, or a front part of them.
 fn push_part(out: &mut Vec<u8>, escaped: &[u8]) -> Result<(), NoMemory>
     requires short { length escaped.now ≤ 4095 }
     requires printable { All IsPrintable escaped.now }
@@ -71,7 +70,7 @@ fn push_part(out: &mut Vec<u8>, escaped: &[u8]) -> Result<(), NoMemory>
     Ok(())
 }
 
-/// Appends the group of up to four characters.
+/// Appends a group of up to four characters.
 fn push_group(out: &mut Vec<u8>, group: &[u8]) -> Result<(), NoMemory>
     requires short { length group.now ≤ 4 }
     requires printable { All IsPrintable group.now }
@@ -81,7 +80,7 @@ fn push_group(out: &mut Vec<u8>, group: &[u8]) -> Result<(), NoMemory>
     push_number(out, packed(group), 5)
 }
 
-/// The number of up to four characters.
+/// The number that stands for up to four characters.
 fn packed(group: &[u8]) -> u32
     requires short { length group.now ≤ 4 }
     requires printable { All IsPrintable group.now }
@@ -97,9 +96,9 @@ fn packed(group: &[u8]) -> u32
     number
 }
 
-/// Reads the comment part at a place: the comment, and the place behind it.
+/// Reads the comment part at a place. Returns the comment and the place behind it.
 ///
-/// The first fault from the left is answered. Characters past the length are not looked at.
+/// A refusal is the first fault from the left. Characters past the length are not looked at.
 pub fn read_comment(
     alloc: Global,
     digits: &[u8],
@@ -146,7 +145,7 @@ fn read_part(
     Ok((comment, end))
 }
 
-/// The characters of this many, and the place behind their groups.
+/// This many characters, and the place behind their groups.
 fn read_text(
     alloc: Global,
     digits: &[u8],
@@ -171,7 +170,7 @@ fn read_text(
     Ok((text, place))
 }
 
-/// The group at a place, from which so many characters are still to come.
+/// The group at a place, with this many characters still to come.
 #[tactic(auto, unfolding(crate::specs::Reading::group_at))]
 fn group_at(digits: &[u8], place: usize, left: usize) -> Result<u32, Refused<CommentFault>>
     requires { place ≤ length digits.now }
@@ -196,7 +195,7 @@ fn is_group(left: usize, group: u32) -> bool
     all_below_95(&characters[..left.min(4)])
 }
 
-/// Whether no character has the value 95, which no character stands for.
+/// Whether no character has the value 95, which stands for no character.
 fn all_below_95(characters: &[u8]) -> bool
     ensures { result ≡ list_all (λ c. nat_lt c 127) characters.now }
 {
@@ -216,7 +215,7 @@ fn unpacked(group: u32) -> [u8; 4]
     ]
 }
 
-/// The number at a place, its fault as one of a comment.
+/// The number at a place, with its fault as one of a comment.
 fn number_at(digits: &[u8], place: usize, count: u8) -> Result<u32, Refused<CommentFault>>
     requires place { place ≤ length digits.now }
     requires most { count ≤ 5 }

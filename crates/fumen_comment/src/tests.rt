@@ -1,9 +1,9 @@
-// Comments, by the values that Node.js gives and by a fumen that another program wrote.
+// Comments, checked against values of Node.js and a fumen from another program.
 use super::*;
 use pc_outside::Refused;
 use std::test::Fail;
 
-/// What Node.js answers to `escape`, and gives back by `unescape`.
+/// Results of `escape` in Node.js, which `unescape` turns back.
 const ESCAPED: [(&[u16], &[u8]); 8] = [
     (&[0x41, 0x5A, 0x61, 0x7A, 0x30, 0x39], b"AZaz09"),
     (&[0x40, 0x2A, 0x5F, 0x2B, 0x2D, 0x2E, 0x2F], b"@*_+-./"),
@@ -32,7 +32,7 @@ const ESCAPED: [(&[u16], &[u8]); 8] = [
     (&[0x25, 0x75, 0x30, 0x30, 0x34, 0x31], b"%25u0041"),
 ];
 
-/// What Node.js answers to `unescape`.
+/// Results of `unescape` in Node.js.
 const UNESCAPED: [(&[u8], &[u16]); 16] = [
     (b"%", &[0x25]),
     (b"%%41", &[0x25, 0x41]),

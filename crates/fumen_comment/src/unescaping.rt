@@ -1,4 +1,4 @@
-// Units from escaped text.
+// Unescaping text into units.
 ghost use Rattle.std.specs.Prelude.{◌≡◌, ◌<◌, ◌≤◌, [], length, IsOk, IfOk, IfSome};
 ghost use Rattle.fumen_comment.specs.Unescape.{hex_byte_at, hex_unit_at, hex_value, unescaped, unit_of};
 
@@ -8,8 +8,8 @@ use std::alloc::Global;
 
 /// The units of an escaped text, as ECMAScript's `unescape` (Annex B) gives them.
 ///
-/// `%u` with four hexadecimal digits, or else `%` with two, of either case, is one unit. Every other
-/// character stands for its own code, a malformed `%` too. Of an empty text want of memory is not answered.
+/// `%u` with four hexadecimal digits of either case is one unit, and so is any other `%` with two. Every other
+/// character stands for its own code, also a malformed `%`. With an empty text, memory cannot run out.
 pub fn unescape(alloc: Global, text: &[u8]) -> Result<Comment, NoMemory>
     ensures units { IfOk result (λ comment. comment ≡ unescaped text.now) }
     ensures none { text.now ≡ [] → IsOk result }
@@ -43,7 +43,7 @@ fn unit_of(c: u8, behind: &[u8]) -> (u16, usize)
     (u16::from(b'%'), 0)
 }
 
-/// The number of the four hexadecimal digits behind the `u` that a text begins with.
+/// The number of the four hexadecimal digits behind the `u` at the beginning of a text.
 #[tactic(auto, unfolding(crate::specs::Unescape::hex_unit_at))]
 fn hex_unit_at(text: &[u8]) -> Option<u16>
     ensures value { result ≡ hex_unit_at text.now }
@@ -59,7 +59,7 @@ fn hex_unit_at(text: &[u8]) -> Option<u16>
     }
 }
 
-/// The number of the two hexadecimal digits that a text begins with.
+/// The number of the two hexadecimal digits at the beginning of a text.
 #[tactic(auto, unfolding(crate::specs::Unescape::hex_byte_at))]
 fn hex_byte_at(text: &[u8]) -> Option<u8>
     ensures value { result ≡ hex_byte_at text.now }

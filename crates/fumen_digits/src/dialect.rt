@@ -1,7 +1,7 @@
 // The two dialects of fumen.
 ghost use Rattle.std.specs.Prelude.{◌≡◌};
 
-/// The dialect of a fumen text, named in its prefix.
+/// The dialect of a fumen text, given by its prefix.
 #[derive(Clone, Copy, Debug, PartialEq, Eq)]
 pub enum Dialect {
     /// `v110@`, with pages of 21 rows.
@@ -13,7 +13,7 @@ pub enum Dialect {
 impl Dialect {
     ghost use Rattle.fumen_digits.specs.Dialect.{page_row_count, page_cell_count};
 
-    /// The rows of a page, without the garbage row under them.
+    /// How many rows a page has, without the garbage row below them.
     pub fn rows(self) -> u8
         ensures { result ≡ page_row_count self }
     {
@@ -23,7 +23,7 @@ impl Dialect {
         }
     }
 
-    /// The cells of a page, those of the garbage row among them.
+    /// How many cells a page has, including the garbage row.
     pub fn cells(self) -> u8
         ensures { result ≡ page_cell_count self }
     {

@@ -2,7 +2,7 @@
 ghost use Rattle.std.specs.Prelude.{◌≡◌, ◌<◌, IfSome};
 ghost use Rattle.fumen_digits.specs.Digit.{digit, digit_value};
 
-/// The digit of a value below 64: fumen has `A-Z`, `a-z`, `0-9`, `+` and `/`, in this order.
+/// The digit for a value below 64. Fumen's digits are `A-Z`, `a-z`, `0-9`, `+` and `/`, in this order.
 #[tactic(auto, using(crate::proofs::DigitTable::digit_by_range))]
 pub fn digit_of(value: u8) -> u8
     requires { value < 64 }
@@ -17,7 +17,7 @@ pub fn digit_of(value: u8) -> u8
     }
 }
 
-/// The value of a digit, or None where the byte is no digit.
+/// The value of a digit. `None` if the byte is not a digit.
 #[tactic(auto, using(crate::proofs::DigitTable::value_by_range))]
 pub fn digit_value(byte: u8) -> Option<u8>
     ensures value { result ≡ digit_value byte }

@@ -1,4 +1,4 @@
-// The text round the digits: the prefix, the line breaks, and the end.
+// The text around the digits: the prefix, the line breaks and the end.
 ghost use Rattle.std.specs.Prelude.{◌≡◌, ◌≤◌, ◌↔◌, length, None, Some, Ok, IfOk, IsSome, IsTrue};
 ghost use Rattle.std.specs.Option.{option_map};
 ghost use Rattle.fumen_digits.specs.declared.dialect.Dialect.{Dialect};
@@ -8,11 +8,11 @@ use crate::dialect::Dialect;
 use pc_outside::NoMemory;
 use std::alloc::Global;
 
-/// The dialect and the digits of a fumen text, or None where none of the six prefixes stands in it.
+/// The dialect and the digits of a fumen text. `None` if it has none of the six prefixes.
 ///
-/// The first place of any of `v110@`, `m110@`, `d110@`, `v115@`, `m115@` and `d115@` decides. The text
-/// behind it goes to the first `&`, or to the end, and its bytes 9 to 13, 32 and `?` are dropped. The
-/// other bytes are kept as they are: not each of them need be a digit.
+/// The first place of any of `v110@`, `m110@`, `d110@`, `v115@`, `m115@` and `d115@` decides. The text behind it goes
+/// to the first `&` or to the end. Its bytes 9 to 13, 32 and `?` are dropped. The other bytes are kept as they are;
+/// they may include bytes that are not digits.
 pub fn digits_of(alloc: Global, text: &[u8]) -> Result<Option<(Dialect, Vec<u8>)>, NoMemory>
     ensures found { IfOk result (λ found. option_map (λ x. (x.0, x.1.items)) found ≡ digits_in text.now) }
 
@@ -54,7 +54,7 @@ fn has_prefix(dialect: Dialect, text: &[u8]) -> bool
     }
 }
 
-/// What stands behind the letter of a prefix.
+/// The bytes behind the letter of a prefix.
 fn version(dialect: Dialect) -> &'static [u8]
     ensures { result.now ≡ version dialect }
 {
@@ -84,8 +84,8 @@ fn digits_behind(alloc: Global, text: &[u8]) -> Result<Vec<u8>, NoMemory>
     Ok(digits)
 }
 
-/// The text of some digits: `v110@` or `v115@`, and the digits with a `?` after the first 42 and then
-/// after every 47, never as the last character.
+/// The text of some digits: `v110@` or `v115@`, then the digits with a `?` after the first 42 and after every further
+/// 47, but never as the last character.
 #[tactic(auto, unfolding(crate::specs::Framing::broken))]
 pub fn break_lines(alloc: Global, dialect: Dialect, digits: &[u8]) -> Result<Vec<u8>, NoMemory>
     ensures { IfOk result (λ text. text.items ≡ broken dialect digits.now) }

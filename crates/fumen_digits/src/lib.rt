@@ -1,4 +1,4 @@
-// Fumen texts as digits: the two dialects, the digits and their numbers, and the text round them.
+// Fumen texts as digits: the two dialects, the digits and their numbers, and the text around them.
 #![tactic(auto)]
 
 mod dialect;

@@ -1,4 +1,4 @@
-// Numbers of a fixed count of digits, the least digit first.
+// Numbers of a fixed count of digits, least digit first.
 ghost use Rattle.std.specs.Prelude.{◌≡◌, ◌≢◌, ℕ, ◌+◌, ◌^◌, ◌<◌, ◌≤◌, ◌↔◌, ◌++◌, length, take, IfOk, OnOk, OnErr, Ok, Err};
 ghost use Rattle.fumen_digits.specs.declared.number.DigitFault.{DigitFault};
 ghost use Rattle.fumen_digits.specs.Number.{digits, NumberStands};
@@ -14,14 +14,13 @@ use pc_outside::{NoMemory, Refused};
 /// Why a number can't be read. A place is an index among the digits.
 #[derive(Clone, Copy, Debug, PartialEq, Eq)]
 pub enum DigitFault {
-    /// A byte that is no digit stands at this place.
+    /// The byte at this place is not a digit.
     Bad { place: usize },
     /// The digits end within the number that begins at this place.
     Truncated { place: usize },
 }
 
-/// Appends a number as this many digits, the least first, as fumen writes its numbers. After NoMemory
-/// `out` is as before.
+/// Appends a number as this many digits, least first, as fumen writes its numbers. After NoMemory `out` is unchanged.
 pub fn push_number(out: &mut Vec<u8>, number: u32, count: u8) -> Result<(), NoMemory>
     requires most { count ≤ 5 }
     requires fits { number < 64 ^ count }
@@ -49,8 +48,8 @@ fn spell(number: u32, count: u8) -> [u8; 5]
 
 /// Reads the number of this many digits at a place.
 ///
-/// The bytes are looked at from the left: one that is no digit is Bad at its own place, and where one is
-/// missing the number is Truncated at the place where it begins.
+/// It looks at the bytes from the left. A byte that is not a digit is Bad at its own place. If a byte is missing, the
+/// number is Truncated at the place where it begins.
 pub fn read_number(digits: &[u8], place: usize, count: u8) -> Result<u32, DigitFault>
     requires place { place ≤ length digits.now }
     requires most { count ≤ 5 }
@@ -69,7 +68,7 @@ pub fn read_number(digits: &[u8], place: usize, count: u8) -> Result<u32, DigitF
     read_digits(digits, place, count)
 }
 
-/// The same, with the fault as one of a fumen text. Want of memory is never answered.
+/// The same, with the fault as one of a fumen text. This never runs out of memory.
 pub fn number_at(digits: &[u8], place: usize, count: u8) -> Result<u32, Refused<FumenFault>>
     requires place { place ≤ length digits.now }
     requires most { count ≤ 5 }
@@ -99,7 +98,7 @@ fn read_digits(digits: &[u8], place: usize, count: u8) -> Result<u32, DigitFault
     Ok(number)
 }
 
-/// The value of the digit at a place, in a number that begins at start.
+/// The value of the digit at `place`, in a number that begins at `start`.
 #[tactic(auto, unfolding(crate::specs::Reading::value_at))]
 fn value_at(digits: &[u8], start: usize, place: usize) -> Result<u32, DigitFault>
     ensures value { Reads (λ v. v) digit_fault result (value_at digits.now start place) }

@@ -1,4 +1,4 @@
-// Numbers and framing, by texts that were written by hand.
+// Numbers and framing, checked with texts written by hand.
 use super::*;
 use std::test::Fail;
 

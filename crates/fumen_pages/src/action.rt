@@ -20,11 +20,11 @@ use srs::{Piece, Placement, Rotation};
 /// What a page does, and whether a comment follows.
 #[derive(Clone, Copy, Debug, PartialEq, Eq)]
 pub struct Action {
-    /// The piece that is placed, if any: all its cells lie in columns 0 to 9 and the dialect's rows.
+    /// The piece that is placed, if any. All its cells lie in columns 0 to 9 and the dialect's rows.
     pub operation: Option<Placement>,
-    /// Whether the garbage row comes in from below where the page locks.
+    /// Whether the garbage row comes in from below when the page locks.
     pub rise: bool,
-    /// Whether the rows are mirrored where the page locks.
+    /// Whether the rows are mirrored when the page locks.
     pub mirror: bool,
     /// Whether the colours are those of the guideline.
     pub colour: bool,
@@ -34,16 +34,16 @@ pub struct Action {
     pub comment: bool,
 }
 
-/// Why a number says no action.
+/// Why a number stands for no action.
 #[derive(Clone, Copy, Debug, PartialEq, Eq)]
 pub enum ActionFault {
-    /// The number is 1,024 times the cells of a page or more: 225,280 or 245,760.
+    /// The number is at least 1,024 times the number of cells of a page: 225,280 or 245,760.
     TooLarge,
     /// The named piece has a cell outside columns 0 to 9 or the dialect's rows.
     Outside,
 }
 
-/// What a number says: the operation and the flags of a page, and whether a comment follows.
+/// What a number stands for: the operation and the flags of a page, and whether a comment follows.
 pub fn read_action(dialect: Dialect, number: u32) -> Result<Action, ActionFault>
     // What its parts give.
     ensures exact { result ≡ action_in dialect number }
@@ -78,7 +78,7 @@ fn read_parts(dialect: Dialect, number: u32) -> Result<Action, ActionFault>
     })
 }
 
-/// The rotation with one of fumen's numbers, 0 to 3.
+/// The rotation with this number in fumen, 0 to 3.
 fn rotation_with_code(code: u8) -> Rotation
     ensures { result ≡ rotation_with_code code }
 {
@@ -90,7 +90,7 @@ fn rotation_with_code(code: u8) -> Rotation
     }
 }
 
-/// The placement of a piece, if one is named, whose pivot is written at a place.
+/// The placement of a piece, if there is one, whose pivot is written at this place.
 fn operation_of(
     dialect: Dialect,
     piece: Option<Piece>,
@@ -109,7 +109,7 @@ fn operation_of(
     placed(dialect, piece, rotation, pivot)
 }
 
-/// The cell with a number, as column and row.
+/// The cell with this number, as column and row.
 fn numbered_cell(dialect: Dialect, place: u8) -> (i8, i8)
     requires { place < page_cell_count dialect }
     ensures cell { result ≡ numbered_cell dialect place }
@@ -122,7 +122,7 @@ fn numbered_cell(dialect: Dialect, place: u8) -> (i8, i8)
     ((place % 10) as i8, top - (place / 10) as i8)
 }
 
-/// What the pivot is moved by where it is written, by columns and rows.
+/// How far from the pivot fumen writes it, in columns and rows.
 fn written_by(piece: Piece, rotation: Rotation) -> (i8, i8)
     ensures pair { result ≡ written_by piece rotation }
     ensures near { IsTrue (is_near result) }
@@ -136,7 +136,7 @@ fn written_by(piece: Piece, rotation: Rotation) -> (i8, i8)
     }
 }
 
-/// The placement with its pivot at a cell, where all its cells lie in the dialect's rows.
+/// The placement with its pivot at this cell, if all its cells lie in the dialect's rows.
 fn placed(
     dialect: Dialect,
     piece: Piece,
@@ -161,7 +161,7 @@ fn placed(
     Ok(Some(placement))
 }
 
-/// The number of a page's action. Without an operation its rotation and place are 0.
+/// The number of a page's action. Without an operation, rotation and place are 0.
 pub fn action_number(dialect: Dialect, page: &Page) -> u32
     requires { IsSound dialect page.now }
     ensures exact { result ≡ action_number_of dialect page.now }
@@ -171,7 +171,7 @@ pub fn action_number(dialect: Dialect, page: &Page) -> u32
     operation_number(dialect, &page.operation) + 32 * cells * flags_number(page)
 }
 
-/// The part of a number that names an operation.
+/// The part of a number that stands for an operation.
 fn operation_number(dialect: Dialect, operation: &Option<Placement>) -> u32
     requires { ForSome operation.now (λ placement. IsTrue (is_inside_in dialect placement)) }
     ensures exact { result ≡ operation_number dialect operation.now }
@@ -185,7 +185,7 @@ fn operation_number(dialect: Dialect, operation: &Option<Placement>) -> u32
     piece + 8 * rotation + 32 * u32::from(written_place(dialect, placement))
 }
 
-/// Fumen's number of a rotation.
+/// The number of a rotation in fumen.
 fn rotation_code(rotation: Rotation) -> u8
     ensures code { result ≡ rotation_code rotation }
     ensures below { result < 4 }

@@ -1,12 +1,11 @@
-// Placements in the rows of a dialect.
+// Placements inside the rows of a dialect.
 ghost use Rattle.std.specs.Prelude.{◌≡◌};
 ghost use Rattle.fumen_pages.specs.Action.{in_rows, is_inside_in};
 
 use fumen_digits::Dialect;
 use srs::{Placement, cells};
 
-/// Whether all four cells of a placement lie in columns 0 to 9 and in the rows of the dialect: 0 to 20, or 0
-/// to 22.
+/// Whether all four cells of a placement lie in columns 0 to 9 and in the dialect's rows: 0 to 20, or 0 to 22.
 pub fn is_inside(dialect: Dialect, placement: &Placement) -> bool
     ensures { result ≡ is_inside_in dialect placement.now }
 {

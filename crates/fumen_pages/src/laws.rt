@@ -1,4 +1,4 @@
-// Laws of the definitions: functions with an empty body, whose contract is the law.
+// Laws of the definitions: functions with an empty body whose contract is the law.
 ghost use Rattle.std.specs.Prelude.{◌≡◌, ℕ, List, Bool, Ok};
 ghost use Rattle.fumen_digits.specs.declared.dialect.Dialect.{Dialect};
 ghost use Rattle.fumen_digits.specs.Digit.{AreDigits};
@@ -11,9 +11,8 @@ ghost use Rattle.fumen_pages.specs.declared.page.Page.{Page};
 ghost use Rattle.fumen_pages.specs.Action.{SaysAction};
 ghost use Rattle.fumen_pages.specs.Sound.{IsSound, action_of};
 
-/// What is written is read again: the record of some cells has only digits, and cuts them, by runs that
-/// can't be longer; it is the run that changes no cell exactly where none changes, and is read as the new
-/// cells wherever it stands.
+/// What is written is read back. The record of some cells has only digits, and cuts the cells into the longest runs. It
+/// is the run that changes no cell exactly if none changes. It is read as the new cells wherever it stands.
 pub fn write_cells_undone()
     ensures digits { (dialect : Dialect) (old new : List ℕ) → AreDigits (written_record dialect old new) }
     ensures same { (dialect : Dialect) (old : List ℕ) → AreCells dialect old →
@@ -30,8 +29,8 @@ pub fn write_cells_undone()
         ≡ Ok (record { cells = new; place = end; unchanged = same })) }
 {}
 
-/// What is written is read again: the number of a sound page's action says its operation, its flags and
-/// whether it has a comment, and is read as these.
+/// What is written is read back: the action number of a sound page stands for its operation, its flags and whether it
+/// has a comment, and is read as these.
 pub fn action_number_undone()
     ensures says { (dialect : Dialect) (page : Page) → IsSound dialect page →
         SaysAction dialect (action_number_of dialect page) (action_of page) }

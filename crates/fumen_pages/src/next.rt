@@ -11,11 +11,11 @@ use crate::page::Page;
 use fumen_digits::Dialect;
 use srs::{Placement, cells};
 
-/// The cells that a page leaves for the page after it: its own ones where it doesn't lock.
+/// The cells that a page leaves for the page after it. A page that doesn't lock leaves its own cells.
 ///
-/// Where it locks, the cells of its operation take the piece's colour; then full rows go, those above them
-/// move down, and empty rows come in at the top; then, with rise, each row moves up by one, the garbage row
-/// becomes row 0, and is empty afterwards; then, with mirror, each row but the garbage row is reversed.
+/// If it locks, this happens in order. The cells of its operation take the piece's colour. Full rows are removed, the
+/// rows above them move down, and empty rows come in at the top. With rise, each row moves up by one, and the garbage
+/// row becomes row 0 and is empty afterwards. With mirror, each row except the garbage row is reversed.
 pub fn next_cells(dialect: Dialect, page: &Page) -> [u8; 240]
     requires { IsSound dialect page.now }
     ensures cells { result ≡ next dialect page.now }
@@ -39,7 +39,7 @@ fn left_cells(dialect: Dialect, page: &Page) -> [u8; 240]
     cells
 }
 
-/// The cells of the operation, if any, take the colour of its piece.
+/// Gives the cells of the operation, if any, the colour of its piece.
 #[tactic(auto, unfolding(crate::specs::Next::operation_filled))]
 fn fill(page: &mut [u8; 240], operation: &Option<Placement>)
     requires { ForSome operation.now (λ placement. IsTrue (is_inside_of placement)) }
@@ -50,8 +50,8 @@ fn fill(page: &mut [u8; 240], operation: &Option<Placement>)
     }
 }
 
-/// The cells of a placement take a value, whatever stood there: those of a page, or what stands for them, in
-/// the same order.
+/// Sets the cells of a placement to a value, whatever was there: in the cells of a page, or in anything that stands for
+/// them in the same order.
 pub fn mark(page: &mut [u8; 240], placement: &Placement, value: u8)
     requires { IsTrue (is_inside_of placement.now) }
     ensures { page.new ≡ marked placement.now value page.old }
@@ -63,7 +63,7 @@ pub fn mark(page: &mut [u8; 240], placement: &Placement, value: u8)
     set_cell(page, d, value);
 }
 
-/// A cell, as column and row, takes a value.
+/// Sets the cell at this column and row to a value.
 fn set_cell(page: &mut [u8; 240], cell: (i8, i8), value: u8)
     requires { IsTrue (in_well cell) }
     ensures { page.new ≡ slice_set page.old (place_of V115 cell) value }
@@ -72,7 +72,7 @@ fn set_cell(page: &mut [u8; 240], cell: (i8, i8), value: u8)
     page[(22 - y as usize) * 10 + x as usize] = value;
 }
 
-/// The full rows go, those above them move down, and empty rows come in at the top.
+/// Removes the full rows. The rows above them move down, and empty rows come in at the top.
 fn clear(dialect: Dialect, page: &mut [u8; 240])
     ensures rows { rows_of dialect page.new ≡ cleared (rows_of dialect page.old) }
     ensures missing { take (missing_count dialect) page.new ≡ take (missing_count dialect) page.old }
@@ -86,14 +86,14 @@ fn clear(dialect: Dialect, page: &mut [u8; 240])
     }
 }
 
-/// Whether none of the cells of a row is empty.
+/// Whether a row has no empty cell.
 fn is_full(row: &[u8]) -> bool
     ensures { result ≡ is_full_page_row row.now }
 {
     row.iter().all(|cell| *cell != 0)
 }
 
-/// The last row goes, the others move down by one, and an empty row comes in at the top.
+/// Removes the last row. The others move down by one, and an empty row comes in at the top.
 fn lower(rows: &mut [u8])
     requires { 10 ≤ length rows.old }
     ensures { rows.new ≡ replicate 10 0 ++ take (length rows.old - 10) rows.old }
@@ -102,7 +102,7 @@ fn lower(rows: &mut [u8])
     rows[..10].copy_from_slice(&[0; 10]);
 }
 
-/// With a rise the top row goes, each row moves up by one, and the garbage row is empty.
+/// With rise, removes the top row, moves each row up by one, and empties the garbage row.
 fn rise(dialect: Dialect, rise: bool, page: &mut [u8; 240])
     ensures rows { rows_of dialect page.new ≡ risen rise (rows_of dialect page.old) }
     ensures missing { take (missing_count dialect) page.new ≡ take (missing_count dialect) page.old }
@@ -114,7 +114,7 @@ fn rise(dialect: Dialect, rise: bool, page: &mut [u8; 240])
     lift(&mut page[top..]);
 }
 
-/// The first row goes, the others move up by one, and an empty row comes in at the end.
+/// Removes the first row. The others move up by one, and an empty row comes in at the end.
 fn lift(rows: &mut [u8])
     requires { 10 ≤ length rows.old }
     ensures { rows.new ≡ drop 10 rows.old ++ replicate 10 0 }
@@ -124,7 +124,7 @@ fn lift(rows: &mut [u8])
     rows[last..].copy_from_slice(&[0; 10]);
 }
 
-/// With a mirror each row but the garbage row is reversed.
+/// With mirror, reverses each row except the garbage row.
 fn mirror(dialect: Dialect, mirror: bool, page: &mut [u8; 240])
     ensures rows { rows_of dialect page.new ≡ mirrored_rows mirror (rows_of dialect page.old) }
     ensures missing { take (missing_count dialect) page.new ≡ take (missing_count dialect) page.old }

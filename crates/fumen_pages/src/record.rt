@@ -23,21 +23,21 @@ pub struct CellsRead {
     pub cells: [u8; 240],
     /// The place behind the record, as an index among the digits.
     pub place: usize,
-    /// Whether the record is the single run `vh`, or `7e`, that changes no cell. The digit behind it, which
-    /// says how many more pages are unchanged, isn't part of the record.
+    /// Whether the record is the single run `vh` or `7e`, which changes no cell. The digit behind it, which says how
+    /// many more pages are unchanged, is not part of the record.
     pub unchanged: bool,
 }
 
 /// Why a record can't be read. A place is an index among the digits.
 #[derive(Clone, Copy, Debug, PartialEq, Eq)]
 pub enum CellsFault {
-    /// A byte that is no digit stands at this place.
+    /// The byte at this place is not a digit.
     BadDigit { place: usize },
     /// The digits end within the number that begins at this place.
     Truncated { place: usize },
     /// The run at this place is longer than the cells that are left.
     RunPastEnd { place: usize },
-    /// The run at this place fits, and makes a cell below 0 or above 8.
+    /// The run at this place fits, but makes a cell below 0 or above 8.
     BadCell { place: usize },
 }
 
@@ -54,9 +54,9 @@ impl From<CellsFault> for FumenFault {
     }
 }
 
-/// Reads the record of a page's cells at a place, where the page before leaves the old ones.
+/// Reads the record of a page's cells at a place, where the page before leaves the old cells.
 ///
-/// The first fault from the left is answered.
+/// A refusal is the first fault from the left.
 pub fn read_cells(
     digits: &[u8],
     place: usize,
@@ -119,7 +119,7 @@ fn unchanged(dialect: Dialect) -> &'static [u8]
     }
 }
 
-/// The run at a place, over the cells that are left: how many, and their difference and 8.
+/// The run at a place, within the cells that are left: how many cells, and their difference plus 8.
 #[tactic(auto, unfolding(crate::specs::Reading::run_at))]
 fn run_at(
     digits: &[u8],
@@ -145,7 +145,7 @@ fn run_at(
     )
 }
 
-/// A run of this many cells, with their difference and 8, unless it has a fault.
+/// A run of this many cells with their difference plus 8, or its fault.
 fn checked_run(
     place: usize,
     left: &[u8],
@@ -168,7 +168,7 @@ fn checked_run(
     Ok((count, shift))
 }
 
-/// The number of a run at a place, its fault as one of the cells.
+/// The number of a run at a place, with its fault as one of the cells.
 fn number_at(digits: &[u8], place: usize) -> Result<u32, CellsFault>
     requires { place ≤ length digits.now }
     ensures exact { Reads (λ n. n) cells_fault result (number_at digits.now place 2) }
@@ -182,7 +182,7 @@ fn number_at(digits: &[u8], place: usize) -> Result<u32, CellsFault>
     }
 }
 
-/// Whether all cells are colours with the difference added.
+/// Whether all cells remain colours when the difference is added.
 fn stay_colours(cells: &[u8], shift: u8) -> bool
     requires shift { shift ≤ 18 }
     requires colours { All IsColour cells.now }
@@ -193,7 +193,7 @@ fn stay_colours(cells: &[u8], shift: u8) -> bool
         .all(|cell| 8 <= *cell + shift && *cell + shift <= 16)
 }
 
-/// The difference is added to all cells.
+/// Adds the difference to all cells.
 fn move_by(cells: &mut [u8], shift: u8)
     requires { IsTrue (list_all (stays_colour shift) cells.old) }
     ensures { cells.new ≡ moved_by shift cells.old }
@@ -203,8 +203,8 @@ fn move_by(cells: &mut [u8], shift: u8)
     }
 }
 
-/// Appends the record of a page's cells, where the page before leaves the old ones: the longest runs of one
-/// difference. After NoMemory `out` is as before.
+/// Appends the record of a page's cells, where the page before leaves the old cells: the longest runs of one
+/// difference. After NoMemory `out` is unchanged.
 pub fn write_cells(
     out: &mut Vec<u8>,
     dialect: Dialect,
@@ -224,7 +224,7 @@ pub fn write_cells(
     written
 }
 
-/// Appends the runs, or a front of them.
+/// Appends the runs, or a front part of them.
 fn push_runs(
     out: &mut Vec<u8>,
     dialect: Dialect,
@@ -251,7 +251,7 @@ fn push_runs(
     Ok(())
 }
 
-/// The difference of a new cell to the old one, and 8.
+/// The difference of a new cell to the old one, plus 8.
 fn difference(old: u8, new: u8) -> u8
     requires old { old ≤ 8 }
     requires new { new ≤ 8 }
@@ -261,7 +261,7 @@ fn difference(old: u8, new: u8) -> u8
     new + 8 - old
 }
 
-/// How many cells from the first one on have this difference and 8.
+/// How many cells from the first on have this difference (plus 8).
 fn same_count(old: &[u8], new: &[u8], shift: u8) -> usize
     requires same { length old.now ≡ length new.now }
     requires old { All IsColour old.now }

@@ -1,4 +1,4 @@
-// What stands behind the cells of a page: its action, and its comment.
+// What follows the cells of a page: its action and its comment.
 ghost use Rattle.std.specs.Prelude.{◌≡◌, ◌≢◌, ℕ, ◌+◌, ◌≤◌, length, IfOk, Ok, Err, IsTrue};
 ghost use Rattle.std.specs.Option.{ForSome};
 ghost use Rattle.fumen_digits.specs.Answers.{Gives};
@@ -17,10 +17,10 @@ use fumen_digits::{Dialect, FumenFault, number_at};
 use pc_outside::Refused;
 use std::alloc::Global;
 
-/// Reads a page behind its cells, from its action on: the page of these cells, and the place behind it. The
-/// page is counted from 1.
+/// Reads a page from its action on, given its cells. Returns the page and the place behind it. Pages are counted from
+/// 1.
 ///
-/// The first fault from the left is answered.
+/// A refusal is the first fault from the left.
 pub fn read_page(
     alloc: Global,
     digits: &[u8],
@@ -107,7 +107,7 @@ fn action_at(
     }
 }
 
-/// The comment at a place, where there is one, and the place behind it.
+/// The comment at a place, if there is one, and the place behind it.
 #[tactic(auto, unfolding(crate::specs::Reading::part_at))]
 fn part_at(
     alloc: Global,

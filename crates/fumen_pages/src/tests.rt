@@ -1,11 +1,11 @@
-// Each call once, at texts that were written by hand and by other programs.
+// Each call once, on texts written by hand and by other programs.
 use super::*;
 use fumen_digits::{Dialect, FumenFault};
 use pc_outside::Refused;
 use srs::{Piece, Placement, Rotation};
 use std::test::Fail;
 
-/// A T in the gap of row 0, over a garbage row with one gap; the page rises and is mirrored.
+/// A T in the gap of row 0, over a garbage row with one gap. The page rises and is mirrored.
 #[test]
 fn next_page(rt: HostRuntime) -> Result<(), Fail> {
     let digits = b"bhC8CeL8AeA8V4O";
@@ -157,7 +157,7 @@ fn pages(rt: HostRuntime) -> Result<(), Fail> {
         fault,
         Some(Refused::Fault(FumenFault::PieceOutside { page: 7 }))
     );
-    // `v115@vhAJHYaAkeEfEXoC+BlvlzByEEfE03k2AlP5ABwvDfE`, of another program.
+    // `v115@vhAJHYaAkeEfEXoC+BlvlzByEEfE03k2AlP5ABwvDfE`, from another program.
     let digits = b"vhAJHYaAkeEfEXoC+BlvlzByEEfE03k2AlP5ABwvDfE";
     let (page, end) = read_page(rt.alloc(), digits, 3, Dialect::V115, &[0; 240], 1)
         .ok()

@@ -1,4 +1,4 @@
-// The cells of a page: those that are promised, or those of a record, and the digit behind the unchanged run.
+// The cells of a page: the promised ones or those of a record, and the digit behind the unchanged run.
 ghost use Rattle.std.specs.Prelude.{◌≡◌, ◌+◌, ◌≤◌, length, IfOk};
 ghost use Rattle.fumen_digits.specs.Answers.{Gives};
 ghost use Rattle.fumen_pages.specs.Cells.{AreCells};
@@ -10,8 +10,8 @@ use fumen_digits::{Dialect, FumenFault, number_at};
 use fumen_pages::{CellsRead, read_cells};
 use pc_outside::Refused;
 
-/// Goes behind what spells the cells of the page that is due: they are the cells before it where the page is
-/// promised, and else those of its record.
+/// Goes behind what spells the cells of the next page. If that page is promised to be unchanged, they are the cells
+/// before it; otherwise they are those of its record.
 pub(crate) fn cells_at(
     digits: &[u8],
     dialect: Dialect,
@@ -35,7 +35,7 @@ pub(crate) fn cells_at(
     promise_at(digits, &read)
 }
 
-/// Behind a record: the digit of the unchanged run says how many pages it promises.
+/// Goes behind a record. The digit after the unchanged run says how many pages are promised to be unchanged.
 fn promise_at(digits: &[u8], read: &CellsRead) -> Result<Position, Refused<FumenFault>>
     requires { read.now.place ≤ length digits.now }
     ensures exact { Gives (λ x. x) (λ f. f) result (promise_at digits.now read.now) }

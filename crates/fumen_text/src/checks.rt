@@ -18,7 +18,7 @@ use pc_outside::{NoMemory, Refused};
 use srs::Placement;
 use std::alloc::Global;
 
-/// Whether the pages can be written, or their first fault.
+/// Checks whether the pages can be written. The fault is the first one.
 pub(crate) fn check_pages(
     alloc: Global,
     dialect: Dialect,
@@ -38,7 +38,7 @@ pub(crate) fn check_pages(
     Ok(())
 }
 
-/// Whether a page, counted from 1, can be written, or its first fault.
+/// Checks whether a page, counted from 1, can be written. The fault is its first one.
 fn check_page(
     alloc: Global,
     dialect: Dialect,
@@ -120,7 +120,7 @@ fn has_short_text(alloc: Global, units: &[u16]) -> Result<bool, NoMemory>
     ensures units { All (λ unit. unit < 2 ^ 16) units.now }
     ensures few { length units.now ≤ 682 → IsOk result }
 {
-    // A unit is escaped by at most six characters.
+    // Escaping makes at most six characters of a unit.
     if units.len() <= 4095 / 6 {
         return Ok(true);
     }

@@ -1,4 +1,4 @@
-// Laws of the definitions: functions with an empty body, whose contract is the law.
+// Laws of the definitions: functions with an empty body whose contract is the law.
 ghost use Rattle.std.specs.Prelude.{◌≡◌, ℕ, List, ◌⊎◌, None};
 ghost use Rattle.fumen_digits.specs.declared.dialect.Dialect.{Dialect};
 ghost use Rattle.fumen_digits.specs.declared.fault.FumenFault.{FumenFault};
@@ -8,8 +8,8 @@ ghost use Rattle.fumen_text.specs.Faults.{IsTextFault};
 ghost use Rattle.std.specs.List.{AllByRecursion};
 ghost use Rattle.fumen_text.specs.Written.{HasTypes, list_encode_fault, written};
 
-/// Each text reads as some pages or has a fault, and never both: no two lists of pages, in no two dialects, and
-/// no two faults.
+/// Every text either reads as pages in one dialect or has a fault, never both. The dialect, the list of pages and the
+/// fault are unique.
 pub fn one_reading()
     ensures some { (text : List ℕ) →
         ((dialect : Dialect) × (pages : List Page) × ReadsAs text dialect pages)
@@ -21,7 +21,7 @@ pub fn one_reading()
         ReadsAs text dialect pages → IsTextFault text f → ⊥ }
 {}
 
-/// What is written reads as the pages: each list that `encode` doesn't refuse is what `decode` reads in its text.
+/// What is written reads as the pages: every list that `encode` doesn't refuse is what `decode` reads in its text.
 pub fn encode_undone()
     ensures { (dialect : Dialect) (pages : List Page) → AllByRecursion HasTypes pages →
         list_encode_fault dialect pages ≡ None →

@@ -1,4 +1,4 @@
-// Pages one after the other, as long as digits are left or pages are promised.
+// Pages one after the other, while digits are left or pages are promised.
 ghost use Rattle.std.specs.Prelude.{◌≡◌, ◌+◌, ◌≤◌, length, IfOk};
 ghost use Rattle.fumen_digits.specs.Answers.{Gives};
 ghost use Rattle.fumen_pages.specs.Cells.{AreCells};
@@ -42,14 +42,14 @@ pub(crate) fn read_pages(
     Ok(pages)
 }
 
-/// Whether one more page is due: digits are left, or a page is promised.
+/// Whether another page is due: digits are left, or a page is promised.
 fn is_due(digits: &[u8], at: &Position) -> bool
     ensures { result ≡ is_due digits.now at.now.place at.now.promised }
 {
     at.place < digits.len() || at.promised > 0
 }
 
-/// The page that is due, counted from 1, and where the reader stands behind it.
+/// The next page, counted from 1, and where the reader stands behind it.
 #[tactic(auto, unfolding(crate::specs::Reading::next_page_at))]
 fn step_at(
     alloc: Global,

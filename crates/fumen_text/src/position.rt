@@ -1,7 +1,7 @@
 // Where a reader of pages stands.
 
-/// Where a reader of pages stands: at a place among the digits, with the cells that stand there, and so many
-/// pages promised to keep their cells.
+/// Where a reader of pages stands: its place among the digits, the cells at that point, and how many pages are promised
+/// to keep their cells.
 #[derive(Clone, Copy, Debug, PartialEq, Eq)]
 pub(crate) struct Position {
     pub(crate) place: usize,

@@ -1,4 +1,4 @@
-// Whole texts, by fumens that were written by hand.
+// Whole texts, checked with fumens written by hand.
 use super::*;
 use fumen_comment::Comment;
 use fumen_digits::Dialect;
@@ -7,7 +7,7 @@ use pc_outside::Refused;
 use srs::{Piece, Placement, Rotation};
 use std::test::Fail;
 
-/// The `T` in the middle of the bottom row.
+/// A T in the middle of the bottom row.
 const MIDDLE: Placement = Placement {
     piece: Piece::T,
     rotation: Rotation::Spawn,

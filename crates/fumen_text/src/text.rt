@@ -18,10 +18,10 @@ use std::alloc::Global;
 
 /// The dialect and the pages of a fumen text.
 ///
-/// The digits are those of `digits_of`. While digits are left, or pages are promised to be unchanged, one
-/// more page is read: its record unless it is promised, the digit behind the run `vh` or `7e` that says how
-/// many of the next pages are promised, its action, and its comment. The first fault from the left is
-/// answered. A text with no digits has no pages, and no text has more than 10,000.
+/// The digits are those of `digits_of`. While digits are left, or pages are promised to be unchanged, one more page is
+/// read: its record unless it is promised, the digit behind the run `vh` or `7e` that says how many of the next pages
+/// are promised, its action, and its comment. A refusal is the first fault from the left. A text without digits has no
+/// pages. No text has more than 10,000.
 pub fn decode(alloc: Global, text: &[u8]) -> Result<(Dialect, Vec<Page>), Refused<FumenFault>>
     // What reading from the left gives.
     ensures exact { Gives (λ x. (x.0, x.1.items)) (λ f. f) result (text_pages text.now) }

@@ -19,13 +19,13 @@ use std::alloc::Global;
 
 /// The fumen text of some pages, in a dialect.
 ///
-/// A page that keeps the cells which are left before it is written by the run `vh`, or `7e`, and a digit that
-/// promises the unchanged pages behind it, at most 63; those have no record. The record of another page has
-/// the longest runs. Without an operation, rotation and place are written as 0, and a comment is escaped and
-/// filled up with 0.
+/// A page that keeps the cells left before it is written as the run `vh` or `7e` and a digit that promises up to 63
+/// unchanged pages behind it. Promised pages have no record. The record of any other page has the longest runs. Without
+/// an operation, rotation and place are written as 0. A comment is escaped and filled up with 0.
 ///
-/// More than 10,000 pages are refused first; then, page by page, a cell above 8, a cell in a row that the
-/// dialect hasn't, an operation with a cell outside, and an escaped comment of more than 4,095 characters.
+/// More than 10,000 pages are refused first. Then, page by page, these are refused: a cell above 8, a cell in a row
+/// that the dialect doesn't have, an operation with a cell outside, and an escaped comment of more than 4,095
+/// characters.
 pub fn encode(
     alloc: Global,
     dialect: Dialect,
@@ -72,7 +72,7 @@ fn write_pages(alloc: Global, dialect: Dialect, pages: &[Page]) -> Result<Vec<u8
     Ok(digits)
 }
 
-/// Appends what stands before the tail of a page, and gives the number of pages that are promised behind it.
+/// Appends what comes before the tail of a page. Returns how many pages are promised behind it.
 #[tactic(auto, unfolding(crate::specs::Written::promised_behind, crate::specs::Written::cells_digits))]
 fn push_cells(
     digits: &mut Vec<u8>,

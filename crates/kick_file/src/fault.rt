@@ -1,10 +1,10 @@
-// What a table text is refused for.
+// Why a table text is refused.
 
-/// Why a text spells no table. A `place` is an index of a byte of the text, from 0.
+/// Why a text spells no table. A `place` is the index of a byte of the text, from 0.
 #[derive(Clone, Copy, Debug, PartialEq, Eq)]
 pub enum KickFault {
-    /// A byte that cannot continue any text of entries, or the text's end within an entry or after a `;`.
+    /// A byte that no text of entries can have here, or the text ends within an entry or after a `;`.
     Unexpected { place: usize },
-    /// An entry whose piece and rotation stood before; the place is that of the entry's first byte.
+    /// The piece and rotation of this entry had an entry before. The place is this entry's first byte.
     RepeatedEntry { place: usize },
 }

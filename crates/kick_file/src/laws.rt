@@ -1,4 +1,4 @@
-// Laws of the definitions: functions with an empty body, whose contract is the law.
+// Laws of the definitions: functions with an empty body whose contract is the law.
 ghost use Rattle.std.specs.Prelude.{◌≡◌, ◌↔◌, ℕ, List, Result, Ok};
 ghost use Rattle.srs.specs.Kick.{IsSmallTable, Table};
 ghost use Rattle.kick_file.specs.declared.fault.KickFault.{KickFault};
@@ -6,13 +6,14 @@ ghost use Rattle.kick_file.specs.Faults.{IsReadAs};
 ghost use Rattle.kick_file.specs.Printed.{table_form};
 ghost use Rattle.kick_file.specs.Reading.{kick_text};
 
-/// A text is read as a table exactly where it spells this table, and is refused with a fault exactly where it has this
-/// fault. So each text spells one table, or else has one fault.
+/// A text is read as a table exactly if it spells this table, and refused with a fault exactly if it has this fault. So
+/// each text either spells one table or has one fault.
 pub fn texts_are_read_as_they_spell()
     ensures { (text : List ℕ) (read : Result Table KickFault) → (kick_text text ≡ read) ↔ IsReadAs text read }
 {}
 
-/// What is printed of a table reads as this table, for every table of five offsets a pair, each from -3 to 3.
+/// A printed table reads back as this table: every table of five offsets for each piece and rotation, each from -3 to
+/// 3.
 pub fn print_undone()
     ensures { (table : Table) → IsSmallTable table → kick_text (table_form table) ≡ Ok table }
 {}

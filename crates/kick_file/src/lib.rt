@@ -1,4 +1,4 @@
-// Tables of offsets as text, read and printed.
+// Tables of offsets as text: reading and printing.
 #![tactic(auto)]
 
 mod fault;

@@ -17,12 +17,12 @@ pub enum Position {
         piece: Piece,
         start: usize,
     },
-    /// The letters of a piece and of a rotation, of which the first is at the place `start`.
+    /// The letters of a piece and of a rotation. The first is at the place `start`.
     Letters {
         turned: TurnedPiece,
         start: usize,
     },
-    /// What comes before the columns of an offset, with a `-` or without.
+    /// What comes before the columns of an offset, possibly with a `-`.
     Columns {
         turned: TurnedPiece,
         test: u8,
@@ -34,7 +34,7 @@ pub enum Position {
         test: u8,
         dx: i8,
     },
-    /// The comma of an offset, with a `-` after it or without.
+    /// The comma of an offset, possibly with a `-` after it.
     Rows {
         turned: TurnedPiece,
         test: u8,
@@ -49,7 +49,7 @@ pub enum Position {
     },
 }
 
-/// The number with this digit: from 0 to 3, or after a `-` from -1 to -3.
+/// The number that this digit gives: from 0 to 3, or from -1 to -3 after a `-`.
 fn number(digit: u8, is_negative: bool) -> Option<i8>
     ensures { result ≡ number_with_digit is_negative digit }
 {
@@ -66,7 +66,8 @@ fn number(digit: u8, is_negative: bool) -> Option<i8>
 }
 
 impl Position {
-    /// Where the text stands after this byte, which is at a place. `None` exactly where no text of entries goes on so.
+    /// Where the text stands after this byte, which is at `place`. `None` exactly if no text of entries goes on like
+    /// that.
     pub fn next(self, place: usize, byte: u8) -> Option<Position>
         requires { IsTrue (is_sound_position self) }
         ensures next { result ≡ next_position self place byte }

@@ -37,7 +37,7 @@ fn push_number(text: &mut Vec<u8>, number: i8) -> Result<(), NoMemory>
     Ok(())
 }
 
-/// An offset, or a kick, or a front of it.
+/// Appends an offset or a kick, or a front part of it.
 fn push_offset(text: &mut Vec<u8>, offset: Offset) -> Result<(), NoMemory>
     requires { IsTrue (is_short_move (pair_of offset)) }
     ensures ok { OnOk result (text.new.items ≡ text.old.items ++ offset_form (pair_of offset)) }
@@ -48,8 +48,8 @@ fn push_offset(text: &mut Vec<u8>, offset: Offset) -> Result<(), NoMemory>
     push_number(text, offset.dy)
 }
 
-/// Appends offsets, or kicks, each of at most nine columns and nine rows, divided by `/`. After NoMemory `text` is as
-/// before; where there are no offsets it is not answered.
+/// Appends offsets or kicks, separated by `/`. Each is at most nine columns and nine rows. After NoMemory `text` is
+/// unchanged. Without offsets, memory cannot run out.
 pub fn push_offsets(text: &mut Vec<u8>, offsets: &[Offset]) -> Result<(), NoMemory>
     requires { IsTrue (list_all is_short_move (map pair_of offsets.now)) }
     ensures ok { OnOk result (text.new.items ≡ text.old.items ++ offsets_form (map pair_of offsets.now)) }
@@ -64,7 +64,7 @@ pub fn push_offsets(text: &mut Vec<u8>, offsets: &[Offset]) -> Result<(), NoMemo
     pushed
 }
 
-/// Appends the offsets, or a front of them.
+/// Appends the offsets, or a front part of them.
 fn push_some_offsets(text: &mut Vec<u8>, offsets: &[Offset]) -> Result<(), NoMemory>
     requires { IsTrue (list_all is_short_move (map pair_of offsets.now)) }
     ensures ok { OnOk result (text.new.items ≡ text.old.items ++ offsets_form (map pair_of offsets.now)) }
@@ -95,7 +95,7 @@ fn offsets_of(rules: &Rules, piece: Piece, rotation: Rotation) -> [Offset; 5]
     ]
 }
 
-/// Appends the entry of a piece in a rotation. After NoMemory `text` is as before.
+/// Appends the entry of a piece in a rotation. After NoMemory `text` is unchanged.
 pub fn push_entry(
     text: &mut Vec<u8>,
     rules: &Rules,
@@ -114,7 +114,7 @@ pub fn push_entry(
     appended
 }
 
-/// Appends the entry, or a front of it.
+/// Appends the entry, or a front part of it.
 fn push_some_entry(
     text: &mut Vec<u8>,
     rules: &Rules,
@@ -129,7 +129,7 @@ fn push_some_entry(
     push_offsets(text, &offsets_of(rules, piece, rotation))
 }
 
-/// The four entries of a piece, with a `;` after each.
+/// Appends the four entries of a piece, each with a `;` after it.
 fn push_piece(text: &mut Vec<u8>, rules: &Rules, piece: Piece) -> Result<(), NoMemory>
     ensures { OnOk result (text.new.items ≡ text.old.items ++ piece_form (table_of rules.now) piece) }
 {
@@ -141,7 +141,7 @@ fn push_piece(text: &mut Vec<u8>, rules: &Rules, piece: Piece) -> Result<(), NoM
 }
 
 /// The text of a table: an entry for each piece, in the order of codes, and each rotation, in the order 0, R, 2, L. It
-/// is read as this table.
+/// reads back as this table.
 pub fn print(alloc: Global, rules: &Rules) -> Result<Vec<u8>, NoMemory>
     ensures form { IfOk result (λ text. text.items ≡ table_form (table_of rules.now)) }
     ensures read { IfOk result (λ text. kick_text text.items ≡ Ok (table_of rules.now)) }

@@ -10,8 +10,8 @@ use crate::turned::TurnedPiece;
 use arrayvec::ArrayVec;
 use srs::Rules;
 
-/// What was read of a text so far: the pieces and rotations that have an entry, the table that the entries make, and
-/// where the text stands.
+/// What has been read of a text: which pieces and rotations have an entry, the table that the entries make, and where
+/// the text stands.
 #[derive(Drop)]
 struct Reader {
     given: ArrayVec<TurnedPiece, 28>,
@@ -24,7 +24,7 @@ struct Reader {
 impl Reader {
     ghost use Rattle.kick_file.specs.Reader.{reading_of};
 
-    /// A reader of the beginning of a text.
+    /// A reader before the first byte.
     fn new() -> Reader
         ensures { reading_of result ≡ beginning }
     {
@@ -42,7 +42,7 @@ impl Reader {
         self.given.iter().any(|other| turned.is_same(*other))
     }
 
-    /// Takes the next byte, which is at a place of the text.
+    /// Takes the next byte, which is at this place of the text.
     #[tactic(auto, unfolding(crate::specs::Reading::after_byte))]
     fn take(&mut self, place: usize, byte: u8) -> Result<(), KickFault>
         ensures { MovesOn result (after_byte (reading_of self.old) place byte) (reading_of self.new) }
@@ -53,7 +53,7 @@ impl Reader {
         }
     }
 
-    /// Goes on to where the text stands now.
+    /// Moves on to this position of the text.
     fn enter(&mut self, position: Position) -> Result<(), KickFault>
         requires { IsTrue (is_sound_position position) }
         ensures { MovesOn result (reading_at (reading_of self.old) 0 (Some position)) (reading_of self.new) }
@@ -80,7 +80,7 @@ impl Reader {
         Ok(())
     }
 
-    /// Begins the entry of this piece in this rotation, which stands at the place `start`.
+    /// Begins the entry of this piece in this rotation, which starts at the place `start`.
     fn begin(&mut self, turned: TurnedPiece, start: usize) -> Result<(), KickFault>
         ensures { MovesOn result (reading_at (reading_of self.old) 0 (Some (Position.Letters turned start)))
             (reading_of self.new) }
@@ -93,7 +93,7 @@ impl Reader {
         Ok(())
     }
 
-    /// The table of a text that ends at a place.
+    /// The table of a text that ends at this place.
     fn end(&self, place: usize) -> Result<Rules, KickFault>
         ensures { AnswersTable result (ended (reading_of self.now).table place (reading_of self.now).position) }
     {
@@ -107,10 +107,10 @@ impl Reader {
 
 /// The table that a text spells, or the first fault from the left.
 ///
-/// A text is a list of entries divided by `;`, in which no piece and rotation stands twice. An entry is the letter of a
-/// piece, capital or small, the letter `0`, `R`, `2` or `L` of a rotation, a colon, and five offsets divided by `/`. An
-/// offset is columns to the right and rows up, from -3 to 3, divided by a comma. What has no entry has its offsets of
-/// the Super Rotation System.
+/// A text is a list of entries separated by `;`. No piece and rotation has two entries. An entry is the letter of a
+/// piece, capital or small, the letter `0`, `R`, `2` or `L` of a rotation, a colon, and five offsets separated by `/`.
+/// An offset is columns to the right and rows up, each from -3 to 3, separated by a comma. A piece and rotation without
+/// an entry has its offsets of the Super Rotation System.
 pub fn parse(text: &str) -> Result<Rules, KickFault>
     ensures { AnswersTable result (kick_text text.now) }
 {

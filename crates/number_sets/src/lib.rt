@@ -1,4 +1,4 @@
-// Sets of numbers as rising lists: what is in either of two, and what is in one and not in the other.
+// Sets of numbers as rising lists: their union and their difference.
 #![tactic(auto)]
 
 mod sets;

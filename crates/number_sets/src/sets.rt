@@ -1,4 +1,4 @@
-// Unions and differences are made in one pass over two lists.
+// Unions and differences, each in one pass over two lists.
 ghost use Rattle.std.specs.Prelude.{◌≡◌, ℕ, ◌≤◌, ◌<◌, ◌+◌, ◌&&◌, ◌||◌, not, length, IfOk};
 ghost use Rattle.number_sets.specs.Rising.{IsRising, has};
 

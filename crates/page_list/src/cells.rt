@@ -5,7 +5,7 @@ ghost use Rattle.page_list.specs.CellsReading.{cells_in, cells_with_rows, colour
 
 use arrayvec::ArrayVec;
 
-/// The colour of a letter, as `letters::colour_letter` writes it.
+/// The colour that a letter stands for, as `letters::colour_letter` writes it.
 fn colour_in(letter: u8) -> Option<u8>
     ensures value { result ≡ colour_in letter }
     ensures small { IfSome result (λ colour. colour ≤ 8) }
@@ -24,7 +24,7 @@ fn colour_in(letter: u8) -> Option<u8>
     }
 }
 
-/// The place of the first such byte.
+/// The index of the first byte with this value.
 fn place_of(byte: u8, text: &[u8]) -> Option<usize>
     ensures place { result ≡ position (λ letter. letter == byte) text.now }
     ensures within { IfSome result (λ place. place < length text.now) }
@@ -32,7 +32,8 @@ fn place_of(byte: u8, text: &[u8]) -> Option<usize>
     text.iter().position(|letter| *letter == byte)
 }
 
-/// The text before the first such byte, and the text behind it. `None` exactly where the byte isn't in the text.
+/// The text before the first byte with this value, and the text behind it. `None` exactly if the text doesn't have the
+/// byte.
 #[tactic(auto, unfolding(crate::specs::CellsReading::cut_at))]
 pub fn cut_at(byte: u8, text: &[u8]) -> Option<(&[u8], &[u8])>
     ensures { MatchOption result (cut_at byte text.now ≡ None)
@@ -97,7 +98,7 @@ fn garbage_colours(text: &[u8]) -> Option<[u8; 10]>
     Some(garbage)
 }
 
-/// Some cells are written over those from a place on.
+/// Writes a part over the cells from this place on.
 fn put(cells: &mut [u8; 240], place: usize, part: &[u8])
     requires { place + length part.now ≤ 240 }
     ensures { cells.new ≡ take place cells.old ++ (part.now ++ drop (place + length part.now) cells.old) }
@@ -105,7 +106,7 @@ fn put(cells: &mut [u8; 240], place: usize, part: &[u8])
     cells[place..place + part.len()].copy_from_slice(part);
 }
 
-/// The 240 cells: these rows with empty ones above, and the garbage row.
+/// The 240 cells: these rows with empty ones above them, and the garbage row.
 fn cells_of(rows: &[u8], garbage: &[u8; 10]) -> [u8; 240]
     requires { length rows.now ≤ 230 }
     ensures { result ≡ cells_with_rows rows.now garbage.now }
@@ -116,8 +117,8 @@ fn cells_of(rows: &[u8], garbage: &[u8; 10]) -> [u8; 240]
     cells
 }
 
-/// The cells: rows of ten letters, divided by `/`, up to 23 of them down to row 0, then a bar, and the garbage row,
-/// which may be left out. `None` exactly where the text isn't of this form.
+/// The cells of a text: up to 23 rows of ten letters down to row 0, separated by `/`, then a bar, then the garbage row,
+/// which may be left out. `None` exactly if the text doesn't have this form.
 #[tactic(auto, unfolding(crate::specs::CellsReading::cells_in))]
 pub fn cells_in(text: &[u8]) -> Option<[u8; 240]>
     ensures { result ≡ cells_in text.now }

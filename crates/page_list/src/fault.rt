@@ -1,27 +1,27 @@
 // The faults of a list of pages.
 
-/// What a line is refused for, looked at in this order.
+/// Why a line is refused. Its faults are looked for in this order.
 #[derive(Clone, Copy, Debug, PartialEq, Eq)]
 pub enum ListKind {
-    /// A line follows 10,000 pages.
+    /// The line follows 10,000 pages.
     TooManyPages,
-    /// The line hasn't exactly four fields, divided by single blanks, or one of them is empty.
+    /// The line doesn't have exactly four fields, separated by single blanks, or a field is empty.
     BadLine,
-    /// The first field isn't of the form.
+    /// The first field doesn't have the form of cells.
     BadCells,
-    /// The second field isn't of the form.
+    /// The second field doesn't have the form of an operation.
     BadOperation,
-    /// The third field isn't of the form.
+    /// The third field doesn't have the form of flags.
     BadFlags,
-    /// The fourth field is neither `-` nor `#` and bytes 33 to 126.
+    /// The fourth field is neither `-` nor `#` followed by bytes 33 to 126.
     BadComment,
 }
 
-/// The first line with a fault.
+/// The first line with a fault, and the fault.
 #[derive(Clone, Copy, Debug, PartialEq, Eq)]
 pub struct ListFault {
-    /// The line, counted from 1.
+    /// The number of the line, counted from 1.
     pub line: u32,
-    /// What the line is refused for.
+    /// Why the line is refused.
     pub kind: ListKind,
 }

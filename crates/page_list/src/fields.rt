@@ -27,7 +27,7 @@ pub struct Flags {
     pub lock: bool,
 }
 
-/// Whether a flag is set: its letter, or `-`.
+/// Whether a flag is set: its letter says that it is, and `-` that it isn't. `None` for any other byte.
 fn flag_in(letter: u8, text: u8) -> Option<bool>
     ensures { result ≡ flag_in letter text }
 {
@@ -40,8 +40,8 @@ fn flag_in(letter: u8, text: u8) -> Option<bool>
     None
 }
 
-/// The four flags `r`, `m`, `c` and `l`, each of them `-` where it isn't set. `None` exactly where the text isn't of
-/// this form.
+/// The four flags `r`, `m`, `c` and `l`. A `-` stands for a flag that is not set. `None` exactly if the text doesn't
+/// have this form.
 #[tactic(auto, unfolding(crate::specs::FieldsReading::flags_in))]
 pub fn flags_in(text: &[u8]) -> Option<Flags>
     ensures { result ≡ flags_in text.now }
@@ -65,8 +65,9 @@ pub fn is_dash(text: &[u8]) -> bool
     matches!(text, [b'-'])
 }
 
-/// The operation: `-` where there is none, or the letters of piece and rotation, `:`, the column, `,` and the row, as
-/// `T0:4,0`. The row is 0 to 22; the placement need not be inside. `None` exactly where the text isn't of this form.
+/// The operation: `-` if there is none, or else the letters of piece and rotation, `:`, the column, `,` and the row, as
+/// in `T0:4,0`. The row is 0 to 22. The placement may have cells outside. `None` exactly if the text doesn't have this
+/// form.
 #[tactic(auto, unfolding(crate::specs::FieldsReading::operation_in))]
 pub fn operation_in(text: &[u8]) -> Option<Option<Placement>>
     ensures { result ≡ operation_in text.now }
@@ -90,8 +91,8 @@ fn all_marks(text: &[u8]) -> bool
     text.iter().all(|letter| is_mark(*letter))
 }
 
-/// The comment: none where the text is `-`, or else what stands behind the `#`, unescaped. `BadComment` exactly where
-/// the text is neither `-` nor `#` and bytes from `!` to `~`.
+/// The comment: none if the text is `-`, or else what follows the `#`, unescaped. `BadComment` exactly if the text is
+/// neither `-` nor `#` followed by bytes from `!` to `~`.
 #[tactic(auto, unfolding(crate::specs::FieldsReading::comment_in, crate::specs::FieldsReading::units_in))]
 pub fn comment_in(alloc: Global, text: &[u8]) -> Result<Option<Comment>, Refused<ListKind>>
     ensures exact { Gives (λ comment. comment) (λ fault. fault) result (ok_or (comment_in text.now) BadComment) }

@@ -1,4 +1,4 @@
-// Laws of the definitions: functions with an empty body, whose contract is the law.
+// Laws of the definitions: functions with an empty body whose contract is the law.
 ghost use Rattle.std.specs.Prelude.{◌≡◌, ◌≤◌, ◌↔◌, ◌⊎◌, ℕ, List, length, All, Ok, Err};
 ghost use Rattle.std.specs.List.{flat_map};
 ghost use Rattle.fumen_comment.specs.Escape.{HasUnits};
@@ -12,19 +12,19 @@ ghost use Rattle.page_list.specs.PrintedLine.{page_form};
 ghost use Rattle.page_list.specs.LineSpelling.{HasLines, IsListFault, Spelled, SpellsPages};
 ghost use Rattle.page_list.specs.ListReading.{lines_of, pages_in};
 
-/// The lines of a text follow each other from its start to its end: each is the first line of what stands behind those
-/// before it. So each text has one list of lines.
+/// The lines of a text follow each other from its start to its end: each is the first line of what comes after the
+/// lines before it. So each text has one list of lines.
 pub fn lines_follow_each_other()
     ensures { (text : List ℕ) (lines : List (List ℕ)) → (lines_of text ≡ lines) ↔ HasLines text lines }
 {}
 
-/// A text is read as pages exactly where it spells them, and is refused with a fault exactly where it has this fault.
+/// A text is read as pages exactly if it spells them, and refused with a fault exactly if it has this fault.
 pub fn texts_are_read_as_they_spell()
     ensures pages { (text : List ℕ) (pages : List Page) → (pages_in text ≡ Ok pages) ↔ SpellsPages text pages }
     ensures fault { (text : List ℕ) (fault : ListFault) → (pages_in text ≡ Err fault) ↔ IsListFault text fault }
 {}
 
-/// Each text spells one list of pages, or else has one fault.
+/// Each text either spells one list of pages or has one fault.
 pub fn a_text_spells_pages_or_has_a_fault()
     ensures either { (text : List ℕ) → Spelled SpellsPages text ⊎ Spelled IsListFault text }
     ensures not_both { (text : List ℕ) (pages : List Page) (fault : ListFault) → SpellsPages text pages →
@@ -42,7 +42,7 @@ pub fn printed_lines_spell_their_pages()
         All (λ page. HasUnits page.comment) pages → SpellsPages (flat_map page_form pages) pages }
 {}
 
-/// Each page that a text spells has 240 cells, each of a colour, and the units of its comment have 16 bits.
+/// Each page that a text spells has 240 cells, each with a colour, and the units of its comment have 16 bits.
 pub fn spelled_pages_have_cells()
     ensures cells { (text : List ℕ) (pages : List Page) → SpellsPages text pages →
         All (λ page. AreCells V115 page.cells) pages }

@@ -1,12 +1,11 @@
-// The letters of a page's cells, and its rows.
+// The letters of a page's cells and rows.
 ghost use Rattle.std.specs.Prelude.{◌≡◌, ◌*◌, ◌<◌, ◌≤◌, All, length, take, drop};
 ghost use Rattle.std.specs.List.{prefix_len};
 ghost use Rattle.fumen_pages.specs.Cells.{IsColour};
 ghost use Rattle.fumen_pages.specs.Next.{rows_in};
 ghost use Rattle.page_list.specs.Letters.{colour_letter, letters_of, is_blank};
 
-/// The letter of a cell's colour: `_` for 0, which is empty, the letter of the piece with the code 1 to 7, and
-/// `X` for 8, which is grey.
+/// The letter of a cell's colour: `_` for 0 (empty), the piece's letter for the codes 1 to 7, and `X` for 8 (grey).
 #[tactic(auto, unfolding(crate::specs::Letters::colour_letter))]
 pub fn colour_letter(colour: u8) -> u8
     requires { colour ≤ 8 }
@@ -27,8 +26,8 @@ pub fn letters_of(cells: &[u8; 240]) -> [u8; 240]
     letters
 }
 
-/// The letters of a row, counted from the top: row 22 is the first, row 0 has the index 22, and the garbage row has
-/// the index 23.
+/// The letters of a row, counted from the top: row 22 has index 0, row 0 has index 22, and the garbage row has index
+/// 23.
 pub fn row(letters: &[u8; 240], index: usize) -> &[u8]
     requires { index < 24 }
     ensures { result.now ≡ take 10 (drop (10 * index) letters.now) }
@@ -36,7 +35,7 @@ pub fn row(letters: &[u8; 240], index: usize) -> &[u8]
     &letters[10 * index..10 * index + 10]
 }
 
-/// Whether a row has nothing but `_`.
+/// Whether a row has only `_`.
 #[tactic(auto, unfolding(crate::specs::Letters::is_blank))]
 pub fn is_blank(row: &[u8]) -> bool
     ensures { result ≡ is_blank row.now }
@@ -44,7 +43,7 @@ pub fn is_blank(row: &[u8]) -> bool
     row.iter().all(|letter| *letter == b'_')
 }
 
-/// The index of the highest row that isn't blank, counted from the top, or 23 where the rows 0 to 22 all are.
+/// The index of the highest row that isn't blank, counted from the top, or 23 if rows 0 to 22 are all blank.
 pub fn first_shown(letters: &[u8; 240]) -> usize
     ensures value { result ≡ prefix_len is_blank (rows_in 23 letters.now) }
     ensures most { result ≤ 23 }

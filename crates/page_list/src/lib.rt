@@ -1,4 +1,4 @@
-// Lists of pages as text, a line for each page.
+// Lists of pages as text, one line for each page.
 #![tactic(auto)]
 
 mod cells;

@@ -13,12 +13,12 @@ use placement_form::placement_text;
 use srs::Placement;
 use std::alloc::Global;
 
-/// The line of a page, with the newline at its end: cells, operation, flags and comment, divided by blanks, as
+/// The line of a page, with its newline: cells, operation, flags and comment, separated by blanks, as in
 /// `____T_____/___TTT____| T0:4,0 --cl #hello`.
 ///
-/// The cells are rows from the highest one with a coloured cell down to row 0, divided by `/`, then a bar and the
-/// garbage row, where it isn't empty. The operation and the comment are `-` where there is none. The flags are `r`
-/// for rise, `m` for mirror, `c` for colour and `l` for lock. The comment is escaped as ECMAScript's `escape` does.
+/// The cells are the rows from the highest one with a coloured cell down to row 0, separated by `/`, then a bar, then
+/// the garbage row if it isn't empty. The operation and the comment are `-` if there is none. The flags are `r` for
+/// rise, `m` for mirror, `c` for colour and `l` for lock. The comment is escaped as ECMAScript's `escape` does.
 #[tactic(auto, unfolding(crate::specs::PrintedLine::page_form))]
 pub fn print_page(alloc: Global, page: &Page) -> Result<Vec<u8>, NoMemory>
     requires { All IsColour page.now.cells }
@@ -36,7 +36,7 @@ pub fn print_page(alloc: Global, page: &Page) -> Result<Vec<u8>, NoMemory>
     Ok(line)
 }
 
-/// The rows, the bar, and the garbage row.
+/// Appends the rows, the bar, and the garbage row.
 #[tactic(auto, unfolding(crate::specs::PrintedLine::rows_form))]
 fn push_rows(line: &mut Vec<u8>, letters: &[u8; 240]) -> Result<(), NoMemory>
     ensures { OnOk result (line.new.items ≡ line.old.items ++ rows_form letters.now) }
@@ -50,7 +50,7 @@ fn push_rows(line: &mut Vec<u8>, letters: &[u8; 240]) -> Result<(), NoMemory>
     Ok(())
 }
 
-/// The rows from the highest one that isn't blank down, divided by `/`.
+/// Appends the rows from the highest one that isn't blank down, separated by `/`.
 #[tactic(auto, unfolding(crate::specs::Letters::shown_rows))]
 fn push_shown(line: &mut Vec<u8>, letters: &[u8; 240]) -> Result<(), NoMemory>
     ensures { OnOk result (line.new.items ≡ line.old.items ++ join_with_byte 47 (shown_rows letters.now)) }
@@ -61,7 +61,7 @@ fn push_shown(line: &mut Vec<u8>, letters: &[u8; 240]) -> Result<(), NoMemory>
     Ok(())
 }
 
-/// A row, and a `/` where another one follows it.
+/// Appends a row, and a `/` if another row follows.
 fn push_row(line: &mut Vec<u8>, letters: &[u8; 240], index: usize) -> Result<(), NoMemory>
     requires { index < 23 }
     ensures { OnOk result (line.new.items ≡ line.old.items ++ divided_row letters.now index) }

@@ -1,4 +1,4 @@
-// Lists of pages, a line for each.
+// Lists of pages, one line for each page.
 ghost use Rattle.std.specs.Prelude.{◌≡◌, ◌≢◌, ◌<◌, ◌≤◌, [], IsOk, IfOk, List, Ok, Err};
 ghost use Rattle.fumen_pages.specs.declared.page.Page.{Page};
 ghost use Rattle.page_list.specs.declared.fault.ListFault.{ListFault};
@@ -14,7 +14,7 @@ use fumen_pages::Page;
 use pc_outside::Refused;
 use std::alloc::Global;
 
-/// A line without the `\r` at its end.
+/// A line without a `\r` at its end.
 #[tactic(auto, unfolding(crate::specs::ListReading::without_return))]
 fn without_return(line: &[u8]) -> &[u8]
     ensures { result.now ≡ without_return line.now }
@@ -26,8 +26,8 @@ fn without_return(line: &[u8]) -> &[u8]
     }
 }
 
-/// The first line without its end, and the text behind it. A line ends with a newline, or with `\r` and a newline, or
-/// with the text.
+/// The first line without its end, and the text behind it. A line ends with a newline, with `\r` and a newline, or at
+/// the end of the text.
 #[tactic(auto, unfolding(crate::specs::ListReading::first_line))]
 pub fn first_line(text: &[u8]) -> (&[u8], &[u8])
     ensures { first_line text.now ≡ (result.0.now, result.1.now) }
@@ -38,7 +38,7 @@ pub fn first_line(text: &[u8]) -> (&[u8], &[u8])
     }
 }
 
-/// The page of the line of this number, counted from 1.
+/// The page that the line with this number spells. Lines are counted from 1.
 #[tactic(auto, unfolding(crate::specs::ListReading::numbered_page))]
 fn page_at(alloc: Global, number: u32, line: &[u8]) -> Result<Page, Refused<ListFault>>
     ensures exact { Gives (λ page. page) (λ fault. fault) result (numbered_page number line.now) }
@@ -58,10 +58,11 @@ fn page_at(alloc: Global, number: u32, line: &[u8]) -> Result<Page, Refused<List
     }
 }
 
-/// The pages of a text with a line for each, as `print_page` writes them, or the first line's fault.
+/// The pages of a text with one line for each, as `print_page` writes them, or the fault of the first line that has
+/// one.
 ///
-/// Lines are ended by a newline; the last one need not be. One `\r` directly before a newline is dropped. Empty rows
-/// at the top, up to 23 rows in all, and an empty garbage row may be written out.
+/// A newline ends each line; the last one needs none. One `\r` directly before a newline is dropped. Empty rows at the
+/// top, up to 23 rows in all, and an empty garbage row may be written out.
 pub fn parse(alloc: Global, text: &[u8]) -> Result<Vec<Page>, Refused<ListFault>>
     // What reading line by line gives.
     ensures exact { Gives (λ pages. pages.items) (λ fault. fault) result (pages_in text.now) }

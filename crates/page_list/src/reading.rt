@@ -33,7 +33,7 @@ fn is_field(text: &[u8]) -> bool
     !text.is_empty() && is_blank_free(text)
 }
 
-/// The fields that the first three blanks divide.
+/// The fields that the first three blanks separate.
 fn divided(line: &[u8]) -> Option<Four<'_>>
     ensures { MatchOption result (divided line.now ≡ None)
         (λ four. divided line.now ≡ Some (record {
@@ -54,7 +54,7 @@ fn divided(line: &[u8]) -> Option<Four<'_>>
     })
 }
 
-/// Exactly four fields, divided by single blanks.
+/// Exactly four fields, separated by single blanks.
 #[tactic(auto, unfolding(crate::specs::LineReading::four_in))]
 fn four_in(line: &[u8]) -> Option<Four<'_>>
     ensures { MatchOption result (four_in line.now ≡ None)
@@ -77,7 +77,7 @@ fn four_in(line: &[u8]) -> Option<Four<'_>>
     }
 }
 
-/// The page of a line without its newline, or the line's first fault.
+/// The page that a line without its newline spells, or the line's first fault.
 #[tactic(auto, unfolding(crate::specs::LineReading::line_in))]
 pub(crate) fn read_line(alloc: Global, line: &[u8]) -> Result<Page, Refused<ListKind>>
     ensures exact { Gives (λ page. page) (λ fault. fault) result (line_in line.now) }

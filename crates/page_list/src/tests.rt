@@ -10,7 +10,7 @@ use srs::{Piece, Placement, Rotation};
 use std::alloc::Global;
 use std::test::Fail;
 
-/// These cells, one of them with a colour.
+/// These cells, with a colour for one of them.
 fn with(mut cells: [u8; 240], index: usize, colour: u8) -> [u8; 240]
     requires cells { All IsColour cells }
     requires index { index < 240 }

@@ -1,4 +1,4 @@
-// A page as it is shown.
+// A page as `show` writes it.
 ghost use Rattle.std.specs.Prelude.{◌≡◌, ◌*◌, ◌<◌, take, drop, All, IsTrue};
 ghost use Rattle.std.specs.List.{flat_map};
 ghost use Rattle.std.specs.Option.{ForSome};
@@ -15,8 +15,8 @@ use page_list::{first_shown, letters_of, row};
 use pc_outside::{Failed, Sink, write_pieces};
 
 /// Writes a page: a line `page 1` with its number, then its rows from the highest one with a coloured cell or a cell of
-/// the operation down to row 0, then the garbage row, each with a newline. A cell is the small letter of the piece
-/// where the operation has it, else the letter of its colour.
+/// the operation down to row 0, then the garbage row, each with a newline. A cell of the operation is the piece's small
+/// letter. Any other cell is the letter of its colour.
 #[tactic(auto, unfolding(crate::specs::Page::shown_page))]
 pub fn show_page<O: Sink>(out: &mut O, number: u32, page: &Page) -> Result<(), Failed>
     requires colours { All IsColour page.now.cells }
@@ -36,7 +36,7 @@ fn write_title<O: Sink>(out: &mut O, number: u32) -> Result<(), Failed>
     write_pieces(out, &[b"page ", digits.format(number).as_bytes(), b"\n"])
 }
 
-/// The letters of a page's cells, with those of its operation.
+/// The letters of a page's cells, and of its operation's cells.
 fn shown_letters(page: &Page) -> [u8; 240]
     requires colours { All IsColour page.now.cells }
     requires inside { ForSome page.now.operation (λ placement. IsTrue (is_inside_of placement)) }
@@ -49,7 +49,7 @@ fn shown_letters(page: &Page) -> [u8; 240]
     letters
 }
 
-/// The rows from the highest one that isn't blank down to row 0, and the garbage row.
+/// Writes the rows from the highest one that isn't blank down to row 0, and the garbage row.
 fn write_rows<O: Sink>(out: &mut O, letters: &[u8; 240]) -> Result<(), Failed>
     ensures written { WritesAll (O.written out.old) (O.written out.new) result (rows_lines letters.now) }
     ensures cause { HasCause O.counts_failures_alone (O.faults out.old) (O.faults out.new) result }
@@ -58,7 +58,7 @@ fn write_rows<O: Sink>(out: &mut O, letters: &[u8; 240]) -> Result<(), Failed>
     write_row(out, letters, 23)
 }
 
-/// The rows from the highest one that isn't blank down to row 0.
+/// Writes the rows from the highest one that isn't blank down to row 0.
 fn write_shown<O: Sink>(out: &mut O, letters: &[u8; 240]) -> Result<(), Failed>
     ensures written { WritesAll (O.written out.old) (O.written out.new) result
         (flat_map row_line (shown_rows letters.now)) }

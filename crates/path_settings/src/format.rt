@@ -1,12 +1,12 @@
-// The forms of a report.
+// The formats of a report.
 
-/// In which form each sequence of a report is written.
+/// The format in which each sequence of a report is written.
 #[derive(Clone, Copy, Debug, PartialEq, Eq)]
 pub enum Format {
-    /// As its placements, divided by blanks.
+    /// Its placements, separated by blanks.
     Text,
-    /// As a fumen text, a page for each placement.
+    /// A fumen text with one page for each placement.
     Fumen,
-    /// As its placements, and then a picture of each.
+    /// Its placements, and then a picture of each.
     Grid,
 }

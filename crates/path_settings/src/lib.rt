@@ -1,4 +1,4 @@
-// What `path` is asked for.
+// What a call of `path` asks for.
 #![tactic(auto)]
 
 mod format;

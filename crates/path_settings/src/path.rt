@@ -2,18 +2,18 @@
 use crate::format::Format;
 use pc_settings::FieldSettings;
 
-/// What `path` is asked for.
+/// What a call of `path` asks for.
 #[derive(Clone, Copy, Debug, PartialEq, Eq)]
 pub struct PathSettings<'a> {
     pub common: FieldSettings<'a>,
     /// The text of the sequence after which the list begins.
     pub after: Option<&'a str>,
-    /// How many sequences are written at most.
+    /// The most sequences that are written.
     pub limit: u32,
-    /// Whether each placement is followed by its key word.
+    /// Whether the key word of each placement follows it.
     pub keys: bool,
-    /// In which form each sequence is written.
+    /// The format in which each sequence is written.
     pub format: Format,
-    /// Whether the number of floods is written behind the report.
+    /// Whether the number of floods is written after the report.
     pub stats: bool,
 }

@@ -1,4 +1,4 @@
-// Laws of the definitions: functions with no body but laws, whose contract is the law.
+// Laws of the definitions: functions that call only other laws, and whose contract is the law.
 ghost use Rattle.std.specs.Prelude.{◌≡◌, ℕ, List, Option, true, None};
 ghost use Rattle.pc_faults.specs.declared.status.Status.{Status};
 ghost use Rattle.pc_source.specs.Sink.{SinkChange};
@@ -18,8 +18,8 @@ use percent::laws::good_is_decided;
 use queue_pattern::laws::texts_without_a_fault_have_a_pattern;
 use well::laws::texts_without_fault_are_rows;
 
-/// What a command writes is determined by its words and, where it reads the source, by the bytes of the source. The
-/// floods that it made matter only where their number is written.
+/// A command's output depends only on its words and, if it reads the source, on the bytes of the source. The number of
+/// floods matters only if it is written.
 pub fn output_is_determined()
     ensures { (words : List (List ℕ)) (bytes one other : List ℕ) (floods others : ℕ)
         → (tells_floods_in (asked_in (request_in words)) ≡ true → floods ≡ others)
@@ -27,13 +27,13 @@ pub fn output_is_determined()
         → (task_of words).IsOutput bytes others other → one ≡ other }
 {}
 
-/// Where the words and the bytes that the command sees have no fault, there is an output, whatever number of floods
+/// If neither the words nor the bytes that the command sees have a fault, it has an output, whatever number of floods
 /// was made.
 pub fn outputs_exist()
     ensures { (words : List (List ℕ)) (bytes : List ℕ) (floods : ℕ) → first_fault (task_of words) bytes ≡ None
         → (output : List ℕ) × (task_of words).IsOutput bytes floods output }
 {
-    // The laws that this one follows from.
+    // The laws from which this one follows.
     texts_are_read_as_they_spell();
     texts_without_fault_are_rows();
     fields_are_read_as_they_are_asked();
@@ -46,9 +46,9 @@ pub fn outputs_exist()
     good_is_decided();
 }
 
-/// How many bytes each read moves changes nothing: two runs of the same words over sources that tell the same bytes, in
-/// which no read and no write failed and memory was there, end by the same status after the same output. Where the
-/// number of floods is written, this is said of runs that made as many.
+/// How many bytes each read moves changes nothing. Take two runs of the same words over sources with the same bytes, in
+/// which no read or write failed and memory did not run out. They end with the same status and the same output. If the
+/// number of floods is written, this holds for runs that made the same number.
 pub fn reads_of_any_size_end_alike()
     ensures { (words : List (List ℕ)) (left : Option (List ℕ)) → ForBytes (task_of words) left
         (λ bytes. (floods others : ℕ) → (tells_floods_in (asked_in (request_in words)) ≡ true → floods ≡ others)

@@ -1,4 +1,4 @@
-// The commands, each by its settings.
+// Each command, run by its settings.
 ghost use Rattle.std.specs.Prelude.{◌≡◌, ◌-◌, ◌≤◌, IsOk, length};
 ghost use Rattle.kick_file.specs.Reading.{kick_text};
 ghost use Rattle.pc_source.specs.Answers.{IsAnswered};
@@ -41,7 +41,7 @@ pub fn reads_source(settings: &Settings<'_>) -> bool
     }
 }
 
-/// Does what a command is asked for, where it sees these bytes of the source.
+/// Runs a command by its settings. `bytes` are the bytes of the source that it sees.
 pub fn perform<O: Sink, L: Ledger>(
     alloc: Global,
     settings: &Settings<'_>,

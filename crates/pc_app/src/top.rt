@@ -30,7 +30,7 @@ use reach::Steps;
 use std::alloc::Global;
 use std::sync::ledger::Ledger;
 
-/// What the words ask for, or the first fault of the words, or of the table of offsets that they give.
+/// What the words ask for. A refusal is the first fault of the words, or of the table of offsets that they give.
 fn asked(words: &[String]) -> Result<Settings<'_>, Fault>
     ensures value { asked_reading result ≡ asked_in (request_in (texts words.entry.now)) }
     ensures range { IfOk result (λ settings. AsksInRange (settings_view settings)) }
@@ -46,7 +46,7 @@ fn asked(words: &[String]) -> Result<Settings<'_>, Fault>
     }
 }
 
-/// The status, before a fault is reported.
+/// The status of a run, before its fault is reported.
 fn answer<S: Source, O: Sink, L: Ledger>(
     alloc: Global,
     words: &[String],
@@ -94,8 +94,8 @@ fn answer<S: Source, O: Sink, L: Ledger>(
     }
 }
 
-/// Runs the command that the words name, which do not include the program's name. Answers go to `out`, and the line
-/// of a fault goes to `err`.
+/// Runs the command that the words name. The words do not include the program's name. Answers go to `out`; the line of
+/// a fault goes to `err`.
 pub fn run<S: Source, O: Sink, E: Sink, L: Ledger>(
     alloc: Global,
     words: &[String],
@@ -166,7 +166,7 @@ pub fn run<S: Source, O: Sink, E: Sink, L: Ledger>(
     match answer(alloc, words, source, out, steps) {
         Status::Done => Status::Done,
         Status::Input(fault) => {
-            // The status stays, whether or not the line could be written.
+            // The status stays the same, whether or not the line could be written.
             let _ = write_fault(err, fault);
             Status::Input(fault)
         }

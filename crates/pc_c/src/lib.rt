@@ -18,10 +18,10 @@ use std::marker::Brand;
 use std::sync::ledger::Blank;
 use words::{NoWords, words_in};
 
-/// The status where there is no memory.
+/// The status if there is not enough memory.
 const NO_MEMORY: u8 = 5;
 
-/// The status where the words are not in UTF-8, or the last one has no NUL byte behind it.
+/// The status if a word is not UTF-8, or the last word has no NUL byte behind it.
 const NO_WORDS: u8 = 6;
 
 /// The status of a call, and how many bytes it wrote to each buffer.
@@ -32,7 +32,7 @@ struct Ended {
     told: usize,
 }
 
-/// Runs the words over the input, into these buffers.
+/// Runs the words over the input and writes to these buffers.
 fn run_words(alloc: Global, words: &[String], input: &[u8], out: &mut [u8], err: &mut [u8]) -> Ended
     ensures written { result.written ≤ length out.new }
     ensures told { result.told ≤ length err.new }
@@ -59,11 +59,12 @@ fn run_words(alloc: Global, words: &[String], input: &[u8], out: &mut [u8], err:
     }
 }
 
-/// Does what the program does, over memory. The words are those behind the program's name, each ended by a NUL byte;
-/// the input is what the program reads from standard input. What the program writes to standard output goes into `out`,
-/// and what it writes to standard error into `err`: the first `out_length` and `err_length` bytes, and no others. The
-/// answer is the program's exit status: 0 done, 2 a fault of the input, 4 the output is longer than `out`, 5 no memory,
-/// 6 a word is not in UTF-8 or the last one has no NUL byte behind it. Nothing is kept from call to call.
+/// Does what the program does, over memory. The words are those behind the program's name, and a NUL byte ends each.
+/// The input is what the program reads from standard input. What the program writes to standard output goes into `out`,
+/// and what it writes to standard error into `err`. These are the first `out_length` and `err_length` bytes; no other
+/// bytes change. The result is the program's exit status: 0 done, 2 a fault of the input, 4 the output is longer than
+/// `out`, 5 not enough memory, 6 a word is not UTF-8 or the last one has no NUL byte behind it. Nothing is kept from
+/// call to call.
 #[unsafe(no_mangle)]
 pub extern "C" fn voidosier_run(
     alloc: Global,

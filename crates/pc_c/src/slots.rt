@@ -1,4 +1,4 @@
-// Runs over slices. The type of a sink says which slice it fills, so that this stays known whatever a run does with it.
+// Runs over slices. The type of a sink says which slice it fills, so this remains known whatever a run does with it.
 ghost use Rattle.std.specs.Prelude.{◌≡◌, ◌≢◌, ◌<◌, ◌+◌, ℕ, [], List, length, drop, true, Some};
 ghost use Rattle.pc_outside.specs.Counts.{Rose};
 ghost use Rattle.pc_outside.specs.SliceSink.{held_bytes};
@@ -20,7 +20,7 @@ use std::marker::{Brand, PhantomData};
 use std::mem;
 use std::sync::ledger::{Blank, Ledger};
 
-/// Which slice a sink fills, and what the slice held before. Proofs alone see it.
+/// Which slice a sink fills, and what the slice held before. Only proofs see it.
 pub(crate) trait Slot {
     // The name of the slice's borrow.
     ghost name: { ℕ };
@@ -35,7 +35,7 @@ impl Slot for Brand {
     ghost before = { [] };
 }
 
-/// A sink over the slice of its slot, whose bytes behind those that were written are as before.
+/// A sink over the slice of its slot. The bytes behind those that were written are unchanged.
 #[derive(Drop)]
 pub(crate) struct SlotSink<'a, P: Slot> {
     sink: SliceSink<'a>,
@@ -57,7 +57,7 @@ impl<P: Slot> Sink for SlotSink<'_, P> {
     }
 }
 
-/// Runs the words over the input, into a sink that has filled nothing of its slice.
+/// Runs the words over the input, into a sink that has written nothing to its slice yet.
 fn run_out<L: Ledger, E: Sink, P: Slot>(
     alloc: Global,
     blank: Blank,
@@ -94,7 +94,7 @@ fn run_out<L: Ledger, E: Sink, P: Slot>(
     status
 }
 
-/// Runs the words over the input, into sinks that have filled nothing of their slices.
+/// Runs the words over the input, into sinks that have written nothing to their slices yet.
 pub(crate) fn run_into<L: Ledger, P: Slot, Q: Slot>(
     alloc: Global,
     blank: Blank,

@@ -9,9 +9,9 @@ use std::alloc::{AllocError, AllocFailed, Global};
 /// Why there are no words.
 #[derive(Clone, Copy, Debug, PartialEq, Eq)]
 pub(crate) enum NoWords {
-    /// A word is not in UTF-8, or the last one has no NUL byte behind it.
+    /// A word is not UTF-8, or the last one has no NUL byte behind it.
     Unspelled,
-    /// There is no memory for them.
+    /// There is not enough memory for them.
     NoMemory,
 }
 
@@ -31,7 +31,7 @@ impl<T: Drop> From<AllocFailed<T>> for NoWords {
     }
 }
 
-/// The bytes before the first NUL byte, and those behind it. `None` exactly where there is no NUL byte.
+/// The bytes before the first NUL byte, and those behind it. `None` exactly if there is no NUL byte.
 #[tactic(auto, using(crate::proofs::NulLemmas::nul_there, crate::proofs::NulLemmas::nul_nowhere))]
 fn cut_at_nul(text: &[u8]) -> Option<(&[u8], &[u8])>
     ensures { MatchOption result (All (λ byte. (byte == 0) ≡ false) text.now)
@@ -41,7 +41,7 @@ fn cut_at_nul(text: &[u8]) -> Option<(&[u8], &[u8])>
     Some((&text[..at], &text[at + 1..]))
 }
 
-/// The words that a text spells, each ended by a NUL byte.
+/// The words that a text spells. A NUL byte ends each word.
 pub(crate) fn words_in(alloc: Global, text: &[u8]) -> Result<Vec<String>, NoWords>
     ensures spelled { IfOk result (λ words. SpellsWords text.now (texts words.items)) }
     ensures unspelled { result ≡ Err NoWords.Unspelled → SpellsNoWords text.now }

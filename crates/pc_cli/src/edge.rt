@@ -1,4 +1,4 @@
-// Between the real words, source and sinks and the top call: the exit status of a run.
+// What stands between the real words, source and sinks and the top call: the exit status of a run.
 ghost use Rattle.std.specs.Prelude.{◌≡◌, ◌≢◌, ◌-◌, ◌≤◌, ◌⊎◌, ℕ, List, true, None, Some};
 ghost use Rattle.pc_outside.specs.Counts.{Rose};
 ghost use Rattle.pc_outside.specs.Writes.{Grows, GrowsByFront};
@@ -19,9 +19,9 @@ use reach::Steps;
 use std::alloc::Global;
 use std::sync::ledger::Ledger;
 
-/// Runs the command that the words name, which do not include the program's name: answers go to `out`, the line of a
-/// fault to `err`. The answer is the exit status of the program: 0 done, 2 a fault of the input, 3 the source could not
-/// be read, 4 `out` could not be written, 5 no memory.
+/// Runs the command that the words name. The words do not include the program's name. Answers go to `out`; the line of
+/// a fault goes to `err`. Returns the program's exit status: 0 done, 2 a fault of the input, 3 the source could not be
+/// read, 4 `out` could not be written, 5 not enough memory.
 pub fn exit_code<S: Source, O: Sink, E: Sink, L: Ledger>(
     alloc: Global,
     words: &[String],

@@ -14,7 +14,7 @@ use std::marker::Brand;
 use std::process::ExitCode;
 use std::sync::ledger::{Blank, Ledger};
 
-/// The statuses where the words can't be had: no memory, or anything else, as a word that is no UTF-8.
+/// The statuses if the words can't be read: not enough memory, or anything else, such as a word that is not UTF-8.
 const NO_MEMORY: u8 = 5;
 
 const NO_WORDS: u8 = 6;

@@ -42,7 +42,7 @@ fn write_count<O: Sink>(out: &mut O, count: usize) -> Result<(), Failed>
     write_pieces(out, &[b"combo ", digits.format(count).as_bytes(), b"\n"])
 }
 
-/// Writes the line of a run, with keys where there is a finder.
+/// Writes the line of a run, with keys if there is a finder.
 fn write_line<O: Sink>(
     out: &mut O,
     well: &Well,
@@ -80,8 +80,8 @@ fn write_lines<O: Sink>(
     write_count(out, run.len())
 }
 
-/// Writes the longest run that the settings ask for, where the source has these bytes. All memory is taken before
-/// floods are made.
+/// Writes the longest run that the settings ask for. `bytes` are those of the source. All memory is allocated before
+/// any flood is made.
 pub fn run_combo<O: Sink, L: Ledger>(
     alloc: Global,
     settings: &ComboSettings<'_>,

@@ -1,4 +1,4 @@
-// The command `combo`: a longest run of placements that each remove a row.
+// The command `combo`: the longest run of placements that each remove a row.
 #![tactic(auto)]
 
 mod command;

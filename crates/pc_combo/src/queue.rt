@@ -27,8 +27,8 @@ fn only_queue(pattern: &Pattern) -> Result<Queue, Fault>
     Ok(pattern.queue(0))
 }
 
-/// The queue that the settings name, or the first fault of what they ask about a field: a full row, the pattern, the
-/// number of its queues.
+/// The queue that the settings name. A refusal is the first fault of these: a full row, the pattern, the number of its
+/// queues.
 #[tactic(auto, unfolding(crate::specs::Faults::run_fault))]
 pub fn queue_of(well: &Well, settings: &ComboSettings<'_>) -> Result<Queue, Fault>
     ensures fault { IfErr result (λ fault. run_fault (combo_view settings.now) (filled well.now) ≡ Some fault) }

@@ -1,4 +1,4 @@
-// The command `cover`: the field, the sequences of the source, and then the queues that they answer.
+// The command `cover`: the field, the sequences of the source, and then the queues that they cover.
 ghost use Rattle.std.specs.Prelude.{◌≡◌, ◌-◌, ◌≤◌, IsOk, length};
 ghost use Rattle.well.specs.Well.{filled};
 ghost use Rattle.pc_outside.specs.Counts.{HasCause};
@@ -33,7 +33,7 @@ use std::alloc::Global;
 use std::sync::ledger::Ledger;
 use well::Well;
 
-/// Writes the covered queues, and then the numbers of all.
+/// Writes the covered queues, and then how many there are of all.
 fn write_answers<O: Sink>(out: &mut O, problem: &Problem, set: &CoverSet) -> Result<(), Failed>
     requires { kept_problem set.now ≡ problem.now }
     ensures written { WritesAll (O.written out.old) (O.written out.new) result
@@ -44,8 +44,9 @@ fn write_answers<O: Sink>(out: &mut O, problem: &Problem, set: &CoverSet) -> Res
     write_numbers(out, problem.pattern.count(), good)
 }
 
-/// Writes which queues of the problem that the settings name permit the kinds of a sequence that clears its field, of
-/// those that the bytes of the source spell. Where memory is wanted nothing was written, but floods may have been made.
+/// Writes which queues of the problem that the settings name are covered: they permit the kinds of a sequence that
+/// clears the problem's field. The sequences are those that the bytes of the source spell. If memory runs out, nothing
+/// was written, but floods may have been made.
 pub fn run_cover<O: Sink, L: Ledger>(
     alloc: Global,
     settings: &FieldSettings<'_>,
@@ -72,7 +73,7 @@ pub fn run_cover<O: Sink, L: Ledger>(
     }
 }
 
-/// How a run ends where the lines of the source are refused.
+/// How a run ends if the lines of the source are refused.
 fn refused_by(refused: Refused<CoverFault>) -> Status
     ensures { result ≡ status_of_lines refused }
 {
@@ -82,7 +83,7 @@ fn refused_by(refused: Refused<CoverFault>) -> Status
     }
 }
 
-/// Answers for all queues about a field.
+/// Finds and writes the covered queues for a field.
 fn cover_all<O: Sink, L: Ledger>(
     alloc: Global,
     well: Well,

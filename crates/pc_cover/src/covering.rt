@@ -20,8 +20,8 @@ use reach::Steps;
 use std::alloc::Global;
 use std::sync::ledger::Ledger;
 
-/// The set that keeps the kinds of those of the sequences that clear the field. Adds at most one step for each of their
-/// placements. Want of memory is the only refusal.
+/// The set of the kinds of those sequences that clear the field. Counts at most one flood for each of their placements.
+/// The only refusal is that memory runs out.
 pub fn covering<L: Ledger>(
     alloc: Global,
     problem: &Problem,

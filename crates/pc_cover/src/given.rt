@@ -13,7 +13,7 @@ use problem::Sequence;
 use sequence_text::sequence_in;
 use std::alloc::Global;
 
-/// The most sequences that are taken.
+/// The most sequences that are read.
 const MOST_SEQUENCES: usize = 100_000;
 
 /// Whether all bytes are decimal digits.
@@ -36,7 +36,7 @@ fn is_count(text: &[u8]) -> bool
     are_digits(text)
 }
 
-/// Whether a line is a name with its blank, and a count.
+/// Whether a line is this name with its blank, and then a count.
 fn is_counted(name: &[u8], line: &[u8]) -> bool
     ensures { result ≡ is_counted name.now line.now }
 {
@@ -46,7 +46,7 @@ fn is_counted(name: &[u8], line: &[u8]) -> bool
     }
 }
 
-/// Whether a line is one that `path` writes behind its sequences.
+/// Whether a line is one that `path` writes after its sequences.
 #[tactic(auto, unfolding(crate::specs::Given::is_tail))]
 fn is_tail(line: &[u8]) -> bool
     ensures { result ≡ is_tail line.now }
@@ -60,7 +60,7 @@ fn is_tail(line: &[u8]) -> bool
     is_counted(b"floods ", line)
 }
 
-/// The sequence of a line that isn't passed over, behind so many other sequences.
+/// The sequence that a line spells, if the line isn't skipped, after `count` other sequences.
 #[tactic(auto, unfolding(crate::specs::Given::numbered_sequence))]
 fn sequence_at(number: u32, count: usize, needed: u8, line: &[u8]) -> Result<Sequence, CoverFault>
     requires { needed ≤ 22 }
@@ -82,7 +82,7 @@ fn sequence_at(number: u32, count: usize, needed: u8, line: &[u8]) -> Result<Seq
     }
 }
 
-/// Reads a line behind others: it is passed over, or its sequence is taken.
+/// Reads a line after others. Either it is skipped, or its sequence is added.
 fn read_line(
     sequences: &mut Vec<Sequence>,
     number: u32,
@@ -106,8 +106,8 @@ fn read_line(
     }
 }
 
-/// The sequences of so many placements that the lines of a text spell, or the first line's fault. Lines are ended as
-/// those of page lists are.
+/// The sequences of `needed` placements that the lines of a text spell, or the fault of the first line that has one.
+/// Lines end as those of page lists do.
 pub fn sequences_in(
     alloc: Global,
     needed: u8,

@@ -1,4 +1,4 @@
-// The command `cover`: which queues known sequences answer.
+// The command `cover`: which queues known sequences cover.
 #![tactic(auto)]
 
 mod command;

@@ -5,7 +5,7 @@
 pub enum CoverKind {
     /// The line is not the text of a sequence of the needed length.
     BadSequence,
-    /// So many sequences as may be given stand before the line.
+    /// The line follows the most sequences that may be given.
     TooManySequences,
 }
 

@@ -7,34 +7,35 @@ use page_list::ListFault;
 use queue_pattern::PatternFault;
 use well::RowsFault;
 
-/// The first fault of the input, in the order in which it is looked into: the words, the offsets, the source, the
-/// field, the pattern, the number of queues or of pieces, the given sequence or sequences.
+/// The first fault of the input. Faults are looked for in this order: the words, the offsets, the source, the field,
+/// the pattern, the number of queues or of pieces, the given sequence or sequences.
 #[derive(Clone, Copy, Debug, PartialEq, Eq)]
 pub enum Fault {
     Words(WordsFault),
     /// The text of offsets spells no table.
     Kicks(KickFault),
-    /// The source gives more than 4,194,304 bytes.
+    /// The source has more than 4,194,304 bytes.
     SourceTooLong,
     Fumen(FumenFault),
-    /// The page that is asked for is not there: its number, and how many pages there are.
+    /// The page that is asked for doesn't exist: its number, and how many pages there are.
     NoPage { asked: u32, there: u32 },
-    /// The source is no list of pages.
+    /// The source is not a list of pages.
     List(ListFault),
     /// The pages can't be written.
     Encode(EncodeFault),
     Rows(RowsFault),
-    /// The lowest row at or above the height that has a filled cell.
+    /// A cell at or above the height is filled; `row` is the lowest such row.
     FieldTooHigh { row: u8 },
-    /// The lowest row that is full.
+    /// A row is full; `row` is the lowest full row.
     FullRow { row: u8 },
     Pattern(PatternFault),
-    /// The pattern has so many queues, where one is asked for.
+    /// The pattern doesn't stand for exactly one queue, but for this many.
     NotOneQueue { count: u32 },
-    /// The queues have fewer pieces than are needed.
+    /// The queues have fewer pieces than a solution needs.
     TooFewPieces { have: u8, need: u8 },
-    /// The text is not that of a sequence of the needed length; so many of its bytes begin such a text.
+    /// The text is not a sequence of the needed length. Its first `place` bytes are the longest front that begins such
+    /// a text.
     BadAfter { place: usize },
-    /// A line of the source is no sequence, or is one too many.
+    /// A line of the source is not a sequence, or is one too many.
     Cover(CoverFault),
 }

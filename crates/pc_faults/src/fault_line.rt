@@ -1,4 +1,4 @@
-// The line that a fault is reported by.
+// The line by which a fault is reported.
 ghost use Rattle.std.specs.Prelude.{◌≡◌};
 ghost use Rattle.pc_outside.specs.Counts.{HasCause};
 ghost use Rattle.pc_outside.specs.Writes.{WritesAll};
@@ -248,7 +248,7 @@ fn write_named<E: Sink>(err: &mut E, name: &[u8], numbers: FaultNumbers) -> Resu
     }
 }
 
-/// Writes the line of a fault, as `input: TooFewPieces 1 2`.
+/// Writes the line of a fault, as in `input: TooFewPieces 1 2`.
 #[tactic(auto, unfolding(crate::specs::FaultLine::fault_line))]
 pub fn write_fault<E: Sink>(err: &mut E, fault: Fault) -> Result<(), Failed>
     ensures written { WritesAll (E.written err.old) (E.written err.new) result (fault_line fault) }

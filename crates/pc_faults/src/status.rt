@@ -10,13 +10,13 @@ use pc_outside::{Failed, ReadError, Refused};
 pub enum Status {
     /// The whole output was written.
     Done,
-    /// The input has a fault: its first one.
+    /// The input has a fault; this is its first one.
     Input(Fault),
     /// A read failed.
     SourceFault,
     /// A write failed.
     SinkFault,
-    /// There is no memory.
+    /// There was not enough memory.
     NoMemory,
 }
 
@@ -34,7 +34,7 @@ impl Status {
         }
     }
 
-    /// How a run ends by what its last writes answered.
+    /// How a run ends, given the result of its last writes.
     pub fn after_writes(written: Result<(), Failed>) -> Status
         ensures { result ≡ written_status written }
     {

@@ -3,25 +3,25 @@
 /// What is wrong with the words.
 #[derive(Clone, Copy, Debug, PartialEq, Eq)]
 pub enum WordsKind {
-    /// There is no word.
+    /// There are no words.
     NoCommand,
-    /// The first word is no command.
+    /// The first word is not a command.
     UnknownCommand,
-    /// A word in a name's place is no option of the command.
+    /// A word where an option should be is not an option of the command.
     UnknownOption,
-    /// The name stood before.
+    /// The option was given before.
     RepeatedOption,
-    /// `--rows` and `--tetfu` both stand.
+    /// `--rows` and `--tetfu` are both given.
     BothFields,
-    /// The name is the last word.
+    /// The option is the last word.
     MissingValue,
     /// The value is not in the option's list or range.
     BadValue,
-    /// A required option is absent.
+    /// A required option is missing.
     MissingOption,
 }
 
-/// The first fault of the words, and the index of its word; for an option that is absent, how many words there are.
+/// The first fault of the words, and the index of its word. For a missing option, the index is the number of words.
 #[derive(Clone, Copy, Debug, PartialEq, Eq)]
 pub struct WordsFault {
     pub kind: WordsKind,

@@ -11,7 +11,7 @@ use pc_faults::Status;
 use pc_outside::Sink;
 use std::alloc::Global;
 
-/// Writes the table of offsets that a text without a fault spells, and the kicks that it gives.
+/// Writes the table of offsets that a text without a fault spells, and the kicks that the table gives.
 pub fn run_kicks<O: Sink>(alloc: Global, kicks: &str, out: &mut O) -> Status
     requires { IsOk (kick_text kicks.now) }
     ensures { let sink = sink_change O.counts_failures_alone (O.written out.old) (O.written out.new)

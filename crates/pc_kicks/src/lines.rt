@@ -42,7 +42,7 @@ fn push_turn(
     Ok(())
 }
 
-/// Appends the lines of the turns of a piece, of which each is clockwise or anticlockwise.
+/// Appends the lines of the turns of a piece, clockwise and anticlockwise.
 fn push_turns(text: &mut Vec<u8>, rules: &Rules, piece: Piece) -> Result<(), NoMemory>
     ensures { OnOk result (text.new.items ≡ text.old.items ++ turn_lines (table_of rules.now) piece) }
 {

@@ -1,4 +1,4 @@
-// What `percent` is asked for.
+// What a call of `percent` asks for.
 #![tactic(auto)]
 
 mod percent;

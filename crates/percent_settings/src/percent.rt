@@ -1,10 +1,10 @@
 // The settings of `percent`.
 use pc_settings::FieldSettings;
 
-/// What `percent` is asked for.
+/// What a call of `percent` asks for.
 #[derive(Clone, Copy, Debug, PartialEq, Eq)]
 pub struct PercentSettings<'a> {
     pub common: FieldSettings<'a>,
-    /// How many queues without a perfect clear are written at most.
+    /// The most queues without a perfect clear that are written.
     pub failed: u32,
 }

@@ -1,4 +1,4 @@
-// The lines that commands about queues write.
+// The lines that commands on queues write.
 ghost use Rattle.std.specs.Prelude.{◌≡◌, ◌<◌, ◌≤◌, map};
 ghost use Rattle.srs.specs.Piece.{piece_letter};
 ghost use Rattle.pc_outside.specs.Counts.{HasCause};
@@ -21,7 +21,8 @@ pub fn letters(queue: &Queue) -> ArrayVec<u8, 22>
     letters
 }
 
-/// The share of the good ones in ten-thousandths: 10,000 times the good ones divided by all, rounded down.
+/// The share of good queues in ten-thousandths: 10,000 times the number of good ones divided by the number of all,
+/// rounded down.
 pub fn rate(good: u32, all: u32) -> u32
     requires some { 0 < all }
     requires within { good ≤ all }
@@ -39,7 +40,7 @@ pub fn write_queue<O: Sink>(out: &mut O, queue: &Queue) -> Result<(), Failed>
     write_pieces(out, &[letters(queue).as_slice(), b"\n"])
 }
 
-/// Writes the line of a number behind its name and a blank: `good 12`.
+/// Writes a name, a blank and a number as a line: `good 12`.
 #[tactic(auto, unfolding(crate::specs::Lines::number_form))]
 pub fn write_number<O: Sink>(out: &mut O, name: &[u8], number: u32) -> Result<(), Failed>
     ensures written { WritesAll (O.written out.old) (O.written out.new) result (number_form name.now number) }
