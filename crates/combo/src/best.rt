@@ -180,7 +180,7 @@ fn cleared(well: &Well, placement: &Placement) -> Option<Well>
 }
 
 /// The longest run that the queue and the held piece permit, in which each placement removes a row. Ties go to the
-/// first in order. Counts one step for each flood.
+/// first in order. Counts each flood.
 // What is kept lies on this stack, not on that of callers into which this would be inlined.
 #[inline(never)]
 pub fn longest<L: Ledger>(

@@ -1,4 +1,4 @@
-// The command `decode`: a line for each page of the fumen text that the source gives.
+// The command `decode`: a line for each page of the fumen text in the source.
 ghost use Rattle.std.specs.Prelude.{◌≡◌, ◌≢◌, ◌≤◌, true, All, None, Err};
 ghost use Rattle.fumen_digits.specs.Framing.{digits_in};
 ghost use Rattle.pc_faults.specs.declared.status.Status.{Status};
@@ -19,7 +19,7 @@ use pc_outside::{Failed, NoMemory, Sink};
 use pc_source::text_pages;
 use std::alloc::Global;
 
-/// Why lines that take memory are not written.
+/// Why lines were not written, if writing them takes memory.
 #[derive(Clone, Copy, Debug, PartialEq, Eq)]
 pub enum WriteFault {
     Failed,

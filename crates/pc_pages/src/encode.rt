@@ -1,4 +1,4 @@
-// The command `encode`: the fumen text of the pages whose lines the source gives.
+// The command `encode`: the fumen text of the pages whose lines are in the source.
 ghost use Rattle.std.specs.Prelude.{◌≡◌, ◌<◌, ◌++◌, [], ◌∷◌, None, Err, IfOk, IfErr, OnOk};
 ghost use Rattle.pc_outside.specs.declared.answers.Refused.{Refused};
 ghost use Rattle.page_list.specs.declared.fault.ListFault.{ListFault};
@@ -33,7 +33,7 @@ pub fn run_encode<O: Sink>(alloc: Global, dialect: Dialect, bytes: &[u8], out: &
     }
 }
 
-/// The pages whose lines the bytes are, or the first fault, or that there is no memory.
+/// The pages whose lines the bytes are. A refusal is their first fault, or that memory ran out.
 fn list_pages(alloc: Global, bytes: &[u8]) -> Result<Vec<Page>, Refused<Fault>>
     ensures pages { IfOk result (λ pages. SpellsPages bytes.now pages.items) }
     ensures refused { IfErr result (λ refused. IsRefusedInput (lines_fault (pages_in bytes.now)) refused) }
@@ -46,7 +46,7 @@ fn list_pages(alloc: Global, bytes: &[u8]) -> Result<Vec<Page>, Refused<Fault>>
     }
 }
 
-/// The fumen text of the pages whose lines the bytes are, or the first fault, or that there is no memory.
+/// The fumen text of the pages whose lines the bytes are. A refusal is the first fault, or that memory ran out.
 fn encoded(alloc: Global, dialect: Dialect, bytes: &[u8]) -> Result<Vec<u8>, Refused<Fault>>
     ensures text { IfOk result (λ text. IsEncodeOutput dialect bytes.now (text.items ++ 10 ∷ [])) }
     ensures none { OnOk result (encode_fault dialect bytes.now ≡ None) }

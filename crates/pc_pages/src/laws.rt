@@ -1,4 +1,4 @@
-// Laws of the definitions: functions with an empty body, whose contract is the law.
+// Laws of the definitions: functions with an empty body whose contract is the law.
 ghost use Rattle.std.specs.Prelude.{◌≡◌, ◌≤◌, ◌<◌, ℕ, List, length, Option, option_map, Some, None};
 ghost use Rattle.std.specs.List.{flat_map};
 ghost use Rattle.fumen_digits.specs.declared.dialect.Dialect.{Dialect};
@@ -17,7 +17,7 @@ ghost use Rattle.pc_pages.specs.Faults.{encode_fault};
 ghost use Rattle.pc_pages.specs.Output.{IsDecodeOutput, IsEncodeOutput, IsShowOutput};
 ghost use Rattle.pc_pages.specs.Tasks.{decode_task, encode_task, show_task};
 
-/// What `decode`, `encode` and `show` write is determined by the bytes of the source.
+/// The output of `decode`, `encode` and `show` depends only on the bytes of the source.
 pub fn outputs_are_determined()
     ensures decode { (bytes one other : List ℕ) → IsDecodeOutput bytes one → IsDecodeOutput bytes other → one ≡ other }
     ensures encode { (dialect : Dialect) (bytes one other : List ℕ) → IsEncodeOutput dialect bytes one
@@ -26,13 +26,13 @@ pub fn outputs_are_determined()
         → IsShowOutput asked bytes other → one ≡ other }
 {}
 
-/// The lines that `decode` writes may be given to `encode`: they spell the pages that were decoded.
+/// The lines that `decode` writes are valid input for `encode`: they spell the pages that were decoded.
 pub fn decoded_lines_spell_their_pages()
     ensures { (bytes output : List ℕ) (decoded : IsDecodeOutput bytes output) → SpellsPages output decoded.pages }
 {}
 
-/// The fault of `encode` is that the source is too long, or else the one fault of its lines, or else that the pages
-/// which it spells can't be written.
+/// `encode` refuses a source that is too long, or else by the one fault of its lines, or else because the pages that
+/// they spell can't be written.
 pub fn encode_faults_are_those_of_the_lines()
     ensures too_long { (dialect : Dialect) (bytes : List ℕ) → most_bytes < length bytes
         → first_fault (encode_task dialect) bytes ≡ Some faults.SourceTooLong }
@@ -45,8 +45,8 @@ pub fn encode_faults_are_those_of_the_lines()
         (list_encode_fault dialect pages) }
 {}
 
-/// The fault of `decode` is that the source is too long, or else the one fault of its text; that of `show` is this
-/// one, or else that the page which is asked for is none of those that the text reads as.
+/// `decode` refuses a source that is too long, or else by the one fault of its text. So does `show`, which also refuses
+/// a page number that the text's pages don't have.
 pub fn source_faults_are_those_of_the_text()
     ensures decode_too_long { (bytes : List ℕ) → most_bytes < length bytes
         → first_fault decode_task bytes ≡ Some faults.SourceTooLong }
@@ -64,9 +64,8 @@ pub fn source_faults_are_those_of_the_text()
         → ReadsAs bytes dialect pages → first_fault (show_task asked) bytes ≡ page_fault asked pages }
 {}
 
-/// What `encode` writes, with the newline at its end, may be given to `decode`: it reads as the pages whose lines were
-/// given to `encode`. So `decode` writes their lines where this text has at most 4,194,304 bytes, and else says that
-/// it is too long.
+/// What `encode` writes, with its newline, is valid input for `decode`: it reads as the pages whose lines `encode` got.
+/// So `decode` writes their lines if this text has at most 4,194,304 bytes, and otherwise says that it is too long.
 pub fn encoded_texts_are_decoded()
     ensures reads { (dialect : Dialect) (bytes output : List ℕ) (encoded : IsEncodeOutput dialect bytes output)
         → encode_fault dialect bytes ≡ None → ReadsAs output dialect encoded.pages }

@@ -1,4 +1,4 @@
-// The command `show`: pages of the fumen text that the source gives, as rows of letters.
+// The command `show`: pages of the fumen text in the source, as rows of letters.
 ghost use Rattle.std.specs.Prelude.{◌≡◌, ◌≢◌, ◌≤◌, All, None, length};
 ghost use Rattle.fumen_digits.specs.Framing.{digits_in};
 ghost use Rattle.pc_faults.specs.declared.status.Status.{Status};
@@ -18,8 +18,8 @@ use pc_outside::{Failed, Sink};
 use pc_source::{page_at, text_pages};
 use std::alloc::Global;
 
-/// Reads the bytes as a fumen text, and writes its pages as they are shown: all, or the one with the number that is
-/// asked for, counted from 1.
+/// Reads the bytes as a fumen text, and writes its pages as rows of letters: all pages, or only the one with the number
+/// `asked`, counted from 1.
 pub fn run_show<O: Sink>(alloc: Global, asked: Option<u32>, bytes: &[u8], out: &mut O) -> Status
     requires { ForSome asked (λ number. 1 ≤ number) }
     ensures answers { let sink = sink_change O.counts_failures_alone (O.written out.old) (O.written out.new)
@@ -40,7 +40,7 @@ pub fn run_show<O: Sink>(alloc: Global, asked: Option<u32>, bytes: &[u8], out: &
     }
 }
 
-/// Writes all pages as they are shown, one after the other, with their numbers from 1.
+/// Writes all pages as rows of letters, one after the other, with their numbers from 1.
 fn show_all<O: Sink>(out: &mut O, pages: &[Page]) -> Result<(), Failed>
     requires showable { All IsShowable pages.now }
     requires few { length pages.now ≤ 10000 }

@@ -18,7 +18,7 @@ use problem::{Problem, Sequence};
 use sequence_text::sequence_in;
 use well::Well;
 
-/// What `path` lists: the solutions of a problem, those above a given sequence where there is one.
+/// What `path` lists: the solutions of a problem, or only those above a given sequence.
 #[derive(Drop)]
 pub struct Listing {
     pub problem: Problem,
@@ -41,7 +41,7 @@ fn given(needed: u8, text: Option<&str>) -> Result<Option<Sequence>, Fault>
     }
 }
 
-/// What the settings ask to list of a field, or the first fault of what they name.
+/// What the settings ask to list for a field. A refusal is the first fault of what they name.
 #[tactic(auto, unfolding(crate::specs::Faults::listing_fault))]
 pub fn listing_of(well: Well, settings: &PathSettings<'_>) -> Result<Listing, Fault>
     requires least { 1 ≤ settings.now.common.height }

@@ -34,7 +34,7 @@ use std::alloc::Global;
 use std::sync::ledger::Ledger;
 use well::Well;
 
-/// Writes the solutions that are still to come, at most so many, and the line that ends the report. With a finder each
+/// Writes the solutions that are still to come, up to the limit, and the line that ends the report. With a finder, each
 /// placement has its key word.
 fn write_report<O: Sink, L: Ledger>(
     alloc: Global,
@@ -73,7 +73,7 @@ fn write_report<O: Sink, L: Ledger>(
     as_line(write_tail(out, Tail::Limit, u64::from(limit)))
 }
 
-/// Writes the report, and behind it how many floods the search made, where that is asked for.
+/// Writes the report and, if it is asked for, the number of floods that the search made.
 fn write_listing<O: Sink, L: Ledger>(
     alloc: Global,
     out: &mut O,
@@ -117,7 +117,7 @@ fn write_listing<O: Sink, L: Ledger>(
     Ok(())
 }
 
-/// Lists the solutions of the problem that the settings name, where the source has these bytes.
+/// Lists the solutions of the problem that the settings name. `bytes` are those of the source.
 pub fn run_path<O: Sink, L: Ledger>(
     alloc: Global,
     settings: &PathSettings<'_>,

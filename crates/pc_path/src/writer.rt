@@ -1,4 +1,4 @@
-// Writing a solution in the form that is asked for.
+// Writing a solution in the format that is asked for.
 ghost use Rattle.std.specs.Prelude.{◌≡◌, ◌≢◌, ◌≤◌, Err, IfOk, IsOk, is_some};
 ghost use Rattle.srs.specs.Rules.{table_of};
 ghost use Rattle.well.specs.Well.{filled};
@@ -17,7 +17,7 @@ use problem::{Problem, Sequence};
 use report::{FumenWriter, WriteFault, write_grid, write_line};
 use std::alloc::Global;
 
-/// What writes solutions in one form, with the memory that the form needs.
+/// A writer of solutions in one format, with the memory that the format needs.
 #[derive(Drop)]
 pub enum FormWriter {
     Text,
@@ -25,8 +25,8 @@ pub enum FormWriter {
     Grid,
 }
 
-/// The writer of a form. `NoMemory` where memory for the pages of a fumen text is refused; for the other forms it is
-/// not answered.
+/// The writer of a format. `NoMemory` if there is not enough memory for the pages of a fumen text; the other formats
+/// need none.
 pub fn writer_for(alloc: Global, format: Format) -> Result<FormWriter, NoMemory>
     ensures form { IfOk result (λ writer. format_of writer ≡ format) }
     ensures none { format ≢ Format.Fumen → IsOk result }
@@ -41,7 +41,7 @@ pub fn writer_for(alloc: Global, format: Format) -> Result<FormWriter, NoMemory>
     }
 }
 
-/// A failed write as a line that is not written.
+/// A failed write, as the reason why a line was not written.
 pub fn as_line(written: Result<(), Failed>) -> Result<(), WriteFault>
     ensures { result ≡ as_line written }
 {
@@ -51,7 +51,7 @@ pub fn as_line(written: Result<(), Failed>) -> Result<(), WriteFault>
     }
 }
 
-/// How a run ends by what its last line answered.
+/// How a run ends, given the result of its last line.
 pub fn line_status(written: Result<(), WriteFault>) -> Status
     ensures { result ≡ line_status written }
 {
@@ -62,7 +62,7 @@ pub fn line_status(written: Result<(), WriteFault>) -> Status
     }
 }
 
-/// Writes a solution in the form of the writer, with keys where there is a finder.
+/// Writes a solution in the writer's format, with keys if there is a finder.
 pub fn write_solution<O: Sink>(
     alloc: Global,
     out: &mut O,

@@ -32,7 +32,7 @@ use std::alloc::Global;
 use std::sync::ledger::Ledger;
 use well::Well;
 
-/// Writes the lines of the first queues without a perfect clear, at most so many.
+/// Writes the lines of the first queues without a perfect clear, up to the limit.
 fn write_all_failed<O: Sink>(
     out: &mut O,
     problem: &Problem,
@@ -55,7 +55,7 @@ fn write_all_failed<O: Sink>(
     Ok(())
 }
 
-/// Writes what is known of all queues.
+/// Writes the answers for all queues.
 fn write_answers<O: Sink>(
     out: &mut O,
     problem: &Problem,
@@ -72,8 +72,8 @@ fn write_answers<O: Sink>(
     write_numbers(out, problem.pattern.count(), answers.count_good())
 }
 
-/// Writes which queues have a perfect clear of the problem that the settings name, where the source has these bytes.
-/// Where memory is wanted nothing was written, but floods may have been made.
+/// Writes how many queues have a perfect clear of the problem that the settings name, and which have none. `bytes` are
+/// those of the source. If memory runs out, nothing was written, but floods may have been made.
 pub fn run_percent<O: Sink, L: Ledger>(
     alloc: Global,
     settings: &PercentSettings<'_>,
@@ -99,7 +99,7 @@ pub fn run_percent<O: Sink, L: Ledger>(
     }
 }
 
-/// Answers for all queues about a field.
+/// Finds and writes the answers for all queues and this field.
 fn answer_all<O: Sink, L: Ledger>(
     alloc: Global,
     well: Well,

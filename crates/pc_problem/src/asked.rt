@@ -1,4 +1,4 @@
-// The problem that the settings name about a field.
+// The problem that the settings name for a field.
 ghost use Rattle.std.specs.Prelude.{◌≡◌, ◌≤◌, None, Some, Ok, IfOk, IfErr, IsOk, IsSome, OnOk};
 ghost use Rattle.well.specs.Well.{filled};
 ghost use Rattle.well.specs.Counts.{lowest_full};
@@ -18,7 +18,7 @@ use problem::{Problem, ProblemFault, check_field};
 use queue_pattern::Pattern;
 use well::Well;
 
-/// The program's fault for one of a problem whose height is 1 to 8.
+/// The program's fault for the fault of a problem whose height is 1 to 8.
 fn told(fault: ProblemFault) -> Fault
     requires { IsSome (Told.told fault) }
     ensures { Told.told fault ≡ Some result }
@@ -31,7 +31,7 @@ fn told(fault: ProblemFault) -> Fault
     }
 }
 
-/// The field has no cell at or above the height and no full row.
+/// Checks that the field has no cell at or above the height and no full row.
 #[tactic(auto, unfolding(crate::specs::Faults::filled_rows_fault))]
 fn rows(well: &Well, height: u8) -> Result<(), Fault>
     requires least { 1 ≤ height }
@@ -45,7 +45,7 @@ fn rows(well: &Well, height: u8) -> Result<(), Fault>
     }
 }
 
-/// The field has no full row. The fault names the lowest one.
+/// Checks that the field has no full row. The fault names the lowest one.
 pub fn open_rows(well: &Well) -> Result<(), Fault>
     ensures fault { IfErr result (λ fault. full_row_fault (filled well.now) ≡ Some fault) }
     ensures none { OnOk result (full_row_fault (filled well.now) ≡ None) }
@@ -57,7 +57,7 @@ pub fn open_rows(well: &Well) -> Result<(), Fault>
     }
 }
 
-/// The pattern that a text is of, or its first fault.
+/// The pattern that a text spells, or its first fault.
 pub fn pattern_of(text: &str) -> Result<Pattern, Fault>
     ensures fault { IfErr result (λ fault. pattern_fault (limited (elements text.now)) ≡ Some fault) }
     ensures pattern { IfOk result (λ pattern. limited (elements text.now) ≡ Ok (elements_of pattern)) }
@@ -68,7 +68,7 @@ pub fn pattern_of(text: &str) -> Result<Pattern, Fault>
     }
 }
 
-/// The problem that the settings name about a field, or the first fault of what they name: a cell at or above the
+/// The problem that the settings name for a field. A refusal is the first fault of these: a cell at or above the
 /// height, a full row, the pattern, too few pieces at hand.
 #[tactic(auto, unfolding(crate::specs::Faults::problem_fault))]
 pub fn problem_of(well: Well, settings: &FieldSettings<'_>) -> Result<Problem, Fault>

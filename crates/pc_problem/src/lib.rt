@@ -1,4 +1,4 @@
-// From what is asked about a field to a problem that the search takes.
+// From the settings and a field to a problem that the search takes.
 #![tactic(auto)]
 
 mod asked;

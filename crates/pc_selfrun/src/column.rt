@@ -13,7 +13,7 @@ use queue_pattern::Pattern;
 use srs::Rules;
 use well::Well;
 
-/// Whether a column is one of the four from another one on.
+/// Whether a column is one of the four from column `x` on.
 #[tactic(auto, unfolding(crate::specs::Problem::is_left_open))]
 fn is_left_open(column: u8, x: u8) -> bool
     requires { column < 7 }
@@ -22,7 +22,7 @@ fn is_left_open(column: u8, x: u8) -> bool
     column <= x && x <= column + 3
 }
 
-/// Rows 0 to 3, filled but for four columns from this one on.
+/// Rows 0 to 3, filled except for the four columns from this one on.
 fn column_field(column: u8) -> Well
     requires { column < 7 }
     ensures { filled result ≡ column_field column }
@@ -37,7 +37,7 @@ fn column_field(column: u8) -> Well
     well
 }
 
-/// All choices of five pieces.
+/// The pattern of any five different pieces in any order.
 fn five_pieces() -> Pattern
     ensures { Ok (elements_of result) ≡ limited (elements (codes "*p5")) }
 {
@@ -47,8 +47,8 @@ fn five_pieces() -> Pattern
     }
 }
 
-/// The problem of a column, 0 to 6: to clear four rows that are filled but for four columns from this one on, with five
-/// pieces of the seven in any order.
+/// The problem of a column, 0 to 6: clear four rows that are filled except for the four columns from this one on, with
+/// five of the seven pieces in any order.
 pub fn column_problem(column: u8) -> Problem
     requires { column < 7 }
     ensures problem { IsColumnProblem column result }

@@ -1,4 +1,4 @@
-// The command `selfrun`: the pages, their text, the solutions of a problem, and then the lines.
+// The command `selfrun`: sample pages, their text, the solutions of a problem, and then the lines.
 ghost use Rattle.std.specs.Prelude.{◌≡◌, ◌-◌, ◌≤◌, []};
 ghost use Rattle.pc_source.specs.Answers.{IsAnswered};
 ghost use Rattle.pc_source.specs.Sink.{sink_change};
@@ -17,9 +17,9 @@ use sample_pages::sample_of;
 use std::alloc::Global;
 use std::sync::ledger::Ledger;
 
-/// Makes so many pages from a number, writes them as a fumen text, reads it and compares, counts the solutions of the
-/// problem of the column that is drawn behind the pages, and writes what was found. All memory is taken before floods
-/// are made.
+/// Makes this many pages from a number, writes them as a fumen text, reads that and compares. Then it counts the
+/// solutions of the problem of the column that is drawn after the pages, and writes its findings. All memory is
+/// allocated before any flood is made.
 pub fn run_selfrun<O: Sink, L: Ledger>(
     alloc: Global,
     number: u32,

@@ -7,7 +7,7 @@ use enumerate::Search;
 use reach::Steps;
 use std::sync::ledger::Ledger;
 
-/// Goes through all solutions that a search still has, and counts them.
+/// Goes through all solutions that a search still has and counts them.
 pub fn count_solutions<L: Ledger>(search: &mut Search, steps: &mut Steps<L>) -> u64
     requires { length (solutions search.old) < 2 ^ 64 }
     ensures count { result ≡ length (solutions search.old) }

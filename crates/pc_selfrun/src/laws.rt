@@ -1,4 +1,4 @@
-// Laws of the definitions: functions with an empty body, whose contract is the law.
+// Laws of the definitions: functions with an empty body whose contract is the law.
 ghost use Rattle.std.specs.Prelude.{◌≡◌, ◌≤◌, ◌<◌, ℕ, List, length, None};
 ghost use Rattle.fumen_digits.specs.declared.dialect.Dialect.TheVariants.{V115};
 ghost use Rattle.fumen_text.specs.Texts.{ReadsAs};
@@ -11,7 +11,7 @@ ghost use Rattle.pc_selfrun.specs.Problem.{IsColumnProblem};
 
 use fumen_text::laws::encode_undone;
 
-/// Pages that are made from a number are so many as are asked for, have no fault, and their text reads as them.
+/// As many pages are made from a number as are asked for. They have no fault, and their text reads as them.
 pub fn made_pages_are_read_again()
     ensures count { (number pages : ℕ) → length (sample_pages number pages) ≡ pages }
     ensures fault { (number pages : ℕ) → pages ≤ 10000
@@ -22,13 +22,13 @@ pub fn made_pages_are_read_again()
     encode_undone();
 }
 
-/// The problem of each column that is drawn has a meaning.
+/// The problem of every column that can be drawn is fit.
 pub fn column_problems_are_fit()
     ensures drawn { (number pages : ℕ) → column_drawn number pages < 7 }
     ensures fit { (column : ℕ) (problem : Problem) → column < 7 → IsColumnProblem column problem → IsFit problem }
 {}
 
-/// What `selfrun` writes is determined by its number and the number of pages.
+/// The output of `selfrun` depends only on its number and the number of pages.
 pub fn output_is_determined()
     ensures { (number pages : ℕ) (one other : List ℕ) → IsSelfrunOutput number pages one
         → IsSelfrunOutput number pages other → one ≡ other }

@@ -1,5 +1,5 @@
-// The command `selfrun`: pages that are made from a number, written, read again and compared, and the solutions of a
-// problem that is drawn behind them.
+// The command `selfrun`: pages that are made from a number, written, read back and compared, and the solutions of a
+// problem that is drawn after them.
 #![tactic(auto)]
 
 mod column;

@@ -7,7 +7,7 @@ ghost use Rattle.pc_selfrun.specs.Lines.{selfrun_form, yes_or_no};
 use itoa::Buffer;
 use pc_outside::{Failed, Sink, write_pieces};
 
-/// What `selfrun` found.
+/// The findings of `selfrun`.
 #[derive(Clone, Copy, Debug)]
 pub struct Findings {
     /// How many pages were made.
@@ -16,7 +16,7 @@ pub struct Findings {
     pub bytes: usize,
     /// Whether that text reads as the pages.
     pub same: bool,
-    /// The column that was drawn behind the pages.
+    /// The column that was drawn after the pages.
     pub column: u8,
     /// How many solutions its problem has.
     pub solutions: u64,
@@ -28,7 +28,7 @@ fn yes_or_no(yes: bool) -> &'static [u8]
     if yes { b"yes" } else { b"no" }
 }
 
-/// Writes the five lines of what was found.
+/// Writes the findings as five lines.
 pub fn write_findings<O: Sink>(out: &mut O, found: &Findings) -> Result<(), Failed>
     ensures written { WritesAll (O.written out.old) (O.written out.new) result
         (selfrun_form found.now.pages found.now.bytes found.now.same found.now.column found.now.solutions) }

@@ -1,4 +1,4 @@
-// The fumen text of pages, read again.
+// The fumen text of pages, read back.
 ghost use Rattle.std.specs.Prelude.{◌≡◌, ◌↔◌, length, true, None, IfOk, IsTrue};
 ghost use Rattle.fumen_digits.specs.declared.dialect.Dialect.TheVariants.{V115};
 ghost use Rattle.fumen_text.specs.Written.{list_encode_fault, written};
@@ -9,7 +9,7 @@ use fumen_text::{decode, encode};
 use pc_outside::{NoMemory, Refused};
 use std::alloc::Global;
 
-/// What was found of the fumen text of some pages.
+/// What was found about the fumen text of some pages.
 #[derive(Clone, Copy, Debug)]
 pub struct TextCheck {
     /// How many bytes the text has.
@@ -18,14 +18,14 @@ pub struct TextCheck {
     pub same: bool,
 }
 
-/// Whether pages that were read in a dialect are these pages of 23 rows.
+/// Whether the pages that were read, in their dialect, are these pages of 23 rows.
 fn is_same(dialect: Dialect, again: &[Page], pages: &[Page]) -> bool
     ensures { IsTrue result ↔ ((dialect ≡ V115) × (again.now ≡ pages.now)) }
 {
     dialect == Dialect::V115 && again == pages
 }
 
-/// Writes pages that have no fault as a fumen text, reads it, and compares. Want of memory is the only refusal.
+/// Writes pages without a fault as a fumen text, reads that, and compares. The only refusal is that memory runs out.
 pub fn checked_text(alloc: Global, pages: &[Page]) -> Result<TextCheck, NoMemory>
     requires { list_encode_fault V115 pages.now ≡ None }
     ensures bytes { IfOk result (λ check. check.bytes ≡ length (written V115 pages.now)) }

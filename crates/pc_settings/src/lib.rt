@@ -1,4 +1,4 @@
-// What each command on a field is asked for.
+// What every call of a command on a field asks for.
 #![tactic(auto)]
 
 mod field;

@@ -1,4 +1,4 @@
-// The field that is asked about: that of a rows text, or of a page of a fumen text.
+// The field that is asked about: a rows text, or a page of a fumen text.
 ghost use Rattle.std.specs.Prelude.{◌≡◌, ◌≢◌, ◌≤◌, [], Err, None, Some, IfOk, IfErr};
 ghost use Rattle.well.specs.Well.{filled};
 ghost use Rattle.fumen_digits.specs.Framing.{digits_in};
@@ -18,8 +18,8 @@ use pc_settings::FieldWords;
 use std::alloc::Global;
 use well::Well;
 
-/// The field that the words give, where the source has these bytes, or the first fault of its text, or that there is no
-/// memory. Of a fumen text it is the page with this number, counted from 1.
+/// The field that the words give. `bytes` are those of the source. Of a fumen text, the field is the page with this
+/// number, counted from 1. A refusal is the first fault of its text, or that memory ran out.
 #[tactic(auto, using(crate::proofs::FieldLaws::prefix_needs))]
 pub fn field(
     alloc: Global,
@@ -43,7 +43,7 @@ pub fn field(
     }
 }
 
-/// Whether the field is that of the source's text.
+/// Whether the field is in the source's text.
 #[tactic(auto, using(crate::proofs::FieldLaws::text_not_source))]
 pub fn is_of_source(words: FieldWords<'_>) -> bool
     ensures { result ≡ is_source (field_needs (text_view words.entry)) }
@@ -67,7 +67,7 @@ fn rows_field(text: &str) -> Result<Well, Fault>
     }
 }
 
-/// The text that a word gives, where the source has these bytes.
+/// The text that a word gives. `bytes` are those of the source.
 fn text_given<'a>(word: &'a str, bytes: &'a [u8]) -> &'a [u8]
     ensures { result.now ≡ text_given word.entry.now bytes.entry.now }
 {
@@ -77,7 +77,7 @@ fn text_given<'a>(word: &'a str, bytes: &'a [u8]) -> &'a [u8]
     }
 }
 
-/// The field of the page with this number of a fumen text.
+/// The field of this page of a fumen text.
 fn fumen_field(alloc: Global, text: &[u8], number: u32) -> Result<Well, Refused<Fault>>
     requires { 1 ≤ number }
     ensures field { IfOk result (λ well. HasFumenField text.now number (filled well)) }

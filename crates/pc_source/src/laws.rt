@@ -1,4 +1,4 @@
-// Laws of the definitions: functions with an empty body, whose contract is the law.
+// Laws of the definitions: functions with an empty body whose contract is the law.
 ghost use Rattle.std.specs.Prelude.{◌≡◌, ◌≤◌, ℕ, List, Option, Some, None};
 ghost use Rattle.lane_board.specs.Field.{Field};
 ghost use Rattle.fumen_digits.specs.declared.dialect.Dialect.{Dialect};
@@ -11,7 +11,7 @@ ghost use Rattle.pc_settings.specs.Request.{FieldText, fumen_text};
 ghost use Rattle.pc_source.specs.Faults.{cells_asked, field_fault, page_fault, text_fault};
 ghost use Rattle.pc_source.specs.FieldText.{IsFieldOf, text_given};
 
-/// A text of the field that has no fault asks for one field, the one whose cells the later faults are about.
+/// A text of the field without a fault asks for exactly one field: the one whose cells the later faults are about.
 pub fn fields_are_read_as_they_are_asked()
     ensures there { (field : FieldText) (number : ℕ) (bytes : List ℕ) → 1 ≤ number
         → field_fault field number bytes ≡ None
@@ -20,8 +20,8 @@ pub fn fields_are_read_as_they_are_asked()
         → cells_asked field number bytes ≡ F }
 {}
 
-/// The first fault of a fumen text with a page that is asked for is the one fault of this text, or else that the page
-/// is none of those that it reads as.
+/// The first fault of a fumen text, of which a page may be asked for, is the one fault of this text, or else that the
+/// pages that it reads as don't have this page.
 pub fn text_faults_are_those_of_the_text()
     ensures text { (asked : Option ℕ) (text : List ℕ) (fault : FumenFault) → IsTextFault text fault
         → text_fault asked text ≡ Some (Fumen fault) }
@@ -30,8 +30,8 @@ pub fn text_faults_are_those_of_the_text()
         → text_fault asked text ≡ page_fault asked pages }
 {}
 
-/// The fault of a fumen text that gives the field, the source's or another, is the one fault of this text, or else
-/// that the page which is asked for is none of those that it reads as.
+/// The fault of a fumen text that gives the field, in the source or in a word, is the one fault of this text, or else
+/// that the pages that it reads as don't have the page that is asked for.
 pub fn field_faults_are_those_of_the_text()
     ensures text { (word : List ℕ) (number : ℕ) (bytes : List ℕ) (fault : FumenFault)
         → IsTextFault (text_given word bytes) fault

@@ -1,4 +1,4 @@
-// What commands share: the source, the pages of a fumen text, the field, and what a status says.
+// What commands share: the source, the pages of a fumen text, the field, and what each status means.
 #![tactic(auto)]
 
 mod field_text;

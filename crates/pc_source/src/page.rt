@@ -1,4 +1,4 @@
-// One page of a list of pages, and the field that it shows.
+// One page of a list of pages, and its field.
 ghost use Rattle.std.specs.Prelude.{◌≡◌, ◌-◌, ◌≤◌, length, slice_get, Some, None, IfOk, IfErr, OnOk};
 ghost use Rattle.well.specs.Well.{filled};
 ghost use Rattle.pc_source.specs.Faults.{page_fault};
@@ -8,7 +8,8 @@ use fumen_pages::Page;
 use pc_faults::Fault;
 use well::Well;
 
-/// The page with this number, counted from 1, of at most 10,000 pages; or that it is not there.
+/// The page with this number, counted from 1. The list has at most 10,000 pages. A refusal says that there is no such
+/// page.
 pub fn page_at(pages: &[Page], asked: u32) -> Result<&Page, Fault>
     requires few { length pages.now ≤ 10000 }
     requires asked { 1 ≤ asked }
@@ -23,8 +24,8 @@ pub fn page_at(pages: &[Page], asked: u32) -> Result<&Page, Fault>
     Ok(&pages[asked as usize - 1])
 }
 
-/// The field of a page: the cells of rows 0 to 22 that are not empty, of whatever colour. The garbage row is no part
-/// of it.
+/// The field of a page: the cells of rows 0 to 22 that are not empty, whatever their colour. The garbage row is not
+/// part of it.
 pub fn field_of(page: &Page) -> Well
     ensures { filled result ≡ page_cells page.now }
 {

@@ -12,7 +12,7 @@ use pc_faults::Fault;
 use pc_outside::Refused;
 use std::alloc::Global;
 
-/// The pages of a fumen text, or its first fault, or that there is no memory.
+/// The pages of a fumen text. A refusal is its first fault, or that memory ran out.
 pub fn text_pages(alloc: Global, text: &[u8]) -> Result<Vec<Page>, Refused<Fault>>
     ensures pages { IfOk result (λ pages. HasText text.now pages.items) }
     ensures showable { IfOk result (λ pages. All IsShowable pages.items) }

@@ -15,8 +15,8 @@ use std::alloc::Global;
 /// The most bytes that are read from the source.
 const MOST_BYTES: usize = 4_194_304;
 
-/// The bytes that a run sees of the source, or the status that ends it: where it reads the source, which is read to
-/// its end, all bytes that the source has left, at most 4,194,304; else none, and the source stays as it was.
+/// The bytes of the source that a run sees, or the status that ends it. If the run reads the source, it reads all bytes
+/// that are left, at most 4,194,304. Otherwise it sees none, and the source is unchanged.
 pub fn source_bytes<S: Source>(
     alloc: Global,
     source: &mut S,

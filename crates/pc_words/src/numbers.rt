@@ -28,7 +28,7 @@ fn is_number(text: &[u8]) -> bool
     !text.is_empty() && text.len() <= 10 && are_digits(text)
 }
 
-/// The number that the text spells by one to ten digits, where it is at least `least` and at most `most`.
+/// The number that a text of one to ten digits spells, if it is at least `least` and at most `most`.
 pub fn number_in(least: u32, most: u32, text: &[u8]) -> Option<u32>
     ensures value { result ≡ number_in least most text.now }
     ensures within { IfSome result (λ number. (least ≤ number) × (number ≤ most)) }

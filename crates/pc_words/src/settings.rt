@@ -1,4 +1,4 @@
-// A command with its settings, by the pairs of its words.
+// A command with its settings, from the pairs of its words.
 ghost use Rattle.std.specs.Prelude.{◌≡◌, ◌≤◌, ◌<◌, ◌^◌, ◌+◌, length, option_map, IfOk, IfSome, false};
 ghost use Rattle.std.specs.Option.{option_and_then};
 ghost use Rattle.pc_settings.specs.Request.{IsInRange};
@@ -41,11 +41,11 @@ pub enum Settings<'a> {
         dialect: Dialect,
     },
     Show {
-        /// The number of the page that is shown, counted from 1, or None for all pages.
+        /// The number of the page to show, counted from 1, or None for all pages.
         page: Option<u32>,
     },
     Kicks {
-        /// The text of the table of offsets that is written.
+        /// The text of the table of offsets to write.
         kicks: &'a str,
     },
     Selfrun {
@@ -57,7 +57,7 @@ pub enum Settings<'a> {
 }
 
 impl Settings<'_> {
-    /// The text of the table of offsets that is asked for, which is empty where there is none.
+    /// The text of the table of offsets that is asked for. It is empty if there is none.
     pub fn kicks(&self) -> &str
         ensures { result.now ≡ table_asked (settings_view self.entry.now) }
     {
@@ -131,7 +131,7 @@ fn keys_of(pairs: &[String]) -> bool
         .unwrap_or(false)
 }
 
-/// The field of the pairs, of which one at most gives it.
+/// The field that the pairs give. At most one of them gives it.
 fn field_words(pairs: &[String]) -> Option<FieldWords<'_>>
     ensures { option_map text_view result ≡ field_given
         (value_of CommandOption.Rows (texts pairs.entry.now)) (value_of CommandOption.Tetfu (texts pairs.entry.now)) }
@@ -146,7 +146,7 @@ fn field_words(pairs: &[String]) -> Option<FieldWords<'_>>
     }
 }
 
-/// What is asked about a field, or None where the field or the pattern is absent.
+/// What the pairs ask about a field, or None if the field or the pattern is missing.
 #[tactic(auto, unfolding(crate::specs::Words::field_request))]
 fn field_settings(pairs: &[String]) -> Option<FieldSettings<'_>>
     ensures value { option_map field_view result ≡ field_request (texts pairs.entry.now) }
@@ -194,7 +194,7 @@ fn percent_settings<'a>(pairs: &'a [String], common: FieldSettings<'a>) -> Perce
     }
 }
 
-/// What is asked about a run, or None where the field or the pattern is absent.
+/// What the pairs ask about a run, or None if the field or the pattern is missing.
 #[tactic(auto, unfolding(crate::specs::Words::combo_request))]
 fn combo_settings(pairs: &[String]) -> Option<ComboSettings<'_>>
     ensures value { option_map combo_view result ≡ combo_request (texts pairs.entry.now) }
@@ -212,7 +212,7 @@ fn combo_settings(pairs: &[String]) -> Option<ComboSettings<'_>>
     })
 }
 
-/// How many pages are made, and from which number, or None where one of both is absent.
+/// How many pages to make, and from which number, or None if either is missing.
 #[tactic(auto, unfolding(crate::specs::Words::selfrun_request))]
 fn selfrun_settings(pairs: &[String]) -> Option<Settings<'_>>
     ensures value { option_map settings_view result ≡ selfrun_request (texts pairs.entry.now) }
@@ -234,7 +234,7 @@ fn missing(pairs: &[String]) -> WordsFault
     }
 }
 
-/// The settings of a command, by pairs that have no fault. The field and the pattern are required.
+/// The settings of a command, from pairs without a fault. The only refusal is that a required option is missing.
 pub fn settings_of(command: Command, pairs: &[String]) -> Result<Settings<'_>, WordsFault>
     requires { length pairs.now + 1 < 2 ^ 64 }
     ensures value { settings_reading result ≡ request_of command (texts pairs.entry.now) }

@@ -1,4 +1,4 @@
-// The values that options take, each in its option's list or range.
+// The values that options take, each in its list or range.
 ghost use Rattle.std.specs.Prelude.{◌≡◌, ◌≤◌, IfSome};
 ghost use Rattle.pc_words.specs.Values.{dialect_in, drop_in, failed_in, format_in, height_in, held_in, hold_in, limit_in, page_count_in, page_in, seed_in, is_value_of, yes_in};
 
@@ -10,16 +10,16 @@ use moves::DropMode;
 use path_settings::Format;
 use srs::Piece;
 
-/// The rows that may be removed, at most.
+/// The most rows that may be removed.
 const MOST_ROWS: u32 = 8;
 
-/// The number of the last page that a list may have.
+/// The greatest number that a page may have.
 const MOST_PAGES: u32 = 10_000;
 
-/// The sequences that may be written, at most.
+/// The most sequences that may be written.
 pub const MOST_SEQUENCES: u32 = 1_000_000_000;
 
-/// The failed queues that may be written, at most.
+/// The most failed queues that may be written.
 const MOST_FAILED: u32 = 10_000_000;
 
 /// How many rows are to be removed: 1 to 8.
@@ -33,7 +33,7 @@ pub fn height_in(text: &str) -> Option<u8>
     }
 }
 
-/// The number of a page, counted from 1, to 10,000.
+/// The number of a page: 1 to 10,000.
 pub fn page_in(text: &str) -> Option<u32>
     ensures value { result ≡ page_in text.now }
     ensures range { IfSome result (λ page. 1 ≤ page) }
@@ -41,14 +41,14 @@ pub fn page_in(text: &str) -> Option<u32>
     number_in(1, MOST_PAGES, text.as_bytes())
 }
 
-/// How many sequences are written at most: 1 to 1,000,000,000.
+/// The most sequences to write: 1 to 1,000,000,000.
 pub fn limit_in(text: &str) -> Option<u32>
     ensures { result ≡ limit_in text.now }
 {
     number_in(1, MOST_SEQUENCES, text.as_bytes())
 }
 
-/// How many failed queues are written at most: 0 to 10,000,000.
+/// The most failed queues to write: 0 to 10,000,000.
 pub fn failed_in(text: &str) -> Option<u32>
     ensures { result ≡ failed_in text.now }
 {
@@ -62,7 +62,7 @@ pub fn seed_in(text: &str) -> Option<u32>
     number_in(0, u32::MAX, text.as_bytes())
 }
 
-/// How many pages are made: 1 to 10,000.
+/// How many pages to make: 1 to 10,000.
 pub fn page_count_in(text: &str) -> Option<u32>
     ensures value { result ≡ page_count_in text.now }
     ensures range { IfSome result (λ pages. (1 ≤ pages) × (pages ≤ 10000)) }
@@ -104,7 +104,7 @@ pub fn drop_in(text: &str) -> Option<DropMode>
     }
 }
 
-/// Whether something is asked for: `yes` or `no`.
+/// Whether something is wanted: `yes` or `no`.
 #[tactic(auto, unfolding(crate::specs::Values::yes_in))]
 pub fn yes_in(text: &str) -> Option<bool>
     ensures { result ≡ yes_in text.now }
@@ -116,7 +116,7 @@ pub fn yes_in(text: &str) -> Option<bool>
     }
 }
 
-/// In which form sequences are written: `text`, `fumen` or `grid`.
+/// The format in which sequences are written: `text`, `fumen` or `grid`.
 #[tactic(auto, unfolding(crate::specs::Values::format_in))]
 pub fn format_in(text: &str) -> Option<Format>
     ensures { result ≡ format_in text.now }
@@ -141,7 +141,7 @@ pub fn dialect_in(text: &str) -> Option<Dialect>
     }
 }
 
-/// Whether a text is in the list or the range of an option.
+/// Whether a text is in an option's list or range.
 pub fn is_value_of(option: CommandOption, text: &str) -> bool
     ensures { result ≡ is_value_of option text.now }
 {

@@ -1,4 +1,4 @@
-// Reading the words: the command, and after it pairs of a name and a value.
+// Reading the words: the command, and then pairs of a name and a value.
 ghost use Rattle.std.specs.Prelude.{◌≡◌, ◌+◌, ◌^◌, ◌<◌, [], drop, length, take, option_copied, IfOk};
 ghost use Rattle.std.specs.List.{slice_get};
 ghost use Rattle.pc_words.specs.Views.{AsksInRange, settings_reading, settings_view};
@@ -9,7 +9,7 @@ use crate::settings::{Settings, settings_of};
 use crate::values::is_value_of;
 use pc_faults::{WordsFault, WordsKind};
 
-/// The value behind the name of an option, where pairs have it.
+/// The value that the pairs give for an option, if they have it.
 pub fn value_of(option: CommandOption, pairs: &[String]) -> Option<&str>
     ensures { option_copied result ≡ value_of option (texts pairs.entry.now) }
 {
@@ -29,7 +29,7 @@ fn is_given(option: CommandOption, pairs: &[String]) -> bool
     value_of(option, pairs).is_some()
 }
 
-/// Whether the option gives the field, and pairs before it give the field in the other way.
+/// Whether the option gives the field while pairs before it give the field in the other way.
 fn is_other_field(option: CommandOption, before: &[String]) -> bool
     ensures { result ≡ is_other_field option (texts before.now) }
 {
@@ -59,7 +59,7 @@ fn value_fault(index: usize, option: CommandOption, value: Option<&str>) -> Opti
     })
 }
 
-/// The first fault of a name and the value after it, where there is one, behind these pairs and the command.
+/// The first fault of a name and the value after it, if there is one. These pairs and the command come before it.
 #[tactic(auto, unfolding(crate::specs::Words::pair_fault))]
 fn pair_fault(
     command: Command,
@@ -101,7 +101,7 @@ fn word_at(words: &[String], index: usize) -> Option<&str>
     }
 }
 
-/// The first fault of the pairs behind a command.
+/// The first fault of the pairs after a command.
 fn pairs_fault(command: Command, pairs: &[String]) -> Option<WordsFault>
     ensures { result ≡ pairs_fault command [] (texts pairs.now) }
 {
@@ -117,8 +117,8 @@ fn pairs_fault(command: Command, pairs: &[String]) -> Option<WordsFault>
     None
 }
 
-/// The command and its settings, or the first fault of the words from the left. Of the faults of one name the order is:
-/// no option, a repeated one, a second field, no value, a bad value. An option that is absent is looked for last.
+/// The command and its settings, or the first fault of the words from the left. The faults of one name come in this
+/// order: not an option, given before, a second field, no value, a bad value. Missing options are looked for last.
 #[tactic(auto, unfolding(crate::specs::Words::request_in))]
 pub fn read_words(words: &[String]) -> Result<Settings<'_>, WordsFault>
     ensures value { settings_reading result ≡ request_in (texts words.entry.now) }

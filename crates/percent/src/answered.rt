@@ -1,4 +1,4 @@
-// The hands that are good at a position: by the kept answers, else by going into each position that a piece leads to.
+// The hands that are good at a position, from kept answers or by searching every position that a piece leads to.
 ghost use Rattle.std.specs.Prelude.{◌≡◌, ℕ, ◌≤◌, ◌+◌, ◌&&◌, ◌==◌, not, IfOk};
 ghost use Rattle.number_sets.specs.Rising.{IsRising, has};
 ghost use Rattle.well.specs.Well.{filled};
@@ -16,7 +16,7 @@ use srs::Piece;
 use std::alloc::Global;
 use std::sync::ledger::Ledger;
 
-/// The hands that are good where no placement is to come: all where no row is left.
+/// The hands that are good if no placement is to come: all if no row is left, otherwise none.
 fn answered_at_end(alloc: Global, position: &Position, hands: &[u64]) -> Result<Vec<u64>, NoMemory>
     requires { IsRising hands.now }
     ensures rises { IfOk result (λ v. IsRising v.items) }
@@ -29,7 +29,7 @@ fn answered_at_end(alloc: Global, position: &Position, hands: &[u64]) -> Result<
     Ok(Vec::new(alloc))
 }
 
-/// The numbers that are not among the found ones.
+/// The numbers that were not found.
 fn less(alloc: Global, numbers: Vec<u64>, found: &[u64]) -> Result<Vec<u64>, NoMemory>
     requires numbers { IsRising numbers.items }
     requires found { IsRising found.now }
@@ -43,7 +43,7 @@ fn less(alloc: Global, numbers: Vec<u64>, found: &[u64]) -> Result<Vec<u64>, NoM
     without(alloc, numbers.as_slice(), found)
 }
 
-/// The hands that are good at a position with so many placements to come.
+/// The hands that are good at a position with `left` placements to come.
 #[cycle(search)]
 pub fn answered<L: Ledger>(
     alloc: Global,
@@ -77,7 +77,7 @@ pub fn answered<L: Ledger>(
     merged(alloc, known.as_slice(), found.as_slice())
 }
 
-/// The hands that are good at a position with one placement to come and then so many, one piece after the other.
+/// The hands that are good at a position with one placement to come and then `left` more, piece by piece.
 #[cycle(search)]
 fn explored<L: Ledger>(
     alloc: Global,
@@ -106,7 +106,7 @@ fn explored<L: Ledger>(
     without(alloc, hands, open.as_slice())
 }
 
-/// The rests that are good after one of the places of a piece at the position of the marks.
+/// The rests that are good after one of the places of a piece, at the position of the marks.
 #[cycle(search)]
 fn tried<L: Ledger>(
     alloc: Global,

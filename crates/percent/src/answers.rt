@@ -29,7 +29,7 @@ fn hands_of(alloc: Global, problem: &Problem) -> Result<Vec<u64>, NoMemory>
     as_set(alloc, hands)
 }
 
-/// Whether each queue is good, by its number: whether its hand is one of the good ones.
+/// For each queue, by its number, whether it is good: whether its hand is among the good ones.
 fn judged(alloc: Global, problem: &Problem, hands: &[u64]) -> Result<Vec<bool>, NoMemory>
     requires fit { IsFit problem.now }
     requires rises { IsRising hands.now }
@@ -75,7 +75,7 @@ impl Answers {
     ghost use Rattle.percent.specs.Answers.{problem_of};
     ghost use Rattle.percent.specs.Good.{Good};
 
-    /// The answers for a fit problem. Adds a step for each flood. Want of memory is the only refusal.
+    /// The answers for a fit problem. Counts each flood. The only refusal is that memory runs out.
     pub fn new<L: Ledger>(
         alloc: Global,
         problem: &Problem,
@@ -96,7 +96,7 @@ impl Answers {
         })
     }
 
-    /// Whether the queue with this number, from 0, is good.
+    /// Whether the queue with this number, counted from 0, is good.
     pub fn is_good(&self, number: u32) -> bool
         requires { number < length (queues (elements_of (problem_of self.now).pattern)) }
         ensures { (queue : List Piece) →
@@ -106,7 +106,7 @@ impl Answers {
         self.good[number as usize]
     }
 
-    /// How many queues are good, of all of the pattern: at most 10,000,000.
+    /// How many queues of the pattern are good: at most 10,000,000.
     pub fn count_good(&self) -> u32
         ensures { result ≡ count_by (is_good_queue (problem_of self.now))
             (queues (elements_of (problem_of self.now).pattern)) }

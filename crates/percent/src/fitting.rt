@@ -1,4 +1,4 @@
-// Hands whose pieces can't fill what is empty are left out before anything is played.
+// Leaving out hands whose pieces can't fill the empty cells, before anything is played.
 ghost use Rattle.std.specs.Prelude.{◌≡◌, ◌↔◌, ℕ, ◌≤◌, ◌<◌, ◌&&◌, IsTrue, true, false, IfOk, All, slice_index};
 ghost use Rattle.packing.specs.Empties.{all_but, empty_cells};
 ghost use Rattle.well.specs.Well.{filled};
@@ -14,27 +14,27 @@ use pc_outside::NoMemory;
 use prune::cheap_no;
 use std::alloc::Global;
 
-/// How many pieces there are of each code. No piece has the code 0.
+/// How many pieces there are with each code. No piece has the code 0.
 pub type Counts = [u8; 8];
 
-/// What was found of some pieces: where they may not fit, they don't fill the cells that were asked about.
+/// What was found about some pieces: if `may_fit` is false, they can't fill the cells in question.
 #[derive(Clone, Copy)]
 pub struct Verdict {
     pub counts: Counts,
     pub may_fit: bool,
 }
 
-/// Some cells, and what was found of pieces that may fill them.
+/// Some cells, and what was found about pieces that may fill them.
 #[derive(Drop)]
 struct Verdicts {
     cells: Empties,
-    /// A search for a tiling begins at the side that is nearer to this column.
+    /// A search for a tiling begins at the side nearer to this column.
     near: u8,
     known: [Verdict; 64],
     ghost are_true: { All (IsTrueVerdict cells) known },
 }
 
-/// The counts of the first so many pieces of a hand.
+/// The counts of the first `pieces` pieces of a hand.
 pub fn counts_of(hand: u64, pieces: u8) -> Counts
     ensures { (code : ℕ) → code < 8 → slice_index result code ≡ codes_in pieces hand code }
 {
@@ -47,7 +47,7 @@ pub fn counts_of(hand: u64, pieces: u8) -> Counts
     counts
 }
 
-/// The greater count of each code.
+/// The greater count for each code.
 fn greater(a: &Counts, b: &Counts) -> Counts
     ensures first { (code : ℕ) → code < 8 → slice_index a.now code ≤ slice_index result code }
     ensures second { (code : ℕ) → code < 8 → slice_index b.now code ≤ slice_index result code }
@@ -59,7 +59,7 @@ fn greater(a: &Counts, b: &Counts) -> Counts
     counts
 }
 
-/// The greatest count of each code over some hands.
+/// The greatest count for each code over some hands.
 fn greatest_counts(hands: &[u64], pieces: u8) -> Counts
     ensures { (hand : ℕ) → has hands.now hand ≡ true → (code : ℕ) → code < 8 →
         codes_in pieces hand code ≤ slice_index result code }
@@ -71,7 +71,7 @@ fn greatest_counts(hands: &[u64], pieces: u8) -> Counts
     counts
 }
 
-/// Whether pieces with these counts fill the cells. The search begins at the side that is nearer to a column.
+/// Whether pieces with these counts can fill the cells. The search begins at the side nearer to a column.
 fn fills(tilings: &mut TilingStore, cells: &Empties, near: u8, counts: &Counts) -> bool
     ensures { IsTrue result ↔ Tiling (all_but (empty_cells cells.now)) 8 (supply_by counts.now) }
 {
@@ -79,7 +79,7 @@ fn fills(tilings: &mut TilingStore, cells: &Empties, near: u8, counts: &Counts) 
     tilings.has_tiling_near(cells, near, &[i, l, o, z, t, j, s])
 }
 
-/// The place of what was found of pieces with these counts.
+/// The index of what was found about pieces with these counts.
 fn place_of(counts: &Counts) -> usize
     ensures { result < 64 }
 {
@@ -88,7 +88,7 @@ fn place_of(counts: &Counts) -> usize
 }
 
 impl Verdicts {
-    /// Nothing was found of these cells.
+    /// Nothing has been found about these cells yet.
     fn new(cells: Empties, near: u8) -> Verdicts
         ensures { result.cells ≡ cells }
     {
@@ -118,7 +118,7 @@ impl Verdicts {
     }
 }
 
-/// The hands whose pieces may fill what is empty at a position. The others are not good there.
+/// The hands whose pieces may fill the empty cells at a position. The others are not good there.
 pub fn fitting(
     alloc: Global,
     tilings: &mut TilingStore,

@@ -1,9 +1,9 @@
-// What stays the same while hands are looked into.
+// What stays the same while hands are searched.
 use hold_queue::Hold;
 use moves::DropMode;
 use srs::Rules;
 
-/// The rules of kicks, the drop mode and the hold rule.
+/// The kick rules, the drop mode and the hold rule.
 #[derive(Clone, Copy)]
 pub struct Game {
     pub rules: Rules,

@@ -1,4 +1,4 @@
-// Pieces at hand as numbers: three bits for each, the first piece in the lowest.
+// Pieces at hand as numbers: three bits for each piece, with the first piece in the lowest bits.
 ghost use Rattle.std.specs.Prelude.{◌≡◌, ℕ, ◌≤◌, ◌<◌, ◌+◌, ◌-◌, ◌*◌, ◌/◌, ◌%◌, ◌^◌, ◌==◌, ◌&&◌, ◌||◌, not, length, take, IfOk};
 ghost use Rattle.srs.specs.Piece.{piece_code};
 ghost use Rattle.number_sets.specs.Rising.{IsRising, has};
@@ -12,7 +12,7 @@ use queue_pattern::Queue;
 use srs::Piece;
 use std::alloc::Global;
 
-/// The first so many pieces, or all where there are fewer.
+/// The first `count` pieces, or all if there are fewer.
 fn front(pieces: &[Piece], count: usize) -> &[Piece]
     ensures value { result.now ≡ take count pieces.now }
     ensures short { length result.now ≤ count }
@@ -20,7 +20,7 @@ fn front(pieces: &[Piece], count: usize) -> &[Piece]
     &pieces[..count.min(pieces.len())]
 }
 
-/// The number of at most 21 pieces.
+/// The number of up to 21 pieces.
 fn number_of(pieces: &[Piece]) -> u64
     requires { length pieces.now ≤ 21 }
     ensures value { result ≡ Hands.number_of pieces.now }
@@ -33,7 +33,7 @@ fn number_of(pieces: &[Piece]) -> u64
     number
 }
 
-/// The number of the pieces at hand from which so many placements take theirs.
+/// The number of the pieces at hand that matter to this many placements.
 pub fn hand_of(hold: Hold, held: Option<Piece>, placements: u8, queue: &Queue) -> u64
     requires { placements ≤ 20 }
     ensures { result ≡ Hands.hand_of hold held placements queue.now.items }
@@ -49,7 +49,7 @@ pub fn hand_of(hold: Hold, held: Option<Piece>, placements: u8, queue: &Queue) -
     }
 }
 
-/// The hands that begin with a piece, without it.
+/// The hands that begin with a piece, each without it.
 fn without_first(alloc: Global, code: u64, hands: &[u64]) -> Result<Vec<u64>, NoMemory>
     requires few { code < 8 }
     requires rises { IsRising hands.now }
@@ -65,7 +65,7 @@ fn without_first(alloc: Global, code: u64, hands: &[u64]) -> Result<Vec<u64>, No
     Ok(v)
 }
 
-/// The hands whose second piece is this one, without it.
+/// The hands whose second piece is this one, each without it.
 fn without_second(alloc: Global, code: u64, hands: &[u64]) -> Result<Vec<u64>, NoMemory>
     requires few { code < 8 }
     requires rises { IsRising hands.now }
@@ -81,7 +81,7 @@ fn without_second(alloc: Global, code: u64, hands: &[u64]) -> Result<Vec<u64>, N
     Ok(v)
 }
 
-/// What is left of the hands that a piece can be taken from.
+/// What is left of the hands from which a piece can be taken.
 pub fn rests_of(
     alloc: Global,
     hold: Hold,
@@ -103,7 +103,7 @@ pub fn rests_of(
     merged(alloc, first.as_slice(), second.as_slice())
 }
 
-/// Whether a code is the one that is sought, and a rest is one of these.
+/// Whether a code is the one that is sought and the rest is one of these.
 fn is_one_of(rests: &[u64], sought: u64, code: u64, rest: u64) -> bool
     requires { IsRising rests.now }
     ensures { result ≡ (code == sought && has rests.now rest) }

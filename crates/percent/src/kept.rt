@@ -1,4 +1,4 @@
-// Answers that are kept, each of them true. Any may be dropped, which costs time alone.
+// Kept answers, each of them true. Entries may be evicted; that costs time, never correctness.
 ghost use Rattle.std.specs.Prelude.{◌≡◌, ◌≤◌, ◌<◌, All, length};
 ghost use Rattle.srs.specs.Rules.{table_of};
 ghost use Rattle.reach.specs.FloodRules.{flood_table};
@@ -26,7 +26,7 @@ pub struct Slot {
 impl Slot {
     ghost use Rattle.std.specs.Prelude.{[]};
 
-    /// A slot with no answer.
+    /// A slot without answers.
     fn empty(alloc: Global) -> Slot
         ensures found { result.found.items ≡ [] }
         ensures missed { result.missed.items ≡ [] }
@@ -48,10 +48,10 @@ impl Slot {
     }
 }
 
-/// How many answers are kept at most.
+/// The most answers that are kept.
 const MOST: usize = 4_194_304;
 
-/// A table of slots, of which a later entry takes over an earlier one.
+/// A table of slots. A later entry evicts an earlier one.
 #[derive(Drop)]
 pub struct Kept {
     pub game: Game,
@@ -61,7 +61,7 @@ pub struct Kept {
     slots: Vec<Slot>,
     /// How many answers are kept.
     count: usize,
-    /// The slot that goes next where there is no room.
+    /// The slot that is evicted next when there is no room.
     next: usize,
     ghost floods: { flood_table flood ≡ table_of game.rules },
     ghost are_true: { All (IsTrueSlot game) slots.items },
@@ -75,7 +75,7 @@ impl Kept {
     ghost use Rattle.well.specs.Well.{filled};
     ghost use Rattle.percent.specs.GoodHands.{is_good};
 
-    /// A table with room for so many positions, with no answer.
+    /// A table for this many positions, without answers.
     pub fn new(alloc: Global, game: Game, room: usize) -> Result<Kept, NoMemory>
         ensures { IfOk result (λ kept. kept.game ≡ game) }
     {
@@ -96,7 +96,7 @@ impl Kept {
         })
     }
 
-    /// The place of the slot for some cells.
+    /// The index of the slot for these cells.
     fn place_of(&self, cells: u128, left: u8) -> usize {
         let low = (cells % (1 << 64)) as u64;
         let high = (cells >> 64) as u64;
@@ -126,7 +126,7 @@ impl Kept {
         (&[], &[])
     }
 
-    /// The hands that are known to be good at a position, and those of which nothing is known.
+    /// The hands that are known to be good at a position, and those about which nothing is known.
     pub fn recalled(
         &self,
         alloc: Global,
@@ -151,7 +151,7 @@ impl Kept {
         Ok((good, unknown))
     }
 
-    /// Puts an entry in the place of an earlier one, where there is room.
+    /// Puts an entry in the place of an earlier one. There must be room for it.
     fn replace(&mut self, place: usize, slot: Slot)
         requires place { place < length self.old.slots.items }
         requires holds { IsTrueSlot self.old.game slot }
@@ -163,7 +163,7 @@ impl Kept {
         self.slots[place] = slot;
     }
 
-    /// Drops answers until there is room for so many, or none is left.
+    /// Evicts answers until there is room for `count` more, or none is left.
     fn make_room(&mut self, alloc: Global, count: usize)
         requires { count ≤ 4194304 }
         ensures game { self.new.game ≡ self.old.game }
@@ -179,8 +179,8 @@ impl Kept {
         }
     }
 
-    /// Keeps hands that are good at a position and hands that are not, beside those that are known. Others may be
-    /// dropped for them, and where there is no room or no memory for them they are not kept.
+    /// Keeps hands that are good at a position and hands that are not, beside those already known. Others may be
+    /// evicted for them. If there is no room or no memory for them, they are not kept.
     pub fn note(
         &mut self,
         alloc: Global,

@@ -1,4 +1,4 @@
-// How many queues of a pattern have a perfect clear, over all of them at once.
+// How many queues of a pattern have a perfect clear, found for all of them at once.
 #![tactic(auto)]
 
 mod answered;

@@ -1,5 +1,5 @@
-// The placements that stand in some tiling, by the pieces that are there. A piece that is placed elsewhere leaves cells
-// that the others don't fill.
+// The placements that stand in some tiling by the available pieces. A piece placed elsewhere leaves cells that the
+// others can't fill.
 ghost use Rattle.std.specs.Prelude.{◌≡◌, ◌↔◌, ◌≤◌, ◌<◌, ◌&&◌, ℕ, IsTrue, IfOk, All, false, slice_index};
 ghost use Rattle.lane_board.specs.Field.{difference, rows_below};
 ghost use Rattle.srs.specs.declared.placement.Placement.{Placement};
@@ -46,7 +46,7 @@ fn pieces_of(store: &mut PieceStore, cells: &Empties, counts: &Counts) -> TiledP
     store.pieces(cells, &[i, l, o, z, t, j, s])
 }
 
-/// The counts of the first so many pieces of a hand and of one piece more.
+/// The counts of the first `pieces` pieces of a hand and of one more piece.
 fn counts_with(hand: u64, pieces: u8, piece: Piece) -> Counts
     requires { pieces ≤ 21 }
     ensures { (code : ℕ) → code < 8 → codes_with piece pieces hand code ≤ slice_index result code }
@@ -57,7 +57,7 @@ fn counts_with(hand: u64, pieces: u8, piece: Piece) -> Counts
     counts
 }
 
-/// The counts of some hands, each once; none where they are more than so many.
+/// The counts of some hands, each once, or none if there are more than `most` of them.
 fn all_counts(
     alloc: Global,
     hands: &[u64],
@@ -78,7 +78,7 @@ fn all_counts(
 }
 
 impl Marks {
-    /// Nothing is known of the empty cells of a position.
+    /// Nothing is known yet about the empty cells of a position.
     fn new(alloc: Global, position: &Position) -> Marks
         ensures { result.position ≡ position.now }
     {
@@ -116,7 +116,7 @@ impl Marks {
         true
     }
 
-    /// Those of the rests behind a placement with which it may stand in a tiling. The others are not good there.
+    /// Those of the rests with which a placement may stand in a tiling. The others are not good after it.
     pub fn likely(
         &self,
         alloc: Global,
@@ -144,7 +144,7 @@ impl Marks {
     }
 }
 
-/// Those of the rests behind a placement that may fit. The others are not good there.
+/// Those of the rests that may fit after a placement. The others are not good after it.
 pub fn fitting_after(
     alloc: Global,
     tilings: &mut TilingStore,
@@ -168,12 +168,12 @@ pub fn fitting_after(
     marks.likely(alloc, child, left, rests)
 }
 
-/// For how many counts of pieces it is worth to go over all tilings with one placement to come and then so many.
+/// For how many counts of pieces it pays to go through all tilings, with one placement to come and then `left` more.
 fn most_counts(left: u8) -> usize {
     if left <= 3 { 8 } else { 0 }
 }
 
-/// What is found of the tilings at a position by the pieces of some hands.
+/// What is found about the tilings at a position by the pieces of some hands.
 pub fn marks_of(
     alloc: Global,
     store: &mut PieceStore,

@@ -7,8 +7,8 @@ use srs::Piece;
 use std::cmp::Reverse;
 use well::Well;
 
-/// How rough the surface of a well below some rows is: the sum of the differences of neighbouring heights, and four for
-/// each hole. Nothing is promised of it: it only says which position is tried first.
+/// How rough the surface of a well is below row `rows`: the sum of the differences of neighbouring heights, plus four
+/// for each hole. Nothing relies on it except which position is tried first.
 pub fn roughness(well: &Well, rows: u8) -> u32
     requires { rows ≤ 8 }
 {
@@ -25,7 +25,7 @@ pub fn roughness(well: &Well, rows: u8) -> u32
     sum
 }
 
-/// How many hands want each code: with hold a hand wants its first and its second piece.
+/// How many hands want each code. With hold, a hand wants its first and its second piece.
 fn wanted_counts(hold: Hold, hands: &[u64]) -> [u32; 8] {
     let mut wanted = [0u32; 8];
     for hand in hands {
@@ -39,12 +39,12 @@ fn wanted_counts(hold: Hold, hands: &[u64]) -> [u32; 8] {
     wanted
 }
 
-/// The count of a kind.
+/// How many hands want a kind.
 fn count_of(wanted: &[u32; 8], piece: Piece) -> u32 {
     wanted[usize::from(piece.code())]
 }
 
-/// All kinds, the one that most hands want first.
+/// All kinds, those that most hands want first.
 pub fn wanted_first(hold: Hold, hands: &[u64]) -> [Piece; 7]
     ensures { IsPermutation all_pieces result }
 {

@@ -1,4 +1,4 @@
-// Positions: what was reached after some placements.
+// Positions: what remains after some placements.
 ghost use Rattle.std.specs.Prelude.{◌≤◌};
 ghost use Rattle.well.specs.Well.{filled};
 ghost use Rattle.well.specs.LockLaws.{LiesBelow};
@@ -12,7 +12,7 @@ use std::alloc::Global;
 use std::sync::ledger::Ledger;
 use well::Well;
 
-/// A well and how many of its rows are left to be removed; its cells lie in these rows.
+/// A well, and how many of its rows are left to be removed. All its cells lie in these rows.
 #[derive(Clone, Copy)]
 pub struct Position {
     pub well: Well,
@@ -24,7 +24,7 @@ pub struct Position {
     ghost below: { LiesBelow (filled well) rows },
 }
 
-/// The position after a placement.
+/// A placement, and the position after it.
 #[derive(Clone, Copy)]
 pub struct Child {
     pub placement: Placement,
@@ -41,7 +41,7 @@ impl Position {
     ghost use Rattle.percent.specs.Children.{IsChild};
     ghost use Rattle.percent.specs.GoodHands.{is_good_after, is_good_at};
 
-    /// The position after a placement below the rows left.
+    /// The position after a placement that lies below the rows left.
     fn after(&self, placement: &Placement) -> Position
         requires free { IsTrue (is_free (filled self.now.well) placement.now) }
         requires below { IsTrue (is_below self.now.rows placement.now) }
@@ -58,7 +58,7 @@ impl Position {
         }
     }
 
-    /// The positions after the places of a piece that lie below the rows left. Adds one step.
+    /// The positions after the places of a piece that lie below the rows left. Counts one flood.
     pub fn children<L: Ledger>(
         &self,
         alloc: Global,

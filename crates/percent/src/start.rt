@@ -47,12 +47,13 @@ fn first_position(problem: &Problem) -> Position
     }
 }
 
-/// For how many positions answers are kept, where so many hands are asked about.
+/// For how many positions answers are kept, given how many hands are asked about.
 fn room_for(hands: usize) -> usize {
     hands.saturating_mul(4).clamp(8192, 262_144)
 }
 
-/// The good ones of some hands. Where the empty cells below the height are no multiple of four there are none.
+/// Those of the hands that are good. If the number of empty cells below the height is not a multiple of four, there are
+/// none.
 pub fn good_hands<L: Ledger>(
     alloc: Global,
     problem: &Problem,
@@ -76,7 +77,7 @@ pub fn good_hands<L: Ledger>(
     answered(alloc, &mut kept, &position, left, fit.as_slice(), steps)
 }
 
-/// The hand of the queue with this number, from 0.
+/// The hand of the queue with this number, counted from 0.
 pub fn hand(problem: &Problem, number: u32) -> u64
     requires fit { IsFit problem.now }
     requires within { number < length (queues (elements_of problem.now.pattern)) }
@@ -86,8 +87,8 @@ pub fn hand(problem: &Problem, number: u32) -> u64
     hand_of(problem.hold, problem.held, needed(problem), &queue)
 }
 
-/// Whether a queue is good: whether it permits the pieces of some sequence that plays in the problem. Adds a step for
-/// each flood. Want of memory is the only refusal.
+/// Whether a queue is good: whether it permits the pieces of some sequence that plays in the problem. Counts each
+/// flood. The only refusal is that memory runs out.
 pub fn solvable<L: Ledger>(
     alloc: Global,
     problem: &Problem,

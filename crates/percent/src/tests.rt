@@ -1,4 +1,4 @@
-// Each call once, over fields that one piece or a few clear.
+// Each call once, on fields that one piece or a few pieces clear.
 ghost use Rattle.std.specs.Prelude.{◌≡◌, ◌≤◌, ◌<◌};
 ghost use Rattle.problem.specs.Problem.{IsFit};
 
@@ -49,7 +49,8 @@ fn good_count<L: Ledger>(alloc: Global, blank: Blank, problem: &Problem) -> Opti
     }
 }
 
-/// How many queues are good where each is asked about alone. `None` where that says other than the answers for all.
+/// How many queues are good if each is asked about alone. `None` if an answer differs from the one for all queues at
+/// once.
 fn good_alone<L: Ledger>(alloc: Global, blank: Blank, problem: &Problem) -> Option<u32>
     requires name { blank.name ≡ L.name }
     requires parts { blank.parts ≡ L.parts }

@@ -4,7 +4,7 @@ ghost use Rattle.placement_form.specs.Reading.{capital_piece, digit_in, placemen
 
 use srs::{Piece, Placement, Rotation};
 
-/// The piece with this capital letter. `None` exactly where the byte is no such letter.
+/// The piece with this capital letter. `None` exactly if the byte is no piece's capital letter.
 pub fn capital_piece(letter: u8) -> Option<Piece>
     ensures { result ≡ capital_piece letter }
 {
@@ -14,7 +14,7 @@ pub fn capital_piece(letter: u8) -> Option<Piece>
         .find(|piece| piece.letter() == letter)
 }
 
-/// The value of a digit. `None` exactly where the byte is no digit.
+/// The value of a digit. `None` exactly if the byte is not a digit.
 pub fn digit_in(letter: u8) -> Option<u8>
     ensures { result ≡ digit_in letter }
 {
@@ -25,8 +25,7 @@ pub fn digit_in(letter: u8) -> Option<u8>
     }
 }
 
-/// The row, up to 22, that a digit of tens and one of ones make. `None` exactly where the tens are 0 or the row is
-/// above 22.
+/// The row that two digits make, tens first. `None` exactly if the tens are 0 or the row is above 22.
 pub fn two_digit_row(tens: u8, ones: u8) -> Option<u8>
     ensures { result ≡ two_digit_row tens ones }
 {
@@ -38,7 +37,7 @@ pub fn two_digit_row(tens: u8, ones: u8) -> Option<u8>
     }
 }
 
-/// A row from 0 to 22, without a zero in front.
+/// A row from 0 to 22, without a leading zero.
 #[tactic(auto, unfolding(crate::specs::Reading::row_in))]
 fn row_in(text: &[u8]) -> Option<u8>
     ensures { result ≡ row_in text.now }
@@ -50,8 +49,8 @@ fn row_in(text: &[u8]) -> Option<u8>
     }
 }
 
-/// The placement whose text this is, in a column from 0 to 9 and a row from 0 to 22; it need not be inside. `None`
-/// exactly where the text is that of no such placement.
+/// The placement that this is the text of, in columns 0 to 9 and rows 0 to 22. Some of its cells may lie outside.
+/// `None` exactly if the text is that of no such placement.
 #[tactic(auto, unfolding(crate::specs::Reading::placement_in))]
 pub fn read_placement(text: &[u8]) -> Option<Placement>
     ensures { result ≡ placement_in text.now }

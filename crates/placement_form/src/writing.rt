@@ -20,7 +20,7 @@ fn push(text: &mut PlacementText, bytes: &[u8])
     text.try_extend_from_slice(bytes).unwrap()
 }
 
-/// The letters of the piece and the rotation, and the colon after them.
+/// The letters of the piece and the rotation, and a colon.
 fn letters(placement: &Placement) -> PlacementText
     ensures items { result.items ≡ piece_letter placement.now.piece ∷ rotation_letter placement.now.rotation ∷ 58 ∷ [] }
     ensures len { array_vec_len result ≡ 3 }
@@ -33,8 +33,8 @@ fn letters(placement: &Placement) -> PlacementText
     text
 }
 
-/// The text of a placement: the letters of its piece and its rotation, a colon, the column, a comma and the row of its
-/// pivot, as `T0:4,0`.
+/// The text of a placement: the letters of its piece and its rotation, a colon, and the column, a comma and the row of
+/// its pivot, as in `T0:4,0`.
 #[tactic(auto, unfolding(crate::specs::Form::placement_form))]
 pub fn placement_text(placement: &Placement) -> PlacementText
     ensures items { result.items ≡ placement_form placement.now }

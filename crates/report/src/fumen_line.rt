@@ -1,4 +1,4 @@
-// A sequence as a fumen text, a page for each placement.
+// A sequence as a fumen text, with one page for each placement.
 ghost use Rattle.std.specs.Prelude.{◌≡◌, ◌≤◌, [], ◌∷◌, ◌++◌, true, false, Err, None, IfOk, OnOk, IsTrue, is_some, length, map, option_map};
 ghost use Rattle.srs.specs.Cells.{is_inside_of};
 ghost use Rattle.srs.specs.Rules.{table_of};
@@ -26,15 +26,15 @@ use problem::{Problem, Sequence};
 use srs::Placement;
 use std::alloc::Global;
 
-/// A writer of sequences as fumen texts. The memory for the pages of a line is taken once, and is used again for the
-/// next line.
+/// A writer of sequences as fumen texts. It allocates the memory for a line's pages once and reuses it for the next
+/// line.
 #[derive(Drop)]
 pub struct FumenWriter {
     pages: Vec<Page>,
 }
 
 impl FumenWriter {
-    /// A writer. `NoMemory` where the memory for the pages of a line is refused.
+    /// Makes a writer. `NoMemory` if there is not enough memory for a line's pages.
     pub fn new(alloc: Global) -> Result<FumenWriter, NoMemory> {
         let pages = Vec::with_capacity(alloc, 22)?;
         Ok(FumenWriter { pages })
@@ -87,7 +87,7 @@ impl FumenWriter {
         text_of(alloc, &self.pages)
     }
 
-    /// Makes the pages of placements.
+    /// Sets the pages to those of some placements.
     fn set_pages(
         &mut self,
         alloc: Global,
@@ -159,7 +159,7 @@ impl FumenWriter {
         Ok(())
     }
 
-    /// Appends the page of a placement, and gives the cells that the page leaves.
+    /// Appends the page of a placement. Returns the cells that the page leaves.
     fn push_page(
         &mut self,
         alloc: Global,
@@ -183,7 +183,7 @@ impl FumenWriter {
     }
 }
 
-/// A page on which a placement locks, with its keys as the comment where there are some.
+/// A page on which a placement locks. If there are keys, they are its comment.
 fn placing_page(
     alloc: Global,
     cells: [u8; 240],
@@ -221,7 +221,7 @@ fn keys_comment(alloc: Global, word: &KeyWord) -> Result<Comment, NoMemory>
     Ok(Comment::from_units(units))
 }
 
-/// The text of pages that can be written, and a newline.
+/// The text of pages without a fault, and a newline.
 fn text_of(alloc: Global, pages: &[Page]) -> Result<Vec<u8>, NoMemory>
     requires { list_encode_fault V115 pages.now ≡ None }
     ensures { IfOk result (λ text. text.items ≡ written V115 pages.now ++ 10 ∷ []) }
@@ -235,10 +235,10 @@ fn text_of(alloc: Global, pages: &[Page]) -> Result<Vec<u8>, NoMemory>
     Ok(text)
 }
 
-/// Writes a sequence that solves the problem as the fumen text of one page for each placement, and a newline. The first
-/// page has the well's cells as grey ones and the colour flag; each later one has the cells that the page before it
-/// leaves. Each page has its placement as the operation, and locks. With a finder its comment is the key word of the
-/// placement in the field before it, and `H`. Where memory is wanting, nothing was written.
+/// Writes a sequence that solves the problem as a fumen text with one page for each placement, and a newline. The first
+/// page has the well's cells in grey and the colour flag. Each later page has the cells that the page before it leaves.
+/// Each page has its placement as the operation, and locks. With a finder, its comment is the key word of the placement
+/// in the field before it, and `H`. If memory runs out, nothing was written.
 pub fn write_fumen_line<O: Sink>(
     alloc: Global,
     out: &mut O,

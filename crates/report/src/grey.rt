@@ -5,7 +5,7 @@ ghost use Rattle.report.specs.FumenLine.{grey_cells, grey_row};
 
 use well::Well;
 
-/// The cells of a page that has the well's cells as grey ones, and nothing in its garbage row.
+/// The cells of a page that has the well's cells in grey and an empty garbage row.
 #[tactic(auto, unfolding(crate::specs::FumenLine::grey_cells))]
 pub(crate) fn grey_cells(well: &Well) -> [u8; 240]
     ensures { result ≡ grey_cells (filled well.now) }
@@ -30,7 +30,7 @@ fn grey_row(well: &Well, y: u8) -> [u8; 10]
     row
 }
 
-/// Grey where the well has the cell.
+/// Grey if the well has the cell, otherwise empty.
 fn grey(well: &Well, x: u8, y: u8) -> u8
     requires column { x ≤ 9 }
     requires row { y ≤ 22 }

@@ -1,4 +1,4 @@
-// A sequence as a grid.
+// A sequence as pictures of its placements.
 ghost use Rattle.std.specs.Prelude.{◌≡◌, ◌+◌, ◌≤◌, ◌<◌, ◌++◌, [], ◌∷◌, pos, is_some, map, length};
 ghost use Rattle.arrayvec.specs.ArrayVec.{array_vec_len};
 ghost use Rattle.lane_board.specs.FullRows.{columns};
@@ -20,15 +20,15 @@ use problem::{Problem, Sequence};
 use srs::{Placement, cells};
 use well::Well;
 
-/// A newline behind those of the rows.
+/// A newline after those of the rows.
 const EMPTY_LINE: u8 = b'\n';
 
 /// The rows of one picture, each with a newline, and an empty line.
 type Picture = ArrayVec<u8, 254>;
 
 /// Writes the grid of a sequence that solves the problem: its line as `write_line` writes it, and then for each
-/// placement the rows below the rows left, the top one first, and an empty line. A cell is the letter of the piece
-/// where the placement has it, `X` where the field before it has one, and else `_`.
+/// placement the rows that are left, from the top one down, and an empty line. A cell of the placement is the piece's
+/// letter, a cell of the field before it is `X`, and any other cell is `_`.
 #[tactic(auto, unfolding(crate::specs::Grid::grid_form))]
 pub fn write_grid<O: Sink>(
     out: &mut O,
@@ -48,7 +48,7 @@ pub fn write_grid<O: Sink>(
     write_pictures(out, problem, sequence.as_slice())
 }
 
-/// The pictures of placements, one after the other.
+/// Writes the pictures of placements, one after the other.
 fn write_pictures<O: Sink>(
     out: &mut O,
     problem: &Problem,
@@ -72,7 +72,7 @@ fn write_pictures<O: Sink>(
     Ok(())
 }
 
-/// The rows below a height, the top one first, with a placement in them, and an empty line.
+/// The rows below a height, from the top one down, with a placement in them, and an empty line.
 fn picture(well: &Well, placement: &Placement, rows: u8) -> Picture
     requires column { placement.now.x ≤ 31 }
     requires row { placement.now.y ≤ 31 }
@@ -116,7 +116,7 @@ fn letter(well: &Well, placement: &Placement, cells: &[(i8, i8); 4], x: u8, y: u
     if well.cell(x, y) { b'X' } else { b'_' }
 }
 
-/// Whether one of the cells is that in this column and row.
+/// Whether one of the cells is in this column and row.
 #[tactic(auto, unfolding(srs::specs::SameCells::is_among))]
 fn has_cell(cells: &[(i8, i8); 4], x: u8, y: u8) -> bool
     requires column { x ≤ 9 }

@@ -5,8 +5,8 @@ use key_path::Finder;
 use pc_outside::NoMemory;
 use std::alloc::Global;
 
-/// A finder where keys are asked for, and none where they are not. `NoMemory` where the finder's memory is refused; it
-/// is not answered where keys are not asked for.
+/// A finder if keys are asked for, otherwise none. `NoMemory` if there is not enough memory for the finder; without
+/// keys none is needed.
 pub fn finder_for(alloc: Global, keys: bool) -> Result<Option<Finder>, NoMemory>
     ensures finder { IfOk result (λ finder. is_some finder ≡ keys) }
     ensures none { keys ≡ false → IsOk result }

@@ -1,4 +1,4 @@
-// Laws of the forms: functions whose contract is the law.
+// Laws of the formats: functions whose contract is the law.
 ghost use Rattle.std.specs.Prelude.{◌≡◌, ◌≤◌, ℕ, Bool, List, length};
 ghost use Rattle.lane_board.specs.Field.{Field};
 ghost use Rattle.srs.specs.declared.placement.Placement.{Placement};
@@ -13,8 +13,8 @@ ghost use Rattle.report.specs.FumenLine.{grey_cells, left_after, sequence_pages}
 
 use fumen_text::laws::encode_undone;
 
-/// The fumen text of a sequence that clears a field, with keys or without, reads as the pages of the sequence; and the
-/// last of them leaves no cell.
+/// The fumen text of a sequence that clears a field, with keys or without, reads as the pages of the sequence. The last
+/// page leaves no cell.
 pub fn fumen_lines_are_read()
     ensures reads { (keys : Bool) (table : Table) (mode : DropMode) (F : Field) (rows : ℕ) (s : List Placement) →
         Plays table mode F rows s → length s ≤ most_pages →

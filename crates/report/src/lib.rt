@@ -1,4 +1,4 @@
-// The forms in which answers are written.
+// The formats in which answers are written.
 #![tactic(auto)]
 
 mod fumen_line;

@@ -31,7 +31,7 @@ fn line_of(placements: &[Placement]) -> SequenceText
     line
 }
 
-/// A placement after a divider, with its key word where there is one.
+/// A placement after a separator, with its key word if there is one.
 fn placement_text(divider: &[u8], placement: &Placement, word: &Option<KeyWord>) -> SequenceText
     requires { length divider.now ≤ 1 }
     ensures { result.items ≡ divider.now ++ keyed_form (placement.now, option_map (λ word. word.items) word.now) }
@@ -42,7 +42,7 @@ fn placement_text(divider: &[u8], placement: &Placement, word: &Option<KeyWord>)
     }
 }
 
-/// Appends bytes to what is to be written. Where they don't fit behind it, it is written first.
+/// Appends bytes to the held text. If they don't fit, the held text is written first.
 fn append<O: Sink>(out: &mut O, held: &mut SequenceText, bytes: &[u8]) -> Result<(), Failed>
     requires { length bytes.now ≤ 1024 }
     ensures done { OnOk result (HandsOn (O.written out.old) (O.written out.new)
@@ -80,8 +80,8 @@ fn word_of(
     finder.find(well, rules, placement, drop_mode)
 }
 
-/// Writes the line of placements with the key word of each in the field before it, by one write where it has no more
-/// bytes than a text.
+/// Writes the line of some placements, each with its key word in the field before it. If the line fits into a held
+/// text, this is one write.
 fn write_with_keys<O: Sink>(
     out: &mut O,
     well: &Well,
@@ -113,7 +113,7 @@ fn write_with_keys<O: Sink>(
     out.write(held.as_slice())
 }
 
-/// Writes the line of placements that are played from a well, with their key words where a finder is given.
+/// Writes the line of placements that are played from a well, with their key words if a finder is given.
 pub(crate) fn write_placements<O: Sink>(
     out: &mut O,
     well: &Well,
@@ -135,8 +135,8 @@ pub(crate) fn write_placements<O: Sink>(
     }
 }
 
-/// Writes the line of a sequence that solves the problem, as `I0:7,0 O0:8,0`. With a finder each placement is
-/// followed by its key word in the field before it, as `I0:7,0:RRRH`.
+/// Writes the line of a sequence that solves the problem, as in `I0:7,0 O0:8,0`. With a finder, the key word of each
+/// placement in the field before it follows the placement, as in `I0:7,0:RRRH`.
 #[tactic(auto, using(crate::proofs::LineLemmas::played_free))]
 pub fn write_line<O: Sink>(
     out: &mut O,

@@ -14,8 +14,8 @@ use pc_outside::{Failed, Sink};
 use srs::{Placement, Rules};
 use well::Well;
 
-/// Writes the line of a run from a well, as `I0:7,0 I0:7,0`, and nothing where the run has no placement. With a finder
-/// each placement is followed by its key word in the field before it.
+/// Writes the line of a run from a well, as in `I0:7,0 I0:7,0`, and nothing if the run has no placements. With a
+/// finder, the key word of each placement in the field before it follows the placement.
 pub fn write_run<O: Sink>(
     out: &mut O,
     well: &Well,

@@ -1,4 +1,4 @@
-// The line that ends a report, and that of the floods behind it.
+// The line that ends a report, and the line of floods after it.
 ghost use Rattle.std.specs.Prelude.{◌≡◌};
 ghost use Rattle.pc_outside.specs.Counts.{HasCause};
 ghost use Rattle.pc_outside.specs.Writes.{WritesAll};
@@ -10,9 +10,9 @@ use pc_outside::{Failed, Sink, write_pieces};
 /// Why a report ends.
 #[derive(Clone, Copy, Debug, PartialEq, Eq)]
 pub enum Tail {
-    /// There is no further sequence.
+    /// There are no more sequences.
     End,
-    /// As many sequences are written as were asked for.
+    /// As many sequences were written as were asked for.
     Limit,
 }
 
@@ -27,7 +27,7 @@ impl Tail {
     }
 }
 
-/// Writes the line that ends a report of so many sequences: `end 12` or `limit 12`.
+/// Writes the line that ends a report of this many sequences: `end 12` or `limit 12`.
 pub fn write_tail<O: Sink>(out: &mut O, tail: Tail, count: u64) -> Result<(), Failed>
     ensures written { WritesAll (O.written out.old) (O.written out.new) result (tail_form tail count) }
     ensures cause { HasCause O.counts_failures_alone (O.faults out.old) (O.faults out.new) result }
@@ -36,7 +36,7 @@ pub fn write_tail<O: Sink>(out: &mut O, tail: Tail, count: u64) -> Result<(), Fa
     write_pieces(out, &[tail.word(), digits.format(count).as_bytes(), b"\n"])
 }
 
-/// Writes the line of a number of floods, which stands behind a report: `floods 3`.
+/// Writes the line with the number of floods, which follows a report: `floods 3`.
 pub fn write_floods<O: Sink>(out: &mut O, floods: u64) -> Result<(), Failed>
     ensures written { WritesAll (O.written out.old) (O.written out.new) result (floods_form floods) }
     ensures cause { HasCause O.counts_failures_alone (O.faults out.old) (O.faults out.new) result }

@@ -1,9 +1,9 @@
-// Why a line is not written.
-/// Why a line is not written.
+// Why a line was not written.
+/// Why a line was not written.
 #[derive(Clone, Copy, Debug, PartialEq, Eq)]
 pub enum WriteFault {
-    /// A write failed, and the count of faults of its sink rose.
+    /// A write failed, and its sink counted one more fault.
     Failed,
-    /// Memory was asked for and is not there.
+    /// There was not enough memory.
     NoMemory,
 }

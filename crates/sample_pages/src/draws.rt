@@ -1,4 +1,4 @@
-// Numbers that are drawn from a state of 64 bits: a linear congruential generator with Knuth's multiplier for MMIX.
+// Random numbers from a state of 64 bits: a linear congruential generator with Knuth's multiplier for MMIX.
 ghost use Rattle.std.specs.Prelude.{◌≡◌, ◌<◌};
 ghost use Rattle.sample_pages.specs.Draws.{draw, next_state, state_after_draws};
 
@@ -11,7 +11,7 @@ fn next_state(state: u64) -> u64
         .wrapping_add(1_442_695_040_888_963_407)
 }
 
-/// The state after so many draws.
+/// The state after this many draws.
 pub fn state_after_draws(count: u8, state: u64) -> u64
     ensures { result ≡ state_after_draws count state }
 {

@@ -1,4 +1,4 @@
-// Pages that are made from a number, by numbers that are drawn from it.
+// Pages that are made from a number, by draws from it.
 #![tactic(auto)]
 
 mod draws;

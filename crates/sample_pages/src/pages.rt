@@ -14,7 +14,7 @@ use pc_outside::NoMemory;
 use srs::{Piece, Placement, Rotation};
 use std::alloc::Global;
 
-/// Pages that were made from a number, and the column that is drawn behind them.
+/// Pages that were made from a number, and the column that is drawn after them.
 #[derive(Debug, Drop)]
 pub struct Sample {
     pub pages: Vec<Page>,
@@ -35,7 +35,7 @@ fn operation_drawn(state: u64) -> Placement
     }
 }
 
-/// One of the cells takes a colour.
+/// The same cells, one of which gets a colour.
 #[tactic(auto, unfolding(crate::specs::Pages::cells_drawn))]
 fn cells_drawn(state: u64, cells: &[u8; 240]) -> [u8; 240]
     requires { AreCells V115 cells.now }
@@ -90,7 +90,7 @@ fn page_drawn(alloc: Global, state: u64, colour: bool, cells: &[u8; 240]) -> Res
     })
 }
 
-/// The state behind a page.
+/// The state after a page.
 #[tactic(auto, unfolding(crate::specs::Pages::state_behind))]
 fn state_behind(state: u64) -> u64
     ensures { result ≡ state_behind state }
@@ -102,8 +102,8 @@ fn state_behind(state: u64) -> u64
     }
 }
 
-/// So many pages from a number, each of them sound in the dialect of 23 rows, and the column that is drawn behind them.
-/// Want of memory is the only refusal.
+/// This many pages from a number, each sound in the dialect of 23 rows, and the column that is drawn after them. The
+/// only refusal is that memory runs out.
 pub fn sample_of(alloc: Global, number: u32, pages: u32) -> Result<Sample, NoMemory>
     requires least { 1 ≤ pages }
     requires most { pages ≤ 10000 }
@@ -127,7 +127,7 @@ pub fn sample_of(alloc: Global, number: u32, pages: u32) -> Result<Sample, NoMem
     })
 }
 
-/// So many pages from a number, each of them sound in the dialect of 23 rows. Want of memory is the only refusal.
+/// This many pages from a number, each sound in the dialect of 23 rows. The only refusal is that memory runs out.
 pub fn sample_pages(alloc: Global, number: u32, pages: u32) -> Result<Vec<Page>, NoMemory>
     requires least { 1 ≤ pages }
     requires most { pages ≤ 10000 }

@@ -1,12 +1,12 @@
-// Laws of the texts of sequences: functions with an empty body, whose contract is the law.
+// Laws of the texts of sequences: functions with an empty body whose contract is the law.
 ghost use Rattle.std.specs.Prelude.{◌≡◌, ◌≤◌, ◌↔◌, ℕ, All, List, length, map, Ok, Err};
 ghost use Rattle.srs.specs.declared.placement.Placement.{Placement};
 ghost use Rattle.sequence_text.specs.Form.{IsRefusedAt, Spells};
 ghost use Rattle.sequence_text.specs.Reading.{sequence_in};
 ghost use Rattle.sequence_text.specs.Written.{Keyed, sequence_form};
 
-/// A text is read as a sequence of so many placements exactly where it spells this sequence; and it is refused at a
-/// place exactly where it spells none and its longest front that begins one has so many bytes.
+/// A text is read as a sequence of the needed length exactly if it spells this sequence. It is refused at a place
+/// exactly if it spells none and its longest front that begins one has this many bytes.
 pub fn texts_are_read_as_they_spell()
     ensures sequence { (needed : ℕ) (text : List ℕ) (sequence : List Placement) →
         (sequence_in needed text ≡ Ok sequence) ↔ Spells needed text sequence }
@@ -14,13 +14,13 @@ pub fn texts_are_read_as_they_spell()
         (sequence_in needed text ≡ Err place) ↔ IsRefusedAt needed text place }
 {}
 
-/// A text spells at most one sequence of so many placements.
+/// A text spells at most one sequence of a given length.
 pub fn spelled_sequences_are_determined()
     ensures { (needed : ℕ) (text : List ℕ) (one other : List Placement) →
         Spells needed text one → Spells needed text other → one ≡ other }
 {}
 
-/// What is written of placements in the well, with whatever keys, spells these placements.
+/// The written text of placements in the well, with whatever keys, spells these placements.
 pub fn written_sequences_are_spelled()
     ensures { (keyed : List Keyed) → All (λ item. (item.0.x ≤ 9) × (item.0.y ≤ 22)) keyed →
         Spells (length keyed) (sequence_form keyed) (map (λ item. item.0) keyed) }

@@ -1,4 +1,4 @@
-// The text of a sequence of placements, with keys or without, read and written.
+// The text of a sequence of placements, with or without keys: reading and writing.
 #![tactic(auto)]
 
 pub mod laws;

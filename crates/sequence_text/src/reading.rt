@@ -1,11 +1,11 @@
-// The text of one placement, with keys or without, read byte by byte.
+// The text of one placement, with or without keys, read byte by byte.
 ghost use Rattle.std.specs.Prelude.{◌≡◌, ◌≤◌, ◌<◌};
 ghost use Rattle.sequence_text.specs.Reading.{step, step_at, after_row_step, keys_step, key_step, is_key_letter, may_end, unread};
 
 use placement_form::{capital_piece, digit_in, two_digit_row};
 use srs::{Piece, Placement, Rotation};
 
-/// What may stand next.
+/// What may come next.
 #[derive(Clone, Copy, Debug, PartialEq, Eq)]
 pub enum Due {
     PieceLetter,
@@ -20,7 +20,7 @@ pub enum Due {
     AfterKeys,
 }
 
-/// A placement of which some bytes were read.
+/// What has been read of a placement.
 #[derive(Clone, Copy, Debug, PartialEq, Eq)]
 pub struct Reading {
     pub due: Due,
@@ -42,7 +42,7 @@ fn keys_step(placement: Placement, byte: u8) -> Option<Reading>
     })
 }
 
-/// After a 0, or after two digits, no digit makes a row up to 22.
+/// The step after a row: after a 0 or two digits, no further digit makes a row up to 22.
 fn after_row_step(placement: Placement, byte: u8) -> Option<Reading>
     ensures { result ≡ after_row_step placement byte }
 {
@@ -115,7 +115,7 @@ fn row_step(placement: Placement, byte: u8) -> Option<Reading>
 }
 
 impl Reading {
-    /// No byte was read yet.
+    /// No byte has been read yet.
     pub fn unread() -> Reading
         ensures { result ≡ unread }
     {
@@ -130,14 +130,14 @@ impl Reading {
         }
     }
 
-    /// The placement may end here.
+    /// Whether the placement may end here.
     pub fn may_end(self) -> bool
         ensures { result ≡ may_end self.due }
     {
         matches!(self.due, Due::AfterRow | Due::AfterKeys)
     }
 
-    /// The reading after one more byte. `None` exactly where the byte may not stand there.
+    /// The reading after one more byte. `None` exactly if the byte may not come here.
     #[tactic(auto, unfolding(crate::specs::Reading::step))]
     pub fn step(self, byte: u8) -> Option<Reading>
         ensures { result ≡ step self byte }

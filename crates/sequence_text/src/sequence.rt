@@ -1,4 +1,4 @@
-// Reading a sequence of so many placements from its text.
+// Reading a sequence of a given length from its text.
 ghost use Rattle.std.specs.Prelude.{◌≡◌, ◌≤◌, ◌==◌, ◌&&◌, nat_lt, IfOk};
 ghost use Rattle.arrayvec.specs.ArrayVec.{array_vec_len};
 ghost use Rattle.sequence_text.specs.Reading.{may_end, sequence_in, sequence_reading};
@@ -9,22 +9,22 @@ use srs::Placement;
 
 type Sequence = ArrayVec<Placement, 22>;
 
-/// A blank and a further placement may follow.
+/// Whether a blank and another placement may follow.
 fn goes_on(now: Reading, left: u8) -> bool
     ensures { result ≡ (may_end now.due && nat_lt 0 left) }
 {
     now.may_end() && left > 0
 }
 
-/// All placements were read.
+/// Whether all placements have been read.
 fn is_whole(now: Reading, left: u8) -> bool
     ensures { result ≡ (may_end now.due && left == 0) }
 {
     now.may_end() && left == 0
 }
 
-/// The sequence of so many placements that a text spells; or how many bytes its longest front has that begins the
-/// text of some such sequence.
+/// The sequence of `needed` placements that a text spells. A refusal is the length in bytes of its longest front that
+/// begins the text of such a sequence.
 pub fn sequence_in(needed: u8, text: &[u8]) -> Result<Sequence, usize>
     requires { needed ≤ 22 }
     ensures value { sequence_reading result ≡ sequence_in needed text.now }

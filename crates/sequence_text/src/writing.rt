@@ -1,4 +1,4 @@
-// Writing placements, with keys or without.
+// Writing placements, with or without keys.
 ghost use Rattle.std.specs.Prelude.{◌≡◌, ◌+◌, ◌≤◌, ◌++◌, [], length, map, Some, option_copied};
 ghost use Rattle.std.specs.Option.{ForSome};
 ghost use Rattle.arrayvec.specs.ArrayVec.{array_vec_len};
@@ -15,7 +15,7 @@ use srs::Placement;
 /// The bytes of a text of at most 38 placements, or of one placement with its keys.
 pub type SequenceText = ArrayVec<u8, 1024>;
 
-/// Appends bytes for which there is room.
+/// Appends bytes. There must be room for them.
 pub fn push(text: &mut SequenceText, bytes: &[u8])
     requires { array_vec_len text.old + length bytes.now ≤ 1024 }
     ensures items { text.new.items ≡ text.old.items ++ bytes.now }
@@ -48,7 +48,7 @@ fn push_sequence(text: &mut SequenceText, placements: &[Placement])
     }
 }
 
-/// The text of at most 38 placements without keys, as `I0:7,0 O0:8,0`: at most 417 bytes.
+/// The text of at most 38 placements without keys, as in `I0:7,0 O0:8,0`: at most 417 bytes.
 pub fn sequence_text(placements: &[Placement]) -> SequenceText
     requires { length placements.now ≤ 38 }
     ensures items { result.items ≡ sequence_form (without_keys placements.now) }
@@ -80,7 +80,7 @@ fn push_keys(text: &mut SequenceText, keys: &[Key])
     push(text, b"H");
 }
 
-/// A placement after a divider of at most one byte, with at most 920 keys where there are some, as `I0:7,0:RRRH`.
+/// A placement after a separator of at most one byte, with at most 920 keys if there are any, as in `I0:7,0:RRRH`.
 pub fn placement_with_keys(
     divider: &[u8],
     placement: &Placement,

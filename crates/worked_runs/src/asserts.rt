@@ -1,9 +1,9 @@
-// Runs, and what is asked of how they end.
+// Runs, and assertions about how they end.
 use crate::{Outcome, run_words};
 use pc_outside::MemorySource;
 use std::test::Fail;
 
-/// Runs the words of a line, and after them these more, over a source of these bytes.
+/// Runs the words of a line, and then these further words, over a source of these bytes.
 pub fn over(
     rt: &impl AllocGlobal,
     line: &str,
@@ -33,17 +33,17 @@ fn ends(ended: &Outcome, code: u8, output: &[u8], fault: &[u8]) -> Result<(), Fa
     Ok(())
 }
 
-/// Asks that a run over this text ends with this output and no fault.
+/// Asserts that a run over this text ends with this output and no fault.
 pub fn writes(rt: &impl AllocGlobal, line: &str, text: &[u8], output: &[u8]) -> Result<(), Fail> {
     ends(&over(rt, line, &[], text)?, 0, output, b"")
 }
 
-/// Asks that a run of these words ends with this output and no fault.
+/// Asserts that a run of these words ends with this output and no fault.
 pub fn lists(rt: &impl AllocGlobal, line: &str, more: &[&str], output: &[u8]) -> Result<(), Fail> {
     ends(&over(rt, line, more, b"")?, 0, output, b"")
 }
 
-/// Asks that a run over this text writes nothing but this line of a fault.
+/// Asserts that a run over this text writes only this line of a fault.
 pub fn refused(
     rt: &impl AllocGlobal,
     line: &str,

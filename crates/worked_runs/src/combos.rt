@@ -1,4 +1,4 @@
-// Runs of `combo`: a longest run of placements that each remove a row.
+// Runs of `combo`: the longest run of placements that each remove a row.
 use crate::asserts::{lists, refused, writes};
 use std::test::Fail;
 
@@ -6,7 +6,7 @@ const ONE_ROW: &str = "combo --rows XXXXXX____ --patterns";
 
 const TWO_ROWS: &str = "combo --rows XXXXXX____/XXXXXX____ --patterns";
 
-/// Twenty rows with four open columns, of which three cells are filled.
+/// Twenty rows with four open columns, in which three cells are filled.
 const FOUR_COLUMNS: &str =
     "combo --rows XXXXXX____/XXXXXX____/XXXXXX____/XXXXXX____/XXXXXX____/XXXXXX____/XXXXXX____/XXXXXX____/XXXXXX____/XXXXXX____/XXXXXX____/XXXXXX____/XXXXXX____/XXXXXX____/XXXXXX____/XXXXXX____/XXXXXX____/XXXXXX____/XXXXXX____/XXXXXXXXX_ --patterns";
 

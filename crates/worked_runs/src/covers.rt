@@ -1,4 +1,4 @@
-// Runs of `cover`: which queues given sequences answer.
+// Runs of `cover`: which queues given sequences cover.
 use crate::asserts::{over, refused, writes};
 use std::process::Abort;
 use std::test::Fail;
@@ -82,7 +82,7 @@ fn faults_of_the_field_come_first(rt: HostRuntime) -> Result<(), Fail> {
     )
 }
 
-/// What `path` lists of the words behind its name, read by `cover` with the same words, and counted by `percent`.
+/// Asserts what `cover` writes for the list that `path` writes with the same words, and that `percent` counts the same.
 fn piped(rt: &(impl AllocGlobal + Abort), more: &[&str], numbers: &[u8]) -> Result<(), Fail> {
     let listed = over(rt, "path", more, b"")?;
     let covered = over(rt, "cover", more, listed.out.bytes())?;

@@ -6,7 +6,7 @@ use std::test::Fail;
 
 const ONE_ROW: &str = "--clear-line 1 --patterns I";
 
-/// Asserts what a line over this page writes, once for the text among the words and once for that of the source.
+/// Asserts what a line over this page writes, once with the text in the words and once with the text in the source.
 fn shows(
     rt: &(impl AllocGlobal + Abort),
     text: &str,
@@ -114,7 +114,7 @@ fn faults_in_their_order(rt: HostRuntime) -> Result<(), Fail> {
     Ok(())
 }
 
-/// Asserts that a run of these words leaves its source as it was.
+/// Asserts that a run of these words leaves its source unread.
 fn leaves(rt: &(impl AllocGlobal + Abort), line: &str) -> Result<(), Fail> {
     let mut ended = over(rt, line, &[], b"hello")?;
     let mut rest = [0u8; 8];

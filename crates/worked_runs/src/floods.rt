@@ -1,4 +1,4 @@
-// Floods in lanes beside a plain walk from state to state.
+// Floods in lanes, compared with a plain walk from state to state.
 ghost use Rattle.std.specs.Prelude.{◌≡◌, ◌<◌};
 
 use moves::{DropMode, Key, fall, spawn, step};
@@ -18,7 +18,7 @@ fn index(placement: &Placement) -> usize {
         + usize::from(placement.x)
 }
 
-/// Meets a placement, and says whether it is new.
+/// Marks a placement as met, and returns whether it is new.
 fn meet(met: &mut Met, placement: &Placement) -> bool {
     match met.get_mut(index(placement)) {
         Some(entry) if !*entry => {
@@ -61,7 +61,7 @@ fn walked(
     Ok(states)
 }
 
-/// How many placements the states come to rest at, and which they are.
+/// How many placements the states come to rest at, and which ones.
 fn rested(alloc: Global, well: &Well, states: &[Placement]) -> Result<(usize, Met), Fail> {
     let mut met = vec![in alloc; false; 920]?;
     let mut number = 0;
@@ -80,7 +80,7 @@ fn rested(alloc: Global, well: &Well, states: &[Placement]) -> Result<(usize, Me
     Ok((number, met))
 }
 
-/// How many placements are held, where each of them was met.
+/// How many placements there are, if each of them was met.
 fn held(places: &Places, met: &Met) -> Option<usize> {
     let mut last: Option<Placement> = None;
     for number in 0..921 {
@@ -95,7 +95,7 @@ fn held(places: &Places, met: &Met) -> Option<usize> {
     None
 }
 
-/// Whether the flood in lanes holds just the placements at which a plain walk comes to rest.
+/// Whether the flood in lanes finds exactly the placements at which a plain walk comes to rest.
 fn agree<L: Ledger>(alloc: Global, field: &[u8], mode: DropMode, blank: Blank) -> Result<bool, Fail>
     requires name { blank.name ≡ L.name }
     requires parts { blank.parts ≡ L.parts }
@@ -125,7 +125,7 @@ fn agree_in<L: Ledger>(
     Ok(true)
 }
 
-/// Whether the floods of all pieces with either drop agree in so many stacks of this many rows.
+/// Whether the floods of all pieces with either drop mode agree in this many stacks of this many rows.
 fn agree_in_stacks<L: Ledger>(
     alloc: Global,
     rows: u8,
@@ -150,7 +150,7 @@ fn agree_in_stacks<L: Ledger>(
     Ok(true)
 }
 
-/// A stack of so many rows with holes and overhangs, and the number from which the next one is made.
+/// A stack of this many rows with holes and overhangs, and the number that the next one is made from.
 fn stack(random: u64, rows: u8) -> (Well, u64) {
     let mut random = shuffled(random);
     let percent = 10 + (random >> 33) % 85;
@@ -166,15 +166,14 @@ fn stack(random: u64, rows: u8) -> (Well, u64) {
     (well, random)
 }
 
-/// A number that looks random beside the given one.
+/// A number that looks random, made from another one.
 fn shuffled(number: u64) -> u64 {
     number
         .wrapping_mul(6_364_136_223_846_793_005)
         .wrapping_add(1_442_695_040_888_963_407)
 }
 
-/// The fields of the worked solutions, overhangs that only kicks lead under, and a spawn that is
-/// not free.
+/// The fields of the worked solutions, overhangs that only kicks lead under, and a spawn that is not free.
 const FIELDS: [&[u8]; 8] = [
     b"XXXXXX____",
     b"XXXXXX____/XXXXXX____",
@@ -195,7 +194,7 @@ fn floods_agree_with_plain_walks(rt: HostRuntime) -> Result<(), Fail> {
     Ok(())
 }
 
-/// How many stacks of each height are flooded, for each piece and with either drop.
+/// How many stacks of each height are flooded, for each piece and either drop mode.
 const STACKS: u32 = 80;
 
 #[test]

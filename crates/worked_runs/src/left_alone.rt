@@ -1,4 +1,4 @@
-// A sink that failed is left alone, and one that counts more than its failures is written to as any other.
+// A sink that has failed is left alone. A sink that counts more than its failures is written to like any other.
 ghost use Rattle.std.specs.Prelude.{None};
 
 use crate::{counted, words_of};
@@ -8,8 +8,8 @@ use std::process::Abort;
 use std::sync::ledger::Blank;
 use std::test::Fail;
 
-/// A sink whose writes fail after the first so many, and which counts a fault in each write of a byte, as one that tried
-/// again would. It keeps how many calls followed the first that failed.
+/// A sink whose writes fail after the first `left` ones. It counts a fault in each write of a byte, like a sink that
+/// tried again. It keeps how many calls came after the first that failed.
 #[derive(Drop)]
 struct Worn {
     left: u32,
@@ -40,8 +40,8 @@ impl Sink for Worn {
     }
 }
 
-/// Asserts that, whichever write fails first, the run ends with status 4 and calls the sink no more, and with status 0
-/// where none fails.
+/// Asserts that, whichever write fails first, the run ends with status 4 and calls the sink no more. If none fails, it
+/// ends with status 0.
 fn each_write_is_the_last(
     rt: &(impl AllocGlobal + Abort),
     line: &str,

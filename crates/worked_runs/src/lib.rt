@@ -64,7 +64,7 @@ fn counted<L: Ledger, O: Sink>(
     run(alloc, words, source, out, err, &mut steps)
 }
 
-/// The words of a line, divided by single blanks, and after them these more, which may have blanks.
+/// The words of a line, separated by single blanks, and then these further words, which may have blanks.
 fn words_of(alloc: Global, line: &str, more: &[&str]) -> Result<Vec<String>, NoMemory> {
     let mut words = Vec::new(alloc);
     if !line.is_empty() {
@@ -78,7 +78,7 @@ fn words_of(alloc: Global, line: &str, more: &[&str]) -> Result<Vec<String>, NoM
     Ok(words)
 }
 
-/// Runs the words of a line and these more over a source, into these sinks.
+/// Runs the words of a line and these further words over a source, into these sinks.
 pub fn run_into(
     alloc: Global,
     line: &str,
@@ -104,7 +104,7 @@ pub fn run_into(
     })
 }
 
-/// The same, where these writes of the output fail.
+/// The same, with these writes of the output failing.
 pub fn run_words(
     alloc: Global,
     line: &str,

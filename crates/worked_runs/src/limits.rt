@@ -9,7 +9,7 @@ fn lines(bytes: &[u8]) -> usize {
     bytes.iter().filter(|byte| **byte == b'\n').count()
 }
 
-/// Asserts that a run gives so many lines, the first and the last of them.
+/// Asserts how many lines a run writes, and its first and last lines.
 fn spans(
     rt: &(impl AllocGlobal + Abort),
     line: &str,

@@ -3,7 +3,7 @@ use crate::asserts::{lists, over, refused, writes};
 use std::process::Abort;
 use std::test::Fail;
 
-/// So many equal rows, divided by slashes.
+/// Equal rows, separated by slashes.
 fn rows(rt: &impl AllocGlobal, row: &str, count: usize) -> Result<String, Fail> {
     let mut text = String::new(rt.alloc());
     for number in 0..count {
@@ -15,7 +15,7 @@ fn rows(rt: &impl AllocGlobal, row: &str, count: usize) -> Result<String, Fail> 
     Ok(text)
 }
 
-/// The report of the one way to fill two columns of so many rows by squares, which is none where the rows are odd.
+/// The report of the one way to fill two columns with squares. If the number of rows is odd, there is none.
 fn squares(rt: &impl AllocGlobal, height: usize) -> Result<Vec<u8>, Fail> {
     let mut report = Vec::new(rt.alloc());
     if height % 2 == 1 {
@@ -66,7 +66,7 @@ fn five_squares_with_hold(rt: HostRuntime) -> Result<(), Fail> {
     lists(&rt, line, &["use", "--limit", "121"], avoided.out.bytes())
 }
 
-/// The line of a page with a comment of so many letters.
+/// The line of a page with a comment of this many letters.
 fn commented(rt: &impl AllocGlobal, letters: usize) -> Result<Vec<u8>, Fail> {
     let mut line = Vec::from_slice(rt.alloc(), b"| - --cl #")?;
     for _ in 0..letters {
@@ -76,7 +76,7 @@ fn commented(rt: &impl AllocGlobal, letters: usize) -> Result<Vec<u8>, Fail> {
     Ok(line)
 }
 
-/// The text that `encode` writes for a page with a comment of so many letters, which `decode` reads back.
+/// The text that `encode` writes for a page with a comment of this many letters. `decode` must read it back.
 fn encoded(rt: &(impl AllocGlobal + Abort), letters: usize) -> Result<Vec<u8>, Fail> {
     let line = commented(rt, letters)?;
     let ended = over(rt, "encode", &[], &line)?;
@@ -110,7 +110,7 @@ fn a_line_of_one_digit(rt: HostRuntime) -> Result<(), Fail> {
 
 #[test]
 fn the_least_action_that_is_too_large(rt: HostRuntime) -> Result<(), Fail> {
-    // 245,760 in digits of base 64, the lowest first, and the number before it.
+    // 245,760 in digits of base 64, lowest first, and the number before it.
     refused(
         &rt,
         "decode",

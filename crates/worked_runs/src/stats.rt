@@ -1,4 +1,4 @@
-// Runs of `path` with the number of floods behind the report.
+// Runs of `path` with the number of floods after the report.
 use crate::asserts::{lists, over};
 use std::process::Abort;
 use std::test::Fail;

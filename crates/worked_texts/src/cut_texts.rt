@@ -1,4 +1,4 @@
-// Fumen texts that are cut at each digit, and lists of as many pages as may be read.
+// Fumen texts that are cut at each digit, and lists of the most pages that may be read.
 use std::process::Abort;
 use std::test::Fail;
 use worked_runs::asserts::{over, refused, writes};
@@ -12,7 +12,8 @@ enum Ends<'a> {
     Fault(&'a [u8]),
 }
 
-/// Asserts how `decode` ends for each text that is cut to its first digits: each step holds from so many digits on.
+/// Asserts how `decode` ends for every text that is cut after some digits. Each step holds from its number of digits
+/// on.
 fn cut(
     rt: &(impl AllocGlobal + Abort),
     digits: &[u8],
@@ -95,7 +96,7 @@ fn a_comment_without_its_length(rt: HostRuntime) -> Result<(), Fail> {
     )
 }
 
-/// The fumen of this many pages that are all unchanged.
+/// The fumen of this many pages, all unchanged.
 fn unchanged(rt: &impl AllocGlobal, pages: usize) -> Result<Vec<u8>, Fail> {
     let digits = b"ABCDEFGHIJKLMNOPQRSTUVWXYZabcdefghijklmnopqrstuvwxyz0123456789+/";
     let mut text = Vec::from_slice(rt.alloc(), b"v115@")?;
@@ -109,7 +110,7 @@ fn unchanged(rt: &impl AllocGlobal, pages: usize) -> Result<Vec<u8>, Fail> {
     Ok(text)
 }
 
-/// The lines of this many pages that are all unchanged.
+/// The lines of this many pages, all unchanged.
 fn unchanged_lines(rt: &impl AllocGlobal, pages: usize) -> Result<Vec<u8>, Fail> {
     let mut lines = Vec::new(rt.alloc());
     for page in 0..pages {

@@ -105,7 +105,7 @@ fn lists_that_are_refused(rt: HostRuntime) -> Result<(), Fail> {
     Ok(())
 }
 
-/// The line of a page with a comment of so many letters.
+/// The line of a page with a comment of this many letters.
 fn commented(rt: &impl AllocGlobal, letters: usize) -> Result<Vec<u8>, Fail> {
     let mut line = Vec::from_slice(rt.alloc(), b"| - --cl #")?;
     for _ in 0..letters {

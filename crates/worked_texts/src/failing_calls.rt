@@ -1,4 +1,4 @@
-// Reads and writes that fail, and sinks whose room is wanting.
+// Reads and writes that fail, and sinks without enough room.
 use pc_outside::{MemorySink, MemorySource};
 use std::process::Abort;
 use std::test::Fail;
@@ -9,8 +9,8 @@ const SQUARES: &str = "path --clear-line 2 --patterns OOOOO --hold avoid --rows 
 
 const FULL: &str = "path --rows XXXXXXXXXX --clear-line 1 --patterns I";
 
-/// A run over a source of these bytes, into an output of so much room of which these writes fail, where these writes of
-/// the fault's line fail.
+/// Runs a line over a source of these bytes. The output has this much room, and these of its writes fail, as do these
+/// writes of the fault's line.
 fn into(
     rt: &(impl AllocGlobal + Abort),
     line: &str,
@@ -35,7 +35,7 @@ fn into(
     )
 }
 
-/// Asserts that, whichever write of the output fails, the run ends with status 4 and a front of the whole output.
+/// Asserts that, whichever write of the output fails, the run ends with status 4 and a front part of the whole output.
 fn each_write_fails(rt: &(impl AllocGlobal + Abort), line: &str, text: &[u8]) -> Result<(), Fail> {
     let whole = over(rt, line, &[], text)?;
     assert_eq!(rt; whole.status.code(), 0);
@@ -54,7 +54,7 @@ fn each_write_fails(rt: &(impl AllocGlobal + Abort), line: &str, text: &[u8]) ->
     Err(Fail::from("a write fails at each number"))
 }
 
-/// Asserts that, whichever of so many reads of a byte fails, the run ends with status 3 and writes nothing.
+/// Asserts that, whichever of the first reads of one byte fails, the run ends with status 3 and writes nothing.
 fn each_read_fails(
     rt: &(impl AllocGlobal + Abort),
     line: &str,

@@ -1,4 +1,4 @@
-// Runs that are refused, with the line of the first fault.
+// Runs that are refused, each with the line of its first fault.
 use std::process::Abort;
 use std::test::Fail;
 use worked_runs::asserts::refused;

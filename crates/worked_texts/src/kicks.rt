@@ -1,4 +1,4 @@
-// Other tables of offsets: what they change for `path`, and what `kicks` writes of them.
+// Other tables of offsets: how they change `path`, and what `kicks` writes for them.
 use kick_file::{parse, print};
 use pc_outside::{MemorySource, Source};
 use std::process::Abort;
@@ -53,7 +53,7 @@ fn the_table_and_its_kicks(rt: HostRuntime) -> Result<(), Fail> {
     Ok(())
 }
 
-/// The first 28 lines, divided by `;`.
+/// The first 28 lines, separated by `;`.
 fn entries(rt: &impl AllocGlobal, output: &[u8]) -> Result<String, Fail> {
     let mut text = Vec::new(rt.alloc());
     for line in output.split(|byte| *byte == b'\n').take(28) {
@@ -127,7 +127,7 @@ fn a_faulty_table_leaves_the_source(rt: HostRuntime) -> Result<(), Fail> {
     Ok(())
 }
 
-/// A number of an offset, by what was drawn.
+/// A number of an offset, from what was drawn.
 fn number(drawn: u64) -> &'static [u8] {
     match drawn % 7 {
         0 => b"-3",
@@ -140,7 +140,7 @@ fn number(drawn: u64) -> &'static [u8] {
     }
 }
 
-/// The text of a table whose offsets follow from a number, as it is printed.
+/// The text of a table whose offsets depend on a number, as it is printed.
 fn table_text(rt: &impl AllocGlobal, seed: u64) -> Result<String, Fail> {
     let mut state = seed;
     let mut text = Vec::new(rt.alloc());
@@ -165,7 +165,7 @@ fn table_text(rt: &impl AllocGlobal, seed: u64) -> Result<String, Fail> {
     Ok(String::from_utf8(text).ok().ok_or("no text")?)
 }
 
-/// Asserts that the tables of 2,500 numbers from this one on are printed as they were read.
+/// Asserts that the tables of 2,500 numbers, from this one on, are printed as they were read.
 fn printed_as_read(rt: &(impl AllocGlobal + Abort), first: u64) -> Result<(), Fail> {
     for number in 0..2_500 {
         let text = table_text(rt, first.wrapping_add(number))?;

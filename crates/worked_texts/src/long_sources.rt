@@ -1,11 +1,11 @@
-// Sources of as many bytes as may be read, and of one byte more.
+// Sources of the most bytes that may be read, and of one byte more.
 use std::process::Abort;
 use std::test::Fail;
 use worked_runs::asserts::over;
 
 const MOST: usize = 4_194_304;
 
-/// A text that is filled up with this byte to so many bytes.
+/// A text that is filled up with this byte to a length.
 fn filled(rt: &impl AllocGlobal, text: &[u8], byte: u8, length: usize) -> Result<Vec<u8>, Fail> {
     let mut whole = Vec::from_slice(rt.alloc(), text)?;
     for _ in text.len()..length {
@@ -14,8 +14,8 @@ fn filled(rt: &impl AllocGlobal, text: &[u8], byte: u8, length: usize) -> Result
     Ok(whole)
 }
 
-/// Asserts how a command ends over a text that is filled up with this byte to as many bytes as may be read, and that
-/// one byte more is too many, of whatever text.
+/// Asserts how a command ends for a text that is filled up with this byte to the most bytes that may be read, and that
+/// one byte more is too many, whatever the text.
 fn reads(
     rt: &(impl AllocGlobal + Abort),
     line: &str,

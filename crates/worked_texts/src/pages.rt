@@ -5,7 +5,7 @@ use std::test::Fail;
 use worked_runs::asserts::{over, refused, writes};
 use worked_runs::{Outcome, run_words};
 
-/// Runs `decode` over a source that gives byte by byte.
+/// Runs `decode` over a source that gives one byte at a time.
 fn slowly(rt: &(impl AllocGlobal + Abort), text: &[u8]) -> Result<Outcome, Fail> {
     let bytes = Vec::from_slice(rt.alloc(), text)?;
     let source = MemorySource::new(bytes, Vec::new(rt.alloc())).with_piece(1);
@@ -16,7 +16,7 @@ fn slowly(rt: &(impl AllocGlobal + Abort), text: &[u8]) -> Result<Outcome, Fail>
     )
 }
 
-/// Asserts what `decode` writes, also where the source gives byte by byte.
+/// Asserts what `decode` writes, also for a source that gives one byte at a time.
 fn decodes(rt: &(impl AllocGlobal + Abort), text: &[u8], output: &[u8]) -> Result<(), Fail> {
     writes(rt, "decode", text, output)?;
     let same = slowly(rt, text)?;

@@ -1,4 +1,4 @@
-// Sources that give few bytes at a time: how a run ends doesn't depend on it.
+// Sources that give few bytes at a time: that doesn't change how a run ends.
 ghost use Rattle.std.specs.Prelude.{◌≤◌};
 
 use pc_outside::MemorySource;
@@ -7,7 +7,7 @@ use std::test::Fail;
 use worked_runs::asserts::over;
 use worked_runs::{Outcome, run_words};
 
-/// Asserts that a run over a text ends like another one where each read moves at most so many bytes.
+/// Asserts that a run over a text ends like another one if each read moves at most `piece` bytes.
 fn ends_like(
     rt: &(impl AllocGlobal + Abort),
     line: &str,
