@@ -106,7 +106,7 @@ pub fn read_comment(
 ) -> Result<(Comment, usize), Refused<CommentFault>>
     requires { place ≤ length digits.now }
 
-    // What reading from the left gives.
+    // The result of reading from the left.
     ensures exact { Gives (λ x. x) comment_fault result (comment_at digits.now place) }
 
     // The place behind it is among the digits, or at their end.
@@ -117,13 +117,13 @@ pub fn read_comment(
     ensures only { (units : List ℕ) (end : ℕ) → CommentStands digits.now place units end →
         Gives (λ x. x) comment_fault result (Ok (units, end)) }
 
-    // A fault is the first one there, and the first one there is answered, unless memory runs out.
+    // A fault is the first one there, and the first one there is returned, unless memory runs out.
     ensures fault { (f : CommentFault) → result ≡ Err (Refused.Fault f) →
         IsCommentFault digits.now place (comment_fault f) }
     ensures fault_only { (f : CommentFault) → IsCommentFault digits.now place (comment_fault f) →
         Gives (λ x. x) comment_fault result (Err (comment_fault f)) }
 
-    // Want of memory is answered neither for an empty comment nor in place of a fault of the length or the first group.
+    // Memory cannot run out for an empty comment, nor before a fault of the length or the first group is found.
     ensures memory { result ≡ Err Refused.NoMemory → HasGroup digits.now place }
 {
     read_part(alloc, digits, place)

@@ -16,7 +16,7 @@ use std::alloc::Global;
 pub fn digits_of(alloc: Global, text: &[u8]) -> Result<Option<(Dialect, Vec<u8>)>, NoMemory>
     ensures found { IfOk result (λ found. option_map (λ x. (x.0, x.1.items)) found ≡ digits_in text.now) }
 
-    // Want of memory is not answered for a text without a prefix.
+    // Memory cannot run out for a text without a prefix.
     ensures none { (result ≡ Ok None) ↔ (digits_in text.now ≡ None) }
 {
     for place in 0..text.len() {

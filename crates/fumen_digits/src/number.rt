@@ -54,14 +54,14 @@ pub fn read_number(digits: &[u8], place: usize, count: u8) -> Result<u32, DigitF
     requires place { place ≤ length digits.now }
     requires most { count ≤ 5 }
 
-    // What reading from the left gives.
+    // The result of reading from the left.
     ensures exact { Reads (λ n. n) digit_fault result (number_at digits.now place count) }
 
-    // Its digits are there, and it fits them.
+    // All its digits are there, and it fits them.
     ensures within { IfOk result (λ _. place + count ≤ length digits.now) }
     ensures below { IfOk result (λ n. n < 64 ^ count) }
 
-    // The number that stands there, or the first fault there.
+    // It is the number that stands there, or the first fault there.
     ensures found { (n : ℕ) → (result ≡ Ok n) ↔ NumberStands digits.now place count n }
     ensures fault { (f : DigitFault) → (result ≡ Err f) ↔ IsNumberFault digits.now place count (digit_fault f) }
 {

@@ -45,10 +45,10 @@ pub enum ActionFault {
 
 /// What a number stands for: the operation and the flags of a page, and whether a comment follows.
 pub fn read_action(dialect: Dialect, number: u32) -> Result<Action, ActionFault>
-    // What its parts give.
+    // The result from the number's parts.
     ensures exact { result ≡ action_in dialect number }
 
-    // The action that the number says, or why it says none.
+    // It is the action that the number stands for, or why it stands for none.
     ensures found { (action : Action) → (result ≡ Ok action) ↔ SaysAction dialect number action }
     ensures too_large { (result ≡ Err ActionFault.TooLarge) ↔ (action_end dialect ≤ number) }
     ensures outside { (result ≡ Err ActionFault.Outside) ↔ SaysOutside dialect number }

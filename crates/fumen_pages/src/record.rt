@@ -66,14 +66,14 @@ pub fn read_cells(
     requires place { place ≤ length digits.now }
     requires old { AreCells dialect old.now }
 
-    // What reading from the left gives.
+    // The result of reading from the left.
     ensures exact { Reads (λ read. read) cells_fault result (record_at dialect digits.now place old.now) }
 
-    // The place behind it is among the digits, or at their end, and the cells may be a page's.
+    // The place behind it is among the digits, or at their end, and the cells are valid for a page.
     ensures within { IfOk result (λ read. read.place ≤ length digits.now) }
     ensures sound { IfOk result (λ read. AreCells dialect read.cells) }
 
-    // The record that stands there, or the first fault there.
+    // It is the record that stands there, or the first fault there.
     ensures found { (read : CellsRead) → (result ≡ Ok read) ↔ RecordStands dialect digits.now place old.now read }
     ensures fault { (f : CellsFault) → (result ≡ Err f)
         ↔ IsRecordFault dialect digits.now place old.now (cells_fault f) }

@@ -31,7 +31,7 @@ pub fn read_page(
 ) -> Result<(Page, usize), Refused<FumenFault>>
     requires { place ≤ length digits.now }
 
-    // What reading from the left gives.
+    // The result of reading from the left.
     ensures exact { Gives (λ x. x) (λ f. f) result (page_at dialect cells.now page digits.now place) }
 
     // The place behind it is among the digits, or at their end, and its operation lies inside.
@@ -44,14 +44,13 @@ pub fn read_page(
     ensures only { (read : Page) (end : ℕ) → read.cells ≡ cells.now → TailStands dialect digits.now place read end →
         Gives (λ x. x) (λ f. f) result (Ok (read, end)) }
 
-    // A fault is the first one there, and the first one there is answered, unless memory runs out.
+    // A fault is the first one there, and the first one there is returned, unless memory runs out.
     ensures fault { (f : FumenFault) → result ≡ Err (Refused.Fault f) →
         IsTailFault dialect page digits.now place f }
     ensures fault_only { (f : FumenFault) → IsTailFault dialect page digits.now place f →
         Gives (λ x. x) (λ f. f) result (Err f) }
 
-    // Want of memory is answered neither for a page without a comment nor in place of a fault up to the first group of
-    // the comment.
+    // Memory cannot run out for a page without a comment, nor before a fault up to the comment's first group is found.
     ensures memory { result ≡ Err Refused.NoMemory →
         IsCommentDue dialect digits.now place × HasGroup digits.now (place + 3) }
 {

@@ -23,20 +23,20 @@ use std::alloc::Global;
 /// are promised, its action, and its comment. A refusal is the first fault from the left. A text without digits has no
 /// pages. No text has more than 10,000.
 pub fn decode(alloc: Global, text: &[u8]) -> Result<(Dialect, Vec<Page>), Refused<FumenFault>>
-    // What reading from the left gives.
+    // The result of reading from the left.
     ensures exact { Gives (λ x. (x.0, x.1.items)) (λ f. f) result (text_pages text.now) }
 
-    // The text reads as these pages, and the pages that it reads as are answered, unless memory runs out.
+    // The text reads as these pages, and the pages that it reads as are returned, unless memory runs out.
     ensures found { IfOk result (λ x. ReadsAs text.now x.0 x.1.items) }
     ensures only { (dialect : Dialect) (pages : List Page) → ReadsAs text.now dialect pages →
         Gives {Y = Dialect × List Page} (λ x. (x.0, x.1.items)) (λ f. f) result (Ok (dialect, pages)) }
 
-    // A fault is that of the text, and the fault of the text is answered, unless memory runs out.
+    // A fault is the text's fault, and the text's fault is returned, unless memory runs out.
     ensures fault { (f : FumenFault) → result ≡ Err (Refused.Fault f) → IsTextFault text.now f }
     ensures fault_only { (f : FumenFault) → IsTextFault text.now f →
         Gives {Y = Dialect × List Page} (λ x. (x.0, x.1.items)) (λ f. f) result (Err f) }
 
-    // Want of memory is not answered for a text without a prefix.
+    // Memory cannot run out for a text without a prefix.
     ensures memory { result ≡ Err Refused.NoMemory → digits_in text.now ≢ None }
 {
     read_text(alloc, text)

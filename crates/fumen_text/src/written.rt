@@ -34,11 +34,11 @@ pub fn encode(
     // A refusal is the first fault, and pages with a fault are refused, unless memory runs out.
     ensures fault { IsRefusedBy result (list_encode_fault dialect pages.now) }
 
-    // The text that is written for these pages, and it reads as them.
+    // It is the text that is written for these pages, and it reads as them.
     ensures text { IfOk result (λ text. text.items ≡ written dialect pages.now) }
     ensures reads { IfOk result (λ text. ReadsAs text.items dialect pages.now) }
 
-    // Want of memory is not answered in place of a fault that is found before any comment is escaped.
+    // Memory cannot run out before a fault that is found without escaping a comment.
     ensures memory { result ≡ Err Refused.NoMemory → (f : EncodeFault) →
         list_encode_fault dialect pages.now ≡ Some f → IsFoundFirst pages.now f → ⊥ }
 {

@@ -64,20 +64,20 @@ fn page_at(alloc: Global, number: u32, line: &[u8]) -> Result<Page, Refused<List
 /// A newline ends each line; the last one needs none. One `\r` directly before a newline is dropped. Empty rows at the
 /// top, up to 23 rows in all, and an empty garbage row may be written out.
 pub fn parse(alloc: Global, text: &[u8]) -> Result<Vec<Page>, Refused<ListFault>>
-    // What reading line by line gives.
+    // The result of reading line by line.
     ensures exact { Gives (λ pages. pages.items) (λ fault. fault) result (pages_in text.now) }
 
-    // The text spells the pages that are answered, and those that it spells are answered, unless memory runs out.
+    // The text spells the returned pages, and the pages that it spells are returned, unless memory runs out.
     ensures found { IfOk result (λ pages. SpellsPages text.now pages.items) }
     ensures only { (pages : List Page) → SpellsPages text.now pages →
         Gives (λ pages. pages.items) (λ fault. fault) result (Ok pages) }
 
-    // The same of the fault.
+    // The same for the fault.
     ensures fault { (f : ListFault) → result ≡ Err (Refused.Fault f) → IsListFault text.now f }
     ensures fault_only { (f : ListFault) → IsListFault text.now f →
         Gives (λ pages. pages.items) (λ fault. fault) result (Err f) }
 
-    // Want of memory is answered neither for an empty text nor in place of a fault of the first line.
+    // Memory cannot run out for an empty text, nor before a fault of the first line is found.
     ensures memory { result ≡ Err Refused.NoMemory →
         (text.now ≢ []) × ((f : ListFault) → IsListFault text.now f → 1 < f.line) }
 {

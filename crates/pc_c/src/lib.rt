@@ -81,7 +81,7 @@ pub extern "C" fn voidosier_run(
     ensures out_rest { drop out_length.new out.new ≡ drop out_length.new out.old }
     ensures err_within { err_length.new ≤ length err.new }
     ensures err_rest { drop err_length.new err.new ≡ drop err_length.new err.old }
-    // What each status says.
+    // What each status means.
     ensures done { (texts : List (List ℕ)) → SpellsWords words.now texts → result ≡ 0
         → let task = task_of texts in WritesOutput task (seen task input.now) (take out_length.new out.new) }
     ensures faulty { (texts : List (List ℕ)) → SpellsWords words.now texts → result ≡ 2

@@ -25,7 +25,7 @@ pub(crate) trait Slot {
     // The name of the slice's borrow.
     ghost name: { ℕ };
 
-    // The bytes of the slice before.
+    // The bytes of the slice before the call.
     ghost before: { List ℕ };
 }
 

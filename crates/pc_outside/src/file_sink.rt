@@ -74,7 +74,7 @@ impl<W: Write> Sink for FileSink<W> {
         ensures written { WritesAll None None result bytes.now }
         ensures cause { HasCause true self.old.faults self.new.faults result }
 
-        // The count rises at a fault alone, and all bytes are passed on.
+        // The count rises only at a fault, and all bytes are passed on.
         ensures counted { self.new.faults ≡ (if is_ok result then self.old.faults else next_count self.old.faults) }
         ensures passed { WritesAll (W.contents self.old.inner) (W.contents self.new.inner) result bytes.now }
         ensures empty { bytes.now ≡ [] → IsOk result × (self.new ≡ self.old) }

@@ -48,7 +48,7 @@ impl<R: Read> Source for FileSource<R> {
         ensures moved { IfOk result (Moves None None buf.old buf.new) }
         ensures cause { HasCause true self.old.faults self.new.faults result }
 
-        // The count rises at an error alone, and what the reader gives is passed on.
+        // The count rises only at an error, and everything that the reader gives is passed on.
         ensures counted { self.new.faults ≡ (if is_ok result then self.old.faults else next_count self.old.faults) }
         ensures passed { ReadConsumes (R.remaining self.old.inner) (R.remaining self.new.inner) result buf.new }
         ensures empty { buf.old ≡ [] → (result ≡ Ok 0) × (self.new ≡ self.old) }

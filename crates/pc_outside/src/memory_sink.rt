@@ -106,14 +106,14 @@ impl Sink for MemorySink {
           bytes = self.old.bytes ++ bytes.now;
           calls = next_count self.old.calls;
         }) }
-        // A listed write appends the half that comes first, as far as it fits.
+        // A listed write appends its first half, as far as it fits.
         ensures listed { Contains self.old.failing (next_count self.old.calls)
             → OnErr result (self.new ≡ record self.old {
               bytes = self.old.bytes ++ front_with_room self.old (length bytes.now / 2) bytes.now;
               calls = next_count self.old.calls;
               faults = next_count self.old.faults;
             }) }
-        // One for which room is wanting appends what fits.
+        // A write that doesn't fit appends what fits.
         ensures full { (Contains self.old.failing (next_count self.old.calls) → ⊥)
             → OnErr result (self.new ≡ record self.old {
               bytes = self.old.bytes ++ front_with_room self.old (length bytes.now) bytes.now;

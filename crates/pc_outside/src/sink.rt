@@ -7,13 +7,13 @@ use crate::Failed;
 
 /// Something that bytes are written to. A write may fail.
 pub trait Sink {
-    // The bytes that the sink holds, where it tells them.
+    // The bytes that the sink holds, if it tells them.
     ghost written: { Self → Option (List ℕ) };
 
     // How many faults there were.
     ghost faults: { Self → ℕ };
 
-    // Whether failed writes alone are counted. Of a sink that counts other faults too, as a write that it tried again,
+    // Whether only failed writes are counted. If a sink also counts other faults, such as a write that it tried again,
     // a write may raise the count and succeed.
     ghost counts_failures_alone: { Bool } = { false };
 

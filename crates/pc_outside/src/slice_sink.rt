@@ -69,7 +69,7 @@ impl Sink for SliceSink<'_> {
           bytes = (sink_view self.old).bytes ++ bytes.now;
           rest = drop (length bytes.now) (sink_view self.old).rest;
         }) }
-        // One for which room is wanting appends what fits.
+        // A write that doesn't fit appends what fits.
         ensures full { OnErr result (sink_view self.new ≡ record (sink_view self.old) {
           bytes = (sink_view self.old).bytes ++ take (length (sink_view self.old).rest) bytes.now;
           rest = [];

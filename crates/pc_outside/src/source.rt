@@ -7,13 +7,13 @@ use crate::Failed;
 
 /// Something that bytes are read from. A read may fail.
 pub trait Source {
-    // The bytes still to come, where the source tells them.
+    // The bytes still to come, if the source tells them.
     ghost left: { Self → Option (List ℕ) };
 
     // How many faults there were.
     ghost faults: { Self → ℕ };
 
-    // Whether failed reads alone are counted. Of a source that counts other faults too, as a read that it tried again,
+    // Whether only failed reads are counted. If a source also counts other faults, such as a read that it tried again,
     // a read may raise the count and succeed.
     ghost counts_failures_alone: { Bool } = { false };
 
