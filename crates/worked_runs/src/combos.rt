@@ -1,5 +1,5 @@
 // Runs of `combo`: the longest run of placements that each remove a row.
-use crate::asserts::{lists, refused, writes};
+use run_outcomes::asserts::{lists, refused, writes};
 use std::test::Fail;
 
 const ONE_ROW: &str = "combo --rows XXXXXX____ --patterns";

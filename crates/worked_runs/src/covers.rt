@@ -1,5 +1,5 @@
 // Runs of `cover`: which queues given sequences cover.
-use crate::asserts::{over, refused, writes};
+use run_outcomes::asserts::{over, refused, writes};
 use std::process::Abort;
 use std::test::Fail;
 

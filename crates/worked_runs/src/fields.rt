@@ -1,6 +1,6 @@
 // Runs of `path` whose field is a page of a fumen text.
-use crate::asserts::{lists, over, refused, writes};
 use pc_outside::Source;
+use run_outcomes::asserts::{lists, over, refused, writes};
 use std::process::Abort;
 use std::test::Fail;
 

@@ -1,5 +1,5 @@
 // Solutions as fumen texts and as grids.
-use crate::asserts::{lists, over};
+use run_outcomes::asserts::{lists, over};
 use std::test::Fail;
 
 const ONE: &str = "path --rows XXXXXX____ --clear-line 1 --patterns I --hold avoid --format";

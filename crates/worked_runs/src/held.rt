@@ -1,5 +1,5 @@
 // A piece that is held at the start, and up to eight rows.
-use crate::asserts::{lists, refused};
+use run_outcomes::asserts::{lists, refused};
 use std::test::Fail;
 
 const ONE_ROW: &str = "path --rows XXXXXX____ --clear-line 1 --patterns";

@@ -1,5 +1,5 @@
 // Runs with keys: each placement is followed by its least key word.
-use crate::asserts::lists;
+use run_outcomes::asserts::lists;
 use std::test::Fail;
 
 #[test]

@@ -1,8 +1,8 @@
 // A sink that has failed is left alone. A sink that counts more than its failures is written to like any other.
 ghost use Rattle.std.specs.Prelude.{None};
 
-use crate::{counted, words_of};
 use pc_outside::{Failed, MemorySink, MemorySource, Sink};
+use run_outcomes::{counted, words_of};
 use std::marker::Brand;
 use std::process::Abort;
 use std::sync::ledger::Blank;

@@ -1,5 +1,5 @@
 // Long lists: their limit, and resuming after a sequence.
-use crate::asserts::over;
+use run_outcomes::asserts::over;
 use std::process::Abort;
 use std::test::Fail;
 

@@ -1,5 +1,5 @@
 // Runs of `percent`: how many queues have a perfect clear, and which have none.
-use crate::asserts::{lists, over, refused, writes};
+use run_outcomes::asserts::{lists, over, refused, writes};
 use std::process::Abort;
 use std::test::Fail;
 

@@ -1,5 +1,5 @@
 // Values at the ends of their ranges: heights, limits, comments, actions, and lines of digits.
-use crate::asserts::{lists, over, refused, writes};
+use run_outcomes::asserts::{lists, over, refused, writes};
 use std::process::Abort;
 use std::test::Fail;
 

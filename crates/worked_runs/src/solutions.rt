@@ -1,5 +1,5 @@
 // Runs that end, with the sequences that they list.
-use crate::asserts::lists;
+use run_outcomes::asserts::lists;
 use std::test::Fail;
 
 #[test]

@@ -1,5 +1,5 @@
 // Runs of `path` with the number of floods after the report.
-use crate::asserts::{lists, over};
+use run_outcomes::asserts::{lists, over};
 use std::process::Abort;
 use std::test::Fail;
 

@@ -1,7 +1,7 @@
 // Fumen texts that are cut at each digit, and lists of the most pages that may be read.
+use run_outcomes::asserts::{over, refused, writes};
 use std::process::Abort;
 use std::test::Fail;
-use worked_runs::asserts::{over, refused, writes};
 
 /// How `decode` of a text ends.
 #[derive(Clone, Copy)]

@@ -1,7 +1,7 @@
 // Runs of `encode`, which reads the lines of pages from the source.
+use run_outcomes::asserts::{over, refused, writes};
 use std::process::Abort;
 use std::test::Fail;
-use worked_runs::asserts::{over, refused, writes};
 
 /// Asserts that `encode` writes this text for these lines, and that `decode` gives the lines back.
 fn both_ways(

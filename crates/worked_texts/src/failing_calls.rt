@@ -1,9 +1,9 @@
 // Reads and writes that fail, and sinks without enough room.
 use pc_outside::{MemorySink, MemorySource};
+use run_outcomes::asserts::over;
+use run_outcomes::{Outcome, run_into, run_words};
 use std::process::Abort;
 use std::test::Fail;
-use worked_runs::asserts::over;
-use worked_runs::{Outcome, run_into, run_words};
 
 const SQUARES: &str = "path --clear-line 2 --patterns OOOOO --hold avoid --rows __________";
 

@@ -1,7 +1,7 @@
 // Runs that are refused, each with the line of its first fault.
+use run_outcomes::asserts::refused;
 use std::process::Abort;
 use std::test::Fail;
-use worked_runs::asserts::refused;
 
 /// The same for words without blanks, over an empty source.
 fn fault(rt: &(impl AllocGlobal + Abort), line: &str, fault: &[u8]) -> Result<(), Fail> {

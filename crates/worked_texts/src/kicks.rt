@@ -1,10 +1,10 @@
 // Other tables of offsets: how they change `path`, and what `kicks` writes for them.
 use kick_file::{parse, print};
 use pc_outside::{MemorySource, Source};
+use run_outcomes::asserts::{lists, over, refused};
+use run_outcomes::run_words;
 use std::process::Abort;
 use std::test::Fail;
-use worked_runs::asserts::{lists, over, refused};
-use worked_runs::run_words;
 
 const TWO_ROWS: &str = "path --rows XXXXXX____/XXXXXX____ --clear-line 2 --patterns LL";
 

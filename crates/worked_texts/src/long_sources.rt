@@ -1,7 +1,7 @@
 // Sources of the most bytes that may be read, and of one byte more.
+use run_outcomes::asserts::over;
 use std::process::Abort;
 use std::test::Fail;
-use worked_runs::asserts::over;
 
 const MOST: usize = 4_194_304;
 

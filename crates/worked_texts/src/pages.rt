@@ -1,9 +1,9 @@
 // Runs of `decode` and `show`, which read the source.
 use pc_outside::MemorySource;
+use run_outcomes::asserts::{over, refused, writes};
+use run_outcomes::{Outcome, run_words};
 use std::process::Abort;
 use std::test::Fail;
-use worked_runs::asserts::{over, refused, writes};
-use worked_runs::{Outcome, run_words};
 
 /// Runs `decode` over a source that gives one byte at a time.
 fn slowly(rt: &(impl AllocGlobal + Abort), text: &[u8]) -> Result<Outcome, Fail> {

@@ -2,10 +2,10 @@
 ghost use Rattle.std.specs.Prelude.{◌≤◌};
 
 use pc_outside::MemorySource;
+use run_outcomes::asserts::over;
+use run_outcomes::{Outcome, run_words};
 use std::process::Abort;
 use std::test::Fail;
-use worked_runs::asserts::over;
-use worked_runs::{Outcome, run_words};
 
 /// Asserts that a run over a text ends like another one if each read moves at most `piece` bytes.
 fn ends_like(

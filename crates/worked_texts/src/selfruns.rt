@@ -2,8 +2,8 @@
 use fumen_digits::Dialect;
 use fumen_text::{decode, encode};
 use pc_app::sample_pages;
+use run_outcomes::asserts::{lists, over, refused};
 use std::test::Fail;
-use worked_runs::asserts::{lists, over, refused};
 
 #[test]
 fn pages_are_read_again(rt: HostRuntime) -> Result<(), Fail> {
