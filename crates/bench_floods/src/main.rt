@@ -1,7 +1,5 @@
 // Floods fields as often as the first argument says, and prints a checksum of the placements. Without more arguments it
-// floods three fixed fields with either drop mode. Further arguments are `ragged` or `played` fields, their number of
-// rows, `soft` or `hard`, and what is done with each flood: `first` looks at one placement, `list` takes all, and
-// `rules` looks at one by the call that tests the table first.
+// floods three fixed fields with either drop mode; `task_of` says what further arguments ask for.
 #![tactic(auto)]
 
 ghost use Rattle.std.specs.Prelude.{◌≡◌, ◌<◌, ◌≤◌};
@@ -51,7 +49,9 @@ fn main(rt: HostRuntime) -> io::Result<()> {
     println!(rt; "{sum}")
 }
 
-/// What the words ask for.
+/// What the words after the number of rounds ask for: `ragged` or `played` fields, their number of rows, `soft` or
+/// `hard`, and what is done with each flood. `first` looks at one placement, `list` takes all, and `rules` looks at one
+/// by the call that tests the table first.
 fn task_of(words: &Vec<String>) -> Task {
     Task {
         rounds: number(words.first()),
