@@ -1,0 +1,6 @@
+-- Lemmas of this crate.
+mod TakenPlaces
+mod SecondPieces
+mod ListedSolutions
+mod FailedQueues
+mod FirstPlacement
