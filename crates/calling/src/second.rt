@@ -21,8 +21,7 @@ fn permits_both(start: &QueueSet, first: Piece, second: Piece) -> bool
     start.after(first).may_play(second)
 }
 
-/// Whether a piece may be the second that is played: some queue of the pattern permits it behind some other first piece
-/// or one of its own kind.
+/// Whether a piece may be the second that is played: some queue of the pattern permits some first piece followed by it.
 pub fn may_come_second(pattern: &Pattern, hold: Hold, held: Option<Piece>, piece: Piece) -> bool
     ensures { IsTrue result ↔ ((first : Piece)
         × SomePermits hold (queues (elements_of pattern.now)) held (first ∷ piece ∷ [])) }
