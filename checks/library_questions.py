@@ -46,7 +46,7 @@ def wrote(words, given=""):
     return program([word.encode() for word in words], given.encode())[1].decode()
 
 
-Call = collections.namedtuple("Call", "status output fault")
+Call = collections.namedtuple("Call", "status output fault floods")
 
 
 class Library:
@@ -56,16 +56,16 @@ class Library:
         size, number = ctypes.c_size_t, ctypes.POINTER(ctypes.c_size_t)
         self.run = ctypes.CDLL(path).voidosier_run
         self.run.argtypes = [ctypes.c_void_p, size, ctypes.c_void_p, size, ctypes.c_void_p, size, number,
-                             ctypes.c_void_p, size, number]
+                             ctypes.c_void_p, size, number, ctypes.POINTER(ctypes.c_uint64)]
         self.run.restype = ctypes.c_uint8
 
     def call(self, text, given, room, fault_room=FAULT_ROOM, filling=b"\xa5"):
         edge = 32
         buffers = [ctypes.create_string_buffer(filling * (room + 2 * edge)) for room in (room, fault_room)]
         texts = [ctypes.create_string_buffer(text), ctypes.create_string_buffer(given)]
-        length, fault_length = ctypes.c_size_t(2 ** 60), ctypes.c_size_t(2 ** 60)
+        length, fault_length, floods = ctypes.c_size_t(2 ** 60), ctypes.c_size_t(2 ** 60), ctypes.c_uint64(2 ** 60)
         status = self.run(texts[0], len(text), texts[1], len(given), ctypes.byref(buffers[0], edge), room, length,
-                          ctypes.byref(buffers[1], edge), fault_room, fault_length)
+                          ctypes.byref(buffers[1], edge), fault_room, fault_length, floods)
         written = []
         for buffer, room, count in zip(buffers, (room, fault_room), (length.value, fault_length.value)):
             if count > room:
@@ -74,7 +74,7 @@ class Library:
             same((seen[:edge], seen[edge + count:].strip(filling)), (filling * edge, b""), "bytes that are left alone")
             written.append(seen[edge:edge + count])
         same((texts[0].raw[:-1], texts[1].raw[:-1]), (text, given), "the words and the input behind a call")
-        return Call(status, *written)
+        return Call(status, *written, floods.value)
 
 
 def compare(library, words, given=b"", draw=None):
@@ -89,6 +89,10 @@ def compare(library, words, given=b"", draw=None):
         same(found[:3], (NO_ROOM, output[:room], b""), f"a room of {room}")
         return found
     same(found[:3], (status, output, fault[:fault_room]), f"rooms of {room} and {fault_room}")
+    if status != DONE:
+        same(found.floods, 0, "floods")
+    elif output.splitlines()[-1:] and output.splitlines()[-1].startswith(b"floods "):
+        same(found.floods, int(output.split()[-1]), "floods")
     return found
 
 

@@ -61,23 +61,26 @@ enum {
  *   err         is given the line of a fault, which the program writes to standard error, or the first err_room bytes
  *               of it. VOIDOSIER_FAULT_ROOM bytes are enough for each line.
  *   err_length  is given how many bytes of err were written. Those behind them are as they were.
+ *   floods      is given how many floods the call made, the number that the program tells by `path --stats yes`. A
+ *               flood finds all places of one piece in one field, so their number measures the work.
  *
- * No text that is written ends with a NUL byte. Both numbers are written whatever the status. It is one of:
+ * No text that is written ends with a NUL byte. The three numbers are written whatever the status. It is one of:
  *
  *   VOIDOSIER_DONE       out has exactly what the program writes, and err nothing.
- *   VOIDOSIER_FAULT      err has the line of the first fault, "input: ..\n", and out nothing.
+ *   VOIDOSIER_FAULT      err has the line of the first fault, "input: ..\n", and out nothing. No flood was made.
  *   VOIDOSIER_NO_ROOM    out has the first out_room bytes of what the program writes, which are not all, and err
  *                        nothing. A call with more room begins anew, so ask for a long list in parts, by --limit and
  *                        --after.
  *   VOIDOSIER_NO_MEMORY  out has the first bytes of what the program writes, mostly none at all, and err nothing.
- *   VOIDOSIER_NO_WORDS   out and err have nothing.
+ *   VOIDOSIER_NO_WORDS   out and err have nothing. No flood was made.
  *
  * A call can take long, and can't be stopped. --limit bounds a list.
  */
 uint8_t voidosier_run(const char *words, size_t words_size,
                       const char *input, size_t input_size,
                       char *out, size_t out_room, size_t *out_length,
-                      char *err, size_t err_room, size_t *err_length);
+                      char *err, size_t err_room, size_t *err_length,
+                      uint64_t *floods);
 
 #ifdef __cplusplus
 }

@@ -252,6 +252,22 @@ build() {
     say "proved and built in $(((SECONDS - start) / 60)) min $(((SECONDS - start) % 60)) s"
 }
 
+# Makes the C library in a folder. Where a tool that this takes is missing, it says so, and the folder stays empty.
+make_library() {
+    local status=0 signal
+    for signal in INT TERM HUP; do
+        # shellcheck disable=SC2064
+        trap "interrupted $signal" "$signal"
+    done
+    "$here/scripts/library" "$1" &
+    child=$!
+    wait "$child" || status=$?
+    child=
+    trap - INT TERM HUP
+    ((status != 3)) || say "so the C library is left out"
+    ((status == 0 || status == 3))
+}
+
 # Notes that the program was proved and built, from sources with this sum.
 note_built() { printf 'kit %s\nsources %s\n' "$(kit)" "$1" >"$built"; }
 

@@ -3,7 +3,7 @@
  *
  *     cc -std=c99 -o ask ask.c $(pkg-config --cflags --libs voidosier)
  *
- * Before an answer stands a line with its status, and the bytes of the answer and of the line of a fault.
+ * Before an answer stands a line with its status, the bytes of the answer and of the line of a fault, and the floods.
  */
 #include <stdio.h>
 #include <stdlib.h>
@@ -33,13 +33,15 @@ static const struct question questions[] = {
 static int ask(const struct question *asked, size_t room) {
     char fault[VOIDOSIER_FAULT_ROOM];
     size_t length, fault_length;
+    uint64_t floods;
     char *answer = malloc(room);
     int status;
 
     if (answer == NULL) return VOIDOSIER_NO_MEMORY;
     status = voidosier_run(asked->words, asked->words_size, asked->input, asked->input_size,
-                           answer, room, &length, fault, sizeof fault, &fault_length);
-    printf("%s: status %d, %zu bytes, fault of %zu bytes\n", asked->name, status, length, fault_length);
+                           answer, room, &length, fault, sizeof fault, &fault_length, &floods);
+    printf("%s: status %d, %zu bytes, fault of %zu bytes, floods %llu\n",
+           asked->name, status, length, fault_length, (unsigned long long)floods);
     fwrite(answer, 1, length, stdout);
     fwrite(fault, 1, fault_length, stdout);
     if (status == VOIDOSIER_NO_ROOM) putchar('\n');

@@ -20,10 +20,11 @@ struct question {
     size_t words_size;
     char answer[ROOM], other[ROOM];
     size_t length;
+    uint64_t floods;
     int status, differ;
 };
 
-#define QUESTION(words) {words, sizeof words, "", "", 0, 0, 0}
+#define QUESTION(words) {words, sizeof words, "", "", 0, 0, 0, 0}
 
 static struct question questions[THREADS] = {
     QUESTION("path" FIELD "*p4\0--limit\0" "20\0--keys\0yes"),
@@ -32,23 +33,24 @@ static struct question questions[THREADS] = {
     QUESTION("selfrun\0--number\0" "0\0--pages\0" "9"),
 };
 
-static int ask(const struct question *asked, char *answer, size_t *length) {
+static int ask(const struct question *asked, char *answer, size_t *length, uint64_t *floods) {
     char fault[VOIDOSIER_FAULT_ROOM];
     size_t fault_length;
 
     return voidosier_run(asked->words, asked->words_size, "", 0, answer, ROOM, length,
-                         fault, sizeof fault, &fault_length);
+                         fault, sizeof fault, &fault_length, floods);
 }
 
 static void *ask_often(void *at) {
     struct question *asked = at;
     size_t length;
+    uint64_t floods;
     int time;
 
-    asked->status = ask(asked, asked->answer, &asked->length);
+    asked->status = ask(asked, asked->answer, &asked->length, &asked->floods);
     for (time = 1; time < TIMES; time++) {
-        int status = ask(asked, asked->other, &length);
-        int same = status == asked->status && length == asked->length;
+        int status = ask(asked, asked->other, &length, &floods);
+        int same = status == asked->status && length == asked->length && floods == asked->floods;
         if (!same || memcmp(asked->other, asked->answer, length) != 0) asked->differ++;
     }
     return NULL;

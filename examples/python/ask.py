@@ -4,7 +4,7 @@
     examples/python/ask.py [LIBRARY]
 
 LIBRARY is the file of the library: libvoidosier.so, as the loader finds it, if none is named. Before an answer stands
-a line with its status, and the bytes of the answer and of the line of a fault.
+a line with its status, the bytes of the answer and of the line of a fault, and the floods.
 """
 import sys
 
@@ -22,7 +22,7 @@ LONG_LIST = ["path", *OPENER, "--patterns", "*p4"]
 
 def shown(name, answer):
     sizes = f"{len(answer.output)} bytes, fault of {len(answer.fault)} bytes"
-    print(f"{name}: status {answer.status}, {sizes}")
+    print(f"{name}: status {answer.status}, {sizes}, floods {answer.floods}")
     print(answer.text + answer.fault.decode("ascii"), end="\n" if answer.status == NO_ROOM else "")
     return answer.status
 

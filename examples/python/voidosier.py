@@ -15,11 +15,12 @@ FAULT_ROOM = 128
 
 
 class Answer(NamedTuple):
-    """What a call did: its status, and the bytes of the answer and of the line of a fault."""
+    """What a call did: its status, the bytes of the answer and of the line of a fault, and how many floods were made."""
 
     status: int
     output: bytes
     fault: bytes
+    floods: int
 
     @property
     def text(self):
@@ -43,21 +44,22 @@ class Voidosier:
         size, number = ctypes.c_size_t, ctypes.POINTER(ctypes.c_size_t)
         self._run = ctypes.CDLL(library).voidosier_run
         self._run.argtypes = [ctypes.c_char_p, size, ctypes.c_char_p, size, ctypes.c_void_p, size, number,
-                              ctypes.c_void_p, size, number]
+                              ctypes.c_void_p, size, number, ctypes.POINTER(ctypes.c_uint64)]
         self._run.restype = ctypes.c_uint8
 
     def call(self, words, given=b"", room=65536):
         """The answer of one call, whatever its status. Words are text or bytes, and room counts bytes."""
         plain = [word.encode() if isinstance(word, str) else bytes(word) for word in words]
         if any(b"\0" in word for word in plain):
-            return Answer(NO_WORDS, b"", b"")
+            return Answer(NO_WORDS, b"", b"", 0)
         spelled = b"".join(word + b"\0" for word in plain)
         given = given.encode() if isinstance(given, str) else bytes(given)
         output, fault = ctypes.create_string_buffer(max(room, 1)), ctypes.create_string_buffer(FAULT_ROOM)
-        length, fault_length = ctypes.c_size_t(), ctypes.c_size_t()
+        length, fault_length, floods = ctypes.c_size_t(), ctypes.c_size_t(), ctypes.c_uint64()
         status = self._run(spelled, len(spelled), given, len(given), output, room, length,
-                           fault, FAULT_ROOM, fault_length)
-        return Answer(status, ctypes.string_at(output, length.value), ctypes.string_at(fault, fault_length.value))
+                           fault, FAULT_ROOM, fault_length, floods)
+        written = ctypes.string_at(output, length.value), ctypes.string_at(fault, fault_length.value)
+        return Answer(status, *written, floods.value)
 
     def run(self, *words, given=b""):
         """The whole answer. A fault raises InputFault."""

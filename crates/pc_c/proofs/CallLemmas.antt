@@ -1,5 +1,5 @@
 -- What a run over slices leaves in them, by what its clauses say of its sinks.
-use Rattle.std.proofs.Common.{◌≡◌, ◌≢◌, ℕ, ◌+◌, ◌-◌, ◌<◌, ◌≤◌, Bool, true, false, List, [], ◌∷◌, ◌++◌, length, length-append, length-take, length-drop, take, Some, None, nat_lt, if◌then◌else◌, inl, inr, refl, sym, ap, subst, ◌∙◌, append_assoc, append-nil, lt-ltb, ltb-true, ltb-false, arith}
+use Rattle.std.proofs.Common.{◌≡◌, ◌≢◌, ℕ, ◌+◌, ◌-◌, ◌^◌, ◌<◌, ◌≤◌, min, Bool, true, false, List, [], ◌∷◌, ◌++◌, length, length-append, length-take, length-drop, take, Some, None, nat_lt, if◌then◌else◌, ◌⊎◌, inl, inr, refl, sym, ap, subst, ◌∙◌, append_assoc, append-nil, lt-ltb, ltb-true, ltb-false, arith}
 use Rattle.std.proofs.lemmas.Bool.{cases_Bool}
 use Rattle.std.proofs.lemmas.List.{take_all, take_at}
 use Rattle.std.proofs.lemmas.Option.{same_Some}
@@ -18,7 +18,7 @@ use Rattle.pc_source.specs.Answers.{FailedAfterFront, Wrote}
 use Rattle.pc_source.specs.Sink.{SinkChange, sink_change}
 use Rattle.pc_source.specs.Task.{ForBytes, ForSomeBytes, HasBytes, Sees, Task, first_fault, reads_source}
 use Rattle.pc_source.specs.Work.{Works}
-use Rattle.pc_c.specs.Call.{TellsFault, WritesCut, WritesFront, WritesOutput, seen}
+use Rattle.pc_c.specs.Call.{ForFloods, TellsFault, WritesCut, WritesFront, WritesOutput, filled, seen}
 use Rattle.pc_c.specs.Ended.{EndedBy, LeavesErr, LeavesOut}
 
 -- ---- what a sink over a slice holds
@@ -46,12 +46,14 @@ within_slice s =
 
 -- a front of a text, one byte longer than the room
 cut_text : (bytes text rest : List ℕ) (byte room : ℕ) → text ≡ (bytes ++ byte ∷ []) ++ rest → length bytes ≡ room
-    → (room < length text) × (bytes ≡ take room text)
+    → (room < length text) × (bytes ≡ take room text) × (bytes ++ byte ∷ [] ≡ take (room + 1) text)
 cut_text bytes text rest byte room is size =
     let whole = is ∙ append_assoc bytes (byte ∷ []) rest in
-    let long = ap length whole in (
+    let long = ap length whole in
+    let more : length (bytes ++ byte ∷ []) ≡ room + 1 = omega (arith, length-append bytes (byte ∷ []), size) in (
       omega (arith, long, length-append bytes (byte ∷ rest), size),
       sym (ap (take room) whole ∙ take_at bytes (byte ∷ rest) room size),
+      sym (ap (take (room + 1)) is ∙ take_at (bytes ++ byte ∷ []) rest (room + 1) more),
     )
 
 -- a text that fits the room
@@ -120,7 +122,7 @@ pub record Runs (task : Task) (input : List ℕ) (out : SliceSink) (floods : ℕ
 
 -- the change of a sink over a slice that held nothing
 abbrev pub change_of : SliceSink → SinkChange
-change_of out = sink_change true (Some []) (Some (held_bytes (sink_view out))) 0 out.faults
+change_of out = filled (held_bytes (sink_view out)) out.faults
 
 pub held_nothing : (old new : SliceSink) → (sink_view old).bytes ≡ [] → (sink_view old).missed ≡ [] → old.faults ≡ 0
     → sink_change true (Some (held_bytes (sink_view old))) (Some (held_bytes (sink_view new))) old.faults new.faults ≡ change_of new
@@ -130,32 +132,28 @@ held_nothing old new empty unmissed faults =
     ∙ ap (λ n. sink_change true (Some []) (Some (held_bytes (sink_view new))) n new.faults) faults
 
 module _ (task : Task) (input : List ℕ) (out : SliceSink) (floods : ℕ) where
+  works : (status : Status) (bytes : List ℕ) (failed : ℕ) → held_bytes (sink_view out) ≡ bytes → out.faults ≡ failed
+      → ForSomeBytes task (Some input) (λ bytes. Works task (first_fault task bytes) bytes (change_of out) floods status)
+      → Works task (first_fault task (seen task input)) (seen task input) (filled bytes failed) floods status
+  works status bytes failed held faults made =
+      subst (λ (sink : SinkChange). Works task (first_fault task (seen task input)) (seen task input) sink floods status)
+      (ap (λ (l : List ℕ). filled l out.faults) held ∙ ap (filled bytes) faults)
+      (subst (λ (l : List ℕ). Works task (first_fault task l) l (change_of out) floods status) (saw task input made.bytes made.seen) made.holds)
+
   left_done : Runs task input out floods Done (change_of out)
-      → WritesOutput task (seen task input) (sink_view out).bytes
+      → WritesOutput task (seen task input) (sink_view out).bytes floods
   left_done run =
       let wrote = run.done refl (seen task input) (sees task input) in
       let none = run.sink_kept (λ e. cc) in
       let all = sym (unmissed out none) ∙ told_now (held_bytes (sink_view out)) wrote.output wrote.grown in
       record {
         none = run.no_fault refl (seen task input) (sees task input);
-        floods = floods;
         is_output = subst (task.IsOutput (seen task input) floods) (sym all) wrote.is_output;
-        work = work none run.work;
+        work = works Done (sink_view out).bytes 0 (unmissed out none) none run.work;
       }
-    where
-      same_sink : out.faults ≡ 0 → change_of out ≡ sink_change true (Some []) (Some (sink_view out).bytes) 0 0
-      same_sink none =
-          ap (λ (l : List ℕ). sink_change true (Some []) (Some l) 0 out.faults) (unmissed out none)
-          ∙ ap (λ n. sink_change true (Some []) (Some (sink_view out).bytes) 0 n) none
-
-      work : out.faults ≡ 0 → ForSomeBytes task (Some input) (λ bytes. Works task (first_fault task bytes) bytes (change_of out) floods Done)
-          → task.IsWork (seen task input) (sink_change true (Some []) (Some (sink_view out).bytes) 0 0) Done floods
-      work none made =
-          subst (λ (sink : SinkChange). task.IsWork (seen task input) sink Done floods) (same_sink none)
-          (subst (λ (bytes : List ℕ). task.IsWork bytes (change_of out) Done floods) (saw task input made.bytes made.seen) made.holds)
 
   left_cut : Runs task input out floods SinkFault (change_of out)
-      → WritesCut task (seen task input) (sink_view out).bytes (length out.buffer.now)
+      → WritesCut task (seen task input) (sink_view out).bytes (length out.buffer.now) floods
   left_cut run =
       let failed = run.sink_fault refl (seen task input) (sees task input) in
       let rose = run.sink_rose refl in
@@ -165,34 +163,47 @@ module _ (task : Task) (input : List ℕ) (out : SliceSink) (floods : ℕ) where
       (front.1 ∙ ap (λ (l : List ℕ). l ++ front.0) (missed_one out some)) (full_slice out some) in
       record {
         none = failed.none;
-        floods = floods;
         output = failed.front.output;
         is_output = failed.front.is_output;
         longer = cut.0;
         front = cut.1;
+        failed = out.faults;
+        work = works SinkFault (take (length out.buffer.now + 1) failed.front.output) out.faults
+            (missed_one out some ∙ cut.2) refl run.work;
       }
 
   left_front : Runs task input out floods NoMemory (change_of out)
-      → WritesFront task (seen task input) (sink_view out).bytes
+      → WritesFront task (seen task input) (sink_view out).bytes floods
   left_front run = record {
-    floods = floods;
     front = λ output is.
         let none = run.sink_kept (λ e. cc) in
         let part = front_now (held_bytes (sink_view out)) output (run.front (seen task input) (sees task input) output is) in
         (part.0, part.1 ∙ ap (λ (l : List ℕ). l ++ part.0) (unmissed out none));
     first = λ first. run.no_memory first refl;
     faulty = λ fault is. run.quiet (seen task input) (sees task input) fault is;
+    work = let none = run.sink_kept (λ e. cc) in works NoMemory (sink_view out).bytes 0 (unmissed out none) none run.work;
   }
 
   -- what a run leaves in the slice of `out`
   pub leaves_out : (status : Status) → Runs task input out floods status (change_of out)
-      → LeavesOut task (seen task input) (sink_view out).bytes (length out.buffer.now) status
+      → LeavesOut task (seen task input) (sink_view out).bytes (length out.buffer.now) floods status
   leaves_out Done run = left_done run
-  leaves_out (Input fault) run =
-      (run.faulty fault refl (seen task input) (sees task input), run.input_quiet fault refl)
+  leaves_out (Input fault) run = (
+    run.faulty fault refl (seen task input) (sees task input),
+    run.input_quiet fault refl,
+    works (Input fault) (held_bytes (sink_view out)) out.faults refl refl run.work,
+  )
   leaves_out SourceFault run = let rose = run.source_fault refl in omega (arith, rose)
   leaves_out SinkFault run = left_cut run
   leaves_out NoMemory run = left_front run
+
+  -- where the room and the input are the same as these
+  pub leaves_there : (room : ℕ) (given : List ℕ) (status : Status) → length out.buffer.now ≡ room → input ≡ given
+      → Runs task input out floods status (change_of out) → LeavesOut task (seen task given) (sink_view out).bytes room floods status
+  leaves_there room given status is same run =
+      subst (λ n. LeavesOut task (seen task given) (sink_view out).bytes n floods status) is
+      (subst (λ (l : List ℕ). LeavesOut task (seen task l) (sink_view out).bytes (length out.buffer.now) floods status) same
+      (leaves_out status run))
 
 -- what a run leaves in the slice of `err`
 pub leaves_err : (err : SliceSink) (status : Status)
@@ -219,48 +230,85 @@ via same f = ap f same
 
 -- ---- what the number of a status says
 
-module _ (task : Task) (bytes written : List ℕ) (room : ℕ) (told : List ℕ) (err_room code : ℕ) where
-  done_by : (status : Status) → code ≡ status_code status → code ≡ 0 → LeavesOut task bytes written room status → WritesOutput task bytes written
+module _ (task : Task) (bytes written : List ℕ) (room floods : ℕ) (told : List ℕ) (err_room code : ℕ) where
+  done_by : (status : Status) → code ≡ status_code status → code ≡ 0 → LeavesOut task bytes written room floods status
+      → WritesOutput task bytes written floods
   done_by Done is code out = out
   done_by (Input fault) is code out = absurd (omega (arith, is, code))
   done_by SourceFault is code out = absurd out
   done_by SinkFault is code out = absurd (omega (arith, is, code))
   done_by NoMemory is code out = absurd (omega (arith, is, code))
 
-  fault_by : (status : Status) → code ≡ status_code status → code ≡ 2 → LeavesOut task bytes written room status → LeavesErr told err_room status
-      → TellsFault task bytes told err_room
+  fault_by : (status : Status) → code ≡ status_code status → code ≡ 2 → LeavesOut task bytes written room floods status
+      → LeavesErr told err_room status → TellsFault task bytes told err_room
   fault_by Done is code out err = absurd (omega (arith, is, code))
   fault_by (Input fault) is code out err = record { fault = fault; first = out.0; line = err }
   fault_by SourceFault is code out err = absurd out
   fault_by SinkFault is code out err = absurd (omega (arith, is, code))
   fault_by NoMemory is code out err = absurd (omega (arith, is, code))
 
-  cut_by : (status : Status) → code ≡ status_code status → code ≡ 4 → LeavesOut task bytes written room status → WritesCut task bytes written room
+  idle_by : (status : Status) → code ≡ status_code status → (code ≡ 2) ⊎ (code ≡ 6)
+      → LeavesOut task bytes written room floods status → floods ≡ 0
+  idle_by Done is (inl two) out = absurd (omega (arith, is, two))
+  idle_by Done is (inr six) out = absurd (omega (arith, is, six))
+  idle_by (Input fault) is either out = out.2
+  idle_by SourceFault is either out = absurd out
+  idle_by SinkFault is (inl two) out = absurd (omega (arith, is, two))
+  idle_by SinkFault is (inr six) out = absurd (omega (arith, is, six))
+  idle_by NoMemory is (inl two) out = absurd (omega (arith, is, two))
+  idle_by NoMemory is (inr six) out = absurd (omega (arith, is, six))
+
+  cut_by : (status : Status) → code ≡ status_code status → code ≡ 4 → LeavesOut task bytes written room floods status
+      → WritesCut task bytes written room floods
   cut_by Done is code out = absurd (omega (arith, is, code))
   cut_by (Input fault) is code out = absurd (omega (arith, is, code))
   cut_by SourceFault is code out = absurd out
   cut_by SinkFault is code out = out
   cut_by NoMemory is code out = absurd (omega (arith, is, code))
 
-  front_by : (status : Status) → code ≡ status_code status → code ≡ 5 → LeavesOut task bytes written room status → WritesFront task bytes written
+  front_by : (status : Status) → code ≡ status_code status → code ≡ 5 → LeavesOut task bytes written room floods status
+      → WritesFront task bytes written floods
   front_by Done is code out = absurd (omega (arith, is, code))
   front_by (Input fault) is code out = absurd (omega (arith, is, code))
   front_by SourceFault is code out = absurd out
   front_by SinkFault is code out = absurd (omega (arith, is, code))
   front_by NoMemory is code out = out
 
-  pub at_done : EndedBy task bytes written room told err_room code → code ≡ 0 → WritesOutput task bytes written
-  at_done ended is = done_by ended.status ended.is is ended.out
+-- what holds of the number of floods, of which that holds
+pub with_floods : {count : ℕ} {Holds Gives : ℕ → Type 0} → ForFloods count Holds
+    → ((floods : ℕ) → Holds floods → Gives floods) → ForFloods count Gives
+with_floods made gives = record { floods = made.floods; counted = made.counted; holds = gives made.floods made.holds }
 
-  pub at_fault : EndedBy task bytes written room told err_room code → code ≡ 2 → TellsFault task bytes told err_room
-  at_fault ended is = fault_by ended.status ended.is is ended.out ended.err
+module _ (task : Task) (bytes written : List ℕ) (room count : ℕ) (told : List ℕ) (err_room code : ℕ)
+    (ended : EndedBy task bytes written room count told err_room code) where
+  pub at_done : code ≡ 0 → ForFloods count (WritesOutput task bytes written)
+  at_done is = with_floods ended.out (λ floods out. done_by task bytes written room floods told err_room code ended.status ended.is is out)
 
-  pub at_cut : EndedBy task bytes written room told err_room code → code ≡ 4 → WritesCut task bytes written room
-  at_cut ended is = cut_by ended.status ended.is is ended.out
+  pub at_fault : code ≡ 2 → TellsFault task bytes told err_room
+  at_fault is = fault_by task bytes written room ended.out.floods told err_room code ended.status ended.is is ended.out.holds ended.err
 
-  pub at_no_memory : EndedBy task bytes written room told err_room code → code ≡ 5 → WritesFront task bytes written
-  at_no_memory ended is = front_by ended.status ended.is is ended.out
+  pub at_idle : (code ≡ 2) ⊎ (code ≡ 6) → count ≡ 0
+  at_idle is =
+      let none = idle_by task bytes written room ended.out.floods told err_room code ended.status ended.is is ended.out.holds in
+      ended.out.counted ∙ ap (λ n. min n (2 ^ 64 - 1)) none
 
--- before the words are had, nothing is written
-pub nothing_written : (task : Task) (bytes : List ℕ) → WritesFront task bytes []
-nothing_written task bytes = record { floods = 0; front = λ output is. (output, refl); first = λ first. refl; faulty = λ fault is. refl }
+  pub at_cut : code ≡ 4 → ForFloods count (WritesCut task bytes written room)
+  at_cut is = with_floods ended.out (λ floods out. cut_by task bytes written room floods told err_room code ended.status ended.is is out)
+
+  pub at_no_memory : code ≡ 5 → ForFloods count (WritesFront task bytes written)
+  at_no_memory is = with_floods ended.out (λ floods out. front_by task bytes written room floods told err_room code ended.status ended.is is out)
+
+-- what holds of the floods since the counter was at 0, of which it tells so many
+pub from_zero : {Holds : ℕ → Type 0} (count before now : ℕ) → before ≡ 0 → count ≡ min now (2 ^ 64 - 1)
+    → Holds (now - before) → ForFloods count Holds
+from_zero {Holds} count before now none told holds =
+    let all : now - before ≡ now = omega (arith, none) in
+    record { floods = now; counted = told; holds = subst Holds all holds }
+
+-- before the words are had, nothing is written, and no flood is made
+pub nothing_written : (task : Task) (bytes : List ℕ) → ForFloods 0 (WritesFront task bytes [])
+nothing_written task bytes = record {
+  floods = 0;
+  counted = refl;
+  holds = record { front = λ output is. (output, refl); first = λ first. refl; faulty = λ fault is. refl; work = inl refl };
+}

@@ -1,10 +1,11 @@
 -- What a call wrote, by its status.
-use Rattle.std.specs.Prelude.{◌≡◌, ℕ, ◌<◌, List, [], ◌++◌, length, take, true, if◌then◌else◌, Some, None, ◌⊎◌}
+use Rattle.std.specs.Prelude.{◌≡◌, ℕ, ◌+◌, ◌-◌, ◌^◌, ◌<◌, min, List, [], ◌++◌, length, take, true, if◌then◌else◌, Some, None, ◌⊎◌}
 use Rattle.pc_faults.specs.declared.fault.Fault.{Fault}
-use Rattle.pc_faults.specs.declared.status.Status.TheVariants.{Done}
+use Rattle.pc_faults.specs.declared.status.Status.TheVariants.{Done, NoMemory, SinkFault}
 use Rattle.pc_faults.specs.FaultLine.{fault_line}
-use Rattle.pc_source.specs.Sink.{sink_change}
+use Rattle.pc_source.specs.Sink.{SinkChange, sink_change}
 use Rattle.pc_source.specs.Task.{Task, first_fault, reads_source}
+use Rattle.pc_source.specs.Work.{Works}
 
 -- done, a fault of the input, too little room, no memory, no words
 abbrev pub IsStatus : ℕ → Type 0
@@ -14,21 +15,33 @@ IsStatus status = (status ≡ 0) ⊎ (status ≡ 2) ⊎ (status ≡ 4) ⊎ (stat
 abbrev pub seen : Task → List ℕ → List ℕ
 seen task input = if reads_source task then input else []
 
--- no fault stands, and what was written is the output of the task, which made some number of floods
-pub record WritesOutput (task : Task) (bytes written : List ℕ) : Type 0 where
-  pub none : first_fault task bytes ≡ None
-  pub floods : ℕ
-  pub is_output : task.IsOutput bytes floods written
-  pub work : task.IsWork bytes (sink_change true (Some []) (Some written) 0 0) Done floods
+-- a sink that held nothing and holds these bytes, after so many writes that failed
+abbrev pub filled : List ℕ → ℕ → SinkChange
+filled bytes failed = sink_change true (Some []) (Some bytes) 0 failed
 
--- no fault stands, and the output is longer than the room: its first bytes were written, as many as there is room for
-pub record WritesCut (task : Task) (bytes written : List ℕ) (room : ℕ) : Type 0 where
-  pub none : first_fault task bytes ≡ None
+-- This holds for the number of floods, of which a u64 tells so much: the number, or the greatest u64 where it is
+-- greater.
+pub record ForFloods (told : ℕ) (Holds : ℕ → Type 0) : Type 0 where
   pub floods : ℕ
+  pub counted : told ≡ min floods (2 ^ 64 - 1)
+  pub holds : Holds floods
+
+-- no fault stands, and what was written is the output of the task, which made so many floods
+pub record WritesOutput (task : Task) (bytes written : List ℕ) (floods : ℕ) : Type 0 where
+  pub none : first_fault task bytes ≡ None
+  pub is_output : task.IsOutput bytes floods written
+  pub work : task.IsWork bytes (filled written 0) Done floods
+
+-- No fault stands, and the output is longer than the room: its first bytes were written, as many as there is room for.
+-- The floods are those up to the byte that found none.
+pub record WritesCut (task : Task) (bytes written : List ℕ) (room floods : ℕ) : Type 0 where
+  pub none : first_fault task bytes ≡ None
   pub output : List ℕ
   pub is_output : task.IsOutput bytes floods output
   pub longer : room < length output
   pub front : written ≡ take room output
+  pub failed : ℕ
+  pub work : task.IsWork bytes (filled (take (room + 1) output) failed) SinkFault floods
 
 -- the line of the first fault was written, or as many of its first bytes as there is room for
 pub record TellsFault (task : Task) (bytes told : List ℕ) (room : ℕ) : Type 0 where
@@ -38,8 +51,8 @@ pub record TellsFault (task : Task) (bytes told : List ℕ) (room : ℕ) : Type 
 
 -- memory was wanted: the first bytes of the output were written, and none where a fault stands or where the task takes
 -- its memory before it writes
-pub record WritesFront (task : Task) (bytes written : List ℕ) : Type 0 where
-  pub floods : ℕ
+pub record WritesFront (task : Task) (bytes written : List ℕ) (floods : ℕ) : Type 0 where
   pub front : (output : List ℕ) → task.IsOutput bytes floods output → (rest : List ℕ) × (output ≡ written ++ rest)
   pub first : task.memory_first ≡ true → written ≡ []
   pub faulty : (fault : Fault) → first_fault task bytes ≡ Some fault → written ≡ []
+  pub work : Works task (first_fault task bytes) bytes (filled written 0) floods NoMemory

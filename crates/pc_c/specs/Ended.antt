@@ -6,7 +6,7 @@ use Rattle.pc_faults.specs.declared.status.Status.TheVariants.{Done, Input, Sour
 use Rattle.pc_faults.specs.Codes.{status_code}
 use Rattle.pc_faults.specs.FaultLine.{fault_line}
 use Rattle.pc_source.specs.Task.{Task, first_fault}
-use Rattle.pc_c.specs.Call.{WritesCut, WritesFront, WritesOutput}
+use Rattle.pc_c.specs.Call.{ForFloods, WritesCut, WritesFront, WritesOutput}
 
 -- a sink that has filled nothing of its slice
 pub record IsFresh (sink : SliceSinkState) (slice : ℕ) (before : List ℕ) : Type 0 where
@@ -16,22 +16,24 @@ pub record IsFresh (sink : SliceSinkState) (slice : ℕ) (before : List ℕ) : T
   pub unmissed : sink.missed ≡ []
   pub faults : sink.faults ≡ 0
 
--- what was written to `out`, which had so much room
-abbrev pub LeavesOut : (task : Task) (bytes written : List ℕ) (room : ℕ) → Status → Type 0
-LeavesOut task bytes written room Done = WritesOutput task bytes written
-LeavesOut task bytes written room (Input fault) = (first_fault task bytes ≡ Some fault) × (written ≡ [])
-LeavesOut task bytes written room SourceFault = ⊥
-LeavesOut task bytes written room SinkFault = WritesCut task bytes written room
-LeavesOut task bytes written room NoMemory = WritesFront task bytes written
+-- what was written to `out`, which had so much room, by so many floods
+abbrev pub LeavesOut : (task : Task) (bytes written : List ℕ) (room floods : ℕ) → Status → Type 0
+LeavesOut task bytes written room floods Done = WritesOutput task bytes written floods
+LeavesOut task bytes written room floods (Input fault) =
+    (first_fault task bytes ≡ Some fault) × (written ≡ []) × (floods ≡ 0)
+LeavesOut task bytes written room floods SourceFault = ⊥
+LeavesOut task bytes written room floods SinkFault = WritesCut task bytes written room floods
+LeavesOut task bytes written room floods NoMemory = WritesFront task bytes written floods
 
 -- what was written to `err`, which had so much room
 abbrev pub LeavesErr : (told : List ℕ) (room : ℕ) → Status → Type 0
 LeavesErr told room (Input fault) = told ≡ take room (fault_line fault)
 LeavesErr told room other = told ≡ []
 
--- the status of a call is that of a run that left this in the slices
-pub record EndedBy (task : Task) (bytes written : List ℕ) (room : ℕ) (told : List ℕ) (err_room code : ℕ) : Type 0 where
+-- the status of a call and its count of floods are those of a run that left this in the slices
+pub record EndedBy (task : Task) (bytes written : List ℕ) (room count : ℕ) (told : List ℕ) (err_room code : ℕ)
+    : Type 0 where
   pub status : Status
   pub is : code ≡ status_code status
-  pub out : LeavesOut task bytes written room status
+  pub out : ForFloods count (λ floods. LeavesOut task bytes written room floods status)
   pub err : LeavesErr told err_room status

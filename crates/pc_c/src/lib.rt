@@ -4,7 +4,7 @@
 ghost use Rattle.std.specs.Prelude.{◌≡◌, ◌≢◌, ◌≤◌, ◌⊎◌, ℕ, List, length, take, drop};
 ghost use Rattle.pc_words.specs.Words.{texts};
 ghost use Rattle.pc_app.specs.Tasks.{task_of};
-ghost use Rattle.pc_c.specs.Call.{IsStatus, TellsFault, WritesCut, WritesFront, WritesOutput, seen};
+ghost use Rattle.pc_c.specs.Call.{ForFloods, IsStatus, TellsFault, WritesCut, WritesFront, WritesOutput, seen};
 ghost use Rattle.pc_c.specs.Ended.{EndedBy};
 ghost use Rattle.pc_c.specs.Words.{SpellsNoWords, SpellsWords};
 
@@ -24,12 +24,13 @@ const NO_MEMORY: u8 = 5;
 /// The status if a word is not UTF-8, or the last word has no NUL byte behind it.
 const NO_WORDS: u8 = 6;
 
-/// The status of a call, and how many bytes it wrote to each buffer.
+/// The status of a call, how many bytes it wrote to each buffer, and how many floods it made.
 #[derive(Drop)]
 struct Ended {
     status: u8,
     written: usize,
     told: usize,
+    floods: u64,
 }
 
 /// Runs the words over the input and writes to these buffers.
@@ -40,11 +41,11 @@ fn run_words(alloc: Global, words: &[String], input: &[u8], out: &mut [u8], err:
     ensures err_rest { drop result.told err.new ≡ drop result.told err.old }
     ensures ended { let task = task_of (texts words.now) in
         EndedBy task (seen task input.now) (take result.written out.new) (length out.old)
-        (take result.told err.new) (length err.old) result.status }
+        result.floods (take result.told err.new) (length err.old) result.status }
 {
     let mut out_sink = SliceSink::new(out);
     let mut err_sink = SliceSink::new(err);
-    let status = run_into::<Brand, Brand, Brand>(
+    let ran = run_into::<Brand, Brand, Brand>(
         alloc,
         Blank::new(1),
         words,
@@ -53,18 +54,19 @@ fn run_words(alloc: Global, words: &[String], input: &[u8], out: &mut [u8], err:
         &mut err_sink,
     );
     Ended {
-        status: status.code(),
+        status: ran.status.code(),
         written: out_sink.count(),
         told: err_sink.count(),
+        floods: ran.floods,
     }
 }
 
 /// Does what the program does, over memory. The words are those behind the program's name, and a NUL byte ends each.
 /// The input is what the program reads from standard input. What the program writes to standard output goes into `out`,
 /// and what it writes to standard error into `err`. These are the first `out_length` and `err_length` bytes; no other
-/// bytes change. The result is the program's exit status: 0 done, 2 a fault of the input, 4 the output is longer than
-/// `out`, 5 not enough memory, 6 a word is not UTF-8 or the last one has no NUL byte behind it. Nothing is kept from
-/// call to call.
+/// bytes change. `floods` is how many floods were made, or the greatest value of a u64 if there were more. The result
+/// is the program's exit status: 0 done, 2 a fault of the input, 4 the output is longer than `out`, 5 not enough
+/// memory, 6 a word is not UTF-8 or the last one has no NUL byte behind it. Nothing is kept from call to call.
 #[unsafe(no_mangle)]
 pub extern "C" fn voidosier_run(
     alloc: Global,
@@ -74,6 +76,7 @@ pub extern "C" fn voidosier_run(
     out_length: &mut usize,
     err: &mut [u8],
     err_length: &mut usize,
+    floods: &mut u64,
 ) -> u8
     ensures status { IsStatus result }
     // Which bytes of the buffers change.
@@ -83,27 +86,32 @@ pub extern "C" fn voidosier_run(
     ensures err_rest { drop err_length.new err.new ≡ drop err_length.new err.old }
     // What each status means.
     ensures done { (texts : List (List ℕ)) → SpellsWords words.now texts → result ≡ 0
-        → let task = task_of texts in WritesOutput task (seen task input.now) (take out_length.new out.new) }
+        → let task = task_of texts in
+        ForFloods floods.new (WritesOutput task (seen task input.now) (take out_length.new out.new)) }
     ensures faulty { (texts : List (List ℕ)) → SpellsWords words.now texts → result ≡ 2
         → let task = task_of texts in
         TellsFault task (seen task input.now) (take err_length.new err.new) (length err.old) }
     ensures cut { (texts : List (List ℕ)) → SpellsWords words.now texts → result ≡ 4
         → let task = task_of texts in
-        WritesCut task (seen task input.now) (take out_length.new out.new) (length out.old) }
+        ForFloods floods.new (WritesCut task (seen task input.now) (take out_length.new out.new) (length out.old)) }
     ensures no_memory { (texts : List (List ℕ)) → SpellsWords words.now texts → result ≡ 5
-        → let task = task_of texts in WritesFront task (seen task input.now) (take out_length.new out.new) }
+        → let task = task_of texts in
+        ForFloods floods.new (WritesFront task (seen task input.now) (take out_length.new out.new)) }
     ensures no_words { result ≡ 6 → SpellsNoWords words.now }
     ensures unspelled { SpellsNoWords words.now → (result ≡ 5) ⊎ (result ≡ 6) }
     ensures quiet { (result ≡ 2) ⊎ (result ≡ 6) → out_length.new ≡ 0 }
+    ensures idle { (result ≡ 2) ⊎ (result ≡ 6) → floods.new ≡ 0 }
     ensures no_line { result ≢ 2 → err_length.new ≡ 0 }
 {
     *out_length = 0;
     *err_length = 0;
+    *floods = 0;
     match words_in(alloc, words) {
         Ok(texts) => {
             let ended = run_words(alloc, &texts, input, out, err);
             *out_length = ended.written;
             *err_length = ended.told;
+            *floods = ended.floods;
             ended.status
         }
         Err(NoWords::Unspelled) => NO_WORDS,

@@ -1,5 +1,5 @@
 // Runs over slices. The type of a sink says which slice it fills, so this remains known whatever a run does with it.
-ghost use Rattle.std.specs.Prelude.{◌≡◌, ◌≢◌, ◌<◌, ◌+◌, ℕ, [], List, length, drop, true, Some};
+ghost use Rattle.std.specs.Prelude.{◌≡◌, ◌≢◌, ◌<◌, ◌+◌, ◌-◌, ℕ, [], List, length, drop, true, Some};
 ghost use Rattle.pc_outside.specs.Counts.{Rose};
 ghost use Rattle.pc_outside.specs.SliceSink.{held_bytes};
 ghost use Rattle.pc_outside.specs.SliceSinkView.{sink_view};
@@ -9,7 +9,7 @@ ghost use Rattle.pc_faults.specs.declared.status.Status.{Status};
 ghost use Rattle.pc_faults.specs.FaultLine.{fault_line};
 ghost use Rattle.pc_words.specs.Words.{texts};
 ghost use Rattle.pc_app.specs.Tasks.{task_of};
-ghost use Rattle.pc_c.specs.Call.{seen};
+ghost use Rattle.pc_c.specs.Call.{ForFloods, seen};
 ghost use Rattle.pc_c.specs.Ended.{IsFresh, LeavesErr, LeavesOut};
 
 use pc_app::{Status, run};
@@ -60,20 +60,18 @@ impl<P: Slot> Sink for SlotSink<'_, P> {
 /// Runs the words over the input, into a sink that has written nothing to its slice yet.
 fn run_out<L: Ledger, E: Sink, P: Slot>(
     alloc: Global,
-    blank: Blank,
     words: &[String],
     input: &[u8],
     out: &mut SliceSink<'_>,
     err: &mut E,
+    steps: &mut Steps<L>,
 ) -> Status
-    requires name { blank.name ≡ L.name }
-    requires parts { blank.parts ≡ L.parts }
-    requires some { 0 < blank.parts }
     requires fresh { IsFresh (sink_view out.old) P.name P.before }
     ensures slice { (sink_view out.new).slice ≡ (sink_view out.old).slice }
     ensures rest { (sink_view out.new).rest ≡ drop (length (sink_view out.new).bytes) (sink_view out.old).rest }
     ensures out { let task = task_of (texts words.now) in
-        LeavesOut task (seen task input.now) (sink_view out.new).bytes (length (sink_view out.old).rest) result }
+        LeavesOut task (seen task input.now) (sink_view out.new).bytes (length (sink_view out.old).rest)
+        (steps.new - steps.old) result }
     ensures fault_line { (fault : Fault) → result ≡ Status.Input fault
         → GrowsByFront (E.written err.old) (E.written err.new) (fault_line fault) }
     ensures whole_line { (fault : Fault) → result ≡ Status.Input fault
@@ -81,17 +79,23 @@ fn run_out<L: Ledger, E: Sink, P: Slot>(
         → Grows (E.written err.old) (E.written err.new) (fault_line fault) }
     ensures no_line { ((fault : Fault) → result ≢ Status.Input fault) → err.new ≡ err.old }
 {
-    let mut steps = Steps::<L>::new(blank);
     let mut source = SliceSource::new(input);
     let taken = mem::replace(out, SliceSink::new(&mut []));
     let mut slot: SlotSink<'_, P> = SlotSink {
         sink: taken,
         slot: PhantomData,
     };
-    let status = run(alloc, words, &mut source, &mut slot, err, &mut steps);
+    let status = run(alloc, words, &mut source, &mut slot, err, steps);
     let SlotSink { sink, slot: _ } = slot;
     *out = sink;
     status
+}
+
+/// How a run ended, and how many floods it made, or the greatest value of a u64 if there were more.
+#[derive(Drop)]
+pub(crate) struct Ran {
+    pub(crate) status: Status,
+    pub(crate) floods: u64,
 }
 
 /// Runs the words over the input, into sinks that have written nothing to their slices yet.
@@ -102,7 +106,7 @@ pub(crate) fn run_into<L: Ledger, P: Slot, Q: Slot>(
     input: &[u8],
     out: &mut SliceSink<'_>,
     err: &mut SliceSink<'_>,
-) -> Status
+) -> Ran
     requires name { blank.name ≡ L.name }
     requires parts { blank.parts ≡ L.parts }
     requires some { 0 < blank.parts }
@@ -115,16 +119,21 @@ pub(crate) fn run_into<L: Ledger, P: Slot, Q: Slot>(
     ensures err_rest { (sink_view err.new).rest
         ≡ drop (length (sink_view err.new).bytes) (sink_view err.old).rest }
     ensures out { let task = task_of (texts words.now) in
-        LeavesOut task (seen task input.now) (sink_view out.new).bytes (length (sink_view out.old).rest) result }
-    ensures err { LeavesErr (sink_view err.new).bytes (length (sink_view err.old).rest) result }
+        ForFloods result.floods (λ floods. LeavesOut task (seen task input.now) (sink_view out.new).bytes
+        (length (sink_view out.old).rest) floods result.status) }
+    ensures err { LeavesErr (sink_view err.new).bytes (length (sink_view err.old).rest) result.status }
 {
     let taken = mem::replace(err, SliceSink::new(&mut []));
     let mut slot: SlotSink<'_, Q> = SlotSink {
         sink: taken,
         slot: PhantomData,
     };
-    let status = run_out::<L, SlotSink<'_, Q>, P>(alloc, blank, words, input, out, &mut slot);
+    let mut steps = Steps::<L>::new(blank);
+    let status = run_out::<L, SlotSink<'_, Q>, P>(alloc, words, input, out, &mut slot, &mut steps);
     let SlotSink { sink, slot: _ } = slot;
     *err = sink;
-    status
+    Ran {
+        status,
+        floods: steps.count(),
+    }
 }

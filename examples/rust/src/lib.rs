@@ -20,6 +20,7 @@ extern "C" {
         err: *mut u8,
         err_room: usize,
         err_length: &mut usize,
+        floods: &mut u64,
     ) -> u8;
 }
 
@@ -57,6 +58,8 @@ pub struct Call {
     pub length: usize,
     /// The line of the fault.
     pub fault: String,
+    /// How many floods were made, each of which finds all places of one piece in one field.
+    pub floods: u64,
 }
 
 /// Answers a command line in a buffer of the caller's.
@@ -67,6 +70,7 @@ pub fn call(words: &[&str], input: &[u8], out: &mut [u8]) -> Call {
             status: Status::NoWords,
             length: 0,
             fault: String::new(),
+            floods: 0,
         };
     }
     for word in words {
@@ -74,7 +78,7 @@ pub fn call(words: &[&str], input: &[u8], out: &mut [u8]) -> Call {
         spelled.push(0);
     }
     let mut err = [0; FAULT_ROOM];
-    let (mut length, mut err_length) = (0, 0);
+    let (mut length, mut err_length, mut floods) = (0, 0, 0);
     // SAFETY: each pointer has the bytes that are said, none is null, and what is written to overlaps with nothing.
     let status = unsafe {
         voidosier_run(
@@ -88,6 +92,7 @@ pub fn call(words: &[&str], input: &[u8], out: &mut [u8]) -> Call {
             err.as_mut_ptr(),
             err.len(),
             &mut err_length,
+            &mut floods,
         )
     };
     let fault = String::from_utf8_lossy(&err[..err_length]).into_owned();
@@ -95,6 +100,7 @@ pub fn call(words: &[&str], input: &[u8], out: &mut [u8]) -> Call {
         status: Status::of(status),
         length,
         fault,
+        floods,
     }
 }
 

@@ -2,7 +2,7 @@
 //!
 //!     cargo run --offline --bin ask
 //!
-//! Before an answer stands a line with its status, and the bytes of the answer and of the line of a fault.
+//! Before an answer stands a line with its status, the bytes of the answer and of the line of a fault, and the floods.
 
 use std::error::Error;
 use std::io::{self, Write};
@@ -30,7 +30,8 @@ fn ask(
     };
     writeln!(
         to,
-        "{name}: status {status}, {length} bytes, fault of {fault_length} bytes"
+        "{name}: status {status}, {length} bytes, fault of {fault_length} bytes, floods {}",
+        done.floods
     )?;
     to.write_all(&out[..length])?;
     to.write_all(done.fault.as_bytes())?;

@@ -1,13 +1,16 @@
--- What the clauses of the run say of the line of a fault.
-use Rattle.std.proofs.Common.{◌≡◌, ◌+◌, ◌++◌, ℕ, List, [], length, ap, subst, ◌∙◌, Some, arith}
+-- What the clauses of the run say of the floods and of the line of a fault.
+use Rattle.std.proofs.Common.{◌≡◌, ◌++◌, ℕ, List, [], length, ap, subst, ◌∙◌, Some, arith}
 use Rattle.pc_outside.specs.Counts.{Rose}
 use Rattle.pc_outside.specs.SliceSink.{held_bytes}
 use Rattle.pc_outside.specs.SliceSinkView.{sink_view}
 use Rattle.pc_outside.specs.Writes.{Grows, GrowsByFront}
 use Rattle.pc_faults.specs.FaultLine.{fault_line}
 use Rattle.pc_c.specs.Ended.{LeavesErr}
-use Rattle.pc_c.proofs.CallLemmas.{leaves_err, via, whole_slice}
+use Rattle.pc_c.proofs.CallLemmas.{from_zero, leaves_err, via, whole_slice}
 use Rattle.pc_c.proofs.slots.run_into.Goals as goal
+
+pub returns-clause-out : goal.returns-clause-out
+returns-clause-out g c = from_zero _ _ _ c.new-steps.ensures c.count.ensures c.run_out-status.ensures.out
 
 pub returns-clause-err : goal.returns-clause-err
 returns-clause-err g c =

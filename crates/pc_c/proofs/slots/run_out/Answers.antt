@@ -1,11 +1,9 @@
 -- What the clauses of the run say of a sink that held nothing.
-use Rattle.std.proofs.Common.{◌≡◌, ℕ, List, [], length, ap, subst, ◌∙◌, refl, arith}
+use Rattle.std.proofs.Common.{◌≡◌, [], length, ap, subst, ◌∙◌, refl, arith}
 use Rattle.pc_outside.specs.SliceSinkView.{sink_view}
 use Rattle.pc_words.specs.Words.{texts}
 use Rattle.pc_app.specs.Tasks.{task_of}
-use Rattle.pc_c.specs.Call.{seen}
-use Rattle.pc_c.specs.Ended.{LeavesOut}
-use Rattle.pc_c.proofs.CallLemmas.{Runs, held_nothing, leaves_out, via, whole_slice}
+use Rattle.pc_c.proofs.CallLemmas.{Runs, held_nothing, leaves_there, via, whole_slice}
 use Rattle.pc_c.proofs.slots.run_out.Goals as goal
 
 pub returns-clause-out : goal.returns-clause-out
@@ -37,6 +35,5 @@ returns-clause-out g c =
       sink_kept = run.sink_kept refl;
       work = run.work;
     }) in
-    subst (λ n. LeavesOut task (seen task c.args.input.now) (sink_view new).bytes n c.run-status.result) room
-    (subst (λ (input : List ℕ). LeavesOut task (seen task input) (sink_view new).bytes (length new.buffer.now) c.run-status.result)
-    c.new-source.ensures (leaves_out task c.new-source.result new _ c.run-status.result runs))
+    leaves_there task c.new-source.result new _ (length (sink_view c.args.out.now).rest) c.args.input.now c.run-status.result
+    room c.new-source.ensures runs
