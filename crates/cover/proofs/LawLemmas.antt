@@ -1,5 +1,5 @@
--- Where the sequences are all solutions, a queue is covered exactly where it has one.
-use Rattle.std.proofs.Common.{◌≡◌, ◌↔◌, ℕ, Some, None, List, Contains, slice_get, sym, subst, ◌∙◌, refl, inl, inr, [], ◌∷◌}
+-- Where all solutions are among the sequences, a queue is covered exactly where it has one.
+use Rattle.std.proofs.Common.{◌≡◌, ◌↔◌, ℕ, Some, None, List, Contains, slice_get, sym, subst, ◌∙◌, inl, inr, [], ◌∷◌}
 use Rattle.std.proofs.lemmas.Option.{get_or_from_slice_get, slice_get_within}
 use Rattle.srs.specs.declared.piece.Piece.{Piece}
 use Rattle.srs.specs.declared.placement.Placement.{Placement}
@@ -7,7 +7,6 @@ use Rattle.queue_pattern.specs.Pattern.{elements_of}
 use Rattle.queue_pattern.specs.Queues.{queues}
 use Rattle.hold_queue.specs.Permits.{Permits}
 use Rattle.problem.specs.declared.problem.Problem.{Problem}
-use Rattle.problem.specs.SolutionList.{IsList}
 use Rattle.problem.specs.Solution.{IsSolution, pieces_of}
 use Rattle.lists.proofs.CallerLemmas.{Contains-cases, Contains-here, Contains-none}
 use Rattle.cover.specs.Covered.{IsCovered}
@@ -25,9 +24,9 @@ alone queue other one = elim (Contains-cases queue [] other one) [
   | inr there ↦ absurd (Contains-none other there)
 ]
 
-pub covered-solved : (problem : Problem) (sequences : List (List Placement)) (number : ℕ) (queue : List Piece) → IsList (record { problem = problem; queue = None; bound = None }) sequences
+pub covered-solved : (problem : Problem) (sequences : List (List Placement)) (number : ℕ) (queue : List Piece) → ((sequence : List Placement) → IsSolution problem None sequence → Contains sequences sequence)
     → slice_get (queues (elements_of problem.pattern)) number ≡ Some queue → IsCovered problem sequences number ↔ ((sequence : List Placement) × IsSolution problem (Some queue) sequence)
-covered-solved problem sequences number queue list there = (
+covered-solved problem sequences number queue all there = (
   λ covered. (
     covered.sequence,
     record {
@@ -39,12 +38,9 @@ covered-solved problem sequences number queue list there = (
     queue = queue;
     there = there;
     sequence = solved.0;
-    given = (list.members solved.0).1 (record {
-      solution = record {
-        plays = solved.1.plays;
-        permitted = (queue, among (queues (elements_of problem.pattern)) number queue there, subst (λ q. Permits problem.hold q problem.held (pieces_of solved.0)) (alone queue solved.1.permitted.0 solved.1.permitted.1) solved.1.permitted.2);
-      };
-      above = refl;
+    given = all solved.0 (record {
+      plays = solved.1.plays;
+      permitted = (queue, among (queues (elements_of problem.pattern)) number queue there, subst (λ q. Permits problem.hold q problem.held (pieces_of solved.0)) (alone queue solved.1.permitted.0 solved.1.permitted.1) solved.1.permitted.2);
     });
     plays = solved.1.plays;
     permitted = subst (λ q. Permits problem.hold q problem.held (pieces_of solved.0)) (alone queue solved.1.permitted.0 solved.1.permitted.1) solved.1.permitted.2;

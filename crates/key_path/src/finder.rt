@@ -40,8 +40,13 @@ pub struct Finder {
 }
 
 impl Finder {
-    /// Makes a finder. `NoMemory` if there is not enough memory.
-    pub fn new(alloc: Global) -> Result<Finder, NoMemory> {
+    ghost use Rattle.std.specs.Prelude.{IfOk};
+    ghost use Rattle.key_path.specs.Known.{HasFoundNone};
+
+    /// Makes a finder that has found nothing yet. `NoMemory` if there is not enough memory.
+    pub fn new(alloc: Global) -> Result<Finder, NoMemory>
+        ensures { IfOk result HasFoundNone }
+    {
         let known = Known::new(alloc)?;
         match HeapCircularBuffer::with_capacity(alloc, STATES) {
             Ok(waiting) => Ok(Finder { waiting, known }),

@@ -87,8 +87,13 @@ pub(crate) struct Known {
 }
 
 impl Known {
+    ghost use Rattle.std.specs.Prelude.{IfOk};
+    ghost use Rattle.key_path.specs.Known.{KeepsNone};
+
     /// An empty store, with memory for the words to come.
-    pub(crate) fn new(alloc: Global) -> Result<Known, NoMemory> {
+    pub(crate) fn new(alloc: Global) -> Result<Known, NoMemory>
+        ensures { IfOk result KeepsNone }
+    {
         let mut places = Vec::with_capacity(alloc, PLACES)?;
         for _ in 0..PLACES {
             places.push(None)?;

@@ -48,11 +48,11 @@ pub fn outputs_exist()
 
 /// How many bytes each read moves changes nothing. Take two runs of the same words over sources with the same bytes, in
 /// which no read or write failed and memory did not run out. They end with the same status and the same output. If the
-/// number of floods is written, this holds for runs that made the same number.
+/// number of floods is written, each run writes its own number at the end.
 pub fn reads_of_any_size_end_alike()
     ensures { (words : List (List ℕ)) (left : Option (List ℕ)) → ForBytes (task_of words) left
-        (λ bytes. (floods others : ℕ) → (tells_floods_in (asked_in (request_in words)) ≡ true → floods ≡ others)
-        → (sink sinks : SinkChange) (one other : Status)
+        (λ bytes. (floods others : ℕ) (sink sinks : SinkChange) (one other : Status)
         → EndsUndisturbed (task_of words) bytes floods sink one
-        → EndsUndisturbed (task_of words) bytes others sinks other → EndAlike one other sink sinks) }
+        → EndsUndisturbed (task_of words) bytes others sinks other
+        → EndAlike (tells_floods_in (asked_in (request_in words))) floods others one other sink sinks) }
 {}

@@ -1,15 +1,20 @@
 -- What crates above cite: one output, and no fault that is not found by a command.
-use Rattle.std.proofs.Common.{◌≡◌, ℕ, true, List}
+use Rattle.std.proofs.Common.{◌≡◌, ℕ, true, List, ◌++◌}
 use Rattle.path_settings.specs.Request.{PathRequest}
 use Rattle.pc_faults.specs.Inner.{IsInner}
 use Rattle.pc_path.specs.Faults.{path_fault}
-use Rattle.pc_path.specs.Output.{IsPathOutput}
+use Rattle.pc_path.specs.Output.{IsPathOutput, stats_form}
 use Rattle.pc_path.proofs.OneOutput as outputs
 use Rattle.pc_path.proofs.PathAnswers as answers
 
 pub one_path_output : (request : PathRequest) (bytes : List ℕ) (floods others : ℕ) → (request.stats ≡ true → floods ≡ others) → (a b : List ℕ)
     → IsPathOutput request bytes floods a → IsPathOutput request bytes others b → a ≡ b
 one_path_output = outputs.one_path_output
+
+pub shared_path_output : (request : PathRequest) (bytes : List ℕ) (floods others : ℕ) (a b : List ℕ)
+    → IsPathOutput request bytes floods a → IsPathOutput request bytes others b
+    → (report : List ℕ) × (a ≡ report ++ stats_form request.stats floods) × (b ≡ report ++ stats_form request.stats others)
+shared_path_output = outputs.shared_path_output
 
 pub inner_path : (request : PathRequest) (bytes : List ℕ) → IsInner (path_fault request bytes)
 inner_path = answers.inner_path

@@ -130,3 +130,14 @@ pub one_path_output : (request : PathRequest) (bytes : List ℕ) (floods others 
 one_path_output request bytes floods others stats a b first second =
     let same = one_field request.common.field request.common.page bytes first.field second.field first.asked second.asked in
     report_unique request second.field floods others stats a b (subst (λ F. IsReportOf request F floods a) same first.report) second.report
+
+-- two outputs are one report, each with its own number of floods behind it where it is written
+pub shared_path_output : (request : PathRequest) (bytes : List ℕ) (floods others : ℕ) (a b : List ℕ)
+    → IsPathOutput request bytes floods a → IsPathOutput request bytes others b
+    → (report : List ℕ) × (a ≡ report ++ stats_form request.stats floods) × (b ≡ report ++ stats_form request.stats others)
+shared_path_output request bytes floods others a b first second =
+    let listed = first.report.listed in
+    let report = report_form (solution_form request.format request.keys listed.problem) request.limit listed.sequences in
+    let again : IsPathOutput request bytes others (report ++ stats_form request.stats others) =
+    record { field = first.field; asked = first.asked; report = record { listed = listed; report = refl } } in
+    (report, first.report.report, sym (one_path_output request bytes others others (λ _. refl) (report ++ stats_form request.stats others) b again second))

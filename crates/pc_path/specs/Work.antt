@@ -52,9 +52,9 @@ IsNotWritten line limit sequences sink SinkFault left = StoppedBefore line seque
 IsNotWritten line limit sequences sink NoMemory left = StoppedBefore line sequences left sink.held sink.holds
 IsNotWritten line limit sequences sink other left = ⊥
 
--- The floods about this field are those of one search, which would still list exactly what was not written. They are
--- all pairs where the report ended before the limit and no sequence was given. Memory is wanting after a search was
--- begun for fumen texts alone.
+-- The floods about this field are those of one search, which would still list what is behind the limit, or behind the
+-- sequence at which it stopped. They are all pairs where the report ended before the limit and no sequence was given.
+-- Memory is wanting after a search was begun for fumen texts alone.
 pub record IsListingWork (request : PathRequest) (F : Field) (sink : SinkChange) (status : Status) (floods : ℕ)
     : Type 0 where
   pub listed : Listed request F

@@ -46,8 +46,7 @@ fn write_report<O: Sink, L: Ledger>(
     writer: &mut FormWriter,
     steps: &mut Steps<L>,
 ) -> Result<(), WriteFault>
-    requires searching { IsSearchOf problem.now (after_given search.old) search.old 0 }
-    requires low { problem.now.height ≤ 23 }
+    requires { IsSearchOf problem.now (after_given search.old) search.old 0 }
     ensures written { WritesAll (O.written out.old) (O.written out.new) result
         (report_form (solution_form (format_of writer.old) (is_some finder.old) problem.now) limit
         (solutions search.old)) }
@@ -84,8 +83,7 @@ fn write_listing<O: Sink, L: Ledger>(
     writer: &mut FormWriter,
     steps: &mut Steps<L>,
 ) -> Result<(), WriteFault>
-    requires searching { IsSearchOf problem.now (after_given search.old) search.old 0 }
-    requires low { problem.now.height ≤ 23 }
+    requires { IsSearchOf problem.now (after_given search.old) search.old 0 }
     ensures written { WritesAll (O.written out.old) (O.written out.new) result
         (report_form (solution_form (format_of writer.old) (is_some finder.old) problem.now) settings.now.limit
         (solutions search.old) ++ stats_form settings.now.stats (steps.new - steps.old)) }

@@ -7,7 +7,7 @@ ghost use Rattle.pc_outside.specs.Writes.{WritesAll};
 ghost use Rattle.problem.specs.Plays.{Plays};
 ghost use Rattle.report.specs.WriteCause.{HasWriteCause};
 ghost use Rattle.pc_path.specs.Formats.{as_line, line_status, solution_form};
-ghost use Rattle.pc_path.specs.Writer.{format_of};
+ghost use Rattle.pc_path.specs.Writer.{IsNew, format_of};
 
 use key_path::Finder;
 use path_settings::Format;
@@ -25,10 +25,11 @@ pub enum FormWriter {
     Grid,
 }
 
-/// The writer of a format. `NoMemory` if there is not enough memory for the pages of a fumen text; the other formats
-/// need none.
+/// The writer of a format, which has written nothing yet. `NoMemory` if there is not enough memory for the pages of a
+/// fumen text; the other formats need none.
 pub fn writer_for(alloc: Global, format: Format) -> Result<FormWriter, NoMemory>
     ensures form { IfOk result (λ writer. format_of writer ≡ format) }
+    ensures new { IfOk result IsNew }
     ensures none { format ≢ Format.Fumen → IsOk result }
 {
     match format {
@@ -71,9 +72,8 @@ pub fn write_solution<O: Sink>(
     finder: &mut Option<Finder>,
     writer: &mut FormWriter,
 ) -> Result<(), WriteFault>
-    requires plays { Plays (table_of problem.now.rules) problem.now.drop_mode
+    requires { Plays (table_of problem.now.rules) problem.now.drop_mode
         (filled problem.now.well) problem.now.height sequence.now.items }
-    requires low { problem.now.height ≤ 23 }
     ensures written { WritesAll (O.written out.old) (O.written out.new) result
         (solution_form (format_of writer.old) (is_some finder.old) problem.now sequence.now.items) }
     ensures cause { HasWriteCause O.counts_failures_alone (O.faults out.old) (O.faults out.new) result }
@@ -115,9 +115,8 @@ fn write_as_grid<O: Sink>(
     sequence: &Sequence,
     finder: &mut Option<Finder>,
 ) -> Result<(), Failed>
-    requires plays { Plays (table_of problem.now.rules) problem.now.drop_mode
+    requires { Plays (table_of problem.now.rules) problem.now.drop_mode
         (filled problem.now.well) problem.now.height sequence.now.items }
-    requires low { problem.now.height ≤ 23 }
     ensures written { WritesAll (O.written out.old) (O.written out.new) result
         (solution_form Format.Grid (is_some finder.old) problem.now sequence.now.items) }
     ensures cause { HasCause O.counts_failures_alone (O.faults out.old) (O.faults out.new) result }

@@ -16,8 +16,9 @@ mod BuilderLemmas
 mod ParseLemmas
 mod LimitLemmas
 mod Standing
-mod PatternFacts
 mod SingleLemmas
+mod OneQueue
+mod PatternFacts
 mod RisingQueues
 mod ReadIsSpelled
 mod SpelledIsRead

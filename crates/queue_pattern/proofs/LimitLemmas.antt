@@ -15,7 +15,7 @@ use Rattle.queue_pattern.specs.Sound.{is_sound}
 use Rattle.queue_pattern.proofs.BuilderLemmas.{sound-within}
 use Rattle.queue_pattern.proofs.FallingLemmas.{falling_factor-some}
 
-sound-some : (element : Element) → is_sound element ≡ true → 0 < element.chosen
+pub sound-some : (element : Element) → is_sound element ≡ true → 0 < element.chosen
 unfolding is_sound
 sound-some element sound = grind (arith, nat_tests)
 

@@ -1,5 +1,5 @@
 -- The form of pattern texts, whatever pieces brackets list and however many of them are chosen.
-use Rattle.std.specs.Prelude.{◌≡◌, ◌≢◌, ℕ, ◌+◌, ◌≤◌, true, ◌⊎◌, Bool, is_some, List, [], ◌∷◌, ◌++◌, length, All}
+use Rattle.std.specs.Prelude.{◌≡◌, ◌≢◌, ℕ, ◌+◌, ◌≤◌, true, ◌⊎◌, Bool, is_some, List, [], ◌∷◌, ◌++◌, All}
 use Rattle.srs.specs.Piece.{piece_with_letter}
 use Rattle.queue_pattern.specs.Grammar.{is_gap}
 

@@ -1,12 +1,20 @@
 -- A picture of a grid, letter by letter and row by row.
-use Rattle.std.proofs.Common.{◌≡◌, ℕ, suc, ◌+◌, ◌-◌, ◌<◌, ◌≤◌, List, [], ◌∷◌, ◌++◌, length, take, drop, get_or, map, sym, ap, ◌∙◌, arith, append_assoc, append-nil}
+use Rattle.std.proofs.Common.{◌≡◌, ℕ, suc, ◌+◌, ◌-◌, ◌<◌, ◌≤◌, false, List, [], ◌∷◌, ◌++◌, length, take, drop, get_or, map, sym, ap, ◌∙◌, arith, append_assoc, append-nil}
+use Rattle.std.proofs.lemmas.Bool.{false_from_ne_true}
 use Rattle.std.proofs.lemmas.List.{map-append, drop_more, drop_all}
 use Rattle.lane_board.specs.Field.{Field}
 use Rattle.lane_board.specs.FullRows.{columns}
 use Rattle.srs.specs.declared.placement.Placement.{Placement}
+use Rattle.well.specs.declared.well.Well.{Well}
 use Rattle.well.specs.Lock.{locked, rows_removed}
+use Rattle.well.specs.Well.{filled}
+use Rattle.well.proofs.CallerLemmas.{filled-within}
 use Rattle.report.specs.Grid.{grid_letter, grid_pictures, grid_row, grid_rows}
 use Rattle.report.proofs.Columns.{columns_more}
+
+-- no well has a cell above its rows
+pub empty_above : (well : Well) (x y : ℕ) → 23 ≤ y → filled well x y ≡ false
+empty_above well x y above = false_from_ne_true _ (λ has. omega (arith, above, (filled-within well x y has).1))
 
 -- one more letter of a row is written
 pub letter_more : (F : Field) (q : Placement) (y x letter : ℕ) (old before now : List ℕ) → x < 10 → letter ≡ grid_letter F q y x

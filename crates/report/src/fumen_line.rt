@@ -13,6 +13,7 @@ ghost use Rattle.fumen_pages.specs.Next.{next};
 ghost use Rattle.fumen_text.specs.Written.{list_encode_fault, written};
 ghost use Rattle.report.specs.FumenLine.{fumen_form, placing_page, sequence_pages};
 ghost use Rattle.report.specs.WriteCause.{HasWriteCause};
+ghost use Rattle.report.specs.Writer.{pages_of_line, room_for_pages};
 
 use crate::grey::grey_cells;
 use crate::write_fault::WriteFault;
@@ -34,8 +35,12 @@ pub struct FumenWriter {
 }
 
 impl FumenWriter {
-    /// Makes a writer. `NoMemory` if there is not enough memory for a line's pages.
-    pub fn new(alloc: Global) -> Result<FumenWriter, NoMemory> {
+    /// Makes a writer that has written nothing yet, with room for the pages of a line. `NoMemory` if there is not enough
+    /// memory for them.
+    pub fn new(alloc: Global) -> Result<FumenWriter, NoMemory>
+        ensures empty { IfOk result (λ writer. pages_of_line writer ≡ []) }
+        ensures room { IfOk result (λ writer. room_for_pages writer ≡ 22) }
+    {
         let pages = Vec::with_capacity(alloc, 22)?;
         Ok(FumenWriter { pages })
     }

@@ -23,12 +23,15 @@ use well::Well;
 /// A newline after those of the rows.
 const EMPTY_LINE: u8 = b'\n';
 
-/// The rows of one picture, each with a newline, and an empty line.
-type Picture = ArrayVec<u8, 254>;
+/// How many rows a well has.
+const ROWS: u8 = 23;
+
+/// The rows of one picture, at most 255, each with a newline, and an empty line.
+type Picture = ArrayVec<u8, 2806>;
 
 /// Writes the grid of a sequence that solves the problem: its line as `write_line` writes it, and then for each
 /// placement the rows that are left, from the top one down, and an empty line. A cell of the placement is the piece's
-/// letter, a cell of the field before it is `X`, and any other cell is `_`.
+/// letter, a cell of the field before it is `X`, and any other cell is `_`, as is each cell above row 22.
 #[tactic(auto, unfolding(crate::specs::Grid::grid_form))]
 pub fn write_grid<O: Sink>(
     out: &mut O,
@@ -36,9 +39,8 @@ pub fn write_grid<O: Sink>(
     sequence: &Sequence,
     finder: Option<&mut Finder>,
 ) -> Result<(), Failed>
-    requires plays { Plays (table_of problem.now.rules) problem.now.drop_mode
+    requires { Plays (table_of problem.now.rules) problem.now.drop_mode
         (filled problem.now.well) problem.now.height sequence.now.items }
-    requires low { problem.now.height ≤ 23 }
     ensures written { WritesAll (O.written out.old) (O.written out.new) result
         (grid_form (key_part (is_some finder.entry) (table_of problem.now.rules) problem.now.drop_mode)
         (filled problem.now.well) problem.now.height sequence.now.items) }
@@ -54,9 +56,8 @@ fn write_pictures<O: Sink>(
     problem: &Problem,
     placements: &[Placement],
 ) -> Result<(), Failed>
-    requires plays { Plays (table_of problem.now.rules) problem.now.drop_mode
+    requires { Plays (table_of problem.now.rules) problem.now.drop_mode
         (filled problem.now.well) problem.now.height placements.now }
-    requires low { problem.now.height ≤ 23 }
     ensures written { WritesAll (O.written out.old) (O.written out.new) result
         (grid_pictures (filled problem.now.well) problem.now.height placements.now) }
     ensures cause { HasCause O.counts_failures_alone (O.faults out.old) (O.faults out.new) result }
@@ -76,7 +77,6 @@ fn write_pictures<O: Sink>(
 fn picture(well: &Well, placement: &Placement, rows: u8) -> Picture
     requires column { placement.now.x ≤ 31 }
     requires row { placement.now.y ≤ 31 }
-    requires low { rows ≤ 23 }
     ensures { result.items ≡ grid_rows (filled well.now) placement.now rows ++ 10 ∷ [] }
 {
     let mut picture = Picture::new();
@@ -91,8 +91,7 @@ fn picture(well: &Well, placement: &Placement, rows: u8) -> Picture
 fn push_row(picture: &mut Picture, well: &Well, placement: &Placement, y: u8)
     requires column { placement.now.x ≤ 31 }
     requires row { placement.now.y ≤ 31 }
-    requires low { y ≤ 22 }
-    requires room { array_vec_len picture.old + 11 ≤ 253 }
+    requires room { array_vec_len picture.old + 11 ≤ 2805 }
     ensures items { picture.new.items ≡ picture.old.items ++ grid_row (filled well.now) placement.now y }
     ensures len { array_vec_len picture.new ≡ array_vec_len picture.old + 11 }
 {
@@ -107,23 +106,33 @@ fn push_row(picture: &mut Picture, well: &Well, placement: &Placement, y: u8)
 fn letter(well: &Well, placement: &Placement, cells: &[(i8, i8); 4], x: u8, y: u8) -> u8
     requires cells { cells.now ≡ cells_of placement.now }
     requires column { x ≤ 9 }
-    requires row { y ≤ 22 }
     ensures { result ≡ grid_letter (filled well.now) placement.now y x }
 {
     if has_cell(cells, x, y) {
         return placement.piece.letter();
     }
-    if well.cell(x, y) { b'X' } else { b'_' }
+    if is_filled(well, x, y) { b'X' } else { b'_' }
+}
+
+/// Whether the well has the cell in this column and row. It has none above its rows.
+#[tactic(auto, using(crate::proofs::GridLemmas::empty_above))]
+fn is_filled(well: &Well, x: u8, y: u8) -> bool
+    requires { x ≤ 9 }
+    ensures { result ≡ filled well.now x y }
+{
+    if y >= ROWS {
+        return false;
+    }
+    well.cell(x, y)
 }
 
 /// Whether one of the cells is in this column and row.
 #[tactic(auto, unfolding(srs::specs::SameCells::is_among))]
 fn has_cell(cells: &[(i8, i8); 4], x: u8, y: u8) -> bool
-    requires column { x ≤ 9 }
-    requires row { y ≤ 22 }
     ensures { result ≡ is_among cells.now (pos x, pos y) }
 {
+    let [x, y] = [i16::from(x), i16::from(y)];
     cells
         .iter()
-        .any(|cell| cell.0 == x as i8 && cell.1 == y as i8)
+        .any(|cell| i16::from(cell.0) == x && i16::from(cell.1) == y)
 }

@@ -48,13 +48,10 @@ is_done : {T E : Type 0} (result : Result T E) (all : T) → result ≡ Ok all �
 is_done (Ok x) all is = refl
 is_done (Err e) all is = cc
 
-pub write_listing-written-requires-clause-searching : goal.write_listing-written-requires-clause-searching
-write_listing-written-requires-clause-searching g c =
+pub write_listing-written-requires : goal.write_listing-written-requires
+write_listing-written-requires g c =
     let view = c.in-Ok-start.ensures.view in
     record { same = ap (λ (v : View). v.problem) view; all = ap (λ (v : View). v.queue) view; given = refl; made = c.in-Ok-start.ensures.work; bound = omega arith }
-
-pub write_listing-written-requires-clause-low : goal.write_listing-written-requires-clause-low
-write_listing-written-requires-clause-low g c = let low = c.in-Ok.ensures.fit.low in omega arith
 
 pub returns-clause-answers : goal.returns-clause-answers
 returns-clause-answers g c =

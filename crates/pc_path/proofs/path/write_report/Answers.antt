@@ -22,15 +22,15 @@ loop-count-init g c = (
   none_yet _ _,
   refl,
   omega arith,
-  not_begun c.args.problem.now (after_given c.args.search.now) c.args.search.now c.args.steps.now c.requires.searching,
+  not_begun c.args.problem.now (after_given c.args.search.now) c.args.search.now c.args.steps.now c.requires,
   refl,
   omega arith,
   grows_nothing _,
   refl,
 )
 
-pub write_solution-requires-clause-plays : goal.write_solution-requires-clause-plays
-write_solution-requires-clause-plays g c =
+pub write_solution-requires : goal.write_solution-requires
+write_solution-requires g c =
     next_plays c.args.problem.now (view_of c.loop-count.search) c.in-Some.sequence.items _ _ c.loop-count.invariant.4.same c.in-Some.ensures.list c.in-Some.ensures.found.0
 
 pub returns-in-None-clause-written : goal.returns-in-None-clause-written

@@ -18,7 +18,7 @@ abbrev default : Placement
 default = record { piece = I; rotation = Spawn; x = 0; y = 0 }
 
 pub loop-placement-init : goal.loop-placement-init
-loop-placement-init g c = (begins (g.O.Sink.written c.args.out.now) _, record { rows = c.args.problem.now.height; plays = c.requires.plays }, c.requires.low, none_yet _ _)
+loop-placement-init g c = (begins (g.O.Sink.written c.args.out.now) _, record { rows = c.args.problem.now.height; plays = c.requires }, none_yet _ _)
 
 pub picture-requires-clause-column : goal.picture-requires-clause-column
 picture-requires-clause-column g c =
@@ -51,8 +51,7 @@ loop-placement-preserved g c =
     (c.saturating_sub-rows.ensures ∙ ap (λ n. rows - n) c.lock-locked.ensures.removed) in (
       after_piece c.loop-placement.invariant.0 next c.in_ok-write.ensures.written,
       subst (λ F. PlaysOn table mode F s (i + 1)) (sym c.lock-locked.ensures.field) (plays_next table mode F s i default c.loop-placement-test.true c.loop-placement.invariant.1),
-      omega (arith, c.saturating_sub-rows.ensures, c.loop-placement.invariant.2),
-      none_more c.loop-placement.invariant.3 c.in_ok-write.ensures.cause,
+      none_more c.loop-placement.invariant.2 c.in_ok-write.ensures.cause,
     )
 
 pub returns-clause-written : goal.returns-clause-written

@@ -1,5 +1,5 @@
 -- The pictures so far are written, and so many rows are left in the field that the placements left.
-use Rattle.std.proofs.Common.{◌≡◌, ◌≤◌, drop}
+use Rattle.std.proofs.Common.{drop}
 use Rattle.srs.specs.Rules.{table_of}
 use Rattle.well.specs.Well.{filled}
 use Rattle.pc_outside.specs.CountLaws.{NoneFailed}
@@ -14,5 +14,4 @@ invariant-loop-placement g l =
     (grid_pictures (filled l.problem.well) l.problem.height l.placements)
     (grid_pictures (filled l.well) l.rows (drop l.placement-index l.placements))
     × PlaysOn (table_of l.problem.rules) l.problem.drop_mode (filled l.well) l.placements l.placement-index
-    × (l.rows ≤ 23)
     × NoneFailed g.O.Sink.counts_failures_alone (g.O.Sink.faults l.initial.out) (g.O.Sink.faults l.out)

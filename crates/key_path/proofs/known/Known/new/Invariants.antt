@@ -1,0 +1,7 @@
+-- No word so far.
+use Rattle.key_path.specs.Known.{KeepsNone}
+use Rattle.std.proofs.Common.{◌≡◌, None, All}
+use Rattle.key_path.proofs.known.Known.new.Given as goal
+
+abbrev pub invariant-loop : goal.invariant-loop
+invariant-loop l = All (λ place. place ≡ None) l.places.items
