@@ -12,9 +12,9 @@ use Rattle.pc_words.specs.Views.{AsksInRange}
 use Rattle.pc_words.specs.Words.{request_in}
 use Rattle.pc_kicks.specs.Lines.{kicks_form}
 use Rattle.pc_app.specs.Tasks.{asked_in, refused_task, task_for, task_in, task_of, with_table}
-use Rattle.pc_app.proofs.Outputs.{Has, Known, combo_has, cover_has, decode_has, encode_has, path_has, percent_has, selfrun_has, show_has}
-use Rattle.pc_app.proofs.Problems.{both_none}
-use Rattle.pc_app.proofs.Ranges.{asked_in_range}
+use Rattle.run_laws.proofs.Outputs.{Has, Known, combo_has, cover_has, decode_has, encode_has, path_has, percent_has, selfrun_has, show_has}
+use Rattle.run_laws.proofs.Problems.{both_none}
+use Rattle.run_laws.proofs.Ranges.{asked_in_range}
 
 no_fault : (task : Task) (bytes : List ℕ) → first_fault task bytes ≡ None → task.fault bytes ≡ None
 unfolding first_fault

@@ -73,9 +73,9 @@ use Rattle.pc_selfrun.specs.Lines.{selfrun_form}
 use Rattle.pc_selfrun.specs.Output.{IsSelfrunOutput}
 use Rattle.pc_selfrun.specs.Problem.{IsColumnProblem, column_field}
 use Rattle.pc_words.specs.Views.{HasNumber}
-use Rattle.pc_app.proofs.Problems.{Made, both_none, field_lies, problem-made, three_none}
-use Rattle.pc_app.proofs.Tables.{rules-made, srs_small}
-use Rattle.pc_app.proofs.Wells.{LiesInWell, well-made}
+use Rattle.run_laws.proofs.Problems.{Made, both_none, field_lies, problem-made, three_none}
+use Rattle.run_laws.proofs.Tables.{rules-made, srs_small}
+use Rattle.run_laws.proofs.Wells.{LiesInWell, well-made}
 
 -- what the laws of the crates below say
 pub record Known : Type 0 where

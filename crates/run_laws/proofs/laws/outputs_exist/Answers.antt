@@ -1,7 +1,7 @@
 -- What the laws of the crates below say gives each command its output.
-use Rattle.pc_app.proofs.Outputs.{Known}
-use Rattle.pc_app.proofs.OutputsOfWords.{has_output}
-use Rattle.pc_app.proofs.laws.outputs_exist.Goals as goal
+use Rattle.run_laws.proofs.Outputs.{Known}
+use Rattle.run_laws.proofs.OutputsOfWords.{has_output}
+use Rattle.run_laws.proofs.laws.outputs_exist.Goals as goal
 
 pub returns : goal.returns
 returns c = λ words bytes floods none.

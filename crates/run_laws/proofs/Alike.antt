@@ -9,7 +9,7 @@ use Rattle.pc_faults.specs.declared.status.Status.TheVariants.{Done, Input, Sour
 use Rattle.pc_source.specs.Sink.{SinkChange}
 use Rattle.pc_source.specs.Task.{Task, first_fault}
 use Rattle.pc_path.specs.Output.{stats_form}
-use Rattle.pc_app.specs.Undisturbed.{EndAlike, EndsUndisturbed}
+use Rattle.run_laws.specs.Undisturbed.{EndAlike, EndsUndisturbed}
 
 no_fault_and_one : (found : Option Fault) (fault : Fault) → found ≡ None → found ≡ Some fault → ⊥
 no_fault_and_one found fault none some = cc

@@ -1,9 +1,9 @@
 -- Both runs saw the same bytes.
 use Rattle.pc_words.specs.Words.{request_in}
 use Rattle.pc_app.specs.Tasks.{asked_in, task_of, tells_floods_in}
-use Rattle.pc_app.proofs.Alike.{both_end_alike}
-use Rattle.pc_app.proofs.Commands.{shared_output}
-use Rattle.pc_app.proofs.laws.reads_of_any_size_end_alike.Goals as goal
+use Rattle.run_laws.proofs.Alike.{both_end_alike}
+use Rattle.run_laws.proofs.SharedOutputs.{shared_output}
+use Rattle.run_laws.proofs.laws.reads_of_any_size_end_alike.Goals as goal
 
 pub returns : goal.returns
 returns c = λ words left bytes seen floods others sink sinks one other.

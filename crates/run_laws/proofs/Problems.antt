@@ -31,8 +31,8 @@ use Rattle.pc_source.specs.Faults.{cells_asked, field_fault}
 use Rattle.pc_source.specs.FieldText.{IsFieldOf, page_cells, text_given}
 use Rattle.pc_problem.specs.Faults as asked
 use Rattle.pc_problem.specs.Problem.{IsProblemOf}
-use Rattle.pc_app.proofs.Tables.{rules-made, spelled_small}
-use Rattle.pc_app.proofs.Wells.{LiesInWell, well-made}
+use Rattle.run_laws.proofs.Tables.{rules-made, spelled_small}
+use Rattle.run_laws.proofs.Wells.{LiesInWell, well-made}
 
 no_some : {A B : Type 0} (f : A → B) (o : Option A) → option_map f o ≡ None → o ≡ None
 no_some f None none = refl

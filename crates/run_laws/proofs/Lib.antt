@@ -1,0 +1,9 @@
+-- Lemmas of this crate.
+mod Alike
+mod Outputs
+mod OutputsOfWords
+mod Problems
+mod Ranges
+mod SharedOutputs
+mod Tables
+mod Wells
