@@ -1,4 +1,4 @@
-// Laws of several crates: functions with an empty body, whose contract is the law.
+// Laws of several crates: functions with an empty body whose contract is the law.
 ghost use Rattle.std.specs.Prelude.{◌≡◌, ◌↔◌, ℕ, Bool, IsTrue, List, None, Some, Contains, count_by, length, slice_get};
 ghost use Rattle.srs.specs.declared.piece.Piece.{Piece};
 ghost use Rattle.srs.specs.declared.placement.Placement.{Placement};
@@ -9,8 +9,8 @@ ghost use Rattle.problem.specs.Solution.{IsSolution};
 ghost use Rattle.cover.specs.Covered.{IsCovered, IsCoveredList};
 ghost use Rattle.percent.specs.Good.{Good};
 
-/// Where all solutions of a problem are among the sequences, whatever else is, exactly the good queues are covered. So
-/// as many are covered as pass a test for good queues.
+/// If all solutions of a problem are among the sequences, whatever else is, exactly the good queues are covered. So the
+/// number of covered queues is the number that pass a test for good queues.
 pub fn all_solutions_cover_the_good_queues()
     ensures each { (problem : Problem) (sequences : List (List Placement)) (number : ℕ) (queue : List Piece) →
         ((sequence : List Placement) → IsSolution problem None sequence → Contains sequences sequence) →

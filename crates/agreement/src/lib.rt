@@ -1,4 +1,4 @@
-// Laws that join the answers of several crates. It has no functions besides.
+// Laws that join the answers of several crates. This crate has no other functions.
 #![tactic(auto)]
 
 pub mod laws;

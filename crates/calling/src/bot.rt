@@ -41,8 +41,8 @@ fn with_keys(finder: &mut Finder, problem: &Problem, placement: Placement) -> Ke
     }
 }
 
-/// The first placement of the least solution of a fit problem, with the least keys that lead to it. `None` where there
-/// is no solution. Want of memory is the only refusal.
+/// The first placement of the least solution of a fit problem, with the least keys that lead to it. `None` if there is
+/// no solution. The only refusal is that memory runs out.
 pub fn first_move(alloc: Global, problem: Problem) -> Result<Option<KeyedPlacement>, NoMemory>
     requires { IsFit problem }
     ensures { IfOk result (IsFirstMove problem) }
@@ -55,8 +55,8 @@ pub fn first_move(alloc: Global, problem: Problem) -> Result<Option<KeyedPlaceme
     Ok(Some(with_keys(&mut finder, &problem, first)))
 }
 
-/// The first move of a field, a height and one queue, with hold and nothing held, soft drops, and the offsets of the
-/// Super Rotation System. A problem that is not fit is refused with its first fault.
+/// The first move for a field, a height and one queue, with hold and nothing held, soft drop, and the offsets of the
+/// Super Rotation System. A problem that is not fit is refused by its first fault.
 pub fn first_move_of(
     alloc: Global,
     well: Well,

@@ -35,8 +35,8 @@ fn first_failed_by<L: Ledger>(
     Ok(None)
 }
 
-/// The first queue of a fit problem's pattern that has no perfect clear, or `None` where each queue has one. Want of
-/// memory is the only refusal.
+/// The first queue of a fit problem's pattern that has no perfect clear. `None` if every queue has one. The only
+/// refusal is that memory runs out.
 pub fn first_failed(alloc: Global, problem: &Problem) -> Result<Option<Queue>, NoMemory>
     requires { IsFit problem.now }
     ensures { IfOk result (λ failed. IsFirstFailed problem.now (items_of failed)) }

@@ -1,4 +1,4 @@
-// Fumen texts, written again.
+// Rewriting fumen texts.
 ghost use Rattle.std.specs.Prelude.{IfOk, IfErr};
 ghost use Rattle.calling.specs.Rewritten.{IsRewriteFault, IsRewritten};
 
@@ -7,7 +7,7 @@ use fumen_text::{EncodeFault, decode, encode};
 use pc_outside::Refused;
 use std::alloc::Global;
 
-/// Why a fumen text is not written again.
+/// Why a fumen text is not rewritten.
 #[derive(Clone, Copy, Debug, PartialEq, Eq)]
 pub enum RewriteFault {
     /// The text can't be read, and this is its first fault.
@@ -16,7 +16,7 @@ pub enum RewriteFault {
     Write(EncodeFault),
 }
 
-/// The pages of a fumen text, of version 110 or 115, as a text of version 115. A text that can't be read is refused with
+/// The pages of a fumen text, of version 110 or 115, as a text of version 115. A text that can't be read is refused by
 /// its first fault.
 pub fn as_v115(alloc: Global, text: &[u8]) -> Result<Vec<u8>, Refused<RewriteFault>>
     ensures text { IfOk result (λ again. IsRewritten text.now again.items) }

@@ -1,4 +1,4 @@
-// First calls for crates of one's own: each answers one question, and none of them takes a counter of floods.
+// First calls for your own crates: each answers one question, and none of them takes a counter of floods.
 #![tactic(auto)]
 
 mod bot;

@@ -33,7 +33,7 @@ fn places_by<L: Ledger>(
     places(well, rules, piece, drop_mode, &mut steps)
 }
 
-/// The places that `reach::places` gives, for a caller who counts no floods.
+/// The places that `reach::places` gives, for a caller that counts no floods.
 pub fn places_uncounted(well: &Well, rules: &Rules, piece: Piece, drop_mode: DropMode) -> Places
     ensures piece { piece_of result ≡ piece }
     ensures held { (q : Placement) → (IsTrue (holds result q))
@@ -42,7 +42,7 @@ pub fn places_uncounted(well: &Well, rules: &Rules, piece: Piece, drop_mode: Dro
     places_by::<Brand>(Blank::new(1), well, rules, piece, drop_mode)
 }
 
-/// How many placements of a piece legal keys reach from the spawn. It is 0 where the spawn is not free.
+/// How many placements of a piece legal keys lead to from the spawn. 0 if the spawn is not free.
 pub fn count_places(well: &Well, rules: &Rules, piece: Piece, drop_mode: DropMode) -> u16
     ensures { IsPlaceCount (table_of rules.now) (filled well.now) drop_mode piece result }
 {

@@ -10,7 +10,7 @@ use hold_queue::{Hold, QueueSet};
 use queue_pattern::Pattern;
 use srs::Piece;
 
-/// Whether some queue permits these two pieces, where nothing was played.
+/// Whether some queue permits these two pieces, if nothing was played before.
 fn permits_both(start: &QueueSet, first: Piece, second: Piece) -> bool
     requires { (queues_in_play start.now).played ≡ [] }
     ensures { IsTrue result ↔ QueuesPermit (queues_in_play start.now) (first ∷ second ∷ []) }
@@ -21,7 +21,7 @@ fn permits_both(start: &QueueSet, first: Piece, second: Piece) -> bool
     start.after(first).may_play(second)
 }
 
-/// Whether a piece may be the second that is played: some queue of the pattern permits some first piece followed by it.
+/// Whether a piece may be the second to be played: some queue of the pattern permits some first piece followed by it.
 pub fn may_come_second(pattern: &Pattern, hold: Hold, held: Option<Piece>, piece: Piece) -> bool
     ensures { IsTrue result ↔ ((first : Piece)
         × SomePermits hold (queues (elements_of pattern.now)) held (first ∷ piece ∷ [])) }

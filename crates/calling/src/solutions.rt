@@ -32,7 +32,7 @@ fn least_by<L: Ledger>(
     Ok(search.next(&mut steps))
 }
 
-/// The first solution of a fit problem, or `None` where it has none. Want of memory is the only refusal.
+/// The first solution of a fit problem. `None` if it has none. The only refusal is that memory runs out.
 pub fn least_solution(alloc: Global, problem: Problem) -> Result<Option<Sequence>, NoMemory>
     requires { IsFit problem }
     ensures { IfOk result (λ least. IsNextAbove sequence_cmp (IsSolution problem None) None (items_of least)) }
@@ -63,7 +63,7 @@ fn count_by<L: Ledger>(
     Ok(limit)
 }
 
-/// How many solutions a fit problem has, or the limit where it has more. Want of memory is the only refusal.
+/// How many solutions a fit problem has, or the limit if it has more. The only refusal is that memory runs out.
 pub fn count_solutions(alloc: Global, problem: Problem, limit: u64) -> Result<u64, NoMemory>
     requires { IsFit problem }
     ensures { IfOk result (IsSolutionCount problem limit) }

@@ -1,4 +1,4 @@
-// Each call once, over fields whose answers are known.
+// Each call once, on fields whose answers are known.
 ghost use Rattle.problem.specs.Problem.{IsFit};
 
 use super::*;
@@ -106,7 +106,7 @@ fn fumen_texts_written_again(rt: HostRuntime) -> Result<(), Fail> {
     Ok(())
 }
 
-/// A comment of 1,400 exclamation marks, each of which is escaped by three characters.
+/// A comment of 1,400 exclamation marks. Each of them is three characters once it is escaped.
 #[test]
 fn a_comment_that_grows_too_long(rt: HostRuntime) -> Result<(), Fail> {
     let mut text = b"v115@vhAAgW4V".to_vec(rt.alloc())?;
