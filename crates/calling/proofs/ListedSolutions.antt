@@ -1,5 +1,5 @@
 -- A search passes the list of a problem's solutions, one after the other.
-use Rattle.std.proofs.Common.{◌≡◌, ℕ, ◌+◌, ◌<◌, List, [], ◌∷◌, length, refl, ap, subst, ◌∙◌, arith}
+use Rattle.std.proofs.Common.{◌≡◌, ℕ, ◌+◌, ◌<◌, List, [], ◌∷◌, length, ap, subst, ◌∙◌, arith}
 use Rattle.std.specs.Prelude.{None}
 use Rattle.srs.specs.declared.placement.Placement.{Placement}
 use Rattle.problem.specs.declared.problem.Problem.{Problem}

@@ -1,7 +1,7 @@
 -- Each turn finds the first queue that fails, or one more that is good.
-use Rattle.std.proofs.Common.{◌≡◌, ◌<◌, true, false, length, arith}
+use Rattle.std.proofs.Common.{◌≡◌, true, false, arith}
 use Rattle.percent.specs.Answers.{problem_of}
-use Rattle.calling.proofs.FailedQueues.{all_good, fails_first, good_more, pattern_queues}
+use Rattle.calling.proofs.FailedQueues.{all_good, fails_first, good_more}
 use Rattle.calling.proofs.failed.first_failed_by.Goals as goal
 
 pub returns-then-not-is_good : goal.returns-then-not-is_good

@@ -1,5 +1,5 @@
 -- A first piece is found, or none of all goes before the piece.
-use Rattle.std.proofs.Common.{◌≡◌, ◌<◌, true, [], ◌∷◌, get_or, below_more, arith}
+use Rattle.std.proofs.Common.{◌≡◌, true, [], ◌∷◌, get_or, below_more, arith}
 use Rattle.srs.specs.declared.piece.Piece.TheVariants.{I}
 use Rattle.srs.specs.Piece.{all_pieces}
 use Rattle.queue_pattern.specs.Pattern.{elements_of}
