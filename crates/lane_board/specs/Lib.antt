@@ -4,5 +4,6 @@ pub mod FullRows
 pub mod CellCount
 pub mod RemovalLaws
 pub mod Board
+pub mod Words
 -- What serves proofs alone
 pub mod Lanes

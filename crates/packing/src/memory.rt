@@ -1,12 +1,14 @@
 // A memory of which placements leave a tiling.
 ghost use Rattle.std.specs.Prelude.{◌≡◌, ◌↔◌, ◌≤◌, ◌<◌, IsTrue, IfSome, IfOk, true, false, length};
+ghost use Rattle.lane_board.specs.Words.{cells_of_words};
 ghost use Rattle.srs.specs.declared.placement.Placement.{Placement};
+ghost use Rattle.srs.specs.Rotation.{rotation_place};
 ghost use Rattle.prune.specs.Tiling.{supply_in, Tiling};
 ghost use Rattle.packing.specs.Empties.{all_but, empty_cells, without_placement};
 ghost use Rattle.packing.specs.HasTiling.{has_tiling};
 ghost use Rattle.packing.specs.Pivots.{has_pivot};
 
-use crate::decided::place_of;
+use crate::decided;
 use crate::empties::Empties;
 use crate::pivots::Pivots;
 use crate::store::TilingStore;
@@ -93,6 +95,15 @@ impl Remembered {
     }
 }
 
+/// The place of a question about a piece among so many.
+#[inline(always)]
+fn place_of(cells: &Empties, supply: &[u8; 7], piece: Piece, count: usize) -> usize
+    requires { 0 < count }
+    ensures { result < count }
+{
+    (decided::place_of(cells, supply, count) ^ 4679 * piece.code() as usize) & (count - 1)
+}
+
 /// Remembers which placements leave a tiling, by the cells, the supply and the piece. A later set evicts an earlier
 /// one.
 #[derive(Drop)]
@@ -123,7 +134,7 @@ impl PlaceMemory {
         ensures { result ≡ has_tiling (all_but (without_placement (empty_cells cells.now) placement.now)) 8
             (supply_in supply.now) }
     {
-        let place = place_of(cells, supply, self.sets.len());
+        let place = place_of(cells, supply, placement.piece, self.sets.len());
         if let Some(answer) = self.sets[place].answer_to(cells, supply, placement) {
             return answer;
         }
@@ -134,6 +145,21 @@ impl PlaceMemory {
                 .with(placement, answer);
         }
         answer
+    }
+
+    /// The placements of a piece that are remembered to leave no tiling, by their pivots in rows 0 to 7: two words for
+    /// each rotation, in the order 0, R, 2, L, four rows in each word, and sixteen bits for each row.
+    #[inline(always)]
+    pub fn dead_pivots(&self, cells: &Empties, supply: &[u8; 7], piece: Piece) -> [u64; 8]
+        ensures { (q : Placement) → q.piece ≡ piece
+            → cells_of_words result (rotation_place q.rotation) q.x q.y ≡ true
+            → has_tiling (all_but (without_placement (empty_cells cells.now) q)) 8 (supply_in supply.now) ≡ false }
+    {
+        let known = &self.sets[place_of(cells, supply, piece, self.sets.len())];
+        if known.is_about(cells, supply, piece) {
+            return known.dead.words();
+        }
+        [0; 8]
     }
 
     /// What is remembered about a question, possibly nothing.

@@ -1,24 +1,48 @@
 // Sets of placements of one piece, by their pivots.
-ghost use Rattle.std.specs.Prelude.{◌≡◌, ◌≤◌, true, false, IsTrue};
+ghost use Rattle.std.specs.Prelude.{◌≡◌, ◌≤◌, ◌<◌, ◌+◌, ◌*◌, ◌/◌, ◌%◌, true, false, IsTrue};
 ghost use Rattle.srs.specs.declared.placement.Placement.{Placement};
+ghost use Rattle.srs.specs.Rotation.{rotation_place};
 
 use srs::Placement;
 
-/// Placements of one piece with their pivot in columns 0 to 9 and rows 0 to 7.
+/// Placements of one piece with the pivot in columns 0 to 15 and rows 0 to 7.
 #[derive(Clone, Copy)]
 pub(crate) struct Pivots {
-    /// The pivots of each rotation: bit `8 * column + row`.
-    rotations: [u128; 4],
+    /// Two words for each rotation, in the order 0, R, 2, L; four rows in each word, sixteen bits for each row.
+    rotations: [u64; 8],
+}
+
+/// The word in which a placement has its bit, and the place of the bit there.
+#[inline(always)]
+fn place_of(placement: &Placement) -> (usize, u8)
+    requires column { placement.now.x ≤ 15 }
+    requires row { placement.now.y ≤ 7 }
+    ensures word { result.0 ≡ 2 * rotation_place placement.now.rotation + placement.now.y / 4 }
+    ensures within { result.0 < 8 }
+    ensures bit { result.1 ≡ 16 * (placement.now.y % 4) + placement.now.x }
+{
+    let word = 2 * placement.rotation.place() + placement.y / 4;
+    (usize::from(word), 16 * (placement.y % 4) + placement.x)
 }
 
 impl Pivots {
+    ghost use Rattle.lane_board.specs.Words.{cells_of_words};
     ghost use Rattle.packing.specs.Pivots.{has_pivot};
 
     /// The empty set of placements.
     pub(crate) fn none() -> Pivots
         ensures { (q : Placement) → has_pivot result q ≡ false }
     {
-        Pivots { rotations: [0; 4] }
+        Pivots { rotations: [0; 8] }
+    }
+
+    /// Their pivots: two words for each rotation, four rows in each word, sixteen bits for each row.
+    #[inline(always)]
+    pub(crate) fn words(&self) -> [u64; 8]
+        ensures { (q : Placement) → has_pivot self.now q
+            ≡ cells_of_words result (rotation_place q.rotation) q.x q.y }
+    {
+        self.rotations
     }
 
     /// Whether a placement is one of these.
@@ -26,14 +50,14 @@ impl Pivots {
     pub(crate) fn has(&self, placement: &Placement) -> bool
         ensures { result ≡ has_pivot self.now placement.now }
     {
-        if 9 < placement.x {
+        if 15 < placement.x {
             return false;
         }
         if 7 < placement.y {
             return false;
         }
-        let rows = self.rotations[placement.rotation.place() as usize];
-        rows >> (8 * placement.x + placement.y) & 1 == 1
+        let (word, bit) = place_of(placement);
+        self.rotations[word] >> bit & 1 == 1
     }
 
     /// Adds a placement.
@@ -45,6 +69,7 @@ impl Pivots {
         ensures only { (q : Placement) → q.piece ≡ placement.now.piece → IsTrue (has_pivot self.new q)
             → has_pivot self.old q ≡ false → q ≡ placement.now }
     {
-        self.rotations[placement.rotation.place() as usize] |= 1 << (8 * placement.x + placement.y);
+        let (word, bit) = place_of(placement);
+        self.rotations[word] |= 1 << bit;
     }
 }

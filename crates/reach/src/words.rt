@@ -59,6 +59,15 @@ pub(crate) fn without_lowest(word: u64) -> u64
     word & (word - 1)
 }
 
+/// The bits of a word that aren't in another one.
+#[inline(always)]
+pub(crate) fn bits_without(word: u64, others: u64) -> u64
+    ensures bits { (k : ℕ) → has_bit result k ≡ (has_bit word k && not (has_bit others k)) }
+    ensures nothing { word ≡ 0 → result ≡ 0 }
+{
+    word ^ (word & others)
+}
+
 /// The bits of the first `rows` of the four rows of a word.
 #[inline(always)]
 pub(crate) fn in_low_rows(word: u64, rows: u8) -> u64

@@ -4,10 +4,10 @@ use Rattle.packing.proofs.PivotLemmas.{has_added, keeps_added, only_added}
 use Rattle.packing.proofs.pivots.Pivots.add.Goals as goal
 
 pub returns-clause-added : goal.returns-clause-added
-returns-clause-added c = rw c.place.ensures (has_added c.args.self.now (omega arith) c.args.placement.now c.requires.column c.requires.row)
+returns-clause-added c = has_added c.args.self.now (omega arith) c.args.placement.now c.requires.column c.requires.row _ _ c.place_of-word.ensures.word c.place_of-word.ensures.bit
 
 pub returns-clause-kept : goal.returns-clause-kept
-returns-clause-kept c = rw c.place.ensures (keeps_added c.args.self.now (omega arith) c.args.placement.now c.requires.column c.requires.row)
+returns-clause-kept c = keeps_added c.args.self.now (omega arith) c.args.placement.now c.requires.column c.requires.row _ _ c.place_of-word.ensures.word c.place_of-word.ensures.bit
 
 pub returns-clause-only : goal.returns-clause-only
-returns-clause-only c = rw c.place.ensures (only_added c.args.self.now (omega arith) c.args.placement.now c.requires.column c.requires.row)
+returns-clause-only c = only_added c.args.self.now (omega arith) c.args.placement.now c.requires.column c.requires.row _ _ c.place_of-word.ensures.word c.place_of-word.ensures.bit
