@@ -111,9 +111,9 @@ floods-choice false xs ys le = omega arith
 pub floods-sought : (left : ℕ) (prefix : List Placement) (n : Position) (given : List Placement) → floods (sought left prefix n given) ≤ floods (enter left prefix n)
 unfolding sought enter floods tried
 floods-sought zero prefix n given = omega arith
-floods-sought (suc left) prefix n [] = omega arith
+floods-sought (suc left) prefix n [] = floods-choice (is_live left n) (tried_in_turn (enter left) prefix n all_pieces) (Tick ∷ tried_in_turn (enter left) prefix n all_pieces) (omega arith)
 floods-sought (suc left) prefix n (q ∷ given) =
-    floods-choice (is_live left n) (kind ++ tried_in_turn (enter left) prefix n (drop (piece_code q.piece) all_pieces)) (tried_in_turn (enter left) prefix n all_pieces)
+    floods-choice (is_live left n) (kind ++ tried_in_turn (enter left) prefix n (drop (piece_code q.piece) all_pieces)) (Tick ∷ tried_in_turn (enter left) prefix n all_pieces)
     (omega (
       arith,
       floods-append kind (tried_in_turn (enter left) prefix n (drop (piece_code q.piece) all_pieces)),

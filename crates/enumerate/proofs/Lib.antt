@@ -15,6 +15,7 @@ mod FloodCounts
 mod Pairs
 mod TurnLemmas
 mod Taken
+mod DeadPlaces
 mod Stacks
 mod SkipLemmas
 mod SeekLemmas

@@ -21,6 +21,7 @@ use Rattle.enumerate.specs.Position.{Position, after_of, can_be_tiled, may_play,
 use Rattle.enumerate.specs.Events.{Tick, Flood, Found, floods, entered, tried, tried_in_turn, enter, begun}
 use Rattle.enumerate.specs.Work.{can_stand, can_be_played, stays_tiled, is_live_prefix, work_from}
 use Rattle.enumerate.proofs.FloodCounts.{floods-flat_map, floods-tried_in_turn}
+use Rattle.enumerate.proofs.Walks.{floods-tick}
 use Rattle.enumerate.proofs.PermitLaws.{line_permits-front}
 use Rattle.enumerate.proofs.Choices.{if_false, if_true}
 
@@ -152,13 +153,13 @@ unfolding enter work_from floods is_live
 floods-enter zero root prefix n at played = leaf-floods (n.rows == 0) prefix
 floods-enter (suc left) root prefix n at played = elim (cases_Bool (can_be_tiled (suc left) n)) [
   | inl alive ↦
-      ap floods (if_true (can_be_tiled (suc left) n) (tried_in_turn (enter left) prefix n all_pieces) [] alive)
+      ap floods (if_true (can_be_tiled (suc left) n) (Tick ∷ tried_in_turn (enter left) prefix n all_pieces) [] alive)
       ∙ floods-tried_in_turn (enter left) prefix n all_pieces
       ∙ sum_by-same (λ c. floods (tried (enter left) prefix n c)) (λ c. if queues_permit root.line (pieces_of prefix ++ c ∷ []) then 1 + sum_by (λ q. work_from left root (prefix ++ q ∷ [])) (placements_of c) else 0) all_pieces
       (λ c _. kind-floods left root prefix n at alive (floods-enter left root) c)
       ∙ sym (if_true (is_live_prefix (suc left) root prefix) _ 0 (live-prefix (suc left) root prefix n at played ∙ alive))
   | inr dead ↦
-      ap floods (if_false (can_be_tiled (suc left) n) (tried_in_turn (enter left) prefix n all_pieces) [] dead)
+      ap floods (if_false (can_be_tiled (suc left) n) (Tick ∷ tried_in_turn (enter left) prefix n all_pieces) [] dead)
       ∙ sym (if_false (is_live_prefix (suc left) root prefix) _ 0 (live-prefix (suc left) root prefix n at played ∙ dead))
 ]
 
@@ -189,7 +190,7 @@ pub floods-begun : (left : ℕ) (root : Position) → root.line.played ≡ [] �
 unfolding begun enter floods is_live
 floods-begun zero root none = unfold work_from in refl
 floods-begun (suc left) root none = elim (cases_Bool (can_be_played root [])) [
-  | inl played ↦ floods-enter (suc left) root [] root (root-at (suc left) root none) played
+  | inl played ↦ sym (floods-tick (is_live left root) (tried_in_turn (enter left) [] root all_pieces)) ∙ floods-enter (suc left) root [] root (root-at (suc left) root none) played
   | inr unplayed ↦ nothing (can_be_tiled (suc left) root) (floods-tried_in_turn (enter left) [] root all_pieces
       ∙ sum_by-same (λ c. floods (tried (enter left) [] root c)) (λ c. 0) all_pieces (λ c _. none_tried left root c (root-dead root none unplayed c))
       ∙ no_sum) ∙ sym (work-unplayed (suc left) root [] unplayed)

@@ -3,6 +3,7 @@ use Rattle.std.proofs.Common.{◌≡◌, ℕ, zero, suc, ◌≤◌, Bool, List, 
 use Rattle.std.specs.Prelude.{Option, Some, None, filter, find, ◌==◌}
 use Rattle.std.proofs.lemmas.Bool.{cases_Bool}
 use Rattle.srs.specs.declared.piece.Piece.{Piece}
+use Rattle.srs.specs.Piece.{all_pieces}
 use Rattle.srs.specs.declared.placement.Placement.{Placement}
 use Rattle.srs.specs.Order.{sequence_cmp}
 use Rattle.lists.specs.Rising.{is_above, IsRisingListOf}
@@ -15,8 +16,8 @@ use Rattle.problem.specs.declared.problem.Problem.{Problem}
 use Rattle.problem.specs.Problem.{IsFit, needed_of}
 use Rattle.problem.specs.Solution.{IsSolution, pieces_of, queues_that_count}
 use Rattle.problem.specs.SolutionList.{IsList}
-use Rattle.enumerate.specs.Position.{Position, line_at, root_of}
-use Rattle.enumerate.specs.Events.{begun, enter, found, floods, sought}
+use Rattle.enumerate.specs.Position.{Position, is_live, line_at, root_of}
+use Rattle.enumerate.specs.Events.{begun, enter, found, floods, sought, tried_in_turn}
 use Rattle.enumerate.specs.Rest.{whole_from}
 use Rattle.enumerate.specs.Work.{pairs}
 use Rattle.enumerate.proofs.FloodCounts.{floods-sought}
@@ -28,11 +29,11 @@ use Rattle.enumerate.proofs.Solutions.{sols, sols-rising}
 use Rattle.enumerate.proofs.Sought.{found-sought}
 use Rattle.enumerate.proofs.Choices.{if_false}
 use Rattle.enumerate.proofs.TurnLemmas.{not-zero}
-use Rattle.enumerate.proofs.Walks.{finds-enter, prefixed-nil}
+use Rattle.enumerate.proofs.Walks.{finds-enter, floods-tick, found-tick, prefixed-nil}
 
 found-begun : (left : ℕ) (n : Position) → found (begun (suc left) n) ≡ sols (suc left) n
-unfolding begun found enter
-found-begun left n = (finds-enter (suc left)).same [] n ∙ prefixed-nil (sols (suc left) n)
+unfolding begun enter
+found-begun left n = sym (found-tick (is_live left n) (tried_in_turn (enter left) [] n all_pieces)) ∙ (finds-enter (suc left)).same [] n ∙ prefixed-nil (sols (suc left) n)
 
 begun-none : (n : Position) → found (begun zero n) ≡ []
 unfolding begun found
@@ -164,8 +165,8 @@ unfolding sought floods
 none-floods n given = refl
 
 entered-floods : (left : ℕ) (n : Position) → floods (enter (suc left) [] n) ≡ floods (begun (suc left) n)
-unfolding enter begun floods
-entered-floods left n = refl
+unfolding enter begun
+entered-floods left n = floods-tick (is_live left n) (tried_in_turn (enter left) [] n all_pieces)
 
 begun-floods : (left : ℕ) (n : Position) (given : List Placement) → floods (sought left [] n given) ≤ floods (begun left n)
 begun-floods zero n given = omega (arith, none-floods n given)

@@ -179,19 +179,24 @@ unfolding prefixed
 prefixed-empty prefix [] e = refl
 prefixed-empty prefix (s ∷ l) e = cc
 
--- where entering comes to one tick, or to a solution with no placement to come, nothing is above the given sequence
-tick-dead : (left : ℕ) (prefix : List Placement) (n : Position) (given : List Placement) → enter left prefix n ≡ Tick ∷ [] → (found (sought left prefix n given) ≡ []) × (floods (sought left prefix n given) ≡ 0)
-unfolding found floods prefixed
-tick-dead left prefix n given e =
-    let none : sols left n ≡ [] = prefixed-empty prefix (sols left n) (sym ((finds-enter left).same prefix n) ∙ ap found e) in (
+-- where entering finds nothing and makes no flood, or comes to a solution with no placement to come, nothing is above
+-- the given sequence
+none-dead : (left : ℕ) (prefix : List Placement) (n : Position) (given : List Placement) → found (enter left prefix n) ≡ [] → floods (enter left prefix n) ≡ 0 → (found (sought left prefix n given) ≡ []) × (floods (sought left prefix n given) ≡ 0)
+unfolding prefixed
+none-dead left prefix n given finds makes =
+    let none : sols left n ≡ [] = prefixed-empty prefix (sols left n) (sym ((finds-enter left).same prefix n) ∙ finds) in (
       found-sought left prefix n given ∙ ap (λ l. prefixed prefix (filter (past given) l)) none,
-      omega (arith, floods-sought left prefix n given, ap floods e),
+      omega (arith, floods-sought left prefix n given, makes),
     )
 
 full-dead : (left : ℕ) (prefix s : List Placement) (n : Position) (given : List Placement) → enter left prefix n ≡ Found s ∷ [] → (found (sought left prefix n given) ≡ []) × (floods (sought left prefix n given) ≡ 0)
 unfolding sought found floods enter
 full-dead zero prefix s n given e = (refl, refl)
-full-dead (suc left) prefix s n given e = cc
+full-dead (suc left) prefix s n given e = none (is_live left n) e
+  where
+    none : {A : Type 0} (b : Bool) → (if b then Tick ∷ tried_in_turn (enter left) prefix n all_pieces else []) ≡ Found s ∷ [] → A
+    none true e = cc
+    none false e = cc
 
 module _ (table : Table) (mode : DropMode) (old new : Frame) (same : SamePosition old new) (q : Placement) where
   abbrev there : Position
@@ -220,7 +225,14 @@ module _ (table : Table) (mode : DropMode) (old new : Frame) (same : SamePositio
 
   pub dead-passed : (b : Bool) → EntersAs new q (λ table mode prefix. Tick ∷ []) → (prefix given : List Placement) →
       (found (if b && is_below old.rows q then sought old.left (prefix ++ q ∷ []) (after_of there q) given else []) ≡ []) × (floods (if b && is_below old.rows q then sought old.left (prefix ++ q ∷ []) (after_of there q) given else []) ≡ 0)
-  dead-passed b enters = first-dead b (λ table mode prefix. Tick ∷ []) enters (λ prefix given e. tick-dead old.left (prefix ++ q ∷ []) (after_of there q) given e)
+  unfolding found floods
+  dead-passed b enters = first-dead b (λ table mode prefix. Tick ∷ []) enters (λ prefix given e. none-dead old.left (prefix ++ q ∷ []) (after_of there q) given (ap found e) (ap floods e))
+
+  -- a place that leaves no tiling
+  pub dead-untiled : (b : Bool) → EntersAs new q (λ table mode prefix. []) → (prefix given : List Placement) →
+      (found (if b && is_below old.rows q then sought old.left (prefix ++ q ∷ []) (after_of there q) given else []) ≡ []) × (floods (if b && is_below old.rows q then sought old.left (prefix ++ q ∷ []) (after_of there q) given else []) ≡ 0)
+  unfolding found floods
+  dead-untiled b enters = first-dead b (λ table mode prefix. []) enters (λ prefix given e. none-dead old.left (prefix ++ q ∷ []) (after_of there q) given (ap found e) (ap floods e))
 
   pub dead-full : (b : Bool) → EntersAs new q (λ table mode prefix. Found prefix ∷ []) → (prefix given : List Placement) →
       (found (if b && is_below old.rows q then sought old.left (prefix ++ q ∷ []) (after_of there q) given else []) ≡ []) × (floods (if b && is_below old.rows q then sought old.left (prefix ++ q ∷ []) (after_of there q) given else []) ≡ 0)

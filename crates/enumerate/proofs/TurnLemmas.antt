@@ -148,9 +148,9 @@ module _ (frame : Frame) (q : Placement) (below : is_below frame.rows q ≡ true
           let depth : frame.left ≡ suc child.left = omega (arith, left) in
           if_true (is_below frame.rows q) (enter frame.left (prefix ++ q ∷ []) next) [] below
           ∙ ap (λ left. enter left (prefix ++ q ∷ []) next) depth
+          ∙ if_true (is_live child.left next) (Tick ∷ tried_in_turn (enter child.left) (prefix ++ q ∷ []) next all_pieces) [] (live table mode)
           ∙ ap (λ l. Tick ∷ l)
-          (if_true (is_live child.left next) (tried_in_turn (enter child.left) (prefix ++ q ∷ []) next all_pieces) [] (live table mode)
-          ∙ sym (λ i. tried_in_turn (enter child.left) (prefix ++ q ∷ []) (child-position table mode i) all_pieces)
+          (sym (λ i. tried_in_turn (enter child.left) (prefix ++ q ∷ []) (child-position table mode i) all_pieces)
           ∙ ap (λ k. tried_in_turn (enter child.left) (prefix ++ q ∷ []) (position_of table mode child) (drop k all_pieces)) (sym tried)
           ∙ ap (λ p. flat_map (entered (enter child.left) (prefix ++ q ∷ []) (position_of table mode child)) (places_left p child.entered)
           ++ tried_in_turn (enter child.left) (prefix ++ q ∷ []) (position_of table mode child) (drop child.tried all_pieces)) (sym places));
@@ -158,7 +158,7 @@ module _ (frame : Frame) (q : Placement) (below : is_below frame.rows q ≡ true
 
   -- a position that has no tiling
   pub enters-dead : (left : ℕ) → left + 1 ≡ frame.left → ((table : Table) (mode : DropMode) → is_live left (after_of (position_of table mode frame) q) ≡ false) →
-      EntersAs frame q (λ table mode prefix. Tick ∷ [])
+      EntersAs frame q (λ table mode prefix. [])
   unfolding entered enter position_of
   enters-dead left less dead = record {
     same = λ table mode prefix.
@@ -166,8 +166,7 @@ module _ (frame : Frame) (q : Placement) (below : is_below frame.rows q ≡ true
         let depth : frame.left ≡ suc left = omega (arith, less) in
         if_true (is_below frame.rows q) (enter frame.left (prefix ++ q ∷ []) next) [] below
         ∙ ap (λ left. enter left (prefix ++ q ∷ []) next) depth
-        ∙ ap (λ l. Tick ∷ l)
-        (if_false (is_live left next) (tried_in_turn (enter left) (prefix ++ q ∷ []) next all_pieces) [] (dead table mode));
+        ∙ if_false (is_live left next) (Tick ∷ tried_in_turn (enter left) (prefix ++ q ∷ []) next all_pieces) [] (dead table mode);
   }
 
 -- ---- trying kinds, and a whole turn
@@ -255,17 +254,12 @@ module _ (table : Table) (mode : DropMode) (old new : Frame) (same : SamePositio
 
 -- the next placement is entered
 module _ (table : Table) (mode : DropMode) (old new : Frame) (same : SamePosition old new) (q : Placement)
-    (first : places_left old.places old.entered ≡ q ∷ places_left new.places new.entered) (kinds : new.tried ≡ old.tried) (step : new.entered ≡ Some q) where
-  pub goes-entered : (events : Table → DropMode → List Placement → List Event) → EntersAs new q events →
-      GoesAs table mode old (λ prefix. events table mode (prefix ++ entered_placement new) ++ events_of table mode prefix new)
+    (first : places_left old.places old.entered ≡ q ∷ places_left new.places new.entered) (kinds : new.tried ≡ old.tried) where
+  pub one-entered : (prefix : List Placement) → events_of table mode prefix old ≡ entered (enter new.left) prefix (position_of table mode new) q ++ events_of table mode prefix new
   unfolding events_of
-  goes-entered events enters = record {
-    same = λ prefix.
-        (λ i. flat_map (entered (enter (left i)) prefix (position i)) (first i) ++ tried_in_turn (enter (left i)) prefix (position i) (drop (kinds' i) all_pieces))
-        ∙ append_assoc (entered (enter new.left) prefix (position_of table mode new) q) (flat_map (entered (enter new.left) prefix (position_of table mode new)) (places_left new.places new.entered)) (tried_in_turn (enter new.left) prefix (position_of table mode new) (drop new.tried all_pieces))
-        ∙ ap (λ l. l ++ (flat_map (entered (enter new.left) prefix (position_of table mode new)) (places_left new.places new.entered) ++ tried_in_turn (enter new.left) prefix (position_of table mode new) (drop new.tried all_pieces)))
-        (enters.same table mode prefix ∙ ap (λ s. events table mode (prefix ++ s)) (sym step-is));
-  }
+  one-entered prefix =
+      (λ i. flat_map (entered (enter (left i)) prefix (position i)) (first i) ++ tried_in_turn (enter (left i)) prefix (position i) (drop (kinds' i) all_pieces))
+      ∙ append_assoc (entered (enter new.left) prefix (position_of table mode new) q) (flat_map (entered (enter new.left) prefix (position_of table mode new)) (places_left new.places new.entered)) (tried_in_turn (enter new.left) prefix (position_of table mode new) (drop new.tried all_pieces))
     where
       left : old.left ≡ new.left
       left = sym same.left
@@ -276,8 +270,8 @@ module _ (table : Table) (mode : DropMode) (old new : Frame) (same : SamePositio
       position : position_of table mode old ≡ position_of table mode new
       position = sym (same-position table mode old new same)
 
-      step-is : entered_placement new ≡ q ∷ []
-      step-is = ap option_to_list step
+  pub one-passed : EntersAs new q (λ table mode prefix. []) → (prefix : List Placement) → events_of table mode prefix old ≡ events_of table mode prefix new
+  one-passed enters prefix = one-entered prefix ∙ ap (λ l. l ++ events_of table mode prefix new) (enters.same table mode prefix)
 
 -- where nothing is left to enter at a frame, what it does is what another does at its position with the same kinds
 module _ (table : Table) (mode : DropMode) (old mid : Frame) (same : SamePosition old mid) (kinds : mid.tried ≡ old.tried)
@@ -300,12 +294,8 @@ module _ (table : Table) (mode : DropMode) (old mid : Frame) (same : SamePositio
       position : position_of table mode old ≡ position_of table mode mid
       position = sym (same-position table mode old mid same)
 
-  pub turns-from : (new child : Frame) (result : Turn) (before now : ℕ) → Turns table mode mid new child result before now → Turns table mode old new child result before now
-  turns-from new child Passed before now turns = (goes-from _ turns.0, turns.1)
-  turns-from new child Flooded before now turns = (goes-from _ turns.0, turns.1)
-  turns-from new child Entered before now turns = (goes-from _ turns.0, turns.1, turns.2 ∙ same.left)
-  turns-from new child Full before now turns = (goes-from _ turns.0, turns.1)
-  turns-from new child Over before now turns = (goes-from _ turns.0, turns.1)
+  pub none-left : (prefix : List Placement) → events_of table mode prefix old ≡ events_of table mode prefix mid
+  none-left prefix = (goes-from (λ prefix. events_of table mode prefix mid) record { same = λ prefix. refl }).same prefix
 
 pub line-permits : (line : QueuesInPlay) (c : Piece) → may_play line c ≡ true → QueuesPermit line (line.played ++ c ∷ [])
 unfolding may_play
@@ -318,15 +308,34 @@ not-zero k differs = elim (cases_Bool (k == 0)) [
 ]
 
 -- a turn that enters a placement
-pub enters-turn : (table : Table) (mode : DropMode) (old new : Frame) (same : SamePosition old new) (q : Placement)
-    (first : places_left old.places old.entered ≡ q ∷ places_left new.places new.entered) (kinds : new.tried ≡ old.tried) (step : new.entered ≡ Some q)
-    (child : Frame) (result : Turn) (steps : ℕ) → Enters new q child result → Turns table mode old new child result steps steps
-enters-turn table mode old new same q first kinds step child Passed steps enters = (goes-entered table mode old new same q first kinds step (λ table mode prefix. Tick ∷ []) enters, refl)
-enters-turn table mode old new same q first kinds step child Flooded steps enters = absurd enters
-enters-turn table mode old new same q first kinds step child Entered steps enters =
-    (goes-entered table mode old new same q first kinds step (λ table mode prefix. Tick ∷ events_of table mode prefix child) enters.0, refl, enters.1.left ∙ same.left)
-enters-turn table mode old new same q first kinds step child Full steps enters = (goes-entered table mode old new same q first kinds step (λ table mode prefix. Found prefix ∷ []) enters, refl)
-enters-turn table mode old new same q first kinds step child Over steps enters = absurd enters
+module _ (table : Table) (mode : DropMode) (old new : Frame) (left : new.left ≡ old.left) (q : Placement) (step : new.entered ≡ Some q)
+    (goes : (prefix : List Placement) → events_of table mode prefix old ≡ entered (enter new.left) prefix (position_of table mode new) q ++ events_of table mode prefix new) where
+  goes-entered : (events : Table → DropMode → List Placement → List Event) → EntersAs new q events →
+      GoesAs table mode old (λ prefix. events table mode (prefix ++ entered_placement new) ++ events_of table mode prefix new)
+  goes-entered events enters = record {
+    same = λ prefix.
+        goes prefix
+        ∙ ap (λ l. l ++ events_of table mode prefix new) (enters.same table mode prefix ∙ ap (λ s. events table mode (prefix ++ s)) (sym step-is));
+  }
+    where
+      step-is : entered_placement new ≡ q ∷ []
+      step-is = ap option_to_list step
+
+  pub enters-turn : (child : Frame) (result : Turn) (steps : ℕ) → Enters new q child result → Turns table mode old new child result steps steps
+  enters-turn child Passed steps enters = (goes-entered (λ table mode prefix. Tick ∷ []) enters, refl)
+  enters-turn child Flooded steps enters = absurd enters
+  enters-turn child Entered steps enters = (goes-entered (λ table mode prefix. Tick ∷ events_of table mode prefix child) enters.0, refl, enters.1.left ∙ left)
+  enters-turn child Full steps enters = (goes-entered (λ table mode prefix. Found prefix ∷ []) enters, refl)
+  enters-turn child Over steps enters = absurd enters
+
+-- what a turn comes to at a frame that does what another does
+pub turns-as : (table : Table) (mode : DropMode) (old mid new child : Frame) (result : Turn) (before now : ℕ) → mid.left ≡ old.left →
+    ((prefix : List Placement) → events_of table mode prefix old ≡ events_of table mode prefix mid) → Turns table mode mid new child result before now → Turns table mode old new child result before now
+turns-as table mode old mid new child Passed before now left goes turns = (record { same = λ prefix. goes prefix ∙ turns.0.same prefix }, turns.1)
+turns-as table mode old mid new child Flooded before now left goes turns = (record { same = λ prefix. goes prefix ∙ turns.0.same prefix }, turns.1)
+turns-as table mode old mid new child Entered before now left goes turns = (record { same = λ prefix. goes prefix ∙ turns.0.same prefix }, turns.1, turns.2 ∙ left)
+turns-as table mode old mid new child Full before now left goes turns = (record { same = λ prefix. goes prefix ∙ turns.0.same prefix }, turns.1)
+turns-as table mode old mid new child Over before now left goes turns = (record { same = λ prefix. goes prefix ∙ turns.0.same prefix }, turns.1)
 
 pub record-same : (a b c : Frame) → b.well ≡ a.well → b.rows ≡ a.rows → b.queues ≡ a.queues → b.left ≡ a.left → SamePosition b c → SamePosition a c
 record-same a b c well rows queues left same = record { well = same.well ∙ well; rows = same.rows ∙ rows; queues = same.queues ∙ queues; left = same.left ∙ left }

@@ -25,6 +25,17 @@ floods-append (Tick ∷ xs) ys = floods-append xs ys
 floods-append (Flood ∷ xs) ys = omega (arith, floods-append xs ys)
 floods-append (Found s ∷ xs) ys = floods-append xs ys
 
+-- to pass by first finds nothing and makes no flood
+pub found-tick : (b : Bool) (events : List Event) → found (if b then Tick ∷ events else []) ≡ found (if b then events else [])
+unfolding found
+found-tick true events = refl
+found-tick false events = refl
+
+pub floods-tick : (b : Bool) (events : List Event) → floods (if b then Tick ∷ events else []) ≡ floods (if b then events else [])
+unfolding floods
+floods-tick true events = refl
+floods-tick false events = refl
+
 -- each of these sequences after a prefix
 unfoldable pub prefixed : List Placement → List (List Placement) → List (List Placement)
 prefixed prefix l = map (λ s. prefix ++ s) l
@@ -102,6 +113,6 @@ unfolding enter sols found
 finds-enter zero = record { same = λ prefix n. found-leaf (n.rows == 0) prefix }
 finds-enter (suc left) = record {
   same = λ prefix n.
-      found-if_live (is_live left n) prefix (tried_in_turn (enter left) prefix n all_pieces) (flat_map (of_kind (sols left) n) all_pieces)
+      found-if_live (is_live left n) prefix (Tick ∷ tried_in_turn (enter left) prefix n all_pieces) (flat_map (of_kind (sols left) n) all_pieces)
       (found-tried_in_turn (enter left) (sols left) (finds-enter left) prefix n all_pieces);
 }

@@ -46,10 +46,11 @@ tried walk prefix n piece =
 unfoldable pub tried_in_turn : Walk → List Placement → Position → List Piece → List Event
 tried_in_turn walk prefix n pieces = flat_map (tried walk prefix n) pieces ++ Tick ∷ []
 
--- with so many placements to come: where none is, the prefix is a solution where no row is left
+-- With so many placements to come: where none is, the prefix is a solution where no row is left, and else there is
+-- nothing to do where it is not live.
 unfoldable pub enter : ℕ → Walk
 enter zero prefix n = (if n.rows == 0 then Found prefix else Tick) ∷ []
-enter (suc left) prefix n = Tick ∷ (if is_live left n then tried_in_turn (enter left) prefix n all_pieces else [])
+enter (suc left) prefix n = if is_live left n then Tick ∷ tried_in_turn (enter left) prefix n all_pieces else []
 
 -- the same at the beginning, where the empty prefix is no solution
 unfoldable pub begun : ℕ → Position → List Event

@@ -1,5 +1,5 @@
 -- What a turn at a frame does to the events that are still to come.
-use Rattle.std.specs.Prelude.{◌≡◌, ℕ, ◌+◌, true, None, List, [], ◌∷◌, ◌++◌}
+use Rattle.std.specs.Prelude.{◌≡◌, ℕ, ◌+◌, true, Option, Some, None, List, [], ◌∷◌, ◌++◌}
 use Rattle.srs.specs.declared.placement.Placement.{Placement}
 use Rattle.srs.specs.Kick.{Table}
 use Rattle.moves.specs.declared.key.DropMode.{DropMode}
@@ -42,6 +42,19 @@ Enters frame q child Entered =
     EntersAs frame q (λ table mode prefix. Tick ∷ events_of table mode prefix child) × IsChild frame q child
 Enters frame q child Full = EntersAs frame q (λ table mode prefix. Found prefix ∷ [])
 Enters frame q child Over = ⊥
+
+-- where one more placement is to come, the position after this one is live
+abbrev pub LeadsOn : Frame → Placement → Type 0
+LeadsOn frame q = (table : Table) (mode : DropMode) (left : ℕ) → left + 1 ≡ frame.left →
+    is_live left (after_of (position_of table mode frame) q) ≡ true
+
+-- what there was to do at a frame is what there is at this placement, where there is one, and then what is left
+abbrev pub GoesOn : Frame → Frame → Option Placement → Type 0
+GoesOn old new None = (table : Table) (mode : DropMode) (prefix : List Placement) →
+    events_of table mode prefix old ≡ events_of table mode prefix new
+GoesOn old new (Some q) = (table : Table) (mode : DropMode) (prefix : List Placement) →
+    events_of table mode prefix old
+    ≡ entered (enter new.left) prefix (position_of table mode new) q ++ events_of table mode prefix new
 
 -- what there is to do at a frame, after any prefix
 pub record GoesAs (table : Table) (mode : DropMode) (frame : Frame)

@@ -77,7 +77,10 @@ impl Frame {
         if !reached {
             return false;
         }
-        match self.enter(target, &mut notes.tilings, behind) {
+        if !self.is_worth(target, &mut notes.tilings) {
+            return false;
+        }
+        match self.enter(target, behind) {
             Turn::Entered => true,
             _ => false,
         }

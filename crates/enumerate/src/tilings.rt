@@ -1,5 +1,8 @@
 // What a search knows of tilings.
-ghost use Rattle.std.specs.Prelude.{◌≡◌, ◌≤◌, ◌↔◌, [], false, IfOk, IsTrue};
+ghost use Rattle.std.specs.Prelude.{◌≡◌, ◌≤◌, ◌↔◌, [], true, false, IfOk, IsTrue};
+ghost use Rattle.lane_board.specs.Words.{cells_of_words};
+ghost use Rattle.srs.specs.declared.placement.Placement.{Placement};
+ghost use Rattle.srs.specs.Rotation.{rotation_place};
 ghost use Rattle.well.specs.Well.{filled};
 ghost use Rattle.prune.specs.Tiling.{supply_in, Tiling};
 ghost use Rattle.packing.specs.Empties.{all_but, empty_cells, without_placement};
@@ -11,7 +14,7 @@ use dead_memo::DeadMemo;
 use packing::{Empties, PlaceMemory, TilingStore};
 use pc_outside::NoMemory;
 use prune::cheap_no;
-use srs::Placement;
+use srs::{Piece, Placement};
 use std::alloc::Global;
 use well::Well;
 
@@ -97,5 +100,15 @@ impl Tilings {
     {
         self.left
             .leaves_tiling(cells, placement, supply, &mut self.decided)
+    }
+    /// The placements of a piece that are known to leave no tiling of a set of cells by the supply, by their pivots in
+    /// rows 0 to 7: two words for each rotation, four rows in each word, and sixteen bits for each row.
+    #[inline(always)]
+    pub fn dead_pivots(&self, cells: &Empties, supply: &[u8; 7], piece: Piece) -> [u64; 8]
+        ensures { (q : Placement) → q.piece ≡ piece
+            → cells_of_words result (rotation_place q.rotation) q.x q.y ≡ true
+            → has_tiling (all_but (without_placement (empty_cells cells.now) q)) 8 (supply_in supply.now) ≡ false }
+    {
+        self.left.dead_pivots(cells, supply, piece)
     }
 }

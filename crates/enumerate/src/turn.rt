@@ -1,7 +1,8 @@
 // One turn of the search at a frame.
-ghost use Rattle.std.specs.Prelude.{◌≡◌, ℕ, ◌+◌, ◌-◌, ◌≤◌, IsTrue, MatchOption, Some, None, [], ◌∷◌, drop, filter, length, min, slice_index_or};
+ghost use Rattle.std.specs.Prelude.{◌≡◌, ℕ, ◌+◌, ◌-◌, ◌≤◌, IsTrue, true, false, MatchOption, Some, None, List, [], ◌∷◌, drop, filter, length, min, slice_index_or};
 ghost use Rattle.std.specs.Option.{ForSome};
 ghost use Rattle.srs.specs.declared.piece.Piece.{Piece};
+ghost use Rattle.srs.specs.declared.placement.Placement.{Placement};
 ghost use Rattle.srs.specs.Piece.{all_pieces};
 ghost use Rattle.srs.specs.Kick.{Table};
 ghost use Rattle.lane_board.specs.Field.{difference, rows_below};
@@ -19,8 +20,8 @@ ghost use Rattle.packing.specs.HasTiling.{has_tiling};
 ghost use Rattle.enumerate.specs.Position.{may_play, is_live, places_at};
 ghost use Rattle.enumerate.specs.Standing.{may_lock};
 ghost use Rattle.enumerate.specs.Counted.{CountsUp};
-ghost use Rattle.enumerate.specs.Frames.{position_of, places_left};
-ghost use Rattle.enumerate.specs.Turns.{Enters, Turns, SamePosition};
+ghost use Rattle.enumerate.specs.Frames.{events_of, position_of, places_left};
+ghost use Rattle.enumerate.specs.Turns.{Enters, EntersAs, GoesOn, LeadsOn, Turns, SamePosition};
 ghost use Rattle.enumerate.specs.declared.frame.Frame.{Frame};
 
 use crate::frame::Frame;
@@ -137,16 +138,28 @@ impl Frame {
         Turn::Passed
     }
 
+    /// Whether there is something to do at a placement: none is to come after it, or what it leaves has a tiling by the
+    /// pieces that may still be played.
+    pub fn is_worth(&self, placement: &Placement, tilings: &mut Tilings) -> bool
+        requires lockable { IsTrue (may_lock (filled self.now.well) placement.now.piece placement.now) }
+        requires below { IsTrue (is_below self.now.rows placement.now) }
+        ensures dead { result ≡ false → EntersAs self.now placement.now (λ table mode prefix. []) }
+        ensures live { result ≡ true → LeadsOn self.now placement.now }
+    {
+        if self.left == 0 {
+            return true;
+        }
+        let supply = supply_after(&self.supply, placement.piece, self.left);
+        self.leaves_tiling(placement, &supply, tilings)
+    }
+
     /// Makes `child` the frame after a placement that leaves a tiling.
-    fn lead_to(&self, placement: &Placement, supply: &[u8; 7], child: &mut Frame)
+    fn lead_to(&self, placement: &Placement, child: &mut Frame)
         requires lockable { IsTrue (may_lock (filled self.now.well) placement.now.piece placement.now) }
         requires below { IsTrue (is_below self.now.rows placement.now) }
         requires permitted { IsTrue (may_play (queues_in_play self.now.queues) placement.now.piece) }
         requires some { 1 ≤ self.now.left }
-        requires supplied { (other : Piece) → supply_in supply.now other
-            ≡ min self.now.left (less_one (supply_in self.now.supply) placement.now.piece other) }
-        requires tiled { IsTrue (has_tiling (locked (filled self.now.well) placement.now)
-            (self.now.rows - rows_removed (filled self.now.well) placement.now) (supply_in supply.now)) }
+        requires live { LeadsOn self.now placement.now }
         ensures { Enters self.now placement.now child.new Turn.Entered }
     {
         let (well, removed) = self.well.lock(placement);
@@ -157,18 +170,19 @@ impl Frame {
         child.empties = self.empties_after(placement, &well, rows, removed);
         child.queues = queues;
         child.may_come = queues.permitted();
-        child.supply = *supply;
+        child.supply = supply_after(&self.supply, placement.piece, self.left);
         child.left = self.left - 1;
         child.tried = 0;
         child.places = None;
         child.entered = None;
     }
 
-    /// Enters a placement. The first frame behind becomes the position after it, if that is worth a look.
-    pub fn enter(&self, placement: &Placement, tilings: &mut Tilings, behind: &mut [Frame]) -> Turn
+    /// Enters a placement. The first frame behind becomes the position after it, if one more is to come.
+    pub fn enter(&self, placement: &Placement, behind: &mut [Frame]) -> Turn
         requires lockable { IsTrue (may_lock (filled self.now.well) placement.now.piece placement.now) }
         requires below { IsTrue (is_below self.now.rows placement.now) }
         requires permitted { IsTrue (may_play (queues_in_play self.now.queues) placement.now.piece) }
+        requires live { LeadsOn self.now placement.now }
         requires room { self.now.left ≤ length behind.old }
         ensures enters { Enters self.now placement.now (slice_index_or behind.new 0 self.now) result }
         ensures size { length behind.new ≡ length behind.old }
@@ -176,12 +190,29 @@ impl Frame {
         if self.left == 0 {
             return self.complete(placement);
         }
-        let supply = supply_after(&self.supply, placement.piece, self.left);
-        if !self.leaves_tiling(placement, &supply, tilings) {
-            return Turn::Passed;
-        }
-        self.lead_to(placement, &supply, &mut behind[0]);
+        self.lead_to(placement, &mut behind[0]);
         Turn::Entered
+    }
+
+    /// Takes out the next placement at which there is something to do, and notes it as the one that was entered last.
+    fn take_worth(&mut self, tilings: &mut Tilings) -> Option<Placement>
+        ensures next { MatchOption result (places_left self.new.places self.new.entered ≡ [])
+            (λ q. (self.new.entered ≡ Some q)
+            × IsTrue (may_lock (filled self.new.well) q.piece q)
+            × IsTrue (is_below self.new.rows q)
+            × IsTrue (may_play (queues_in_play self.new.queues) q.piece)
+            × LeadsOn self.new q) }
+        ensures goes { GoesOn self.old self.new result }
+        ensures same { SamePosition self.old self.new }
+        ensures tried { self.new.tried ≡ self.old.tried }
+    {
+        while let Some(placement) = self.take_upcoming() {
+            self.entered = Some(placement);
+            if self.is_worth(&placement, tilings) {
+                return Some(placement);
+            }
+        }
+        None
     }
 
     /// Floods a kind that may be played.
@@ -209,19 +240,37 @@ impl Frame {
         *floods = floods.saturating_add(1);
     }
 
+    /// Leaves out those of the places of a piece that are known to leave no tiling, at which there is nothing to do.
+    fn leave_out_dead(&mut self, piece: Piece, tilings: &Tilings)
+        requires { ForSome self.old.places (λ p. piece_of p ≡ piece) }
+        ensures goes { (table : Table) (mode : DropMode) (prefix : List Placement) →
+            events_of table mode prefix self.new ≡ events_of table mode prefix self.old }
+        ensures same { SamePosition self.old self.new }
+        ensures tried { self.new.tried ≡ self.old.tried }
+    {
+        if self.left == 0 || MANY <= self.left {
+            return;
+        }
+        let supply = supply_after(&self.supply, piece, self.left);
+        let dead = tilings.dead_pivots(&self.empties, &supply, piece);
+        if let Some(places) = &mut self.places {
+            places.leave_out(&dead);
+        }
+    }
+
     /// Tries the next kind.
     fn try_kind<L: Ledger>(
         &mut self,
         rules: &FloodRules,
         drop_mode: DropMode,
-        floods: &mut u64,
+        notes: &mut Notes,
         steps: &mut Steps<L>,
     ) -> Turn
         requires { places_left self.old.places self.old.entered ≡ [] }
         ensures turn { (child : Frame) →
             Turns (flood_table rules.now) drop_mode self.old self.new child result steps.old steps.new }
         ensures same { SamePosition self.old self.new }
-        ensures noted { CountsUp floods.old floods.new steps.old steps.new }
+        ensures noted { CountsUp notes.old.floods notes.new.floods steps.old steps.new }
     {
         let piece = match kind_at(self.tried) {
             None => return Turn::Over,
@@ -231,11 +280,12 @@ impl Frame {
         if !self.may_come(piece) {
             return Turn::Passed;
         }
-        self.flood(piece, rules, drop_mode, floods, steps);
+        self.flood(piece, rules, drop_mode, &mut notes.floods, steps);
+        self.leave_out_dead(piece, &notes.tilings);
         Turn::Flooded
     }
 
-    /// Enters the next placement, or tries the next kind if none is left.
+    /// Enters the next placement that leaves a tiling, or tries the next kind if none is left.
     pub fn turn<L: Ledger>(
         &mut self,
         rules: &FloodRules,
@@ -251,12 +301,9 @@ impl Frame {
         ensures same { SamePosition self.old self.new }
         ensures noted { CountsUp notes.old.floods notes.new.floods steps.old steps.new }
     {
-        match self.take_upcoming() {
-            None => self.try_kind(rules, drop_mode, &mut notes.floods, steps),
-            Some(placement) => {
-                self.entered = Some(placement);
-                self.enter(&placement, &mut notes.tilings, behind)
-            }
+        match self.take_worth(&mut notes.tilings) {
+            None => self.try_kind(rules, drop_mode, notes, steps),
+            Some(placement) => self.enter(&placement, behind),
         }
     }
 }

@@ -9,7 +9,7 @@ use Rattle.prune.specs.Tiling.{supply_in}
 use Rattle.enumerate.specs.Frames.{position_of}
 use Rattle.enumerate.specs.Position.{after_of, is_live, may_play}
 use Rattle.enumerate.proofs.PlaceLaws.{lockable-free}
-use Rattle.enumerate.proofs.TilingLaws.{live-after, locked-below, supply-moves}
+use Rattle.enumerate.proofs.TilingLaws.{locked-below, supply-moves}
 use Rattle.enumerate.proofs.TurnLemmas.{enters-child, is_child, line-permits}
 use Rattle.enumerate.proofs.frame.Frame.lead_to.Goals as goal
 
@@ -32,7 +32,7 @@ pub invariant_of-child-clause-supplied : goal.invariant_of-child-clause-supplied
 invariant_of-child-clause-supplied c =
     let frame = c.args.self.now in
     let left : frame.left ≡ frame.left - 1 + 1 = omega (arith, c.requires.some) in
-    supply-moves (queues_in_play frame.queues) c.args.placement.now.piece frame.left (supply_in frame.supply) (supply_in c.args.supply.now) frame.supplied c.requires.supplied
+    supply-moves (queues_in_play frame.queues) c.args.placement.now.piece frame.left (supply_in frame.supply) (supply_in c.supply_after-child.result) frame.supplied c.supply_after-child.ensures
     ∙ (λ i. supply_of (sym c.after-queues.ensures i) (left i))
 
 pub returns : goal.returns
@@ -40,7 +40,7 @@ returns c =
     let rows = c.saturating_sub-rows.ensures ∙ ap (λ k. c.args.self.now.rows - k) c.lock-removed.ensures.removed in
     let left : c.args.self.now.left - 1 + 1 ≡ c.args.self.now.left = omega (arith, c.requires.some) in
     let live : (table : Table) (mode : DropMode) → is_live (c.args.self.now.left - 1) (after_of (position_of table mode c.args.self.now) c.args.placement.now) ≡ true =
-    λ table mode. live-after table mode c.args.self.now c.args.placement.now (supply_in c.args.supply.now) c.requires.supplied (c.args.self.now.left - 1) left ∙ c.requires.tiled in (
+    λ table mode. c.requires.live table mode (c.args.self.now.left - 1) left in (
       enters-child c.args.self.now c.args.placement.now c.requires.below _ c.lock-removed.ensures.field rows c.after-queues.ensures left refl refl live,
       is_child c.args.self.now c.args.placement.now c.requires.below _ c.lock-removed.ensures.field rows c.after-queues.ensures left refl refl live,
     )

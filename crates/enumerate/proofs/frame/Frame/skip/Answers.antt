@@ -11,7 +11,7 @@ use Rattle.moves.proofs.CallerLemmas.{is_place-decides}
 use Rattle.enumerate.specs.Frames.{places_left, position_of}
 use Rattle.enumerate.specs.Position.{may_play}
 use Rattle.enumerate.proofs.PlaceLaws.{place-lockable}
-use Rattle.enumerate.proofs.SkipLemmas.{dead-result, held-below, held-place, left-above, passes-kind, skips-dead, skips-entered, skips-same, skips-unplaced, unheld-place}
+use Rattle.enumerate.proofs.SkipLemmas.{dead-result, dead-untiled, held-below, held-place, left-above, passes-kind, skips-dead, skips-entered, skips-same, skips-unplaced, unheld-place}
 use Rattle.enumerate.proofs.TurnLemmas.{may_play-answer}
 use Rattle.enumerate.proofs.Counting.{counts-none}
 use Rattle.enumerate.proofs.frame.Frame.skip.Goals as goal
@@ -101,6 +101,34 @@ returns-in_default g c =
       same = record { well = c.flood.ensures.same.well; rows = c.flood.ensures.same.rows; queues = c.flood.ensures.same.queues; left = c.flood.ensures.same.left };
       noted = c.flood.ensures.noted;
     }
+
+pub is_worth-requires-clause-lockable : goal.is_worth-requires-clause-lockable
+unfolding position_of
+is_worth-requires-clause-lockable g c =
+    let placed = held-place (position_of (flood_table c.args.rules.now) c.args.drop_mode c.args.self.now) c.args.target.now _ c.flood.ensures.places c.reaches-reached.result c.reaches-reached.ensures c.if-not-reached.false in
+    place-lockable (flood_table c.args.rules.now) (filled c.flood.new.self.well) c.args.drop_mode c.args.target.now.piece c.args.target.now refl
+    ((is_place-decides (flood_table c.args.rules.now) (filled c.flood.new.self.well) c.args.drop_mode c.args.target.now).0
+    (subst (λ w. is_place (flood_table c.args.rules.now) (filled w) c.args.drop_mode c.args.target.now ≡ true) (sym c.flood.ensures.same.well) placed))
+
+pub is_worth-requires-clause-below : goal.is_worth-requires-clause-below
+unfolding position_of
+is_worth-requires-clause-below g c =
+    subst (λ rows. is_below rows c.args.target.now ≡ true) (sym c.flood.ensures.same.rows)
+    (held-below (position_of (flood_table c.args.rules.now) c.args.drop_mode c.args.self.now) c.args.target.now _ c.flood.ensures.places c.reaches-reached.result c.reaches-reached.ensures c.if-not-reached.false)
+
+pub enter-requires-clause-live : goal.enter-requires-clause-live
+enter-requires-clause-live g c = c.is_worth.ensures.live c.if-not-is_worth.false
+
+pub returns-then-not-is_worth-clause-skips : goal.returns-then-not-is_worth-clause-skips
+unfolding position_of
+returns-then-not-is_worth-clause-skips g c =
+    let played = may_play-answer (queues_in_play c.args.self.now.queues) c.args.target.now.piece c.may_play.result c.may_play.ensures.permitted ∙ c.if-not-may_play.false in
+    skips-dead (flood_table c.args.rules.now) c.args.drop_mode c.args.self.now _ record { well = c.flood.ensures.same.well; rows = c.flood.ensures.same.rows; queues = c.flood.ensures.same.queues; left = c.flood.ensures.same.left } c.args.target.now c.requires.fresh.live
+    (c.flood.ensures.tried ∙ c.code-self.ensures) played
+    (left-above (position_of (flood_table c.args.rules.now) c.args.drop_mode c.args.self.now) c.flood.new.self.places c.flood.new.self.entered c.flood.ensures.entered c.args.target.now c.flood.ensures.places)
+    c.args.steps.now c.flood.new.steps c.flood.ensures.counted
+    (dead-untiled (flood_table c.args.rules.now) c.args.drop_mode c.args.self.now _ record { well = c.flood.ensures.same.well; rows = c.flood.ensures.same.rows; queues = c.flood.ensures.same.queues; left = c.flood.ensures.same.left } c.args.target.now
+    (is_place (flood_table c.args.rules.now) (filled c.args.self.now.well) c.args.drop_mode c.args.target.now) (c.is_worth.ensures.dead c.if-not-is_worth.true))
 
 pub returns-then-not-may_play-clause-noted : goal.returns-then-not-may_play-clause-noted
 returns-then-not-may_play-clause-noted g c = counts-none c.args.notes.now.floods c.args.steps.now

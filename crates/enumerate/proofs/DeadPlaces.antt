@@ -1,0 +1,80 @@
+-- Places that leave no tiling have nothing to do, so they may be left out.
+use Rattle.std.proofs.Common.{◌≡◌, ℕ, ◌+◌, ◌-◌, ◌≤◌, Bool, true, false, not, ◌&&◌, List, [], ◌∷◌, ◌++◌, refl, sym, ap, ◌∙◌, inl, inr, arith}
+use Rattle.std.specs.Prelude.{Some, None, filter, if◌then◌else◌, min}
+use Rattle.std.specs.List.{flat_map}
+use Rattle.std.proofs.lemmas.Bool.{cases_Bool}
+use Rattle.srs.specs.declared.piece.Piece.{Piece}
+use Rattle.srs.specs.declared.placement.Placement.{Placement}
+use Rattle.srs.specs.Kick.{Table}
+use Rattle.srs.specs.Order.{placement_cmp}
+use Rattle.srs.specs.Placements.{placements_of}
+use Rattle.srs.specs.Rotation.{rotation_place}
+use Rattle.lists.specs.Rising.{is_above}
+use Rattle.lists.proofs.CallerLemmas.{filter-false, filter-true}
+use Rattle.lane_board.specs.Words.{cells_of_words}
+use Rattle.well.specs.Well.{filled}
+use Rattle.well.specs.LockLaws.{is_below}
+use Rattle.moves.specs.declared.key.DropMode.{DropMode}
+use Rattle.reach.specs.declared.held.Places.{Places}
+use Rattle.reach.specs.Places.{holds, piece_of}
+use Rattle.prune.specs.Tiling.{Supply, supply_in}
+use Rattle.prune.specs.OnePart.{less_one}
+use Rattle.packing.specs.Empties.{all_but, empty_cells, without_placement}
+use Rattle.packing.specs.HasTiling.{has_tiling}
+use Rattle.packing.proofs.CallerLemmas.{tiling_decided}
+use Rattle.enumerate.specs.declared.frame.Frame.{Frame}
+use Rattle.enumerate.specs.Position.{after_of}
+use Rattle.enumerate.specs.Events.{Event, entered, enter}
+use Rattle.enumerate.specs.Frames.{position_of, places_left}
+use Rattle.enumerate.proofs.Choices.{if_false, if_true}
+use Rattle.enumerate.proofs.PlaceLaws.{lockable-free, lockable-piece}
+use Rattle.enumerate.proofs.TilingLaws.{left-tiled, live-after}
+use Rattle.enumerate.proofs.TurnLemmas.{enters-dead}
+
+module _ (f : Placement → List Event) (a b : Placement → Bool) (same : (q : Placement) → (if a q then f q else []) ≡ (if b q then f q else [])) where
+  first : (c : Placement → Bool) (q : Placement) (qs : List Placement) → flat_map f (filter c (q ∷ qs)) ≡ (if c q then f q else []) ++ flat_map f (filter c qs)
+  first c q qs = elim (cases_Bool (c q)) [
+    | inl e ↦ ap (flat_map f) (filter-true c q qs e) ∙ ap (λ l. l ++ flat_map f (filter c qs)) (sym (if_true (c q) (f q) [] e))
+    | inr e ↦ ap (flat_map f) (filter-false c q qs e) ∙ ap (λ l. l ++ flat_map f (filter c qs)) (sym (if_false (c q) (f q) [] e))
+  ]
+
+  flat_map-filters : (qs : List Placement) → flat_map f (filter a qs) ≡ flat_map f (filter b qs)
+  flat_map-filters [] = refl
+  flat_map-filters (q ∷ qs) = first a q qs ∙ (λ i. same q i ++ flat_map-filters qs i) ∙ sym (first b q qs)
+
+without_dead : (held dead above : Bool) (events : List Event) → (held ≡ true → dead ≡ true → events ≡ []) → (if (held && not dead) && above then events else []) ≡ (if held && above then events else [])
+without_dead false dead above events none = refl
+without_dead true false above events none = refl
+without_dead true true true events none = sym (none refl refl)
+without_dead true true false events none = refl
+
+module _ (frame : Frame) (places : Places) (is : frame.places ≡ Some places) (piece : Piece) (kind : piece_of places ≡ piece) (some : 1 ≤ frame.left)
+    (supply : List ℕ) (moves : (other : Piece) → supply_in supply other ≡ min frame.left (less_one (supply_in frame.supply) piece other))
+    (words : List ℕ) (dead : (q : Placement) → q.piece ≡ piece → cells_of_words words (rotation_place q.rotation) q.x q.y ≡ true → has_tiling (all_but (without_placement (empty_cells frame.empties) q)) 8 (supply_in supply) ≡ false) where
+  abbrev is_dead : Placement → Bool
+  is_dead q = cells_of_words words (rotation_place q.rotation) q.x q.y
+
+  nothing : (table : Table) (mode : DropMode) (prefix : List Placement) (q : Placement) → holds places q ≡ true → is_dead q ≡ true → entered (enter frame.left) prefix (position_of table mode frame) q ≡ []
+  nothing table mode prefix q held none =
+      let lockable = frame.lockable places is q held in
+      let of_kind : q.piece ≡ piece = lockable-piece (filled frame.well) (piece_of places) q lockable ∙ kind in
+      let free = lockable-free (filled frame.well) (piece_of places) q lockable in
+      let below = frame.held_below places is q held in
+      let E = without_placement (empty_cells frame.empties) q in
+      let less : frame.left - 1 + 1 ≡ frame.left = omega (arith, some) in
+      let told = left-tiled (filled frame.well) E frame.rows q (supply_in supply) (has_tiling (all_but E) 8 (supply_in supply)) frame.low frame.bounded free below
+      (ap (λ E. without_placement E q) frame.emptied) (tiling_decided (all_but E) 8 (supply_in supply)) in
+      (enters-dead frame q below (frame.left - 1) less (λ table mode.
+      live-after table mode frame q (supply_in supply) (λ other. moves other ∙ ap (λ (p : Piece). min frame.left (less_one (supply_in frame.supply) p other)) (sym of_kind)) (frame.left - 1) less
+      ∙ sym told ∙ dead q of_kind none)).same table mode prefix
+
+  pub left-out : (kept : Places) → piece_of kept ≡ piece_of places → ((q : Placement) → holds kept q ≡ (holds places q && not (is_dead q))) → (table : Table) (mode : DropMode) (prefix : List Placement) →
+      flat_map (entered (enter frame.left) prefix (position_of table mode frame)) (places_left (Some kept) frame.entered) ≡ flat_map (entered (enter frame.left) prefix (position_of table mode frame)) (places_left (Some places) frame.entered)
+  unfolding places_left
+  left-out kept same_kind held table mode prefix =
+      let walk : Placement → List Event = entered (enter frame.left) prefix (position_of table mode frame) in
+      let above : Placement → Bool = is_above placement_cmp frame.entered in
+      ap (λ p. flat_map walk (filter (λ q. holds kept q && above q) (placements_of p))) same_kind
+      ∙ flat_map-filters walk (λ q. holds kept q && above q) (λ q. holds places q && above q)
+      (λ q. ap (λ h. if h && above q then walk q else []) (held q) ∙ without_dead (holds places q) (is_dead q) (above q) (walk q) (nothing table mode prefix q))
+      (placements_of (piece_of places))

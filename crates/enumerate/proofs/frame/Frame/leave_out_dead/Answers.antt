@@ -1,0 +1,51 @@
+-- What is left out has nothing to do.
+use Rattle.srs.specs.declared.placement.Placement.{Placement}
+use Rattle.std.proofs.Common.{◌≡◌, true, ◌++◌, not, sym, ap, subst, ◌∙◌, arith}
+use Rattle.std.specs.Prelude.{drop}
+use Rattle.std.specs.List.{flat_map}
+use Rattle.srs.specs.Piece.{all_pieces}
+use Rattle.srs.specs.Rotation.{rotation_place}
+use Rattle.lists.proofs.CallerLemmas.{and_first, some_same}
+use Rattle.lane_board.specs.Words.{cells_of_words}
+use Rattle.well.specs.Well.{filled}
+use Rattle.well.specs.LockLaws.{is_below}
+use Rattle.reach.specs.Places.{holds, piece_of}
+use Rattle.hold_queue.specs.QueueSet.{queues_in_play}
+use Rattle.enumerate.specs.Events.{entered, enter, tried_in_turn}
+use Rattle.enumerate.specs.Frames.{events_of, places_left, position_of}
+use Rattle.enumerate.specs.Position.{may_play}
+use Rattle.enumerate.specs.Standing.{may_lock}
+use Rattle.enumerate.proofs.DeadPlaces.{left-out}
+use Rattle.enumerate.proofs.TurnLemmas.{HeldBelow, Lockable}
+use Rattle.enumerate.proofs.frame.Frame.leave_out_dead.Goals as goal
+
+pub invariant_of-self : goal.invariant_of-self
+invariant_of-self c =
+    let frame = c.args.self.now in
+    let places = c.in-Some.places in
+    let kept = c.leave_out.new.self in
+    let was : (q : Placement) → holds kept q ≡ true → holds places q ≡ true =
+    λ q is. and_first (holds places q) (not (cells_of_words c.dead_pivots-dead.result (rotation_place q.rotation) q.x q.y)) (sym (c.leave_out.ensures.held q) ∙ is) in
+    record {
+      low = frame.low;
+      few = frame.few;
+      bounded = frame.bounded;
+      emptied = frame.emptied;
+      coming = frame.coming;
+      supplied = frame.supplied;
+      lockable = λ x is. subst (λ p. Lockable (filled frame.well) p) (some_same is)
+          (λ q held. subst (λ p. may_lock (filled frame.well) p q ≡ true) (sym c.leave_out.ensures.piece) (frame.lockable places c.in-Some.is q (was q held)));
+      held_below = λ x is. subst (λ p. HeldBelow frame.rows p) (some_same is) (λ q held. frame.held_below places c.in-Some.is q (was q held));
+      permitted = λ x is. subst (λ p. may_play (queues_in_play frame.queues) (piece_of p) ≡ true) (some_same is)
+          (subst (λ p. may_play (queues_in_play frame.queues) p ≡ true) (sym c.leave_out.ensures.piece) (frame.permitted places c.in-Some.is));
+      same_piece = λ x is q is_q. frame.same_piece places c.in-Some.is q is_q ∙ sym c.leave_out.ensures.piece ∙ ap piece_of (some_same is);
+    }
+
+pub returns-in-Some-clause-goes : goal.returns-in-Some-clause-goes
+unfolding events_of position_of
+returns-in-Some-clause-goes c = λ table mode prefix.
+    let frame = c.args.self.now in
+    ap (λ l. l ++ tried_in_turn (enter frame.left) prefix (position_of table mode frame) (drop frame.tried all_pieces))
+    (left-out frame c.in-Some.places c.in-Some.is c.args.piece (c.requires c.in-Some.places c.in-Some.is) (omega arith) c.supply_after-supply.result c.supply_after-supply.ensures
+    c.dead_pivots-dead.result c.dead_pivots-dead.ensures c.leave_out.new.self c.leave_out.ensures.piece c.leave_out.ensures.held table mode prefix
+    ∙ ap (λ p. flat_map (entered (enter frame.left) prefix (position_of table mode frame)) (places_left p frame.entered)) (sym c.in-Some.is))
