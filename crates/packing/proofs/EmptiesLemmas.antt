@@ -8,7 +8,7 @@ use Rattle.std.proofs.lemmas.Nat.{or_lt, pow_below, one_shl}
 use Rattle.std.proofs.lemmas.Nat.Bits.{bit_at_above}
 use Rattle.lane_board.specs.Field.{Field, rows_below, difference}
 use Rattle.lane_board.specs.Lanes.{has_bit}
-use Rattle.lane_board.proofs.CallerLemmas.{has_bit-zero, has_bit-or, has_bit-past}
+use Rattle.lane_board.proofs.CallerLemmas.{has_bit-zero, has_bit-or, has_bit-past, same_from_columns}
 use Rattle.packing.specs.declared.empties.Empties.{Empties}
 use Rattle.packing.specs.Empties.{empty_cells}
 use Rattle.packing.specs.Spans.{HasNoCell, IsFirst}
@@ -161,3 +161,18 @@ found-all F rows x e few last found = fun_ext (λ a. fun_ext (λ b. elim (cases_
     grouped : (p q r : Bool) → (p && (q && r)) ≡ ((p && q) && r)
     grouped true q r = refl
     grouped false q r = refl
+
+-- sets with the same cells have the same bits
+pub same_bits : (e f : Empties) → empty_cells e ≡ empty_cells f → e.cells ≡ f.cells
+unfolding empty_cells
+same_bits e f same = same_from_columns e.cells f.cells each
+  where
+    of_cell : (n k : ℕ) → (nat_lt (k % 8) 8 && has_bit n (8 * (k / 8) + k % 8)) ≡ has_bit n k
+    of_cell n k = ap (λ t. t && has_bit n (8 * (k / 8) + k % 8)) (lt-ltb (k % 8) 8 (omega arith)) ∙ ap (has_bit n) {x = 8 * (k / 8) + k % 8} {y = k} (omega arith)
+
+    each : (k : ℕ) → has_bit e.cells k ≡ has_bit f.cells k
+    each k = sym (of_cell e.cells k) ∙ ap (λ (E : Field). E (k / 8) (k % 8)) same ∙ of_cell f.cells k
+
+pub from_bits : (e f : Empties) → e.cells ≡ f.cells → empty_cells e ≡ empty_cells f
+unfolding empty_cells
+from_bits e f same = fun_ext (λ x. fun_ext (λ y. ap (λ n. nat_lt y 8 && has_bit n (8 * x + y)) same))

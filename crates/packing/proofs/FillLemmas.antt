@@ -79,12 +79,11 @@ sent_has f (d ∷ cells) c has = elim (or_cases (cell_eq d c) _ has) [
   | inr later ↦ or_right (cell_eq (f d) (f c)) _ (sent_has f cells c later)
 ]
 
--- what is left where the cells of a piece are filled
-pub left_by : (E : Field) (piece : Piece) (rotation : Rotation) (move : ℤ) (row : ℤ → ℕ) (x : ℕ) (rows : ℕ → ℕ) → Matches piece rotation move row x rows →
-    with_cells (all_but E) (map (sent move row) (shape piece rotation)) ≡ all_but (without_stack E x rows (form piece rotation))
+-- what is left where the cells of spans are filled
+pub left_by : (E : Field) (cells : List Cell) (x : ℕ) (rows : ℕ → ℕ) (spans : List Span) → ((a b : ℕ) → is_among cells (pos a, pos b) ≡ in_stack x rows spans a b) →
+    with_cells (all_but E) cells ≡ all_but (without_stack E x rows spans)
 unfolding with_cells all_but without_stack
-left_by E piece rotation move row x rows matches = fun_ext (λ a. fun_ext (λ b.
-    ap (λ t. not (E a b) || t) (same_cells piece rotation move row x rows matches a b) ∙ less (E a b) (in_stack x rows (form piece rotation) a b)))
+left_by E cells x rows spans same = fun_ext (λ a. fun_ext (λ b. ap (λ t. not (E a b) || t) (same a b) ∙ less (E a b) (in_stack x rows spans a b)))
   where
     less : (p q : Bool) → (not p || q) ≡ not (p && not q)
     less true true = refl
@@ -114,7 +113,7 @@ pub fills_chosen : (height : ℕ) (E : Field) (supply : Supply) (piece : Piece) 
 fills_chosen height E supply piece rotation x floor small some choice =
     subst (λ (s : Supply). CanFill height s E) (one_back supply piece some)
     (with_part (all_but E) height part (less_one supply piece) generalized empty
-    (subst (λ (F : Field). Tiling F height (less_one supply piece)) (sym (left_by E piece rotation move row x choice.rows matches)) choice.rest))
+    (subst (λ (F : Field). Tiling F height (less_one supply piece)) (sym (left_by E part.cells x choice.rows (form piece rotation) (same_cells piece rotation move row x choice.rows matches))) choice.rest))
   where
     move : ℤ
     move = pos x -ℤ leftmost piece rotation
@@ -148,6 +147,55 @@ fills_chosen height E supply piece rotation x floor small some choice =
             let in_set = choice.within.inside a b (sym (same_cells piece rotation move row x choice.rows matches a b) ∙ subst (λ (e : Cell). is_among part.cells e ≡ true) at has) in
             subst (λ (e : Cell). is_empty_below (all_but E) height e ≡ true) (sym at) (empty_is height E a b small ∙ in_set)
 
+-- a generalized piece within a set, by its spans
+pub record StackOf (E : Field) (part : Part) : Type 0 where
+  pub rotation : Rotation
+  pub x : ℕ
+  pub rows : ℕ → ℕ
+  pub rises : Rises rows (length (form part.piece rotation))
+  pub within : IsWithin E x rows (form part.piece rotation)
+  pub same : (a b : ℕ) → is_among part.cells (pos a, pos b) ≡ in_stack x rows (form part.piece rotation) a b
+
+pub stack_of : (height : ℕ) (E : Field) (part : Part) → IsSmall height E → IsGeneralized part → list_all (is_empty_below (all_but E) height) part.cells ≡ true → StackOf E part
+stack_of height E part small g inside = at_column (leftmost part.piece g.rotation +ℤ g.move) refl
+  where
+    rows : ℕ → ℕ
+    rows k = g.row (lowest part.piece g.rotation +ℤ pos k)
+
+    sent_cells : List Cell
+    sent_cells = map (sent g.move g.row) (shape part.piece g.rotation)
+
+    empty : (d : Cell) → is_among sent_cells d ≡ true → is_empty_below (all_but E) height d ≡ true
+    empty d has = is_among-all (is_empty_below (all_but E) height) part.cells d inside (subst (λ (cells : List Cell). is_among cells d ≡ true) (sym g.cells) has)
+
+    at_column : (z : ℤ) → leftmost part.piece g.rotation +ℤ g.move ≡ z → StackOf E part
+    at_column (pos x) moved = record {
+      rotation = g.rotation;
+      x = x;
+      rows = rows;
+      rises = record { rising = rising };
+      within = record { inside = λ a b in_spans. sym (empty_is height E a b small) ∙ empty (pos a, pos b) (same a b ∙ in_spans) };
+      same = λ a b. ap (λ (cells : List Cell). is_among cells (pos a, pos b)) g.cells ∙ same a b;
+    }
+      where
+        matches : Matches part.piece g.rotation g.move g.row x rows
+        matches = record { column = moved; row_at = λ c has. ap g.row (sym (row_by_level part.piece g.rotation c has)) }
+
+        same : (a b : ℕ) → is_among sent_cells (pos a, pos b) ≡ in_stack x rows (form part.piece g.rotation) a b
+        same = same_cells part.piece g.rotation g.move g.row x rows matches
+
+        rising : (j k : ℕ) → j < k → k < length (form part.piece g.rotation) → rows j < rows k
+        rising j k less below =
+            let c = cell_at_level part.piece g.rotation j (omega arith) in
+            let d = cell_at_level part.piece g.rotation k below in
+            let up = g.rising c.0 d.0 c.1 d.1 (row_up part.piece g.rotation c.0 d.0 c.1 d.1 (omega (arith, c.2, d.2))) in
+            omega (arith, up, matches.row_at c.0 c.1 ∙ ap rows c.2, matches.row_at d.0 d.1 ∙ ap rows d.2)
+    at_column (negsuc n) moved =
+        let c = left_cell part.piece g.rotation in
+        absurd (both_ways _ (negative_column height E n (g.row c.0.1))
+        (subst (λ (d : Cell). is_empty_below (all_but E) height d ≡ true) (negative_at part.piece g.rotation g.move g.row n c.0 (ap (λ z. z +ℤ g.move) c.2 ∙ moved))
+        (empty (sent g.move g.row c.0) (sent_has (sent g.move g.row) (shape part.piece g.rotation) c.0 c.1))))
+
 -- a piece of the supply that has a cell of a set that is filled, by its spans
 pub record FilledBy (height : ℕ) (E : Field) (supply : Supply) (x0 y0 : ℕ) : Type 0 where
   pub piece : Piece
@@ -164,57 +212,19 @@ pub filled_by : (height : ℕ) (E : Field) (supply : Supply) (x0 y0 : ℕ) → I
 filled_by height E supply x0 y0 small here filling = by_part (taken_part (all_but E) height supply (pos x0, pos y0) (empty_is height E x0 y0 small ∙ here) filling)
   where
     by_part : TakenPart (all_but E) height supply (pos x0, pos y0) → FilledBy height E supply x0 y0
-    by_part t = at_column (leftmost piece rotation +ℤ move) refl
-      where
-        piece : Piece
-        piece = t.part.piece
-
-        rotation : Rotation
-        rotation = t.generalized.rotation
-
-        move : ℤ
-        move = t.generalized.move
-
-        rows : ℕ → ℕ
-        rows k = t.generalized.row (lowest piece rotation +ℤ pos k)
-
-        sent_cells : List Cell
-        sent_cells = map (sent move t.generalized.row) (shape piece rotation)
-
-        empty : (d : Cell) → is_among sent_cells d ≡ true → is_empty_below (all_but E) height d ≡ true
-        empty d has = is_among-all (is_empty_below (all_but E) height) t.part.cells d t.empty (subst (λ (cells : List Cell). is_among cells d ≡ true) (sym t.generalized.cells) has)
-
-        at_column : (z : ℤ) → leftmost piece rotation +ℤ move ≡ z → FilledBy height E supply x0 y0
-        at_column (pos x) moved = record {
-          piece = piece;
-          rotation = rotation;
-          x = x;
-          rows = rows;
+    by_part t =
+        let s = stack_of height E t.part small t.generalized t.empty in
+        record {
+          piece = t.part.piece;
+          rotation = s.rotation;
+          x = s.x;
+          rows = s.rows;
           some = t.some;
-          rises = record { rising = rising };
-          within = record { inside = λ a b in_spans. sym (empty_is height E a b small) ∙ empty (pos a, pos b) (same a b ∙ in_spans) };
-          has = sym (same x0 y0) ∙ subst (λ (cells : List Cell). is_among cells (pos x0, pos y0) ≡ true) t.generalized.cells t.has;
-          rest = subst (λ (F : Field). Tiling F height (less_one supply piece)) (left_by E piece rotation move t.generalized.row x rows matches)
-              (subst (λ (cells : List Cell). Tiling (with_cells (all_but E) cells) height (less_one supply piece)) t.generalized.cells t.rest);
+          rises = s.rises;
+          within = s.within;
+          has = sym (s.same x0 y0) ∙ t.has;
+          rest = subst (λ (F : Field). Tiling F height (less_one supply t.part.piece)) (left_by E t.part.cells s.x s.rows (form t.part.piece s.rotation) s.same) t.rest;
         }
-          where
-            matches : Matches piece rotation move t.generalized.row x rows
-            matches = record { column = moved; row_at = λ c has. ap t.generalized.row (sym (row_by_level piece rotation c has)) }
-
-            same : (a b : ℕ) → is_among sent_cells (pos a, pos b) ≡ in_stack x rows (form piece rotation) a b
-            same = same_cells piece rotation move t.generalized.row x rows matches
-
-            rising : (j k : ℕ) → j < k → k < length (form piece rotation) → rows j < rows k
-            rising j k less below =
-                let c = cell_at_level piece rotation j (omega arith) in
-                let d = cell_at_level piece rotation k below in
-                let up = t.generalized.rising c.0 d.0 c.1 d.1 (row_up piece rotation c.0 d.0 c.1 d.1 (omega (arith, c.2, d.2))) in
-                omega (arith, up, matches.row_at c.0 c.1 ∙ ap rows c.2, matches.row_at d.0 d.1 ∙ ap rows d.2)
-        at_column (negsuc n) moved =
-            let c = left_cell piece rotation in
-            absurd (both_ways _ (negative_column height E n (t.generalized.row c.0.1))
-            (subst (λ (d : Cell). is_empty_below (all_but E) height d ≡ true) (negative_at piece rotation move t.generalized.row n c.0 (ap (λ z. z +ℤ move) c.2 ∙ moved))
-            (empty (sent move t.generalized.row c.0) (sent_has (sent move t.generalized.row) (shape piece rotation) c.0 c.1))))
 
 -- spans of a piece that have the first cell of a set are stacked over it
 pub over_first : (E : Field) (x y : ℕ) (piece : Piece) (rotation : Rotation) (left : ℕ) (rows : ℕ → ℕ) (Fact : Field → Type 0) → IsFirst E x y → Rises rows (length (form piece rotation)) →

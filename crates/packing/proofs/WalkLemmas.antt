@@ -140,7 +140,7 @@ unfolding with_one
 some_with s p = omega (arith, cond-true {A = ℕ} (piece_code p == piece_code p) (suc (s p)) (s p) (eq-eqb (piece_code p) (piece_code p) refl))
 
 -- a placement inside a small set is a piece
-inside_well : (E : Field) (q : Placement) → IsSmall 8 E → list_all (has_cell E) (cells_of q) ≡ true → is_inside_of q ≡ true
+pub inside_well : (E : Field) (q : Placement) → IsSmall 8 E → list_all (has_cell E) (cells_of q) ≡ true → is_inside_of q ≡ true
 inside_well E q small inside = list_all-from_is_among in_well (cells_of q) (λ c has. each c (cell_of E c (is_among-all (has_cell E) (cells_of q) c inside has)))
   where
     each : (c : Cell) → CellOf E c → in_well c ≡ true

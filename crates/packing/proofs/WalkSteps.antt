@@ -1,6 +1,7 @@
 -- The steps of a walk: which piece has the first cell, and what is known of a question.
-use Rattle.std.proofs.Common.{◌≡◌, ℕ, ◌<◌, ◌≤◌, Bool, true, false, Option, Some, None, List, length, replicate, pos, refl, sym, ap, subst, ◌∙◌, inl, inr, arith}
+use Rattle.std.proofs.Common.{◌≡◌, ℕ, ◌<◌, ◌≤◌, Bool, true, false, not, ◌&&◌, Option, Some, None, List, length, replicate, pos, refl, sym, ap, subst, ◌∙◌, inl, inr, arith}
 use Rattle.std.specs.Prelude.{All}
+use Rattle.std.proofs.Math.Path.{fun_ext}
 use Rattle.std.specs.List.{list_all}
 use Rattle.std.proofs.lemmas.Bool.{cases_Bool, and_parts, and_from, both_ways, not-true, not_from_false, false_from_ne_true, false≢true, true≢false}
 use Rattle.std.proofs.lemmas.List.{length-replicate}
@@ -11,9 +12,10 @@ use Rattle.srs.specs.declared.placement.Placement.{Placement}
 use Rattle.srs.specs.Cells.{Cell, cells_of}
 use Rattle.srs.specs.SameCells.{is_among}
 use Rattle.srs.proofs.CallerLemmas.{is_among-all, list_all-from_is_among}
-use Rattle.prune.specs.Tiling.{Supply, supply_in}
+use Rattle.prune.specs.Tiling.{Supply, is_empty_below, supply_in}
 use Rattle.prune.specs.Laws.{with_one}
 use Rattle.prune.specs.OnePart.{less_one}
+use Rattle.prune.proofs.CallerLemmas.{placed, placed_generalized}
 use Rattle.packing.specs.declared.empties.Empties.{Empties}
 use Rattle.packing.specs.declared.pieces.TiledPieces.{TiledPieces}
 use Rattle.packing.specs.declared.walked.Outcome.{Outcome}
@@ -23,31 +25,39 @@ use Rattle.packing.specs.Empties.{all_but, empty_cells, without_placement}
 use Rattle.packing.specs.Spans.{HasNoCell, IsFirst}
 use Rattle.packing.specs.Stacks.{is_allowed, CanFill, Stacks, in_stack, without_stack}
 use Rattle.packing.specs.TiledPieces.{has_cell, is_marked, StandsInTiling}
-use Rattle.packing.specs.Walks.{CameTo, Finds, Gains, IsPlaced, IsTrueIn, StacksAt, Takes, noted, whole, stacked}
+use Rattle.packing.specs.Walks.{CameTo, Finds, FindsBy, Gains, IsPlaced, IsTrueIn, IsWhole, StacksBy, Takes, beside, itself, noted}
 use Rattle.packing.proofs.StackLemmas.{IsSmall, Chosen}
 use Rattle.packing.proofs.ChosenLemmas.{chosen}
 use Rattle.packing.proofs.FormLemmas.{form, form_at, rotation_at, form_within, form_of_place}
-use Rattle.packing.proofs.FillLemmas.{fills_nothing, FilledBy, filled_by, over_first, stacked_first}
+use Rattle.packing.proofs.FillLemmas.{empty_is, fills_nothing, FilledBy, filled_by, over_first, StackOf, stack_of}
 use Rattle.packing.proofs.HasTilingLemmas.{tiling_decided}
 use Rattle.packing.proofs.FirstCells.{CellOf, cell_of, over_it, pivot_in}
-use Rattle.packing.proofs.WalkLemmas.{found_before, less-le, less_swap, placed_cells, placed_is_piece, smaller, some_swap, stack_is_piece, stands_fills, swapped}
+use Rattle.packing.proofs.WalkLemmas.{found_before, inside_well, less-le, less_swap, less_with, placed_cells, smaller, some_swap, some_with, stack_is_piece, stands_fills, swapped}
 
--- what a placement leaves, and what stacked spans leave
-pub found_by_whole : (supply : Supply) (E : Field) (q : Placement) → IsSmall 8 E → list_all (has_cell E) (cells_of q) ≡ true → (found : Option Placement) →
-    Finds supply (without_placement E q) found → Finds (with_one supply q.piece) E found
-unfolding without_placement placed_cells
-found_by_whole supply E q small inside found finds =
-    found_before (placed_cells q) q.piece (placed_is_piece E q small inside) E small (λ a b here. is_among-all (has_cell E) (cells_of q) (pos a, pos b) inside here) supply found finds
+-- an unbroken piece stands in a tiling where the supply fills what it leaves
+pub whole_stands : (supply : Supply) (E left : Field) (x y : ℕ) (piece : Piece) (found : Option Placement) → CanFill 8 supply left → IsWhole E left x y piece found → Finds (with_one supply piece) E found
+unfolding Finds
+whole_stands supply E left x y piece found filling w =
+    subst (λ found. Finds (with_one supply piece) E found) (sym w.is) (subst (λ p. StandsInTiling E (with_one supply p) w.placement) w.kind (record {
+      inside = w.inside;
+      some = some_with supply w.placement.piece;
+      rest = subst (λ (s : Supply). CanFill 8 s (without_placement E w.placement)) (sym (less_with supply w.placement.piece)) (subst (λ (F : Field). CanFill 8 supply F) w.leaves filling);
+    }))
 
-pub found_by_stack : (supply : Supply) (E : Field) (x y : ℕ) (piece : Piece) (place : ℕ) (found : Option Placement) → IsSmall 8 E → StacksAt supply E x y piece place found → Finds (with_one supply piece) E found
+-- what is found with what stacked spans leave
+pub found_by_stack : (supply : Supply) (E : Field) (x y : ℕ) (piece : Piece) (place : ℕ) (found : Option Placement) → IsSmall 8 E → StacksBy supply E x y piece place found → Finds (with_one supply piece) E found
 unfolding without_stack
-found_by_stack supply E x y piece place found small s = by (chosen (is_allowed y) (λ F. Finds supply F found) E x 0 (form piece (rotation_at place)) stacks)
+found_by_stack supply E x y piece place found small s = by (chosen (is_allowed y) (λ F. FindsBy supply E x y piece F found) E x 0 (form piece (rotation_at place)) stacks)
   where
-    stacks : Stacks (is_allowed y) (λ F. Finds supply F found) E x 0 (form piece (rotation_at place))
-    stacks = subst (λ spans. Stacks (is_allowed y) (λ F. Finds supply F found) E x 0 spans) (sym (form_of_place piece place s.known)) s.stacks
+    stacks : Stacks (is_allowed y) (λ F. FindsBy supply E x y piece F found) E x 0 (form piece (rotation_at place))
+    stacks = subst (λ spans. Stacks (is_allowed y) (λ F. FindsBy supply E x y piece F found) E x 0 spans) (sym (form_of_place piece place s.known)) s.stacks
 
-    by : Chosen (λ F. Finds supply F found) E x 0 (form piece (rotation_at place)) → Finds (with_one supply piece) E found
-    by c = found_before (in_stack x c.rows (form piece (rotation_at place))) piece (stack_is_piece piece (rotation_at place) x c.rows c.rises) E small c.within.inside supply found c.rest
+    by : Chosen (λ F. FindsBy supply E x y piece F found) E x 0 (form piece (rotation_at place)) → Finds (with_one supply piece) E found
+    by c = either c.rest
+      where
+        either : FindsBy supply E x y piece (without_stack E x c.rows (form piece (rotation_at place))) found → Finds (with_one supply piece) E found
+        either (beside finds) = found_before (in_stack x c.rows (form piece (rotation_at place))) piece (stack_is_piece piece (rotation_at place) x c.rows c.rises) E small c.within.inside supply found finds
+        either (itself filling is) = whole_stands supply E _ x y piece found filling is
 
 -- some piece has the first cell where something is found
 pub record SomeTakes (supply : Supply) (E : Field) (x y : ℕ) (found : Option Placement) : Type 0 where
@@ -57,17 +67,21 @@ pub record SomeTakes (supply : Supply) (E : Field) (x y : ℕ) (found : Option P
 pub some_takes_it : (supply : Supply) (E : Field) (x y : ℕ) → IsSmall 8 E → IsFirst E x y → (found : Option Placement) → Finds supply E found → SomeTakes supply E x y found
 unfolding Finds without_placement placed_cells without_stack
 some_takes_it supply E x y small first None filling =
-    let by = stacked_first E supply x y small first filling in
-    record { piece = by.piece; takes = record { has = by.some; by = stacked by.stacks.place (record { known = by.stacks.known; stacks = by.stacks.stacks }) } }
+    let by = filled_by 8 E supply x y small first.filled filling in
+    record {
+      piece = by.piece;
+      takes = record {
+        has = by.some;
+        place = form_at by.piece by.rotation;
+        stacks = record {
+          known = form_within by.piece by.rotation;
+          stacks = over_first E x y by.piece by.rotation by.x by.rows (λ F. FindsBy (less_one supply by.piece) E x y by.piece F None) first by.rises by.within by.has (beside by.rest);
+        };
+      };
+    }
 some_takes_it supply E x y small first (Some q) t = elim (cases_Bool (is_among (cells_of q) (pos x, pos y))) [
-  | inl has ↦ record {
-    piece = q.piece;
-    takes = record {
-      has = t.some;
-      by = whole q.rotation (record { placement = q; is = refl; kind = refl; turned = refl; over = over_it E q t.inside x y first has; inside = t.inside; rest = t.rest });
-    };
-  }
-  | inr hasnt ↦ beside q t hasnt (filled_by 8 (without_placement E q) (less_one supply q.piece) x y (left_small q) (left_first q hasnt) t.rest)
+  | inl has ↦ alone q t has (stack_of 8 E (placed q) small (placed_generalized q (inside_well E q small t.inside)) (cells_empty q t))
+  | inr hasnt ↦ apart q t hasnt (filled_by 8 (without_placement E q) (less_one supply q.piece) x y (left_small q) (left_first q hasnt) t.rest)
 ]
   where
     left_small : (q : Placement) → IsSmall 8 (without_placement E q)
@@ -76,16 +90,41 @@ some_takes_it supply E x y small first (Some q) t = elim (cases_Bool (is_among (
     left_first : (q : Placement) → is_among (cells_of q) (pos x, pos y) ≡ false → without_placement E q x y ≡ true
     left_first q hasnt = and_from _ _ first.filled (not_from_false _ hasnt)
 
-    beside : (q : Placement) → StandsInTiling E supply q → is_among (cells_of q) (pos x, pos y) ≡ false → FilledBy 8 (without_placement E q) (less_one supply q.piece) x y → SomeTakes supply E x y (Some q)
-    beside q t hasnt by = record {
+    cells_empty : (q : Placement) → StandsInTiling E supply q → list_all (is_empty_below (all_but E) 8) (cells_of q) ≡ true
+    cells_empty q t = list_all-from_is_among (is_empty_below (all_but E) 8) (cells_of q) (λ c has. each c (cell_of E c (is_among-all (has_cell E) (cells_of q) c t.inside has)))
+      where
+        each : (c : Cell) → CellOf E c → is_empty_below (all_but E) 8 c ≡ true
+        each c at = subst (λ c. is_empty_below (all_but E) 8 c ≡ true) (sym at.is) (empty_is 8 E at.x at.y small ∙ at.has)
+
+    alone : (q : Placement) → StandsInTiling E supply q → is_among (cells_of q) (pos x, pos y) ≡ true → StackOf E (placed q) → SomeTakes supply E x y (Some q)
+    alone q t has by = record {
+      piece = q.piece;
+      takes = record {
+        has = t.some;
+        place = form_at q.piece by.rotation;
+        stacks = record {
+          known = form_within q.piece by.rotation;
+          stacks = over_first E x y q.piece by.rotation by.x by.rows (λ F. FindsBy (less_one supply q.piece) E x y q.piece F (Some q)) first by.rises by.within (sym (by.same x y) ∙ has)
+              (itself (subst (λ (F : Field). CanFill 8 (less_one supply q.piece) F) (sym same) t.rest)
+              (record { placement = q; is = refl; kind = refl; over = over_it E q t.inside x y first has; inside = t.inside; leaves = same }));
+        };
+      };
+    }
+      where
+        same : without_stack E by.x by.rows (form q.piece by.rotation) ≡ without_placement E q
+        same = fun_ext (λ a. fun_ext (λ b. ap (λ s. E a b && not s) (sym (by.same a b))))
+
+    apart : (q : Placement) → StandsInTiling E supply q → is_among (cells_of q) (pos x, pos y) ≡ false → FilledBy 8 (without_placement E q) (less_one supply q.piece) x y → SomeTakes supply E x y (Some q)
+    apart q t hasnt by = record {
       piece = by.piece;
       takes = record {
         has = omega (arith, by.some, less-le supply q.piece by.piece);
-        by = stacked (form_at by.piece by.rotation) (record {
+        place = form_at by.piece by.rotation;
+        stacks = record {
           known = form_within by.piece by.rotation;
-          stacks = over_first E x y by.piece by.rotation by.x by.rows (λ F. Finds (less_one supply by.piece) F (Some q)) first by.rises
-              (record { inside = λ a b here. (and_parts (E a b) _ (by.within.inside a b here)).0 }) by.has fact;
-        });
+          stacks = over_first E x y by.piece by.rotation by.x by.rows (λ F. FindsBy (less_one supply by.piece) E x y by.piece F (Some q)) first by.rises
+              (record { inside = λ a b here. (and_parts (E a b) _ (by.within.inside a b here)).0 }) by.has (beside fact);
+        };
       };
     }
       where
@@ -173,6 +212,11 @@ still_true walk old new more walked is = (is.0, is.1, λ same. let told = is.2 s
     each : (found : Option Placement) → noted true old found ≡ true → noted true new found ≡ true
     each None has = has
     each (Some q) has = more q has
+
+-- marks that a gain keeps
+pub marks_kept : (old new : TiledPieces) (Least Most : Option Placement → Type 0) → Gains (noted false old) (noted false new) Least Most → (q : Placement) → is_marked old q ≡ true → is_marked new q ≡ true
+unfolding noted
+marks_kept old new Least Most gains q has = gains.kept (Some q) has
 
 -- and in the next walk, with anything noted
 pub next_walk : (walk next : ℕ) (old new : TiledPieces) → walk < next → (walked : Walked) → IsTrueIn walk old walked → IsTrueIn next new walked

@@ -1,5 +1,5 @@
 -- A walk over the tilings of a set: what may be found in it, and what is noted.
-use Rattle.std.specs.Prelude.{◌≡◌, ℕ, ◌<◌, ◌≤◌, pos, Bool, true, false, IsTrue, Option, Some, None, [], length, slice_index_or}
+use Rattle.std.specs.Prelude.{◌≡◌, ℕ, ◌<◌, ◌≤◌, pos, Bool, true, false, IsTrue, Option, Some, None, List, [], length, slice_index_or}
 use Rattle.std.specs.List.{list_all}
 use Rattle.lane_board.specs.Field.{Field}
 use Rattle.srs.specs.declared.piece.Piece.{Piece}
@@ -10,7 +10,9 @@ use Rattle.srs.specs.declared.placement.Placement.{Placement}
 use Rattle.srs.specs.Cells.{Cell, minus, moved, pivot_of, cells_of}
 use Rattle.prune.specs.Tiling.{Supply, supply_in}
 use Rattle.prune.specs.OnePart.{less_one}
+use Rattle.packing.specs.declared.cover.Cover.{Cover}
 use Rattle.packing.specs.declared.pieces.TiledPieces.{TiledPieces}
+use Rattle.packing.specs.declared.span.Span.{Span}
 use Rattle.packing.specs.declared.walked.Outcome.{Outcome}
 use Rattle.packing.specs.declared.walked.Outcome.TheVariants.{NoTiling, Walked as InWalk}
 use Rattle.packing.specs.declared.walked.Walked.{Walked}
@@ -61,31 +63,52 @@ first_offset _ _ = (minus 1, pos 0)
 abbrev pub IsOver : ℕ → ℕ → Placement → Type 0
 IsOver x y placement = moved (pivot_of placement) (first_offset placement.piece placement.rotation) ≡ (pos x, pos y)
 
--- an unbroken piece has the first cell, and the supply fills what it leaves
-pub record IsWhole (supply : Supply) (E : Field) (x y : ℕ) (piece : Piece) (rotation : Rotation)
-    (found : Option Placement) : Type 0 where
+-- an unbroken piece of this kind has the first cell, and leaves a set
+pub record IsWhole (E left : Field) (x y : ℕ) (piece : Piece) (found : Option Placement) : Type 0 where
   pub placement : Placement
   pub is : found ≡ Some placement
   pub kind : placement.piece ≡ piece
-  pub turned : placement.rotation ≡ rotation
   pub over : IsOver x y placement
   pub inside : IsTrue (list_all (has_cell E) (cells_of placement))
-  pub rest : CanFill 8 supply (without_placement E placement)
+  pub leaves : left ≡ without_placement E placement
 
--- the spans of a form are stacked over the first cell, and something is found in what they leave
-pub record StacksAt (supply : Supply) (E : Field) (x y : ℕ) (piece : Piece) (place : ℕ)
+-- in this rotation
+pub record IsTurned (E left : Field) (x y : ℕ) (piece : Piece) (rotation : Rotation)
+    (found : Option Placement) : Type 0 where
+  pub whole : IsWhole E left x y piece found
+  pub turned : whole.placement.rotation ≡ rotation
+
+-- a piece of this kind has the first cell, and leaves a set: something is found there, or it is the piece
+pub data FindsBy (supply : Supply) (E : Field) (x y : ℕ) (piece : Piece) (left : Field)
+    (found : Option Placement) : Type 0 where
+  beside : Finds supply left found → FindsBy supply E x y piece left found
+  itself : CanFill 8 supply left → IsWhole E left x y piece found → FindsBy supply E x y piece left found
+
+abbrev pub FindsWith : Cover → Field → Option Placement → Type 0
+FindsWith cover left found =
+    FindsBy (supply_in cover.supply) (empty_cells cover.cells) cover.x cover.y cover.piece left found
+
+-- spans are taken from a set, and something is found with what they leave
+abbrev pub StacksWith : Cover → Field → ℕ → List Span → Option Placement → Type 0
+StacksWith cover E floor spans found =
+    Stacks (is_allowed cover.y) (λ left. FindsWith cover left found) E cover.x floor spans
+
+-- the spans of a form have the first cell, and something is found with what they leave
+pub record StacksBy (supply : Supply) (E : Field) (x y : ℕ) (piece : Piece) (place : ℕ)
     (found : Option Placement) : Type 0 where
   pub known : place < length (forms_of piece)
-  pub stacks : Stacks (is_allowed y) (λ F. Finds supply F found) E x 0 (slice_index_or (forms_of piece) place [])
+  pub stacks : Stacks (is_allowed y) (λ left. FindsBy supply E x y piece left found) E x 0
+      (slice_index_or (forms_of piece) place [])
 
--- a piece of this kind has the first cell: it is what is found, or something is found in what it leaves
-pub data TakesBy (supply : Supply) (E : Field) (x y : ℕ) (piece : Piece) (found : Option Placement) : Type 0 where
-  whole : (rotation : Rotation) → IsWhole supply E x y piece rotation found → TakesBy supply E x y piece found
-  stacked : (place : ℕ) → StacksAt supply E x y piece place found → TakesBy supply E x y piece found
+abbrev pub StacksAt : Cover → ℕ → Option Placement → Type 0
+StacksAt cover place found =
+    StacksBy (supply_in cover.supply) (empty_cells cover.cells) cover.x cover.y cover.piece place found
 
+-- a piece of this kind has the first cell
 pub record Takes (supply : Supply) (E : Field) (x y : ℕ) (piece : Piece) (found : Option Placement) : Type 0 where
   pub has : 0 < supply piece
-  pub by : TakesBy (less_one supply piece) E x y piece found
+  pub place : ℕ
+  pub stacks : StacksBy (less_one supply piece) E x y piece place found
 
 -- What a question came to is true in a walk, with what was found in it: there is no tiling; or its walk isn't a later
 -- one, and where it is this one, there is a tiling, and what is found in the set is noted.

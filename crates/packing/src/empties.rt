@@ -13,7 +13,7 @@ pub struct Empties {
 }
 
 impl Empties {
-    ghost use Rattle.std.specs.Prelude.{◌≤◌, ◌-◌, ◌+◌, ◌*◌, ◌&&◌, not, IsTrue, MatchOption};
+    ghost use Rattle.std.specs.Prelude.{◌≤◌, ◌-◌, ◌+◌, ◌*◌, ◌&&◌, ◌↔◌, not, IsTrue, MatchOption};
     ghost use Rattle.lane_board.specs.Field.{empty_field, difference, rows_below};
     ghost use Rattle.lane_board.specs.Lanes.{has_bit};
     ghost use Rattle.well.specs.Well.{filled};
@@ -45,7 +45,7 @@ impl Empties {
 
     /// Whether both sets have the same cells.
     pub(crate) fn is_equal(&self, other: &Empties) -> bool
-        ensures { IsTrue result → empty_cells self.now ≡ empty_cells other.now }
+        ensures { IsTrue result ↔ (empty_cells self.now ≡ empty_cells other.now) }
     {
         self.cells == other.cells
     }

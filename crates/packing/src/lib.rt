@@ -3,6 +3,7 @@
 #![tactic(auto)]
 
 mod columns;
+mod cover;
 mod decided;
 mod empties;
 mod forms;
@@ -20,6 +21,7 @@ mod supply;
 mod walk;
 mod walked;
 mod wells;
+mod whole;
 
 pub use empties::Empties;
 pub use memory::PlaceMemory;

@@ -149,7 +149,7 @@ fn pieces_of_all_tilings(rt: HostRuntime) {
     // A T, an O and an I clear it in exactly one way, and the O has a row between its rows.
     let opener = field(b"XXXX____XX/XXXX___XXX/XXXX__XXXX/XXXX___XXX");
     let cells = Empties::below(&opener, 4);
-    let mut store = PieceStore::new(rt.alloc()).expect(&rt, "memory");
+    let mut store = PieceStore::new(rt.alloc());
     let pieces = store.pieces(&cells, &[1, 0, 1, 0, 1, 0, 0]);
     assert!(rt; pieces.has(&at(Piece::T, Rotation::Right, 4, 1)));
     assert!(rt; pieces.has(&at(Piece::I, Rotation::Spawn, 5, 3)));

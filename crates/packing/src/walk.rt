@@ -1,31 +1,28 @@
 // The pieces of all tilings, found by a walk over the tilings.
-ghost use Rattle.std.specs.Prelude.{ℕ, ◌≡◌, ◌↔◌, ◌≤◌, ◌<◌, IsTrue, All, length, false};
+ghost use Rattle.std.specs.Prelude.{ℕ, ◌≡◌, ◌↔◌, ◌≤◌, ◌<◌, IsTrue, All, [], ◌∷◌, false};
 ghost use Rattle.srs.specs.declared.placement.Placement.{Placement};
 ghost use Rattle.prune.specs.Tiling.{supply_in};
 ghost use Rattle.prune.specs.Laws.{with_one};
-ghost use Rattle.srs.specs.declared.rotation.Rotation.{Rotation};
 ghost use Rattle.packing.specs.Empties.{empty_cells};
 ghost use Rattle.packing.specs.Spans.{IsFirst};
-ghost use Rattle.packing.specs.Stacks.{is_allowed, Stacks};
 ghost use Rattle.packing.specs.TiledPieces.{is_marked, StandsInTiling};
-ghost use Rattle.packing.specs.Walks.{Finds, Gains, IsPlaced, IsTrueIn, IsWhole, StacksAt, Takes, noted};
+ghost use Rattle.packing.specs.Walks.{Finds, FindsWith, Gains, IsTrueIn, IsWhole, StacksAt, StacksWith, Takes, noted};
 
+use crate::cover::Cover;
 use crate::decided::place_of;
 use crate::empties::Empties;
 use crate::forms::form_of;
 use crate::pieces::TiledPieces;
-use crate::placed::placement_over;
 use crate::rows::{lowest_row, without_row};
 use crate::search::allowed;
 use crate::span::Span;
 use crate::supply::{count_of, without_one};
-use crate::walked::{Outcome, Walked};
-use pc_outside::NoMemory;
-use srs::{Piece, Placement, Rotation};
+use crate::walked::Walked;
+use srs::Piece;
 use std::alloc::Global;
 
 /// How many questions a store keeps.
-const PLACES: usize = 32768;
+const PLACES: usize = 131_072;
 
 /// Finds the pieces of all tilings, and keeps which questions have no tiling.
 #[derive(Drop)]
@@ -35,19 +32,42 @@ pub struct PieceStore {
     walk: u64,
     /// What the current walk has found.
     pieces: TiledPieces,
-    ghost room: { length known.items ≡ 32768 },
     ghost are_true: { All (IsTrueIn walk pieces) known.items },
 }
 
+/// An entry for each question that is kept, or none if there is not enough memory.
+fn places(alloc: Global) -> Vec<Walked>
+    ensures { (pieces : TiledPieces) → All (IsTrueIn 0 pieces) result.items }
+{
+    match vec![in alloc; Walked::nothing(); PLACES] {
+        Ok(known) => known,
+        Err(_) => Vec::new(alloc),
+    }
+}
+
+// Whether something is found with the lowest span in one of the rows that it may be in.
+macro_rules! any_row {
+    ($self:expr, $cover:expr, $cells:expr, $floor:expr, $span:expr, $rest:ident, $row:ident => $found:expr) => {{
+        let mut any = false;
+        let mut rows = $cells.rows_with($cover.x, $span) & allowed($cover.y, $floor, $span);
+        while rows > 0 {
+            let $row = lowest_row(rows);
+            let $rest = $cells.without_span($cover.x, $span, $row);
+            any |= $found;
+            rows = without_row(rows, $row);
+        }
+        any
+    }};
+}
+
 impl PieceStore {
-    /// An empty store. `NoMemory` if there is not enough memory.
-    pub fn new(alloc: Global) -> Result<PieceStore, NoMemory> {
-        let known = vec![in alloc; Walked::nothing(); PLACES]?;
-        Ok(PieceStore {
-            known,
+    /// An empty store. If there is not enough memory for it, it keeps nothing.
+    pub fn new(alloc: Global) -> PieceStore {
+        PieceStore {
+            known: places(alloc),
             walk: 0,
             pieces: TiledPieces::none(),
-        })
+        }
     }
 
     /// The placements that stand as unbroken pieces in some tiling of the cells, with at most as many of each kind as
@@ -89,14 +109,23 @@ impl PieceStore {
         self.walk = 0;
     }
 
-    /// Marks one more placement as found.
-    fn mark(&mut self, placement: &Placement)
-        requires column { placement.now.x ≤ 9 }
-        requires row { placement.now.y ≤ 7 }
+    /// Marks the placements of the piece that cover the first cell and leave exactly the rest of the cells.
+    fn mark_whole(&mut self, cover: &Cover, rest: &Empties)
         ensures gains { Gains (noted false self.old.pieces) (noted false self.new.pieces)
-            (IsPlaced placement.now) (IsPlaced placement.now) }
+            (IsWhole (empty_cells cover.now.cells) (empty_cells rest.now) cover.now.x cover.now.y cover.now.piece)
+            (IsWhole (empty_cells cover.now.cells) (empty_cells rest.now) cover.now.x cover.now.y cover.now.piece) }
     {
-        self.pieces.mark(placement);
+        self.pieces.mark_whole(cover, rest);
+    }
+
+    /// Keeps the answer to a question.
+    fn note(&mut self, place: usize, walked: Walked)
+        requires { IsTrueIn self.old.walk self.old.pieces walked }
+        ensures { self.new.pieces ≡ self.old.pieces }
+    {
+        if place < self.known.len() {
+            self.known[place] = walked;
+        }
     }
 
     /// Goes through all tilings of the cells and marks the placements that stand in one. Returns whether there is a
@@ -110,6 +139,12 @@ impl PieceStore {
         let Some((x, y)) = cells.first() else {
             return true;
         };
+        if self.known.is_empty() {
+            return self.covers(cells, x, y, supply);
+        }
+        if cells.is_few() {
+            return self.covers(cells, x, y, supply);
+        }
         if cells.has_uneven_part() || cells.has_wrong_parity(supply) {
             return false;
         }
@@ -118,7 +153,7 @@ impl PieceStore {
             return answer;
         }
         let answer = self.covers(cells, x, y, supply);
-        self.known[place] = Walked::new(*cells, *supply, answer, self.walk);
+        self.note(place, Walked::new(*cells, *supply, answer, self.walk));
         answer
     }
 
@@ -142,6 +177,7 @@ impl PieceStore {
 
     /// The same for the tilings in which a piece of this kind covers the first cell.
     #[cycle(walk)]
+    #[inline(always)]
     fn takes(&mut self, cells: &Empties, x: u8, y: u8, piece: Piece, supply: &[u8; 7]) -> bool
         requires { IsFirst (empty_cells cells.now) x y }
         ensures { Gains (noted false self.old.pieces) (noted result self.new.pieces)
@@ -151,125 +187,134 @@ impl PieceStore {
         if count_of(supply, piece) == 0 {
             return false;
         }
-        let fewer = without_one(supply, piece);
-        let whole = self.wholes(cells, x, y, piece, &fewer);
-        let stacked = self.forms(cells, x, y, piece, &fewer);
-        whole | stacked
-    }
-
-    /// The same for those in which an unbroken piece of this kind covers it, in any rotation.
-    #[cycle(walk)]
-    fn wholes(&mut self, cells: &Empties, x: u8, y: u8, piece: Piece, fewer: &[u8; 7]) -> bool
-        requires { IsFirst (empty_cells cells.now) x y }
-        ensures { Gains (noted false self.old.pieces) (noted result self.new.pieces)
-            (λ found. (rotation : Rotation) × IsWhole (supply_in fewer.now) (empty_cells cells.now) x y piece
-            rotation found)
-            (Finds (with_one (supply_in fewer.now) piece) (empty_cells cells.now)) }
-    {
-        let spawn = self.whole(cells, x, y, piece, Rotation::Spawn, fewer);
-        let right = self.whole(cells, x, y, piece, Rotation::Right, fewer);
-        let reverse = self.whole(cells, x, y, piece, Rotation::Reverse, fewer);
-        let left = self.whole(cells, x, y, piece, Rotation::Left, fewer);
-        spawn | right | reverse | left
-    }
-
-    /// The same for those in which an unbroken piece in this rotation covers it.
-    #[cycle(walk)]
-    fn whole(
-        &mut self,
-        cells: &Empties,
-        x: u8,
-        y: u8,
-        piece: Piece,
-        rotation: Rotation,
-        fewer: &[u8; 7],
-    ) -> bool
-        requires { IsFirst (empty_cells cells.now) x y }
-        ensures { Gains (noted false self.old.pieces) (noted result self.new.pieces)
-            (IsWhole (supply_in fewer.now) (empty_cells cells.now) x y piece rotation)
-            (Finds (with_one (supply_in fewer.now) piece) (empty_cells cells.now)) }
-    {
-        let Some(placement) = placement_over(piece, rotation, x, y) else {
-            return false;
+        let cover = Cover {
+            cells: *cells,
+            x,
+            y,
+            piece,
+            supply: without_one(supply, piece),
         };
-        if !cells.has_all(&placement) {
-            return false;
-        }
-        if !self.search(&cells.without(&placement), fewer) {
-            return false;
-        }
-        self.mark(&placement);
-        true
+        self.forms(&cover)
     }
 
-    /// The same for those in which a piece of this kind covers it, whether its rows are apart or not.
+    /// The same for those in which this piece covers the first cell.
     #[cycle(walk)]
-    fn forms(&mut self, cells: &Empties, x: u8, y: u8, piece: Piece, fewer: &[u8; 7]) -> bool
-        requires { IsFirst (empty_cells cells.now) x y }
+    #[inline(always)]
+    fn forms(&mut self, cover: &Cover) -> bool
         ensures { Gains (noted false self.old.pieces) (noted result self.new.pieces)
-            (λ found. (place : ℕ) × StacksAt (supply_in fewer.now) (empty_cells cells.now) x y piece place found)
-            (Finds (with_one (supply_in fewer.now) piece) (empty_cells cells.now)) }
+            (λ found. (place : ℕ) × StacksAt cover.now place found)
+            (Finds (with_one (supply_in cover.now.supply) cover.now.piece) (empty_cells cover.now.cells)) }
     {
-        let first = self.form(cells, x, y, piece, 0, fewer);
-        let second = self.form(cells, x, y, piece, 1, fewer);
-        let third = self.form(cells, x, y, piece, 2, fewer);
-        let fourth = self.form(cells, x, y, piece, 3, fewer);
+        let first = self.form(cover, 0);
+        let second = self.form(cover, 1);
+        let third = self.form(cover, 2);
+        let fourth = self.form(cover, 3);
         first | second | third | fourth
     }
 
     /// The same for those in which it covers it in the shape with this index.
     #[cycle(walk)]
-    fn form(
-        &mut self,
-        cells: &Empties,
-        x: u8,
-        y: u8,
-        piece: Piece,
-        place: u8,
-        fewer: &[u8; 7],
-    ) -> bool
-        requires { IsFirst (empty_cells cells.now) x y }
+    #[inline(always)]
+    fn form(&mut self, cover: &Cover, place: u8) -> bool
         ensures { Gains (noted false self.old.pieces) (noted result self.new.pieces)
-            (StacksAt (supply_in fewer.now) (empty_cells cells.now) x y piece place)
-            (Finds (with_one (supply_in fewer.now) piece) (empty_cells cells.now)) }
+            (StacksAt cover.now place)
+            (Finds (with_one (supply_in cover.now.supply) cover.now.piece) (empty_cells cover.now.cells)) }
     {
-        let Some(spans) = form_of(piece, place) else {
+        let Some(spans) = form_of(cover.piece, place) else {
             return false;
         };
-        self.stacks(cells, x, y, 0, spans, fewer)
+        if let [a] = spans {
+            return self.stacks_one(cover, &cover.cells, 0, *a);
+        }
+        if let [a, b] = spans {
+            return self.stacks_two(cover, &cover.cells, 0, *a, *b);
+        }
+        if let [a, b, c] = spans {
+            return self.stacks_three(cover, &cover.cells, 0, *a, *b, *c);
+        }
+        let [a, b, c, d] = spans else {
+            return false;
+        };
+        self.stacks_four(cover, &cover.cells, 0, *a, *b, *c, *d)
     }
 
-    /// The same for those in which these spans are stacked from row `floor` on so that they cover the cell in row `y`.
+    /// The same for those in which one span is taken from these cells, in a row from `floor` on.
     #[cycle(walk)]
-    fn stacks(
-        &mut self,
-        cells: &Empties,
-        x: u8,
-        y: u8,
-        floor: u8,
-        spans: &[Span],
-        supply: &[u8; 7],
-    ) -> bool
-        requires column { x ≤ 9 }
-        requires row { y ≤ 7 }
-        requires start { floor ≤ 8 }
+    #[inline(always)]
+    fn stacks_one(&mut self, cover: &Cover, cells: &Empties, floor: u8, a: Span) -> bool
+        requires { floor ≤ 8 }
         ensures { Gains (noted false self.old.pieces) (noted result self.new.pieces)
-            (λ found. Stacks (is_allowed y) (λ E. Finds (supply_in supply.now) E found) (empty_cells cells.now) x
-            floor spans.now)
-            (λ found. Stacks (is_allowed y) (λ E. Finds (supply_in supply.now) E found) (empty_cells cells.now) x
-            floor spans.now) }
+            (StacksWith cover.now (empty_cells cells.now) floor (a ∷ []))
+            (StacksWith cover.now (empty_cells cells.now) floor (a ∷ [])) }
     {
-        let [span, others @ ..] = spans else {
-            return self.search(cells, supply);
-        };
-        let mut any = false;
-        let mut rows = cells.rows_with(x, *span) & allowed(y, floor, *span);
-        while rows > 0 {
-            let row = lowest_row(rows);
-            let rest = cells.without_span(x, *span, row);
-            any |= self.stacks(&rest, x, y, row + 1, others, supply);
-            rows = without_row(rows, row);
+        any_row!(self, cover, cells, floor, a, rest, row => self.leaves(cover, &rest))
+    }
+
+    /// The same for two spans, one above the other.
+    #[cycle(walk)]
+    #[inline(always)]
+    fn stacks_two(&mut self, cover: &Cover, cells: &Empties, floor: u8, a: Span, b: Span) -> bool
+        requires { floor ≤ 8 }
+        ensures { Gains (noted false self.old.pieces) (noted result self.new.pieces)
+            (StacksWith cover.now (empty_cells cells.now) floor (a ∷ b ∷ []))
+            (StacksWith cover.now (empty_cells cells.now) floor (a ∷ b ∷ [])) }
+    {
+        any_row!(self, cover, cells, floor, a, rest, row => self.stacks_one(cover, &rest, row + 1, b))
+    }
+
+    /// The same for three spans.
+    #[cycle(walk)]
+    #[inline(always)]
+    fn stacks_three(
+        &mut self,
+        cover: &Cover,
+        cells: &Empties,
+        floor: u8,
+        a: Span,
+        b: Span,
+        c: Span,
+    ) -> bool
+        requires { floor ≤ 8 }
+        ensures { Gains (noted false self.old.pieces) (noted result self.new.pieces)
+            (StacksWith cover.now (empty_cells cells.now) floor (a ∷ b ∷ c ∷ []))
+            (StacksWith cover.now (empty_cells cells.now) floor (a ∷ b ∷ c ∷ [])) }
+    {
+        any_row!(self, cover, cells, floor, a, rest, row => self.stacks_two(cover, &rest, row + 1, b, c))
+    }
+
+    /// The same for four spans.
+    #[cycle(walk)]
+    #[inline(always)]
+    fn stacks_four(
+        &mut self,
+        cover: &Cover,
+        cells: &Empties,
+        floor: u8,
+        a: Span,
+        b: Span,
+        c: Span,
+        d: Span,
+    ) -> bool
+        requires { floor ≤ 8 }
+        ensures { Gains (noted false self.old.pieces) (noted result self.new.pieces)
+            (StacksWith cover.now (empty_cells cells.now) floor (a ∷ b ∷ c ∷ d ∷ []))
+            (StacksWith cover.now (empty_cells cells.now) floor (a ∷ b ∷ c ∷ d ∷ [])) }
+    {
+        any_row!(self, cover, cells, floor, a, rest, row => self.stacks_three(cover, &rest, row + 1, b, c, d))
+    }
+
+    /// The same for those in which the piece leaves these cells: what is found there, and the piece itself.
+    #[cycle(walk)]
+    #[inline(always)]
+    fn leaves(&mut self, cover: &Cover, rest: &Empties) -> bool
+        ensures { Gains (noted false self.old.pieces) (noted result self.new.pieces)
+            (FindsWith cover.now (empty_cells rest.now))
+            (FindsWith cover.now (empty_cells rest.now)) }
+    {
+        if !self.search(rest, &cover.supply) {
+            return false;
         }
-        any
+        self.mark_whole(cover, rest);
+        true
     }
 }

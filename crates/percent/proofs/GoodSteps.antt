@@ -205,13 +205,13 @@ try-step game now next_game left children rests asked asked1 asked2 good good1 n
 
 pub try-ends : (game now : Game) (F : Field) (rows : ℕ) (piece : Piece) (left : ℕ) (children : List Child) (rests asked found : List ℕ) (before after i : ℕ)
     → Trying game now left children rests asked before after i → length children ≤ i
-    → ((left hand : ℕ) → is_good_at game children left hand ≡ is_good_after game F rows piece left hand)
+    → ((rest : ℕ) → has rests rest ≡ true → is_good_at game children left rest ≡ is_good_after game F rows piece left rest)
     → ((rest : ℕ) → has found rest ≡ (has rests rest && not (has asked rest)))
     → (rest : ℕ) → has found rest ≡ (has rests rest && is_good_after game F rows piece left rest)
 try-ends game now F rows piece left children rests asked found before after i state all children_are found_is rest =
     found_is rest ∙ ap (λ b. has rests rest && not b) (state.members rest)
     ∙ taken_back (has rests rest) (is_good_at game (take i children) left rest)
-    ∙ ap (λ b. has rests rest && b) (ap (λ l. is_good_at game l left rest) (take_all i children all) ∙ children_are left rest)
+    ∙ and_same (has rests rest) _ _ (λ here. ap (λ l. is_good_at game l left rest) (take_all i children all) ∙ children_are rest here)
 
 -- ---- the whole answer
 

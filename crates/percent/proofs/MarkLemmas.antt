@@ -1,7 +1,10 @@
 -- A placement after which a rest is good stands in a tiling by the pieces of the rest and its own.
-use Rattle.std.proofs.Common.{ℕ, suc, ◌≡◌, ◌+◌, ◌-◌, ◌<◌, ◌≤◌, Bool, true, false, not, ◌&&◌, ◌==◌, cond, nat_le, nat_lt, List, [], ◌∷◌, get_or, pos, negsuc, int_lt, refl, sym, ap, subst, ◌∙◌, inl, inr, arith}
+use Rattle.std.proofs.Common.{ℕ, ◌≡◌, ◌+◌, ◌-◌, ◌<◌, ◌≤◌, true, false, not, ◌==◌, nat_le, List, [], ◌∷◌, get_or, pos, negsuc, int_lt, refl, sym, subst, inl, inr, arith}
 use Rattle.std.specs.List.{list_all}
-use Rattle.std.proofs.lemmas.Bool.{and_parts, and_from, cases_Bool, cond-true, cond-false, eq-eqb, false≢true, false_from_ne_true, lt-ltb, leb-true}
+use Rattle.std.proofs.lemmas.Bool.{and_parts, and_from, cases_Bool, cond-true, cond-false, both_ways, eq-eqb, false≢true, false_from_ne_true, lt-ltb, leb-true}
+use Rattle.std.specs.Prelude.{All}
+use Rattle.std.proofs.lemmas.List.Elements.{All-contains}
+use Rattle.problem.proofs.CallerLemmas.{locked-low}
 use Rattle.lane_board.specs.Field.{Field, difference, rows_below}
 use Rattle.srs.specs.declared.piece.Piece.{Piece}
 use Rattle.srs.specs.declared.placement.Placement.{Placement}
@@ -23,9 +26,9 @@ use Rattle.percent.specs.declared.marks.Mark.{Mark}
 use Rattle.percent.specs.declared.position.Child.{Child}
 use Rattle.percent.specs.declared.position.Position.{Position}
 use Rattle.percent.specs.Children.{IsChild}
-use Rattle.percent.specs.Fitting.{codes_in, codes_with, supply_at, supply_by}
+use Rattle.percent.specs.Fitting.{codes_with, supply_at, supply_by}
 use Rattle.percent.specs.GoodHands.{is_good}
-use Rattle.percent.specs.Marks.{IsTrueMark}
+use Rattle.percent.specs.Marks.{IsTrueMark, KnowsPieces}
 use Rattle.percent.proofs.HandLemmas.{code-few}
 use Rattle.percent.proofs.FittingLemmas.{low-position}
 use Rattle.percent.proofs.TiledLemmas.{good-tiled}
@@ -79,27 +82,42 @@ one_there piece count rest counts most =
     let more = cond-true {A = ℕ} (piece_code piece == piece_code piece) 1 0 (eq-eqb _ _ refl) in
     omega (arith, few, more)
 
-pub good-stands : (game : Game) (p : Position) (child : Child) (left rest : ℕ) (counts : List ℕ) → IsChild (filled p.well) p.rows child
-    → ((code : ℕ) → code < 8 → codes_with child.placement.piece (left + 1) rest code ≤ get_or counts code 0)
-    → is_good game (filled child.position.well) child.position.rows left rest ≡ true
-    → StandsInTiling (difference (rows_below p.rows) (filled p.well)) (supply_by counts) child.placement
-good-stands game p child left rest counts is most good =
+pub good-placed : (game : Game) (p : Position) (q : Placement) (left rest : ℕ) (counts : List ℕ) → is_free (filled p.well) q ≡ true → is_below p.rows q ≡ true
+    → ((code : ℕ) → code < 8 → codes_with q.piece (left + 1) rest code ≤ get_or counts code 0)
+    → is_good game (locked (filled p.well) q) (p.rows - rows_removed (filled p.well) q) left rest ≡ true
+    → StandsInTiling (difference (rows_below p.rows) (filled p.well)) (supply_by counts) q
+good-placed game p q left rest counts free below most good =
     let F : Field = filled p.well in
-    let q : Placement = child.placement in
     let supply : Supply = supply_at (left + 1) rest in
     let few = p.few in
-    let tiled : Tiling (filled child.position.well) child.position.rows supply =
-    good-tiled game (filled child.position.well) child.position.rows left rest (left + 1) (low-position child.position) (omega arith) good in
-    let after : Tiling (locked F q) (p.rows - rows_removed F q) supply = subst (λ G. Tiling G (p.rows - rows_removed F q) supply) is.field (subst (λ n. Tiling (filled child.position.well) n supply) is.left tiled) in
-    let standing : Tiling (together F q) p.rows supply = (full_rows_may_stand F q p.rows supply (omega (arith, few)) p.below is.free is.below).1 after in
+    let after : Tiling (locked F q) (p.rows - rows_removed F q) supply = good-tiled game (locked F q) (p.rows - rows_removed F q) left rest (left + 1) (locked-low F p.rows q (low-position p) below free) (omega arith) good in
+    let standing : Tiling (together F q) p.rows supply = (full_rows_may_stand F q p.rows supply (omega (arith, few)) p.below free below).1 after in
     let as_set : Tiling (all_but (difference (rows_below p.rows) (together F q))) 8 supply = (tiling_below (together F q) p.rows 8 supply few).1 standing in
     record {
-      inside = placed_inside F p.rows q is.free is.below;
+      inside = placed_inside F p.rows q free below;
       some = one_there q.piece (left + 1) rest counts most;
       rest = more_pieces (all_but (without_placement (difference (rows_below p.rows) F) q)) 8 supply (less_one (supply_by counts) q.piece)
           (λ other. enough q.piece other (left + 1) rest counts most)
           (subst (λ E. Tiling (all_but E) 8 supply) (sym (left_by_placement F p.rows q)) as_set);
     }
+
+pub good-stands : (game : Game) (p : Position) (child : Child) (left rest : ℕ) (counts : List ℕ) → IsChild (filled p.well) p.rows child
+    → ((code : ℕ) → code < 8 → codes_with child.placement.piece (left + 1) rest code ≤ get_or counts code 0)
+    → is_good game (filled child.position.well) child.position.rows left rest ≡ true
+    → StandsInTiling (difference (rows_below p.rows) (filled p.well)) (supply_by counts) child.placement
+good-stands game p child left rest counts is most good =
+    good-placed game p child.placement left rest counts is.free is.below most
+    (subst (λ n. is_good game (locked (filled p.well) child.placement) n left rest ≡ true) is.left (subst (λ (G : Field). is_good game G child.position.rows left rest ≡ true) is.field good))
+
+-- where no mark of pieces that are enough has it, the rest isn't good
+pub none-placed : (game : Game) (p : Position) (known : List Mark) (cells : Empties) (q : Placement) (left rest : ℕ) → empty_cells cells ≡ difference (rows_below p.rows) (filled p.well) → All (IsTrueMark cells) known
+    → is_free (filled p.well) q ≡ true → is_below p.rows q ≡ true → KnowsPieces known q.piece left rest → All (λ mark. is_marked mark.pieces q ≡ false) known
+    → is_good game (locked (filled p.well) q) (p.rows - rows_removed (filled p.well) q) left rest ≡ false
+none-placed game p known cells q left rest are true_marks free below k unmarked =
+    false_from_ne_true _ (λ good. both_ways _
+    (All-contains (λ mark. is_marked mark.pieces q ≡ false) known k.mark unmarked k.among)
+    ((All-contains (IsTrueMark cells) known k.mark true_marks k.among).each q
+    (subst (λ E. StandsInTiling E (supply_by k.mark.counts) q) (sym are) (good-placed game p q left rest k.mark.counts free below k.enough good))))
 
 -- where it doesn't stand in a tiling, the rest isn't good
 pub bad-stand : (game : Game) (p : Position) (child : Child) (left rest : ℕ) (counts : List ℕ) (cells : Empties) → empty_cells cells ≡ difference (rows_below p.rows) (filled p.well)

@@ -3,7 +3,7 @@ use Rattle.std.proofs.Common.{◌≡◌, ◌↔◌, ℕ, ◌-◌, Bool, true, fa
 use Rattle.std.specs.Prelude.{Option, Some, None, MatchOption, filter, find}
 use Rattle.std.specs.List.{list_any}
 use Rattle.std.specs.Prelude.{IsPermutation}
-use Rattle.std.proofs.lemmas.Bool.{cases_Bool}
+use Rattle.std.proofs.lemmas.Bool.{and_right, cases_Bool}
 use Rattle.std.proofs.lemmas.List.Sorted.{list_any-IsPermutation}
 use Rattle.std.proofs.lemmas.List.Folds.{list_any-append}
 use Rattle.std.proofs.lemmas.List.Kept.{IsStrictlySortedBy-filter}
@@ -26,9 +26,9 @@ use Rattle.reach.specs.declared.held.Places.{Places}
 use Rattle.reach.specs.Places.{holds}
 use Rattle.well.proofs.CallerLemmas.{free_inside}
 use Rattle.moves.proofs.CallerLemmas.{is_place-decides as place-decides, place-free}
+use Rattle.number_sets.specs.Rising.{has}
 use Rattle.percent.specs.declared.game.Game.{Game}
 use Rattle.percent.specs.declared.position.Child.{Child}
-use Rattle.percent.specs.Children.{IsChild}
 use Rattle.percent.specs.GoodHands.{reached_places, is_good, is_good_after, is_good_at}
 
 -- the reached places whose cells lie below a row
@@ -98,9 +98,9 @@ next-place game F rows piece places held last next is = at next same is
 unfoldable pub good_after_some : Game → Field → ℕ → List Placement → ℕ → ℕ → Bool
 good_after_some game F rows qs left hand = list_any (λ q. is_below rows q && is_good game (locked F q) (rows - rows_removed F q) left hand) qs
 
--- the positions so far and the places above the last one make up all
-pub record Following (game : Game) (F : Field) (rows : ℕ) (piece : Piece) (children : List Child) (last : Option Placement) : Type 0 where
-  pub same : (left hand : ℕ) → (is_good_at game children left hand || good_after_some game F rows (places_above game F rows piece last) left hand) ≡ is_good_after game F rows piece left hand
+-- the positions so far and the places above the last one make up all at which some of the hands are good
+pub record Following (game : Game) (F : Field) (rows : ℕ) (piece : Piece) (left : ℕ) (hands : List ℕ) (children : List Child) (last : Option Placement) : Type 0 where
+  pub same : (hand : ℕ) → has hands hand ≡ true → (is_good_at game children left hand || good_after_some game F rows (places_above game F rows piece last) left hand) ≡ is_good_after game F rows piece left hand
 
 all_above : (qs : List Placement) → filter (λ q. true) qs ≡ qs
 all_above [] = refl
@@ -113,10 +113,10 @@ below_only below good (q ∷ qs) = elim (cases_Bool (below q)) [
   | inr high ↦ rw high (below_only below good qs)
 ]
 
-pub follow-starts : (game : Game) (F : Field) (rows : ℕ) (piece : Piece) → Following game F rows piece [] None
+pub follow-starts : (game : Game) (F : Field) (rows : ℕ) (piece : Piece) (left : ℕ) (hands : List ℕ) → Following game F rows piece left hands [] None
 unfolding places_above reached_below good_after_some is_good_at is_good_after
-follow-starts game F rows piece = record {
-  same = λ left hand.
+follow-starts game F rows piece left hands = record {
+  same = λ hand _.
       ap (list_any (λ q. is_below rows q && is_good game (locked F q) (rows - rows_removed F q) left hand)) (all_above (filter (is_below rows) (reached_places game F piece)))
       ∙ below_only (is_below rows) (λ q. is_good game (locked F q) (rows - rows_removed F q) left hand) (reached_places game F piece);
 }
@@ -129,29 +129,43 @@ or_false : (a : Bool) → (a || false) ≡ a
 or_false true = refl
 or_false false = refl
 
-pub follow-more : (game : Game) (F : Field) (rows : ℕ) (piece : Piece) (children : List Child) (last : Option Placement) (q : Placement) (child : Child)
-    → Following game F rows piece children last → places_above game F rows piece last ≡ q ∷ places_above game F rows piece (Some q)
+pub follow-more : (game : Game) (F : Field) (rows : ℕ) (piece : Piece) (left : ℕ) (hands : List ℕ) (children : List Child) (last : Option Placement) (q : Placement) (child : Child)
+    → Following game F rows piece left hands children last → places_above game F rows piece last ≡ q ∷ places_above game F rows piece (Some q)
     → is_below rows q ≡ true → filled child.position.well ≡ locked F q → child.position.rows ≡ rows - rows_removed F q
-    → Following game F rows piece (children ++ child ∷ []) (Some q)
+    → Following game F rows piece left hands (children ++ child ∷ []) (Some q)
 unfolding good_after_some is_good_at
-follow-more game F rows piece children last q child state first below field left_rows = record {
-  same = λ left hand.
+follow-more game F rows piece left hands children last q child state first below field left_rows = record {
+  same = λ hand here.
       let test : Placement → Bool = λ q. is_below rows q && is_good game (locked F q) (rows - rows_removed F q) left hand in
       let good : Child → Bool = λ child. is_good game (filled child.position.well) child.position.rows left hand in
-      let here : good child ≡ test q = (λ i. is_good game (field i) (left_rows i) left hand) ∙ sym (ap (λ b. b && is_good game (locked F q) (rows - rows_removed F q) left hand) below) in
-      ap (λ b. b || list_any test (places_above game F rows piece (Some q))) (list_any-append good children (child ∷ []) ∙ ap (λ b. list_any good children || b) (or_false (good child) ∙ here))
+      let at : good child ≡ test q = (λ i. is_good game (field i) (left_rows i) left hand) ∙ sym (ap (λ b. b && is_good game (locked F q) (rows - rows_removed F q) left hand) below) in
+      ap (λ b. b || list_any test (places_above game F rows piece (Some q))) (list_any-append good children (child ∷ []) ∙ ap (λ b. list_any good children || b) (or_false (good child) ∙ at))
       ∙ or_next (list_any good children) (test q) (list_any test (places_above game F rows piece (Some q)))
       ∙ ap (λ l. list_any good children || list_any test l) (sym first)
-      ∙ state.same left hand;
+      ∙ state.same hand here;
 }
 
-pub follow-ends : (game : Game) (F : Field) (rows : ℕ) (piece : Piece) (children : List Child) (last : Option Placement)
-    → Following game F rows piece children last → places_above game F rows piece last ≡ []
-    → (left hand : ℕ) → is_good_at game children left hand ≡ is_good_after game F rows piece left hand
+-- or none of the hands is good after the next one
+pub follow-skip : (game : Game) (F : Field) (rows : ℕ) (piece : Piece) (left : ℕ) (hands : List ℕ) (children : List Child) (last : Option Placement) (q : Placement)
+    → Following game F rows piece left hands children last → places_above game F rows piece last ≡ q ∷ places_above game F rows piece (Some q)
+    → ((hand : ℕ) → has hands hand ≡ true → is_good game (locked F q) (rows - rows_removed F q) left hand ≡ false)
+    → Following game F rows piece left hands children (Some q)
 unfolding good_after_some
-follow-ends game F rows piece children last state none left hand =
+follow-skip game F rows piece left hands children last q state first bad = record {
+  same = λ hand here.
+      let test : Placement → Bool = λ q. is_below rows q && is_good game (locked F q) (rows - rows_removed F q) left hand in
+      ap (λ b. is_good_at game children left hand || (b || list_any test (places_above game F rows piece (Some q)))) (sym (and_right (is_below rows q) _ (bad hand here)))
+      ∙ ap (λ l. is_good_at game children left hand || list_any test l) (sym first)
+      ∙ state.same hand here;
+}
+
+pub follow-ends : (game : Game) (F : Field) (rows : ℕ) (piece : Piece) (left : ℕ) (hands : List ℕ) (children : List Child) (last : Option Placement)
+    → Following game F rows piece left hands children last → places_above game F rows piece last ≡ []
+    → (hand : ℕ) → has hands hand ≡ true → is_good_at game children left hand ≡ is_good_after game F rows piece left hand
+unfolding good_after_some
+follow-ends game F rows piece left hands children last state none hand here =
     let test : Placement → Bool = λ q. is_below rows q && is_good game (locked F q) (rows - rows_removed F q) left hand in
-    sym (ap (λ l. is_good_at game children left hand || list_any test l) none ∙ or_false (is_good_at game children left hand)) ∙ state.same left hand
+    sym (ap (λ l. is_good_at game children left hand || list_any test l) none ∙ or_false (is_good_at game children left hand)) ∙ state.same hand here
 
 -- positions are good in any order
 pub in-any-order : (game : Game) (children ordered : List Child) (left hand : ℕ) → IsPermutation children ordered → is_good_at game ordered left hand ≡ is_good_at game children left hand

@@ -129,9 +129,7 @@ fn tried<L: Ledger>(
     if rests.is_empty() {
         return Ok(Vec::new(alloc));
     }
-    let children = marks
-        .position
-        .children(alloc, &kept.game, &kept.flood, piece, steps)?;
+    let children = marks.children(alloc, &kept.game, &kept.flood, piece, left, rests, steps)?;
     let mut open = Vec::from_slice(alloc, rests)?;
     for child in &children {
         let fit = fitting_after(

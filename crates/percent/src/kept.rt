@@ -84,7 +84,7 @@ impl Kept {
             slots.push(Slot::empty(alloc))?;
         }
         let tilings = TilingStore::new(alloc)?;
-        let pieces = PieceStore::new(alloc)?;
+        let pieces = PieceStore::new(alloc);
         Ok(Kept {
             game,
             flood: FloodRules::new(&game.rules),

@@ -3,6 +3,7 @@
 
 mod answered;
 mod answers;
+mod children;
 mod fitting;
 mod game;
 mod hand;

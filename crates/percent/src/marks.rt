@@ -11,7 +11,7 @@ ghost use Rattle.percent.specs.declared.game.Game.{Game};
 ghost use Rattle.percent.specs.Children.{IsChild};
 ghost use Rattle.percent.specs.Fitting.{codes_with, supply_by};
 ghost use Rattle.percent.specs.GoodHands.{is_good};
-ghost use Rattle.percent.specs.Marks.{IsTrueMark};
+ghost use Rattle.percent.specs.Marks.{HasCounts, IsTrueMark};
 
 use crate::fitting::{Counts, counts_of, fitting};
 use crate::position::{Child, Position};
@@ -32,7 +32,7 @@ pub struct Mark {
 pub struct Marks {
     pub position: Position,
     cells: Empties,
-    known: Vec<Mark>,
+    pub known: Vec<Mark>,
     ghost empty: { empty_cells cells ≡ difference (rows_below position.rows) (filled position.well) },
     ghost are_true: { All (IsTrueMark cells) known.items },
 }
@@ -47,7 +47,7 @@ fn pieces_of(store: &mut PieceStore, cells: &Empties, counts: &Counts) -> TiledP
 }
 
 /// The counts of the first `pieces` pieces of a hand and of one more piece.
-fn counts_with(hand: u64, pieces: u8, piece: Piece) -> Counts
+pub fn counts_with(hand: u64, pieces: u8, piece: Piece) -> Counts
     requires { pieces ≤ 21 }
     ensures { (code : ℕ) → code < 8 → codes_with piece pieces hand code ≤ slice_index result code }
 {
@@ -101,6 +101,18 @@ impl Marks {
         let pieces = pieces_of(store, &self.cells, &counts);
         self.known.push(Mark { counts, pieces })?;
         Ok(())
+    }
+
+    /// Whether the pieces of all tilings by pieces with these counts are known.
+    pub fn knows(&self, counts: &Counts) -> bool
+        ensures { IsTrue result → HasCounts self.now.known.items counts.now }
+    {
+        for mark in &self.known {
+            if *counts == mark.counts {
+                return true;
+            }
+        }
+        false
     }
 
     /// Whether a placement may stand in a tiling by pieces with these counts.
@@ -170,7 +182,7 @@ pub fn fitting_after(
 
 /// For how many counts of pieces it pays to go through all tilings, with one placement to come and then `left` more.
 fn most_counts(left: u8) -> usize {
-    if left <= 3 { 8 } else { 0 }
+    if left <= 7 { 64 } else { 0 }
 }
 
 /// What is found about the tilings at a position by the pieces of some hands.

@@ -116,6 +116,6 @@ tried-returns-clause-members g t c =
     ok-map c.without.result _ _
     (λ v h. try-ends c.args.kept.now.game c.loop-child.kept.game (filled p.well) p.rows c.args.piece c.args.left c.deref-child-items.result.now c.args.rests.now c.loop-child.open.items v.items
     c.args.steps.now c.loop-child.steps c.loop-child.child-index c.loop-child.invariant c.loop-child-test.false
-    (subst (λ l. (left hand : ℕ) → is_good_at c.args.kept.now.game l left hand ≡ is_good_after c.args.kept.now.game (filled p.well) p.rows c.args.piece left hand) (sym c.deref-child-items.ensures.value) c.in_ok-children.ensures.good)
+    (subst (λ l. (rest : ℕ) → has c.args.rests.now rest ≡ true → is_good_at c.args.kept.now.game l c.args.left rest ≡ is_good_after c.args.kept.now.game (filled p.well) p.rows c.args.piece c.args.left rest) (sym c.deref-child-items.ensures.value) c.in_ok-children.ensures.good)
     (λ rest. h rest ∙ ap (λ l. has c.args.rests.now rest && not (has l rest)) c.as_slice-2.ensures.value))
     c.without.ensures.members

@@ -13,5 +13,5 @@ returns-then-eq c =
     let kept = c.args.self.now in
     let same_supply : kept.supply ≡ c.args.supply.now = (pointwise_decides (λ (a : ℕ) (b : ℕ). (eqb-true a b, eq-eqb a b)) kept.supply c.args.supply.now).0 (sym c.eq.ensures ∙ c.if-eq.true) in
     subst (λ (supply : List ℕ). (kept.answer ≡ true) ↔ Tiling (all_but (empty_cells c.args.cells.now)) 8 (supply_in supply)) same_supply
-    (subst (λ (E : Field). (kept.answer ≡ true) ↔ Tiling (all_but E) 8 (supply_in kept.supply)) (c.is_equal.ensures c.if-is_equal.true)
+    (subst (λ (E : Field). (kept.answer ≡ true) ↔ Tiling (all_but E) 8 (supply_in kept.supply)) (c.is_equal.ensures.0 c.if-is_equal.true)
     (right-from_answer kept.answer (all_but (empty_cells kept.cells)) 8 (supply_in kept.supply) kept.holds))

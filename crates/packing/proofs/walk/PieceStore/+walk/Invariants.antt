@@ -1,8 +1,8 @@
 -- Pieces and spans are used up.
-use Rattle.std.proofs.Common.{◌+◌, ◌*◌, false, length}
+use Rattle.std.proofs.Common.{◌+◌, ◌*◌, false, [], ◌∷◌}
 use Rattle.prune.specs.Tiling.{supply_in}
 use Rattle.packing.specs.Empties.{empty_cells}
-use Rattle.packing.specs.Walks.{noted}
+use Rattle.packing.specs.Walks.{FindsWith, noted}
 use Rattle.packing.proofs.SearchLemmas.{total}
 use Rattle.packing.proofs.WalkRows.{GoneThrough}
 use Rattle.packing.proofs.walk.PieceStore.+walk.Given as goal
@@ -16,23 +16,47 @@ decreases-covers l = 20 * total (supply_in l.supply.now) + 2
 abbrev pub decreases-takes : goal.decreases-takes
 decreases-takes l = 20 * total (supply_in l.supply.now) + 1
 
-abbrev pub decreases-wholes : goal.decreases-wholes
-decreases-wholes l = 20 * total (supply_in l.fewer.now) + 20
-
-abbrev pub decreases-whole : goal.decreases-whole
-decreases-whole l = 20 * total (supply_in l.fewer.now) + 19
-
 abbrev pub decreases-forms : goal.decreases-forms
-decreases-forms l = 20 * total (supply_in l.fewer.now) + 20
+decreases-forms l = 20 * total (supply_in l.cover.now.supply) + 20
 
 abbrev pub decreases-form : goal.decreases-form
-decreases-form l = 20 * total (supply_in l.fewer.now) + 19
+decreases-form l = 20 * total (supply_in l.cover.now.supply) + 19
 
-abbrev pub decreases-stacks : goal.decreases-stacks
-decreases-stacks l = 20 * total (supply_in l.supply.now) + length l.spans.now + 4
+abbrev pub decreases-stacks_four : goal.decreases-stacks_four
+decreases-stacks_four l = 20 * total (supply_in l.cover.now.supply) + 8
 
-abbrev pub invariant-stacks-loop-rows : goal.invariant-stacks-loop-rows
-invariant-stacks-loop-rows l = GoneThrough (supply_in l.supply) (empty_cells l.cells) l.x l.y l.floor l.span l.others l.rows (noted false l.initial.self.pieces) (noted l.any l.self.pieces)
+abbrev pub decreases-stacks_three : goal.decreases-stacks_three
+decreases-stacks_three l = 20 * total (supply_in l.cover.now.supply) + 7
 
-abbrev pub decreases-stacks-loop-rows : goal.decreases-stacks-loop-rows
-decreases-stacks-loop-rows l = l.rows
+abbrev pub decreases-stacks_two : goal.decreases-stacks_two
+decreases-stacks_two l = 20 * total (supply_in l.cover.now.supply) + 6
+
+abbrev pub decreases-stacks_one : goal.decreases-stacks_one
+decreases-stacks_one l = 20 * total (supply_in l.cover.now.supply) + 5
+
+abbrev pub decreases-leaves : goal.decreases-leaves
+decreases-leaves l = 20 * total (supply_in l.cover.now.supply) + 4
+
+abbrev pub invariant-stacks_one-loop-rows : goal.invariant-stacks_one-loop-rows
+invariant-stacks_one-loop-rows l = GoneThrough (FindsWith l.cover) (empty_cells l.cells) l.cover.x l.cover.y l.floor l.a [] l.rows (noted false l.initial.self.pieces) (noted l.any l.self.pieces)
+
+abbrev pub decreases-stacks_one-loop-rows : goal.decreases-stacks_one-loop-rows
+decreases-stacks_one-loop-rows l = l.rows
+
+abbrev pub invariant-stacks_two-loop-rows : goal.invariant-stacks_two-loop-rows
+invariant-stacks_two-loop-rows l = GoneThrough (FindsWith l.cover) (empty_cells l.cells) l.cover.x l.cover.y l.floor l.a (l.b ∷ []) l.rows (noted false l.initial.self.pieces) (noted l.any l.self.pieces)
+
+abbrev pub decreases-stacks_two-loop-rows : goal.decreases-stacks_two-loop-rows
+decreases-stacks_two-loop-rows l = l.rows
+
+abbrev pub invariant-stacks_three-loop-rows : goal.invariant-stacks_three-loop-rows
+invariant-stacks_three-loop-rows l = GoneThrough (FindsWith l.cover) (empty_cells l.cells) l.cover.x l.cover.y l.floor l.a (l.b ∷ l.c ∷ []) l.rows (noted false l.initial.self.pieces) (noted l.any l.self.pieces)
+
+abbrev pub decreases-stacks_three-loop-rows : goal.decreases-stacks_three-loop-rows
+decreases-stacks_three-loop-rows l = l.rows
+
+abbrev pub invariant-stacks_four-loop-rows : goal.invariant-stacks_four-loop-rows
+invariant-stacks_four-loop-rows l = GoneThrough (FindsWith l.cover) (empty_cells l.cells) l.cover.x l.cover.y l.floor l.a (l.b ∷ l.c ∷ l.d ∷ []) l.rows (noted false l.initial.self.pieces) (noted l.any l.self.pieces)
+
+abbrev pub decreases-stacks_four-loop-rows : goal.decreases-stacks_four-loop-rows
+decreases-stacks_four-loop-rows l = l.rows

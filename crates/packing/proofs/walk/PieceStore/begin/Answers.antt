@@ -8,7 +8,6 @@ pub invariant_of-self : goal.invariant_of-self
 invariant_of-self c =
     let before = c.next_number-self.new.self in
     record {
-      room = before.room;
       are_true = All-weaker (IsTrueIn before.walk before.pieces) (IsTrueIn c.next_number-self.result c.none-self.result)
           (next_walk before.walk c.next_number-self.result before.pieces c.none-self.result c.next_number-self.ensures) before.known.items before.are_true;
     }
