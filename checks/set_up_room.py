@@ -1,4 +1,4 @@
-"""What checks/set-up runs in: a copy of the repository under an odd name, a stand-in for the kit, and ./pc on a terminal."""
+"""A copy of the repository and a stand-in for the kit, in which ./pc runs; for checks/set-up."""
 import contextlib
 import fcntl
 import os

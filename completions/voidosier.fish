@@ -74,7 +74,7 @@ for name in voidosier pc
 end
 for name in pc
     complete -c $name -f -n __fish_use_subcommand -a 'try' -d 'answers a small question without proofs; each run builds anew, a minute and a half'
-    complete -c $name -f -n __fish_use_subcommand -a 'install' -d 'installs the program, man page, completions and documents (~/.local)'
+    complete -c $name -f -n __fish_use_subcommand -a 'install' -d 'installs the program, C library, man page, completions and documents (~/.local)'
     complete -c $name -f -n __fish_use_subcommand -a 'uninstall' -d 'removes what install put there'
     complete -c $name -n '__fish_seen_subcommand_from install uninstall' -l prefix -x -a '(__fish_complete_directories)'
 end
