@@ -4,3 +4,4 @@ mod SecondPieces
 mod ListedSolutions
 mod FailedQueues
 mod FirstPlacement
+mod GrownComments

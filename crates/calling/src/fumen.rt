@@ -1,5 +1,6 @@
 // Rewriting fumen texts.
-ghost use Rattle.std.specs.Prelude.{IfOk, IfErr};
+ghost use Rattle.std.specs.Prelude.{◌≡◌, ℕ, IfOk, IfErr};
+ghost use Rattle.fumen_text.specs.declared.encode_fault.EncodeFault.{EncodeFault};
 ghost use Rattle.calling.specs.Rewritten.{IsRewriteFault, IsRewritten};
 
 use fumen_digits::{Dialect, FumenFault};
@@ -11,25 +12,40 @@ use std::alloc::Global;
 #[derive(Clone, Copy, Debug, PartialEq, Eq)]
 pub enum RewriteFault {
     /// The text can't be read, and this is its first fault.
-    Read(FumenFault),
-    /// Its pages can't be written, and this is their first fault: a comment that is too long once it is escaped.
-    Write(EncodeFault),
+    Unreadable(FumenFault),
+    /// The comment of this page, counted from 1, is the first that is short enough in the text and has more than 4,095
+    /// characters once it is escaped.
+    CommentTooLong { page: u32 },
+}
+
+/// The page of a comment that is too long.
+fn page_of(fault: EncodeFault) -> u32
+    requires { (page : ℕ) × (fault ≡ EncodeFault.CommentTooLong page) }
+    ensures { fault ≡ EncodeFault.CommentTooLong result }
+{
+    match fault {
+        EncodeFault::CommentTooLong { page } => page,
+        _ => unreachable!(),
+    }
 }
 
 /// The pages of a fumen text, of version 110 or 115, as a text of version 115. A text that can't be read is refused by
-/// its first fault.
+/// its first fault. One that can be read is refused only for a comment that grows too long.
 pub fn as_v115(alloc: Global, text: &[u8]) -> Result<Vec<u8>, Refused<RewriteFault>>
     ensures text { IfOk result (λ again. IsRewritten text.now again.items) }
     ensures fault { IfErr result (IsRewriteFault text.now) }
 {
     let pages = match decode(alloc, text) {
         Ok((_, pages)) => pages,
-        Err(Refused::Fault(fault)) => return Err(Refused::Fault(RewriteFault::Read(fault))),
+        Err(Refused::Fault(fault)) => return Err(Refused::Fault(RewriteFault::Unreadable(fault))),
         Err(Refused::NoMemory) => return Err(Refused::NoMemory),
     };
     match encode(alloc, Dialect::V115, &pages) {
         Ok(text) => Ok(text),
-        Err(Refused::Fault(fault)) => Err(Refused::Fault(RewriteFault::Write(fault))),
+        Err(Refused::Fault(fault)) => {
+            let page = page_of(fault);
+            Err(Refused::Fault(RewriteFault::CommentTooLong { page }))
+        }
         Err(Refused::NoMemory) => Err(Refused::NoMemory),
     }
 }

@@ -3,7 +3,6 @@ ghost use Rattle.problem.specs.Problem.{IsFit};
 
 use super::*;
 use fumen_digits::FumenFault;
-use fumen_text::EncodeFault;
 use hold_queue::Hold;
 use moves::{DropMode, Key};
 use pc_outside::Refused;
@@ -101,7 +100,7 @@ fn fumen_texts_written_again(rt: HostRuntime) -> Result<(), Fail> {
     let again = as_v115(rt.alloc(), b"v110@7eAVeI").ok().ok_or("no text")?;
     assert_eq!(rt; again.as_slice(), b"v115@vhAVQJ".as_slice());
     let fault = as_v115(rt.alloc(), b"v110@7eAAA3").err();
-    let expected = RewriteFault::Read(FumenFault::BadAction { place: 3 });
+    let expected = RewriteFault::Unreadable(FumenFault::BadAction { place: 3 });
     assert_eq!(rt; fault, Some(Refused::Fault(expected)));
     Ok(())
 }
@@ -113,7 +112,7 @@ fn a_comment_that_grows_too_long(rt: HostRuntime) -> Result<(), Fail> {
     for _ in 0..350 {
         text.extend_from_slice(b"hRaDA")?;
     }
-    let expected = RewriteFault::Write(EncodeFault::CommentTooLong { page: 1 });
+    let expected = RewriteFault::CommentTooLong { page: 1 };
     assert_eq!(rt;
         as_v115(rt.alloc(), &text).err(),
         Some(Refused::Fault(expected))
