@@ -25,7 +25,8 @@ impl TiledPieces {
     /// The same for the placement in this rotation.
     fn mark_turned(&mut self, cover: &Cover, rotation: Rotation, rest: &Empties)
         ensures { Gains (noted false self.old) (noted false self.new)
-            (IsTurned (empty_cells cover.now.cells) (empty_cells rest.now) cover.now.x cover.now.y cover.now.piece rotation)
+            (IsTurned (empty_cells cover.now.cells) (empty_cells rest.now) cover.now.x cover.now.y cover.now.piece
+            rotation)
             (IsWhole (empty_cells cover.now.cells) (empty_cells rest.now) cover.now.x cover.now.y cover.now.piece) }
     {
         let Some(placement) = placement_over(cover.piece, rotation, cover.x, cover.y) else {

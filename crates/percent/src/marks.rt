@@ -182,7 +182,7 @@ pub fn fitting_after(
 
 /// For how many counts of pieces it pays to go through all tilings, with one placement to come and then `left` more.
 fn most_counts(left: u8) -> usize {
-    if left <= 7 { 64 } else { 0 }
+    if left <= 3 { 8 } else { 0 }
 }
 
 /// What is found about the tilings at a position by the pieces of some hands.
