@@ -43,7 +43,7 @@ enum {
 };
 
 /* The bytes of stack that a call needs at most. A thread that calls has this much, and what its own functions need. */
-#define VOIDOSIER_STACK 1048576
+#define VOIDOSIER_STACK 262144
 
 /* The bytes that the line of each fault fits in. */
 #define VOIDOSIER_FAULT_ROOM 128

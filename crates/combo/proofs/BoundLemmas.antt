@@ -1,5 +1,5 @@
 -- How long a run can be.
-use Rattle.std.proofs.Common.{◌≡◌, ℕ, ◌+◌, ◌*◌, ◌/◌, ◌≤◌, min, List, [], ◌∷◌, length, map, drop, subst, sym, arith, Option}
+use Rattle.std.proofs.Common.{◌≡◌, ℕ, ◌+◌, ◌*◌, ◌/◌, ◌≤◌, ◌<◌, min, List, [], ◌∷◌, length, map, drop, arith, Option}
 use Rattle.std.proofs.lemmas.List.{length-map, length-drop}
 use Rattle.lane_board.specs.Field.{Field}
 use Rattle.lane_board.specs.CellCount.{cell_count}
@@ -12,7 +12,7 @@ use Rattle.moves.specs.declared.key.DropMode.{DropMode}
 use Rattle.hold_queue.specs.declared.hold.Hold.{Hold}
 use Rattle.combo.specs.Runs.{Runs}
 use Rattle.combo.specs.Longest.{IsPermittedRun}
-use Rattle.combo.specs.Best.{AreNoLonger}
+use Rattle.combo.specs.First.{AreShorter}
 use Rattle.combo.specs.declared.hand.Hand.{Hand}
 use Rattle.combo.specs.Turns.{held_piece_count, hand_count}
 use Rattle.moves.proofs.CallerLemmas.{place-free}
@@ -33,15 +33,9 @@ pub permitted_length : (table : Table) (mode : DropMode) (F : Field) (hold : Hol
 permitted_length table mode F hold queue held run member =
     omega (arith, length-map run (λ (placement : Placement). placement.piece), permitted_short hold queue held (map (λ (placement : Placement). placement.piece) run) member.permitted)
 
-run_is_bounded : (table : Table) (mode : DropMode) (F : Field) (hold : Hold) (queue : List Piece) (held : Option Piece) (count : ℕ) → length queue + held_piece_count held ≡ count
-    → AreNoLonger (IsPermittedRun table mode F hold queue held) (min count (cell_count F 23 / 6))
-run_is_bounded table mode F hold queue held count same = record {
-  each = λ run member. omega (arith, same, permitted_length table mode F hold queue held run member, runs_take_cells table mode F run member.runs);
+-- more than the bound of the pieces at hand
+pub above_bound : (table : Table) (mode : DropMode) (F : Field) (hold : Hold) (queue : List Piece) (hand : Hand) (most count : ℕ) → most ≡ min (hand_count queue hand) (cell_count F 23 / 6) → most < count
+    → AreShorter (IsPermittedRun table mode F hold (drop hand.taken queue) hand.held) count
+above_bound table mode F hold queue hand most count is above = record {
+  each = λ run member. omega (arith, is, above, length-drop hand.taken queue, permitted_length table mode F hold (drop hand.taken queue) hand.held run member, runs_take_cells table mode F run member.runs);
 }
-
--- the bound of the pieces at hand
-pub hand_is_bounded : (table : Table) (mode : DropMode) (F : Field) (hold : Hold) (queue : List Piece) (hand : Hand) (most : ℕ) → most ≡ min (hand_count queue hand) (cell_count F 23 / 6)
-    → AreNoLonger (IsPermittedRun table mode F hold (drop hand.taken queue) hand.held) most
-hand_is_bounded table mode F hold queue hand most is =
-    subst (AreNoLonger (IsPermittedRun table mode F hold (drop hand.taken queue) hand.held)) (sym is)
-    (run_is_bounded table mode F hold (drop hand.taken queue) hand.held (hand_count queue hand) (omega (arith, length-drop hand.taken queue)))

@@ -1,5 +1,5 @@
 -- Lemmas on runs.
-mod BestLemmas
+mod FirstLemmas
 mod BoundLemmas
 pub mod CallerLemmas
 mod LongestExists

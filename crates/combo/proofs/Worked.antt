@@ -14,7 +14,7 @@ use Rattle.srs.specs.Order.{sequence_cmp}
 use Rattle.srs.specs.SameCells.{is_among}
 use Rattle.srs.proofs.CallerLemmas.{IsCanonical-from_test}
 use Rattle.well.specs.Free.{is_open, is_free_at}
-use Rattle.well.specs.Lock.{together, locked, rows_removed}
+use Rattle.well.specs.Lock.{together, rows_removed}
 use Rattle.moves.specs.declared.key.Key.{Key}
 use Rattle.moves.specs.declared.key.Key.TheVariants.{Right}
 use Rattle.moves.specs.declared.key.DropMode.TheVariants.{Soft}

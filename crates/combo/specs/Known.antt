@@ -1,8 +1,7 @@
--- Runs that are kept, each with its field and the pieces at hand.
-use Rattle.std.specs.Prelude.{◌≡◌, List, Option, Some, take, drop, IfSome, All}
+-- Fields and pieces at hand of which it is known that no run is so long.
+use Rattle.std.specs.Prelude.{◌≡◌, ℕ, ◌≤◌, List, Option, Some, drop, IfSome, All}
 use Rattle.lane_board.specs.Field.{Field}
 use Rattle.srs.specs.declared.piece.Piece.{Piece}
-use Rattle.srs.specs.declared.placement.Placement.{Placement}
 use Rattle.srs.specs.Kick.{Table}
 use Rattle.well.specs.Well.{filled}
 use Rattle.moves.specs.declared.key.DropMode.{DropMode}
@@ -10,22 +9,22 @@ use Rattle.hold_queue.specs.declared.hold.Hold.{Hold}
 use Rattle.combo.specs.declared.hand.Hand.{Hand}
 use Rattle.combo.specs.declared.known.Known.{Known}
 use Rattle.combo.specs.Longest.{IsPermittedRun}
-use Rattle.combo.specs.Best.{IsBest}
+use Rattle.combo.specs.First.{AreShorter}
 
--- this run is kept for a field and the pieces at hand
-pub record KeepsRun (entry : Option Known) (F : Field) (hand : Hand) (run : List Placement) : Type 0 where
+-- an entry says of a field and the pieces at hand that runs are shorter
+pub record SaysShorter (entry : Option Known) (F : Field) (hand : Hand) (count : ℕ) : Type 0 where
   pub known : Known
   pub there : entry ≡ Some known
   pub field : filled known.well ≡ F
   pub at_hand : known.hand ≡ hand
-  pub items : run ≡ take known.count known.placements
+  pub short : known.count ≤ count
 
--- the run is the best of those that the pieces at hand permit in the field
+-- the runs that the pieces at hand permit in the field are shorter
 abbrev pub IsKnown : Table → DropMode → Hold → List Piece → Known → Type 0
 IsKnown table mode hold queue known =
-    IsBest (IsPermittedRun table mode (filled known.well) hold (drop known.hand.taken queue) known.hand.held)
-    (take known.count known.placements)
+    AreShorter (IsPermittedRun table mode (filled known.well) hold (drop known.hand.taken queue) known.hand.held)
+    known.count
 
--- each run that is kept is the best one
+-- what is kept is true
 abbrev pub AreKnown : Table → DropMode → Hold → List Piece → List (Option Known) → Type 0
 AreKnown table mode hold queue entries = All (λ entry. IfSome entry (IsKnown table mode hold queue)) entries

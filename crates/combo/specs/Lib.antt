@@ -2,6 +2,6 @@
 pub mod Runs
 pub mod Longest
 -- What serves proofs alone
-pub mod Best
+pub mod First
 pub mod Turns
 pub mod Known

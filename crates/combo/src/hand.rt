@@ -1,10 +1,10 @@
 // The pieces at hand: the rest of a queue, and a held piece.
-ghost use Rattle.std.specs.Prelude.{◌≡◌, ◌<◌, ◌≤◌, ◌+◌, ◌↔◌, IsTrue, Some, None, ◌-◌, drop, length, List};
+ghost use Rattle.std.specs.Prelude.{◌≡◌, ◌≤◌, ◌+◌, ◌↔◌, IsTrue, IfSome, Some, drop, length, List};
 ghost use Rattle.std.specs.Option.{option_map};
 ghost use Rattle.srs.specs.declared.piece.Piece.{Piece};
 ghost use Rattle.hold_queue.specs.declared.hold.Hold.{Hold};
 ghost use Rattle.hold_queue.specs.Permits.{Permits};
-ghost use Rattle.combo.specs.Turns.{plain_next, second_next, hold_next, next_of, hand_count, held_piece_count, turn_count, ComesBefore};
+ghost use Rattle.combo.specs.Turns.{plain_next, hold_next, next_of, hand_count, held_piece_count, KeepsHold, AreInOrder, AreWays};
 
 use hold_queue::Hold;
 use srs::Piece;
@@ -12,12 +12,12 @@ use srs::Piece;
 /// How many pieces of the queue have been taken, and which piece is held.
 #[derive(Clone, Copy, PartialEq, Eq)]
 pub struct Hand {
-    pub taken: usize,
+    pub taken: u8,
     pub held: Option<Piece>,
 }
 
 /// A piece that is played, and the hand that is left.
-#[derive(Clone, Copy, PartialEq, Eq)]
+#[derive(Clone, Copy)]
 pub struct Turn {
     pub piece: Piece,
     pub hand: Hand,
@@ -30,7 +30,7 @@ impl Hand {
     pub fn start(queue: &[Piece], hold: Hold, held: Option<Piece>) -> Hand
         ensures same { (pieces : List Piece) → Permits hold (drop result.taken queue.now) result.held pieces
             ↔ Permits hold queue.now held pieces }
-        ensures count { hand_count queue.now result ≤ length queue.now + held_piece_count held }
+        ensures keeps { KeepsHold hold queue.now result }
     {
         let at_start = Hand { taken: 0, held };
         match hold {
@@ -49,40 +49,12 @@ impl Hand {
     }
 }
 
-impl Turn {
-    /// Whether two turns play the same piece and leave the same hand.
-    pub fn is_same(one: &Option<Turn>, other: &Option<Turn>) -> bool
-        ensures { IsTrue result → one.now ≡ other.now }
-    {
-        match one {
-            None => other.is_none(),
-            Some(one) => match other {
-                None => false,
-                Some(other) => *one == *other,
-            },
-        }
-    }
-
-    /// Whether the piece of one turn comes before the piece of the other.
-    pub fn is_before(one: &Option<Turn>, other: &Option<Turn>) -> bool
-        ensures { IsTrue result → ComesBefore one.now other.now }
-    {
-        match one {
-            None => false,
-            Some(one) => match other {
-                None => false,
-                Some(other) => one.piece.code() < other.piece.code(),
-            },
-        }
-    }
-}
-
 /// How many pieces are at hand.
 pub fn count(queue: &[Piece], hand: Hand) -> usize
-    requires { hand_count queue.now hand ≤ 23 }
+    requires { length queue.now ≤ 22 }
     ensures { result ≡ hand_count queue.now hand }
 {
-    queue.len().saturating_sub(hand.taken) + held_piece_count(hand.held)
+    queue.len().saturating_sub(hand.taken as usize) + held_piece_count(hand.held)
 }
 
 fn held_piece_count(held: Option<Piece>) -> usize
@@ -95,11 +67,13 @@ fn held_piece_count(held: Option<Piece>) -> usize
 }
 
 /// Plays the first piece of the queue.
-pub fn plain_turn(queue: &[Piece], hand: Hand) -> Option<Turn>
+fn plain_turn(queue: &[Piece], hand: Hand) -> Option<Turn>
+    requires { length queue.now ≤ 22 }
     ensures next { option_map (next_of queue.now) result ≡ plain_next (drop hand.taken queue.now) hand.held }
-    ensures fewer { turn_count queue.now result ≤ hand_count queue.now hand }
+    ensures taken { IfSome result (λ turn. turn.hand.taken ≡ hand.taken + 1) }
+    ensures held { IfSome result (λ turn. turn.hand.held ≡ hand.held) }
 {
-    let piece = *queue.get(hand.taken)?;
+    let piece = *queue.get(hand.taken as usize)?;
     Some(Turn {
         piece,
         hand: Hand {
@@ -110,11 +84,12 @@ pub fn plain_turn(queue: &[Piece], hand: Hand) -> Option<Turn>
 }
 
 /// Plays the held piece, and holds the first piece of the queue, if any.
-fn exchanged(queue: &[Piece], piece: Piece, taken: usize) -> Turn
+fn exchanged(queue: &[Piece], piece: Piece, taken: u8) -> Turn
+    requires { length queue.now ≤ 22 }
     ensures next { Some (next_of queue.now result) ≡ hold_next Hold.Allowed (drop taken queue.now) (Some piece) }
-    ensures fewer { hand_count queue.now result.hand + 1 ≤ (length queue.now - taken) + 1 }
+    ensures keeps { KeepsHold Hold.Allowed queue.now result.hand }
 {
-    match queue.get(taken) {
+    match queue.get(taken as usize) {
         Some(first) => Turn {
             piece,
             hand: Hand {
@@ -129,32 +104,42 @@ fn exchanged(queue: &[Piece], piece: Piece, taken: usize) -> Turn
     }
 }
 
-/// Plays the second piece of the queue, and holds the first.
-fn second_turn(queue: &[Piece], taken: usize) -> Option<Turn>
-    ensures next { option_map (next_of queue.now) result ≡ hold_next Hold.Allowed (drop taken queue.now) None }
-    ensures fewer { turn_count queue.now result ≤ length queue.now - taken }
-{
-    let first = *queue.get(taken)?;
-    let piece = *queue.get(taken + 1)?;
-    Some(Turn {
-        piece,
-        hand: Hand {
-            taken: taken + 2,
-            held: Some(first),
-        },
-    })
-}
-
-/// Plays the held piece, or the second piece of the queue while the first is held.
-pub fn hold_turn(queue: &[Piece], hold: Hold, hand: Hand) -> Option<Turn>
+/// Plays the held piece, if hold is allowed.
+fn hold_turn(queue: &[Piece], hold: Hold, hand: Hand) -> Option<Turn>
+    requires short { length queue.now ≤ 22 }
+    requires keeps { KeepsHold hold queue.now hand }
     ensures next { option_map (next_of queue.now) result ≡ hold_next hold (drop hand.taken queue.now) hand.held }
-    ensures fewer { turn_count queue.now result ≤ hand_count queue.now hand }
+    ensures keeps { IfSome result (λ turn. KeepsHold hold queue.now turn.hand) }
 {
     match hold {
         Hold::Avoided => None,
         Hold::Allowed => match hand.held {
             Some(piece) => Some(exchanged(queue, piece, hand.taken)),
-            None => second_turn(queue, hand.taken),
+            None => None,
         },
     }
+}
+
+/// The turns; the one with the lesser piece comes first. Two that play the same piece are one.
+pub fn turns(queue: &[Piece], hold: Hold, hand: Hand) -> (Option<Turn>, Option<Turn>)
+    requires short { length queue.now ≤ 22 }
+    requires keeps { KeepsHold hold queue.now hand }
+    ensures order { AreInOrder result.0 result.1 }
+    ensures ways { AreWays hold (drop hand.taken queue.now) hand.held (option_map (next_of queue.now) result.0)
+        (option_map (next_of queue.now) result.1) }
+    ensures keeps { IfSome result.0 (λ turn. KeepsHold hold queue.now turn.hand) }
+    ensures keeps_too { IfSome result.1 (λ turn. KeepsHold hold queue.now turn.hand) }
+{
+    let plain = plain_turn(queue, hand);
+    let by_hold = hold_turn(queue, hold, hand);
+    let (Some(one), Some(other)) = (plain, by_hold) else {
+        return (plain, by_hold);
+    };
+    if one.piece.code() == other.piece.code() {
+        return (plain, None);
+    }
+    if other.piece.code() < one.piece.code() {
+        return (by_hold, plain);
+    }
+    (plain, by_hold)
 }

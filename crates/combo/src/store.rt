@@ -1,23 +1,22 @@
-// A store for a fixed number of runs. Each run has one place, and a later one evicts an earlier one.
-ghost use Rattle.std.specs.Prelude.{◌<◌, IfSome};
+// A store of fixed size for what is known. A later entry evicts an earlier one at its index.
+ghost use Rattle.std.specs.Prelude.{◌<◌, IsTrue};
 ghost use Rattle.well.specs.Well.{filled};
-ghost use Rattle.combo.specs.Known.{KeepsRun};
+ghost use Rattle.combo.specs.Known.{SaysShorter};
 
 use crate::hand::Hand;
 use crate::known::Known;
-use crate::run::Run;
 use well::Well;
 
-/// The most runs that are kept, in about 170 KB of the stack.
-pub const PLACES: usize = 1024;
+/// How many entries the store has: about 100 KB of the stack.
+pub const PLACES: usize = 2048;
 
-/// The run that is kept here, if it is for this field and these pieces at hand.
-pub fn kept(entry: &Option<Known>, well: &Well, hand: Hand) -> Option<Run>
-    ensures { IfSome result (λ run. KeepsRun entry.now (filled well.now) hand run.items) }
+/// Whether an entry says that this field and these pieces at hand permit no run of `count` placements.
+pub fn is_said(entry: &Option<Known>, well: &Well, hand: Hand, count: u8) -> bool
+    ensures { IsTrue result → SaysShorter entry.now (filled well.now) hand count }
 {
     match entry {
-        None => None,
-        Some(known) => known.run_of(well, hand),
+        None => false,
+        Some(known) => known.says(well, hand, count),
     }
 }
 
@@ -31,7 +30,7 @@ pub fn place_of(well: &Well, hand: Hand, count: usize) -> usize
         Some(piece) => piece.code(),
     };
     let board = well.board();
-    let mut mixed = (hand.taken as u64).wrapping_mul(8) ^ u64::from(held);
+    let mut mixed = u64::from(hand.taken).wrapping_mul(8) ^ u64::from(held);
     for y in 0..23 {
         mixed = (mixed ^ u64::from(board.row(y))).wrapping_mul(0x9e37_79b9_7f4a_7c15);
         mixed ^= mixed >> 29;

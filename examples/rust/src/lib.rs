@@ -4,7 +4,7 @@ use std::error::Error;
 use std::fmt;
 
 /// The bytes of stack that a call needs at most.
-pub const STACK: usize = 1_048_576;
+pub const STACK: usize = 262_144;
 /// The bytes that each line of a fault fits in.
 const FAULT_ROOM: usize = 128;
 
