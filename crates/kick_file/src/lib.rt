@@ -12,4 +12,4 @@ mod turned;
 
 pub use fault::KickFault;
 pub use printing::{print, push_entry, push_offsets};
-pub use reading::{parse, spelled};
+pub use reading::parse;

@@ -1,5 +1,5 @@
 // Reading a table text.
-ghost use Rattle.std.specs.Prelude.{◌≡◌, IsOk, IsTrue, Ok, Err, Some};
+ghost use Rattle.std.specs.Prelude.{◌≡◌, IsTrue, Ok, Err, Some};
 ghost use Rattle.srs.specs.Rules.{table_of};
 ghost use Rattle.kick_file.specs.Form.{are_distinct, is_repeated};
 ghost use Rattle.kick_file.specs.Reading.{beginning, after_byte, reading_at, ended, kick_text, MovesOn, AnswersTable, is_sound_position};
@@ -120,15 +120,4 @@ pub fn parse(text: &str) -> Result<Rules, KickFault>
         reader.take(place, bytes[place])?;
     }
     reader.end(bytes.len())
-}
-
-/// The table that a text without a fault spells.
-pub fn spelled(text: &str) -> Rules
-    requires { IsOk (kick_text text.now) }
-    ensures { kick_text text.now ≡ Ok (table_of result) }
-{
-    match parse(text) {
-        Ok(rules) => rules,
-        Err(_) => unreachable!(),
-    }
 }

@@ -1,5 +1,5 @@
 -- What a run answers, by what its command answers for the bytes that were read.
-use Rattle.std.proofs.Common.{◌≡◌, ◌≢◌, ◌∙◌, ◌+◌, ◌-◌, ◌≤◌, ℕ, List, [], Bool, true, false, length, append-nil, Option, Some, None, Result, Ok, Err, refl, ap, sym, subst, inl, inr, arith}
+use Rattle.std.proofs.Common.{◌≡◌, ◌∙◌, ◌+◌, ◌-◌, ◌≤◌, ℕ, List, [], Bool, true, false, length, append-nil, Option, Some, None, Result, Ok, Err, refl, ap, sym, subst, inl, inr, arith}
 use Rattle.std.specs.Option.{ForSome}
 use Rattle.std.proofs.lemmas.Option.{same_Some}
 use Rattle.pc_outside.specs.Reads.{TakesAtMost, TakesFirst}
@@ -20,10 +20,10 @@ use Rattle.pc_source.specs.Work.{Works}
 use Rattle.pc_source.proofs.CallerLemmas.{idle_works, none_added, not_too_long, stays, too_long}
 use Rattle.srs.specs.Kick.{Table}
 use Rattle.kick_file.specs.declared.fault.KickFault.{KickFault}
-use Rattle.kick_file.specs.Reading.{kick_text}
 use Rattle.pc_words.specs.Request.{Request, table_asked}
 use Rattle.pc_app.specs.Ran.{LeavesSink, Ran}
-use Rattle.pc_app.specs.Tasks.{asked_in, refused_task, task_for, task_in, with_table}
+use Rattle.pc_words.specs.Words.{asked_in, with_table}
+use Rattle.pc_app.specs.Tasks.{refused_task, task_for, task_in}
 use Rattle.pc_app.proofs.Commands.{inner_for}
 
 -- the task of one request is that of the same one
@@ -114,7 +114,7 @@ table_words request (Ok table) fault is = cc
 table_words request (Err kicks) fault is = cc
 
 pub words_found : (read : Result Request WordsFault) (found : Fault) (fault : WordsFault) → Err found ≡ asked_in read → found ≡ Words fault → read ≡ Err fault
-words_found (Ok request) found fault is same = absurd (table_words request (kick_text (table_asked request)) fault (ap (λ f. Err f) (sym same) ∙ is))
+words_found (Ok request) found fault is same = absurd (table_words request (table_asked request) fault (ap (λ f. Err f) (sym same) ∙ is))
 words_found (Err other) found fault is same = cc
 
 -- or they could not be read

@@ -2,7 +2,6 @@
 use Rattle.std.proofs.Common.{◌≡◌, ℕ, true, List, None, Result, Ok, Err}
 use Rattle.pc_faults.specs.declared.fault.Fault.{Fault}
 use Rattle.pc_faults.specs.Inner.{IsInner}
-use Rattle.pc_source.specs.Task.{Task}
 use Rattle.pc_source.proofs.CallerLemmas.{inner_text}
 use Rattle.pc_path.proofs.CallerLemmas.{inner_path, one_path_output}
 use Rattle.pc_percent.proofs.CallerLemmas.{inner_percent, one_percent_output}
@@ -12,8 +11,8 @@ use Rattle.pc_kicks.proofs.CallerLemmas.{one_kicks_output}
 use Rattle.pc_selfrun.proofs.CallerLemmas.{one_selfrun_output}
 use Rattle.pc_words.specs.Request.{Request, combo, cover, decode, encode, kicks, path, percent, selfrun, show}
 use Rattle.pc_combo.proofs.CallerLemmas.{inner_combo, one_combo_output}
-use Rattle.pc_words.specs.Words.{request_in}
-use Rattle.pc_app.specs.Tasks.{asked_in, task_for, task_in, task_of, tells_floods, tells_floods_in}
+use Rattle.pc_words.specs.Words.{asked_in, request_in}
+use Rattle.pc_app.specs.Tasks.{task_for, task_in, task_of, tells_floods, tells_floods_in}
 
 one_for : (request : Request) (bytes : List ℕ) (floods others : ℕ) → (tells_floods request ≡ true → floods ≡ others) → (a b : List ℕ)
     → (task_for request).IsOutput bytes floods a → (task_for request).IsOutput bytes others b → a ≡ b
@@ -24,7 +23,7 @@ one_for (combo request) bytes floods others same = one_combo_output request byte
 one_for decode bytes floods others same = one_decode_output bytes
 one_for (encode dialect) bytes floods others same = one_encode_output dialect bytes
 one_for (show asked) bytes floods others same = one_show_output asked bytes
-one_for (kicks text) bytes floods others same = one_kicks_output text
+one_for (kicks read) bytes floods others same = one_kicks_output read
 one_for (selfrun number pages) bytes floods others same = one_selfrun_output number pages
 
 one_in : (asked : Result Request Fault) (bytes : List ℕ) (floods others : ℕ) → (tells_floods_in asked ≡ true → floods ≡ others) → (a b : List ℕ)
@@ -45,5 +44,5 @@ inner_for (combo request) bytes = inner_combo request bytes
 inner_for decode bytes = inner_text None bytes
 inner_for (encode dialect) bytes = inner_encode dialect bytes
 inner_for (show asked) bytes = inner_text asked bytes
-inner_for (kicks text) bytes = tt
+inner_for (kicks read) bytes = tt
 inner_for (selfrun number pages) bytes = tt

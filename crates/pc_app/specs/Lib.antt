@@ -2,4 +2,3 @@
 pub mod Tasks
 -- What serves proofs alone.
 pub mod Ran
-pub mod Views

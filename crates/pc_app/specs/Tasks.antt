@@ -1,11 +1,6 @@
--- The table of commands, and what the words ask for.
+-- The table of commands, and the task of the words.
 use Rattle.std.specs.Prelude.{ℕ, List, Bool, true, false, Some, Result, Ok, Err}
-use Rattle.srs.specs.Kick.{Table}
-use Rattle.kick_file.specs.declared.fault.KickFault.{KickFault}
-use Rattle.kick_file.specs.Reading.{kick_text}
 use Rattle.pc_faults.specs.declared.fault.Fault.{Fault}
-use Rattle.pc_faults.specs.declared.fault.Fault.TheVariants.{Kicks, Words}
-use Rattle.pc_faults.specs.declared.words_fault.WordsFault.{WordsFault}
 use Rattle.pc_source.specs.Task.{Task, nothing}
 use Rattle.pc_source.specs.Work.{no_floods}
 use Rattle.pc_path.specs.PathTask.{path_task}
@@ -14,9 +9,9 @@ use Rattle.pc_cover.specs.CoverTask.{cover_task}
 use Rattle.pc_pages.specs.Tasks.{decode_task, encode_task, show_task}
 use Rattle.pc_kicks.specs.KicksTask.{kicks_task}
 use Rattle.pc_selfrun.specs.SelfrunTask.{selfrun_task}
-use Rattle.pc_words.specs.Request.{Request, combo, cover, decode, encode, kicks, path, percent, selfrun, show, table_asked}
+use Rattle.pc_words.specs.Request.{Request, combo, cover, decode, encode, kicks, path, percent, selfrun, show}
 use Rattle.pc_combo.specs.ComboTask.{combo_task}
-use Rattle.pc_words.specs.Words.{request_in}
+use Rattle.pc_words.specs.Words.{asked_in, request_in}
 
 abbrev pub task_for : Request → Task
 task_for (path request) = path_task request
@@ -26,7 +21,7 @@ task_for (combo request) = combo_task request
 task_for decode = decode_task
 task_for (encode dialect) = encode_task dialect
 task_for (show asked) = show_task asked
-task_for (kicks text) = kicks_task text
+task_for (kicks read) = kicks_task read
 task_for (selfrun number pages) = selfrun_task number pages
 
 -- whether the number of floods is written
@@ -47,16 +42,6 @@ refused_task fault = record {
   IsOutput = λ bytes floods output. ⊥;
   IsWork = no_floods;
 }
-
--- a request, unless the table of offsets that it gives has a fault
-abbrev pub with_table : Request → Result Table KickFault → Result Request Fault
-with_table request (Ok table) = Ok request
-with_table request (Err fault) = Err (Kicks fault)
-
--- what is asked for, or the first fault of the words, or of the table
-abbrev pub asked_in : Result Request WordsFault → Result Request Fault
-asked_in (Ok request) = with_table request (kick_text (table_asked request))
-asked_in (Err fault) = Err (Words fault)
 
 abbrev pub task_in : Result Request Fault → Task
 task_in (Ok request) = task_for request

@@ -5,11 +5,10 @@ pub mod laws;
 mod perform;
 mod top;
 
-pub use combo_settings::ComboSettings;
-pub use path_settings::{Format, PathSettings};
 pub use pc_faults::{CoverFault, CoverKind, Fault, Status, WordsFault, WordsKind};
-pub use pc_settings::{FieldSettings, FieldWords};
+pub use pc_settings::{
+    ComboSettings, FieldSettings, FieldWords, Format, PathSettings, PercentSettings,
+};
 pub use pc_words::{Settings, read_words};
-pub use percent_settings::PercentSettings;
 pub use sample_pages::sample_pages;
 pub use top::run;

@@ -1,11 +1,9 @@
 // Each command, run by its settings.
-ghost use Rattle.std.specs.Prelude.{◌≡◌, ◌-◌, ◌≤◌, IsOk, length};
-ghost use Rattle.kick_file.specs.Reading.{kick_text};
+ghost use Rattle.std.specs.Prelude.{◌≡◌, ◌-◌, ◌≤◌, length};
 ghost use Rattle.pc_source.specs.Answers.{IsAnswered};
 ghost use Rattle.pc_source.specs.Sink.{sink_change};
 ghost use Rattle.pc_source.specs.Task.{most_bytes, reads_source};
 ghost use Rattle.pc_source.specs.Work.{Works};
-ghost use Rattle.pc_words.specs.Request.{table_asked};
 ghost use Rattle.pc_words.specs.Views.{AsksInRange, settings_view};
 ghost use Rattle.pc_app.specs.Tasks.{task_for};
 
@@ -50,7 +48,6 @@ pub fn perform<O: Sink, L: Ledger>(
     steps: &mut Steps<L>,
 ) -> Status
     requires range { AsksInRange (settings_view settings.now) }
-    requires spelled { IsOk (kick_text (table_asked (settings_view settings.now))) }
     requires short { length bytes.now ≤ most_bytes }
     ensures answers { let task = task_for (settings_view settings.now) in
         let sink = sink_change O.counts_failures_alone (O.written out.old) (O.written out.new)
@@ -70,7 +67,7 @@ pub fn perform<O: Sink, L: Ledger>(
         Settings::Decode => run_decode(alloc, bytes, out),
         Settings::Encode { dialect } => run_encode(alloc, *dialect, bytes, out),
         Settings::Show { page } => run_show(alloc, *page, bytes, out),
-        Settings::Kicks { kicks } => run_kicks(alloc, kicks, out),
+        Settings::Kicks { rules } => run_kicks(alloc, rules, out),
         Settings::Selfrun { number, pages } => run_selfrun(alloc, *number, *pages, out, steps),
     }
 }

@@ -1,7 +1,6 @@
 // The top call: from the words to what is written.
-ghost use Rattle.std.specs.Prelude.{◌≡◌, ◌≢◌, ◌⊎◌, ◌-◌, ◌≤◌, ℕ, List, true, None, Some, Err, IfOk, IsOk};
+ghost use Rattle.std.specs.Prelude.{◌≡◌, ◌≢◌, ◌⊎◌, ◌-◌, ◌≤◌, ℕ, List, true, None, Some, Err};
 ghost use Rattle.kick_file.specs.declared.fault.KickFault.{KickFault};
-ghost use Rattle.kick_file.specs.Reading.{kick_text};
 ghost use Rattle.pc_outside.specs.Counts.{Rose};
 ghost use Rattle.pc_outside.specs.Writes.{Grows, GrowsByFront};
 ghost use Rattle.pc_faults.specs.declared.fault.Fault.{Fault};
@@ -13,38 +12,18 @@ ghost use Rattle.pc_source.specs.Sink.{sink_change};
 ghost use Rattle.pc_source.specs.Source.{LeavesSource};
 ghost use Rattle.pc_source.specs.Task.{ForBytes, ForSomeBytes, first_fault, reads_source};
 ghost use Rattle.pc_source.specs.Work.{Works};
-ghost use Rattle.pc_words.specs.Request.{table_asked};
-ghost use Rattle.pc_words.specs.Views.{AsksInRange, settings_view};
-ghost use Rattle.pc_words.specs.Words.{request_in, texts};
+ghost use Rattle.pc_words.specs.Words.{asked_in, request_in, texts};
 ghost use Rattle.pc_app.specs.Ran.{LeavesSink, Ran};
-ghost use Rattle.pc_app.specs.Tasks.{asked_in, task_of};
-ghost use Rattle.pc_app.specs.Views.{asked_reading};
+ghost use Rattle.pc_app.specs.Tasks.{task_of};
 
 use crate::perform::{perform, reads_source};
-use kick_file::parse;
-use pc_faults::{Fault, Status, write_fault};
+use pc_faults::{Status, write_fault};
 use pc_outside::{Sink, Source};
 use pc_source::source_bytes;
-use pc_words::{Settings, read_words};
+use pc_words::read_words;
 use reach::Steps;
 use std::alloc::Global;
 use std::sync::ledger::Ledger;
-
-/// What the words ask for. A refusal is the first fault of the words, or of the table of offsets that they give.
-fn asked(words: &[String]) -> Result<Settings<'_>, Fault>
-    ensures value { asked_reading result ≡ asked_in (request_in (texts words.entry.now)) }
-    ensures range { IfOk result (λ settings. AsksInRange (settings_view settings)) }
-    ensures spelled { IfOk result (λ settings. IsOk (kick_text (table_asked (settings_view settings)))) }
-{
-    let settings = match read_words(words) {
-        Ok(settings) => settings,
-        Err(fault) => return Err(Fault::Words(fault)),
-    };
-    match parse(settings.kicks()) {
-        Ok(_) => Ok(settings),
-        Err(fault) => Err(Fault::Kicks(fault)),
-    }
-}
 
 /// The status of a run, before its fault is reported.
 fn answer<S: Source, O: Sink, L: Ledger>(
@@ -84,7 +63,7 @@ fn answer<S: Source, O: Sink, L: Ledger>(
         ForBytes task (S.left source.old) (λ bytes. (fault : Fault) → first_fault task bytes ≡ Some fault
         → steps.new ≡ steps.old) }
 {
-    let settings = match asked(words) {
+    let settings = match read_words(words) {
         Ok(settings) => settings,
         Err(fault) => return Status::Input(fault),
     };

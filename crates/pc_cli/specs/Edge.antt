@@ -9,8 +9,8 @@ use Rattle.pc_faults.specs.declared.words_fault.WordsFault.{WordsFault}
 use Rattle.pc_faults.specs.Codes.{status_code}
 use Rattle.pc_faults.specs.FaultLine.{fault_line}
 use Rattle.pc_source.specs.Task.{ForBytes, Needs, first_fault, memory, nothing, source_bytes}
-use Rattle.pc_words.specs.Words.{request_in}
-use Rattle.pc_app.specs.Tasks.{asked_in, task_of}
+use Rattle.pc_words.specs.Words.{asked_in, request_in}
+use Rattle.pc_app.specs.Tasks.{task_of}
 
 -- done, a fault of the input, a failed read, a failed write, no memory
 abbrev pub IsExitStatus : ℕ → Type 0

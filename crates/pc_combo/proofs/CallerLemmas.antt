@@ -1,7 +1,7 @@
 -- What crates above cite: one output, and no fault that is not found by a command.
 use Rattle.std.proofs.Common.{◌≡◌, ℕ, List}
 use Rattle.pc_faults.specs.Inner.{IsInner}
-use Rattle.combo_settings.specs.Request.{ComboRequest}
+use Rattle.pc_settings.specs.Request.{ComboRequest}
 use Rattle.pc_combo.specs.Faults.{combo_fault}
 use Rattle.pc_combo.specs.Output.{IsComboOutput}
 use Rattle.pc_combo.proofs.OneOutput as outputs

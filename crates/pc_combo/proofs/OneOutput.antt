@@ -10,7 +10,7 @@ use Rattle.queue_pattern.specs.Queues.{queues}
 use Rattle.combo.specs.Longest.{IsLongest}
 use Rattle.combo.proofs.CallerLemmas.{one_longest}
 use Rattle.report.specs.Forms.{key_part}
-use Rattle.combo_settings.specs.Request.{ComboRequest}
+use Rattle.pc_settings.specs.Request.{ComboRequest}
 use Rattle.pc_source.proofs.CallerLemmas.{one_field}
 use Rattle.pc_combo.specs.Output.{IsComboOutput, IsOneQueue, IsRunFor, combo_form}
 

@@ -1,6 +1,6 @@
 -- What `combo` does with the bytes of the source, where it reads it.
 use Rattle.std.specs.Prelude.{true}
-use Rattle.combo_settings.specs.Request.{ComboRequest}
+use Rattle.pc_settings.specs.Request.{ComboRequest}
 use Rattle.pc_source.specs.FieldText.{field_needs}
 use Rattle.pc_source.specs.Task.{Task}
 use Rattle.pc_source.specs.Work.{floods_after_memory}

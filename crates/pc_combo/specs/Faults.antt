@@ -10,7 +10,7 @@ use Rattle.pc_faults.specs.declared.fault.Fault.TheVariants as faults
 use Rattle.pc_faults.specs.FirstFault.{first_of_these}
 use Rattle.pc_source.specs.Faults.{cells_asked, field_fault}
 use Rattle.pc_problem.specs.Faults.{full_row_fault, pattern_fault}
-use Rattle.combo_settings.specs.Request.{ComboRequest}
+use Rattle.pc_settings.specs.Request.{ComboRequest}
 
 abbrev pub one_queue : ℕ → Option Fault
 one_queue count = if not (count == 1) then Some (faults.NotOneQueue count) else None

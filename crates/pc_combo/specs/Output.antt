@@ -4,14 +4,13 @@ use Rattle.lane_board.specs.Field.{Field}
 use Rattle.srs.specs.declared.piece.Piece.{Piece}
 use Rattle.srs.specs.declared.placement.Placement.{Placement}
 use Rattle.srs.specs.Kick.{Table}
-use Rattle.kick_file.specs.Reading.{kick_text}
 use Rattle.queue_pattern.specs.declared.element.Element.{Element}
 use Rattle.queue_pattern.specs.Grammar.{elements as elements_in, limited}
 use Rattle.queue_pattern.specs.Queues.{queues}
 use Rattle.combo.specs.Longest.{IsLongest}
 use Rattle.report.specs.Forms.{KeysOf, key_part, run_form}
 use Rattle.pc_source.specs.FieldText.{IsFieldOf}
-use Rattle.combo_settings.specs.Request.{ComboRequest}
+use Rattle.pc_settings.specs.Request.{ComboRequest}
 
 -- the line of how many placements a run has, as `combo 12`
 unfoldable pub count_form : ℕ → List ℕ
@@ -27,11 +26,11 @@ pub record IsOneQueue (text : List ℕ) (queue : List Piece) : Type 0 where
   pub read : limited (elements_in text) ≡ Ok elements
   pub only : queues elements ≡ queue ∷ []
 
--- the longest run of this field that is asked for, by the table of offsets that the text spells, and each placement
--- with its key word where keys are asked for
+-- the longest run of this field that is asked for, by the table of offsets that is asked for, and each placement with
+-- its key word where keys are asked for
 pub record IsRunFor (request : ComboRequest) (F : Field) (output : List ℕ) : Type 0 where
   pub table : Table
-  pub rules : Ok table ≡ kick_text request.kicks
+  pub rules : Ok table ≡ request.table
   pub queue : List Piece
   pub named : IsOneQueue request.patterns queue
   pub run : List Placement

@@ -1,7 +1,7 @@
 -- What is left of `combo` once its field is had.
 use Rattle.std.specs.Prelude.{true}
 use Rattle.lane_board.specs.Field.{Field}
-use Rattle.combo_settings.specs.Request.{ComboRequest}
+use Rattle.pc_settings.specs.Request.{ComboRequest}
 use Rattle.pc_source.specs.Task.{Task, nothing}
 use Rattle.pc_source.specs.Work.{floods_after_memory}
 use Rattle.pc_combo.specs.Faults.{run_fault}

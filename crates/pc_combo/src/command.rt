@@ -1,13 +1,12 @@
 // The command `combo`: the field, the longest run, and then its lines.
-ghost use Rattle.std.specs.Prelude.{◌≡◌, ◌-◌, ◌≤◌, [], IsOk, is_some};
+ghost use Rattle.std.specs.Prelude.{◌≡◌, ◌-◌, ◌≤◌, [], is_some};
 ghost use Rattle.srs.specs.Rules.{table_of};
 ghost use Rattle.well.specs.Well.{filled};
 ghost use Rattle.pc_outside.specs.Counts.{HasCause};
 ghost use Rattle.pc_outside.specs.Writes.{WritesAll};
-ghost use Rattle.kick_file.specs.Reading.{kick_text};
 ghost use Rattle.combo.specs.Runs.{Runs};
 ghost use Rattle.report.specs.Forms.{key_part, run_form};
-ghost use Rattle.combo_settings.specs.Views.{combo_view};
+ghost use Rattle.pc_settings.specs.Views.{combo_view};
 ghost use Rattle.pc_source.specs.Answers.{IsAnswered};
 ghost use Rattle.pc_source.specs.Sink.{sink_change};
 ghost use Rattle.pc_source.specs.Work.{Works};
@@ -17,13 +16,12 @@ ghost use Rattle.pc_combo.specs.RunTask.{run_task};
 
 use crate::queue::queue_of;
 use combo::longest;
-use combo_settings::ComboSettings;
 use itoa::Buffer;
 use key_path::Finder;
-use kick_file::spelled;
 use moves::DropMode;
 use pc_faults::Status;
 use pc_outside::{Failed, Sink, write_pieces};
+use pc_settings::ComboSettings;
 use pc_source::field;
 use reach::Steps;
 use report::{finder_for, write_run};
@@ -89,8 +87,7 @@ pub fn run_combo<O: Sink, L: Ledger>(
     out: &mut O,
     steps: &mut Steps<L>,
 ) -> Status
-    requires page { 1 ≤ (combo_view settings.now).page }
-    requires spelled { IsOk (kick_text (combo_view settings.now).kicks) }
+    requires { 1 ≤ (combo_view settings.now).page }
     ensures answers { let sink = sink_change O.counts_failures_alone (O.written out.old) (O.written out.new)
         (O.faults out.old) (O.faults out.new) in
         IsAnswered (combo_task (combo_view settings.now)) bytes.now sink (out.new ≡ out.old)
@@ -115,7 +112,6 @@ fn write_longest<O: Sink, L: Ledger>(
     out: &mut O,
     steps: &mut Steps<L>,
 ) -> Status
-    requires { IsOk (kick_text (combo_view settings.now).kicks) }
     ensures answers { let sink = sink_change O.counts_failures_alone (O.written out.old) (O.written out.new)
         (O.faults out.old) (O.faults out.new) in
         IsAnswered (run_task (combo_view settings.now) (filled well.now)) [] sink (out.new ≡ out.old)
@@ -134,7 +130,7 @@ fn write_longest<O: Sink, L: Ledger>(
         Ok(finder) => finder,
         Err(_) => return Status::NoMemory,
     };
-    let rules = spelled(settings.kicks);
+    let rules = settings.rules;
     let drop_mode = settings.drop_mode;
     let run = longest(
         well,

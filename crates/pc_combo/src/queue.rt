@@ -3,13 +3,13 @@ ghost use Rattle.std.specs.Prelude.{◌≡◌, [], ◌∷◌, length, None, Some
 ghost use Rattle.well.specs.Well.{filled};
 ghost use Rattle.queue_pattern.specs.Pattern.{elements_of};
 ghost use Rattle.queue_pattern.specs.Queues.{queues};
-ghost use Rattle.combo_settings.specs.Views.{combo_view};
+ghost use Rattle.pc_settings.specs.Views.{combo_view};
 ghost use Rattle.pc_combo.specs.Faults.{one_queue, run_fault};
 ghost use Rattle.pc_combo.specs.Output.{IsOneQueue};
 
-use combo_settings::ComboSettings;
 use pc_faults::Fault;
 use pc_problem::{open_rows, pattern_of};
+use pc_settings::ComboSettings;
 use queue_pattern::{Pattern, Queue};
 use well::Well;
 

@@ -1,12 +1,11 @@
 // The command `cover`: the field, the sequences of the source, and then the queues that they cover.
-ghost use Rattle.std.specs.Prelude.{◌≡◌, ◌-◌, ◌≤◌, IsOk, length};
+ghost use Rattle.std.specs.Prelude.{◌≡◌, ◌-◌, ◌≤◌, length};
 ghost use Rattle.well.specs.Well.{filled};
 ghost use Rattle.pc_outside.specs.Counts.{HasCause};
 ghost use Rattle.pc_outside.specs.Writes.{WritesAll};
 ghost use Rattle.queue_pattern.specs.Pattern.{elements_of};
 ghost use Rattle.queue_pattern.specs.Queues.{queues};
 ghost use Rattle.cover.specs.Kept.{lists_of, kept_problem};
-ghost use Rattle.kick_file.specs.Reading.{kick_text};
 ghost use Rattle.pc_settings.specs.Request.{IsInRange};
 ghost use Rattle.pc_settings.specs.Views.{field_view};
 ghost use Rattle.pc_source.specs.Answers.{IsAnswered};
@@ -55,7 +54,6 @@ pub fn run_cover<O: Sink, L: Ledger>(
     steps: &mut Steps<L>,
 ) -> Status
     requires range { IsInRange (field_view settings.now) }
-    requires spelled { IsOk (kick_text (field_view settings.now).kicks) }
     requires short { length bytes.now ≤ most_bytes }
     ensures answers { let sink = sink_change O.counts_failures_alone (O.written out.old) (O.written out.new)
         (O.faults out.old) (O.faults out.new) in
@@ -93,7 +91,6 @@ fn cover_all<O: Sink, L: Ledger>(
     steps: &mut Steps<L>,
 ) -> Status
     requires range { IsInRange (field_view settings.now) }
-    requires spelled { IsOk (kick_text (field_view settings.now).kicks) }
     requires short { length bytes.now ≤ most_bytes }
     ensures answers { let sink = sink_change O.counts_failures_alone (O.written out.old) (O.written out.new)
         (O.faults out.old) (O.faults out.new) in

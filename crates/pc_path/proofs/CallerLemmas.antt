@@ -1,6 +1,6 @@
 -- What crates above cite: one output, and no fault that is not found by a command.
 use Rattle.std.proofs.Common.{◌≡◌, ℕ, true, List, ◌++◌}
-use Rattle.path_settings.specs.Request.{PathRequest}
+use Rattle.pc_settings.specs.Request.{PathRequest}
 use Rattle.pc_faults.specs.Inner.{IsInner}
 use Rattle.pc_path.specs.Faults.{path_fault}
 use Rattle.pc_path.specs.Output.{IsPathOutput, stats_form}

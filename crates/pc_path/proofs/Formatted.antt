@@ -5,8 +5,8 @@ use Rattle.pc_outside.specs.declared.answers.Failed.{Failed}
 use Rattle.pc_outside.specs.Counts.{HasCause}
 use Rattle.pc_outside.specs.CountLaws.{NoneFailed}
 use Rattle.pc_outside.specs.Writes.{WritesAll}
-use Rattle.path_settings.specs.declared.format.Format.TheVariants.{Fumen}
-use Rattle.path_settings.specs.Request.{PathRequest}
+use Rattle.pc_settings.specs.declared.format.Format.TheVariants.{Fumen}
+use Rattle.pc_settings.specs.Request.{PathRequest}
 use Rattle.pc_faults.specs.declared.fault.Fault.{Fault}
 use Rattle.pc_faults.specs.declared.status.Status.{Status}
 use Rattle.pc_faults.specs.declared.status.Status.TheVariants.{Done, Input, SourceFault, SinkFault, NoMemory}

@@ -22,9 +22,8 @@ use Rattle.problem.specs.Plays.{Plays}
 use Rattle.problem.specs.Solution.{IsSolution, pieces_of}
 use Rattle.lane_board.specs.Field.{Field}
 use Rattle.sequence_text.proofs.CallerLemmas.{one_sequence}
-use Rattle.pc_settings.specs.Request.{FieldRequest}
-use Rattle.path_settings.specs.declared.format.Format.{Format}
-use Rattle.path_settings.specs.Request.{PathRequest}
+use Rattle.pc_settings.specs.Request.{FieldRequest, PathRequest}
+use Rattle.pc_settings.specs.declared.format.Format.{Format}
 use Rattle.pc_source.proofs.CallerLemmas.{one_field}
 use Rattle.pc_problem.specs.Problem.{IsProblemOf}
 use Rattle.pc_problem.proofs.CallerLemmas.{same_elements, same_table}

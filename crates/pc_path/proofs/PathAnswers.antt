@@ -12,7 +12,7 @@ use Rattle.pc_faults.specs.declared.status.Status.{Status}
 use Rattle.pc_faults.specs.declared.status.Status.TheVariants.{Done, Input, SourceFault, SinkFault, NoMemory}
 use Rattle.pc_faults.specs.Inner.{IsInner}
 use Rattle.pc_faults.proofs.CallerLemmas.{first_stops, inner_first, second_left}
-use Rattle.path_settings.specs.Request.{PathRequest}
+use Rattle.pc_settings.specs.Request.{PathRequest}
 use Rattle.pc_source.specs.Answers.{IsAnswered}
 use Rattle.pc_source.specs.Faults.{cells_asked, field_fault}
 use Rattle.pc_source.specs.FieldText.{field_needs}

@@ -6,8 +6,8 @@ use Rattle.srs.specs.Rules.{table_of}
 use Rattle.well.specs.Well.{filled}
 use Rattle.pc_outside.specs.declared.answers.Failed.{Failed}
 use Rattle.problem.specs.declared.problem.Problem.{Problem}
-use Rattle.path_settings.specs.declared.format.Format.{Format}
-use Rattle.path_settings.specs.declared.format.Format.TheVariants.{Text, Fumen, Grid}
+use Rattle.pc_settings.specs.declared.format.Format.{Format}
+use Rattle.pc_settings.specs.declared.format.Format.TheVariants.{Text, Fumen, Grid}
 use Rattle.pc_faults.specs.declared.status.Status.{Status}
 use Rattle.pc_faults.specs.declared.status.Status.TheVariants as status
 use Rattle.report.specs.declared.write_fault.WriteFault.{WriteFault}

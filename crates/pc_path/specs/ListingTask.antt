@@ -1,6 +1,6 @@
 -- What is left of `path` once its field is had.
 use Rattle.lane_board.specs.Field.{Field}
-use Rattle.path_settings.specs.Request.{PathRequest}
+use Rattle.pc_settings.specs.Request.{PathRequest}
 use Rattle.pc_source.specs.Task.{Task, nothing}
 use Rattle.pc_path.specs.Faults.{listing_fault}
 use Rattle.pc_path.specs.Formats.{takes_memory_first}

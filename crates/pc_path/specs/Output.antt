@@ -12,7 +12,7 @@ use Rattle.report.specs.Forms.{floods_form, report_form}
 use Rattle.sequence_text.specs.Form.{Spells}
 use Rattle.pc_source.specs.FieldText.{IsFieldOf}
 use Rattle.pc_problem.specs.Problem.{IsProblemOf}
-use Rattle.path_settings.specs.Request.{PathRequest}
+use Rattle.pc_settings.specs.Request.{PathRequest}
 use Rattle.pc_path.specs.Formats.{solution_form}
 
 -- none where no text is given, and else the sequence of so many placements that it spells

@@ -1,5 +1,5 @@
 -- What `path` does with the bytes of the source, where it reads it.
-use Rattle.path_settings.specs.Request.{PathRequest}
+use Rattle.pc_settings.specs.Request.{PathRequest}
 use Rattle.pc_source.specs.FieldText.{field_needs}
 use Rattle.pc_source.specs.Task.{Task}
 use Rattle.pc_path.specs.Faults.{path_fault}

@@ -10,8 +10,8 @@ use Rattle.enumerate.specs.ViewOf.{after_given, solutions, view_of, work}
 use Rattle.enumerate.specs.Work.{pairs}
 use Rattle.pc_faults.specs.declared.status.Status.{Status}
 use Rattle.pc_faults.specs.declared.status.Status.TheVariants.{Done, NoMemory, SinkFault}
-use Rattle.path_settings.specs.declared.format.Format.TheVariants.{Fumen}
-use Rattle.path_settings.specs.Request.{PathRequest}
+use Rattle.pc_settings.specs.declared.format.Format.TheVariants.{Fumen}
+use Rattle.pc_settings.specs.Request.{PathRequest}
 use Rattle.pc_source.specs.FieldText.{IsFieldOf}
 use Rattle.pc_source.specs.Sink.{SinkChange}
 use Rattle.pc_path.specs.Formats.{solution_form}

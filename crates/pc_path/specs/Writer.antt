@@ -1,8 +1,8 @@
 -- The form of a writer, and one that is new.
 use Rattle.std.specs.Prelude.{◌≡◌, []}
 use Rattle.report.specs.Writer.{pages_of_line, room_for_pages}
-use Rattle.path_settings.specs.declared.format.Format.{Format}
-use Rattle.path_settings.specs.declared.format.Format.TheVariants as formats
+use Rattle.pc_settings.specs.declared.format.Format.{Format}
+use Rattle.pc_settings.specs.declared.format.Format.TheVariants as formats
 use Rattle.pc_path.specs.declared.writer.FormWriter.{FormWriter}
 use Rattle.pc_path.specs.declared.writer.FormWriter.TheVariants.{Text, Fumen, Grid}
 

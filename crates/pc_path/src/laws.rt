@@ -8,7 +8,7 @@ ghost use Rattle.problem.specs.Problem.{IsFit, needed_of};
 ghost use Rattle.problem.specs.Solution.{IsSolution};
 ghost use Rattle.report.specs.Forms.{key_part, line_form};
 ghost use Rattle.sequence_text.specs.Form.{IsRefusedAt, Spells};
-ghost use Rattle.path_settings.specs.Request.{PathRequest};
+ghost use Rattle.pc_settings.specs.Request.{PathRequest};
 ghost use Rattle.pc_faults.specs.declared.fault.Fault.TheVariants.{BadAfter};
 ghost use Rattle.pc_source.specs.FieldText.{field_needs};
 ghost use Rattle.pc_source.specs.Task.{is_source};

@@ -1,19 +1,18 @@
 // What `path` lists.
-ghost use Rattle.std.specs.Prelude.{◌≡◌, ◌≤◌, option_copied, None, Some, IfOk, IfErr, IsOk, OnOk};
+ghost use Rattle.std.specs.Prelude.{◌≡◌, ◌≤◌, option_copied, None, Some, IfOk, IfErr, OnOk};
 ghost use Rattle.std.specs.Option.{ForSome};
 ghost use Rattle.arrayvec.specs.ArrayVec.{array_vec_len};
 ghost use Rattle.well.specs.Well.{filled};
 ghost use Rattle.problem.specs.Problem.{IsFit, needed_of};
 ghost use Rattle.enumerate.specs.Items.{items_of};
-ghost use Rattle.kick_file.specs.Reading.{kick_text};
 ghost use Rattle.pc_problem.specs.Problem.{IsProblemOf};
-ghost use Rattle.path_settings.specs.Views.{path_view};
+ghost use Rattle.pc_settings.specs.Views.{path_view};
 ghost use Rattle.pc_path.specs.Faults.{after_fault, listing_fault};
 ghost use Rattle.pc_path.specs.Output.{IsGiven};
 
-use path_settings::PathSettings;
 use pc_faults::Fault;
 use pc_problem::problem_of;
+use pc_settings::PathSettings;
 use problem::{Problem, Sequence};
 use sequence_text::sequence_in;
 use well::Well;
@@ -46,7 +45,6 @@ fn given(needed: u8, text: Option<&str>) -> Result<Option<Sequence>, Fault>
 pub fn listing_of(well: Well, settings: &PathSettings<'_>) -> Result<Listing, Fault>
     requires least { 1 ≤ settings.now.common.height }
     requires most { settings.now.common.height ≤ 8 }
-    requires spelled { IsOk (kick_text settings.now.common.kicks.now) }
     ensures fault { IfErr result (λ fault. listing_fault (path_view settings.now) (filled well) ≡ Some fault) }
     ensures none { OnOk result (listing_fault (path_view settings.now) (filled well) ≡ None) }
     ensures problem { IfOk result (λ listing. IsProblemOf (path_view settings.now).common

@@ -6,9 +6,8 @@ ghost use Rattle.enumerate.specs.ViewOf.{after_given, solutions, work};
 ghost use Rattle.enumerate.specs.Work.{pairs};
 ghost use Rattle.report.specs.Forms.{report_form};
 ghost use Rattle.report.specs.WriteCause.{HasWriteCause};
-ghost use Rattle.kick_file.specs.Reading.{kick_text};
 ghost use Rattle.pc_settings.specs.Request.{IsInRange};
-ghost use Rattle.path_settings.specs.Views.{path_view};
+ghost use Rattle.pc_settings.specs.Views.{path_view};
 ghost use Rattle.pc_source.specs.Answers.{IsAnswered};
 ghost use Rattle.pc_source.specs.Sink.{sink_change};
 ghost use Rattle.pc_source.specs.Work.{Works};
@@ -23,9 +22,9 @@ use crate::listing::listing_of;
 use crate::writer::{FormWriter, as_line, line_status, write_solution, writer_for};
 use enumerate::Search;
 use key_path::Finder;
-use path_settings::{Format, PathSettings};
 use pc_faults::Status;
 use pc_outside::Sink;
+use pc_settings::{Format, PathSettings};
 use pc_source::field;
 use problem::Problem;
 use reach::Steps;
@@ -123,8 +122,7 @@ pub fn run_path<O: Sink, L: Ledger>(
     out: &mut O,
     steps: &mut Steps<L>,
 ) -> Status
-    requires range { IsInRange (path_view settings.now).common }
-    requires spelled { IsOk (kick_text (path_view settings.now).common.kicks) }
+    requires { IsInRange (path_view settings.now).common }
     ensures answers { let sink = sink_change O.counts_failures_alone (O.written out.old) (O.written out.new)
         (O.faults out.old) (O.faults out.new) in
         IsAnswered (path_task (path_view settings.now)) bytes.now sink (out.new ≡ out.old)
@@ -149,8 +147,7 @@ fn list_clears<O: Sink, L: Ledger>(
     out: &mut O,
     steps: &mut Steps<L>,
 ) -> Status
-    requires range { IsInRange (path_view settings.now).common }
-    requires spelled { IsOk (kick_text (path_view settings.now).common.kicks) }
+    requires { IsInRange (path_view settings.now).common }
     ensures answers { let sink = sink_change O.counts_failures_alone (O.written out.old) (O.written out.new)
         (O.faults out.old) (O.faults out.new) in
         IsAnswered (listing_task (path_view settings.now) (filled well)) [] sink (out.new ≡ out.old)

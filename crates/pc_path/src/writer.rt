@@ -10,9 +10,9 @@ ghost use Rattle.pc_path.specs.Formats.{as_line, line_status, solution_form};
 ghost use Rattle.pc_path.specs.Writer.{IsNew, format_of};
 
 use key_path::Finder;
-use path_settings::Format;
 use pc_faults::Status;
 use pc_outside::{Failed, NoMemory, Sink};
+use pc_settings::Format;
 use problem::{Problem, Sequence};
 use report::{FumenWriter, WriteFault, write_grid, write_line};
 use std::alloc::Global;

@@ -1,7 +1,7 @@
 -- What crates above cite: one output, and no fault that is not found by a command.
 use Rattle.std.proofs.Common.{◌≡◌, ℕ, List}
 use Rattle.pc_faults.specs.Inner.{IsInner}
-use Rattle.percent_settings.specs.Request.{PercentRequest}
+use Rattle.pc_settings.specs.Request.{PercentRequest}
 use Rattle.pc_percent.specs.Faults.{percent_fault}
 use Rattle.pc_percent.specs.Output.{IsPercentOutput}
 use Rattle.pc_percent.proofs.OneOutput as outputs

@@ -11,8 +11,7 @@ use Rattle.problem.specs.declared.problem.Problem.{Problem}
 use Rattle.problem.specs.Plays.{Plays}
 use Rattle.problem.specs.Solution.{pieces_of}
 use Rattle.percent.specs.Good.{Good}
-use Rattle.pc_settings.specs.Request.{FieldRequest}
-use Rattle.percent_settings.specs.Request.{PercentRequest}
+use Rattle.pc_settings.specs.Request.{FieldRequest, PercentRequest}
 use Rattle.pc_source.proofs.CallerLemmas.{one_field}
 use Rattle.pc_problem.specs.Problem.{IsProblemOf}
 use Rattle.pc_problem.proofs.CallerLemmas.{same_elements, same_table}

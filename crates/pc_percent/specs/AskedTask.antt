@@ -1,7 +1,7 @@
 -- What is left of `percent` once its field is had.
 use Rattle.std.specs.Prelude.{true}
 use Rattle.lane_board.specs.Field.{Field}
-use Rattle.percent_settings.specs.Request.{PercentRequest}
+use Rattle.pc_settings.specs.Request.{PercentRequest}
 use Rattle.pc_source.specs.Task.{Task, nothing}
 use Rattle.pc_source.specs.Work.{any_floods}
 use Rattle.pc_problem.specs.Faults.{problem_fault}

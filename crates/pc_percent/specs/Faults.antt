@@ -4,7 +4,7 @@ use Rattle.pc_faults.specs.declared.fault.Fault.{Fault}
 use Rattle.pc_faults.specs.FirstFault.{first_of_these}
 use Rattle.pc_source.specs.Faults.{cells_asked, field_fault}
 use Rattle.pc_problem.specs.Faults.{problem_fault}
-use Rattle.percent_settings.specs.Request.{PercentRequest}
+use Rattle.pc_settings.specs.Request.{PercentRequest}
 
 unfoldable pub percent_fault : PercentRequest → List ℕ → Option Fault
 percent_fault request bytes = first_of_these (

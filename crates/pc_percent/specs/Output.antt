@@ -8,7 +8,7 @@ use Rattle.problem.specs.declared.problem.Problem.{Problem}
 use Rattle.percent.specs.Good.{Good}
 use Rattle.pc_source.specs.FieldText.{IsFieldOf}
 use Rattle.pc_problem.specs.Problem.{IsProblemOf}
-use Rattle.percent_settings.specs.Request.{PercentRequest}
+use Rattle.pc_settings.specs.Request.{PercentRequest}
 use Rattle.pc_percent.specs.Lines.{percent_form}
 
 -- The lines about the queues of the problem that is asked about this field, by a test that passes exactly of the

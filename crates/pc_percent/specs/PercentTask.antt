@@ -1,6 +1,6 @@
 -- What `percent` does with the bytes of the source, where it reads it.
 use Rattle.std.specs.Prelude.{true}
-use Rattle.percent_settings.specs.Request.{PercentRequest}
+use Rattle.pc_settings.specs.Request.{PercentRequest}
 use Rattle.pc_source.specs.FieldText.{field_needs}
 use Rattle.pc_source.specs.Task.{Task}
 use Rattle.pc_source.specs.Work.{any_floods}

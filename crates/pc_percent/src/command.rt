@@ -8,9 +8,8 @@ ghost use Rattle.queue_pattern.specs.Queues.{queues};
 ghost use Rattle.problem.specs.Problem.{IsFit};
 ghost use Rattle.percent.specs.Answers.{problem_of};
 ghost use Rattle.percent.specs.GoodHands.{is_good_queue};
-ghost use Rattle.kick_file.specs.Reading.{kick_text};
 ghost use Rattle.pc_settings.specs.Request.{IsInRange};
-ghost use Rattle.percent_settings.specs.Views.{percent_view};
+ghost use Rattle.pc_settings.specs.Views.{percent_view};
 ghost use Rattle.pc_source.specs.Answers.{IsAnswered};
 ghost use Rattle.pc_source.specs.Sink.{sink_change};
 ghost use Rattle.pc_source.specs.Work.{Works};
@@ -22,9 +21,9 @@ use crate::lines::write_failed;
 use pc_faults::Status;
 use pc_outside::{Failed, Sink};
 use pc_problem::problem_of;
+use pc_settings::PercentSettings;
 use pc_source::field;
 use percent::Answers;
-use percent_settings::PercentSettings;
 use problem::Problem;
 use queue_lines::write_numbers;
 use reach::Steps;
@@ -81,8 +80,7 @@ pub fn run_percent<O: Sink, L: Ledger>(
     out: &mut O,
     steps: &mut Steps<L>,
 ) -> Status
-    requires range { IsInRange (percent_view settings.now).common }
-    requires spelled { IsOk (kick_text (percent_view settings.now).common.kicks) }
+    requires { IsInRange (percent_view settings.now).common }
     ensures answers { let sink = sink_change O.counts_failures_alone (O.written out.old) (O.written out.new)
         (O.faults out.old) (O.faults out.new) in
         IsAnswered (percent_task (percent_view settings.now)) bytes.now sink (out.new ≡ out.old)
@@ -107,8 +105,7 @@ fn answer_all<O: Sink, L: Ledger>(
     out: &mut O,
     steps: &mut Steps<L>,
 ) -> Status
-    requires range { IsInRange (percent_view settings.now).common }
-    requires spelled { IsOk (kick_text (percent_view settings.now).common.kicks) }
+    requires { IsInRange (percent_view settings.now).common }
     ensures answers { let sink = sink_change O.counts_failures_alone (O.written out.old) (O.written out.new)
         (O.faults out.old) (O.faults out.new) in
         IsAnswered (asked_task (percent_view settings.now) (filled well)) [] sink (out.new ≡ out.old)

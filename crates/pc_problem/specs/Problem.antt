@@ -5,12 +5,10 @@ use Rattle.srs.specs.Rules.{table_of}
 use Rattle.well.specs.Well.{filled}
 use Rattle.queue_pattern.specs.Pattern.{elements_of}
 use Rattle.problem.specs.declared.problem.Problem.{Problem}
-use Rattle.kick_file.specs.Reading.{kick_text}
 use Rattle.pc_settings.specs.Request.{FieldRequest}
 use Rattle.pc_problem.specs.Faults.{elements_asked}
 
--- This field, the height, the queues, the held piece and the rules that are asked for. The text of the table of offsets
--- is read as it spells: the law `texts_are_read_as_they_spell` of `kick_file`.
+-- this field, the height, the queues, the held piece and the rules that are asked for
 pub record IsProblemOf (request : FieldRequest) (F : Field) (problem : Problem) : Type 0 where
   pub field : filled problem.well ≡ F
   pub height : problem.height ≡ request.height
@@ -18,4 +16,4 @@ pub record IsProblemOf (request : FieldRequest) (F : Field) (problem : Problem) 
   pub hold : problem.hold ≡ request.hold
   pub held : problem.held ≡ request.held
   pub drop : problem.drop_mode ≡ request.drop_mode
-  pub rules : Ok (table_of problem.rules) ≡ kick_text request.kicks
+  pub rules : Ok (table_of problem.rules) ≡ request.table

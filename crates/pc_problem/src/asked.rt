@@ -1,17 +1,15 @@
 // The problem that the settings name for a field.
-ghost use Rattle.std.specs.Prelude.{◌≡◌, ◌≤◌, None, Some, Ok, IfOk, IfErr, IsOk, IsSome, OnOk};
+ghost use Rattle.std.specs.Prelude.{◌≡◌, ◌≤◌, None, Some, Ok, IfOk, IfErr, IsSome, OnOk};
 ghost use Rattle.well.specs.Well.{filled};
 ghost use Rattle.well.specs.Counts.{lowest_full};
 ghost use Rattle.queue_pattern.specs.Grammar.{elements, limited};
 ghost use Rattle.queue_pattern.specs.Pattern.{elements_of};
 ghost use Rattle.problem.specs.Problem.{IsFit};
-ghost use Rattle.kick_file.specs.Reading.{kick_text};
 ghost use Rattle.pc_settings.specs.Views.{field_view};
 ghost use Rattle.pc_problem.specs.Faults.{filled_rows_fault, full_row_fault, pattern_fault, problem_fault};
 ghost use Rattle.pc_problem.specs.Problem.{IsProblemOf};
 ghost use Rattle.pc_problem.specs.Told;
 
-use kick_file::spelled;
 use pc_faults::Fault;
 use pc_settings::FieldSettings;
 use problem::{Problem, ProblemFault, check_field};
@@ -74,7 +72,6 @@ pub fn pattern_of(text: &str) -> Result<Pattern, Fault>
 pub fn problem_of(well: Well, settings: &FieldSettings<'_>) -> Result<Problem, Fault>
     requires least { 1 ≤ settings.now.height }
     requires most { settings.now.height ≤ 8 }
-    requires spelled { IsOk (kick_text settings.now.kicks.now) }
     ensures fault { IfErr result (λ fault. problem_fault (field_view settings.now) (filled well) ≡ Some fault) }
     ensures none { OnOk result (problem_fault (field_view settings.now) (filled well) ≡ None) }
     ensures problem { IfOk result (λ problem. IsProblemOf (field_view settings.now) (filled well) problem) }
@@ -89,7 +86,7 @@ pub fn problem_of(well: Well, settings: &FieldSettings<'_>) -> Result<Problem, F
         settings.hold,
         settings.held,
         settings.drop_mode,
-        spelled(settings.kicks),
+        settings.rules,
     );
     match problem {
         Ok(problem) => Ok(problem),

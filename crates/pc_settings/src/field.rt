@@ -1,7 +1,7 @@
 // A field, how many of its rows are to be removed, and with which pieces and rules.
 use hold_queue::Hold;
 use moves::DropMode;
-use srs::Piece;
+use srs::{Piece, Rules};
 
 /// The words that give the field.
 #[derive(Clone, Copy, Debug, PartialEq, Eq)]
@@ -26,6 +26,6 @@ pub struct FieldSettings<'a> {
     /// The piece that is held at the start. If hold is avoided, it is never played.
     pub held: Option<Piece>,
     pub drop_mode: DropMode,
-    /// The text of a table of offsets. The empty text stands for the table of the Super Rotation System.
-    pub kicks: &'a str,
+    /// The table of offsets that gives the kicks of all turns.
+    pub rules: Rules,
 }

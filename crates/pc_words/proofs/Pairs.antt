@@ -1,7 +1,8 @@
 -- A turn of a loop over options takes one, and a turn of a loop over pairs takes a name and its value.
-use Rattle.std.proofs.Common.{◌≡◌, ℕ, zero, suc, ◌+◌, ◌<◌, ◌≤◌, true, false, List, [], ◌∷◌, ◌++◌, length, map, drop, take, get_or, Option, Some, None, refl, sym, ap, subst, ◌∙◌, arith}
+use Rattle.std.proofs.Common.{◌≡◌, ℕ, zero, suc, ◌+◌, ◌<◌, ◌≤◌, true, false, List, [], ◌∷◌, ◌++◌, length, map, drop, take, get_or, Option, Some, None, refl, sym, ap, ◌∙◌, arith}
 use Rattle.std.specs.Prelude.{is_some}
 use Rattle.std.specs.List.{slice_get}
+use Rattle.std.specs.Option.{ForSome}
 use Rattle.std.specs.Str.{bytes_eq}
 use Rattle.std.proofs.lemmas.List.{get_or-map, drop_all, drop_more}
 use Rattle.std.proofs.lemmas.Option.{same_Some}
@@ -9,7 +10,8 @@ use Rattle.pc_faults.specs.declared.words_fault.WordsFault.{WordsFault}
 use Rattle.pc_words.specs.declared.options.Command.{Command}
 use Rattle.pc_words.specs.declared.options.CommandOption.{CommandOption}
 use Rattle.pc_words.specs.Options.{named_in, option_name}
-use Rattle.pc_words.specs.Words.{or_fault, pair_fault, pairs_fault, value_of}
+use Rattle.pc_words.specs.declared.options.Values.{Values}
+use Rattle.pc_words.specs.Words.{or_fault, pair_fault, pairs_fault, value_of, values_in}
 
 -- the options from one on
 pub named_first : (name : List ℕ) (options : List CommandOption) (i : ℕ) (option : CommandOption) → i < length options → bytes_eq (option_name (get_or options i option)) name ≡ true
@@ -129,3 +131,23 @@ first_texts text [] zero = refl
 first_texts text [] (suc i) = refl
 first_texts text (word ∷ words) zero = refl
 first_texts text (word ∷ words) (suc i) = ap (λ l. text word ∷ l) (first_texts text words i)
+
+-- the values of one pair more
+there_below : (xs : List (List ℕ)) (i : ℕ) → is_some (slice_get xs i) ≡ true → i < length xs
+there_below [] i is = cc
+there_below (x ∷ xs) zero is = omega arith
+there_below (x ∷ xs) (suc i) is = let below = there_below xs i is in omega (arith, below)
+
+pub pair_within : (texts : List (List ℕ)) (i : ℕ) (value : Option (List ℕ)) → value ≡ slice_get texts (i + 1) → is_some value ≡ true → i + 2 ≤ length texts
+pair_within texts i value valued some =
+    let below = there_below texts (i + 1) (ap is_some (sym valued) ∙ some) in omega (arith, below)
+
+pub values_next : (texts before : List (List ℕ)) (i : ℕ) (name : List ℕ) (value : Option (List ℕ)) (after : Values) → i < length texts → before ≡ take i texts → name ≡ get_or texts i [] → value ≡ slice_get texts (i + 1)
+    → ForSome value (λ text. after ≡ values_in (before ++ name ∷ text ∷ [])) → is_some value ≡ true → after ≡ values_in (take (i + 2) texts)
+values_next texts before i name None after within taken named valued holds some = cc
+values_next texts before i name (Some text) after within taken named valued holds some =
+    let h = cut texts i within in
+    let e : i + 1 ≡ suc i = omega arith in
+    let two : i + 2 ≡ suc (suc i) = omega arith in
+    let there : slice_get (drop (suc i) texts) 0 ≡ Some text = sym (valued ∙ ap (slice_get texts) e ∙ h.next) in
+    holds text refl ∙ (λ k. values_in (taken k ++ named k ∷ text ∷ [])) ∙ sym (ap values_in (h.taken text there)) ∙ ap (λ n. values_in (take n texts)) (sym two)

@@ -1,10 +1,9 @@
 -- What the words ask for.
-use Rattle.std.specs.Prelude.{ℕ, List, [], Option}
+use Rattle.std.specs.Prelude.{ℕ, Option, Result, Ok}
+use Rattle.srs.specs.Kick.{Table, srs_table}
+use Rattle.kick_file.specs.declared.fault.KickFault.{KickFault}
 use Rattle.fumen_digits.specs.declared.dialect.Dialect.{Dialect}
-use Rattle.pc_settings.specs.Request.{FieldRequest}
-use Rattle.combo_settings.specs.Request.{ComboRequest}
-use Rattle.path_settings.specs.Request.{PathRequest}
-use Rattle.percent_settings.specs.Request.{PercentRequest}
+use Rattle.pc_settings.specs.Request.{ComboRequest, FieldRequest, PathRequest, PercentRequest}
 
 -- a command with what it is asked for
 pub data Request : Type 0 where
@@ -15,17 +14,17 @@ pub data Request : Type 0 where
   decode : Request
   encode : Dialect → Request
   show : (page : Option ℕ) → Request
-  kicks : (text : List ℕ) → Request
+  kicks : (read : Result Table KickFault) → Request
   selfrun : (number pages : ℕ) → Request
 
--- the text of the table of offsets that is asked for, which is empty where there is none
-abbrev pub table_asked : Request → List ℕ
-table_asked (path request) = request.common.kicks
-table_asked (percent request) = request.common.kicks
-table_asked (cover request) = request.kicks
-table_asked (combo request) = request.kicks
-table_asked decode = []
-table_asked (encode dialect) = []
-table_asked (show page) = []
-table_asked (kicks text) = text
-table_asked (selfrun number pages) = []
+-- the table of offsets that is asked for, or the first fault of its text
+abbrev pub table_asked : Request → Result Table KickFault
+table_asked (path request) = request.common.table
+table_asked (percent request) = request.common.table
+table_asked (cover request) = request.table
+table_asked (combo request) = request.table
+table_asked (kicks read) = read
+table_asked decode = Ok srs_table
+table_asked (encode dialect) = Ok srs_table
+table_asked (show page) = Ok srs_table
+table_asked (selfrun number pages) = Ok srs_table

@@ -1,5 +1,6 @@
--- The values that options take, each in its option's list or range.
+-- The values that options take, each in its option's list or range, and how they are kept.
 use Rattle.std.specs.Prelude.{ℕ, Bool, true, false, List, [], ◌∷◌, codes, Option, Some, None, is_some, if◌then◌else◌}
+use Rattle.std.specs.Option.{option_and_then}
 use Rattle.std.specs.Str.{bytes_eq}
 use Rattle.srs.specs.declared.piece.Piece.{Piece}
 use Rattle.srs.specs.Piece.{piece_with_letter}
@@ -9,10 +10,11 @@ use Rattle.moves.specs.declared.key.DropMode.{DropMode}
 use Rattle.moves.specs.declared.key.DropMode.TheVariants as drops
 use Rattle.fumen_digits.specs.declared.dialect.Dialect.{Dialect}
 use Rattle.fumen_digits.specs.declared.dialect.Dialect.TheVariants as dialects
-use Rattle.path_settings.specs.declared.format.Format.{Format}
-use Rattle.path_settings.specs.declared.format.Format.TheVariants as formats
+use Rattle.pc_settings.specs.declared.format.Format.{Format}
+use Rattle.pc_settings.specs.declared.format.Format.TheVariants as formats
 use Rattle.pc_words.specs.declared.options.CommandOption.{CommandOption}
 use Rattle.pc_words.specs.declared.options.CommandOption.TheVariants as options
+use Rattle.pc_words.specs.declared.options.Values.{Values}
 use Rattle.pc_words.specs.Numbers.{number_in}
 
 -- how many rows are to be removed
@@ -72,24 +74,69 @@ dialect_in text =
     if bytes_eq text (codes "110") then Some dialects.V110
     else (if bytes_eq text (codes "115") then Some dialects.V115 else None)
 
--- whether a text is in the list or the range of an option; texts of fields, patterns, sequences and tables
--- have faults of their own
+-- the values of options that have these texts, each as it is read
+abbrev pub values_by : (CommandOption → Option (List ℕ)) → Values
+values_by text_of = record {
+  page = option_and_then page_in (text_of options.Page);
+  height = option_and_then height_in (text_of options.ClearLine);
+  hold = option_and_then hold_in (text_of options.Hold);
+  held = option_and_then held_in (text_of options.Held);
+  drop_mode = option_and_then drop_in (text_of options.Drop);
+  limit = option_and_then limit_in (text_of options.Limit);
+  keys = option_and_then yes_in (text_of options.Keys);
+  format = option_and_then format_in (text_of options.Format);
+  dialect = option_and_then dialect_in (text_of options.Dialect);
+  failed = option_and_then failed_in (text_of options.Failed);
+  stats = option_and_then yes_in (text_of options.Stats);
+  number = option_and_then seed_in (text_of options.Number);
+  pages = option_and_then page_count_in (text_of options.Pages);
+}
+
+-- no values
+abbrev pub no_values : Values
+no_values = record {
+  page = None;
+  height = None;
+  hold = None;
+  held = None;
+  drop_mode = None;
+  limit = None;
+  keys = None;
+  format = None;
+  dialect = None;
+  failed = None;
+  stats = None;
+  number = None;
+  pages = None;
+}
+
+-- values with one that is read, where it is
+abbrev pub read_into : {X : Type 0} → (Option X → Values) → Option X → Option Values
+read_into put None = None
+read_into put (Some value) = Some (put (Some value))
+
+-- values with that of an option, where the text is in its list or its range
+abbrev pub with_value : Values → CommandOption → List ℕ → Option Values
+with_value values options.Rows text = Some values
+with_value values options.Tetfu text = Some values
+with_value values options.Page text = read_into (λ page. record values { page = page }) (page_in text)
+with_value values options.ClearLine text = read_into (λ height. record values { height = height }) (height_in text)
+with_value values options.Patterns text = Some values
+with_value values options.Hold text = read_into (λ hold. record values { hold = hold }) (hold_in text)
+with_value values options.Held text = read_into (λ held. record values { held = held }) (held_in text)
+with_value values options.Drop text = read_into (λ mode. record values { drop_mode = mode }) (drop_in text)
+with_value values options.Kicks text = Some values
+with_value values options.After text = Some values
+with_value values options.Limit text = read_into (λ limit. record values { limit = limit }) (limit_in text)
+with_value values options.Keys text = read_into (λ keys. record values { keys = keys }) (yes_in text)
+with_value values options.Format text = read_into (λ format. record values { format = format }) (format_in text)
+with_value values options.Dialect text = read_into (λ dialect. record values { dialect = dialect }) (dialect_in text)
+with_value values options.Failed text = read_into (λ failed. record values { failed = failed }) (failed_in text)
+with_value values options.Stats text = read_into (λ stats. record values { stats = stats }) (yes_in text)
+with_value values options.Number text = read_into (λ number. record values { number = number }) (seed_in text)
+with_value values options.Pages text = read_into (λ pages. record values { pages = pages }) (page_count_in text)
+
+-- whether a text is in the list or the range of an option; texts of fields, patterns, sequences and tables have faults
+-- of their own
 abbrev pub is_value_of : CommandOption → List ℕ → Bool
-is_value_of options.Rows text = true
-is_value_of options.Tetfu text = true
-is_value_of options.Page text = is_some (page_in text)
-is_value_of options.ClearLine text = is_some (height_in text)
-is_value_of options.Patterns text = true
-is_value_of options.Hold text = is_some (hold_in text)
-is_value_of options.Held text = is_some (held_in text)
-is_value_of options.Drop text = is_some (drop_in text)
-is_value_of options.Kicks text = true
-is_value_of options.After text = true
-is_value_of options.Limit text = is_some (limit_in text)
-is_value_of options.Keys text = is_some (yes_in text)
-is_value_of options.Format text = is_some (format_in text)
-is_value_of options.Dialect text = is_some (dialect_in text)
-is_value_of options.Failed text = is_some (failed_in text)
-is_value_of options.Stats text = is_some (yes_in text)
-is_value_of options.Number text = is_some (seed_in text)
-is_value_of options.Pages text = is_some (page_count_in text)
+is_value_of option text = is_some (with_value no_values option text)

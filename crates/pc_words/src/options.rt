@@ -1,6 +1,24 @@
-// The commands and their options.
+// The commands, their options, and the values that the options take.
 ghost use Rattle.std.specs.Prelude.{◌≡◌};
 ghost use Rattle.pc_words.specs.Options.{command_in, option_name, option_of, options_of};
+ghost use Rattle.pc_words.specs.Values.{no_values, with_value};
+
+use crate::numbers::number_in;
+use crate::values::{dialect_in, drop_in, format_in, height_in, held_in, hold_in, yes_in};
+use fumen_digits::Dialect;
+use hold_queue::Hold;
+use moves::DropMode;
+use pc_settings::Format;
+use srs::Piece;
+
+/// The greatest number that a page may have.
+const MOST_PAGES: u32 = 10_000;
+
+/// The most sequences that may be written.
+pub const MOST_SEQUENCES: u32 = 1_000_000_000;
+
+/// The most failed queues that may be written.
+const MOST_FAILED: u32 = 10_000_000;
 
 /// A command.
 #[derive(Clone, Copy, Debug, PartialEq, Eq)]
@@ -166,4 +184,110 @@ pub fn option_of(command: Command, name: &str) -> Option<CommandOption>
         }
     }
     None
+}
+
+/// The values that options were given, each as it was read. Options whose value may be any text have none here.
+#[derive(Clone, Copy, Debug, PartialEq, Eq)]
+pub struct Values {
+    pub page: Option<u32>,
+    pub height: Option<u8>,
+    pub hold: Option<Hold>,
+    pub held: Option<Piece>,
+    pub drop_mode: Option<DropMode>,
+    pub limit: Option<u32>,
+    pub keys: Option<bool>,
+    pub format: Option<Format>,
+    pub dialect: Option<Dialect>,
+    pub failed: Option<u32>,
+    pub stats: Option<bool>,
+    pub number: Option<u32>,
+    pub pages: Option<u32>,
+}
+
+impl Values {
+    /// No values.
+    pub fn none() -> Values
+        ensures { result ≡ no_values }
+    {
+        Values {
+            page: None,
+            height: None,
+            hold: None,
+            held: None,
+            drop_mode: None,
+            limit: None,
+            keys: None,
+            format: None,
+            dialect: None,
+            failed: None,
+            stats: None,
+            number: None,
+            pages: None,
+        }
+    }
+
+    /// These values with that of an option, or None where the text is not in the list or the range of the option.
+    pub fn with_value(self, option: CommandOption, text: &str) -> Option<Values>
+        ensures { result ≡ with_value self option text.now }
+    {
+        match option {
+            CommandOption::Page => Some(Values {
+                page: Some(number_in(1, MOST_PAGES, text.as_bytes())?),
+                ..self
+            }),
+            CommandOption::ClearLine => Some(Values {
+                height: Some(height_in(text)?),
+                ..self
+            }),
+            CommandOption::Hold => Some(Values {
+                hold: Some(hold_in(text)?),
+                ..self
+            }),
+            CommandOption::Held => Some(Values {
+                held: Some(held_in(text)?),
+                ..self
+            }),
+            CommandOption::Drop => Some(Values {
+                drop_mode: Some(drop_in(text)?),
+                ..self
+            }),
+            CommandOption::Limit => Some(Values {
+                limit: Some(number_in(1, MOST_SEQUENCES, text.as_bytes())?),
+                ..self
+            }),
+            CommandOption::Keys => Some(Values {
+                keys: Some(yes_in(text)?),
+                ..self
+            }),
+            CommandOption::Format => Some(Values {
+                format: Some(format_in(text)?),
+                ..self
+            }),
+            CommandOption::Dialect => Some(Values {
+                dialect: Some(dialect_in(text)?),
+                ..self
+            }),
+            CommandOption::Failed => Some(Values {
+                failed: Some(number_in(0, MOST_FAILED, text.as_bytes())?),
+                ..self
+            }),
+            CommandOption::Stats => Some(Values {
+                stats: Some(yes_in(text)?),
+                ..self
+            }),
+            CommandOption::Number => Some(Values {
+                number: Some(number_in(0, u32::MAX, text.as_bytes())?),
+                ..self
+            }),
+            CommandOption::Pages => Some(Values {
+                pages: Some(number_in(1, MOST_PAGES, text.as_bytes())?),
+                ..self
+            }),
+            CommandOption::Rows
+            | CommandOption::Tetfu
+            | CommandOption::Patterns
+            | CommandOption::Kicks
+            | CommandOption::After => Some(self),
+        }
+    }
 }

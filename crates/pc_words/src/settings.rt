@@ -1,32 +1,23 @@
 // A command with its settings, from the pairs of its words.
-ghost use Rattle.std.specs.Prelude.{◌≡◌, ◌≤◌, ◌<◌, ◌^◌, ◌+◌, length, option_map, IfOk, IfSome, false};
-ghost use Rattle.std.specs.Option.{option_and_then};
-ghost use Rattle.pc_settings.specs.Request.{IsInRange};
-ghost use Rattle.pc_settings.specs.Views.{field_view, text_view};
-ghost use Rattle.combo_settings.specs.Views.{combo_view};
-ghost use Rattle.path_settings.specs.Views.{path_view};
-ghost use Rattle.percent_settings.specs.Views.{percent_view};
-ghost use Rattle.pc_words.specs.Values.{dialect_in, drop_in, failed_in, format_in, height_in, held_in, hold_in, limit_in, page_count_in, page_in, seed_in, yes_in};
-ghost use Rattle.pc_words.specs.Request.{table_asked};
-ghost use Rattle.pc_words.specs.Views.{AsksInRange, HasNumber, settings_reading, settings_view};
+ghost use Rattle.std.specs.Prelude.{◌≡◌, ◌<◌, ◌^◌, ◌+◌, length, option_map, Some, Ok, IfOk, IfErr};
+ghost use Rattle.pc_settings.specs.Views.{combo_view, field_view, path_view, percent_view, text_view};
+ghost use Rattle.pc_words.specs.Views.{Refuses, settings_reading};
+ghost use Rattle.pc_faults.specs.declared.fault.Fault.{Fault};
 ghost use Rattle.pc_faults.specs.declared.words_fault.WordsKind.TheVariants.{MissingOption};
-ghost use Rattle.pc_words.specs.Words.{combo_request, fault_at, field_given, field_request, given_or, path_request, percent_request, request_of, selfrun_request, table_given, texts, value_of};
+ghost use Rattle.srs.specs.Rules.{table_of};
+ghost use Rattle.pc_words.specs.Words.{asked_in, combo_request, fault_at, field_given, field_request, path_request, or_missing, percent_request, request_of, selfrun_with, table_given, texts, value_of};
 
-use crate::options::{Command, CommandOption};
-use crate::values::{
-    MOST_SEQUENCES, dialect_in, drop_in, failed_in, format_in, height_in, held_in, hold_in,
-    limit_in, page_count_in, page_in, seed_in, yes_in,
-};
+use crate::options::{Command, CommandOption, MOST_SEQUENCES, Values};
 use crate::words::value_of;
-use combo_settings::ComboSettings;
 use fumen_digits::Dialect;
 use hold_queue::Hold;
+use kick_file::parse;
 use moves::DropMode;
-use path_settings::{Format, PathSettings};
-use pc_faults::{WordsFault, WordsKind};
-use pc_settings::{FieldSettings, FieldWords};
-use percent_settings::PercentSettings;
-use srs::Piece;
+use pc_faults::{Fault, WordsFault, WordsKind};
+use pc_settings::{
+    ComboSettings, FieldSettings, FieldWords, Format, PathSettings, PercentSettings,
+};
+use srs::Rules;
 
 /// A command with its settings.
 #[derive(Clone, Copy, Debug, PartialEq, Eq)]
@@ -45,8 +36,8 @@ pub enum Settings<'a> {
         page: Option<u32>,
     },
     Kicks {
-        /// The text of the table of offsets to write.
-        kicks: &'a str,
+        /// The table of offsets that is written.
+        rules: Rules,
     },
     Selfrun {
         /// The number that pages are made from.
@@ -56,79 +47,15 @@ pub enum Settings<'a> {
     },
 }
 
-impl Settings<'_> {
-    /// The text of the table of offsets that is asked for. It is empty if there is none.
-    pub fn kicks(&self) -> &str
-        ensures { result.now ≡ table_asked (settings_view self.entry.now) }
-    {
-        match self {
-            Settings::Path(path) => path.common.kicks,
-            Settings::Percent(percent) => percent.common.kicks,
-            Settings::Cover(cover) => cover.kicks,
-            Settings::Combo(combo) => combo.kicks,
-            Settings::Decode => "",
-            Settings::Encode { .. } => "",
-            Settings::Show { .. } => "",
-            Settings::Kicks { kicks } => kicks,
-            Settings::Selfrun { .. } => "",
-        }
+/// The table of offsets that the pairs give, or the first fault of its text.
+fn rules_of(pairs: &[String]) -> Result<Rules, Fault>
+    ensures table { IfOk result (λ rules. table_given (texts pairs.now) ≡ Ok (table_of rules)) }
+    ensures fault { IfErr result (λ fault. Refuses (texts pairs.now) (Some (table_given (texts pairs.now))) fault) }
+{
+    match parse(value_of(CommandOption::Kicks, pairs).unwrap_or("")) {
+        Ok(rules) => Ok(rules),
+        Err(fault) => Err(Fault::Kicks(fault)),
     }
-}
-
-fn table_given(pairs: &[String]) -> &str
-    ensures { result.now ≡ table_given (texts pairs.entry.now) }
-{
-    value_of(CommandOption::Kicks, pairs).unwrap_or("")
-}
-
-fn page_of(pairs: &[String]) -> Option<u32>
-    ensures value { result ≡ option_and_then page_in (value_of CommandOption.Page (texts pairs.now)) }
-    ensures range { HasNumber result }
-{
-    match value_of(CommandOption::Page, pairs) {
-        Some(text) => page_in(text),
-        None => None,
-    }
-}
-
-fn height_of(pairs: &[String]) -> u8
-    ensures value { result ≡ given_or 4 height_in (value_of CommandOption.ClearLine (texts pairs.now)) }
-    ensures range { (1 ≤ result) × (result ≤ 8) }
-{
-    match value_of(CommandOption::ClearLine, pairs) {
-        Some(text) => height_in(text).unwrap_or(4),
-        None => 4,
-    }
-}
-
-fn hold_of(pairs: &[String]) -> Hold
-    ensures { result ≡ given_or Hold.Allowed hold_in (value_of CommandOption.Hold (texts pairs.now)) }
-{
-    value_of(CommandOption::Hold, pairs)
-        .and_then(hold_in)
-        .unwrap_or(Hold::Allowed)
-}
-
-fn held_of(pairs: &[String]) -> Option<Piece>
-    ensures { result ≡ option_and_then held_in (value_of CommandOption.Held (texts pairs.now)) }
-{
-    value_of(CommandOption::Held, pairs).and_then(held_in)
-}
-
-fn drop_of(pairs: &[String]) -> DropMode
-    ensures { result ≡ given_or DropMode.Soft drop_in (value_of CommandOption.Drop (texts pairs.now)) }
-{
-    value_of(CommandOption::Drop, pairs)
-        .and_then(drop_in)
-        .unwrap_or(DropMode::Soft)
-}
-
-fn keys_of(pairs: &[String]) -> bool
-    ensures { result ≡ given_or false yes_in (value_of CommandOption.Keys (texts pairs.now)) }
-{
-    value_of(CommandOption::Keys, pairs)
-        .and_then(yes_in)
-        .unwrap_or(false)
 }
 
 /// The field that the pairs give. At most one of them gives it.
@@ -146,132 +73,147 @@ fn field_words(pairs: &[String]) -> Option<FieldWords<'_>>
     }
 }
 
-/// What the pairs ask about a field, or None if the field or the pattern is missing.
+/// What is asked about a field. The field and the pattern are required.
 #[tactic(auto, unfolding(crate::specs::Words::field_request))]
-fn field_settings(pairs: &[String]) -> Option<FieldSettings<'_>>
-    ensures value { option_map field_view result ≡ field_request (texts pairs.entry.now) }
-    ensures range { IfSome result (λ settings. IsInRange (field_view settings)) }
+fn field_settings(pairs: &[String], values: Values) -> Result<FieldSettings<'_>, Fault>
+    requires { length pairs.now + 1 < 2 ^ 64 }
+    ensures value { IfOk result (λ settings. field_request (texts pairs.entry.now) values ≡ Some (field_view settings)) }
+    ensures fault { IfErr result (λ fault. Refuses (texts pairs.entry.now)
+        (option_map (λ request. request.table) (field_request (texts pairs.entry.now) values)) fault) }
 {
-    Some(FieldSettings {
-        field: field_words(pairs)?,
-        page: page_of(pairs).unwrap_or(1),
-        height: height_of(pairs),
-        patterns: value_of(CommandOption::Patterns, pairs)?,
-        hold: hold_of(pairs),
-        held: held_of(pairs),
-        drop_mode: drop_of(pairs),
-        kicks: table_given(pairs),
+    let Some(field) = field_words(pairs) else {
+        return Err(missing(pairs));
+    };
+    let Some(patterns) = value_of(CommandOption::Patterns, pairs) else {
+        return Err(missing(pairs));
+    };
+    let rules = rules_of(pairs)?;
+    Ok(FieldSettings {
+        field,
+        page: values.page.unwrap_or(1),
+        height: values.height.unwrap_or(4),
+        patterns,
+        hold: values.hold.unwrap_or(Hold::Allowed),
+        held: values.held,
+        drop_mode: values.drop_mode.unwrap_or(DropMode::Soft),
+        rules,
     })
 }
 
-fn path_settings<'a>(pairs: &'a [String], common: FieldSettings<'a>) -> PathSettings<'a>
-    ensures { path_view result ≡ path_request (texts pairs.entry.now) (field_view common.entry) }
+fn path_settings<'a>(
+    pairs: &'a [String],
+    values: Values,
+    common: FieldSettings<'a>,
+) -> PathSettings<'a>
+    ensures { path_view result ≡ path_request (texts pairs.entry.now) values (field_view common.entry) }
 {
     PathSettings {
         common,
         after: value_of(CommandOption::After, pairs),
-        limit: value_of(CommandOption::Limit, pairs)
-            .and_then(limit_in)
-            .unwrap_or(MOST_SEQUENCES),
-        keys: keys_of(pairs),
-        format: value_of(CommandOption::Format, pairs)
-            .and_then(format_in)
-            .unwrap_or(Format::Text),
-        stats: value_of(CommandOption::Stats, pairs)
-            .and_then(yes_in)
-            .unwrap_or(false),
+        limit: values.limit.unwrap_or(MOST_SEQUENCES),
+        keys: values.keys.unwrap_or(false),
+        format: values.format.unwrap_or(Format::Text),
+        stats: values.stats.unwrap_or(false),
     }
 }
 
-fn percent_settings<'a>(pairs: &'a [String], common: FieldSettings<'a>) -> PercentSettings<'a>
-    ensures { percent_view result ≡ percent_request (texts pairs.entry.now) (field_view common.entry) }
+fn percent_settings(values: Values, common: FieldSettings<'_>) -> PercentSettings<'_>
+    ensures { percent_view result ≡ percent_request values (field_view common.entry) }
 {
     PercentSettings {
         common,
-        failed: value_of(CommandOption::Failed, pairs)
-            .and_then(failed_in)
-            .unwrap_or(0),
+        failed: values.failed.unwrap_or(0),
     }
 }
 
-/// What the pairs ask about a run, or None if the field or the pattern is missing.
+/// What is asked about a run. The field and the pattern are required.
 #[tactic(auto, unfolding(crate::specs::Words::combo_request))]
-fn combo_settings(pairs: &[String]) -> Option<ComboSettings<'_>>
-    ensures value { option_map combo_view result ≡ combo_request (texts pairs.entry.now) }
-    ensures range { IfSome result (λ settings. 1 ≤ (combo_view settings).page) }
-{
-    Some(ComboSettings {
-        field: field_words(pairs)?,
-        page: page_of(pairs).unwrap_or(1),
-        patterns: value_of(CommandOption::Patterns, pairs)?,
-        hold: hold_of(pairs),
-        held: held_of(pairs),
-        drop_mode: drop_of(pairs),
-        kicks: table_given(pairs),
-        keys: keys_of(pairs),
-    })
-}
-
-/// How many pages to make, and from which number, or None if either is missing.
-#[tactic(auto, unfolding(crate::specs::Words::selfrun_request))]
-fn selfrun_settings(pairs: &[String]) -> Option<Settings<'_>>
-    ensures value { option_map settings_view result ≡ selfrun_request (texts pairs.entry.now) }
-    ensures range { IfSome result (λ settings. AsksInRange (settings_view settings)) }
-{
-    Some(Settings::Selfrun {
-        number: value_of(CommandOption::Number, pairs).and_then(seed_in)?,
-        pages: value_of(CommandOption::Pages, pairs).and_then(page_count_in)?,
-    })
-}
-
-fn missing(pairs: &[String]) -> WordsFault
+fn combo_settings(pairs: &[String], values: Values) -> Result<ComboSettings<'_>, Fault>
     requires { length pairs.now + 1 < 2 ^ 64 }
-    ensures { result ≡ fault_at MissingOption (length (texts pairs.now) + 1) }
+    ensures value { IfOk result (λ settings. combo_request (texts pairs.entry.now) values ≡ Some (combo_view settings)) }
+    ensures fault { IfErr result (λ fault. Refuses (texts pairs.entry.now)
+        (option_map (λ request. request.table) (combo_request (texts pairs.entry.now) values)) fault) }
 {
-    WordsFault {
+    let Some(field) = field_words(pairs) else {
+        return Err(missing(pairs));
+    };
+    let Some(patterns) = value_of(CommandOption::Patterns, pairs) else {
+        return Err(missing(pairs));
+    };
+    let rules = rules_of(pairs)?;
+    Ok(ComboSettings {
+        field,
+        page: values.page.unwrap_or(1),
+        patterns,
+        hold: values.hold.unwrap_or(Hold::Allowed),
+        held: values.held,
+        drop_mode: values.drop_mode.unwrap_or(DropMode::Soft),
+        rules,
+        keys: values.keys.unwrap_or(false),
+    })
+}
+
+fn missing(pairs: &[String]) -> Fault
+    requires { length pairs.now + 1 < 2 ^ 64 }
+    ensures { result ≡ Fault.Words (fault_at MissingOption (length (texts pairs.now) + 1)) }
+{
+    Fault::Words(WordsFault {
         kind: WordsKind::MissingOption,
         index: pairs.len() + 1,
-    }
+    })
 }
 
-/// The settings of a command, from pairs without a fault. The only refusal is that a required option is missing.
-pub fn settings_of(command: Command, pairs: &[String]) -> Result<Settings<'_>, WordsFault>
+/// How many pages are made, and from which number; both are required.
+fn selfrun_settings(pairs: &[String], values: Values) -> Result<Settings<'_>, Fault>
     requires { length pairs.now + 1 < 2 ^ 64 }
-    ensures value { settings_reading result ≡ request_of command (texts pairs.entry.now) }
-    ensures range { IfOk result (λ settings. AsksInRange (settings_view settings)) }
+    ensures { settings_reading result ≡ asked_in (or_missing (texts pairs.entry.now)
+        (selfrun_with values.number values.pages)) }
+{
+    let Some(number) = values.number else {
+        return Err(missing(pairs));
+    };
+    let Some(pages) = values.pages else {
+        return Err(missing(pairs));
+    };
+    Ok(Settings::Selfrun { number, pages })
+}
+
+/// The settings of a command, by pairs that have no fault and their values: first whether a required option is absent,
+/// and then the first fault of the table of offsets.
+pub fn settings_of(
+    command: Command,
+    pairs: &[String],
+    values: Values,
+) -> Result<Settings<'_>, Fault>
+    requires { length pairs.now + 1 < 2 ^ 64 }
+    ensures { settings_reading result ≡ asked_in (request_of command (texts pairs.entry.now) values) }
 {
     match command {
-        Command::Path => match field_settings(pairs) {
-            Some(common) => Ok(Settings::Path(path_settings(pairs, common))),
-            None => Err(missing(pairs)),
+        Command::Path => match field_settings(pairs, values) {
+            Ok(common) => Ok(Settings::Path(path_settings(pairs, values, common))),
+            Err(fault) => Err(fault),
         },
-        Command::Percent => match field_settings(pairs) {
-            Some(common) => Ok(Settings::Percent(percent_settings(pairs, common))),
-            None => Err(missing(pairs)),
+        Command::Percent => match field_settings(pairs, values) {
+            Ok(common) => Ok(Settings::Percent(percent_settings(values, common))),
+            Err(fault) => Err(fault),
         },
-        Command::Cover => match field_settings(pairs) {
-            Some(common) => Ok(Settings::Cover(common)),
-            None => Err(missing(pairs)),
+        Command::Cover => match field_settings(pairs, values) {
+            Ok(common) => Ok(Settings::Cover(common)),
+            Err(fault) => Err(fault),
         },
-        Command::Combo => match combo_settings(pairs) {
-            Some(settings) => Ok(Settings::Combo(settings)),
-            None => Err(missing(pairs)),
+        Command::Combo => match combo_settings(pairs, values) {
+            Ok(settings) => Ok(Settings::Combo(settings)),
+            Err(fault) => Err(fault),
         },
         Command::Decode => Ok(Settings::Decode),
         Command::Encode => Ok(Settings::Encode {
-            dialect: value_of(CommandOption::Dialect, pairs)
-                .and_then(dialect_in)
-                .unwrap_or(Dialect::V115),
+            dialect: values.dialect.unwrap_or(Dialect::V115),
         }),
-        Command::Show => Ok(Settings::Show {
-            page: page_of(pairs),
-        }),
-        Command::Kicks => Ok(Settings::Kicks {
-            kicks: table_given(pairs),
-        }),
-        Command::Selfrun => match selfrun_settings(pairs) {
-            Some(settings) => Ok(settings),
-            None => Err(missing(pairs)),
+        Command::Show => Ok(Settings::Show { page: values.page }),
+        Command::Kicks => match rules_of(pairs) {
+            Ok(rules) => Ok(Settings::Kicks { rules }),
+            Err(fault) => Err(fault),
         },
+        Command::Selfrun => selfrun_settings(pairs, values),
     }
 }

@@ -1,13 +1,13 @@
 // Reading the words: the command, and then pairs of a name and a value.
-ghost use Rattle.std.specs.Prelude.{◌≡◌, ◌+◌, ◌^◌, ◌<◌, [], drop, length, take, option_copied, IfOk};
+ghost use Rattle.std.specs.Prelude.{◌≡◌, ◌+◌, ◌^◌, ◌<◌, ◌%◌, ◌++◌, [], ◌∷◌, length, option_copied, is_some, true, Some, None, IfOk, IfErr, IsOk, OnOk};
 ghost use Rattle.std.specs.List.{slice_get};
+ghost use Rattle.std.specs.Option.{ForSome};
 ghost use Rattle.pc_words.specs.Views.{AsksInRange, settings_reading, settings_view};
-ghost use Rattle.pc_words.specs.Words.{is_given, is_other_field, option_fault, pair_fault, pairs_fault, request_in, texts, value_fault, value_of};
+ghost use Rattle.pc_words.specs.Words.{asked_in, is_given, is_other_field, pair_fault, pairs_fault, request_in, texts, value_of, values_in};
 
-use crate::options::{Command, CommandOption, command_named, option_of};
+use crate::options::{Command, CommandOption, Values, command_named, option_of};
 use crate::settings::{Settings, settings_of};
-use crate::values::is_value_of;
-use pc_faults::{WordsFault, WordsKind};
+use pc_faults::{Fault, WordsFault, WordsKind};
 
 /// The value that the pairs give for an option, if they have it.
 pub fn value_of(option: CommandOption, pairs: &[String]) -> Option<&str>
@@ -40,56 +40,58 @@ fn is_other_field(option: CommandOption, before: &[String]) -> bool
     }
 }
 
-fn value_fault(index: usize, option: CommandOption, value: Option<&str>) -> Option<WordsFault>
-    requires { index + 1 < 2 ^ 64 }
-    ensures { result ≡ value_fault index option (option_copied value.entry) }
-{
-    let Some(value) = value else {
-        return Some(WordsFault {
-            kind: WordsKind::MissingValue,
-            index,
-        });
-    };
-    if is_value_of(option, value) {
-        return None;
-    }
-    Some(WordsFault {
-        kind: WordsKind::BadValue,
-        index: index + 1,
-    })
-}
-
-/// The first fault of a name and the value after it, if there is one. These pairs and the command come before it.
+/// The values with that of one more name and the value after it, where there is one, behind these pairs and the
+/// command; or the fault of the two.
 #[tactic(auto, unfolding(crate::specs::Words::pair_fault))]
-fn pair_fault(
+fn with_pair(
     command: Command,
     before: &[String],
+    values: Values,
     name: &str,
     value: Option<&str>,
-) -> Option<WordsFault>
-    requires { length before.now + 2 < 2 ^ 64 }
-    ensures { result ≡ pair_fault command (texts before.now) name.now (option_copied value.entry) }
+) -> Result<Values, WordsFault>
+    requires few { length before.now + 2 < 2 ^ 64 }
+    requires even { length before.now % 2 ≡ 0 }
+    requires values { values ≡ values_in (texts before.now) }
+    ensures values { IfOk result (λ after. ForSome (option_copied value.entry)
+        (λ text. after ≡ values_in (texts before.now ++ name.now ∷ text ∷ []))) }
+    ensures whole { IsOk result → is_some (option_copied value.entry) ≡ true }
+    ensures none { OnOk result (pair_fault command (texts before.now) name.now (option_copied value.entry) ≡ None) }
+    ensures fault { IfErr result (λ fault.
+        pair_fault command (texts before.now) name.now (option_copied value.entry) ≡ Some fault) }
 {
     let index = before.len() + 1;
     let Some(option) = option_of(command, name) else {
-        return Some(WordsFault {
+        return Err(WordsFault {
             kind: WordsKind::UnknownOption,
             index,
         });
     };
     if is_given(option, before) {
-        return Some(WordsFault {
+        return Err(WordsFault {
             kind: WordsKind::RepeatedOption,
             index,
         });
     }
     if is_other_field(option, before) {
-        return Some(WordsFault {
+        return Err(WordsFault {
             kind: WordsKind::BothFields,
             index,
         });
     }
-    value_fault(index, option, value)
+    let Some(text) = value else {
+        return Err(WordsFault {
+            kind: WordsKind::MissingValue,
+            index,
+        });
+    };
+    match values.with_value(option, text) {
+        Some(values) => Ok(values),
+        None => Err(WordsFault {
+            kind: WordsKind::BadValue,
+            index: index + 1,
+        }),
+    }
 }
 
 fn word_at(words: &[String], index: usize) -> Option<&str>
@@ -101,43 +103,50 @@ fn word_at(words: &[String], index: usize) -> Option<&str>
     }
 }
 
-/// The first fault of the pairs after a command.
-fn pairs_fault(command: Command, pairs: &[String]) -> Option<WordsFault>
-    ensures { result ≡ pairs_fault command [] (texts pairs.now) }
+/// The values of the pairs behind a command, or the first fault of these pairs.
+fn read_pairs(command: Command, pairs: &[String]) -> Result<Values, WordsFault>
+    ensures values { IfOk result (λ values. values ≡ values_in (texts pairs.now)) }
+    ensures none { OnOk result (pairs_fault command [] (texts pairs.now) ≡ None) }
+    ensures fault { IfErr result (λ fault. pairs_fault command [] (texts pairs.now) ≡ Some fault) }
 {
+    let mut values = Values::none();
     let mut index = 0;
     while index < pairs.len() {
         let value = word_at(pairs, index + 1);
-        let fault = pair_fault(command, &pairs[..index], pairs[index].as_str(), value);
-        if fault.is_some() {
-            return fault;
-        }
+        values = with_pair(
+            command,
+            &pairs[..index],
+            values,
+            pairs[index].as_str(),
+            value,
+        )?;
         index += 2;
     }
-    None
+    Ok(values)
 }
 
-/// The command and its settings, or the first fault of the words from the left. The faults of one name come in this
-/// order: not an option, given before, a second field, no value, a bad value. Missing options are looked for last.
+/// The command and its settings, or the first fault of the words from the left. Of the faults of one name the order is:
+/// no option, a repeated one, a second field, no value, a bad value. An option that is absent is looked for behind
+/// these, and a fault of the table of offsets comes last.
 #[tactic(auto, unfolding(crate::specs::Words::request_in))]
-pub fn read_words(words: &[String]) -> Result<Settings<'_>, WordsFault>
-    ensures value { settings_reading result ≡ request_in (texts words.entry.now) }
+pub fn read_words(words: &[String]) -> Result<Settings<'_>, Fault>
+    ensures value { settings_reading result ≡ asked_in (request_in (texts words.entry.now)) }
     ensures range { IfOk result (λ settings. AsksInRange (settings_view settings)) }
 {
     let [word, pairs @ ..] = words else {
-        return Err(WordsFault {
+        return Err(Fault::Words(WordsFault {
             kind: WordsKind::NoCommand,
             index: 0,
-        });
+        }));
     };
     let Some(command) = command_named(word.as_str()) else {
-        return Err(WordsFault {
+        return Err(Fault::Words(WordsFault {
             kind: WordsKind::UnknownCommand,
             index: 0,
-        });
+        }));
     };
-    match pairs_fault(command, pairs) {
-        None => settings_of(command, pairs),
-        Some(fault) => Err(fault),
+    match read_pairs(command, pairs) {
+        Ok(values) => settings_of(command, pairs, values),
+        Err(fault) => Err(Fault::Words(fault)),
     }
 }

@@ -3,7 +3,6 @@ mod Alike
 mod Outputs
 mod OutputsOfWords
 mod Problems
-mod Ranges
 mod SharedOutputs
 mod Tables
 mod Wells

@@ -1,5 +1,5 @@
 -- Where no fault stands, there is an output.
-use Rattle.std.proofs.Common.{◌≡◌, ◌∙◌, ◌↔◌, ℕ, zero, suc, ◌+◌, ◌-◌, ◌/◌, ◌<◌, ◌≤◌, Bool, true, false, not, ◌&&◌, ◌==◌, if◌then◌else◌, IsTrue, nat_lt, length, List, [], ◌∷◌, ◌++◌, Option, Some, None, Result, Ok, Err, refl, ap, sym, subst, arith, inl, inr}
+use Rattle.std.proofs.Common.{◌≡◌, ◌∙◌, ◌↔◌, ℕ, zero, suc, ◌-◌, ◌/◌, ◌<◌, ◌≤◌, true, false, not, ◌&&◌, ◌==◌, if◌then◌else◌, IsTrue, nat_lt, length, List, [], ◌∷◌, ◌++◌, Option, Some, None, Result, Ok, Err, refl, ap, sym, subst, arith, inl, inr}
 use Rattle.std.specs.Prelude.{codes, slice_get}
 use Rattle.std.specs.List.{flat_map}
 use Rattle.std.proofs.lemmas.Bool.{and_parts, cases_Bool, ltb-true, ne_eqb}
@@ -7,7 +7,7 @@ use Rattle.std.proofs.lemmas.Bool.Decides.{nat_tests}
 use Rattle.lane_board.specs.Field.{Field, rows_below}
 use Rattle.srs.specs.declared.piece.Piece.{Piece}
 use Rattle.srs.specs.declared.placement.Placement.{Placement}
-use Rattle.srs.specs.Kick.{Table, srs_table}
+use Rattle.srs.specs.Kick.{IsSmallTable, Table, srs_table}
 use Rattle.well.specs.Counts.{empties_below}
 use Rattle.well.specs.Rows.{IsRowsText, rows_fault}
 use Rattle.well.specs.Well.{filled}
@@ -46,12 +46,8 @@ use Rattle.percent.specs.Good.{Good}
 use Rattle.percent.specs.GoodHands.{is_good_queue}
 use Rattle.report.specs.Forms.{key_part, report_form}
 use Rattle.sequence_text.specs.Form.{Spells}
-use Rattle.pc_faults.specs.declared.fault.Fault.{Fault}
 use Rattle.pc_faults.specs.declared.fault.Fault.TheVariants as faults
-use Rattle.pc_settings.specs.Request.{FieldRequest, FieldText, IsInRange}
-use Rattle.combo_settings.specs.Request.{ComboRequest}
-use Rattle.path_settings.specs.Request.{PathRequest}
-use Rattle.percent_settings.specs.Request.{PercentRequest}
+use Rattle.pc_settings.specs.Request.{ComboRequest, FieldRequest, FieldText, IsInRange, PathRequest, PercentRequest}
 use Rattle.pc_source.specs.Faults.{asked_fault, cells_asked, field_fault, page_fault, pages_fault, text_fault}
 use Rattle.pc_source.specs.FieldText.{IsFieldOf}
 use Rattle.pc_problem.specs.Faults.{full_row_fault, pattern_fault, problem_fault}
@@ -105,23 +101,23 @@ module _ (known : Known) where
       let is = known.fields field number bytes page none in
       (is, field_lies known.rows field number bytes (cells_asked field number bytes) none is)
 
-  pub asked_problem : (request : FieldRequest) (F : Field) (table : Table) → IsInRange request → LiesInWell F → kick_text request.kicks ≡ Ok table → problem_fault request F ≡ None → Made request F
-  asked_problem = problem-made known.tables known.patterns
+  pub asked_problem : (request : FieldRequest) (F : Field) (table : Table) → IsInRange request → LiesInWell F → request.table ≡ Ok table → IsSmallTable table → problem_fault request F ≡ None → Made request F
+  asked_problem = problem-made known.patterns
 
   given_sequence : (needed : ℕ) (text : Option (List ℕ)) → after_fault needed text ≡ None → (after : Option (List Placement)) × IsGiven needed text after
   given_sequence needed None none = (None, refl)
   given_sequence needed (Some text) none = let found = (known.given needed text).0 none in (Some found.0, found.1)
 
-  pub path_has : (request : PathRequest) (table : Table) (bytes : List ℕ) (floods : ℕ) → IsInRange request.common → kick_text request.common.kicks ≡ Ok table → path_fault request bytes ≡ None
+  pub path_has : (request : PathRequest) (table : Table) (bytes : List ℕ) (floods : ℕ) → IsInRange request.common → request.common.table ≡ Ok table → IsSmallTable table → path_fault request bytes ≡ None
       → Has (IsPathOutput request bytes floods)
   unfolding path_fault listing_fault
-  path_has request table bytes floods range spelled none =
+  path_has request table bytes floods range read small none =
       let common = request.common in
       let F = cells_asked common.field common.page bytes in
       let parts = both_none (field_fault common.field common.page bytes) (listing_fault request F) none in
       let listing = both_none (problem_fault common F) (after_fault (empties_below F common.height / 4) request.after) parts.1 in
       let there = asked_field common.field common.page bytes range.page parts.0 in
-      let made = asked_problem common F table range there.1 spelled listing.0 in
+      let made = asked_problem common F table range there.1 read small listing.0 in
       let problem = made.problem in
       let needed : empties_below F common.height / 4 ≡ needed_of problem =
       ap (λ G. empties_below G common.height / 4) (sym made.named.field) ∙ ap (λ h. empties_below (filled problem.well) h / 4) (sym made.named.height) in
@@ -139,15 +135,15 @@ module _ (known : Known) where
         };
       }
 
-  pub percent_has : (request : PercentRequest) (table : Table) (bytes : List ℕ) → IsInRange request.common → kick_text request.common.kicks ≡ Ok table → percent_fault request bytes ≡ None
+  pub percent_has : (request : PercentRequest) (table : Table) (bytes : List ℕ) → IsInRange request.common → request.common.table ≡ Ok table → IsSmallTable table → percent_fault request bytes ≡ None
       → Has (IsPercentOutput request bytes)
   unfolding percent_fault
-  percent_has request table bytes range spelled none =
+  percent_has request table bytes range read small none =
       let common = request.common in
       let F = cells_asked common.field common.page bytes in
       let parts = both_none (field_fault common.field common.page bytes) (problem_fault common F) none in
       let there = asked_field common.field common.page bytes range.page parts.0 in
-      let made = asked_problem common F table range there.1 spelled parts.1 in
+      let made = asked_problem common F table range there.1 read small parts.1 in
       record {
         output = percent_form (is_good_queue made.problem) request.failed (queues (elements_of made.problem.pattern));
         is = record {
@@ -157,14 +153,14 @@ module _ (known : Known) where
         };
       }
 
-  pub cover_has : (request : FieldRequest) (table : Table) (bytes : List ℕ) → IsInRange request → kick_text request.kicks ≡ Ok table → cover_fault request bytes ≡ None → Has (IsCoverOutput request bytes)
+  pub cover_has : (request : FieldRequest) (table : Table) (bytes : List ℕ) → IsInRange request → request.table ≡ Ok table → IsSmallTable table → cover_fault request bytes ≡ None → Has (IsCoverOutput request bytes)
   unfolding cover_fault covering_fault
-  cover_has request table bytes range spelled none =
+  cover_has request table bytes range read small none =
       let F = cells_asked request.field request.page dash in
       let parts = both_none (field_fault request.field request.page dash) (covering_fault request F bytes) none in
       let covering = both_none (problem_fault request F) (given_fault (given_in (empties_below F request.height / 4) bytes)) parts.1 in
       let there = asked_field request.field request.page dash range.page parts.0 in
-      let made = asked_problem request F table range there.1 spelled covering.0 in
+      let made = asked_problem request F table range there.1 read small covering.0 in
       let given = given_lines (given_in (empties_below F request.height / 4) bytes) covering.1 in
       let covered = known.covered made.problem given.0 made.fit in
       record {
@@ -184,9 +180,9 @@ module _ (known : Known) where
       given_lines (Ok sequences) none = (sequences, refl)
       given_lines (Err fault) none = let bad : Some (faults.Cover fault) ≡ None = none in cc
 
-  pub combo_has : (request : ComboRequest) (table : Table) (bytes : List ℕ) → 1 ≤ request.page → kick_text request.kicks ≡ Ok table → combo_fault request bytes ≡ None → Has (IsComboOutput request bytes)
+  pub combo_has : (request : ComboRequest) (table : Table) (bytes : List ℕ) → 1 ≤ request.page → request.table ≡ Ok table → combo_fault request bytes ≡ None → Has (IsComboOutput request bytes)
   unfolding combo_fault run_fault
-  combo_has request table bytes page spelled none =
+  combo_has request table bytes page is_read none =
       let F = cells_asked request.field request.page bytes in
       let read = limited (elements request.patterns) in
       let parts = both_none (field_fault request.field request.page bytes) (run_fault request F) none in
@@ -198,7 +194,7 @@ module _ (known : Known) where
         is = record {
           field = F;
           asked = known.fields request.field request.page bytes page parts.0;
-          answered = record { table = table; rules = sym spelled; queue = named.0; named = named.1; run = longest.0; longest = longest.1; lines = refl };
+          answered = record { table = table; rules = sym is_read; queue = named.0; named = named.1; run = longest.0; longest = longest.1; lines = refl };
         };
       }
     where

@@ -1,20 +1,16 @@
 -- A problem for what is asked about a field, where nothing is wrong with it.
-use Rattle.std.proofs.Common.{◌≡◌, ◌∙◌, ◌↔◌, ℕ, zero, suc, ◌+◌, ◌-◌, ◌/◌, ◌%◌, ◌<◌, ◌≤◌, Bool, true, false, ◌&&◌, ◌==◌, nat_lt, length, get_or, List, [], ◌∷◌, All, Option, Some, None, Result, Ok, Err, refl, ap, sym, subst, arith, inl, inr}
+use Rattle.std.proofs.Common.{◌≡◌, ◌∙◌, ◌↔◌, ℕ, zero, suc, ◌+◌, ◌-◌, ◌/◌, ◌%◌, ◌<◌, ◌≤◌, true, ◌&&◌, nat_lt, length, get_or, List, [], ◌∷◌, All, Option, Some, None, Result, Ok, Err, refl, ap, sym, subst, arith, inl, inr}
 use Rattle.std.specs.Prelude.{option_map, reverse, slice_index, slice_index_or}
 use Rattle.std.specs.List.{slice_split}
 use Rattle.std.proofs.lemmas.Bool.{and_parts, cases_Bool, cases_lt, ltb-true}
 use Rattle.std.proofs.lemmas.Bool.Decides.{nat_tests}
 use Rattle.std.proofs.lemmas.List.{get_or-reverse, length-reverse}
 use Rattle.lane_board.specs.Field.{Field, rows_below}
-use Rattle.srs.specs.Kick.{Table}
-use Rattle.srs.specs.Rules.{table_of}
+use Rattle.srs.specs.Kick.{IsSmallTable, Table}
 use Rattle.well.specs.Counts.{empties_below, lowest_filled_from, lowest_full}
-use Rattle.well.specs.Rows.{IsRow, IsRowsText, is_filled_char, is_slash, rows_fault, written_cells}
+use Rattle.well.specs.Rows.{IsRowsText, is_filled_char, is_slash, rows_fault, written_cells}
 use Rattle.well.specs.Well.{filled}
 use Rattle.fumen_pages.specs.declared.page.Page.{Page}
-use Rattle.kick_file.specs.Faults.{IsReadAs}
-use Rattle.kick_file.specs.Reading.{kick_text}
-use Rattle.kick_file.specs.declared.fault.KickFault.{KickFault}
 use Rattle.queue_pattern.specs.declared.element.Element.{Element}
 use Rattle.queue_pattern.specs.declared.fault.PatternFault.{PatternFault}
 use Rattle.queue_pattern.specs.declared.pattern.Pattern.{Pattern}
@@ -27,11 +23,11 @@ use Rattle.pc_faults.specs.declared.fault.Fault.{Fault}
 use Rattle.pc_faults.specs.declared.fault.Fault.TheVariants as faults
 use Rattle.pc_faults.specs.FirstFault.{first_of_these}
 use Rattle.pc_settings.specs.Request.{FieldRequest, FieldText, IsInRange, fumen_text, rows_text}
-use Rattle.pc_source.specs.Faults.{cells_asked, field_fault}
-use Rattle.pc_source.specs.FieldText.{IsFieldOf, page_cells, text_given}
+use Rattle.pc_source.specs.Faults.{field_fault}
+use Rattle.pc_source.specs.FieldText.{IsFieldOf, page_cells}
 use Rattle.pc_problem.specs.Faults as asked
 use Rattle.pc_problem.specs.Problem.{IsProblemOf}
-use Rattle.run_laws.proofs.Tables.{rules-made, spelled_small}
+use Rattle.run_laws.proofs.Tables.{rules-made}
 use Rattle.run_laws.proofs.Wells.{LiesInWell, well-made}
 
 no_some : {A B : Type 0} (f : A → B) (o : Option A) → option_map f o ≡ None → o ≡ None
@@ -154,14 +150,13 @@ pub record Made (request : FieldRequest) (F : Field) : Type 0 where
   pub named : IsProblemOf request F problem
   pub fit : IsFit problem
 
-pub problem-made : ((text : List ℕ) (read : Result Table KickFault) → (kick_text text ≡ read) ↔ IsReadAs text read)
-    → ((text : List ℕ) (es : List Element) → limited (elements text) ≡ Ok es → (pattern : Pattern) × (elements_of pattern ≡ es))
-    → (request : FieldRequest) (F : Field) (table : Table) → IsInRange request → LiesInWell F → kick_text request.kicks ≡ Ok table → asked.problem_fault request F ≡ None → Made request F
-problem-made tables patterns request F table range lies spelled none =
+pub problem-made : ((text : List ℕ) (es : List Element) → limited (elements text) ≡ Ok es → (pattern : Pattern) × (elements_of pattern ≡ es))
+    → (request : FieldRequest) (F : Field) (table : Table) → IsInRange request → LiesInWell F → request.table ≡ Ok table → IsSmallTable table → asked.problem_fault request F ≡ None → Made request F
+problem-made patterns request F table range lies read small none =
     let found = asked_of request F none in
     let well = well-made F lies in
     let pattern = patterns request.patterns found.0 found.1.read in
-    let rules = rules-made table (spelled_small request.kicks table ((tables request.kicks (Ok table)).0 spelled)) in
+    let rules = rules-made table small in
     let problem : Problem = record {
       well = well.0;
       height = request.height;
@@ -180,7 +175,7 @@ problem-made tables patterns request F table range lies spelled none =
         hold = refl;
         held = refl;
         drop = refl;
-        rules = ap Ok rules.1 ∙ sym spelled;
+        rules = ap Ok rules.1 ∙ sym read;
       };
       fit = record {
         some = range.some;

@@ -10,8 +10,8 @@ use Rattle.pc_kicks.proofs.CallerLemmas.{one_kicks_output}
 use Rattle.pc_selfrun.proofs.CallerLemmas.{one_selfrun_output}
 use Rattle.pc_combo.proofs.CallerLemmas.{one_combo_output}
 use Rattle.pc_words.specs.Request.{Request, combo, cover, decode, encode, kicks, path, percent, selfrun, show}
-use Rattle.pc_words.specs.Words.{request_in}
-use Rattle.pc_app.specs.Tasks.{asked_in, task_for, task_in, task_of, tells_floods, tells_floods_in}
+use Rattle.pc_words.specs.Words.{asked_in, request_in}
+use Rattle.pc_app.specs.Tasks.{task_for, task_in, task_of, tells_floods, tells_floods_in}
 use Rattle.run_laws.proofs.Alike.{IsShared, same_shared}
 
 shared_for : (request : Request) (bytes : List ℕ) (floods others : ℕ) (a b : List ℕ)

@@ -1,5 +1,5 @@
 -- Rules for each table that a text of offsets spells.
-use Rattle.std.proofs.Common.{◌≡◌, ℕ, suc, Bool, true, false, cond, ◌&&◌, ◌==◌, eqb-true, List, [], ◌∷◌, ◌++◌, length, map, refl, ap, sym, subst, ◌∙◌}
+use Rattle.std.proofs.Common.{◌≡◌, ◌↔◌, ℕ, suc, true, false, cond, ◌==◌, eqb-true, List, [], ◌∷◌, length, map, refl, ap, sym, subst, ◌∙◌}
 use Rattle.std.specs.Prelude.{Ok, Result, fold}
 use Rattle.std.specs.List.{list_all}
 use Rattle.std.proofs.Math.Path.{fun_ext}
@@ -16,9 +16,10 @@ use Rattle.srs.specs.Cells.{Cell}
 use Rattle.srs.specs.Kick.{IsSmallTable, Table, is_small, is_small_move, pair_of, srs_table}
 use Rattle.srs.specs.Rules.{table_of, turns_table}
 use Rattle.srs.proofs.CallerLemmas.{each_state}
-use Rattle.kick_file.specs.Faults.{SpellsTable}
-use Rattle.kick_file.specs.Form.{Entry, SpellsEntries, SpellsEntry, is_same, table_of_entries, table_with_entry}
-use Rattle.kick_file.specs.declared.turned.TurnedPiece.{TurnedPiece}
+use Rattle.kick_file.specs.declared.fault.KickFault.{KickFault}
+use Rattle.kick_file.specs.Faults.{IsReadAs, SpellsTable}
+use Rattle.kick_file.specs.Reading.{kick_text}
+use Rattle.kick_file.specs.Form.{Entry, SpellsEntries, SpellsEntry, is_same, table_with_entry}
 
 -- ---- a table that a text spells has five small offsets for each piece and rotation
 
@@ -46,8 +47,11 @@ entries_small table (entry ∷ []) text spelled small = with_small table entry t
 entries_small table (entry ∷ next ∷ entries) text spelled small =
     entries_small (table_with_entry table entry) (next ∷ entries) spelled.1 spelled.4 (with_small table entry spelled.0 spelled.3 small)
 
-pub spelled_small : (text : List ℕ) (table : Table) → SpellsTable text table → IsSmallTable table
+spelled_small : (text : List ℕ) (table : Table) → SpellsTable text table → IsSmallTable table
 spelled_small text table spelled = subst IsSmallTable (sym spelled.is) (entries_small srs_table spelled.entries text spelled.spelled srs_small)
+
+pub read_small : ((text : List ℕ) (read : Result Table KickFault) → (kick_text text ≡ read) ↔ IsReadAs text read) → (text : List ℕ) (table : Table) → kick_text text ≡ Ok table → IsSmallTable table
+read_small tables text table read = spelled_small text table ((tables text (Ok table)).0 read)
 
 -- ---- so there are rules that keep it
 

@@ -1,5 +1,5 @@
 -- A well for each field that lies in columns 0 to 9 and rows 0 to 22.
-use Rattle.std.proofs.Common.{◌≡◌, ℕ, zero, suc, ◌+◌, ◌-◌, ◌^◌, ◌<◌, ◌≤◌, ◌≢◌, Bool, true, false, cond, ◌||◌, ◌==◌, List, [], ◌∷◌, length, bit_or, refl, ap, sym, subst, ◌∙◌, arith, inl, inr}
+use Rattle.std.proofs.Common.{◌≡◌, ℕ, zero, suc, ◌+◌, ◌^◌, ◌<◌, ◌≤◌, ◌≢◌, Bool, true, false, cond, ◌||◌, ◌==◌, List, [], ◌∷◌, length, bit_or, refl, ap, sym, subst, ◌∙◌, arith, inl, inr}
 use Rattle.std.specs.Prelude.{slice_index}
 use Rattle.std.proofs.Math.Path.{fun_ext}
 use Rattle.std.proofs.lemmas.Bool.{cases_Bool, cases_lt}

@@ -3,8 +3,8 @@ ghost use Rattle.std.specs.Prelude.{◌≡◌, ℕ, List, Option, None};
 ghost use Rattle.pc_faults.specs.declared.status.Status.{Status};
 ghost use Rattle.pc_source.specs.Sink.{SinkChange};
 ghost use Rattle.pc_source.specs.Task.{ForBytes, first_fault};
-ghost use Rattle.pc_words.specs.Words.{request_in};
-ghost use Rattle.pc_app.specs.Tasks.{asked_in, task_of, tells_floods_in};
+ghost use Rattle.pc_words.specs.Words.{asked_in, request_in};
+ghost use Rattle.pc_app.specs.Tasks.{task_of, tells_floods_in};
 ghost use Rattle.run_laws.specs.Undisturbed.{EndAlike, EndsUndisturbed};
 
 use combo::laws::longest_runs_exist;

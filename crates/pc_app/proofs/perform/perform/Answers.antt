@@ -1,10 +1,8 @@
 -- Each command answers as its task; those that make no floods leave the counter.
-use Rattle.std.proofs.Common.{ap, refl}
-use Rattle.combo_settings.specs.Views.{combo_view}
-use Rattle.path_settings.specs.Views.{path_view}
-use Rattle.percent_settings.specs.Views.{percent_view}
+use Rattle.std.proofs.Common.{Ok, ap, refl}
+use Rattle.srs.specs.Rules.{table_of}
+use Rattle.pc_settings.specs.Views.{combo_view, field_view, path_view, percent_view}
 use Rattle.pc_words.specs.Request.{combo, cover, decode, encode, kicks, path, percent, selfrun, show}
-use Rattle.pc_settings.specs.Views.{field_view}
 use Rattle.pc_words.specs.Views.{settings_view}
 use Rattle.pc_app.proofs.Answering.{for_request, idle_answers, idle_works_for, works_for}
 use Rattle.pc_app.proofs.perform.perform.Goals as goal
@@ -67,11 +65,11 @@ returns-in-Show-clause-works g c =
 
 pub returns-in-Kicks-clause-answers : goal.returns-in-Kicks-clause-answers
 returns-in-Kicks-clause-answers g c =
-    idle_answers (kicks c.in-Kicks.kicks.now) (settings_view c.args.settings.now) c.args.bytes.now _ _ _ _ c.run_kicks.result (ap settings_view c.in-Kicks.is) refl c.run_kicks.ensures
+    idle_answers (kicks (Ok (table_of c.in-Kicks.rules))) (settings_view c.args.settings.now) c.args.bytes.now _ _ _ _ c.run_kicks.result (ap settings_view c.in-Kicks.is) refl c.run_kicks.ensures
 
 pub returns-in-Kicks-clause-works : goal.returns-in-Kicks-clause-works
 returns-in-Kicks-clause-works g c =
-    idle_works_for (kicks c.in-Kicks.kicks.now) (settings_view c.args.settings.now) c.args.bytes.now _ _ _ c.run_kicks.result (ap settings_view c.in-Kicks.is) refl (λ status. refl)
+    idle_works_for (kicks (Ok (table_of c.in-Kicks.rules))) (settings_view c.args.settings.now) c.args.bytes.now _ _ _ c.run_kicks.result (ap settings_view c.in-Kicks.is) refl (λ status. refl)
 
 pub returns-in-Selfrun-clause-answers : goal.returns-in-Selfrun-clause-answers
 returns-in-Selfrun-clause-answers g c =

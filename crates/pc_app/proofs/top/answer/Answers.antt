@@ -1,14 +1,14 @@
 -- The words are read, and then the source, and then the command answers.
-use Rattle.std.proofs.Common.{◌≡◌, ◌∙◌, ◌-◌, ◌≤◌, ℕ, List, length, Err, Some, true, refl, ap, sym, subst, arith}
+use Rattle.std.proofs.Common.{◌≡◌, ◌∙◌, ◌-◌, ◌≤◌, length, Err, refl, ap, sym, subst, arith}
 use Rattle.pc_faults.specs.declared.fault.Fault.{Fault}
 use Rattle.pc_faults.specs.declared.fault.Fault.TheVariants.{Kicks, SourceTooLong, Words}
 use Rattle.pc_faults.specs.declared.status.Status.TheVariants.{Input}
 use Rattle.pc_source.specs.Sink.{sink_change}
-use Rattle.pc_source.specs.Task.{HasBytes, first_fault, most_bytes}
+use Rattle.pc_source.specs.Task.{HasBytes, most_bytes}
 use Rattle.pc_source.proofs.CallerLemmas.{none_added}
 use Rattle.pc_words.specs.Views.{settings_view}
-use Rattle.pc_words.specs.Words.{request_in, texts}
-use Rattle.pc_app.specs.Tasks.{asked_in, task_for, task_in, task_of}
+use Rattle.pc_words.specs.Words.{asked_in, request_in, texts}
+use Rattle.pc_app.specs.Tasks.{task_for, task_of}
 use Rattle.pc_app.proofs.Answering.{fault_idle, input_idle, leaves_read, leaves_sink, leaves_unread, never_outer, never_unread, ran_read, ran_unread, refused_work, refused_words, words_found, works_read, works_unread}
 use Rattle.pc_app.proofs.top.answer.Goals as goal
 

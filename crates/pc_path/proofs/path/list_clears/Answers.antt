@@ -15,8 +15,8 @@ use Rattle.well.specs.Well.{filled}
 use Rattle.srs.specs.declared.placement.Placement.{Placement}
 use Rattle.pc_outside.specs.Writes.{WritesAll}
 use Rattle.pc_faults.specs.declared.status.Status.TheVariants.{Done, SinkFault}
-use Rattle.path_settings.specs.Request.{PathRequest}
-use Rattle.path_settings.specs.Views.{path_view}
+use Rattle.pc_settings.specs.Request.{PathRequest}
+use Rattle.pc_settings.specs.Views.{path_view}
 use Rattle.pc_source.specs.Sink.{sink_change}
 use Rattle.pc_problem.specs.Problem.{IsProblemOf}
 use Rattle.pc_path.specs.Formats.{solution_form}

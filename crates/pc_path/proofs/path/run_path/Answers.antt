@@ -1,7 +1,7 @@
 -- The field is had, or the run ends.
 use Rattle.std.proofs.Common.{◌≡◌, ◌∙◌, ◌-◌, Err, refl, ap, arith}
 use Rattle.well.specs.Well.{filled}
-use Rattle.path_settings.specs.Views.{path_view}
+use Rattle.pc_settings.specs.Views.{path_view}
 use Rattle.pc_source.specs.Sink.{sink_change}
 use Rattle.pc_source.proofs.CallerLemmas.{none_added, refused_answers, refused_works}
 use Rattle.pc_path.specs.PathTask.{path_task}

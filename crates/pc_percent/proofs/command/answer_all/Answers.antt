@@ -5,7 +5,7 @@ use Rattle.queue_pattern.specs.Pattern.{elements_of}
 use Rattle.queue_pattern.specs.Queues.{queues}
 use Rattle.percent.specs.GoodHands.{is_good_queue}
 use Rattle.percent.proofs.CallerLemmas.{good-decides}
-use Rattle.percent_settings.specs.Views.{percent_view}
+use Rattle.pc_settings.specs.Views.{percent_view}
 use Rattle.pc_source.specs.Sink.{sink_change}
 use Rattle.pc_source.proofs.CallerLemmas.{written_answers, written_works}
 use Rattle.pc_percent.specs.AskedTask.{asked_task}

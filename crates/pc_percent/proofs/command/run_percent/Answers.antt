@@ -1,7 +1,7 @@
 -- The field is had, or the run ends.
 use Rattle.std.proofs.Common.{◌-◌, Err, refl, ap}
 use Rattle.well.specs.Well.{filled}
-use Rattle.percent_settings.specs.Views.{percent_view}
+use Rattle.pc_settings.specs.Views.{percent_view}
 use Rattle.pc_source.specs.Sink.{sink_change}
 use Rattle.pc_source.proofs.CallerLemmas.{none_added, refused_answers, refused_works}
 use Rattle.pc_percent.specs.PercentTask.{percent_task}

@@ -1,6 +1,6 @@
 -- Both runs saw the same bytes.
-use Rattle.pc_words.specs.Words.{request_in}
-use Rattle.pc_app.specs.Tasks.{asked_in, task_of, tells_floods_in}
+use Rattle.pc_words.specs.Words.{asked_in, request_in}
+use Rattle.pc_app.specs.Tasks.{task_of, tells_floods_in}
 use Rattle.run_laws.proofs.Alike.{both_end_alike}
 use Rattle.run_laws.proofs.SharedOutputs.{shared_output}
 use Rattle.run_laws.proofs.laws.reads_of_any_size_end_alike.Goals as goal

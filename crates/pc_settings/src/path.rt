@@ -1,6 +1,6 @@
 // The settings of `path`.
+use crate::field::FieldSettings;
 use crate::format::Format;
-use pc_settings::FieldSettings;
 
 /// What a call of `path` asks for.
 #[derive(Clone, Copy, Debug, PartialEq, Eq)]

@@ -1,5 +1,5 @@
 // The settings of `percent`.
-use pc_settings::FieldSettings;
+use crate::field::FieldSettings;
 
 /// What a call of `percent` asks for.
 #[derive(Clone, Copy, Debug, PartialEq, Eq)]

@@ -1,8 +1,8 @@
 // The settings of `combo`.
+use crate::field::FieldWords;
 use hold_queue::Hold;
 use moves::DropMode;
-use pc_settings::FieldWords;
-use srs::Piece;
+use srs::{Piece, Rules};
 
 /// What a call of `combo` asks for.
 #[derive(Clone, Copy, Debug, PartialEq, Eq)]
@@ -16,8 +16,8 @@ pub struct ComboSettings<'a> {
     /// The piece that is held at the start.
     pub held: Option<Piece>,
     pub drop_mode: DropMode,
-    /// The text of a table of offsets.
-    pub kicks: &'a str,
+    /// The table of offsets that gives the kicks of all turns.
+    pub rules: Rules,
     /// Whether each placement is written with its keys.
     pub keys: bool,
 }
