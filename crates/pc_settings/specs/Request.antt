@@ -45,8 +45,8 @@ pub record PercentRequest : Type 0 where
   pub common : FieldRequest
   pub failed : ℕ
 
--- of `combo`: a field, the page of it where it is a fumen's, the queue, the rules, the table of offsets or the first fault
--- of its text, and whether keys are written
+-- of `combo`: a field, the page of it where it is a fumen's, the queue, the rules, the table of offsets or the first
+-- fault of its text, and whether keys are written
 pub record ComboRequest : Type 0 where
   pub field : FieldText
   pub page : ℕ

@@ -44,7 +44,8 @@ AsksInRange (show page) = HasNumber page
 AsksInRange (kicks read) = Unit {0}
 AsksInRange (selfrun number pages) = (1 ≤ pages) × (pages ≤ 10000)
 
--- the fault of what is asked for by pairs without a fault: a required option is absent, or the table of offsets has this one
+-- the fault of what is asked for by pairs without a fault: a required option is absent, or the table of offsets has
+-- this one
 abbrev pub Refuses : List (List ℕ) → Option (Result Table KickFault) → Fault → Type 0
 Refuses pairs None fault = fault ≡ faults.Words (fault_at MissingOption (length pairs + 1))
 Refuses pairs (Some read) fault = (found : KickFault) × (read ≡ Err found) × (fault ≡ faults.Kicks found)

@@ -77,7 +77,8 @@ fn field_words(pairs: &[String]) -> Option<FieldWords<'_>>
 #[tactic(auto, unfolding(crate::specs::Words::field_request))]
 fn field_settings(pairs: &[String], values: Values) -> Result<FieldSettings<'_>, Fault>
     requires { length pairs.now + 1 < 2 ^ 64 }
-    ensures value { IfOk result (λ settings. field_request (texts pairs.entry.now) values ≡ Some (field_view settings)) }
+    ensures value { IfOk result (λ settings.
+        field_request (texts pairs.entry.now) values ≡ Some (field_view settings)) }
     ensures fault { IfErr result (λ fault. Refuses (texts pairs.entry.now)
         (option_map (λ request. request.table) (field_request (texts pairs.entry.now) values)) fault) }
 {
@@ -130,7 +131,8 @@ fn percent_settings(values: Values, common: FieldSettings<'_>) -> PercentSetting
 #[tactic(auto, unfolding(crate::specs::Words::combo_request))]
 fn combo_settings(pairs: &[String], values: Values) -> Result<ComboSettings<'_>, Fault>
     requires { length pairs.now + 1 < 2 ^ 64 }
-    ensures value { IfOk result (λ settings. combo_request (texts pairs.entry.now) values ≡ Some (combo_view settings)) }
+    ensures value { IfOk result (λ settings.
+        combo_request (texts pairs.entry.now) values ≡ Some (combo_view settings)) }
     ensures fault { IfErr result (λ fault. Refuses (texts pairs.entry.now)
         (option_map (λ request. request.table) (combo_request (texts pairs.entry.now) values)) fault) }
 {
