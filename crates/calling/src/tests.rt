@@ -6,8 +6,8 @@ use fumen_digits::FumenFault;
 use hold_queue::Hold;
 use moves::{DropMode, Key};
 use pc_outside::Refused;
-use problem::Problem;
-use queue_pattern::Pattern;
+use problem::{Problem, ProblemFault};
+use queue_pattern::{Pattern, Queue};
 use srs::{Piece, Placement, Rotation, Rules};
 use std::process::Abort;
 use std::test::Fail;
@@ -127,5 +127,22 @@ fn first_moves(rt: HostRuntime) -> Result<(), Fail> {
     assert_eq!(rt; found.placement, placed(Piece::T, Rotation::Right, 4, 1));
     assert_eq!(rt; found.keys.as_slice(), [Key::Clockwise].as_slice());
     assert!(rt; first_move(rt.alloc(), problem(&rt, b"XXXXXX____", 1, "O"))?.is_none());
+    Ok(())
+}
+
+#[test]
+fn first_moves_of_one_queue(rt: HostRuntime) -> Result<(), Fail> {
+    let well = Well::from_rows(OPENER).ok().ok_or("no field")?;
+    let pieces = [Piece::T, Piece::O, Piece::I];
+    let queue = Queue::try_from(pieces.as_slice()).ok().ok_or("no queue")?;
+    let found = first_move_of(rt.alloc(), well, 4, &queue)
+        .ok()
+        .ok_or("refused")?;
+    let found = found.ok_or("no move")?;
+    assert_eq!(rt; found.placement, placed(Piece::T, Rotation::Right, 4, 1));
+    assert_eq!(rt; found.keys.as_slice(), [Key::Clockwise].as_slice());
+    let fault = first_move_of(rt.alloc(), well, 9, &queue).err();
+    let expected = ProblemFault::BadHeight { height: 9 };
+    assert_eq!(rt; fault, Some(Refused::Fault(expected)));
     Ok(())
 }
