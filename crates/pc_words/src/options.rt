@@ -227,67 +227,30 @@ impl Values {
     }
 
     /// These values with that of an option, or None where the text is not in the list or the range of the option.
-    pub fn with_value(self, option: CommandOption, text: &str) -> Option<Values>
+    pub fn with_value(mut self, option: CommandOption, text: &str) -> Option<Values>
         ensures { result ≡ with_value self option text.now }
     {
+        let bytes = text.as_bytes();
         match option {
-            CommandOption::Page => Some(Values {
-                page: Some(number_in(1, MOST_PAGES, text.as_bytes())?),
-                ..self
-            }),
-            CommandOption::ClearLine => Some(Values {
-                height: Some(height_in(text)?),
-                ..self
-            }),
-            CommandOption::Hold => Some(Values {
-                hold: Some(hold_in(text)?),
-                ..self
-            }),
-            CommandOption::Held => Some(Values {
-                held: Some(held_in(text)?),
-                ..self
-            }),
-            CommandOption::Drop => Some(Values {
-                drop_mode: Some(drop_in(text)?),
-                ..self
-            }),
-            CommandOption::Limit => Some(Values {
-                limit: Some(number_in(1, MOST_SEQUENCES, text.as_bytes())?),
-                ..self
-            }),
-            CommandOption::Keys => Some(Values {
-                keys: Some(yes_in(text)?),
-                ..self
-            }),
-            CommandOption::Format => Some(Values {
-                format: Some(format_in(text)?),
-                ..self
-            }),
-            CommandOption::Dialect => Some(Values {
-                dialect: Some(dialect_in(text)?),
-                ..self
-            }),
-            CommandOption::Failed => Some(Values {
-                failed: Some(number_in(0, MOST_FAILED, text.as_bytes())?),
-                ..self
-            }),
-            CommandOption::Stats => Some(Values {
-                stats: Some(yes_in(text)?),
-                ..self
-            }),
-            CommandOption::Number => Some(Values {
-                number: Some(number_in(0, u32::MAX, text.as_bytes())?),
-                ..self
-            }),
-            CommandOption::Pages => Some(Values {
-                pages: Some(number_in(1, MOST_PAGES, text.as_bytes())?),
-                ..self
-            }),
+            CommandOption::Page => self.page = Some(number_in(1, MOST_PAGES, bytes)?),
+            CommandOption::ClearLine => self.height = Some(height_in(text)?),
+            CommandOption::Hold => self.hold = Some(hold_in(text)?),
+            CommandOption::Held => self.held = Some(held_in(text)?),
+            CommandOption::Drop => self.drop_mode = Some(drop_in(text)?),
+            CommandOption::Limit => self.limit = Some(number_in(1, MOST_SEQUENCES, bytes)?),
+            CommandOption::Keys => self.keys = Some(yes_in(text)?),
+            CommandOption::Format => self.format = Some(format_in(text)?),
+            CommandOption::Dialect => self.dialect = Some(dialect_in(text)?),
+            CommandOption::Failed => self.failed = Some(number_in(0, MOST_FAILED, bytes)?),
+            CommandOption::Stats => self.stats = Some(yes_in(text)?),
+            CommandOption::Number => self.number = Some(number_in(0, u32::MAX, bytes)?),
+            CommandOption::Pages => self.pages = Some(number_in(1, MOST_PAGES, bytes)?),
             CommandOption::Rows
             | CommandOption::Tetfu
             | CommandOption::Patterns
             | CommandOption::Kicks
-            | CommandOption::After => Some(self),
+            | CommandOption::After => {}
         }
+        Some(self)
     }
 }
