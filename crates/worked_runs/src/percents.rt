@@ -101,17 +101,6 @@ fn a_piece_is_held(rt: HostRuntime) -> Result<(), Fail> {
 }
 
 #[test]
-fn a_piece_is_held(rt: HostRuntime) -> Result<(), Fail> {
-    let line = "percent --patterns *p4 --held";
-    let three = "XXX_____XX/XXX____XXX/XXX___XXXX/XXX____XXX";
-    let output = b"queues 840\ngood 711\nrate 8464\n";
-    lists(&rt, line, &["I", "--rows", three], output)?;
-    let four = "XXXXXX____/XXXXXX____/XXXXXX____/XXXXXX____";
-    let output = b"queues 840\ngood 744\nrate 8857\n";
-    lists(&rt, line, &["T", "--rows", four], output)
-}
-
-#[test]
 fn six_columns_open(rt: HostRuntime) -> Result<(), Fail> {
     let rows = "XXXX______/XXXX______/XXXX______/XXXX______";
     let line = "percent --patterns *p7 --rows";
