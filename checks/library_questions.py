@@ -10,8 +10,10 @@ from concurrent.futures import ProcessPoolExecutor
 
 TOP = os.path.dirname(os.path.dirname(os.path.realpath(__file__)))
 PROGRAM = os.environ.get("PC_PROGRAM", os.path.join(TOP, "crates", "pc_cli", "out", "pc_cli"))
-DONE, FAULT, NO_ROOM, NO_WORDS = 0, 2, 4, 6
+DONE, FAULT, NO_ROOM, NO_WORDS, OTHER_COMMAND = 0, 2, 4, 6, 7
 FAULT_ROOM = 128
+# The faults of words, which are those of each command.
+OF_WORDS = (b"input: Words.", b"input: Kicks.")
 
 
 def module(path):
@@ -46,6 +48,19 @@ def wrote(words, given=""):
     return program([word.encode() for word in words], given.encode())[1].decode()
 
 
+def written_by(buffers, edge, counts, filling):
+    """What a call wrote to buffers, each with so much beside its room on either side. No other byte may change."""
+    written = []
+    for buffer, count in zip(buffers, counts):
+        seen, room = buffer.raw[:-1], len(buffer) - 1 - 2 * edge
+        if count.value > room:
+            raise Differs(f"{count.value} bytes are told of a room of {room}")
+        kept = seen[:edge], seen[edge + count.value:].strip(filling)
+        same(kept, (filling * edge, b""), "bytes that are left alone")
+        written.append(seen[edge:edge + count.value])
+    return written
+
+
 Call = collections.namedtuple("Call", "status output fault floods")
 
 
@@ -66,13 +81,7 @@ class Library:
         length, fault_length, floods = ctypes.c_size_t(2 ** 60), ctypes.c_size_t(2 ** 60), ctypes.c_uint64(2 ** 60)
         status = self.run(texts[0], len(text), texts[1], len(given), ctypes.byref(buffers[0], edge), room, length,
                           ctypes.byref(buffers[1], edge), fault_room, fault_length, floods)
-        written = []
-        for buffer, room, count in zip(buffers, (room, fault_room), (length.value, fault_length.value)):
-            if count > room:
-                raise Differs(f"{count} bytes are told of a room of {room}")
-            seen = buffer.raw[:-1]
-            same((seen[:edge], seen[edge + count:].strip(filling)), (filling * edge, b""), "bytes that are left alone")
-            written.append(seen[edge:edge + count])
+        written = written_by(buffers, edge, (length, fault_length), filling)
         same((texts[0].raw[:-1], texts[1].raw[:-1]), (text, given), "the words and the input behind a call")
         return Call(status, *written, floods.value)
 
@@ -173,30 +182,42 @@ def spoiled(draw, words):
     return words
 
 
-def ask_some(path, first, count):
+# A family of random questions: its name, the class of the library that has the call, the kind of most of its questions
+# (None: of all kinds), how many of a hundred have spoiled words, what asks the library and the program, and the
+# statuses that must come up once there are this many questions.
+Family = collections.namedtuple("Family", "name library mostly spoiled compare statuses many")
+
+
+def ask_some(family, path, first, count):
     """Asks so many random questions. Gives how often each status was answered, and what differs."""
-    library, seen, failed = Library(path), collections.Counter(), []
+    library, seen, failed = family.library(path), collections.Counter(), []
     for seed in range(first, first + count):
-        draw = random.Random(seed)
-        words, given = draw.choice(KINDS)(draw, library)
+        draw = random.Random(f"{family.name} {seed}")
+        kind = family.mostly if family.mostly and draw.random() < 0.85 else draw.choice(KINDS)
+        words, given = kind(draw, library)
         words = [word.encode() for word in words]
-        if draw.random() < 0.15:
+        if draw.randrange(100) < family.spoiled:
             words = spoiled(draw, words)
         try:
-            seen[compare(library, words, given.encode(), draw).status] += 1
+            seen[family.compare(library, words, given.encode(), draw).status] += 1
         except (Differs, subprocess.TimeoutExpired) as why:
-            failed.append(f"question {seed}: {why}\n    {words} {given!r}")
+            failed.append(f"{family.name} question {seed}: {why}\n    {words} {given!r}")
     return seen, failed
 
 
-def random_questions(path, count):
-    step = 250
+def ask_family(family, path, count):
+    """Asks so many random questions, side by side. Gives what differs."""
+    step = 50
     seen, failed = collections.Counter(), []
     with ProcessPoolExecutor(os.cpu_count()) as pool:
-        parts = [(path, first, min(step, count - first)) for first in range(0, count, step)]
+        parts = [(family, path, first, min(step, count - first)) for first in range(0, count, step)]
         for some, differ in pool.map(ask_some, *zip(*parts)):
             seen += some
             failed += differ
-    print("embed: the random questions end with " + ", ".join(f"status {it}: {seen[it]}" for it in sorted(seen)))
-    lacking = [status for status in (DONE, FAULT, NO_ROOM, NO_WORDS) if count >= 1000 and not seen[status]]
-    return failed[:20] + [f"no random question ends with status {status}" for status in lacking]
+    ends = ", ".join(f"status {it}: {seen[it]}" for it in sorted(seen))
+    print(f"embed: the {family.name} questions end with {ends}")
+    lacking = [status for status in family.statuses if count >= family.many and not seen[status]]
+    return failed[:20] + [f"no {family.name} question ends with status {status}" for status in lacking]
+
+
+RUNS = Family("random", Library, None, 15, compare, (DONE, FAULT, NO_ROOM, NO_WORDS), 1000)

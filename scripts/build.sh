@@ -230,7 +230,7 @@ question=(path --rows XXXXXX____ --clear-line 1 --patterns I)
 
 build() {
     look_around
-    local sum signal minutes=$((60 / jobs > 15 ? 60 / jobs : 15))
+    local sum signal minutes=$((64 / jobs > 17 ? 64 / jobs : 17))
     start=$SECONDS
     say "$1: proving and building it, $jobs at a time"
     say "from nothing this takes about $minutes minutes; when it is stopped, the next ./pc goes on from there"

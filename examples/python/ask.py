@@ -1,5 +1,5 @@
 #!/usr/bin/env python3
-"""Asks the library five questions and for a list in pages, and prints each answer.
+"""Asks the library five questions and for a list as numbers, and prints each answer.
 
     examples/python/ask.py [LIBRARY]
 
@@ -42,8 +42,8 @@ def main(words):
     except InputFault as fault:
         print(f"{fault.name} at {fault.values[0]}")
 
-    for solution in finder.solutions(*LONG_LIST[1:], page=100):
-        print(solution)
+    for solution in finder.solutions(*LONG_LIST[1:], room=1000):
+        print(*solution)
 
 
 if __name__ == "__main__":

@@ -1,6 +1,6 @@
 -- Places that leave no tiling have nothing to do, so they may be left out.
 use Rattle.std.proofs.Common.{◌≡◌, ℕ, ◌+◌, ◌-◌, ◌≤◌, Bool, true, false, not, ◌&&◌, List, [], ◌∷◌, ◌++◌, refl, sym, ap, ◌∙◌, inl, inr, arith}
-use Rattle.std.specs.Prelude.{Some, None, filter, if◌then◌else◌, min}
+use Rattle.std.specs.Prelude.{Some, filter, if◌then◌else◌, min}
 use Rattle.std.specs.List.{flat_map}
 use Rattle.std.proofs.lemmas.Bool.{cases_Bool}
 use Rattle.srs.specs.declared.piece.Piece.{Piece}
@@ -13,17 +13,15 @@ use Rattle.lists.specs.Rising.{is_above}
 use Rattle.lists.proofs.CallerLemmas.{filter-false, filter-true}
 use Rattle.lane_board.specs.Words.{cells_of_words}
 use Rattle.well.specs.Well.{filled}
-use Rattle.well.specs.LockLaws.{is_below}
 use Rattle.moves.specs.declared.key.DropMode.{DropMode}
 use Rattle.reach.specs.declared.held.Places.{Places}
 use Rattle.reach.specs.Places.{holds, piece_of}
-use Rattle.prune.specs.Tiling.{Supply, supply_in}
+use Rattle.prune.specs.Tiling.{supply_in}
 use Rattle.prune.specs.OnePart.{less_one}
 use Rattle.packing.specs.Empties.{all_but, empty_cells, without_placement}
 use Rattle.packing.specs.HasTiling.{has_tiling}
 use Rattle.packing.proofs.CallerLemmas.{tiling_decided}
 use Rattle.enumerate.specs.declared.frame.Frame.{Frame}
-use Rattle.enumerate.specs.Position.{after_of}
 use Rattle.enumerate.specs.Events.{Event, entered, enter}
 use Rattle.enumerate.specs.Frames.{position_of, places_left}
 use Rattle.enumerate.proofs.Choices.{if_false, if_true}

@@ -96,7 +96,7 @@ module _ (left : ℕ) (prefix : List Placement) (n : Position) (q : Placement) (
       )
 
   floods-kind : (b : Bool) → floods (if b then Flood ∷ ((if is_place n.table n.field n.mode q && is_below n.rows q then sought left (prefix ++ q ∷ []) (after_of n q) given else []) ++ flat_map (entered (enter left) prefix n) later) else [])
-      ≤ floods (if b then Flood ∷ flat_map (entered (enter left) prefix n) (places_at n q.piece) else Tick ∷ [])
+      ≤ floods (if b then Flood ∷ flat_map (entered (enter left) prefix n) (places_at n q.piece) else [])
   unfolding floods
   floods-kind true =
       let first : List Event = if is_place n.table n.field n.mode q && is_below n.rows q then sought left (prefix ++ q ∷ []) (after_of n q) given else [] in

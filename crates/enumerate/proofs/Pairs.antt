@@ -127,7 +127,7 @@ kind-floods : (left : ℕ) (root : Position) (prefix : List Placement) (n : Posi
 unfolding tried floods may_play places_at
 kind-floods left root prefix n at alive below c = elim (cases_Bool (may_play n.line c)) [
   | inl e ↦
-      ap floods (if_true (may_play n.line c) (Flood ∷ flat_map (entered (enter left) prefix n) (places_at n c)) (Tick ∷ []) e)
+      ap floods (if_true (may_play n.line c) (Flood ∷ flat_map (entered (enter left) prefix n) (places_at n c)) [] e)
       ∙ ap (λ k. k + 1) (floods-flat_map (entered (enter left) prefix n) (places_at n c)
       ∙ sum_by-filtered (is_place n.table n.field n.mode) (λ q. floods (entered (enter left) prefix n q)) (λ q. work_from left root (prefix ++ q ∷ [])) (placements_of c)
       (λ q among placed. place-floods left root prefix n at alive below q (subst (λ p. may_play n.line p ≡ true) (sym (((placements_of-list c).members q).0 among).kind) e) placed)
@@ -135,7 +135,7 @@ kind-floods left root prefix n at alive below c = elim (cases_Bool (may_play n.l
       ∙ one_more (sum_by (λ q. work_from left root (prefix ++ q ∷ [])) (placements_of c))
       ∙ sym (if_true (queues_permit root.line (pieces_of prefix ++ c ∷ [])) _ 0 (at.permits (c ∷ []) ∙ e))
   | inr e ↦
-      ap floods (if_false (may_play n.line c) (Flood ∷ flat_map (entered (enter left) prefix n) (places_at n c)) (Tick ∷ []) e)
+      ap floods (if_false (may_play n.line c) (Flood ∷ flat_map (entered (enter left) prefix n) (places_at n c)) [] e)
       ∙ sym (if_false (queues_permit root.line (pieces_of prefix ++ c ∷ [])) _ 0 (at.permits (c ∷ []) ∙ e))
 ]
   where
@@ -184,7 +184,7 @@ root-dead root none dead c = elim (cases_Bool (queues_permit root.line (root.lin
 
 none_tried : (left : ℕ) (root : Position) (c : Piece) → may_play root.line c ≡ false → floods (tried (enter left) [] root c) ≡ 0
 unfolding tried floods
-none_tried left root c e = ap floods (if_false (may_play root.line c) _ (Tick ∷ []) e)
+none_tried left root c e = ap floods (if_false (may_play root.line c) _ [] e)
 
 pub floods-begun : (left : ℕ) (root : Position) → root.line.played ≡ [] → floods (begun left root) ≡ work_from left root []
 unfolding begun enter floods is_live

@@ -110,12 +110,12 @@ module _ (table : Table) (mode : DropMode) (old new : Frame) (same : SamePositio
   rest-same prefix = λ i. tried_in_turn (enter (same.left i)) prefix (same-position table mode old new same i) (drop (tried i) all_pieces)
 
   -- a kind that may not be played
-  pub passes-kind : may_play (queues_in_play old.queues) q.piece ≡ false → places_left new.places new.entered ≡ [] → (prefix given : List Placement) →
+  pub passes-kind : may_play (queues_in_play old.line.queues) q.piece ≡ false → places_left new.places new.entered ≡ [] → (prefix given : List Placement) →
       sought (suc old.left) prefix here (q ∷ given) ≡ events_of table mode prefix new
   unfolding sought events_of position_of
   passes-kind not_played none prefix given =
       if_true (is_live old.left here) _ [] live
-      ∙ ap (λ l. l ++ rest prefix) (if_false (may_play (queues_in_play old.queues) q.piece) _ [] not_played)
+      ∙ ap (λ l. l ++ rest prefix) (if_false (may_play (queues_in_play old.line.queues) q.piece) _ [] not_played)
       ∙ sym (rest-same prefix)
       ∙ ap (λ l. flat_map (entered (enter new.left) prefix (position_of table mode new)) l ++ tried_in_turn (enter new.left) prefix (position_of table mode new) (drop new.tried all_pieces)) (sym none)
 
@@ -123,12 +123,12 @@ module _ (table : Table) (mode : DropMode) (old new : Frame) (same : SamePositio
   abbrev first : List Placement → List Placement → List Event
   first prefix given = if is_place table here.field mode q && is_below old.rows q then sought old.left (prefix ++ q ∷ []) (after_of here q) given else []
 
-  module _ (played : may_play (queues_in_play old.queues) q.piece ≡ true) (left : places_left new.places new.entered ≡ filter (is_above placement_cmp (Some q)) (filter (is_below old.rows) (places_at here q.piece))) where
+  module _ (played : may_play (queues_in_play old.line.queues) q.piece ≡ true) (left : places_left new.places new.entered ≡ filter (is_above placement_cmp (Some q)) (filter (is_below old.rows) (places_at here q.piece))) where
     pub floods-kind : (prefix given : List Placement) → sought (suc old.left) prefix here (q ∷ given) ≡ Flood ∷ (first prefix given ++ events_of table mode prefix new)
     unfolding sought events_of position_of
     floods-kind prefix given =
         if_true (is_live old.left here) _ [] live
-        ∙ ap (λ l. l ++ rest prefix) (if_true (may_play (queues_in_play old.queues) q.piece) _ [] played)
+        ∙ ap (λ l. l ++ rest prefix) (if_true (may_play (queues_in_play old.line.queues) q.piece) _ [] played)
         ∙ ap (λ l. Flood ∷ l)
         (append_assoc (first prefix given) (flat_map (entered (enter old.left) prefix here) (filter (is_above placement_cmp (Some q)) (places_at here q.piece))) (rest prefix)
         ∙ ap (λ l. first prefix given ++ (l ++ rest prefix))

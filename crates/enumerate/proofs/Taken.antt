@@ -111,7 +111,7 @@ pub upcoming-taken : (frame : Frame) (places new : Places) → frame.places ≡ 
     (λ q. (places_left (Some places) frame.entered ≡ q ∷ places_left (Some new) (Some q)) × IsTrue (holds places q))
     → MatchOption r ((places_left frame.places frame.entered ≡ []) × (places_left (Some new) frame.entered ≡ []))
     (λ q. (places_left frame.places frame.entered ≡ q ∷ places_left (Some new) (Some q)) × ForSome (Some new) (λ p. q.piece ≡ piece_of p)
-    × IsTrue (may_lock (filled frame.well) q.piece q) × IsTrue (is_below frame.rows q) × IsTrue (may_play (queues_in_play frame.queues) q.piece))
+    × IsTrue (may_lock (filled frame.well) q.piece q) × IsTrue (is_below frame.rows q) × IsTrue (may_play (queues_in_play frame.line.queues) q.piece))
 upcoming-taken frame places new is kind None next = (ap (λ p. places_left p frame.entered) is ∙ next.0, next.1)
 upcoming-taken frame places new is kind (Some q) next =
     let lock = frame.lockable places is q next.1 in
@@ -120,5 +120,5 @@ upcoming-taken frame places new is kind (Some q) next =
       λ p e. same ∙ sym kind ∙ ap piece_of (some_same e),
       subst (λ p. may_lock (filled frame.well) p q ≡ true) (sym same) lock,
       frame.held_below places is q next.1,
-      subst (λ p. may_play (queues_in_play frame.queues) p ≡ true) (sym same) (frame.permitted places is),
+      subst (λ p. may_play (queues_in_play frame.line.queues) p ≡ true) (sym same) (frame.permitted places is),
     )

@@ -125,7 +125,7 @@ pub live-after : (table : Table) (mode : DropMode) (frame : Frame) (q : Placemen
     (left : ℕ) → left + 1 ≡ frame.left → is_live left (after_of (position_of table mode frame) q) ≡ has_tiling (locked (filled frame.well) q) (frame.rows - rows_removed (filled frame.well) q) supply
 unfolding is_live can_be_tiled after_of position_of
 live-after table mode frame q supply moves left less =
-    let line = queues_in_play frame.queues in
+    let line = queues_in_play frame.line.queues in
     let next : suc left ≡ frame.left = omega arith in
     ap (has_tiling (locked (filled frame.well) q) (frame.rows - rows_removed (filled frame.well) q))
     (ap (supply_of (record line { played = line.played ++ q.piece ∷ [] })) next ∙ sym (supply-moves line q.piece frame.left (supply_in frame.supply) supply frame.supplied moves))

@@ -31,7 +31,7 @@ use Rattle.enumerate.specs.Events.{Event, Tick, Flood, Found, Walk, entered, tri
 use Rattle.enumerate.specs.Frames.{position_of, places_left, entered_placement, events_of}
 use Rattle.enumerate.specs.declared.turn.Turn.{Turn}
 use Rattle.enumerate.specs.declared.turn.Turn.TheVariants.{Passed, Flooded, Entered, Full, Over}
-use Rattle.enumerate.specs.Turns.{Enters, EntersAs, GoesAs, IsChild, SamePosition, Turns}
+use Rattle.enumerate.specs.Turns.{Enters, EntersAs, GoesAs, IsChild, LeadsOn, SamePlaces, SamePosition, Turns}
 use Rattle.enumerate.proofs.PlaceLaws.{place-lockable}
 use Rattle.enumerate.proofs.Choices.{if_false, if_true}
 
@@ -124,7 +124,7 @@ module _ (frame : Frame) (q : Placement) (below : is_below frame.rows q ≡ true
 
   -- the frame after a placement stands for the position there
   module _ (child : Frame) (field : filled child.well ≡ locked (filled frame.well) q) (rows : child.rows ≡ frame.rows - rows_removed (filled frame.well) q)
-      (line : queues_in_play child.queues ≡ record (queues_in_play frame.queues) { played = (queues_in_play frame.queues).played ++ q.piece ∷ [] }) where
+      (line : queues_in_play child.line.queues ≡ record (queues_in_play frame.line.queues) { played = (queues_in_play frame.line.queues).played ++ q.piece ∷ [] }) where
     child-position : (table : Table) (mode : DropMode) → position_of table mode child ≡ after_of (position_of table mode frame) q
     unfolding position_of after_of
     child-position table mode = λ i. record { table = table; mode = mode; field = field i; rows = rows i; line = line i }
@@ -217,6 +217,24 @@ pub same-position : (table : Table) (mode : DropMode) (old new : Frame) → Same
 unfolding position_of
 same-position table mode old new same = λ i. record { table = table; mode = mode; field = filled (same.well i); rows = same.rows i; line = queues_in_play (same.queues i) }
 
+-- two frames at one position, with the same places left
+module _ (table : Table) (mode : DropMode) (old new : Frame) (same : SamePosition old new) (places : SamePlaces old new) (prefix : List Placement) where
+  pub stays : events_of table mode prefix new ≡ events_of table mode prefix old
+  unfolding events_of
+  stays = λ i.
+      flat_map (entered (enter (same.left i)) prefix (same-position table mode old new same i)) (places_left (places.places i) (places.entered i))
+      ++ tried_in_turn (enter (same.left i)) prefix (same-position table mode old new same i) (drop (places.tried i) all_pieces)
+
+pub goes-stays : (table : Table) (mode : DropMode) (old new : Frame) (same : SamePosition old new) (places : SamePlaces old new) (q : Placement) (prefix : List Placement) →
+    entered (enter old.left) prefix (position_of table mode old) q ++ events_of table mode prefix old
+    ≡ entered (enter new.left) prefix (position_of table mode new) q ++ events_of table mode prefix new
+goes-stays table mode old new same places q prefix =
+    sym (λ i. entered (enter (same.left i)) prefix (same-position table mode old new same i) q ++ stays table mode old new same places prefix i)
+
+pub leads-stays : (old new : Frame) (same : SamePosition old new) (q : Placement) → LeadsOn old q → LeadsOn new q
+leads-stays old new same q leads = λ table mode left less.
+    subst (λ n. is_live left (after_of n q) ≡ true) (sym (same-position table mode old new same)) (leads table mode left (less ∙ same.left))
+
 module _ (table : Table) (mode : DropMode) (old new : Frame) (same : SamePosition old new) (c : Piece)
     (none : places_left old.places old.entered ≡ []) (next : drop old.tried all_pieces ≡ c ∷ drop new.tried all_pieces) where
   begins : (prefix : List Placement) → events_of table mode prefix old
@@ -229,22 +247,20 @@ module _ (table : Table) (mode : DropMode) (old new : Frame) (same : SamePositio
   rest-same : (prefix : List Placement) → tried_in_turn (enter new.left) prefix (position_of table mode new) (drop new.tried all_pieces) ≡ tried_in_turn (enter old.left) prefix (position_of table mode old) (drop new.tried all_pieces)
   rest-same prefix = λ i. tried_in_turn (enter (same.left i)) prefix (same-position table mode old new same i) (drop new.tried all_pieces)
 
-  pub goes-past_kind : may_play (queues_in_play old.queues) c ≡ false → places_left new.places new.entered ≡ [] → GoesAs table mode old (λ prefix. Tick ∷ events_of table mode prefix new)
+  pub goes-past_kind : may_play (queues_in_play old.line.queues) c ≡ false → places_left new.places new.entered ≡ [] → (prefix : List Placement) → events_of table mode prefix old ≡ events_of table mode prefix new
   unfolding tried position_of
-  goes-past_kind not_played none_new = record {
-    same = λ prefix.
-        begins prefix
-        ∙ ap (λ l. l ++ tried_in_turn (enter old.left) prefix (position_of table mode old) (drop new.tried all_pieces)) (if_false (may_play (queues_in_play old.queues) c) _ (Tick ∷ []) not_played)
-        ∙ ap (λ l. Tick ∷ l) (sym (events-shape table mode new prefix none_new ∙ rest-same prefix));
-  }
+  goes-past_kind not_played none_new prefix =
+      begins prefix
+      ∙ ap (λ l. l ++ tried_in_turn (enter old.left) prefix (position_of table mode old) (drop new.tried all_pieces)) (if_false (may_play (queues_in_play old.line.queues) c) _ [] not_played)
+      ∙ sym (events-shape table mode new prefix none_new ∙ rest-same prefix)
 
-  pub goes-flooded : may_play (queues_in_play old.queues) c ≡ true → places_left new.places new.entered ≡ filter (is_below old.rows) (places_at (position_of table mode old) c) → GoesAs table mode old (λ prefix. Flood ∷ events_of table mode prefix new)
+  pub goes-flooded : may_play (queues_in_play old.line.queues) c ≡ true → places_left new.places new.entered ≡ filter (is_below old.rows) (places_at (position_of table mode old) c) → GoesAs table mode old (λ prefix. Flood ∷ events_of table mode prefix new)
   unfolding tried position_of events_of
   goes-flooded played places = record {
     same = λ prefix.
         begins prefix
         ∙ ap (λ l. l ++ tried_in_turn (enter old.left) prefix (position_of table mode old) (drop new.tried all_pieces))
-        (if_true (may_play (queues_in_play old.queues) c) (Flood ∷ flat_map (entered (enter old.left) prefix (position_of table mode old)) (places_at (position_of table mode old) c)) (Tick ∷ []) played)
+        (if_true (may_play (queues_in_play old.line.queues) c) (Flood ∷ flat_map (entered (enter old.left) prefix (position_of table mode old)) (places_at (position_of table mode old) c)) [] played)
         ∙ ap (λ l. Flood ∷ (l ++ tried_in_turn (enter old.left) prefix (position_of table mode old) (drop new.tried all_pieces)))
         (sym (entered-below (enter old.left) prefix (position_of table mode old) (places_at (position_of table mode old) c)))
         ∙ ap (λ l. Flood ∷ l)
@@ -337,5 +353,5 @@ turns-as table mode old mid new child Entered before now left goes turns = (reco
 turns-as table mode old mid new child Full before now left goes turns = (record { same = λ prefix. goes prefix ∙ turns.0.same prefix }, turns.1)
 turns-as table mode old mid new child Over before now left goes turns = (record { same = λ prefix. goes prefix ∙ turns.0.same prefix }, turns.1)
 
-pub record-same : (a b c : Frame) → b.well ≡ a.well → b.rows ≡ a.rows → b.queues ≡ a.queues → b.left ≡ a.left → SamePosition b c → SamePosition a c
+pub record-same : (a b c : Frame) → b.well ≡ a.well → b.rows ≡ a.rows → b.line.queues ≡ a.line.queues → b.left ≡ a.left → SamePosition b c → SamePosition a c
 record-same a b c well rows queues left same = record { well = same.well ∙ well; rows = same.rows ∙ rows; queues = same.queues ∙ queues; left = same.left ∙ left }

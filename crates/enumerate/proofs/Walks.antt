@@ -79,7 +79,7 @@ module _ (walk : Walk) (S : Sequences) (finds : Finds walk S) (prefix : List Pla
   unfolding tried of_kind found prefixed
   found-tried piece = at (may_play n.line piece)
     where
-      at : (b : Bool) → found (if b then Flood ∷ flat_map (entered walk prefix n) (places_at n piece) else Tick ∷ []) ≡ prefixed prefix (if b then flat_map (of_place S n) (places_at n piece) else [])
+      at : (b : Bool) → found (if b then Flood ∷ flat_map (entered walk prefix n) (places_at n piece) else []) ≡ prefixed prefix (if b then flat_map (of_place S n) (places_at n piece) else [])
       at true = found-places (places_at n piece)
       at false = refl
 

@@ -37,10 +37,10 @@ Walk = List Placement → Position → List Event
 unfoldable pub entered : Walk → List Placement → Position → Placement → List Event
 entered walk prefix n q = if is_below n.rows q then walk (prefix ++ q ∷ []) (after_of n q) else []
 
--- a kind that may be played is flooded, and each of its places entered
+-- a kind that may be played is flooded, and each of its places entered; at another kind nothing is done
 unfoldable pub tried : Walk → List Placement → Position → Piece → List Event
 tried walk prefix n piece =
-    if may_play n.line piece then Flood ∷ flat_map (entered walk prefix n) (places_at n piece) else Tick ∷ []
+    if may_play n.line piece then Flood ∷ flat_map (entered walk prefix n) (places_at n piece) else []
 
 -- these kinds are tried, one after the other
 unfoldable pub tried_in_turn : Walk → List Placement → Position → List Piece → List Event

@@ -23,7 +23,7 @@ position_of table mode frame = record {
   mode = mode;
   field = filled frame.well;
   rows = frame.rows;
-  line = queues_in_play frame.queues;
+  line = queues_in_play frame.line.queues;
 }
 
 -- the held placements above the one that was entered last

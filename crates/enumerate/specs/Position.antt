@@ -23,6 +23,10 @@ pub record Position : Type 0 where
   pub rows : ℕ
   pub line : QueuesInPlay
 
+-- the queues after one more piece
+abbrev pub line_after : QueuesInPlay → Piece → QueuesInPlay
+line_after line piece = record line { played = line.played ++ piece ∷ [] }
+
 -- the position after one more placement
 unfoldable pub after_of : Position → Placement → Position
 after_of n q = record {
@@ -30,7 +34,7 @@ after_of n q = record {
   mode = n.mode;
   field = locked n.field q;
   rows = n.rows - rows_removed n.field q;
-  line = record n.line { played = n.line.played ++ q.piece ∷ [] };
+  line = line_after n.line q.piece;
 }
 
 -- some queue permits the played pieces and then this one

@@ -15,8 +15,14 @@ use Rattle.enumerate.specs.Frames.{position_of, entered_placement, events_of}
 pub record SamePosition (old new : Frame) : Type 0 where
   pub well : new.well ≡ old.well
   pub rows : new.rows ≡ old.rows
-  pub queues : new.queues ≡ old.queues
+  pub queues : new.line.queues ≡ old.line.queues
   pub left : new.left ≡ old.left
+
+-- the same kinds were tried at the two frames, with the same places left
+pub record SamePlaces (old new : Frame) : Type 0 where
+  pub tried : new.tried ≡ old.tried
+  pub places : new.places ≡ old.places
+  pub entered : new.entered ≡ old.entered
 
 -- what there is to do at a placement, whatever the rules, and after any prefix
 pub record EntersAs (frame : Frame) (q : Placement)

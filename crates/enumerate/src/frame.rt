@@ -1,9 +1,8 @@
 // One level of the search: a position, and which of its next placements are still to be searched.
-ghost use Rattle.std.specs.Prelude.{◌≡◌, ℕ, ◌+◌, ◌≤◌, IsTrue, map};
+ghost use Rattle.std.specs.Prelude.{◌≡◌, ℕ, ◌+◌, ◌≤◌, IsTrue};
 ghost use Rattle.std.specs.Option.{ForSome};
 ghost use Rattle.lane_board.specs.Field.{difference, rows_below};
 ghost use Rattle.srs.specs.declared.placement.Placement.{Placement};
-ghost use Rattle.srs.specs.Piece.{all_pieces};
 ghost use Rattle.well.specs.Well.{filled};
 ghost use Rattle.well.specs.LockLaws.{LiesBelow, is_below};
 ghost use Rattle.reach.specs.Places.{holds, piece_of};
@@ -13,11 +12,13 @@ ghost use Rattle.prune.specs.Tiling.{supply_in};
 ghost use Rattle.packing.specs.Empties.{empty_cells};
 ghost use Rattle.enumerate.specs.Position.{may_play};
 ghost use Rattle.enumerate.specs.Standing.{may_lock};
+ghost use Rattle.enumerate.specs.AfterKind.{IsAfterKind};
 
-use hold_queue::QueueSet;
+use crate::after_kind::AfterKind;
+use crate::line::Line;
 use packing::Empties;
 use reach::Places;
-use srs::{Piece, Placement};
+use srs::Placement;
 use well::Well;
 
 /// A position, how many kinds were tried there, and the places of the last of them with the one that was entered last.
@@ -28,13 +29,13 @@ pub struct Frame {
     pub rows: u8,
     /// The empty cells of the rows that are left.
     pub empties: Empties,
-    pub queues: QueueSet,
-    /// Whether each kind may come next, in the order of codes.
-    pub may_come: [bool; 7],
+    pub line: Line,
     /// How many pieces of each kind may still be played, in the order of codes.
     pub supply: [u8; 7],
     /// How many placements come after the next one.
     pub left: u8,
+    /// What may still be played after a piece of the kind that was flooded last, if it is known.
+    pub after_kind: Option<AfterKind>,
     /// How many kinds were tried.
     pub tried: u8,
     pub places: Option<Places>,
@@ -43,20 +44,11 @@ pub struct Frame {
     ghost few: { left ≤ 19 },
     ghost bounded: { LiesBelow (filled well) rows },
     ghost emptied: { empty_cells empties ≡ difference (rows_below rows) (filled well) },
-    ghost coming: { may_come ≡ map (may_play (queues_in_play queues)) all_pieces },
-    ghost supplied: { supply_in supply ≡ supply_of (queues_in_play queues) (left + 1) },
+    ghost supplied: { supply_in supply ≡ supply_of (queues_in_play line.queues) (left + 1) },
+    ghost followed: { ForSome after_kind (IsAfterKind (queues_in_play line.queues) supply left) },
     ghost lockable: { ForSome places (λ p. (q : Placement) → IsTrue (holds p q) →
         IsTrue (may_lock (filled well) (piece_of p) q)) },
     ghost held_below: { ForSome places (λ p. (q : Placement) → IsTrue (holds p q) → IsTrue (is_below rows q)) },
-    ghost permitted: { ForSome places (λ p. IsTrue (may_play (queues_in_play queues) (piece_of p))) },
+    ghost permitted: { ForSome places (λ p. IsTrue (may_play (queues_in_play line.queues) (piece_of p))) },
     ghost same_piece: { ForSome places (λ p. ForSome entered (λ q. q.piece ≡ piece_of p)) },
-}
-
-impl Frame {
-    /// Whether a kind may come next.
-    pub fn may_come(&self, piece: Piece) -> bool
-        ensures { result ≡ may_play (queues_in_play self.now.queues) piece }
-    {
-        self.may_come[piece.code() as usize - 1]
-    }
 }

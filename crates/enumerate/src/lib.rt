@@ -2,9 +2,12 @@
 #![tactic(auto)]
 
 mod advance;
+mod after_kind;
+mod following;
 mod frame;
 pub mod laws;
 mod left;
+mod line;
 mod notes;
 mod search;
 mod seek;

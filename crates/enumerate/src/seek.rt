@@ -68,7 +68,7 @@ impl Frame {
         self.tried = target.piece.code();
         self.places = None;
         self.entered = None;
-        if !self.queues.may_play(target.piece) {
+        if !self.line.queues.may_play(target.piece) {
             return false;
         }
         self.flood(target.piece, rules, drop_mode, &mut notes.floods, steps);

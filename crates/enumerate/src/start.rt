@@ -27,6 +27,7 @@ ghost use Rattle.enumerate.specs.ViewOf.{view_of, solutions, work, after_given, 
 
 use crate::advance::{advance, path};
 use crate::frame::Frame;
+use crate::line::Line;
 use crate::notes::Notes;
 use crate::search::Search;
 use crate::seek::seek;
@@ -78,10 +79,10 @@ fn first_frame(problem: &Problem, queue: &Option<Queue>) -> Frame
         well: problem.well,
         rows: problem.height,
         empties: Empties::below(&problem.well, problem.height),
-        queues,
-        may_come: queues.permitted(),
+        line: Line::of(queues),
         supply: queues.supply(left + 1),
         left,
+        after_kind: None,
         tried: 0,
         places: None,
         entered: None,

@@ -101,6 +101,7 @@ impl Tilings {
         self.left
             .leaves_tiling(cells, placement, supply, &mut self.decided)
     }
+
     /// The placements of a piece that are known to leave no tiling of a set of cells by the supply, by their pivots in
     /// rows 0 to 7: two words for each rotation, four rows in each word, and sixteen bits for each row.
     #[inline(always)]

@@ -27,7 +27,6 @@ ghost use Rattle.enumerate.specs.declared.frame.Frame.{Frame};
 use crate::frame::Frame;
 use crate::left::take_above;
 use crate::notes::Notes;
-use crate::supply::supply_after;
 use crate::tilings::Tilings;
 use moves::DropMode;
 use packing::Empties;
@@ -98,7 +97,7 @@ impl Frame {
             × ForSome self.new.places (λ p. q.piece ≡ piece_of p)
             × IsTrue (may_lock (filled self.old.well) q.piece q)
             × IsTrue (is_below self.old.rows q)
-            × IsTrue (may_play (queues_in_play self.old.queues) q.piece)) }
+            × IsTrue (may_play (queues_in_play self.old.line.queues) q.piece)) }
         ensures same { SamePosition self.old self.new }
         ensures tried { self.new.tried ≡ self.old.tried }
         ensures entered { self.new.entered ≡ self.old.entered }
@@ -149,7 +148,7 @@ impl Frame {
         if self.left == 0 {
             return true;
         }
-        let supply = supply_after(&self.supply, placement.piece, self.left);
+        let supply = self.supply_after(placement.piece);
         self.leaves_tiling(placement, &supply, tilings)
     }
 
@@ -157,20 +156,20 @@ impl Frame {
     fn lead_to(&self, placement: &Placement, child: &mut Frame)
         requires lockable { IsTrue (may_lock (filled self.now.well) placement.now.piece placement.now) }
         requires below { IsTrue (is_below self.now.rows placement.now) }
-        requires permitted { IsTrue (may_play (queues_in_play self.now.queues) placement.now.piece) }
+        requires permitted { IsTrue (may_play (queues_in_play self.now.line.queues) placement.now.piece) }
         requires some { 1 ≤ self.now.left }
         requires live { LeadsOn self.now placement.now }
         ensures { Enters self.now placement.now child.new Turn.Entered }
     {
         let (well, removed) = self.well.lock(placement);
         let rows = self.rows.saturating_sub(removed);
-        let queues = self.queues.after(placement.piece);
+        let supply = self.supply_after(placement.piece);
         child.well = well;
         child.rows = rows;
         child.empties = self.empties_after(placement, &well, rows, removed);
-        child.queues = queues;
-        child.may_come = queues.permitted();
-        child.supply = supply_after(&self.supply, placement.piece, self.left);
+        child.line = self.line_after(placement.piece);
+        child.supply = supply;
+        child.after_kind = None;
         child.left = self.left - 1;
         child.tried = 0;
         child.places = None;
@@ -181,7 +180,7 @@ impl Frame {
     pub fn enter(&self, placement: &Placement, behind: &mut [Frame]) -> Turn
         requires lockable { IsTrue (may_lock (filled self.now.well) placement.now.piece placement.now) }
         requires below { IsTrue (is_below self.now.rows placement.now) }
-        requires permitted { IsTrue (may_play (queues_in_play self.now.queues) placement.now.piece) }
+        requires permitted { IsTrue (may_play (queues_in_play self.now.line.queues) placement.now.piece) }
         requires live { LeadsOn self.now placement.now }
         requires room { self.now.left ≤ length behind.old }
         ensures enters { Enters self.now placement.now (slice_index_or behind.new 0 self.now) result }
@@ -200,7 +199,7 @@ impl Frame {
             (λ q. (self.new.entered ≡ Some q)
             × IsTrue (may_lock (filled self.new.well) q.piece q)
             × IsTrue (is_below self.new.rows q)
-            × IsTrue (may_play (queues_in_play self.new.queues) q.piece)
+            × IsTrue (may_play (queues_in_play self.new.line.queues) q.piece)
             × LeadsOn self.new q) }
         ensures goes { GoesOn self.old self.new result }
         ensures same { SamePosition self.old self.new }
@@ -224,7 +223,7 @@ impl Frame {
         floods: &mut u64,
         steps: &mut Steps<L>,
     )
-        requires { IsTrue (may_play (queues_in_play self.old.queues) piece) }
+        requires { IsTrue (may_play (queues_in_play self.old.line.queues) piece) }
         ensures places { places_left self.new.places self.new.entered ≡ filter (is_below self.old.rows)
             (places_at (position_of (flood_table rules.now) drop_mode self.old) piece) }
         ensures piece { ForSome self.new.places (λ p. piece_of p ≡ piece) }
@@ -251,14 +250,34 @@ impl Frame {
         if self.left == 0 || MANY <= self.left {
             return;
         }
-        let supply = supply_after(&self.supply, piece, self.left);
+        let supply = self.supply_after(piece);
         let dead = tilings.dead_pivots(&self.empties, &supply, piece);
         if let Some(places) = &mut self.places {
             places.leave_out(&dead);
         }
     }
 
-    /// Tries the next kind.
+    /// Passes by the kinds that may not come next, and returns the next one that may. `None` exactly if there is none.
+    fn next_kind(&mut self) -> Option<Piece>
+        requires { places_left self.old.places self.old.entered ≡ [] }
+        ensures next { MatchOption result (drop self.new.tried all_pieces ≡ [])
+            (λ piece. (drop self.new.tried all_pieces ≡ piece ∷ drop (self.new.tried + 1) all_pieces)
+            × IsTrue (may_play (queues_in_play self.new.line.queues) piece)) }
+        ensures goes { (table : Table) (mode : DropMode) (prefix : List Placement) →
+            events_of table mode prefix self.old ≡ events_of table mode prefix self.new }
+        ensures none { places_left self.new.places self.new.entered ≡ [] }
+        ensures same { SamePosition self.old self.new }
+    {
+        while let Some(piece) = kind_at(self.tried) {
+            if self.line.may_come(piece) {
+                return Some(piece);
+            }
+            self.tried += 1;
+        }
+        None
+    }
+
+    /// Tries the next kind that may come.
     fn try_kind<L: Ledger>(
         &mut self,
         rules: &FloodRules,
@@ -272,15 +291,13 @@ impl Frame {
         ensures same { SamePosition self.old self.new }
         ensures noted { CountsUp notes.old.floods notes.new.floods steps.old steps.new }
     {
-        let piece = match kind_at(self.tried) {
+        let piece = match self.next_kind() {
             None => return Turn::Over,
             Some(piece) => piece,
         };
         self.tried += 1;
-        if !self.may_come(piece) {
-            return Turn::Passed;
-        }
         self.flood(piece, rules, drop_mode, &mut notes.floods, steps);
+        self.keep_supply(piece);
         self.leave_out_dead(piece, &notes.tilings);
         Turn::Flooded
     }
@@ -303,7 +320,10 @@ impl Frame {
     {
         match self.take_worth(&mut notes.tilings) {
             None => self.try_kind(rules, drop_mode, notes, steps),
-            Some(placement) => self.enter(&placement, behind),
+            Some(placement) => {
+                self.keep_line(placement.piece);
+                self.enter(&placement, behind)
+            }
         }
     }
 }

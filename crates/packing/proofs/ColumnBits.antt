@@ -1,12 +1,15 @@
 -- A column has as many cells as its byte has ones; and a wall stands behind it where no row has a cell there and in the next one.
-use Rattle.std.proofs.Common.{◌≡◌, ℕ, zero, suc, ◌+◌, ◌/◌, ◌%◌, ◌^◌, ◌<◌, ◌-◌, true, not, cond, ◌&&◌, ◌==◌, count_ones, w8, ◌↔◌, refl, sym, ap, ◌∙◌, inl, inr, arith}
+use Rattle.std.proofs.Common.{◌≡◌, ℕ, zero, suc, ◌+◌, ◌*◌, ◌++◌, ◌∷◌, [], ◌/◌, ◌%◌, ◌^◌, ◌<◌, ◌-◌, true, not, cond, ◌&&◌, ◌==◌, count_ones, w8, ◌↔◌, refl, sym, ap, ◌∙◌, inl, inr, arith}
 use Rattle.std.specs.Int.Count.{ones}
+use Rattle.std.specs.Prelude.{sum_by}
+use Rattle.std.specs.List.{range_with_len}
 use Rattle.std.proofs.lemmas.Nat.{mod_below, ones_cat, pow_pos, shr_below, shr_split}
 use Rattle.lane_board.specs.Field.{Field}
 use Rattle.lane_board.specs.Lanes.{has_bit}
 use Rattle.std.proofs.lemmas.Bool.{and_parts, both_ways, cases_eq, eq-eqb, eqb-true, not-false}
 use Rattle.std.proofs.lemmas.Nat.Bits.{bit_at-trailing_zeros}
-use Rattle.lane_board.proofs.CallerLemmas.{has_bit-low, has_bit-zero}
+use Rattle.std.proofs.lemmas.List.Sums.{sum_by_push}
+use Rattle.lane_board.proofs.CallerLemmas.{has_bit-low, has_bit-shifted_right, has_bit-zero}
 use Rattle.prune.specs.Counts.{column_empties}
 use Rattle.prune.specs.Walls.{IsWall}
 use Rattle.prune.proofs.CallerLemmas.{column_empties-suc, column_empties-zero}
@@ -37,6 +40,31 @@ ones_column F x (suc n) mask small told =
       ap (λ b. cond b 1 zero) (told n (omega arith)),
       ones_column F x n r low (λ y below. has_bit-low mask n y below ∙ told y (omega arith)),
       column_empties-suc F n x,
+    )
+
+-- several columns have as many as theirs together
+range_more : (from n : ℕ) → range_with_len from (suc n) ≡ range_with_len from n ++ (from + n) ∷ []
+range_more from zero = let e : from + 0 ≡ from = omega arith in ap (λ k. k ∷ []) (sym e)
+range_more from (suc n) = let e : from + 1 + n ≡ from + suc n = omega arith in ap (λ rest. from ∷ rest) (range_more (from + 1) n) ∙ ap (λ k. from ∷ (range_with_len (from + 1) n ++ k ∷ [])) e
+
+pub ones_columns : (F : Field) (n cells : ℕ) → cells < 2 ^ (8 * n) → ((a b : ℕ) → a < n → b < 8 → has_bit cells (8 * a + b) ≡ not (F a b)) → count_ones cells ≡ sum_by (column_empties F 8) (range_with_len 0 n)
+ones_columns F zero cells small told = ap count_ones {y = 0} (omega arith) ∙ one_bit 0 (omega arith)
+ones_columns F (suc n) cells small told =
+    let q = cells / 2 ^ (8 * n) in
+    let r = cells % 2 ^ (8 * n) in
+    let whole : 2 ^ (8 + 8 * n) ≡ 2 ^ (8 * suc n) = ap (λ e. 2 ^ e) {x = 8 + 8 * n} {y = 8 * suc n} (omega arith) in
+    let few : q < 2 ^ 8 = shr_below cells 8 (8 * n) (omega (arith, small, whole)) in
+    let low : r < 2 ^ (8 * n) = mod_below cells (2 ^ (8 * n)) (pow_pos (8 * n)) in
+    let last : count_ones q ≡ column_empties F 8 n = ones_column F n 8 q few (λ y below. has_bit-shifted_right cells (8 * n) y ∙ told n y (omega arith) below) in
+    let more : range_with_len 0 (suc n) ≡ range_with_len 0 n ++ n ∷ [] = range_more 0 n ∙ ap (λ k. range_with_len 0 n ++ k ∷ []) {x = 0 + n} {y = n} (omega arith) in
+    omega (
+      arith,
+      ap ones (shr_split cells (8 * n)),
+      ones_cat (8 * n) q r low,
+      last,
+      ones_columns F n r low (λ a b near below. has_bit-low cells (8 * n) (8 * a + b) (omega (arith, near, below)) ∙ told a b (omega (arith, near)) below),
+      ap (sum_by (column_empties F 8)) more,
+      sum_by_push (column_empties F 8) (range_with_len 0 n) n,
     )
 
 -- a row has a cell in a column and in the next one

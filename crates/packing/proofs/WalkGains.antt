@@ -1,5 +1,5 @@
 -- What a walk gains, part by part: the kinds, the rotations and the forms that may have the first cell.
-use Rattle.std.proofs.Common.{◌≡◌, ◌⊎◌, ℕ, zero, suc, ◌<◌, ◌≤◌, Bool, true, false, ◌||◌, Option, Some, None, List, [], ◌∷◌, length, get_or, refl, sym, ap, subst, ◌∙◌, inl, inr, arith}
+use Rattle.std.proofs.Common.{◌≡◌, ◌⊎◌, ℕ, zero, suc, ◌<◌, Bool, true, false, ◌||◌, Option, Some, None, [], length, get_or, refl, sym, ap, subst, ◌∙◌, inl, inr, arith}
 use Rattle.std.specs.List.{list_all}
 use Rattle.std.proofs.lemmas.Bool.{false≢true}
 use Rattle.lane_board.specs.Field.{Field}
@@ -13,7 +13,6 @@ use Rattle.prune.specs.Tiling.{Supply}
 use Rattle.prune.specs.Laws.{with_one}
 use Rattle.prune.specs.OnePart.{less_one}
 use Rattle.packing.specs.declared.pieces.TiledPieces.{TiledPieces}
-use Rattle.packing.specs.declared.span.Span.{Span}
 use Rattle.packing.specs.Empties.{without_placement}
 use Rattle.packing.specs.Spans.{IsFirst, forms_of}
 use Rattle.packing.specs.Stacks.{is_allowed, CanFill, Stacks}
@@ -91,21 +90,40 @@ turned_gain E left x y piece rotation q p0 p1 same over inside leaves marks =
     (λ found is. record { placement = q; is = is; kind = same.0; over = over; inside = inside; leaves = leaves })
     marks
 
--- the forms, of which a piece has at most four
-pub few_forms : (piece : Piece) → length (forms_of piece) ≤ 4
-few_forms I = omega arith
-few_forms L = omega arith
-few_forms O = omega arith
-few_forms Z = omega arith
-few_forms T = omega arith
-few_forms J = omega arith
-few_forms S = omega arith
+-- one form
+form_gains : (supply : Supply) (E : Field) (x y : ℕ) (piece : Piece) (place : ℕ) (old new : Option Placement → Bool) → IsSmall 8 E → place < length (forms_of piece) →
+    Gains old new (λ found. Stacks (is_allowed y) (λ F. FindsBy supply E x y piece F found) E x 0 (get_or (forms_of piece) place [])) (λ found. Stacks (is_allowed y) (λ F. FindsBy supply E x y piece F found) E x 0 (get_or (forms_of piece) place [])) →
+    Gains old new (StacksBy supply E x y piece place) (Finds (with_one supply piece) E)
+form_gains supply E x y piece place old new small known gains =
+    gains_as old new _ _ (StacksBy supply E x y piece place) (Finds (with_one supply piece) E) (λ found s. s.stacks)
+    (λ found stacks. found_by_stack supply E x y piece place found small (record { known = known; stacks = stacks }))
+    gains
 
-pub form_gains : (supply : Supply) (E : Field) (x y : ℕ) (piece : Piece) (Most : Option Placement → Type 0) (p0 p1 p2 p3 p4 : TiledPieces) (a b c d : Bool) →
+-- the forms: one, two or four
+one_form : (supply : Supply) (E : Field) (x y : ℕ) (piece : Piece) (Most : Option Placement → Type 0) (old new : Option Placement → Bool) → length (forms_of piece) ≡ 1 →
+    Gains old new (StacksBy supply E x y piece 0) Most → Gains old new (λ found. (place : ℕ) × StacksBy supply E x y piece place found) Most
+one_form supply E x y piece Most old new count gains = gains_as _ _ _ Most _ Most (λ found some. one found some.0 some.1) (λ found is. is) gains
+  where
+    one : (found : Option Placement) (place : ℕ) → StacksBy supply E x y piece place found → StacksBy supply E x y piece 0 found
+    one found zero is = is
+    one found (suc n) is = absurd (omega (arith, is.known, count))
+
+two_forms : (supply : Supply) (E : Field) (x y : ℕ) (piece : Piece) (Most : Option Placement → Type 0) (p0 p1 p2 : TiledPieces) (a b : Bool) → length (forms_of piece) ≡ 2 →
+    Gains (noted false p0) (noted a p1) (StacksBy supply E x y piece 0) Most → Gains (noted false p1) (noted b p2) (StacksBy supply E x y piece 1) Most →
+    Gains (noted false p0) (noted (a || b) p2) (λ found. (place : ℕ) × StacksBy supply E x y piece place found) Most
+two_forms supply E x y piece Most p0 p1 p2 a b count ga gb =
+    gains_as _ _ _ Most _ Most (λ found some. one found some.0 some.1) (λ found is. is) (gains_then false a b p0 p1 p2 _ _ _ ga gb)
+  where
+    one : (found : Option Placement) (place : ℕ) → StacksBy supply E x y piece place found → StacksBy supply E x y piece 0 found ⊎ StacksBy supply E x y piece 1 found
+    one found zero is = inl is
+    one found (suc zero) is = inr is
+    one found (suc (suc n)) is = absurd (omega (arith, is.known, count))
+
+four_forms : (supply : Supply) (E : Field) (x y : ℕ) (piece : Piece) (Most : Option Placement → Type 0) (p0 p1 p2 p3 p4 : TiledPieces) (a b c d : Bool) → length (forms_of piece) ≡ 4 →
     Gains (noted false p0) (noted a p1) (StacksBy supply E x y piece 0) Most → Gains (noted false p1) (noted b p2) (StacksBy supply E x y piece 1) Most →
     Gains (noted false p2) (noted c p3) (StacksBy supply E x y piece 2) Most → Gains (noted false p3) (noted d p4) (StacksBy supply E x y piece 3) Most →
     Gains (noted false p0) (noted (((a || b) || c) || d) p4) (λ found. (place : ℕ) × StacksBy supply E x y piece place found) Most
-form_gains supply E x y piece Most p0 p1 p2 p3 p4 a b c d ga gb gc gd =
+four_forms supply E x y piece Most p0 p1 p2 p3 p4 a b c d count ga gb gc gd =
     gains_as _ _ _ Most _ Most (λ found some. one found some.0 some.1) (λ found is. is)
     (gains_then false ((a || b) || c) d p0 p3 p4 _ _ _ (gains_then false (a || b) c p0 p2 p3 _ _ _ (gains_then false a b p0 p1 p2 _ _ _ ga gb) gc) gd)
   where
@@ -115,17 +133,34 @@ form_gains supply E x y piece Most p0 p1 p2 p3 p4 a b c d ga gb gc gd =
     one found (suc zero) is = inl (inl (inr is))
     one found (suc (suc zero)) is = inl (inr is)
     one found (suc (suc (suc zero))) is = inr is
-    one found (suc (suc (suc (suc n)))) is = absurd (omega (arith, is.known, few_forms piece))
+    one found (suc (suc (suc (suc n)))) is = absurd (omega (arith, is.known, count))
 
--- one form
-pub stacks_gain : (supply : Supply) (E : Field) (x y : ℕ) (piece : Piece) (place : ℕ) (spans : List Span) (old new : Option Placement → Bool) → IsSmall 8 E → place < length (forms_of piece) → get_or (forms_of piece) place [] ≡ spans →
-    Gains old new (λ found. Stacks (is_allowed y) (λ F. FindsBy supply E x y piece F found) E x 0 spans) (λ found. Stacks (is_allowed y) (λ F. FindsBy supply E x y piece F found) E x 0 spans) →
-    Gains old new (StacksBy supply E x y piece place) (Finds (with_one supply piece) E)
-stacks_gain supply E x y piece place spans old new small known is gains =
-    gains_as old new _ _ (StacksBy supply E x y piece place) (Finds (with_one supply piece) E)
-    (λ found s. subst (λ spans. Stacks (is_allowed y) (λ F. FindsBy supply E x y piece F found) E x 0 spans) is s.stacks)
-    (λ found stacks. found_by_stack supply E x y piece place found small (record { known = known; stacks = subst (λ spans. Stacks (is_allowed y) (λ F. FindsBy supply E x y piece F found) E x 0 spans) (sym is) stacks }))
-    gains
+-- the same of a kind with so many forms, by what their spans gain
+abbrev Spans : Supply → Field → ℕ → ℕ → Piece → ℕ → Option Placement → Type 0
+Spans supply E x y kind place found = Stacks (is_allowed y) (λ F. FindsBy supply E x y kind F found) E x 0 (get_or (forms_of kind) place [])
+
+abbrev AnyForm : Supply → Field → ℕ → ℕ → (Option Placement → Bool) → (Option Placement → Bool) → Piece → Type 0
+AnyForm supply E x y old new piece = Gains old new (λ found. (place : ℕ) × StacksBy supply E x y piece place found) (Finds (with_one supply piece) E)
+
+pub one_of : (supply : Supply) (E : Field) (x y : ℕ) (piece kind : Piece) → piece ≡ kind → length (forms_of kind) ≡ 1 → IsSmall 8 E → (old new : Option Placement → Bool) →
+    Gains old new (Spans supply E x y kind 0) (Spans supply E x y kind 0) → AnyForm supply E x y old new piece
+one_of supply E x y piece kind is count small old new gains = subst (AnyForm supply E x y old new) (sym is)
+    (one_form supply E x y kind _ old new count (form_gains supply E x y kind 0 old new small (omega (arith, count)) gains))
+
+pub two_of : (supply : Supply) (E : Field) (x y : ℕ) (piece kind : Piece) → piece ≡ kind → length (forms_of kind) ≡ 2 → IsSmall 8 E → (p0 p1 p2 : TiledPieces) (a b : Bool) →
+    Gains (noted false p0) (noted a p1) (Spans supply E x y kind 0) (Spans supply E x y kind 0) → Gains (noted false p1) (noted b p2) (Spans supply E x y kind 1) (Spans supply E x y kind 1) →
+    AnyForm supply E x y (noted false p0) (noted (a || b) p2) piece
+two_of supply E x y piece kind is count small p0 p1 p2 a b ga gb = subst (AnyForm supply E x y _ _) (sym is)
+    (two_forms supply E x y kind _ p0 p1 p2 a b count (form_gains supply E x y kind 0 _ _ small (omega (arith, count)) ga) (form_gains supply E x y kind 1 _ _ small (omega (arith, count)) gb))
+
+pub four_of : (supply : Supply) (E : Field) (x y : ℕ) (piece kind : Piece) → piece ≡ kind → length (forms_of kind) ≡ 4 → IsSmall 8 E → (p0 p1 p2 p3 p4 : TiledPieces) (a b c d : Bool) →
+    Gains (noted false p0) (noted a p1) (Spans supply E x y kind 0) (Spans supply E x y kind 0) → Gains (noted false p1) (noted b p2) (Spans supply E x y kind 1) (Spans supply E x y kind 1) →
+    Gains (noted false p2) (noted c p3) (Spans supply E x y kind 2) (Spans supply E x y kind 2) → Gains (noted false p3) (noted d p4) (Spans supply E x y kind 3) (Spans supply E x y kind 3) →
+    AnyForm supply E x y (noted false p0) (noted (((a || b) || c) || d) p4) piece
+four_of supply E x y piece kind is count small p0 p1 p2 p3 p4 a b c d ga gb gc gd = subst (AnyForm supply E x y _ _) (sym is)
+    (four_forms supply E x y kind _ p0 p1 p2 p3 p4 a b c d count
+    (form_gains supply E x y kind 0 _ _ small (omega (arith, count)) ga) (form_gains supply E x y kind 1 _ _ small (omega (arith, count)) gb)
+    (form_gains supply E x y kind 2 _ _ small (omega (arith, count)) gc) (form_gains supply E x y kind 3 _ _ small (omega (arith, count)) gd))
 
 -- all forms
 pub takes_gain : (supply fewer : Supply) (E : Field) (x y : ℕ) (piece : Piece) (old new : Option Placement → Bool) → 0 < supply piece → fewer ≡ less_one supply piece →
@@ -168,23 +203,3 @@ leaves_some supply E left x y piece p q r answer holds gained marks =
     either : (found : Option Placement) → FindsBy supply E x y piece left found → Finds supply left found ⊎ IsWhole E left x y piece found
     either found (beside finds) = inl finds
     either found (itself _ is) = inr is
-
--- lists by their items
-pub one_item : (xs : List Span) (a : Span) → 1 ≤ length xs → length xs < 2 → xs ≡ get_or xs 0 a ∷ []
-one_item [] a some few = absurd (omega arith)
-one_item (x ∷ []) a some few = refl
-one_item (x ∷ y ∷ xs) a some few = absurd (omega arith)
-
-pub two_items : (xs : List Span) (a b : Span) → 2 ≤ length xs → length xs < 3 → xs ≡ get_or xs 0 a ∷ get_or xs 1 b ∷ []
-two_items [] a b some few = absurd (omega arith)
-two_items (x ∷ []) a b some few = absurd (omega arith)
-two_items (x ∷ y ∷ []) a b some few = refl
-two_items (x ∷ y ∷ z ∷ xs) a b some few = absurd (omega arith)
-
-pub three_items : (xs : List Span) (a b c : Span) → 3 ≤ length xs → length xs < 4 → xs ≡ get_or xs 0 a ∷ get_or xs 1 b ∷ get_or xs 2 c ∷ []
-three_items [] a b c some few = absurd (omega arith)
-three_items (x ∷ xs) a b c some few = ap (λ l. x ∷ l) (two_items xs b c (omega arith) (omega arith))
-
-pub four_items : (xs : List Span) (a b c d : Span) → 4 ≤ length xs → length xs < 5 → xs ≡ get_or xs 0 a ∷ get_or xs 1 b ∷ get_or xs 2 c ∷ get_or xs 3 d ∷ []
-four_items [] a b c d some few = absurd (omega arith)
-four_items (x ∷ xs) a b c d some few = ap (λ l. x ∷ l) (three_items xs b c d (omega arith) (omega arith))

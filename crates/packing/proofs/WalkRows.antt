@@ -1,5 +1,5 @@
 -- A walk over the rows that a span may take.
-use Rattle.std.proofs.Common.{◌≡◌, ◌⊎◌, ℕ, ◌+◌, ◌<◌, bit_and, Bool, true, false, not, ◌&&◌, ◌||◌, ◌==◌, nat_le, Option, List, [], ◌∷◌, ◌-◌, take, refl, sym, ap, ap₂, subst, ◌∙◌, inl, inr}
+use Rattle.std.proofs.Common.{◌≡◌, ◌⊎◌, ℕ, ◌+◌, ◌<◌, bit_and, Bool, true, false, not, ◌&&◌, ◌||◌, ◌==◌, nat_le, Option, List, [], ◌∷◌, refl, sym, ap, ap₂, subst, ◌∙◌, inl, inr}
 use Rattle.std.proofs.lemmas.Bool.{and_parts, and_from, both_ways, cases_eq, le-leb, leb-true, ne_eqb, eq-eqb}
 use Rattle.lane_board.specs.Field.{Field}
 use Rattle.lane_board.specs.Lanes.{has_bit}
@@ -42,11 +42,11 @@ gone-start Fact E x y floor span spans rows permitted old small has allowed = re
     bits : (row : ℕ) → row < 8 → has_bit (bit_and rows permitted) row ≡ (has_span E x span row && (nat_le floor row && is_allowed y floor span row))
     bits row low = has_bit-and rows permitted row ∙ ap₂ ◌&&◌ (has row low) (allowed row low)
 
-pub gone-next : (Fact : Field → Option Placement → Type 0) (E rest : Field) (x y floor : ℕ) (span : Span) (spans : List Span) (rows less row : ℕ) (a b c : Bool) (p q r : TiledPieces) → IsSmall 8 E → row < 8 → has_bit rows row ≡ true →
-    rest ≡ without_span E x span row → ((k : ℕ) → k < 8 → has_bit less k ≡ (has_bit rows k && not (k == row))) → GoneThrough Fact E x y floor span spans rows (noted a p) (noted b q) →
-    Gains (noted false q) (noted c r) (λ found. Stacks (is_allowed y) (λ F. Fact F found) rest x (row + 1) spans) (λ found. Stacks (is_allowed y) (λ F. Fact F found) rest x (row + 1) spans) →
+pub gone-next : (Fact : Field → Option Placement → Type 0) (E rest : Field) (x column y floor : ℕ) (span : Span) (spans : List Span) (rows less row : ℕ) (a b c : Bool) (p q r : TiledPieces) → IsSmall 8 E → row < 8 → has_bit rows row ≡ true →
+    rest ≡ without_span E x span row → column ≡ x → ((k : ℕ) → k < 8 → has_bit less k ≡ (has_bit rows k && not (k == row))) → GoneThrough Fact E x y floor span spans rows (noted a p) (noted b q) →
+    Gains (noted false q) (noted c r) (λ found. Stacks (is_allowed y) (λ F. Fact F found) rest column (row + 1) spans) (λ found. Stacks (is_allowed y) (λ F. Fact F found) rest column (row + 1) spans) →
     GoneThrough Fact E x y floor span spans less (noted a p) (noted (b || c) r)
-gone-next Fact E rest x y floor span spans rows less row a b c p q r small low here left others gone more = record {
+gone-next Fact E rest x column y floor span spans rows less row a b c p q r small low here left same_column others gone more_there = record {
   may = λ k k_low bit. gone.may k k_low (and_parts _ _ (sym (others k k_low) ∙ bit)).0;
   gains = gains_as (noted a p) (noted (b || c) r) _ Gone Gone Gone split (λ found is. is)
       (gains_then a b c p q r Before Here Gone
@@ -54,6 +54,9 @@ gone-next Fact E rest x y floor span spans rows less row a b c p q r small low h
       (gains_as (noted false q) (noted c r) Here Here Here Gone (λ found is. is) at_row more));
 }
   where
+    more : Gains (noted false q) (noted c r) (λ found. Stacks (is_allowed y) (λ F. Fact F found) rest x (row + 1) spans) (λ found. Stacks (is_allowed y) (λ F. Fact F found) rest x (row + 1) spans)
+    more = subst (λ k. Gains (noted false q) (noted c r) (λ found. Stacks (is_allowed y) (λ F. Fact F found) rest k (row + 1) spans) (λ found. Stacks (is_allowed y) (λ F. Fact F found) rest k (row + 1) spans)) same_column more_there
+
     Gone : Option Placement → Type 0
     Gone = FindsGone Fact E x y floor span spans less
 

@@ -4,6 +4,7 @@ pub mod TiledPieces
 -- What serves proofs alone
 pub mod Pivots
 pub mod Spans
+pub mod ShiftedCells
 pub mod ShapeBits
 pub mod Stacks
 pub mod HasTiling

@@ -12,12 +12,14 @@ use Rattle.prune.specs.Tiling.{Supply, supply_in}
 use Rattle.prune.specs.OnePart.{less_one}
 use Rattle.packing.specs.declared.cover.Cover.{Cover}
 use Rattle.packing.specs.declared.pieces.TiledPieces.{TiledPieces}
+use Rattle.packing.specs.declared.shifted.Shifted.{Shifted}
 use Rattle.packing.specs.declared.span.Span.{Span}
 use Rattle.packing.specs.declared.walked.Outcome.{Outcome}
 use Rattle.packing.specs.declared.walked.Outcome.TheVariants.{NoTiling, Walked as InWalk}
 use Rattle.packing.specs.declared.walked.Walked.{Walked}
 use Rattle.packing.specs.Empties.{all_but, empty_cells, without_placement}
 use Rattle.packing.specs.HasTiling.{has_tiling}
+use Rattle.packing.specs.ShiftedCells.{shifted_cells}
 use Rattle.packing.specs.Spans.{forms_of}
 use Rattle.packing.specs.Stacks.{CanFill, Stacks, is_allowed}
 use Rattle.packing.specs.TiledPieces.{has_cell, is_marked, StandsInTiling}
@@ -84,14 +86,14 @@ pub data FindsBy (supply : Supply) (E : Field) (x y : ℕ) (piece : Piece) (left
   beside : Finds supply left found → FindsBy supply E x y piece left found
   itself : CanFill 8 supply left → IsWhole E left x y piece found → FindsBy supply E x y piece left found
 
-abbrev pub FindsWith : Cover → Field → Option Placement → Type 0
-FindsWith cover left found =
-    FindsBy (supply_in cover.supply) (empty_cells cover.cells) cover.x cover.y cover.piece left found
+abbrev pub FindsWith : Cover → Piece → Field → Option Placement → Type 0
+FindsWith cover piece left found =
+    FindsBy (supply_in cover.supply) (shifted_cells cover.cells) cover.cells.x cover.y piece left found
 
 -- spans are taken from a set, and something is found with what they leave
-abbrev pub StacksWith : Cover → Field → ℕ → List Span → Option Placement → Type 0
-StacksWith cover E floor spans found =
-    Stacks (is_allowed cover.y) (λ left. FindsWith cover left found) E cover.x floor spans
+abbrev pub StacksWith : Cover → Piece → Shifted → ℕ → List Span → Option Placement → Type 0
+StacksWith cover piece cells floor spans found =
+    Stacks (is_allowed cover.y) (λ left. FindsWith cover piece left found) (shifted_cells cells) cells.x floor spans
 
 -- the spans of a form have the first cell, and something is found with what they leave
 pub record StacksBy (supply : Supply) (E : Field) (x y : ℕ) (piece : Piece) (place : ℕ)
@@ -100,9 +102,9 @@ pub record StacksBy (supply : Supply) (E : Field) (x y : ℕ) (piece : Piece) (p
   pub stacks : Stacks (is_allowed y) (λ left. FindsBy supply E x y piece left found) E x 0
       (slice_index_or (forms_of piece) place [])
 
-abbrev pub StacksAt : Cover → ℕ → Option Placement → Type 0
-StacksAt cover place found =
-    StacksBy (supply_in cover.supply) (empty_cells cover.cells) cover.x cover.y cover.piece place found
+abbrev pub StacksAt : Cover → Piece → ℕ → Option Placement → Type 0
+StacksAt cover piece place found =
+    StacksBy (supply_in cover.supply) (shifted_cells cover.cells) cover.cells.x cover.y piece place found
 
 -- a piece of this kind has the first cell
 pub record Takes (supply : Supply) (E : Field) (x y : ℕ) (piece : Piece) (found : Option Placement) : Type 0 where

@@ -2,7 +2,7 @@
 ghost use Rattle.std.specs.Prelude.{◌≡◌, ◌≤◌, ◌↔◌, ◌+◌, ◌*◌, IsTrue, sum_by};
 ghost use Rattle.std.specs.List.{range_with_len};
 ghost use Rattle.prune.specs.Tiling.{supply_in, Supply, Tiling};
-ghost use Rattle.prune.specs.Counts.{column_empties};
+ghost use Rattle.prune.specs.Counts.{column_empties, run_empties};
 ghost use Rattle.prune.specs.Walls.{IsWall, HasUnevenPart};
 ghost use Rattle.packing.specs.Empties.{all_but, empty_cells};
 
@@ -24,6 +24,21 @@ impl Empties {
         for x in 0..10 {
             cells += self.in_column(x);
             if cells % 4 != 0 && self.is_walled(x) {
+                return true;
+            }
+        }
+        false
+    }
+
+    /// Whether a number of cells before a wall is not a multiple of four, with the wall behind one of the first four
+    /// columns. Then there is no tiling. A piece that takes cells of column 0 makes no other wall.
+    #[inline(always)]
+    pub(crate) fn has_uneven_start(&self) -> bool
+        ensures { IsTrue result → (supply : Supply)
+            → Tiling (all_but (empty_cells self.now)) 8 supply → ⊥ }
+    {
+        for last in 0..4 {
+            if self.is_walled(last) && self.up_to(last) % 4 != 0 {
                 return true;
             }
         }

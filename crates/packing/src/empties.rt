@@ -13,11 +13,13 @@ pub struct Empties {
 }
 
 impl Empties {
-    ghost use Rattle.std.specs.Prelude.{◌≤◌, ◌-◌, ◌+◌, ◌*◌, ◌&&◌, ◌↔◌, not, IsTrue, MatchOption};
+    ghost use Rattle.std.specs.Prelude.{◌≤◌, ◌-◌, ◌+◌, ◌*◌, ◌&&◌, ◌↔◌, nat_le, not, IsTrue, MatchOption};
     ghost use Rattle.lane_board.specs.Field.{empty_field, difference, rows_below};
     ghost use Rattle.lane_board.specs.Lanes.{has_bit};
     ghost use Rattle.well.specs.Well.{filled};
-    ghost use Rattle.packing.specs.Empties.{empty_cells};
+    ghost use Rattle.prune.specs.Counts.{run_empties};
+    ghost use Rattle.packing.specs.Empties.{all_but, empty_cells};
+    ghost use Rattle.packing.specs.ShiftedCells.{to_column};
     ghost use Rattle.packing.specs.Spans.{from_column, has_span, without_span, HasNoCell, IsFirst};
 
     /// The empty set.
@@ -56,6 +58,15 @@ impl Empties {
         self.cells.count_ones() <= 4
     }
 
+    /// How many cells the columns have up to this one.
+    #[inline(always)]
+    pub(crate) fn up_to(&self, last: u8) -> u8
+        requires { last ≤ 9 }
+        ensures { result ≡ run_empties (all_but (empty_cells self.now)) 8 0 last }
+    {
+        (self.cells & ((1 << (8 * last + 8)) - 1)).count_ones() as u8
+    }
+
     /// A number that differs for most sets.
     pub(crate) fn mixed(&self) -> u64 {
         let low = (self.cells & 0xffff_ffff_ffff_ffff) as u64;
@@ -83,6 +94,18 @@ impl Empties {
     {
         Empties {
             cells: self.cells >> (8 * x),
+        }
+    }
+
+    /// The set whose columns are counted from column `x` in this one. Cells past column 9 are dropped.
+    #[inline(always)]
+    pub(crate) fn to_column(&self, x: u8) -> Empties
+        requires { x ≤ 9 }
+        ensures { (a b : ℕ) → empty_cells result a b
+            ≡ (nat_le a 9 && to_column x (empty_cells self.now) a b) }
+    {
+        Empties {
+            cells: self.cells << (8 * x) & 0xffff_ffff_ffff_ffff_ffff,
         }
     }
 

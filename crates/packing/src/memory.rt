@@ -95,7 +95,8 @@ impl Remembered {
     }
 }
 
-/// The place of a question about a piece among so many.
+/// The index at which a memory of this size keeps a question about a piece. For the same cells and the same supply the
+/// seven kinds have different indices: the first seven multiples of 4679 differ, and each is less than 32,768.
 #[inline(always)]
 fn place_of(cells: &Empties, supply: &[u8; 7], piece: Piece, count: usize) -> usize
     requires { 0 < count }

@@ -3,7 +3,7 @@ ghost use Rattle.std.specs.Prelude.{◌≡◌, ◌≤◌, true, false, IsTrue};
 ghost use Rattle.srs.specs.declared.placement.Placement.{Placement};
 
 use crate::pivots::Pivots;
-use srs::Placement;
+use srs::{Piece, Placement};
 
 /// The placements that stand in some tiling of a set of cells as unbroken pieces: their rows are consecutive.
 #[derive(Clone, Copy)]
@@ -13,6 +13,7 @@ pub struct TiledPieces {
 }
 
 impl TiledPieces {
+    ghost use Rattle.packing.specs.Pivots.{mirror_placement};
     ghost use Rattle.packing.specs.TiledPieces.{is_marked};
 
     /// The empty set of placements.
@@ -32,6 +33,7 @@ impl TiledPieces {
     }
 
     /// Adds a placement.
+    #[inline(always)]
     pub(crate) fn mark(&mut self, placement: &Placement)
         requires column { placement.now.x ≤ 9 }
         requires row { placement.now.y ≤ 7 }
@@ -44,5 +46,24 @@ impl TiledPieces {
         let mut pivots = self.kinds[place];
         pivots.add(placement);
         self.kinds[place] = pivots;
+    }
+
+    /// The placements that a mirror shows as these.
+    pub(crate) fn mirrored(&self) -> TiledPieces
+        ensures shown { (q : Placement) → q.x ≤ 9 → is_marked result q ≡ is_marked self.now (mirror_placement q) }
+        ensures within { (q : Placement) → IsTrue (is_marked result q) → q.x ≤ 9 }
+    {
+        let [i, l, o, z, t, j, s] = self.kinds;
+        TiledPieces {
+            kinds: [
+                i.mirrored(Piece::I),
+                j.mirrored(Piece::L),
+                o.mirrored(Piece::O),
+                s.mirrored(Piece::Z),
+                t.mirrored(Piece::T),
+                l.mirrored(Piece::J),
+                z.mirrored(Piece::S),
+            ],
+        }
     }
 }

@@ -17,6 +17,7 @@ use srs::{Piece, Placement, Rotation, cells};
 
 impl Empties {
     /// The set without the cells of a placement.
+    #[inline(always)]
     pub fn without(&self, placement: &Placement) -> Empties
         requires column { placement.now.x ≤ 31 }
         requires row { placement.now.y ≤ 31 }
@@ -26,6 +27,7 @@ impl Empties {
     }
 
     /// Whether the set has all cells of a placement.
+    #[inline(always)]
     pub(crate) fn has_all(&self, placement: &Placement) -> bool
         requires column { placement.now.x ≤ 31 }
         requires row { placement.now.y ≤ 31 }
@@ -35,6 +37,7 @@ impl Empties {
     }
 
     /// Whether the set has the cell at this column and row.
+    #[inline(always)]
     fn has(&self, cell: (i8, i8)) -> bool
         ensures { result ≡ has_cell (empty_cells self.now) cell }
     {
@@ -101,6 +104,7 @@ fn shape_bits(piece: Piece, rotation: Rotation) -> u64
 
 /// The placement of a piece in a rotation whose leftmost column has its lowest cell here. `None` if its pivot would lie
 /// below row 0.
+#[inline(always)]
 pub(crate) fn placement_over(piece: Piece, rotation: Rotation, x: u8, y: u8) -> Option<Placement>
     requires column { x ≤ 9 }
     requires row { y ≤ 7 }
@@ -124,6 +128,7 @@ pub(crate) fn placement_over(piece: Piece, rotation: Rotation, x: u8, y: u8) -> 
 
 /// From the lowest cell of the leftmost column to the pivot: how many columns to the right, and how many rows up, plus
 /// two.
+#[inline(always)]
 fn to_pivot(piece: Piece, rotation: Rotation) -> (u8, u8)
     ensures column { pos result.0 ≡ neg_ℤ (first_offset piece rotation).0 }
     ensures row { pos result.1 ≡ pos 2 +ℤ neg_ℤ (first_offset piece rotation).1 }

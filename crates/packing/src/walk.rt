@@ -4,6 +4,7 @@ ghost use Rattle.srs.specs.declared.placement.Placement.{Placement};
 ghost use Rattle.prune.specs.Tiling.{supply_in};
 ghost use Rattle.prune.specs.Laws.{with_one};
 ghost use Rattle.packing.specs.Empties.{empty_cells};
+ghost use Rattle.packing.specs.ShiftedCells.{shifted_cells};
 ghost use Rattle.packing.specs.Spans.{IsFirst};
 ghost use Rattle.packing.specs.TiledPieces.{is_marked, StandsInTiling};
 ghost use Rattle.packing.specs.Walks.{Finds, FindsWith, Gains, IsTrueIn, IsWhole, StacksAt, StacksWith, Takes, noted};
@@ -11,25 +12,27 @@ ghost use Rattle.packing.specs.Walks.{Finds, FindsWith, Gains, IsTrueIn, IsWhole
 use crate::cover::Cover;
 use crate::decided::place_of;
 use crate::empties::Empties;
-use crate::forms::form_of;
+use crate::mirror::mirrored_supply;
 use crate::pieces::TiledPieces;
 use crate::rows::{lowest_row, without_row};
 use crate::search::allowed;
+use crate::shifted::Shifted;
 use crate::span::Span;
 use crate::supply::{count_of, without_one};
 use crate::walked::Walked;
+use Span::{AllFour, First, FirstThree, FirstTwo, Second, SecondTwo, Third};
 use srs::Piece;
 use std::alloc::Global;
 
 /// How many questions a store keeps.
-const PLACES: usize = 131_072;
+const PLACES: usize = 32_768;
 
 /// Finds the pieces of all tilings, and keeps which questions have no tiling.
 #[derive(Drop)]
 pub struct PieceStore {
     known: Vec<Walked>,
     /// The number of the current walk.
-    walk: u64,
+    walk: u32,
     /// What the current walk has found.
     pieces: TiledPieces,
     ghost are_true: { All (IsTrueIn walk pieces) known.items },
@@ -49,13 +52,22 @@ fn places(alloc: Global) -> Vec<Walked>
 macro_rules! any_row {
     ($self:expr, $cover:expr, $cells:expr, $floor:expr, $span:expr, $rest:ident, $row:ident => $found:expr) => {{
         let mut any = false;
-        let mut rows = $cells.rows_with($cover.x, $span) & allowed($cover.y, $floor, $span);
+        let mut rows = $cells.rows_with($span) & allowed($cover.y, $floor, $span);
         while rows > 0 {
             let $row = lowest_row(rows);
-            let $rest = $cells.without_span($cover.x, $span, $row);
+            let $rest = $cells.without_span($span, $row);
             any |= $found;
             rows = without_row(rows, $row);
         }
+        any
+    }};
+}
+
+// Whether one of these calls answers true. All are made.
+macro_rules! all_of {
+    ($first:expr $(, $others:expr)*) => {{
+        let mut any = $first;
+        $(any |= $others;)*
         any
     }};
 }
@@ -78,8 +90,20 @@ impl PieceStore {
             ↔ StandsInTiling (empty_cells cells.now) (supply_in supply.now) q }
     {
         self.begin();
-        self.search(cells, supply);
+        self.search(&Shifted::new(cells), supply);
         self.pieces
+    }
+
+    /// The same, by a walk that begins at the side nearer to a column.
+    pub fn pieces_near(&mut self, cells: &Empties, column: u8, supply: &[u8; 7]) -> TiledPieces
+        ensures { (q : Placement) → IsTrue (is_marked result q)
+            ↔ StandsInTiling (empty_cells cells.now) (supply_in supply.now) q }
+    {
+        if !cells.lies_right(column) {
+            return self.pieces(cells, supply);
+        }
+        self.pieces(&cells.mirrored(), &mirrored_supply(supply))
+            .mirrored()
     }
 
     /// Begins a walk, which has found nothing yet.
@@ -91,10 +115,10 @@ impl PieceStore {
     }
 
     /// A number above that of the current walk. If there is none, the store forgets everything first.
-    fn next_number(&mut self) -> u64
+    fn next_number(&mut self) -> u32
         ensures { self.new.walk < result }
     {
-        if self.walk < u64::MAX {
+        if self.walk < u32::MAX {
             return self.walk + 1;
         }
         self.forget();
@@ -110,12 +134,13 @@ impl PieceStore {
     }
 
     /// Marks the placements of the piece that cover the first cell and leave exactly the rest of the cells.
-    fn mark_whole(&mut self, cover: &Cover, rest: &Empties)
+    #[inline(never)]
+    fn mark_whole(&mut self, cover: &Cover, piece: Piece, rest: &Shifted)
         ensures gains { Gains (noted false self.old.pieces) (noted false self.new.pieces)
-            (IsWhole (empty_cells cover.now.cells) (empty_cells rest.now) cover.now.x cover.now.y cover.now.piece)
-            (IsWhole (empty_cells cover.now.cells) (empty_cells rest.now) cover.now.x cover.now.y cover.now.piece) }
+            (IsWhole (shifted_cells cover.now.cells) (shifted_cells rest.now) cover.now.cells.x cover.now.y piece)
+            (IsWhole (shifted_cells cover.now.cells) (shifted_cells rest.now) cover.now.cells.x cover.now.y piece) }
     {
-        self.pieces.mark_whole(cover, rest);
+        self.pieces.mark_whole(cover, piece, rest);
     }
 
     /// Keeps the answer to a question.
@@ -131,135 +156,149 @@ impl PieceStore {
     /// Goes through all tilings of the cells and marks the placements that stand in one. Returns whether there is a
     /// tiling.
     #[cycle(walk)]
-    fn search(&mut self, cells: &Empties, supply: &[u8; 7]) -> bool
+    fn search(&mut self, cells: &Shifted, supply: &[u8; 7]) -> bool
         ensures { Gains (noted false self.old.pieces) (noted result self.new.pieces)
-            (Finds (supply_in supply.now) (empty_cells cells.now))
-            (Finds (supply_in supply.now) (empty_cells cells.now)) }
+            (Finds (supply_in supply.now) (shifted_cells cells.now))
+            (Finds (supply_in supply.now) (shifted_cells cells.now)) }
     {
-        let Some((x, y)) = cells.first() else {
+        let Some((counted, y)) = cells.from_first() else {
             return true;
         };
-        if self.known.is_empty() {
-            return self.covers(cells, x, y, supply);
+        if self.known.is_empty() || counted.is_few() {
+            return self.covers(&counted, y, supply);
         }
-        if cells.is_few() {
-            return self.covers(cells, x, y, supply);
-        }
-        if cells.has_uneven_part() || cells.has_wrong_parity(supply) {
+        if counted.is_refused(supply) {
             return false;
         }
-        let place = place_of(cells, supply, self.known.len());
-        if let Some(answer) = self.known[place].answer_to(cells, supply, self.walk) {
+        let all = counted.cells();
+        let place = place_of(&all, supply, self.known.len());
+        if let Some(answer) = self.known[place].answer_to(&all, supply, self.walk) {
             return answer;
         }
-        let answer = self.covers(cells, x, y, supply);
-        self.note(place, Walked::new(*cells, *supply, answer, self.walk));
+        let answer = self.covers(&counted, y, supply);
+        self.note(place, Walked::new(all, *supply, answer, self.walk));
         answer
     }
 
-    /// The same for cells whose first one (the lowest of the leftmost column) is at this column and row.
+    /// The same for cells whose first one (the lowest of the leftmost column) is in this row of the column from which
+    /// they are counted.
     #[cycle(walk)]
-    fn covers(&mut self, cells: &Empties, x: u8, y: u8, supply: &[u8; 7]) -> bool
-        requires { IsFirst (empty_cells cells.now) x y }
+    fn covers(&mut self, cells: &Shifted, y: u8, supply: &[u8; 7]) -> bool
+        requires { IsFirst (shifted_cells cells.now) cells.now.x y }
         ensures { Gains (noted false self.old.pieces) (noted result self.new.pieces)
-            (Finds (supply_in supply.now) (empty_cells cells.now))
-            (Finds (supply_in supply.now) (empty_cells cells.now)) }
+            (Finds (supply_in supply.now) (shifted_cells cells.now))
+            (Finds (supply_in supply.now) (shifted_cells cells.now)) }
     {
-        let i = self.takes(cells, x, y, Piece::I, supply);
-        let l = self.takes(cells, x, y, Piece::L, supply);
-        let o = self.takes(cells, x, y, Piece::O, supply);
-        let z = self.takes(cells, x, y, Piece::Z, supply);
-        let t = self.takes(cells, x, y, Piece::T, supply);
-        let j = self.takes(cells, x, y, Piece::J, supply);
-        let s = self.takes(cells, x, y, Piece::S, supply);
+        let i = self.takes(cells, y, Piece::I, supply);
+        let l = self.takes(cells, y, Piece::L, supply);
+        let o = self.takes(cells, y, Piece::O, supply);
+        let z = self.takes(cells, y, Piece::Z, supply);
+        let t = self.takes(cells, y, Piece::T, supply);
+        let j = self.takes(cells, y, Piece::J, supply);
+        let s = self.takes(cells, y, Piece::S, supply);
         i | l | o | z | t | j | s
     }
 
     /// The same for the tilings in which a piece of this kind covers the first cell.
     #[cycle(walk)]
     #[inline(always)]
-    fn takes(&mut self, cells: &Empties, x: u8, y: u8, piece: Piece, supply: &[u8; 7]) -> bool
-        requires { IsFirst (empty_cells cells.now) x y }
+    fn takes(&mut self, cells: &Shifted, y: u8, piece: Piece, supply: &[u8; 7]) -> bool
+        requires { IsFirst (shifted_cells cells.now) cells.now.x y }
         ensures { Gains (noted false self.old.pieces) (noted result self.new.pieces)
-            (Takes (supply_in supply.now) (empty_cells cells.now) x y piece)
-            (Finds (supply_in supply.now) (empty_cells cells.now)) }
+            (Takes (supply_in supply.now) (shifted_cells cells.now) cells.now.x y piece)
+            (Finds (supply_in supply.now) (shifted_cells cells.now)) }
     {
         if count_of(supply, piece) == 0 {
             return false;
         }
         let cover = Cover {
             cells: *cells,
-            x,
             y,
-            piece,
             supply: without_one(supply, piece),
         };
-        self.forms(&cover)
+        self.forms(&cover, piece)
     }
 
     /// The same for those in which this piece covers the first cell.
     #[cycle(walk)]
-    #[inline(always)]
-    fn forms(&mut self, cover: &Cover) -> bool
+    fn forms(&mut self, cover: &Cover, piece: Piece) -> bool
         ensures { Gains (noted false self.old.pieces) (noted result self.new.pieces)
-            (λ found. (place : ℕ) × StacksAt cover.now place found)
-            (Finds (with_one (supply_in cover.now.supply) cover.now.piece) (empty_cells cover.now.cells)) }
+            (λ found. (place : ℕ) × StacksAt cover.now piece place found)
+            (Finds (with_one (supply_in cover.now.supply) piece) (shifted_cells cover.now.cells)) }
     {
-        let first = self.form(cover, 0);
-        let second = self.form(cover, 1);
-        let third = self.form(cover, 2);
-        let fourth = self.form(cover, 3);
-        first | second | third | fourth
-    }
-
-    /// The same for those in which it covers it in the shape with this index.
-    #[cycle(walk)]
-    #[inline(always)]
-    fn form(&mut self, cover: &Cover, place: u8) -> bool
-        ensures { Gains (noted false self.old.pieces) (noted result self.new.pieces)
-            (StacksAt cover.now place)
-            (Finds (with_one (supply_in cover.now.supply) cover.now.piece) (empty_cells cover.now.cells)) }
-    {
-        let Some(spans) = form_of(cover.piece, place) else {
-            return false;
-        };
-        if let [a] = spans {
-            return self.stacks_one(cover, &cover.cells, 0, *a);
+        let cells = &cover.cells;
+        match piece {
+            Piece::I => all_of!(
+                self.stacks_one(cover, Piece::I, cells, 0, AllFour),
+                self.stacks_four(cover, Piece::I, cells, 0, First, First, First, First)
+            ),
+            Piece::L => all_of!(
+                self.stacks_two(cover, Piece::L, cells, 0, FirstThree, Third),
+                self.stacks_three(cover, Piece::L, cells, 0, FirstTwo, First, First),
+                self.stacks_two(cover, Piece::L, cells, 0, First, FirstThree),
+                self.stacks_three(cover, Piece::L, cells, 0, Second, Second, FirstTwo)
+            ),
+            Piece::O => self.stacks_two(cover, Piece::O, cells, 0, FirstTwo, FirstTwo),
+            Piece::Z => all_of!(
+                self.stacks_two(cover, Piece::Z, cells, 0, SecondTwo, FirstTwo),
+                self.stacks_three(cover, Piece::Z, cells, 0, First, FirstTwo, Second)
+            ),
+            Piece::T => all_of!(
+                self.stacks_two(cover, Piece::T, cells, 0, FirstThree, Second),
+                self.stacks_three(cover, Piece::T, cells, 0, First, FirstTwo, First),
+                self.stacks_two(cover, Piece::T, cells, 0, Second, FirstThree),
+                self.stacks_three(cover, Piece::T, cells, 0, Second, FirstTwo, Second)
+            ),
+            Piece::J => all_of!(
+                self.stacks_two(cover, Piece::J, cells, 0, FirstThree, First),
+                self.stacks_three(cover, Piece::J, cells, 0, First, First, FirstTwo),
+                self.stacks_two(cover, Piece::J, cells, 0, Third, FirstThree),
+                self.stacks_three(cover, Piece::J, cells, 0, FirstTwo, Second, Second)
+            ),
+            Piece::S => all_of!(
+                self.stacks_two(cover, Piece::S, cells, 0, FirstTwo, SecondTwo),
+                self.stacks_three(cover, Piece::S, cells, 0, Second, FirstTwo, First)
+            ),
         }
-        if let [a, b] = spans {
-            return self.stacks_two(cover, &cover.cells, 0, *a, *b);
-        }
-        if let [a, b, c] = spans {
-            return self.stacks_three(cover, &cover.cells, 0, *a, *b, *c);
-        }
-        let [a, b, c, d] = spans else {
-            return false;
-        };
-        self.stacks_four(cover, &cover.cells, 0, *a, *b, *c, *d)
     }
 
     /// The same for those in which one span is taken from these cells, in a row from `floor` on.
     #[cycle(walk)]
     #[inline(always)]
-    fn stacks_one(&mut self, cover: &Cover, cells: &Empties, floor: u8, a: Span) -> bool
+    fn stacks_one(
+        &mut self,
+        cover: &Cover,
+        piece: Piece,
+        cells: &Shifted,
+        floor: u8,
+        a: Span,
+    ) -> bool
         requires { floor ≤ 8 }
         ensures { Gains (noted false self.old.pieces) (noted result self.new.pieces)
-            (StacksWith cover.now (empty_cells cells.now) floor (a ∷ []))
-            (StacksWith cover.now (empty_cells cells.now) floor (a ∷ [])) }
+            (StacksWith cover.now piece cells.now floor (a ∷ []))
+            (StacksWith cover.now piece cells.now floor (a ∷ [])) }
     {
-        any_row!(self, cover, cells, floor, a, rest, row => self.leaves(cover, &rest))
+        any_row!(self, cover, cells, floor, a, rest, row => self.leaves(cover, piece, &rest))
     }
 
     /// The same for two spans, one above the other.
     #[cycle(walk)]
     #[inline(always)]
-    fn stacks_two(&mut self, cover: &Cover, cells: &Empties, floor: u8, a: Span, b: Span) -> bool
+    fn stacks_two(
+        &mut self,
+        cover: &Cover,
+        piece: Piece,
+        cells: &Shifted,
+        floor: u8,
+        a: Span,
+        b: Span,
+    ) -> bool
         requires { floor ≤ 8 }
         ensures { Gains (noted false self.old.pieces) (noted result self.new.pieces)
-            (StacksWith cover.now (empty_cells cells.now) floor (a ∷ b ∷ []))
-            (StacksWith cover.now (empty_cells cells.now) floor (a ∷ b ∷ [])) }
+            (StacksWith cover.now piece cells.now floor (a ∷ b ∷ []))
+            (StacksWith cover.now piece cells.now floor (a ∷ b ∷ [])) }
     {
-        any_row!(self, cover, cells, floor, a, rest, row => self.stacks_one(cover, &rest, row + 1, b))
+        any_row!(self, cover, cells, floor, a, rest, row => self.stacks_one(cover, piece, &rest, row + 1, b))
     }
 
     /// The same for three spans.
@@ -268,7 +307,8 @@ impl PieceStore {
     fn stacks_three(
         &mut self,
         cover: &Cover,
-        cells: &Empties,
+        piece: Piece,
+        cells: &Shifted,
         floor: u8,
         a: Span,
         b: Span,
@@ -276,10 +316,10 @@ impl PieceStore {
     ) -> bool
         requires { floor ≤ 8 }
         ensures { Gains (noted false self.old.pieces) (noted result self.new.pieces)
-            (StacksWith cover.now (empty_cells cells.now) floor (a ∷ b ∷ c ∷ []))
-            (StacksWith cover.now (empty_cells cells.now) floor (a ∷ b ∷ c ∷ [])) }
+            (StacksWith cover.now piece cells.now floor (a ∷ b ∷ c ∷ []))
+            (StacksWith cover.now piece cells.now floor (a ∷ b ∷ c ∷ [])) }
     {
-        any_row!(self, cover, cells, floor, a, rest, row => self.stacks_two(cover, &rest, row + 1, b, c))
+        any_row!(self, cover, cells, floor, a, rest, row => self.stacks_two(cover, piece, &rest, row + 1, b, c))
     }
 
     /// The same for four spans.
@@ -288,7 +328,8 @@ impl PieceStore {
     fn stacks_four(
         &mut self,
         cover: &Cover,
-        cells: &Empties,
+        piece: Piece,
+        cells: &Shifted,
         floor: u8,
         a: Span,
         b: Span,
@@ -297,24 +338,24 @@ impl PieceStore {
     ) -> bool
         requires { floor ≤ 8 }
         ensures { Gains (noted false self.old.pieces) (noted result self.new.pieces)
-            (StacksWith cover.now (empty_cells cells.now) floor (a ∷ b ∷ c ∷ d ∷ []))
-            (StacksWith cover.now (empty_cells cells.now) floor (a ∷ b ∷ c ∷ d ∷ [])) }
+            (StacksWith cover.now piece cells.now floor (a ∷ b ∷ c ∷ d ∷ []))
+            (StacksWith cover.now piece cells.now floor (a ∷ b ∷ c ∷ d ∷ [])) }
     {
-        any_row!(self, cover, cells, floor, a, rest, row => self.stacks_three(cover, &rest, row + 1, b, c, d))
+        any_row!(self, cover, cells, floor, a, rest, row => self.stacks_three(cover, piece, &rest, row + 1, b, c, d))
     }
 
     /// The same for those in which the piece leaves these cells: what is found there, and the piece itself.
     #[cycle(walk)]
     #[inline(always)]
-    fn leaves(&mut self, cover: &Cover, rest: &Empties) -> bool
+    fn leaves(&mut self, cover: &Cover, piece: Piece, rest: &Shifted) -> bool
         ensures { Gains (noted false self.old.pieces) (noted result self.new.pieces)
-            (FindsWith cover.now (empty_cells rest.now))
-            (FindsWith cover.now (empty_cells rest.now)) }
+            (FindsWith cover.now piece (shifted_cells rest.now))
+            (FindsWith cover.now piece (shifted_cells rest.now)) }
     {
         if !self.search(rest, &cover.supply) {
             return false;
         }
-        self.mark_whole(cover, rest);
+        self.mark_whole(cover, piece, rest);
         true
     }
 }

@@ -11,7 +11,7 @@ pub(crate) enum Outcome {
     /// There is no tiling.
     NoTiling,
     /// There is a tiling. All tilings were visited in the walk with this number.
-    Walked(u64),
+    Walked(u32),
 }
 
 /// A question, which is a set of cells and a supply, and its result.
@@ -27,7 +27,7 @@ impl Walked {
     ghost use Rattle.packing.specs.Walks.{IsTrueIn};
 
     /// A question that was answered in the walk with this number.
-    pub(crate) fn new(cells: Empties, supply: [u8; 7], answer: bool, walk: u64) -> Walked
+    pub(crate) fn new(cells: Empties, supply: [u8; 7], answer: bool, walk: u32) -> Walked
         ensures cells { result.cells ≡ cells }
         ensures supply { result.supply ≡ supply }
         ensures none { answer ≡ false → result.outcome ≡ Outcome.NoTiling }
@@ -58,7 +58,7 @@ impl Walked {
 
     /// Whether there is a tiling. `None` if this is another question, or if there is a tiling but it was asked in
     /// another walk.
-    pub(crate) fn answer_to(&self, cells: &Empties, supply: &[u8; 7], walk: u64) -> Option<bool>
+    pub(crate) fn answer_to(&self, cells: &Empties, supply: &[u8; 7], walk: u32) -> Option<bool>
         ensures same { IfSome result (λ answer. (empty_cells self.now.cells ≡ empty_cells cells.now)
             × (self.now.supply ≡ supply.now)) }
         ensures none { IfSome result (λ answer. answer ≡ false → self.now.outcome ≡ Outcome.NoTiling) }

@@ -1,6 +1,7 @@
 -- A page as it is shown.
-use Rattle.std.specs.Prelude.{ℕ, ◌+◌, List, [], ◌∷◌, ◌++◌, codes, decimal, Option, Some, None}
+use Rattle.std.specs.Prelude.{ℕ, ◌+◌, List, [], ◌∷◌, ◌++◌, codes, Option, Some, None}
 use Rattle.std.specs.List.{flat_map}
+use Rattle.line_writing.specs.Count.{count_form}
 use Rattle.srs.specs.declared.placement.Placement.{Placement}
 use Rattle.srs.specs.Piece.{piece_letter}
 use Rattle.fumen_pages.specs.declared.page.Page.{Page}
@@ -20,10 +21,6 @@ row_line row = row ++ 10 ∷ []
 abbrev pub rows_lines : List ℕ → List ℕ
 rows_lines letters = flat_map row_line (shown_rows letters) ++ row_line (garbage_row letters)
 
--- the word `page` and its number
-abbrev pub title_line : ℕ → List ℕ
-title_line number = codes "page " ++ decimal number ++ 10 ∷ []
-
 -- the number of a page, and its rows
 unfoldable pub shown_page : ℕ → Page → List ℕ
-shown_page number page = title_line number ++ rows_lines (with_operation page.operation (letters_of page.cells))
+shown_page number page = count_form (codes "page ") number ++ rows_lines (with_operation page.operation (letters_of page.cells))

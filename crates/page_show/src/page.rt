@@ -7,10 +7,10 @@ ghost use Rattle.pc_outside.specs.Writes.{WritesAll};
 ghost use Rattle.srs.specs.Cells.{is_inside_of};
 ghost use Rattle.fumen_pages.specs.Cells.{IsColour};
 ghost use Rattle.page_list.specs.Letters.{letters_of, shown_rows};
-ghost use Rattle.page_show.specs.Page.{row_line, rows_lines, shown_page, title_line, with_operation};
+ghost use Rattle.page_show.specs.Page.{row_line, rows_lines, shown_page, with_operation};
 
 use fumen_pages::{Page, mark};
-use itoa::Buffer;
+use line_writing::write_count;
 use page_list::{first_shown, letters_of, row};
 use pc_outside::{Failed, Sink, write_pieces};
 
@@ -24,16 +24,8 @@ pub fn show_page<O: Sink>(out: &mut O, number: u32, page: &Page) -> Result<(), F
     ensures written { WritesAll (O.written out.old) (O.written out.new) result (shown_page number page.now) }
     ensures cause { HasCause O.counts_failures_alone (O.faults out.old) (O.faults out.new) result }
 {
-    write_title(out, number)?;
+    write_count(out, b"page ", u64::from(number))?;
     write_rows(out, &shown_letters(page))
-}
-
-fn write_title<O: Sink>(out: &mut O, number: u32) -> Result<(), Failed>
-    ensures written { WritesAll (O.written out.old) (O.written out.new) result (title_line number) }
-    ensures cause { HasCause O.counts_failures_alone (O.faults out.old) (O.faults out.new) result }
-{
-    let mut digits = Buffer::new();
-    write_pieces(out, &[b"page ", digits.format(number).as_bytes(), b"\n"])
 }
 
 /// The letters of a page's cells, and of its operation's cells.

@@ -12,6 +12,7 @@ use Rattle.pc_faults.specs.declared.status.Status.TheVariants.{Done, Input, Sour
 use Rattle.pc_faults.specs.declared.words_fault.WordsFault.{WordsFault}
 use Rattle.pc_faults.specs.Inner.{IsInner, is_outer}
 use Rattle.pc_source.specs.Answers.{IsAnswered, WroteFront}
+use Rattle.pc_source.specs.Ends.{CommandEnds}
 use Rattle.pc_source.specs.Had.{IsUnread}
 use Rattle.pc_source.specs.Sink.{SinkChange}
 use Rattle.pc_source.specs.Source.{LeavesSource}
@@ -27,24 +28,17 @@ use Rattle.pc_app.specs.Tasks.{refused_task, task_for, task_in}
 use Rattle.pc_app.proofs.Commands.{inner_for}
 
 -- the task of one request is that of the same one
-pub for_request : (one other : Request) (bytes : List ℕ) (sink : SinkChange) (Kept : Type 0) (floods : ℕ) (status : Status) → other ≡ one
-    → IsAnswered (task_for one) bytes sink Kept floods status → IsAnswered (task_for other) bytes sink Kept floods status
-for_request one other bytes sink Kept floods status same = subst (λ request. IsAnswered (task_for request) bytes sink Kept floods status) (sym same)
+module _ (one other : Request) (same : other ≡ one) (bytes : List ℕ) (sink : SinkChange) (Kept : Type 0) (before now : ℕ) (status : Status) where
+  pub ends_for : CommandEnds (task_for one) bytes sink Kept before now status → CommandEnds (task_for other) bytes sink Kept before now status
+  ends_for = subst (λ request. CommandEnds (task_for request) bytes sink Kept before now status) (sym same)
 
-pub works_for : (one other : Request) (bytes : List ℕ) (sink : SinkChange) (floods : ℕ) (status : Status) → other ≡ one
-    → Works (task_for one) ((task_for one).fault bytes) bytes sink floods status → Works (task_for other) ((task_for other).fault bytes) bytes sink floods status
-works_for one other bytes sink floods status same = subst (λ request. Works (task_for request) ((task_for request).fault bytes) bytes sink floods status) (sym same)
-
--- a command that makes no floods, and leaves the counter where it was
-pub idle_answers : (one other : Request) (bytes : List ℕ) (sink : SinkChange) (Kept : Type 0) (before now : ℕ) (status : Status) → other ≡ one → now ≡ before
-    → IsAnswered (task_for one) bytes sink Kept 0 status → IsAnswered (task_for other) bytes sink Kept (now - before) status
-idle_answers one other bytes sink Kept before now status same kept a =
-    for_request one other bytes sink Kept (now - before) status same (subst (λ n. IsAnswered (task_for one) bytes sink Kept n status) (sym (none_added before now kept)) a)
-
-pub idle_works_for : (one other : Request) (bytes : List ℕ) (sink : SinkChange) (before now : ℕ) (status : Status) → other ≡ one → now ≡ before
-    → ((status : Status) → (task_for one).IsWork bytes sink status 0) → Works (task_for other) ((task_for other).fault bytes) bytes sink (now - before) status
-idle_works_for one other bytes sink before now status same kept idle =
-    works_for one other bytes sink (now - before) status same (idle_works (task_for one) ((task_for one).fault bytes) bytes sink (now - before) idle (none_added before now kept) status)
+  -- a command that makes no floods, and leaves the counter where it was
+  pub idle_ends_for : now ≡ before → ((status : Status) → (task_for one).IsWork bytes sink status 0) → IsAnswered (task_for one) bytes sink Kept 0 status → CommandEnds (task_for other) bytes sink Kept before now status
+  idle_ends_for kept idle a = ends_for (record {
+    answers = subst (λ n. IsAnswered (task_for one) bytes sink Kept n status) (sym (none_added before now kept)) a;
+    works = idle_works (task_for one) ((task_for one).fault bytes) bytes sink (now - before) idle (none_added before now kept) status;
+    counted = omega (arith, kept);
+  })
 
 -- the bytes that were read are those that the task sees
 seen_is : (reads : Bool) (left : Option (List ℕ)) (seen bytes : List ℕ) → HasBytes reads left seen → Sees reads left bytes → seen ≡ bytes

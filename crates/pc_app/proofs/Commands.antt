@@ -17,9 +17,9 @@ use Rattle.pc_app.specs.Tasks.{task_for, task_in, task_of, tells_floods, tells_f
 one_for : (request : Request) (bytes : List ℕ) (floods others : ℕ) → (tells_floods request ≡ true → floods ≡ others) → (a b : List ℕ)
     → (task_for request).IsOutput bytes floods a → (task_for request).IsOutput bytes others b → a ≡ b
 one_for (path request) bytes floods others same = one_path_output request bytes floods others same
-one_for (percent request) bytes floods others same = one_percent_output request bytes
-one_for (cover request) bytes floods others same = one_cover_output request bytes
-one_for (combo request) bytes floods others same = one_combo_output request bytes
+one_for (percent request) bytes floods others same = one_percent_output request bytes floods others
+one_for (cover request) bytes floods others same = one_cover_output request bytes floods others
+one_for (combo request) bytes floods others same = one_combo_output request bytes floods others
 one_for decode bytes floods others same = one_decode_output bytes
 one_for (encode dialect) bytes floods others same = one_encode_output dialect bytes
 one_for (show asked) bytes floods others same = one_show_output asked bytes

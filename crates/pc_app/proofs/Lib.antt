@@ -1,3 +1,4 @@
 -- Lemmas of this crate.
 mod Answering
 mod Commands
+mod Ending

@@ -1,9 +1,8 @@
 // Each command, run by its settings.
 ghost use Rattle.std.specs.Prelude.{◌≡◌, ◌-◌, ◌≤◌, length};
-ghost use Rattle.pc_source.specs.Answers.{IsAnswered};
+ghost use Rattle.pc_source.specs.Ends.{CommandEnds};
 ghost use Rattle.pc_source.specs.Sink.{sink_change};
 ghost use Rattle.pc_source.specs.Task.{most_bytes, reads_source};
-ghost use Rattle.pc_source.specs.Work.{Works};
 ghost use Rattle.pc_words.specs.Views.{AsksInRange, settings_view};
 ghost use Rattle.pc_app.specs.Tasks.{task_for};
 
@@ -49,15 +48,9 @@ pub fn perform<O: Sink, L: Ledger>(
 ) -> Status
     requires range { AsksInRange (settings_view settings.now) }
     requires short { length bytes.now ≤ most_bytes }
-    ensures answers { let task = task_for (settings_view settings.now) in
-        let sink = sink_change O.counts_failures_alone (O.written out.old) (O.written out.new)
-        (O.faults out.old) (O.faults out.new) in
-        IsAnswered task bytes.now sink (out.new ≡ out.old) (steps.new - steps.old) result }
-    ensures works { let task = task_for (settings_view settings.now) in
-        let sink = sink_change O.counts_failures_alone (O.written out.old) (O.written out.new)
-        (O.faults out.old) (O.faults out.new) in
-        Works task (task.fault bytes.now) bytes.now sink (steps.new - steps.old) result }
-    ensures counted { steps.old ≤ steps.new }
+    ensures { CommandEnds (task_for (settings_view settings.now)) bytes.now
+        (sink_change O.counts_failures_alone (O.written out.old) (O.written out.new)
+        (O.faults out.old) (O.faults out.new)) (out.new ≡ out.old) steps.old steps.new result }
 {
     match settings {
         Settings::Path(path) => run_path(alloc, path, bytes, out, steps),

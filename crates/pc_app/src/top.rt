@@ -1,5 +1,5 @@
 // The top call: from the words to what is written.
-ghost use Rattle.std.specs.Prelude.{◌≡◌, ◌≢◌, ◌⊎◌, ◌-◌, ◌≤◌, ℕ, List, true, None, Some, Err};
+ghost use Rattle.std.specs.Prelude.{◌≡◌, ◌≢◌, ◌-◌, ◌≤◌, true, Some, Err};
 ghost use Rattle.kick_file.specs.declared.fault.KickFault.{KickFault};
 ghost use Rattle.pc_outside.specs.Counts.{Rose};
 ghost use Rattle.pc_outside.specs.Writes.{Grows, GrowsByFront};
@@ -7,18 +7,18 @@ ghost use Rattle.pc_faults.specs.declared.fault.Fault.{Fault};
 ghost use Rattle.pc_faults.specs.declared.status.Status.{Status};
 ghost use Rattle.pc_faults.specs.declared.words_fault.WordsFault.{WordsFault};
 ghost use Rattle.pc_faults.specs.FaultLine.{fault_line};
-ghost use Rattle.pc_source.specs.Answers.{EndsBy, FailedAfterFront, Wrote};
 ghost use Rattle.pc_source.specs.Sink.{sink_change};
 ghost use Rattle.pc_source.specs.Source.{LeavesSource};
 ghost use Rattle.pc_source.specs.Task.{ForBytes, ForSomeBytes, first_fault, reads_source};
 ghost use Rattle.pc_source.specs.Work.{Works};
 ghost use Rattle.pc_words.specs.Words.{asked_in, request_in, texts};
 ghost use Rattle.pc_app.specs.Ran.{LeavesSink, Ran};
+ghost use Rattle.pc_app.specs.Run.{RunEnds, source_change};
 ghost use Rattle.pc_app.specs.Tasks.{task_of};
 
 use crate::perform::{perform, reads_source};
 use pc_faults::{Status, write_fault};
-use pc_outside::{Sink, Source};
+use pc_outside::{Failed, Sink, Source};
 use pc_source::source_bytes;
 use pc_words::read_words;
 use reach::Steps;
@@ -73,6 +73,21 @@ fn answer<S: Source, O: Sink, L: Ledger>(
     }
 }
 
+/// Writes the line of the fault that a run ends by, if it ends by one.
+fn tell_fault<E: Sink>(err: &mut E, status: Status) -> Result<(), Failed>
+    ensures whole_line { (fault : Fault) → status ≡ Status.Input fault
+        → (Rose (E.faults err.old) (E.faults err.new) → ⊥)
+        → Grows (E.written err.old) (E.written err.new) (fault_line fault) }
+    ensures fault_line { (fault : Fault) → status ≡ Status.Input fault
+        → GrowsByFront (E.written err.old) (E.written err.new) (fault_line fault) }
+    ensures no_line { ((fault : Fault) → status ≢ Status.Input fault) → err.new ≡ err.old }
+{
+    match status {
+        Status::Input(fault) => write_fault(err, fault),
+        _ => Ok(()),
+    }
+}
+
 /// Runs the command that the words name. The words do not include the program's name. Answers go to `out`; the line of
 /// a fault goes to `err`.
 pub fn run<S: Source, O: Sink, E: Sink, L: Ledger>(
@@ -83,74 +98,16 @@ pub fn run<S: Source, O: Sink, E: Sink, L: Ledger>(
     err: &mut E,
     steps: &mut Steps<L>,
 ) -> Status
-    ensures done { let task = task_of (texts words.now) in
-        let sink = sink_change O.counts_failures_alone (O.written out.old) (O.written out.new)
-        (O.faults out.old) (O.faults out.new) in
-        result ≡ Status.Done → ForBytes task (S.left source.old)
-        (λ bytes. Wrote (task.IsOutput bytes (steps.new - steps.old)) sink) }
-    ensures no_fault { let task = task_of (texts words.now) in
-        result ≡ Status.Done → ForBytes task (S.left source.old) (λ bytes. first_fault task bytes ≡ None) }
-    ensures front { let task = task_of (texts words.now) in
-        ForBytes task (S.left source.old)
-        (λ bytes. (output : List ℕ) → task.IsOutput bytes (steps.new - steps.old) output
-        → GrowsByFront (O.written out.old) (O.written out.new) output) }
-    ensures input { let task = task_of (texts words.now) in
-        (fault : Fault) → result ≡ Status.Input fault
-        → ForBytes task (S.left source.old) (λ bytes. first_fault task bytes ≡ Some fault) }
-    ensures words_fault { (fault : WordsFault) → result ≡ Status.Input (Fault.Words fault)
-        → request_in (texts words.now) ≡ Err fault }
-    ensures kicks_fault { (fault : KickFault) → result ≡ Status.Input (Fault.Kicks fault)
-        → asked_in (request_in (texts words.now)) ≡ Err (Fault.Kicks fault) }
-    ensures fault { let task = task_of (texts words.now) in
-        ForBytes task (S.left source.old) (λ bytes. (fault : Fault) → first_fault task bytes ≡ Some fault
-        → EndsBy task.needs fault result) }
-    ensures quiet { let task = task_of (texts words.now) in
-        ForBytes task (S.left source.old) (λ bytes. (fault : Fault) → first_fault task bytes ≡ Some fault
-        → (out.new ≡ out.old) × (steps.new ≡ steps.old)) }
-    ensures input_quiet { (fault : Fault) → result ≡ Status.Input fault
-        → (out.new ≡ out.old) × (steps.new ≡ steps.old) }
-    ensures source_fault { result ≡ Status.SourceFault → Rose (S.faults source.old) (S.faults source.new)
-        × (out.new ≡ out.old) × (steps.new ≡ steps.old) }
-    ensures sink_fault { let task = task_of (texts words.now) in
-        let sink = sink_change O.counts_failures_alone (O.written out.old) (O.written out.new)
-        (O.faults out.old) (O.faults out.new) in
-        result ≡ Status.SinkFault → ForBytes task (S.left source.old)
-        (λ bytes. FailedAfterFront (first_fault task bytes) (task.IsOutput bytes (steps.new - steps.old)) sink) }
-    ensures sink_rose { result ≡ Status.SinkFault → Rose (O.faults out.old) (O.faults out.new) }
-    ensures no_memory { (task_of (texts words.now)).memory_first ≡ true → result ≡ Status.NoMemory
-        → out.new ≡ out.old }
-    ensures complete { let task = task_of (texts words.now) in
-        ForBytes task (S.left source.old) (λ bytes. first_fault task bytes ≡ None
-        → (Rose (S.faults source.old) (S.faults source.new) → ⊥) → (Rose (O.faults out.old) (O.faults out.new) → ⊥)
-        → (result ≡ Status.Done) ⊎ (result ≡ Status.NoMemory)) }
-    ensures source { LeavesSource (reads_source (task_of (texts words.now)))
-        (S.left source.old) (S.left source.new) (source.new ≡ source.old) result }
-    ensures source_kept { S.counts_failures_alone ≡ true → result ≢ Status.SourceFault
-        → S.faults source.new ≡ S.faults source.old }
-    ensures sink_kept { O.counts_failures_alone ≡ true → result ≢ Status.SinkFault
-        → O.faults out.new ≡ O.faults out.old }
-    ensures work { let task = task_of (texts words.now) in
-        let sink = sink_change O.counts_failures_alone (O.written out.old) (O.written out.new)
-        (O.faults out.old) (O.faults out.new) in
-        ForSomeBytes task (S.left source.old)
-        (λ bytes. Works task (first_fault task bytes) bytes sink (steps.new - steps.old) result) }
-    ensures rose { steps.old ≤ steps.new }
-    ensures fault_line { (fault : Fault) → result ≡ Status.Input fault
-        → GrowsByFront (E.written err.old) (E.written err.new) (fault_line fault) }
-    ensures whole_line { (fault : Fault) → result ≡ Status.Input fault
-        → (Rose (E.faults err.old) (E.faults err.new) → ⊥)
-        → Grows (E.written err.old) (E.written err.new) (fault_line fault) }
-    ensures no_line { ((fault : Fault) → result ≢ Status.Input fault) → err.new ≡ err.old }
+    ensures { RunEnds (texts words.now)
+        (source_change S.counts_failures_alone (S.left source.old) (S.left source.new)
+        (S.faults source.old) (S.faults source.new)) (source.new ≡ source.old)
+        (sink_change O.counts_failures_alone (O.written out.old) (O.written out.new)
+        (O.faults out.old) (O.faults out.new)) (out.new ≡ out.old)
+        (sink_change E.counts_failures_alone (E.written err.old) (E.written err.new)
+        (E.faults err.old) (E.faults err.new)) (err.new ≡ err.old) steps.old steps.new result }
 {
-    match answer(alloc, words, source, out, steps) {
-        Status::Done => Status::Done,
-        Status::Input(fault) => {
-            // The status stays the same, whether or not the line could be written.
-            let _ = write_fault(err, fault);
-            Status::Input(fault)
-        }
-        Status::SourceFault => Status::SourceFault,
-        Status::SinkFault => Status::SinkFault,
-        Status::NoMemory => Status::NoMemory,
-    }
+    let status = answer(alloc, words, source, out, steps);
+    // The status stays the same, whether or not the line could be written.
+    let _ = tell_fault(err, status);
+    status
 }

@@ -69,7 +69,7 @@ front_now holds text part =
     (part.rest, part.up_to.divided ∙ ap (λ (l : List ℕ). l ++ part.rest) (sym (told_now holds part.up_to.front part.up_to.grown)))
 
 -- a text was written, or as much of it as there is room for
-cut_or_whole : (s : SliceSink) (text : List ℕ) → GrowsByFront (Some []) (Some (held_bytes (sink_view s))) text
+pub cut_or_whole : (s : SliceSink) (text : List ℕ) → GrowsByFront (Some []) (Some (held_bytes (sink_view s))) text
     → ((Rose 0 s.faults → ⊥) → Grows (Some []) (Some (held_bytes (sink_view s))) text)
     → (sink_view s).bytes ≡ take (length s.buffer.now) text
 cut_or_whole s text part whole = elim (cases_Bool (nat_lt 0 s.faults)) [
@@ -224,6 +224,13 @@ whole_slice s =
     let back = length-drop s.count s.buffer.now in
     omega (arith, within, front, back)
 
+-- a front that is empty has no bytes
+pub none_told : (count : ℕ) (bytes : List ℕ) → count ≤ length bytes → take count bytes ≡ [] → count ≡ 0
+none_told count bytes within none =
+    let size = length-take count bytes in
+    let empty = ap length none in
+    omega (arith, within, size, empty)
+
 -- what is equal has equal parts
 pub via : {A B : Type 0} {x y : A} → x ≡ y → (f : A → B) → f x ≡ f y
 via same f = ap f same
@@ -274,6 +281,13 @@ module _ (task : Task) (bytes written : List ℕ) (room floods : ℕ) (told : Li
   front_by SinkFault is code out = absurd (omega (arith, is, code))
   front_by NoMemory is code out = out
 
+  silent_by : (status : Status) → code ≡ status_code status → code ≢ 2 → LeavesErr told err_room status → told ≡ []
+  silent_by Done is other err = err
+  silent_by (Input fault) is other err = absurd (other is)
+  silent_by SourceFault is other err = err
+  silent_by SinkFault is other err = err
+  silent_by NoMemory is other err = err
+
 -- what holds of the number of floods, of which that holds
 pub with_floods : {count : ℕ} {Holds Gives : ℕ → Type 0} → ForFloods count Holds
     → ((floods : ℕ) → Holds floods → Gives floods) → ForFloods count Gives
@@ -291,6 +305,9 @@ module _ (task : Task) (bytes written : List ℕ) (room count : ℕ) (told : Lis
   at_idle is =
       let none = idle_by task bytes written room ended.out.floods told err_room code ended.status ended.is is ended.out.holds in
       ended.out.counted ∙ ap (λ n. min n (2 ^ 64 - 1)) none
+
+  pub at_silent : code ≢ 2 → told ≡ []
+  at_silent other = silent_by task bytes written room ended.out.floods told err_room code ended.status ended.is other ended.err
 
   pub at_cut : code ≡ 4 → ForFloods count (WritesCut task bytes written room)
   at_cut is = with_floods ended.out (λ floods out. cut_by task bytes written room floods told err_room code ended.status ended.is is out)

@@ -1,5 +1,10 @@
 -- What a reader must believe.
 pub mod Words
 pub mod Call
+pub mod OtherCommand
+pub mod GoodQueues
+pub mod Solutions
 -- What serves proofs alone.
 pub mod Ended
+pub mod QueuesEnded
+pub mod SolutionsEnded

@@ -8,21 +8,20 @@ ghost use Rattle.pc_c.specs.Call.{ForFloods, IsStatus, TellsFault, WritesCut, Wr
 ghost use Rattle.pc_c.specs.Ended.{EndedBy};
 ghost use Rattle.pc_c.specs.Words.{SpellsNoWords, SpellsWords};
 
+mod good_queues;
+mod input;
 mod slots;
+mod solutions;
+mod status;
 mod words;
 
 use pc_outside::SliceSink;
 use slots::run_into;
+use status::{NO_MEMORY, NO_WORDS};
 use std::alloc::Global;
 use std::marker::Brand;
 use std::sync::ledger::Blank;
 use words::{NoWords, words_in};
-
-/// The status if there is not enough memory.
-const NO_MEMORY: u8 = 5;
-
-/// The status if a word is not UTF-8, or the last word has no NUL byte behind it.
-const NO_WORDS: u8 = 6;
 
 /// The status of a call, how many bytes it wrote to each buffer, and how many floods it made.
 #[derive(Drop)]

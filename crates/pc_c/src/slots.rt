@@ -1,5 +1,5 @@
 // Runs over slices. The type of a sink says which slice it fills, so this remains known whatever a run does with it.
-ghost use Rattle.std.specs.Prelude.{◌≡◌, ◌≢◌, ◌<◌, ◌+◌, ◌-◌, ℕ, [], List, length, drop, true, Some};
+ghost use Rattle.std.specs.Prelude.{◌≡◌, ◌≢◌, ◌<◌, ◌≤◌, ◌+◌, ◌-◌, ℕ, [], List, length, take, drop, true, Some};
 ghost use Rattle.pc_outside.specs.Counts.{Rose};
 ghost use Rattle.pc_outside.specs.SliceSink.{held_bytes};
 ghost use Rattle.pc_outside.specs.SliceSinkView.{sink_view};
@@ -13,6 +13,7 @@ ghost use Rattle.pc_c.specs.Call.{ForFloods, seen};
 ghost use Rattle.pc_c.specs.Ended.{IsFresh, LeavesErr, LeavesOut};
 
 use pc_app::{Status, run};
+use pc_faults::{Fault, write_fault};
 use pc_outside::{Failed, Sink, SliceSink, SliceSource};
 use reach::Steps;
 use std::alloc::Global;
@@ -136,4 +137,33 @@ pub(crate) fn run_into<L: Ledger, P: Slot, Q: Slot>(
         status,
         floods: steps.count(),
     }
+}
+
+/// Writes the line of a fault, as far as there is room, into a sink that has written nothing to its slice yet.
+pub(crate) fn tell_fault<P: Slot>(err: &mut SliceSink<'_>, fault: Fault)
+    requires { IsFresh (sink_view err.old) P.name P.before }
+    ensures slice { (sink_view err.new).slice ≡ (sink_view err.old).slice }
+    ensures rest { (sink_view err.new).rest ≡ drop (length (sink_view err.new).bytes) (sink_view err.old).rest }
+    ensures line { (sink_view err.new).bytes ≡ take (length (sink_view err.old).rest) (fault_line fault) }
+{
+    let taken = mem::replace(err, SliceSink::new(&mut []));
+    let mut slot: SlotSink<'_, P> = SlotSink {
+        sink: taken,
+        slot: PhantomData,
+    };
+    // What finds no room is left out.
+    let _ = write_fault(&mut slot, fault);
+    let SlotSink { sink, slot: _ } = slot;
+    *err = sink;
+}
+
+/// Writes the line of a fault to the first bytes of `err`, as far as there is room, and tells how many these are.
+pub(crate) fn write_line(fault: Fault, err: &mut [u8]) -> usize
+    ensures within { result ≤ length err.new }
+    ensures rest { drop result err.new ≡ drop result err.old }
+    ensures line { take result err.new ≡ take (length err.old) (fault_line fault) }
+{
+    let mut sink = SliceSink::new(err);
+    tell_fault::<Brand>(&mut sink, fault);
+    sink.count()
 }

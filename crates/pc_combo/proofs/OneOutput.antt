@@ -1,5 +1,5 @@
 -- What `combo` writes is determined by its request and the bytes of the source.
-use Rattle.std.proofs.Common.{◌≡◌, ◌∙◌, ℕ, List, [], ◌∷◌, Result, Ok, sym, ap, subst}
+use Rattle.std.proofs.Common.{true, ◌≡◌, ◌∙◌, ℕ, List, [], ◌∷◌, Result, Ok, sym, ap, subst}
 use Rattle.srs.specs.declared.piece.Piece.{Piece}
 use Rattle.srs.specs.Kick.{Table}
 use Rattle.kick_file.specs.declared.fault.KickFault.{KickFault}
@@ -11,8 +11,10 @@ use Rattle.combo.specs.Longest.{IsLongest}
 use Rattle.combo.proofs.CallerLemmas.{one_longest}
 use Rattle.report.specs.Forms.{key_part}
 use Rattle.pc_settings.specs.Request.{ComboRequest}
-use Rattle.pc_source.proofs.CallerLemmas.{one_field}
-use Rattle.pc_combo.specs.Output.{IsComboOutput, IsOneQueue, IsRunFor, combo_form}
+use Rattle.pc_source.specs.FieldTask.{its_field}
+use Rattle.pc_source.proofs.FieldTasks.{one_of_field}
+use Rattle.pc_combo.specs.Output.{IsOneQueue, IsRunFor, combo_form}
+use Rattle.pc_combo.specs.ComboTask.{run_task, combo_task}
 
 same_ok : (xs ys : List Element) → ◌≡◌ {A = Result (List Element) PatternFault} (Ok xs) (Ok ys) → xs ≡ ys
 same_ok xs ys e = cc
@@ -36,7 +38,5 @@ one_answer request F a b first second =
     first.lines ∙ ap (λ t. combo_form (key_part request.keys t request.drop_mode) F first.run) table ∙ ap (combo_form (key_part request.keys second.table request.drop_mode) F)
     (one_longest second.table request.drop_mode F request.hold second.queue request.held first.run second.run longest second.longest) ∙ sym second.lines
 
-pub one_combo_output : (request : ComboRequest) (bytes a b : List ℕ) → IsComboOutput request bytes a → IsComboOutput request bytes b → a ≡ b
-one_combo_output request bytes a b first second =
-    let same = one_field request.field request.page bytes first.field second.field first.asked second.asked in
-    one_answer request second.field a b (subst (λ F. IsRunFor request F a) same first.answered) second.answered
+pub one_combo_output : (request : ComboRequest) (bytes : List ℕ) (floods others : ℕ) (a b : List ℕ) → (combo_task request).IsOutput bytes floods a → (combo_task request).IsOutput bytes others b → a ≡ b
+one_combo_output request bytes floods others = one_of_field its_field request.field request.page true (run_task request) bytes floods others (λ F. one_answer request F)

@@ -8,7 +8,7 @@ use Rattle.queue_pattern.specs.Queues.{queues}
 use Rattle.pc_faults.specs.declared.fault.Fault.{Fault}
 use Rattle.pc_faults.specs.declared.fault.Fault.TheVariants as faults
 use Rattle.pc_faults.specs.FirstFault.{first_of_these}
-use Rattle.pc_source.specs.Faults.{cells_asked, field_fault}
+use Rattle.pc_source.specs.FieldTask.{fault_by_field, its_field}
 use Rattle.pc_problem.specs.Faults.{full_row_fault, pattern_fault}
 use Rattle.pc_settings.specs.Request.{ComboRequest}
 
@@ -28,8 +28,5 @@ run_fault request F = first_of_these (
     ∷ [])
 
 -- the text of the field, and then what is asked about the field
-unfoldable pub combo_fault : ComboRequest → List ℕ → Option Fault
-combo_fault request bytes = first_of_these (
-    field_fault request.field request.page bytes
-    ∷ run_fault request (cells_asked request.field request.page bytes)
-    ∷ [])
+abbrev pub combo_fault : ComboRequest → List ℕ → Option Fault
+combo_fault request = fault_by_field its_field request.field request.page (λ F bytes. run_fault request F)

@@ -2,5 +2,3 @@
 pub mod Faults
 pub mod Output
 pub mod ComboTask
--- What serves proofs alone.
-pub mod RunTask

@@ -1,5 +1,6 @@
 -- What `combo` writes.
-use Rattle.std.specs.Prelude.{◌≡◌, ℕ, List, [], ◌∷◌, ◌++◌, codes, decimal, length, Ok}
+use Rattle.std.specs.Prelude.{◌≡◌, ℕ, List, [], ◌∷◌, ◌++◌, codes, length, Ok}
+use Rattle.line_writing.specs.Count.{count_form}
 use Rattle.lane_board.specs.Field.{Field}
 use Rattle.srs.specs.declared.piece.Piece.{Piece}
 use Rattle.srs.specs.declared.placement.Placement.{Placement}
@@ -9,16 +10,11 @@ use Rattle.queue_pattern.specs.Grammar.{elements as elements_in, limited}
 use Rattle.queue_pattern.specs.Queues.{queues}
 use Rattle.combo.specs.Longest.{IsLongest}
 use Rattle.report.specs.Forms.{KeysOf, key_part, run_form}
-use Rattle.pc_source.specs.FieldText.{IsFieldOf}
 use Rattle.pc_settings.specs.Request.{ComboRequest}
 
--- the line of how many placements a run has, as `combo 12`
-unfoldable pub count_form : ℕ → List ℕ
-count_form count = codes "combo " ++ decimal count ++ 10 ∷ []
-
--- the line of the run, if it has a placement, and then their number
+-- the line of the run, if it has a placement, and then their number, as `combo 12`
 unfoldable pub combo_form : KeysOf → Field → List Placement → List ℕ
-combo_form keys F run = run_form keys F run ++ count_form (length run)
+combo_form keys F run = run_form keys F run ++ count_form (codes "combo ") (length run)
 
 -- the one queue that the pattern has
 pub record IsOneQueue (text : List ℕ) (queue : List Piece) : Type 0 where
@@ -36,9 +32,3 @@ pub record IsRunFor (request : ComboRequest) (F : Field) (output : List ℕ) : T
   pub run : List Placement
   pub longest : IsLongest table request.drop_mode F request.hold queue request.held run
   pub lines : output ≡ combo_form (key_part request.keys table request.drop_mode) F run
-
--- that of the field that is asked about, where the source has these bytes
-pub record IsComboOutput (request : ComboRequest) (bytes output : List ℕ) : Type 0 where
-  pub field : Field
-  pub asked : IsFieldOf request.field request.page bytes field
-  pub answered : IsRunFor request field output

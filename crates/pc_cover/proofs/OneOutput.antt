@@ -1,5 +1,5 @@
 -- What `cover` writes is determined by its request and the bytes of the source.
-use Rattle.std.proofs.Common.{◌≡◌, ◌∙◌, ℕ, List, Result, Ok, slice_get, Some, sym, subst}
+use Rattle.std.proofs.Common.{true, ◌≡◌, ◌∙◌, ℕ, List, Result, Ok, slice_get, Some, sym, subst}
 use Rattle.std.specs.Ordering.{nat_cmp}
 use Rattle.std.proofs.lemmas.Cmp.{nat_cmp_total}
 use Rattle.lists.proofs.CallerLemmas.{IsRisingListOf-unique}
@@ -13,15 +13,16 @@ use Rattle.hold_queue.specs.Permits.{Permits}
 use Rattle.problem.specs.declared.problem.Problem.{Problem}
 use Rattle.problem.specs.Plays.{Plays}
 use Rattle.problem.specs.Solution.{pieces_of}
-use Rattle.cover.specs.Covered.{IsCovered, IsCoveredList, PlaysIn}
+use Rattle.cover.specs.Covered.{IsCovered, IsCoveredList}
 use Rattle.pc_settings.specs.Request.{FieldRequest}
-use Rattle.pc_source.proofs.CallerLemmas.{one_field}
+use Rattle.pc_source.specs.FieldTask.{its_rest}
+use Rattle.pc_source.proofs.FieldTasks.{one_of_field}
 use Rattle.pc_problem.specs.Problem.{IsProblemOf}
 use Rattle.pc_problem.proofs.CallerLemmas.{same_elements, same_table}
 use Rattle.pc_faults.specs.declared.cover_fault.CoverFault.{CoverFault}
-use Rattle.pc_cover.specs.Faults.{dash}
 use Rattle.pc_cover.specs.Lines.{cover_form}
-use Rattle.pc_cover.specs.Output.{IsCoverFor, IsCoverOutput, IsCoveringOf}
+use Rattle.pc_cover.specs.Output.{IsCoverFor, IsCoveringOf}
+use Rattle.pc_cover.specs.CoverTask.{covering_task, cover_task}
 
 covered_same : (request : FieldRequest) (F : Field) (one other : Problem) → IsProblemOf request F one → IsProblemOf request F other → (sequences : List (List Placement)) (number : ℕ) → IsCovered one sequences number → IsCovered other sequences number
 covered_same request F one other first second sequences number covered = record {
@@ -61,7 +62,5 @@ one_covering request F bytes a b first second =
     let same = same_given first.sequences second.sequences (sym first.given ∙ second.given) in
     one_cover_for request F second.sequences a b (subst (λ s. IsCoverFor request F s a) same first.covered) second.covered
 
-pub one_cover_output : (request : FieldRequest) (bytes a b : List ℕ) → IsCoverOutput request bytes a → IsCoverOutput request bytes b → a ≡ b
-one_cover_output request bytes a b first second =
-    let same = one_field request.field request.page dash first.field second.field first.asked second.asked in
-    one_covering request second.field bytes a b (subst (λ F. IsCoveringOf request F bytes a) same first.covering) second.covering
+pub one_cover_output : (request : FieldRequest) (bytes : List ℕ) (floods others : ℕ) (a b : List ℕ) → (cover_task request).IsOutput bytes floods a → (cover_task request).IsOutput bytes others b → a ≡ b
+one_cover_output request bytes floods others = one_of_field its_rest request.field request.page true (covering_task request) bytes floods others (λ F. one_covering request F bytes)

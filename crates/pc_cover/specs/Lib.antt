@@ -10,4 +10,4 @@ pub mod CoverTask
 pub mod LineSteps
 pub mod Sequences
 pub mod Covering
-pub mod CoveringTask
+pub mod LineStatus

@@ -8,9 +8,7 @@ use Rattle.queue_pattern.specs.Queues.{queues}
 use Rattle.problem.specs.declared.problem.Problem.{Problem}
 use Rattle.cover.specs.Covered.{IsCoveredList}
 use Rattle.pc_settings.specs.Request.{FieldRequest}
-use Rattle.pc_source.specs.FieldText.{IsFieldOf}
 use Rattle.pc_problem.specs.Problem.{IsProblemOf}
-use Rattle.pc_cover.specs.Faults.{dash}
 use Rattle.pc_cover.specs.Given.{given_in}
 use Rattle.pc_cover.specs.Lines.{cover_form}
 
@@ -29,9 +27,3 @@ pub record IsCoveringOf (request : FieldRequest) (F : Field) (bytes output : Lis
   pub sequences : List (List Placement)
   pub given : given_in (empties_below F request.height / 4) bytes ≡ Ok sequences
   pub covered : IsCoverFor request F sequences output
-
--- about the field that is asked about, where the source has these bytes
-pub record IsCoverOutput (request : FieldRequest) (bytes output : List ℕ) : Type 0 where
-  pub field : Field
-  pub asked : IsFieldOf request.field request.page dash field
-  pub covering : IsCoveringOf request field bytes output

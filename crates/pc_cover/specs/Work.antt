@@ -4,8 +4,6 @@ use Rattle.lane_board.specs.Field.{Field}
 use Rattle.srs.specs.declared.placement.Placement.{Placement}
 use Rattle.well.specs.Counts.{empties_below}
 use Rattle.pc_settings.specs.Request.{FieldRequest}
-use Rattle.pc_source.specs.FieldText.{IsFieldOf}
-use Rattle.pc_cover.specs.Faults.{dash}
 use Rattle.pc_cover.specs.Given.{given_in}
 
 -- about this field, at most one for each placement of the sequences that the lines of the source spell
@@ -13,9 +11,3 @@ pub record IsCoveringWork (request : FieldRequest) (F : Field) (bytes : List ℕ
   pub sequences : List (List Placement)
   pub given : given_in (empties_below F request.height / 4) bytes ≡ Ok sequences
   pub few : floods ≤ sum_by length sequences
-
--- about the field that is asked about, where the source has these bytes
-pub record IsCoverWork (request : FieldRequest) (bytes : List ℕ) (floods : ℕ) : Type 0 where
-  pub field : Field
-  pub asked : IsFieldOf request.field request.page dash field
-  pub covering : IsCoveringWork request field bytes floods

@@ -8,13 +8,12 @@ ghost use Rattle.queue_pattern.specs.Queues.{queues};
 ghost use Rattle.cover.specs.Kept.{lists_of, kept_problem};
 ghost use Rattle.pc_settings.specs.Request.{IsInRange};
 ghost use Rattle.pc_settings.specs.Views.{field_view};
-ghost use Rattle.pc_source.specs.Answers.{IsAnswered};
+ghost use Rattle.pc_source.specs.Ends.{CommandEnds};
 ghost use Rattle.pc_source.specs.Sink.{sink_change};
 ghost use Rattle.pc_source.specs.Task.{most_bytes};
-ghost use Rattle.pc_source.specs.Work.{Works};
-ghost use Rattle.pc_cover.specs.CoverTask.{cover_task};
+ghost use Rattle.pc_cover.specs.CoverTask.{cover_task, covering_task};
 ghost use Rattle.pc_cover.specs.Covering.{numbers_from};
-ghost use Rattle.pc_cover.specs.CoveringTask.{covering_task, status_of_lines};
+ghost use Rattle.pc_cover.specs.LineStatus.{status_of_lines};
 ghost use Rattle.pc_cover.specs.Lines.{cover_form};
 
 use crate::covering::{covering, write_covered};
@@ -55,15 +54,9 @@ pub fn run_cover<O: Sink, L: Ledger>(
 ) -> Status
     requires range { IsInRange (field_view settings.now) }
     requires short { length bytes.now ≤ most_bytes }
-    ensures answers { let sink = sink_change O.counts_failures_alone (O.written out.old) (O.written out.new)
-        (O.faults out.old) (O.faults out.new) in
-        IsAnswered (cover_task (field_view settings.now)) bytes.now sink (out.new ≡ out.old)
-        (steps.new - steps.old) result }
-    ensures works { let task = cover_task (field_view settings.now) in
-        let sink = sink_change O.counts_failures_alone (O.written out.old) (O.written out.new)
-        (O.faults out.old) (O.faults out.new) in
-        Works task (task.fault bytes.now) bytes.now sink (steps.new - steps.old) result }
-    ensures counted { steps.old ≤ steps.new }
+    ensures { CommandEnds (cover_task (field_view settings.now)) bytes.now
+        (sink_change O.counts_failures_alone (O.written out.old) (O.written out.new)
+        (O.faults out.old) (O.faults out.new)) (out.new ≡ out.old) steps.old steps.new result }
 {
     match field(alloc, settings.field, settings.page, b"-") {
         Ok(well) => cover_all(alloc, well, settings, bytes, out, steps),
@@ -92,15 +85,9 @@ fn cover_all<O: Sink, L: Ledger>(
 ) -> Status
     requires range { IsInRange (field_view settings.now) }
     requires short { length bytes.now ≤ most_bytes }
-    ensures answers { let sink = sink_change O.counts_failures_alone (O.written out.old) (O.written out.new)
-        (O.faults out.old) (O.faults out.new) in
-        IsAnswered (covering_task (field_view settings.now) (filled well)) bytes.now sink (out.new ≡ out.old)
-        (steps.new - steps.old) result }
-    ensures works { let task = covering_task (field_view settings.now) (filled well) in
-        let sink = sink_change O.counts_failures_alone (O.written out.old) (O.written out.new)
-        (O.faults out.old) (O.faults out.new) in
-        Works task (task.fault bytes.now) bytes.now sink (steps.new - steps.old) result }
-    ensures counted { steps.old ≤ steps.new }
+    ensures { CommandEnds (covering_task (field_view settings.now) (filled well)) bytes.now
+        (sink_change O.counts_failures_alone (O.written out.old) (O.written out.new)
+        (O.faults out.old) (O.faults out.new)) (out.new ≡ out.old) steps.old steps.new result }
 {
     let problem = match problem_of(well, settings) {
         Ok(problem) => problem,

@@ -1,5 +1,5 @@
 -- The fault of a given text is that of its reading.
-use Rattle.std.proofs.Common.{◌≡◌, ℕ, List, Option, Some, None, Result, Ok, Err, refl, ap, ◌↔◌}
+use Rattle.std.proofs.Common.{◌≡◌, ℕ, List, Some, None, Result, Ok, Err, refl, ap, ◌↔◌}
 use Rattle.srs.specs.declared.placement.Placement.{Placement}
 use Rattle.sequence_text.specs.Form.{IsRefusedAt, Spells}
 use Rattle.sequence_text.specs.Reading.{sequence_in}

@@ -1,5 +1,5 @@
 -- What the last line of a report answers, and how the run ends by it.
-use Rattle.std.proofs.Common.{◌≡◌, ℕ, ◌+◌, ◌≤◌, List, [], Bool, true, false, Option, None, Result, Ok, Err, refl, sym, ap, subst, inl, inr, ◌∙◌, arith}
+use Rattle.std.proofs.Common.{◌≡◌, ℕ, List, [], Bool, false, Option, None, Result, Ok, Err, refl, sym, ap, subst, inr, ◌∙◌, arith}
 use Rattle.lane_board.specs.Field.{Field}
 use Rattle.pc_outside.specs.declared.answers.Failed.{Failed}
 use Rattle.pc_outside.specs.Counts.{HasCause}
@@ -7,18 +7,17 @@ use Rattle.pc_outside.specs.CountLaws.{NoneFailed}
 use Rattle.pc_outside.specs.Writes.{WritesAll}
 use Rattle.pc_settings.specs.declared.format.Format.TheVariants.{Fumen}
 use Rattle.pc_settings.specs.Request.{PathRequest}
-use Rattle.pc_faults.specs.declared.fault.Fault.{Fault}
 use Rattle.pc_faults.specs.declared.status.Status.{Status}
-use Rattle.pc_faults.specs.declared.status.Status.TheVariants.{Done, Input, SourceFault, SinkFault, NoMemory}
+use Rattle.pc_faults.specs.declared.status.Status.TheVariants.{Done, SinkFault, NoMemory}
 use Rattle.pc_source.specs.Answers.{IsAnswered}
 use Rattle.pc_source.specs.Sink.{SinkChange}
 use Rattle.pc_source.specs.Work.{Works}
-use Rattle.report.specs.declared.write_fault.WriteFault.{WriteFault}
-use Rattle.report.specs.declared.write_fault.WriteFault.TheVariants as fault
-use Rattle.report.specs.WriteCause.{HasWriteCause}
+use Rattle.line_writing.specs.declared.write_fault.WriteFault.{WriteFault}
+use Rattle.line_writing.specs.declared.write_fault.WriteFault.TheVariants as fault
+use Rattle.line_writing.specs.WriteCause.{HasWriteCause}
 use Rattle.pc_path.specs.Faults.{listing_fault}
 use Rattle.pc_path.specs.Formats.{as_line, line_status, takes_memory_first}
-use Rattle.pc_path.specs.ListingTask.{listing_task}
+use Rattle.pc_path.specs.PathTask.{listing_task}
 use Rattle.pc_path.specs.Output.{IsReportOf}
 use Rattle.pc_path.specs.Work.{IsListingWork}
 

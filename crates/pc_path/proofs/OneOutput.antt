@@ -1,14 +1,9 @@
 -- What `path` writes is determined by its request and the bytes of the source.
-use Rattle.std.proofs.Common.{◌≡◌, ℕ, ◌/◌, List, [], ◌∷◌, ◌++◌, true, false, refl, sym, ap, subst, ◌∙◌, inl, inr, Option, Some, None, IsTrue, Bool}
-use Rattle.std.specs.Prelude.{Contains}
-use Rattle.std.specs.List.Sorted.{IsStrictlySortedBy}
-use Rattle.std.specs.Cmp.{IsTotalOrder, tied_itself}
-use Rattle.std.specs.declared.cmp.Ordering.{Ordering}
-use Rattle.std.specs.declared.cmp.Ordering.TheVariants.{Less, Equal}
+use Rattle.std.proofs.Common.{◌≡◌, ℕ, ◌/◌, List, ◌++◌, true, false, refl, sym, ap, subst, ◌∙◌, Option, Some, None, IsTrue, Bool}
 use Rattle.srs.specs.declared.placement.Placement.{Placement}
 use Rattle.lists.specs.Rising.{is_above, IsRisingListOf}
 use Rattle.srs.specs.Order.{sequence_cmp}
-use Rattle.lists.proofs.CallerLemmas.{Contains-here, Contains-there, Contains-cases, Contains-none, rising-first, rising-rest}
+use Rattle.lists.proofs.CallerLemmas.{IsRisingListOf-unique}
 use Rattle.srs.proofs.CallerLemmas.{sequence_cmp-total}
 use Rattle.srs.specs.Rules.{table_of}
 use Rattle.well.specs.Counts.{empties_below}
@@ -20,52 +15,19 @@ use Rattle.problem.specs.declared.problem.Problem.{Problem}
 use Rattle.problem.specs.Problem.{needed_of}
 use Rattle.problem.specs.Plays.{Plays}
 use Rattle.problem.specs.Solution.{IsSolution, pieces_of}
+use Rattle.problem.specs.SolutionList.{IsSolutionAbove}
 use Rattle.lane_board.specs.Field.{Field}
 use Rattle.sequence_text.proofs.CallerLemmas.{one_sequence}
 use Rattle.pc_settings.specs.Request.{FieldRequest, PathRequest}
 use Rattle.pc_settings.specs.declared.format.Format.{Format}
-use Rattle.pc_source.proofs.CallerLemmas.{one_field}
+use Rattle.pc_source.specs.FieldTask.{its_field}
+use Rattle.pc_source.proofs.FieldTasks.{one_of_field}
 use Rattle.pc_problem.specs.Problem.{IsProblemOf}
 use Rattle.pc_problem.proofs.CallerLemmas.{same_elements, same_table}
-use Rattle.pc_path.specs.Formats.{formatted, solution_form}
-use Rattle.pc_path.specs.Output.{IsGiven, IsPathOutput, IsReportOf, Listed, stats_form}
+use Rattle.pc_path.specs.Formats.{formatted, solution_form, takes_memory_first}
+use Rattle.pc_path.specs.Output.{IsGiven, IsReportOf, stats_form}
+use Rattle.pc_path.specs.PathTask.{listing_task, path_task}
 use Rattle.report.specs.Forms.{key_part, report_form}
-
--- of the same things there is one rising list
-module _ {A : Type 0} (cmp : A → A → Ordering) (total : IsTotalOrder cmp) where
-  not_both : (x y : A) → cmp x y ≡ Less → cmp y x ≡ Less → ⊥
-  not_both x y e f = let tied : cmp x x ≡ Equal = tied_itself total x in let less = total.trans x y x e f in cc
-
-  same_first : (x y : A) (xs ys : List A) → IsStrictlySortedBy cmp (x ∷ xs) → IsStrictlySortedBy cmp (y ∷ ys) → Contains (y ∷ ys) x → Contains (x ∷ xs) y → x ≡ y
-  same_first x y xs ys first second here there = elim (Contains-cases y ys x here) [
-    | inl e ↦ sym e
-    | inr below ↦ elim (Contains-cases x xs y there) [
-      | inl e ↦ e
-      | inr above ↦ absurd (not_both x y (rising-first cmp x xs first y above) (rising-first cmp y ys second x below))
-    ]
-  ]
-
-  in_rest : (x : A) (xs ys : List A) → IsStrictlySortedBy cmp (x ∷ xs) → ((z : A) → Contains (x ∷ xs) z → Contains (x ∷ ys) z) → (z : A) → Contains xs z → Contains ys z
-  in_rest x xs ys rising within z among = elim (Contains-cases x ys z (within z (Contains-there x xs z among))) [
-    | inl here ↦ let less = rising-first cmp x xs rising z among in absurd (not_both x x (subst (λ w. cmp x w ≡ Less) (sym here) less) (subst (λ w. cmp x w ≡ Less) (sym here) less))
-    | inr there ↦ there
-  ]
-
-  same_lists : (xs ys : List A) → IsStrictlySortedBy cmp xs → IsStrictlySortedBy cmp ys → ((z : A) → Contains xs z → Contains ys z) → ((z : A) → Contains ys z → Contains xs z) → xs ≡ ys
-  same_lists [] [] first second to from = refl
-  same_lists [] (y ∷ ys) first second to from = absurd (Contains-none y (from y (Contains-here y ys)))
-  same_lists (x ∷ xs) [] first second to from = absurd (Contains-none x (to x (Contains-here x xs)))
-  same_lists (x ∷ xs) (y ∷ ys) first second to from =
-      let e : x ≡ y = same_first x y xs ys first second (to x (Contains-here x xs)) (from y (Contains-here y ys)) in
-      let second' : IsStrictlySortedBy cmp (x ∷ ys) = subst (λ w. IsStrictlySortedBy cmp (w ∷ ys)) (sym e) second in
-      let to' : ((z : A) → Contains (x ∷ xs) z → Contains (x ∷ ys) z) = subst (λ w. (z : A) → Contains (x ∷ xs) z → Contains (w ∷ ys) z) (sym e) to in
-      let from' : ((z : A) → Contains (x ∷ ys) z → Contains (x ∷ xs) z) = subst (λ w. (z : A) → Contains (w ∷ ys) z → Contains (x ∷ xs) z) (sym e) from in
-      ap (λ l. x ∷ l) (same_lists xs ys (rising-rest cmp x xs first) (rising-rest cmp x ys second') (in_rest x xs ys first to') (in_rest x ys xs second' from')) ∙ ap (λ w. w ∷ ys) e
-
-  pub rising_list_unique : {IsMember Others : A → Type 0} (xs ys : List A) → IsRisingListOf cmp IsMember xs → IsRisingListOf cmp Others ys → ((z : A) → IsMember z → Others z) → ((z : A) → Others z → IsMember z)
-      → xs ≡ ys
-  rising_list_unique xs ys first second to from =
-      same_lists xs ys first.rising second.rising (λ z among. (second.members z).1 (to z ((first.members z).0 among))) (λ z among. (first.members z).1 (from z ((second.members z).0 among)))
 
 -- two problems that are asked about one field have the same solutions
 module _ (request : FieldRequest) (F : Field) (one other : Problem) (first : IsProblemOf request F one) (second : IsProblemOf request F other) where
@@ -91,6 +53,10 @@ module _ (request : FieldRequest) (F : Field) (one other : Problem) (first : IsP
             (subst (λ e. SomePermits one.hold (queues e) other.held (pieces_of sequence)) elements
             (subst (λ p. SomePermits one.hold (queues (elements_of one.pattern)) p (pieces_of sequence)) held solution.permitted));
       }
+
+  above_of_same : (bound above : Option (List Placement)) → bound ≡ above → (sequence : List Placement) → IsSolutionAbove (record { problem = one; queue = None; bound = bound }) sequence
+      → IsSolutionAbove (record { problem = other; queue = None; bound = above }) sequence
+  above_of_same bound above same sequence m = record { solution = solution_of_same sequence m.solution; above = subst (λ bound. IsTrue (is_above sequence_cmp bound sequence)) same m.above }
 
   -- the same reports
   one_report : (format : Format) (keys : Bool) (limit : ℕ) (xs ys : List (List Placement)) → xs ≡ ys → report_form (solution_form format keys one) limit xs ≡ report_form (solution_form format keys other) limit ys
@@ -118,25 +84,29 @@ report_unique request F floods others stats a b one other =
     let needed = same_needed request.common F first.problem second.problem first.named second.named in
     let given = subst (λ needed. IsGiven needed request.after first.after) needed first.given in
     let after : first.after ≡ second.after = same_given _ request.after first.after second.after given second.given in
-    let same : first.sequences ≡ second.sequences = rising_list_unique sequence_cmp sequence_cmp-total first.sequences second.sequences first.list second.list
-    (λ s m. record { solution = solution_of_same request.common F first.problem second.problem first.named second.named s m.solution; above = subst (λ bound. IsTrue (is_above sequence_cmp bound s)) after m.above })
-    (λ s m. record { solution = solution_of_same request.common F second.problem first.problem second.named first.named s m.solution; above = subst (λ bound. IsTrue (is_above sequence_cmp bound s)) (sym after) m.above }) in
+    let list : IsRisingListOf sequence_cmp (IsSolutionAbove (record { problem = second.problem; queue = None; bound = second.after })) first.sequences = record {
+      rising = first.list.rising;
+      members = λ s. (
+        λ among. above_of_same request.common F first.problem second.problem first.named second.named first.after second.after after s ((first.list.members s).0 among),
+        λ above. (first.list.members s).1 (above_of_same request.common F second.problem first.problem second.named first.named second.after first.after (sym after) s above),
+      );
+    } in
+    let same : first.sequences ≡ second.sequences = IsRisingListOf-unique sequence_cmp sequence_cmp-total (IsSolutionAbove (record { problem = second.problem; queue = None; bound = second.after })) first.sequences second.sequences list second.list in
     let reports = one_report request.common F first.problem second.problem first.named second.named request.format request.keys request.limit first.sequences second.sequences same in
     one.report ∙ (λ i. reports i ++ same_stats request.stats floods others stats i) ∙ sym other.report
 
 pub one_path_output : (request : PathRequest) (bytes : List ℕ) (floods others : ℕ) → (request.stats ≡ true → floods ≡ others) → (a b : List ℕ)
-    → IsPathOutput request bytes floods a → IsPathOutput request bytes others b → a ≡ b
-one_path_output request bytes floods others stats a b first second =
-    let same = one_field request.common.field request.common.page bytes first.field second.field first.asked second.asked in
-    report_unique request second.field floods others stats a b (subst (λ F. IsReportOf request F floods a) same first.report) second.report
+    → (path_task request).IsOutput bytes floods a → (path_task request).IsOutput bytes others b → a ≡ b
+one_path_output request bytes floods others stats =
+    one_of_field its_field request.common.field request.common.page (takes_memory_first request.format) (listing_task request) bytes floods others (λ F. report_unique request F floods others stats)
 
 -- two outputs are one report, each with its own number of floods behind it where it is written
 pub shared_path_output : (request : PathRequest) (bytes : List ℕ) (floods others : ℕ) (a b : List ℕ)
-    → IsPathOutput request bytes floods a → IsPathOutput request bytes others b
+    → (path_task request).IsOutput bytes floods a → (path_task request).IsOutput bytes others b
     → (report : List ℕ) × (a ≡ report ++ stats_form request.stats floods) × (b ≡ report ++ stats_form request.stats others)
 shared_path_output request bytes floods others a b first second =
-    let listed = first.report.listed in
+    let listed = first.holds.listed in
     let report = report_form (solution_form request.format request.keys listed.problem) request.limit listed.sequences in
-    let again : IsPathOutput request bytes others (report ++ stats_form request.stats others) =
-    record { field = first.field; asked = first.asked; report = record { listed = listed; report = refl } } in
-    (report, first.report.report, sym (one_path_output request bytes others others (λ _. refl) (report ++ stats_form request.stats others) b again second))
+    let again : (path_task request).IsOutput bytes others (report ++ stats_form request.stats others) =
+    record { field = first.field; asked = first.asked; holds = record { listed = listed; report = refl } } in
+    (report, first.holds.report, sym (one_path_output request bytes others others (λ _. refl) (report ++ stats_form request.stats others) b again second))

@@ -1,5 +1,5 @@
 -- A search that goes on, and the lines that are written of what it gives.
-use Rattle.std.proofs.Common.{◌≡◌, ◌∙◌, ℕ, zero, suc, ◌+◌, ◌-◌, ◌<◌, ◌≤◌, List, [], ◌∷◌, ◌++◌, length, take, drop, Option, None, Result, Ok, Err, OnOk, OnErr, IsOk, IsErr, refl, sym, ap, subst, arith, append-nil, append_assoc}
+use Rattle.std.proofs.Common.{◌≡◌, ◌∙◌, ℕ, zero, suc, ◌+◌, ◌-◌, ◌≤◌, List, [], ◌∷◌, ◌++◌, length, take, drop, Option, None, Result, Ok, Err, OnOk, OnErr, IsOk, IsErr, refl, sym, ap, subst, arith, append-nil, append_assoc}
 use Rattle.std.specs.List.{flat_map}
 use Rattle.std.proofs.lemmas.List.{drop-drop, length-drop}
 use Rattle.std.proofs.lemmas.List.Concat.{flat_map-append}
@@ -10,7 +10,7 @@ use Rattle.problem.specs.declared.problem.Problem.{Problem}
 use Rattle.enumerate.specs.declared.search.Search.{Search}
 use Rattle.enumerate.specs.ViewOf.{after_given, view_of, work}
 use Rattle.enumerate.specs.Work.{pairs}
-use Rattle.pc_path.specs.Work.{GrowsFrom, IsSearchOf, StoppedBefore}
+use Rattle.pc_path.specs.Work.{IsSearchOf, StoppedBefore}
 
 -- an answer that is known to be one or the other
 pub on_ok : {T E : Type 0} {P : Type 0} (result : Result T E) → P → OnOk result P

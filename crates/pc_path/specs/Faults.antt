@@ -7,7 +7,7 @@ use Rattle.sequence_text.specs.Reading.{sequence_in}
 use Rattle.pc_faults.specs.declared.fault.Fault.{Fault}
 use Rattle.pc_faults.specs.declared.fault.Fault.TheVariants as faults
 use Rattle.pc_faults.specs.FirstFault.{first_of_these}
-use Rattle.pc_source.specs.Faults.{cells_asked, field_fault}
+use Rattle.pc_source.specs.FieldTask.{fault_by_field, its_field}
 use Rattle.pc_problem.specs.Faults.{problem_fault}
 use Rattle.pc_settings.specs.Request.{PathRequest}
 
@@ -29,8 +29,6 @@ listing_fault request F = first_of_these (
     ∷ [])
 
 -- the text of the field, and then what is asked about the field
-unfoldable pub path_fault : PathRequest → List ℕ → Option Fault
-path_fault request bytes = first_of_these (
-    field_fault request.common.field request.common.page bytes
-    ∷ listing_fault request (cells_asked request.common.field request.common.page bytes)
-    ∷ [])
+abbrev pub path_fault : PathRequest → List ℕ → Option Fault
+path_fault request =
+    fault_by_field its_field request.common.field request.common.page (λ F bytes. listing_fault request F)

@@ -10,8 +10,8 @@ use Rattle.pc_settings.specs.declared.format.Format.{Format}
 use Rattle.pc_settings.specs.declared.format.Format.TheVariants.{Text, Fumen, Grid}
 use Rattle.pc_faults.specs.declared.status.Status.{Status}
 use Rattle.pc_faults.specs.declared.status.Status.TheVariants as status
-use Rattle.report.specs.declared.write_fault.WriteFault.{WriteFault}
-use Rattle.report.specs.declared.write_fault.WriteFault.TheVariants as fault
+use Rattle.line_writing.specs.declared.write_fault.WriteFault.{WriteFault}
+use Rattle.line_writing.specs.declared.write_fault.WriteFault.TheVariants as fault
 use Rattle.report.specs.Forms.{KeysOf, key_part, line_form}
 use Rattle.report.specs.FumenLine.{fumen_form}
 use Rattle.report.specs.Grid.{grid_form}

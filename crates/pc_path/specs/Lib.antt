@@ -5,5 +5,4 @@ pub mod Output
 pub mod PathTask
 pub mod Work
 -- What serves proofs alone.
-pub mod ListingTask
 pub mod Writer

@@ -10,7 +10,6 @@ use Rattle.problem.specs.Problem.{needed_of}
 use Rattle.problem.specs.SolutionList.{IsSolutionAbove}
 use Rattle.report.specs.Forms.{floods_form, report_form}
 use Rattle.sequence_text.specs.Form.{Spells}
-use Rattle.pc_source.specs.FieldText.{IsFieldOf}
 use Rattle.pc_problem.specs.Problem.{IsProblemOf}
 use Rattle.pc_settings.specs.Request.{PathRequest}
 use Rattle.pc_path.specs.Formats.{solution_form}
@@ -44,9 +43,3 @@ pub record IsReportOf (request : PathRequest) (F : Field) (floods : ℕ) (output
   pub listed : Listed request F
   pub report : output ≡ report_form (solution_form request.format request.keys listed.problem) request.limit
       listed.sequences ++ stats_form request.stats floods
-
--- the report about the field that is asked about, where the source has these bytes
-pub record IsPathOutput (request : PathRequest) (bytes : List ℕ) (floods : ℕ) (output : List ℕ) : Type 0 where
-  pub field : Field
-  pub asked : IsFieldOf request.common.field request.common.page bytes field
-  pub report : IsReportOf request field floods output

@@ -12,7 +12,6 @@ use Rattle.pc_faults.specs.declared.status.Status.{Status}
 use Rattle.pc_faults.specs.declared.status.Status.TheVariants.{Done, NoMemory, SinkFault}
 use Rattle.pc_settings.specs.declared.format.Format.TheVariants.{Fumen}
 use Rattle.pc_settings.specs.Request.{PathRequest}
-use Rattle.pc_source.specs.FieldText.{IsFieldOf}
 use Rattle.pc_source.specs.Sink.{SinkChange}
 use Rattle.pc_path.specs.Formats.{solution_form}
 use Rattle.pc_path.specs.Output.{Listed}
@@ -65,10 +64,3 @@ pub record IsListingWork (request : PathRequest) (F : Field) (sink : SinkChange)
   pub late : status ≡ NoMemory → request.format ≡ Fumen
   pub ended : status ≡ Done → listed.after ≡ None → length listed.sequences < request.limit
       → floods ≡ pairs listed.problem None
-
--- the floods about the field that is asked about, where the source has these bytes
-pub record IsPathWork (request : PathRequest) (bytes : List ℕ) (sink : SinkChange) (status : Status) (floods : ℕ)
-    : Type 0 where
-  pub field : Field
-  pub asked : IsFieldOf request.common.field request.common.page bytes field
-  pub listing : IsListingWork request field sink status floods

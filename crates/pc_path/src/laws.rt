@@ -13,14 +13,15 @@ ghost use Rattle.pc_faults.specs.declared.fault.Fault.TheVariants.{BadAfter};
 ghost use Rattle.pc_source.specs.FieldText.{field_needs};
 ghost use Rattle.pc_source.specs.Task.{is_source};
 ghost use Rattle.pc_path.specs.Faults.{after_fault, path_fault};
-ghost use Rattle.pc_path.specs.Output.{IsPathOutput};
+ghost use Rattle.pc_path.specs.PathTask.{path_task};
 
 /// The output of `path` depends only on its words, on the bytes of the source if it reads it, and with `--stats yes` on
 /// the number of floods.
 pub fn path_output_is_determined()
     ensures { (request : PathRequest) (bytes one other : List ℕ) (floods others : ℕ)
         → (request.stats ≡ true → floods ≡ others)
-        → IsPathOutput request bytes floods one → IsPathOutput request bytes others other → one ≡ other }
+        → (path_task request).IsOutput bytes floods one → (path_task request).IsOutput bytes others other
+        → one ≡ other }
 {}
 
 /// If `path` doesn't read the source, its first fault and its output are the same whatever bytes the source has.
@@ -29,7 +30,7 @@ pub fn unread_bytes_do_not_matter()
         → path_fault request one ≡ path_fault request other }
     ensures output { (request : PathRequest) (one other output : List ℕ) (floods : ℕ)
         → is_source (field_needs request.common.field) ≡ false
-        → IsPathOutput request one floods output → IsPathOutput request other floods output }
+        → (path_task request).IsOutput one floods output → (path_task request).IsOutput other floods output }
 {}
 
 /// A value for `--after` has no fault exactly if it spells a sequence of the needed length. It has the fault `BadAfter`

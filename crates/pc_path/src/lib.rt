@@ -6,4 +6,5 @@ mod listing;
 mod path;
 mod writer;
 
+pub use listing::{Listing, listing_of};
 pub use path::run_path;

@@ -1,23 +1,22 @@
 // Writing a solution in the format that is asked for.
-ghost use Rattle.std.specs.Prelude.{◌≡◌, ◌≢◌, ◌≤◌, Err, IfOk, IsOk, is_some};
+ghost use Rattle.std.specs.Prelude.{◌≡◌, ◌≢◌, ◌≤◌, Err, IfOk, IsOk};
 ghost use Rattle.srs.specs.Rules.{table_of};
 ghost use Rattle.well.specs.Well.{filled};
-ghost use Rattle.pc_outside.specs.Counts.{HasCause};
 ghost use Rattle.pc_outside.specs.Writes.{WritesAll};
 ghost use Rattle.problem.specs.Plays.{Plays};
-ghost use Rattle.report.specs.WriteCause.{HasWriteCause};
-ghost use Rattle.pc_path.specs.Formats.{as_line, line_status, solution_form};
-ghost use Rattle.pc_path.specs.Writer.{IsNew, format_of};
+ghost use Rattle.line_writing.specs.WriteCause.{HasWriteCause};
+ghost use Rattle.pc_path.specs.Formats.{as_line, line_status};
+ghost use Rattle.pc_path.specs.Writer.{IsNewForm, format_of};
 
-use key_path::Finder;
+use line_writing::WriteFault;
 use pc_faults::Status;
 use pc_outside::{Failed, NoMemory, Sink};
 use pc_settings::Format;
 use problem::{Problem, Sequence};
-use report::{FumenWriter, WriteFault, write_grid, write_line};
+use report::{FumenWriter, WrittenKeys, write_grid, write_line};
 use std::alloc::Global;
 
-/// A writer of solutions in one format, with the memory that the format needs.
+/// A format, with the memory that it needs.
 #[derive(Drop)]
 pub enum FormWriter {
     Text,
@@ -27,9 +26,9 @@ pub enum FormWriter {
 
 /// The writer of a format, which has written nothing yet. `NoMemory` if there is not enough memory for the pages of a
 /// fumen text; the other formats need none.
-pub fn writer_for(alloc: Global, format: Format) -> Result<FormWriter, NoMemory>
+fn form_for(alloc: Global, format: Format) -> Result<FormWriter, NoMemory>
     ensures form { IfOk result (λ writer. format_of writer ≡ format) }
-    ensures new { IfOk result IsNew }
+    ensures new { IfOk result IsNewForm }
     ensures none { format ≢ Format.Fumen → IsOk result }
 {
     match format {
@@ -39,6 +38,55 @@ pub fn writer_for(alloc: Global, format: Format) -> Result<FormWriter, NoMemory>
             Ok(writer) => Ok(FormWriter::Fumen(writer)),
             Err(none) => Err(none),
         },
+    }
+}
+
+/// A writer of solutions in one format, with the keys that are written with placements.
+#[derive(Drop)]
+pub struct SolutionWriter {
+    form: FormWriter,
+    keys: WrittenKeys,
+}
+
+impl SolutionWriter {
+    ghost use Rattle.std.specs.Prelude.{false};
+    ghost use Rattle.pc_path.specs.Writer.{IsNew, asked_of, form_of};
+
+    /// A writer that has written nothing yet. `NoMemory` if there is not enough memory for its keys or its format;
+    /// without keys, a text and a grid need none.
+    pub fn new(alloc: Global, format: Format, keys: bool) -> Result<SolutionWriter, NoMemory>
+        ensures asked { IfOk result (λ writer. asked_of writer ≡ (format, keys)) }
+        ensures new { IfOk result IsNew }
+        ensures none { keys ≡ false → format ≢ Format.Fumen → IsOk result }
+    {
+        let keys = WrittenKeys::new(alloc, keys)?;
+        let form = form_for(alloc, format)?;
+        Ok(SolutionWriter { form, keys })
+    }
+
+    /// Writes a solution.
+    pub fn write<O: Sink>(
+        &mut self,
+        alloc: Global,
+        out: &mut O,
+        problem: &Problem,
+        sequence: &Sequence,
+    ) -> Result<(), WriteFault>
+        requires { Plays (table_of problem.now.rules) problem.now.drop_mode
+            (filled problem.now.well) problem.now.height sequence.now.items }
+        ensures written { WritesAll (O.written out.old) (O.written out.new) result
+            (form_of self.old problem.now sequence.now.items) }
+        ensures cause { HasWriteCause O.counts_failures_alone (O.faults out.old) (O.faults out.new) result }
+        ensures memory { result ≡ Err WriteFault.NoMemory → (asked_of self.old).0 ≡ Format.Fumen }
+        ensures same { asked_of self.new ≡ asked_of self.old }
+    {
+        match &mut self.form {
+            FormWriter::Text => as_line(write_line(out, problem, sequence, &mut self.keys)),
+            FormWriter::Grid => as_line(write_grid(out, problem, sequence, &mut self.keys)),
+            FormWriter::Fumen(writer) => {
+                writer.write_line(alloc, out, problem, sequence, &mut self.keys)
+            }
+        }
     }
 }
 
@@ -60,91 +108,5 @@ pub fn line_status(written: Result<(), WriteFault>) -> Status
         Ok(()) => Status::Done,
         Err(WriteFault::Failed) => Status::SinkFault,
         Err(WriteFault::NoMemory) => Status::NoMemory,
-    }
-}
-
-/// Writes a solution in the writer's format, with keys if there is a finder.
-pub fn write_solution<O: Sink>(
-    alloc: Global,
-    out: &mut O,
-    problem: &Problem,
-    sequence: &Sequence,
-    finder: &mut Option<Finder>,
-    writer: &mut FormWriter,
-) -> Result<(), WriteFault>
-    requires { Plays (table_of problem.now.rules) problem.now.drop_mode
-        (filled problem.now.well) problem.now.height sequence.now.items }
-    ensures written { WritesAll (O.written out.old) (O.written out.new) result
-        (solution_form (format_of writer.old) (is_some finder.old) problem.now sequence.now.items) }
-    ensures cause { HasWriteCause O.counts_failures_alone (O.faults out.old) (O.faults out.new) result }
-    ensures memory { result ≡ Err WriteFault.NoMemory → format_of writer.old ≡ Format.Fumen }
-    ensures finder { is_some finder.new ≡ is_some finder.old }
-    ensures form { format_of writer.new ≡ format_of writer.old }
-{
-    match writer {
-        FormWriter::Text => as_line(write_text(out, problem, sequence, finder)),
-        FormWriter::Grid => as_line(write_as_grid(out, problem, sequence, finder)),
-        FormWriter::Fumen(writer) => {
-            write_as_fumen(alloc, out, problem, sequence, finder, writer)
-        }
-    }
-}
-
-fn write_text<O: Sink>(
-    out: &mut O,
-    problem: &Problem,
-    sequence: &Sequence,
-    finder: &mut Option<Finder>,
-) -> Result<(), Failed>
-    requires { Plays (table_of problem.now.rules) problem.now.drop_mode
-        (filled problem.now.well) problem.now.height sequence.now.items }
-    ensures written { WritesAll (O.written out.old) (O.written out.new) result
-        (solution_form Format.Text (is_some finder.old) problem.now sequence.now.items) }
-    ensures cause { HasCause O.counts_failures_alone (O.faults out.old) (O.faults out.new) result }
-    ensures finder { is_some finder.new ≡ is_some finder.old }
-{
-    match finder {
-        Some(finder) => write_line(out, problem, sequence, Some(finder)),
-        None => write_line(out, problem, sequence, None),
-    }
-}
-
-fn write_as_grid<O: Sink>(
-    out: &mut O,
-    problem: &Problem,
-    sequence: &Sequence,
-    finder: &mut Option<Finder>,
-) -> Result<(), Failed>
-    requires { Plays (table_of problem.now.rules) problem.now.drop_mode
-        (filled problem.now.well) problem.now.height sequence.now.items }
-    ensures written { WritesAll (O.written out.old) (O.written out.new) result
-        (solution_form Format.Grid (is_some finder.old) problem.now sequence.now.items) }
-    ensures cause { HasCause O.counts_failures_alone (O.faults out.old) (O.faults out.new) result }
-    ensures finder { is_some finder.new ≡ is_some finder.old }
-{
-    match finder {
-        Some(finder) => write_grid(out, problem, sequence, Some(finder)),
-        None => write_grid(out, problem, sequence, None),
-    }
-}
-
-fn write_as_fumen<O: Sink>(
-    alloc: Global,
-    out: &mut O,
-    problem: &Problem,
-    sequence: &Sequence,
-    finder: &mut Option<Finder>,
-    writer: &mut FumenWriter,
-) -> Result<(), WriteFault>
-    requires { Plays (table_of problem.now.rules) problem.now.drop_mode
-        (filled problem.now.well) problem.now.height sequence.now.items }
-    ensures written { WritesAll (O.written out.old) (O.written out.new) result
-        (solution_form Format.Fumen (is_some finder.old) problem.now sequence.now.items) }
-    ensures cause { HasWriteCause O.counts_failures_alone (O.faults out.old) (O.faults out.new) result }
-    ensures finder { is_some finder.new ≡ is_some finder.old }
-{
-    match finder {
-        Some(finder) => writer.write_line(alloc, out, problem, sequence, Some(finder)),
-        None => writer.write_line(alloc, out, problem, sequence, None),
     }
 }

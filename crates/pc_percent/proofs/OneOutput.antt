@@ -1,5 +1,5 @@
 -- What `percent` writes is determined by its request and the bytes of the source.
-use Rattle.std.proofs.Common.{◌≡◌, ◌∙◌, ◌↔◌, ℕ, List, Bool, true, false, IsTrue, sym, ap, subst, refl}
+use Rattle.std.proofs.Common.{◌≡◌, ◌∙◌, ℕ, List, Bool, true, false, IsTrue, sym, subst, refl}
 use Rattle.srs.specs.declared.piece.Piece.{Piece}
 use Rattle.srs.specs.Rules.{table_of}
 use Rattle.lane_board.specs.Field.{Field}
@@ -12,11 +12,13 @@ use Rattle.problem.specs.Plays.{Plays}
 use Rattle.problem.specs.Solution.{pieces_of}
 use Rattle.percent.specs.Good.{Good}
 use Rattle.pc_settings.specs.Request.{FieldRequest, PercentRequest}
-use Rattle.pc_source.proofs.CallerLemmas.{one_field}
+use Rattle.pc_source.specs.FieldTask.{its_field}
+use Rattle.pc_source.proofs.FieldTasks.{one_of_field}
 use Rattle.pc_problem.specs.Problem.{IsProblemOf}
 use Rattle.pc_problem.proofs.CallerLemmas.{same_elements, same_table}
 use Rattle.pc_percent.specs.Lines.{percent_form}
-use Rattle.pc_percent.specs.Output.{IsAnsweredFor, IsPercentOutput}
+use Rattle.pc_percent.specs.Output.{IsAnsweredFor}
+use Rattle.pc_percent.specs.PercentTask.{asked_task, percent_task}
 
 good_of_same : (request : FieldRequest) (F : Field) (one other : Problem) → IsProblemOf request F one → IsProblemOf request F other → (queue : List Piece) → Good one queue → Good other queue
 good_of_same request F one other first second queue good = record {
@@ -45,7 +47,5 @@ one_answer request F a b first second =
     let elements : elements_of first.problem.pattern ≡ elements_of second.problem.pattern = same_elements request.common F first.problem second.problem first.named second.named in
     first.lines ∙ (λ i. percent_form (λ queue. same queue i) request.failed (queues (elements i))) ∙ sym second.lines
 
-pub one_percent_output : (request : PercentRequest) (bytes a b : List ℕ) → IsPercentOutput request bytes a → IsPercentOutput request bytes b → a ≡ b
-one_percent_output request bytes a b first second =
-    let same = one_field request.common.field request.common.page bytes first.field second.field first.asked second.asked in
-    one_answer request second.field a b (subst (λ F. IsAnsweredFor request F a) same first.answered) second.answered
+pub one_percent_output : (request : PercentRequest) (bytes : List ℕ) (floods others : ℕ) (a b : List ℕ) → (percent_task request).IsOutput bytes floods a → (percent_task request).IsOutput bytes others b → a ≡ b
+one_percent_output request bytes floods others = one_of_field its_field request.common.field request.common.page true (asked_task request) bytes floods others (λ F. one_answer request F)

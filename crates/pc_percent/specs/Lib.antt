@@ -3,5 +3,3 @@ pub mod Faults
 pub mod Lines
 pub mod Output
 pub mod PercentTask
--- What serves proofs alone.
-pub mod AskedTask

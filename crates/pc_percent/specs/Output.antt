@@ -6,7 +6,6 @@ use Rattle.queue_pattern.specs.Pattern.{elements_of}
 use Rattle.queue_pattern.specs.Queues.{queues}
 use Rattle.problem.specs.declared.problem.Problem.{Problem}
 use Rattle.percent.specs.Good.{Good}
-use Rattle.pc_source.specs.FieldText.{IsFieldOf}
 use Rattle.pc_problem.specs.Problem.{IsProblemOf}
 use Rattle.pc_settings.specs.Request.{PercentRequest}
 use Rattle.pc_percent.specs.Lines.{percent_form}
@@ -19,9 +18,3 @@ pub record IsAnsweredFor (request : PercentRequest) (F : Field) (output : List �
   pub is_good : List Piece → Bool
   pub decides : (queue : List Piece) → IsTrue (is_good queue) ↔ Good problem queue
   pub lines : output ≡ percent_form is_good request.failed (queues (elements_of problem.pattern))
-
--- the lines about the field that is asked about, where the source has these bytes
-pub record IsPercentOutput (request : PercentRequest) (bytes output : List ℕ) : Type 0 where
-  pub field : Field
-  pub asked : IsFieldOf request.common.field request.common.page bytes field
-  pub answered : IsAnsweredFor request field output

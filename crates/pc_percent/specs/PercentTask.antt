@@ -1,17 +1,23 @@
--- What `percent` does with the bytes of the source, where it reads it.
+-- What `percent` does: it answers what is asked about its field.
 use Rattle.std.specs.Prelude.{true}
+use Rattle.lane_board.specs.Field.{Field}
 use Rattle.pc_settings.specs.Request.{PercentRequest}
-use Rattle.pc_source.specs.FieldText.{field_needs}
-use Rattle.pc_source.specs.Task.{Task}
+use Rattle.pc_source.specs.FieldTask.{field_task, its_field}
+use Rattle.pc_source.specs.Task.{Task, nothing}
 use Rattle.pc_source.specs.Work.{any_floods}
-use Rattle.pc_percent.specs.Faults.{percent_fault}
-use Rattle.pc_percent.specs.Output.{IsPercentOutput}
+use Rattle.pc_problem.specs.Faults.{problem_fault}
+use Rattle.pc_percent.specs.Output.{IsAnsweredFor}
 
-abbrev pub percent_task : PercentRequest → Task
-percent_task request = record {
-  needs = field_needs request.common.field;
+-- what is left of it once its field is had
+abbrev pub asked_task : PercentRequest → Field → Task
+asked_task request F = record {
+  needs = nothing;
   memory_first = true;
-  fault = percent_fault request;
-  IsOutput = λ bytes floods output. IsPercentOutput request bytes output;
+  fault = λ bytes. problem_fault request.common F;
+  IsOutput = λ bytes floods output. IsAnsweredFor request F output;
   IsWork = any_floods;
 }
+
+abbrev pub percent_task : PercentRequest → Task
+percent_task request =
+    field_task its_field request.common.field request.common.page true (asked_task request)

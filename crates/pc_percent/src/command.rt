@@ -10,12 +10,10 @@ ghost use Rattle.percent.specs.Answers.{problem_of};
 ghost use Rattle.percent.specs.GoodHands.{is_good_queue};
 ghost use Rattle.pc_settings.specs.Request.{IsInRange};
 ghost use Rattle.pc_settings.specs.Views.{percent_view};
-ghost use Rattle.pc_source.specs.Answers.{IsAnswered};
+ghost use Rattle.pc_source.specs.Ends.{CommandEnds};
 ghost use Rattle.pc_source.specs.Sink.{sink_change};
-ghost use Rattle.pc_source.specs.Work.{Works};
-ghost use Rattle.pc_percent.specs.AskedTask.{asked_task};
 ghost use Rattle.pc_percent.specs.Lines.{failed_lines, percent_form};
-ghost use Rattle.pc_percent.specs.PercentTask.{percent_task};
+ghost use Rattle.pc_percent.specs.PercentTask.{asked_task, percent_task};
 
 use crate::lines::write_failed;
 use pc_faults::Status;
@@ -81,15 +79,9 @@ pub fn run_percent<O: Sink, L: Ledger>(
     steps: &mut Steps<L>,
 ) -> Status
     requires { IsInRange (percent_view settings.now).common }
-    ensures answers { let sink = sink_change O.counts_failures_alone (O.written out.old) (O.written out.new)
-        (O.faults out.old) (O.faults out.new) in
-        IsAnswered (percent_task (percent_view settings.now)) bytes.now sink (out.new ≡ out.old)
-        (steps.new - steps.old) result }
-    ensures works { let task = percent_task (percent_view settings.now) in
-        let sink = sink_change O.counts_failures_alone (O.written out.old) (O.written out.new)
-        (O.faults out.old) (O.faults out.new) in
-        Works task (task.fault bytes.now) bytes.now sink (steps.new - steps.old) result }
-    ensures counted { steps.old ≤ steps.new }
+    ensures { CommandEnds (percent_task (percent_view settings.now)) bytes.now
+        (sink_change O.counts_failures_alone (O.written out.old) (O.written out.new)
+        (O.faults out.old) (O.faults out.new)) (out.new ≡ out.old) steps.old steps.new result }
 {
     match field(alloc, settings.common.field, settings.common.page, bytes) {
         Ok(well) => answer_all(alloc, well, settings, out, steps),
@@ -106,15 +98,9 @@ fn answer_all<O: Sink, L: Ledger>(
     steps: &mut Steps<L>,
 ) -> Status
     requires { IsInRange (percent_view settings.now).common }
-    ensures answers { let sink = sink_change O.counts_failures_alone (O.written out.old) (O.written out.new)
-        (O.faults out.old) (O.faults out.new) in
-        IsAnswered (asked_task (percent_view settings.now) (filled well)) [] sink (out.new ≡ out.old)
-        (steps.new - steps.old) result }
-    ensures works { let task = asked_task (percent_view settings.now) (filled well) in
-        let sink = sink_change O.counts_failures_alone (O.written out.old) (O.written out.new)
-        (O.faults out.old) (O.faults out.new) in
-        Works task (task.fault []) [] sink (steps.new - steps.old) result }
-    ensures counted { steps.old ≤ steps.new }
+    ensures { CommandEnds (asked_task (percent_view settings.now) (filled well)) []
+        (sink_change O.counts_failures_alone (O.written out.old) (O.written out.new)
+        (O.faults out.old) (O.faults out.new)) (out.new ≡ out.old) steps.old steps.new result }
 {
     let problem = match problem_of(well, &settings.common) {
         Ok(problem) => problem,

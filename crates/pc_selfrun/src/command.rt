@@ -1,8 +1,7 @@
 // The command `selfrun`: sample pages, their text, the solutions of a problem, and then the lines.
 ghost use Rattle.std.specs.Prelude.{◌≡◌, ◌-◌, ◌≤◌, []};
-ghost use Rattle.pc_source.specs.Answers.{IsAnswered};
+ghost use Rattle.pc_source.specs.Ends.{CommandEnds};
 ghost use Rattle.pc_source.specs.Sink.{sink_change};
-ghost use Rattle.pc_source.specs.Work.{Works};
 ghost use Rattle.pc_selfrun.specs.SelfrunTask.{selfrun_task};
 
 use crate::column::column_problem;
@@ -29,14 +28,9 @@ pub fn run_selfrun<O: Sink, L: Ledger>(
 ) -> Status
     requires least { 1 ≤ pages }
     requires most { pages ≤ 10000 }
-    ensures answers { let sink = sink_change O.counts_failures_alone (O.written out.old) (O.written out.new)
-        (O.faults out.old) (O.faults out.new) in
-        IsAnswered (selfrun_task number pages) [] sink (out.new ≡ out.old) (steps.new - steps.old) result }
-    ensures works { let task = selfrun_task number pages in
-        let sink = sink_change O.counts_failures_alone (O.written out.old) (O.written out.new)
-        (O.faults out.old) (O.faults out.new) in
-        Works task (task.fault []) [] sink (steps.new - steps.old) result }
-    ensures counted { steps.old ≤ steps.new }
+    ensures { CommandEnds (selfrun_task number pages) []
+        (sink_change O.counts_failures_alone (O.written out.old) (O.written out.new)
+        (O.faults out.old) (O.faults out.new)) (out.new ≡ out.old) steps.old steps.new result }
 {
     let sample = match sample_of(alloc, number, pages) {
         Ok(sample) => sample,

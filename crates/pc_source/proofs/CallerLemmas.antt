@@ -1,5 +1,5 @@
 -- What crates above cite: faults of texts, fields, and what calls answer and add to the counter of floods.
-use Rattle.std.proofs.Common.{◌≡◌, ◌≢◌, ℕ, ◌-◌, ◌<◌, ◌≤◌, length, List, ◌∷◌, Bool, true, false, Option, Some, None, Result, Ok, Err, refl, sym, subst, ap, ◌∙◌, arith, inl, inr}
+use Rattle.std.proofs.Common.{◌≡◌, ◌≢◌, ℕ, ◌-◌, ◌<◌, ◌≤◌, length, List, Bool, true, false, Option, Some, None, Result, Ok, Err, refl, sym, subst, ap, arith, inl}
 use Rattle.std.proofs.lemmas.Bool.{lt-ltb, le-ltb}
 use Rattle.lane_board.specs.Field.{Field}
 use Rattle.fumen_digits.specs.declared.dialect.Dialect.{Dialect}
@@ -102,31 +102,6 @@ none_added before now same = omega (arith, same)
 
 pub stays : (before now : ℕ) → before ≤ now → now - before ≡ 0 → now ≡ before
 stays before now rose none = omega (arith, rose, none)
-
--- a part of a task, all of whose faults are known with no need, and which takes its memory before it writes, answers for the whole
-module _ (part whole : Task) (seen bytes : List ℕ) (sink : SinkChange) (floods : ℕ) (same : whole.fault bytes ≡ part.fault seen) where
-  pub part_answers : (Kept : Type 0) → part.needs ≡ nothing → part.memory_first ≡ true
-      → ((output : List ℕ) → part.IsOutput seen floods output → whole.IsOutput bytes floods output) → (status : Status) → IsAnswered part seen sink Kept floods status → IsAnswered whole bytes sink Kept floods status
-  part_answers Kept needs first more Done a =
-      record { none = same ∙ a.none; wrote = record { output = a.wrote.output; is_output = more a.wrote.output a.wrote.is_output; grown = a.wrote.grown }; kept = a.kept }
-  part_answers Kept needs first more (Input f) a = (same ∙ a.0, a.1)
-  part_answers Kept needs first more SourceFault a = absurd a
-  part_answers Kept needs first more SinkFault a =
-      record { none = same ∙ a.none; front = record { output = a.front.output; is_output = more a.front.output a.front.is_output; grown = a.front.grown }; rose = a.rose }
-  part_answers Kept needs first more NoMemory a =
-      record { known = λ _. same ∙ a.known needs; first = λ _. a.first first; ended = inl (a.first first) }
-
-  -- and its work is that of the whole
-  pub part_works : ((status : Status) → part.IsWork seen sink status floods → whole.IsWork bytes sink status floods) → (status : Status)
-      → Works part (part.fault seen) seen sink floods status → Works whole (whole.fault bytes) bytes sink floods status
-  part_works more Done w = more Done w
-  part_works more (Input f) w = w
-  part_works more SourceFault w = w
-  part_works more SinkFault w = more SinkFault w
-  part_works more NoMemory w = elim w [
-    | inl none ↦ inl none
-    | inr made ↦ inr (same ∙ made.0, more NoMemory made.1)
-  ]
 
 -- what refuses a first call refuses the whole
 pub refusal_before : (one whole : Option Fault) (r : Refused Fault) → ((f : Fault) → one ≡ Some f → whole ≡ Some f) → IsRefusedInput one r → IsRefusedInput whole r

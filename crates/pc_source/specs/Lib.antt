@@ -1,6 +1,8 @@
 -- What a reader must believe.
 pub mod Answers
+pub mod Ends
 pub mod Faults
+pub mod FieldTask
 pub mod FieldText
 pub mod Sink
 pub mod Source

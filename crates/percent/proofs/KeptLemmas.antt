@@ -1,8 +1,9 @@
 -- A slot stands for a position, and what is kept is true of it.
-use Rattle.std.proofs.Common.{◌≡◌, ℕ, nat_lt, Bool, true, false, ◌&&◌, ◌||◌, not, List, [], ◌∷◌, ◌++◌, ◌+◌, ◌<◌, ◌≤◌, length, get_or, set, refl, sym, ap, subst, ◌∙◌, inl, inr, arith}
+use Rattle.std.proofs.Common.{◌≡◌, ℕ, nat_lt, Bool, true, false, ◌&&◌, ◌||◌, not, List, [], ◌∷◌, ◌++◌, ◌+◌, ◌<◌, ◌≤◌, length, take, get_or, set, Contains, refl, sym, ap, subst, ◌∙◌, inl, inr, arith}
 use Rattle.std.specs.Prelude.{sum_by}
 use Rattle.std.proofs.lemmas.List.Sums.{get_or-le-sum_by, sum_by-set, sum_by-cons, sum_by-append}
 use Rattle.std.proofs.Math.Path.{fun_ext}
+use Rattle.std.proofs.lemmas.List.{take_all, take_more_set, length-set, get_or-set_same}
 use Rattle.std.proofs.lemmas.Bool.{cases_Bool, cases_lt, and_from, lt-ltb}
 use Rattle.lane_board.specs.Field.{intersection, rows_below}
 use Rattle.well.specs.Well.{filled}
@@ -114,3 +115,15 @@ one-of-all slots place before within there = let e = ap answers_of there in let 
 pub none-in : (slots : List Slot) → slots ≡ [] → answers_in slots ≡ 0
 unfolding answers_in
 none-in slots nil = ap (sum_by answers_of) nil
+
+-- where the slots before a place have no answers, an empty slot put there leaves none up to it
+pub emptied-more : (slots : List Slot) (place : ℕ) (slot : Slot) → place < length slots → answers_in (take place slots) ≡ 0 → slot.found.items ≡ [] → slot.missed.items ≡ []
+    → answers_in (take (place + 1) (set slots place slot)) ≡ 0
+emptied-more slots place slot within none found missed =
+    ap answers_in (take_more_set slots place slot within) ∙ empty-more (take place slots) slot none found missed
+
+pub emptied-all : (slots : List Slot) (place : ℕ) → length slots ≤ place → answers_in (take place slots) ≡ 0 → answers_in slots ≡ 0
+emptied-all slots place all none = ap answers_in (sym (take_all place slots all)) ∙ none
+
+pub set-among : (slots : List Slot) (place : ℕ) (slot : Slot) → place < length slots → Contains (set slots place slot) slot
+set-among slots place slot within = let long = length-set slots place slot in (place, omega (arith, long), get_or-set_same slots place slot slot within)

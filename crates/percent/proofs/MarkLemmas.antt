@@ -1,9 +1,11 @@
 -- A placement after which a rest is good stands in a tiling by the pieces of the rest and its own.
-use Rattle.std.proofs.Common.{ℕ, ◌≡◌, ◌+◌, ◌-◌, ◌<◌, ◌≤◌, true, false, not, ◌==◌, nat_le, List, [], ◌∷◌, get_or, pos, negsuc, int_lt, refl, sym, subst, inl, inr, arith}
-use Rattle.std.specs.List.{list_all}
-use Rattle.std.proofs.lemmas.Bool.{and_parts, and_from, cases_Bool, cond-true, cond-false, both_ways, eq-eqb, false≢true, false_from_ne_true, lt-ltb, leb-true}
+use Rattle.std.proofs.Common.{ℕ, suc, ◌≡◌, ◌∙◌, ◌+◌, ◌-◌, ◌<◌, ◌≤◌, true, false, not, ◌==◌, nat_le, List, [], ◌∷◌, ◌++◌, length, get_or, ap, pos, negsuc, int_lt, refl, sym, subst, inl, inr, arith}
+use Rattle.std.specs.List.{list_all, list_any}
+use Rattle.std.proofs.lemmas.Bool.{and_parts, and_from, cases_Bool, cases_lt, or_cases, eqb-true, cond-true, cond-false, both_ways, eq-eqb, false≢true, false_from_ne_true, lt-ltb, leb-true}
 use Rattle.std.specs.Prelude.{All}
-use Rattle.std.proofs.lemmas.List.Elements.{All-contains}
+use Rattle.std.proofs.lemmas.Option.{slice_get_within, get_or_from_slice_get}
+use Rattle.std.proofs.lemmas.List.{get_or_append_left, get_or_push, length-append}
+use Rattle.number_sets.specs.Rising.{has}
 use Rattle.problem.proofs.CallerLemmas.{locked-low}
 use Rattle.lane_board.specs.Field.{Field, difference, rows_below}
 use Rattle.srs.specs.declared.piece.Piece.{Piece}
@@ -28,7 +30,7 @@ use Rattle.percent.specs.declared.position.Position.{Position}
 use Rattle.percent.specs.Children.{IsChild}
 use Rattle.percent.specs.Fitting.{codes_with, supply_at, supply_by}
 use Rattle.percent.specs.GoodHands.{is_good}
-use Rattle.percent.specs.Marks.{IsTrueMark, KnowsPieces}
+use Rattle.percent.specs.Marks.{ArePlaces, HasMarkAt, IsMarkOf, IsTrueMark}
 use Rattle.percent.proofs.HandLemmas.{code-few}
 use Rattle.percent.proofs.FittingLemmas.{low-position}
 use Rattle.percent.proofs.TiledLemmas.{good-tiled}
@@ -101,7 +103,7 @@ good-placed game p q left rest counts free below most good =
           (subst (λ E. Tiling (all_but E) 8 supply) (sym (left_by_placement F p.rows q)) as_set);
     }
 
-pub good-stands : (game : Game) (p : Position) (child : Child) (left rest : ℕ) (counts : List ℕ) → IsChild (filled p.well) p.rows child
+pub good-stands : (game : Game) (p : Position) (child : Child) (left rest : ℕ) (counts : List ℕ) → IsChild (filled p.well) p.rows child.placement.piece child
     → ((code : ℕ) → code < 8 → codes_with child.placement.piece (left + 1) rest code ≤ get_or counts code 0)
     → is_good game (filled child.position.well) child.position.rows left rest ≡ true
     → StandsInTiling (difference (rows_below p.rows) (filled p.well)) (supply_by counts) child.placement
@@ -109,21 +111,78 @@ good-stands game p child left rest counts is most good =
     good-placed game p child.placement left rest counts is.free is.below most
     (subst (λ n. is_good game (locked (filled p.well) child.placement) n left rest ≡ true) is.left (subst (λ (G : Field). is_good game G child.position.rows left rest ≡ true) is.field good))
 
--- where no mark of pieces that are enough has it, the rest isn't good
-pub none-placed : (game : Game) (p : Position) (known : List Mark) (cells : Empties) (q : Placement) (left rest : ℕ) → empty_cells cells ≡ difference (rows_below p.rows) (filled p.well) → All (IsTrueMark cells) known
-    → is_free (filled p.well) q ≡ true → is_below p.rows q ≡ true → KnowsPieces known q.piece left rest → All (λ mark. is_marked mark.pieces q ≡ false) known
+-- what holds of all marks holds of the one at a place
+marked_at : (P : Mark → Type 0) (known : List Mark) (place : ℕ) (counts : List ℕ) → All P known → (k : HasMarkAt known place counts) → P k.mark
+marked_at P known place counts all k =
+    let within = slice_get_within known place k.mark k.there in
+    subst P (get_or_from_slice_get known place k.mark k.mark k.there) (all place k.mark within)
+
+-- where no mark has it, a rest whose pieces one of them is enough for isn't good
+pub none-placed : (game : Game) (p : Position) (known : List Mark) (cells : Empties) (q : Placement) (left rest place : ℕ) → empty_cells cells ≡ difference (rows_below p.rows) (filled p.well) → All (IsTrueMark cells) known
+    → is_free (filled p.well) q ≡ true → is_below p.rows q ≡ true → IsMarkOf known q.piece left rest place → All (λ mark. is_marked mark.pieces q ≡ false) known
     → is_good game (locked (filled p.well) q) (p.rows - rows_removed (filled p.well) q) left rest ≡ false
-none-placed game p known cells q left rest are true_marks free below k unmarked =
+none-placed game p known cells q left rest place are true_marks free below k unmarked =
+    let mark = k.there.mark in
+    let enough : (code : ℕ) → code < 8 → codes_with q.piece (left + 1) rest code ≤ get_or mark.counts code 0 =
+    λ code few. subst (λ (counts : List ℕ). codes_with q.piece (left + 1) rest code ≤ get_or counts code 0) (sym k.there.same) (k.enough code few) in
     false_from_ne_true _ (λ good. both_ways _
-    (All-contains (λ mark. is_marked mark.pieces q ≡ false) known k.mark unmarked k.among)
-    ((All-contains (IsTrueMark cells) known k.mark true_marks k.among).each q
-    (subst (λ E. StandsInTiling E (supply_by k.mark.counts) q) (sym are) (good-placed game p q left rest k.mark.counts free below k.enough good))))
+    (marked_at (λ mark. is_marked mark.pieces q ≡ false) known place k.counts unmarked k.there)
+    ((marked_at (IsTrueMark cells) known place k.counts true_marks k.there).each q
+    (subst (λ E. StandsInTiling E (supply_by mark.counts) q) (sym are) (good-placed game p q left rest mark.counts free below enough good))))
 
 -- where it doesn't stand in a tiling, the rest isn't good
 pub bad-stand : (game : Game) (p : Position) (child : Child) (left rest : ℕ) (counts : List ℕ) (cells : Empties) → empty_cells cells ≡ difference (rows_below p.rows) (filled p.well)
-    → IsChild (filled p.well) p.rows child
+    → IsChild (filled p.well) p.rows child.placement.piece child
     → ((code : ℕ) → code < 8 → codes_with child.placement.piece (left + 1) rest code ≤ get_or counts code 0)
     → (StandsInTiling (empty_cells cells) (supply_by counts) child.placement → ⊥)
     → is_good game (filled child.position.well) child.position.rows left rest ≡ false
 bad-stand game p child left rest counts cells are is most none =
     false_from_ne_true _ (λ good. none (subst (λ E. StandsInTiling E (supply_by counts) child.placement) (sym are) (good-stands game p child left rest counts is most good)))
+
+-- ---- places of marks
+
+-- a place for each of the first i rests
+pub record ArePlacesBefore (known : List Mark) (piece : Piece) (left : ℕ) (rests places : List ℕ) (i : ℕ) : Type 0 where
+  pub size : length places ≡ i
+  pub each : (k : ℕ) → k < i → get_or places k 0 < 255 → IsMarkOf known piece left (get_or rests k 0) (get_or places k 0)
+
+pub places-start : (known : List Mark) (piece : Piece) (left : ℕ) (rests places : List ℕ) → places ≡ [] → ArePlacesBefore known piece left rests places 0
+places-start known piece left rests places nil = record { size = ap length nil; each = λ k low. absurd (omega arith) }
+
+pub places-more : (known : List Mark) (piece : Piece) (left : ℕ) (rests places : List ℕ) (i place : ℕ) → ArePlacesBefore known piece left rests places i
+    → (place < 255 → IsMarkOf known piece left (get_or rests i 0) place)
+    → ArePlacesBefore known piece left rests (places ++ place ∷ []) (i + 1)
+places-more known piece left rests places i place state here = record {
+  size = let long = length-append places (place ∷ []) in let size = state.size in omega (arith, long, size);
+  each = λ k low marked. elim (cases_lt k i) [
+    | inl before ↦
+        let old = get_or_append_left places (place ∷ []) 0 k (let size = state.size in omega (arith, size)) in
+        subst (IsMarkOf known piece left (get_or rests k 0)) (sym old) (state.each k before (subst (λ n. n < 255) old marked))
+    | inr past ↦
+        let last : k ≡ i = omega arith in
+        let new = get_or_push places place 0 k (state.size ∙ sym last) in
+        subst (IsMarkOf known piece left (get_or rests k 0)) (sym new) (subst (λ j. IsMarkOf known piece left (get_or rests j 0) place) (sym last) (here (subst (λ n. n < 255) new marked)))
+  ];
+}
+
+pub places-end : (known : List Mark) (piece : Piece) (left : ℕ) (items rests places : List ℕ) (i : ℕ) → items ≡ rests → ArePlacesBefore known piece left items places i → i ≡ length items → ArePlaces known piece left rests places
+places-end known piece left items rests places i same state all =
+    subst (λ l. ArePlaces known piece left l places) same (record {
+      size = state.size ∙ all;
+      each = λ k low. state.each k (omega (arith, all));
+    })
+
+-- where no place is 255 each rest has a mark
+pub all-marked : (known : List Mark) (piece : Piece) (left : ℕ) (rests places : List ℕ) → ArePlaces known piece left rests places → ((k : ℕ) → k < length places → get_or places k 0 < 255)
+    → (rest : ℕ) → has rests rest ≡ true → (place : ℕ) × IsMarkOf known piece left rest place
+unfolding has
+all-marked known piece left rests places are marked rest here =
+    let at = has-at rests rest here in
+    (get_or places at.0 0, subst (λ r. IsMarkOf known piece left r (get_or places at.0 0)) at.2 (are.each at.0 at.1 (marked at.0 (let size = are.size in omega (arith, size)))))
+  where
+    has-at : (xs : List ℕ) (number : ℕ) → has xs number ≡ true → (k : ℕ) × (k < length xs) × (get_or xs k 0 ≡ number)
+    has-at [] number there = absurd (false≢true there)
+    has-at (x ∷ xs) number there = elim (or_cases (x == number) (list_any (λ y. y == number) xs) there) [
+      | inl first ↦ (0, omega arith, eqb-true x number first)
+      | inr later ↦ let w = has-at xs number later in (suc w.0, omega (arith, w.1), w.2)
+    ]

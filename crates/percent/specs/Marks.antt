@@ -1,5 +1,5 @@
 -- Marked placements: those that may stand in a tiling of some cells.
-use Rattle.std.specs.Prelude.{◌≡◌, ℕ, ◌+◌, ◌<◌, ◌≤◌, true, List, Contains, slice_index}
+use Rattle.std.specs.Prelude.{◌≡◌, ℕ, ◌+◌, ◌<◌, ◌≤◌, true, List, Some, length, slice_get, slice_index}
 use Rattle.srs.specs.declared.piece.Piece.{Piece}
 use Rattle.srs.specs.declared.placement.Placement.{Placement}
 use Rattle.packing.specs.declared.empties.Empties.{Empties}
@@ -12,14 +12,20 @@ use Rattle.percent.specs.Fitting.{codes_with, supply_by}
 pub record IsTrueMark (cells : Empties) (mark : Mark) : Type 0 where
   pub each : (q : Placement) → StandsInTiling (empty_cells cells) (supply_by mark.counts) q → is_marked mark.pieces q ≡ true
 
--- one of the marks is of pieces with these counts
-pub record HasCounts (known : List Mark) (counts : List ℕ) : Type 0 where
+-- the mark at this place is of pieces with these counts
+pub record HasMarkAt (known : List Mark) (place : ℕ) (counts : List ℕ) : Type 0 where
   pub mark : Mark
-  pub among : Contains known mark
+  pub there : slice_get known place ≡ Some mark
   pub same : mark.counts ≡ counts
 
--- one of the marks is of enough pieces for a rest and a piece
-pub record KnowsPieces (known : List Mark) (piece : Piece) (left rest : ℕ) : Type 0 where
-  pub mark : Mark
-  pub among : Contains known mark
-  pub enough : (code : ℕ) → code < 8 → codes_with piece (left + 1) rest code ≤ slice_index mark.counts code
+-- the mark at this place is of enough pieces for a rest and a piece
+pub record IsMarkOf (known : List Mark) (piece : Piece) (left rest place : ℕ) : Type 0 where
+  pub counts : List ℕ
+  pub there : HasMarkAt known place counts
+  pub enough : (code : ℕ) → code < 8 → codes_with piece (left + 1) rest code ≤ slice_index counts code
+
+-- one place for each rest: that of the mark of its pieces, or 255
+pub record ArePlaces (known : List Mark) (piece : Piece) (left : ℕ) (rests places : List ℕ) : Type 0 where
+  pub size : length places ≡ length rests
+  pub each : (k : ℕ) → k < length rests → slice_index places k < 255
+      → IsMarkOf known piece left (slice_index rests k) (slice_index places k)

@@ -3,10 +3,11 @@ ghost use Rattle.std.specs.Prelude.{◌≡◌, ℕ, ◌≤◌, ◌+◌, ◌&&◌
 ghost use Rattle.number_sets.specs.Rising.{IsRising, has};
 ghost use Rattle.well.specs.Well.{filled};
 ghost use Rattle.percent.specs.GoodHands.{is_good, is_good_after};
+ghost use Rattle.percent.specs.Marks.{ArePlaces};
 
 use crate::hand::{not_leading_to, rests_of};
 use crate::kept::Kept;
-use crate::marks::{Marks, fitting_after, marks_of};
+use crate::marks::{Asked, Marks, fitting_after, marks_of};
 use crate::order::wanted_first;
 use crate::position::Position;
 use number_sets::{merged, without};
@@ -29,18 +30,30 @@ fn answered_at_end(alloc: Global, position: &Position, hands: &[u64]) -> Result<
     Ok(Vec::new(alloc))
 }
 
-/// The numbers that were not found.
-fn less(alloc: Global, numbers: Vec<u64>, found: &[u64]) -> Result<Vec<u64>, NoMemory>
-    requires numbers { IsRising numbers.items }
+/// The rests asked about that were not found, at the position of the marks.
+fn less(
+    alloc: Global,
+    marks: &Marks,
+    piece: Piece,
+    left: u8,
+    asked: Asked,
+    found: &[u64],
+) -> Result<Asked, NoMemory>
+    requires few { left ≤ 20 }
+    requires asked { IsRising asked.rests.items }
     requires found { IsRising found.now }
-    ensures rises { IfOk result (λ v. IsRising v.items) }
-    ensures members { IfOk result (λ v. (number : ℕ) →
-        has v.items number ≡ (has numbers.items number && not (has found.now number))) }
+    requires places { ArePlaces marks.now.known.items piece left asked.rests.items asked.places.items }
+    ensures rises { IfOk result (λ asked. IsRising asked.rests.items) }
+    ensures places { IfOk result (λ asked. ArePlaces marks.now.known.items piece left asked.rests.items
+        asked.places.items) }
+    ensures members { IfOk result (λ less. (rest : ℕ) →
+        has less.rests.items rest ≡ (has asked.rests.items rest && not (has found.now rest))) }
 {
     if found.is_empty() {
-        return Ok(numbers);
+        return Ok(asked);
     }
-    without(alloc, numbers.as_slice(), found)
+    let rests = without(alloc, asked.rests.as_slice(), found)?;
+    marks.asked(alloc, piece, left, rests)
 }
 
 /// The hands that are good at a position with `left` placements to come.
@@ -73,7 +86,10 @@ pub fn answered<L: Ledger>(
     }
     let found = explored(alloc, kept, position, left - 1, unknown.as_slice(), steps)?;
     let missed = without(alloc, unknown.as_slice(), found.as_slice())?;
-    kept.note(alloc, position, left, found.as_slice(), missed.as_slice());
+    kept.keep(alloc, position, left, found.as_slice(), missed.as_slice());
+    if known.is_empty() {
+        return Ok(found);
+    }
     merged(alloc, known.as_slice(), found.as_slice())
 }
 
@@ -129,19 +145,13 @@ fn tried<L: Ledger>(
     if rests.is_empty() {
         return Ok(Vec::new(alloc));
     }
-    let children = marks.children(alloc, &kept.game, &kept.flood, piece, left, rests, steps)?;
-    let mut open = Vec::from_slice(alloc, rests)?;
+    let all = Vec::from_slice(alloc, rests)?;
+    let mut asked = marks.asked(alloc, piece, left, all)?;
+    let children = marks.children(alloc, &kept.game, &kept.flood, piece, left, &asked, steps)?;
     for child in &children {
-        let fit = fitting_after(
-            alloc,
-            &mut kept.tilings,
-            marks,
-            child,
-            left,
-            open.as_slice(),
-        )?;
+        let fit = fitting_after(alloc, &mut kept.tilings, marks, child, left, &asked)?;
         let good = answered(alloc, kept, &child.position, left, fit.as_slice(), steps)?;
-        open = less(alloc, open, good.as_slice())?;
+        asked = less(alloc, marks, piece, left, asked, good.as_slice())?;
     }
-    without(alloc, rests, open.as_slice())
+    without(alloc, rests, asked.rests.as_slice())
 }

@@ -29,17 +29,40 @@ fn hands_of(alloc: Global, problem: &Problem) -> Result<Vec<u64>, NoMemory>
     as_set(alloc, hands)
 }
 
-/// For each queue, by its number, whether it is good: whether its hand is among the good ones.
-fn judged(alloc: Global, problem: &Problem, hands: &[u64]) -> Result<Vec<bool>, NoMemory>
-    requires fit { IsFit problem.now }
-    requires rises { IsRising hands.now }
+/// That each queue is good, where the hand of each is among good ones.
+fn all_good(alloc: Global, problem: &Problem, hands: &[u64]) -> Result<Vec<bool>, NoMemory>
+    requires each { HasHandsBefore problem.now hands.now (length (queues (elements_of problem.now.pattern))) }
     requires exact { HasGoodHands problem.now hands.now }
     ensures { IfOk result (λ v. AreAnswers problem.now v.items (length (queues (elements_of problem.now.pattern)))) }
 {
     let count = problem.pattern.count();
     let mut answers = Vec::with_capacity(alloc, count as usize)?;
     for number in 0..count {
-        answers.push(holds(hands, hand(problem, number)))?;
+        answers.push(true)?;
+    }
+    Ok(answers)
+}
+
+/// For each queue, by its number, whether it is good: whether its hand is among the good ones of all hands.
+fn judged(
+    alloc: Global,
+    problem: &Problem,
+    hands: &[u64],
+    good: &[u64],
+) -> Result<Vec<bool>, NoMemory>
+    requires fit { IsFit problem.now }
+    requires each { HasHandsBefore problem.now hands.now (length (queues (elements_of problem.now.pattern))) }
+    requires rises { IsRising good.now }
+    requires exact { HasGoodHands problem.now good.now }
+    ensures { IfOk result (λ v. AreAnswers problem.now v.items (length (queues (elements_of problem.now.pattern)))) }
+{
+    if hands == good {
+        return all_good(alloc, problem, good);
+    }
+    let count = problem.pattern.count();
+    let mut answers = Vec::with_capacity(alloc, count as usize)?;
+    for number in 0..count {
+        answers.push(holds(good, hand(problem, number)))?;
     }
     Ok(answers)
 }
@@ -87,7 +110,7 @@ impl Answers {
     {
         let hands = hands_of(alloc, problem)?;
         let good = good_hands(alloc, problem, hands.as_slice(), steps)?;
-        let good = judged(alloc, problem, good.as_slice())?;
+        let good = judged(alloc, problem, hands.as_slice(), good.as_slice())?;
         let count = count_good(problem, good.as_slice());
         Ok(Answers {
             problem: *problem,

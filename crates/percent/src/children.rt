@@ -1,5 +1,5 @@
 // The positions that a piece leads to.
-ghost use Rattle.std.specs.Prelude.{◌≡◌, ◌≤◌, ◌<◌, ◌+◌, ℕ, IsTrue, IfOk, All, true, false};
+ghost use Rattle.std.specs.Prelude.{◌≡◌, ◌≤◌, ◌+◌, ℕ, IsTrue, IfOk, All, true, false};
 ghost use Rattle.srs.specs.Rules.{table_of};
 ghost use Rattle.well.specs.Well.{filled};
 ghost use Rattle.reach.specs.FloodRules.{flood_table};
@@ -7,10 +7,10 @@ ghost use Rattle.packing.specs.TiledPieces.{is_marked};
 ghost use Rattle.number_sets.specs.Rising.{has};
 ghost use Rattle.percent.specs.Children.{IsChild};
 ghost use Rattle.percent.specs.GoodHands.{is_good_after, is_good_at};
-ghost use Rattle.percent.specs.Marks.{KnowsPieces};
+ghost use Rattle.percent.specs.Marks.{ArePlaces, IsMarkOf};
 
 use crate::game::Game;
-use crate::marks::{Marks, counts_with};
+use crate::marks::{Asked, Marks};
 use crate::position::Child;
 use pc_outside::NoMemory;
 use reach::{FloodRules, Places, Steps};
@@ -19,15 +19,14 @@ use std::alloc::Global;
 use std::sync::ledger::Ledger;
 
 impl Marks {
-    /// Whether the pieces of all tilings are known for each of the rests behind a piece, with that piece.
-    fn knows_all(&self, piece: Piece, left: u8, rests: &[u64]) -> bool
-        requires { left ≤ 20 }
-        ensures { IsTrue result → (rest : ℕ) → has rests.now rest ≡ true
-            → KnowsPieces self.now.known.items piece left rest }
+    /// Whether each of the rests has a mark.
+    fn knows_all(&self, piece: Piece, left: u8, asked: &Asked) -> bool
+        requires { ArePlaces self.now.known.items piece left asked.now.rests.items asked.now.places.items }
+        ensures { IsTrue result → (rest : ℕ) → has asked.now.rests.items rest ≡ true
+            → (place : ℕ) × IsMarkOf self.now.known.items piece left rest place }
     {
-        for rest in rests {
-            let counts = counts_with(*rest, left + 1, piece);
-            if !self.knows(&counts) {
+        for place in &asked.places {
+            if *place == 255 {
                 return false;
             }
         }
@@ -60,20 +59,21 @@ impl Marks {
         rules: &FloodRules,
         piece: Piece,
         left: u8,
-        rests: &[u64],
+        asked: &Asked,
         steps: &mut Steps<L>,
     ) -> Result<Vec<Child>, NoMemory>
         requires few { left ≤ 20 }
+        requires places { ArePlaces self.now.known.items piece left asked.now.rests.items asked.now.places.items }
         requires rules { flood_table rules.now ≡ table_of game.now.rules }
-        ensures after { IfOk result (λ v. All (IsChild (filled self.now.position.well) self.now.position.rows)
+        ensures after { IfOk result (λ v. All (IsChild (filled self.now.position.well) self.now.position.rows piece)
             v.items) }
-        ensures good { IfOk result (λ v. (rest : ℕ) → has rests.now rest ≡ true
+        ensures good { IfOk result (λ v. (rest : ℕ) → has asked.now.rests.items rest ≡ true
             → is_good_at game.now v.items left rest
             ≡ is_good_after game.now (filled self.now.position.well) self.now.position.rows piece left rest) }
         ensures counted { steps.new ≡ steps.old + 1 }
     {
         let position = &self.position;
-        let knows_all = self.knows_all(piece, left, rests);
+        let knows_all = self.knows_all(piece, left, asked);
         let mut places = Places::none(piece);
         rules.flood_below(
             &position.well,

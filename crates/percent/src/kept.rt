@@ -67,16 +67,19 @@ pub struct Kept {
     ghost are_true: { All (IsTrueSlot game) slots.items },
     ghost counted: { count ≡ answers_in slots.items },
     ghost bounded: { count ≤ 4194304 },
+    ghost some: { 0 < length slots.items },
 }
 
 impl Kept {
-    ghost use Rattle.std.specs.Prelude.{ℕ, ◌+◌, ◌&&◌, ◌||◌, true, false, IfOk};
+    ghost use Rattle.std.specs.Prelude.{ℕ, ◌+◌, ◌&&◌, ◌||◌, true, false, Contains, IfOk, set};
     ghost use Rattle.number_sets.specs.Rising.{IsRising, has};
+    ghost use Rattle.dead_memo.specs.Keys.{cells_in_bits};
     ghost use Rattle.well.specs.Well.{filled};
     ghost use Rattle.percent.specs.GoodHands.{is_good};
 
     /// A table for this many positions, without answers.
     pub fn new(alloc: Global, game: Game, room: usize) -> Result<Kept, NoMemory>
+        requires { 0 < room }
         ensures { IfOk result (λ kept. kept.game ≡ game) }
     {
         let mut slots = Vec::with_capacity(alloc, room)?;
@@ -97,13 +100,15 @@ impl Kept {
     }
 
     /// The index of the slot for these cells.
-    fn place_of(&self, cells: u128, left: u8) -> usize {
+    fn place_of(&self, cells: u128, left: u8) -> usize
+        ensures { result < length self.now.slots.items }
+    {
         let low = (cells % (1 << 64)) as u64;
         let high = (cells >> 64) as u64;
         let mixed = (low ^ high.rotate_left(32) ^ u64::from(left)).wrapping_mul(
             0x9e37_79b9_7f4a_7c15,
         );
-        (mixed >> 20) as usize % self.slots.len().max(1)
+        (mixed >> 20) as usize % self.slots.len()
     }
 
     /// The hands that are known to be good at a position, and those that are known not to be.
@@ -116,12 +121,9 @@ impl Kept {
             → is_good self.now.game (filled position.now.well) position.now.rows left hand ≡ false }
     {
         let cells = cells_below(&position.well, position.rows);
-        let place = self.place_of(cells, left);
-        if place < self.slots.len() {
-            let slot = &self.slots[place];
-            if slot.cells == cells && slot.rows == position.rows && slot.left == left {
-                return (slot.found.as_slice(), slot.missed.as_slice());
-            }
+        let slot = &self.slots[self.place_of(cells, left)];
+        if slot.cells == cells && slot.rows == position.rows && slot.left == left {
+            return (slot.found.as_slice(), slot.missed.as_slice());
         }
         (&[], &[])
     }
@@ -157,31 +159,94 @@ impl Kept {
         requires holds { IsTrueSlot self.old.game slot }
         requires room { self.old.count + answers_of slot ≤ 4194304 }
         ensures game { self.new.game ≡ self.old.game }
-        ensures size { length self.new.slots.items ≡ length self.old.slots.items }
+        ensures slots { self.new.slots.items ≡ set self.old.slots.items place slot }
     {
         self.count = self.count - self.slots[place].len() + slot.len();
         self.slots[place] = slot;
     }
 
-    /// Evicts answers until there is room for `count` more, or none is left.
-    fn make_room(&mut self, alloc: Global, count: usize)
+    /// Evicts slot after slot, from the first one named, until there is room for `count` more answers.
+    fn evict(&mut self, alloc: Global, first: usize, count: usize)
         requires { count ≤ 4194304 }
         ensures game { self.new.game ≡ self.old.game }
         ensures size { length self.new.slots.items ≡ length self.old.slots.items }
+        ensures room { first ≡ 0 → self.new.count + count ≤ 4194304 }
     {
-        for _ in 0..self.slots.len() {
+        for place in first..self.slots.len() {
             if self.count <= MOST - count {
                 return;
             }
-            let place = self.next % self.slots.len();
             self.replace(place, Slot::empty(alloc));
             self.next = place + 1;
         }
     }
 
+    /// Evicts answers until there is room for `count` more, and goes round the slots as often as that is done.
+    fn make_room(&mut self, alloc: Global, count: usize)
+        requires { count ≤ 4194304 }
+        ensures game { self.new.game ≡ self.old.game }
+        ensures size { length self.new.slots.items ≡ length self.old.slots.items }
+        ensures room { self.new.count + count ≤ 4194304 }
+    {
+        self.evict(alloc, self.next, count);
+        self.evict(alloc, 0, count);
+    }
+
+    /// An entry for a position: what is known there, and hands that were found to be good or not.
+    fn entry(
+        &self,
+        alloc: Global,
+        position: &Position,
+        left: u8,
+        found: &[u64],
+        missed: &[u64],
+    ) -> Result<Slot, NoMemory>
+        requires found_rises { IsRising found.now }
+        requires missed_rises { IsRising missed.now }
+        requires found_true { (hand : ℕ) → has found.now hand ≡ true
+            → is_good self.now.game (filled position.now.well) position.now.rows left hand ≡ true }
+        requires missed_true { (hand : ℕ) → has missed.now hand ≡ true
+            → is_good self.now.game (filled position.now.well) position.now.rows left hand ≡ false }
+        ensures holds { IfOk result (IsTrueSlot self.now.game) }
+        ensures cells { IfOk result (λ slot. cells_in_bits slot.cells ≡ filled position.now.well) }
+        ensures rows { IfOk result (λ slot. slot.rows ≡ position.now.rows) }
+        ensures left { IfOk result (λ slot. slot.left ≡ left) }
+        ensures found { IfOk result (λ slot. (hand : ℕ) → has found.now hand ≡ true
+            → has slot.found.items hand ≡ true) }
+        ensures missed { IfOk result (λ slot. (hand : ℕ) → has missed.now hand ≡ true
+            → has slot.missed.items hand ≡ true) }
+    {
+        let (found_before, missed_before) = self.known(position, left);
+        let found = merged(alloc, found_before, found)?;
+        let missed = merged(alloc, missed_before, missed)?;
+        Ok(Slot {
+            cells: cells_below(&position.well, position.rows),
+            rows: position.rows,
+            left,
+            found,
+            missed,
+        })
+    }
+
+    /// Keeps an entry, unless it alone has more answers than there is room for. Others may be evicted for it.
+    fn note(&mut self, alloc: Global, slot: Slot)
+        requires { IsTrueSlot self.old.game slot }
+        ensures game { self.new.game ≡ self.old.game }
+        ensures bounded { answers_in self.new.slots.items ≤ 4194304 }
+        ensures kept { answers_of slot ≤ 4194304 → Contains self.new.slots.items slot }
+    {
+        let count = slot.len();
+        if count > MOST {
+            return;
+        }
+        self.make_room(alloc, count);
+        let place = self.place_of(slot.cells, slot.left);
+        self.replace(place, slot);
+    }
+
     /// Keeps hands that are good at a position and hands that are not, beside those already known. Others may be
     /// evicted for them. If there is no room or no memory for them, they are not kept.
-    pub fn note(
+    pub fn keep(
         &mut self,
         alloc: Global,
         position: &Position,
@@ -196,31 +261,12 @@ impl Kept {
         requires missed_true { (hand : ℕ) → has missed.now hand ≡ true
             → is_good self.old.game (filled position.now.well) position.now.rows left hand ≡ false }
         ensures game { self.new.game ≡ self.old.game }
-        ensures bounded { answers_in self.new.slots.items ≤ 4194304 }
     {
-        let (found_before, missed_before) = self.known(position, left);
-        let Ok(found) = merged(alloc, found_before, found) else {
-            return;
-        };
-        let Ok(missed) = merged(alloc, missed_before, missed) else {
-            return;
-        };
-        let cells = cells_below(&position.well, position.rows);
-        let slot = Slot {
-            cells,
-            rows: position.rows,
-            left,
-            found,
-            missed,
-        };
-        let count = slot.len();
-        if count > MOST {
+        if found.len() + missed.len() > MOST {
             return;
         }
-        self.make_room(alloc, count);
-        let place = self.place_of(cells, left);
-        if place < self.slots.len() && self.count <= MOST - count {
-            self.replace(place, slot);
+        if let Ok(entry) = self.entry(alloc, position, left, found, missed) {
+            self.note(alloc, entry);
         }
     }
 }

@@ -1,6 +1,6 @@
 // The placements that stand in some tiling by the available pieces. A piece placed elsewhere leaves cells that the
 // others can't fill.
-ghost use Rattle.std.specs.Prelude.{◌≡◌, ◌↔◌, ◌≤◌, ◌<◌, ◌&&◌, ℕ, IsTrue, IfOk, All, false, slice_index};
+ghost use Rattle.std.specs.Prelude.{◌≡◌, ◌↔◌, ◌≤◌, ◌<◌, ◌&&◌, ℕ, IsTrue, IfOk, All, List, false, slice_index};
 ghost use Rattle.lane_board.specs.Field.{difference, rows_below};
 ghost use Rattle.srs.specs.declared.placement.Placement.{Placement};
 ghost use Rattle.well.specs.Well.{filled};
@@ -11,7 +11,7 @@ ghost use Rattle.percent.specs.declared.game.Game.{Game};
 ghost use Rattle.percent.specs.Children.{IsChild};
 ghost use Rattle.percent.specs.Fitting.{codes_with, supply_by};
 ghost use Rattle.percent.specs.GoodHands.{is_good};
-ghost use Rattle.percent.specs.Marks.{HasCounts, IsTrueMark};
+ghost use Rattle.percent.specs.Marks.{ArePlaces, HasMarkAt, IsMarkOf, IsTrueMark};
 
 use crate::fitting::{Counts, counts_of, fitting};
 use crate::position::{Child, Position};
@@ -35,6 +35,13 @@ pub struct Marks {
     pub known: Vec<Mark>,
     ghost empty: { empty_cells cells ≡ difference (rows_below position.rows) (filled position.well) },
     ghost are_true: { All (IsTrueMark cells) known.items },
+}
+
+/// Rests of hands, and for each the place of the mark of its pieces.
+#[derive(Drop)]
+pub struct Asked {
+    pub rests: Vec<u64>,
+    pub places: Vec<u8>,
 }
 
 /// The pieces of all tilings of some cells by pieces with these counts.
@@ -103,85 +110,136 @@ impl Marks {
         Ok(())
     }
 
-    /// Whether the pieces of all tilings by pieces with these counts are known.
-    pub fn knows(&self, counts: &Counts) -> bool
-        ensures { IsTrue result → HasCounts self.now.known.items counts.now }
+    /// The place of the mark of pieces with these counts, or 255 if there is none.
+    fn place_of(&self, counts: &Counts) -> u8
+        ensures { result < 255 → HasMarkAt self.now.known.items result counts.now }
     {
-        for mark in &self.known {
-            if *counts == mark.counts {
-                return true;
-            }
-        }
-        false
-    }
-
-    /// Whether a placement may stand in a tiling by pieces with these counts.
-    fn may_stand(&self, counts: &Counts, placement: &Placement) -> bool
-        ensures { result ≡ false
-            → StandsInTiling (empty_cells self.now.cells) (supply_by counts.now) placement.now → ⊥ }
-    {
-        for mark in &self.known {
+        for place in 0..self.known.len().min(255) {
+            let mark = &self.known[place];
             if mark.counts == *counts {
-                return mark.pieces.has(placement);
+                return place as u8;
             }
         }
-        true
+        255
     }
 
-    /// Those of the rests with which a placement may stand in a tiling. The others are not good after it.
+    /// The place of the mark of the pieces of a rest and one more, or 255 if there is none.
+    fn place_with(&self, rest: u64, left: u8, piece: Piece) -> u8
+        requires { left ≤ 20 }
+        ensures { result < 255 → IsMarkOf self.now.known.items piece left rest result }
+    {
+        if self.known.is_empty() {
+            return 255;
+        }
+        self.place_of(&counts_with(rest, left + 1, piece))
+    }
+
+    /// These rests, with the places of their marks when a piece is placed first.
+    pub fn asked(
+        &self,
+        alloc: Global,
+        piece: Piece,
+        left: u8,
+        rests: Vec<u64>,
+    ) -> Result<Asked, NoMemory>
+        requires { left ≤ 20 }
+        ensures rests { IfOk result (λ asked. asked.rests.items ≡ rests.items) }
+        ensures places { IfOk result (λ asked. ArePlaces self.now.known.items piece left asked.rests.items
+            asked.places.items) }
+    {
+        let mut places = Vec::with_capacity(alloc, rests.len())?;
+        for rest in &rests {
+            places.push(self.place_with(*rest, left, piece))?;
+        }
+        Ok(Asked { rests, places })
+    }
+
+    /// Whether a placement may stand in a tiling by the pieces of the mark at a place.
+    fn may_stand(&self, place: u8, placement: &Placement) -> bool
+        ensures known { result ≡ false → place < 255 }
+        ensures none { result ≡ false → (counts : List ℕ) → HasMarkAt self.now.known.items place counts
+            → StandsInTiling (empty_cells self.now.cells) (supply_by counts) placement.now → ⊥ }
+    {
+        if place == 255 {
+            return true;
+        }
+        match self.known.get(place as usize) {
+            Some(mark) => mark.pieces.has(placement),
+            None => true,
+        }
+    }
+
+    /// Those of the rests asked about with which a placement may stand in a tiling. The others are not good after it.
     pub fn likely(
         &self,
         alloc: Global,
         child: &Child,
         left: u8,
-        rests: &[u64],
+        asked: &Asked,
     ) -> Result<Vec<u64>, NoMemory>
         requires few { left ≤ 20 }
-        requires rises { IsRising rests.now }
-        requires child { IsChild (filled self.now.position.well) self.now.position.rows child.now }
+        requires rises { IsRising asked.now.rests.items }
+        requires places { ArePlaces self.now.known.items child.now.placement.piece left asked.now.rests.items
+            asked.now.places.items }
+        requires child { IsChild (filled self.now.position.well) self.now.position.rows child.now.placement.piece
+            child.now }
         ensures rises { IfOk result (λ v. IsRising v.items) }
         ensures members { IfOk result (λ v. (game : Game) (rest : ℕ)
             → (has v.items rest && is_good game (filled child.now.position.well) child.now.position.rows left rest)
-            ≡ (has rests.now rest
+            ≡ (has asked.now.rests.items rest
             && is_good game (filled child.now.position.well) child.now.position.rows left rest)) }
     {
-        let mut v = Vec::new(alloc);
-        for rest in rests {
-            let counts = counts_with(*rest, left + 1, child.placement.piece);
-            if self.may_stand(&counts, &child.placement) {
-                v.push(*rest)?;
+        let rests = asked.rests.as_slice();
+        let places = asked.places.as_slice();
+        let mut v = Vec::with_capacity(alloc, rests.len())?;
+        for index in 0..rests.len() {
+            if self.may_stand(places[index], &child.placement) {
+                v.push(rests[index])?;
             }
         }
         Ok(v)
     }
 }
 
-/// Those of the rests that may fit after a placement. The others are not good after it.
+/// Those of the rests asked about that may fit after a placement. The others are not good after it.
 pub fn fitting_after(
     alloc: Global,
     tilings: &mut TilingStore,
     marks: &Marks,
     child: &Child,
     left: u8,
-    rests: &[u64],
+    asked: &Asked,
 ) -> Result<Vec<u64>, NoMemory>
     requires few { left ≤ 20 }
-    requires rises { IsRising rests.now }
-    requires child { IsChild (filled marks.now.position.well) marks.now.position.rows child.now }
+    requires rises { IsRising asked.now.rests.items }
+    requires places { ArePlaces marks.now.known.items child.now.placement.piece left asked.now.rests.items
+        asked.now.places.items }
+    requires child { IsChild (filled marks.now.position.well) marks.now.position.rows child.now.placement.piece
+        child.now }
     ensures rises { IfOk result (λ v. IsRising v.items) }
     ensures members { IfOk result (λ v. (game : Game) (rest : ℕ)
         → (has v.items rest && is_good game (filled child.now.position.well) child.now.position.rows left rest)
-        ≡ (has rests.now rest
+        ≡ (has asked.now.rests.items rest
         && is_good game (filled child.now.position.well) child.now.position.rows left rest)) }
 {
     if marks.is_empty() && left > 0 {
-        return fitting(alloc, tilings, &child.position, left, rests);
+        return fitting(
+            alloc,
+            tilings,
+            &child.position,
+            left,
+            asked.rests.as_slice(),
+        );
     }
-    marks.likely(alloc, child, left, rests)
+    marks.likely(alloc, child, left, asked)
 }
 
-/// For how many counts of pieces it pays to go through all tilings, with one placement to come and then `left` more.
-fn most_counts(left: u8) -> usize {
+/// For how many counts of pieces it pays to go through all tilings of a position, with one placement to come and then
+/// `left` more. High fields have too many tilings.
+fn most_counts(rows: u8, left: u8) -> usize {
+    if rows <= 4 && left <= 8 {
+        return 64;
+    }
     if left <= 3 { 8 } else { 0 }
 }
 
@@ -197,7 +255,7 @@ pub fn marks_of(
     ensures { IfOk result (λ marks. marks.position ≡ position.now) }
 {
     let mut marks = Marks::new(alloc, position);
-    for counts in &all_counts(alloc, hands, left + 2, most_counts(left))? {
+    for counts in &all_counts(alloc, hands, left + 2, most_counts(position.rows, left))? {
         marks.find(store, *counts)?;
     }
     Ok(marks)

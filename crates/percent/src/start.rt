@@ -48,7 +48,9 @@ fn first_position(problem: &Problem) -> Position
 }
 
 /// For how many positions answers are kept, given how many hands are asked about.
-fn room_for(hands: usize) -> usize {
+fn room_for(hands: usize) -> usize
+    ensures { 0 < result }
+{
     hands.saturating_mul(4).clamp(8192, 262_144)
 }
 

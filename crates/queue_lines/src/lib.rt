@@ -3,4 +3,4 @@
 
 mod lines;
 
-pub use lines::{letters, rate, write_number, write_numbers, write_queue};
+pub use lines::{letters, rate, write_numbers, write_queue};

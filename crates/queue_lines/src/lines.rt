@@ -3,10 +3,10 @@ ghost use Rattle.std.specs.Prelude.{◌≡◌, ◌<◌, ◌≤◌, map};
 ghost use Rattle.srs.specs.Piece.{piece_letter};
 ghost use Rattle.pc_outside.specs.Counts.{HasCause};
 ghost use Rattle.pc_outside.specs.Writes.{WritesAll};
-ghost use Rattle.queue_lines.specs.Lines.{number_form, numbers_form, queue_form, rate_of};
+ghost use Rattle.queue_lines.specs.Lines.{numbers_form, queue_form, rate_of};
 
 use arrayvec::ArrayVec;
-use itoa::Buffer;
+use line_writing::write_count;
 use pc_outside::{Failed, Sink, write_pieces};
 use queue_pattern::Queue;
 
@@ -40,16 +40,6 @@ pub fn write_queue<O: Sink>(out: &mut O, queue: &Queue) -> Result<(), Failed>
     write_pieces(out, &[letters(queue).as_slice(), b"\n"])
 }
 
-/// Writes a name, a blank and a number as a line: `good 12`.
-#[tactic(auto, unfolding(crate::specs::Lines::number_form))]
-pub fn write_number<O: Sink>(out: &mut O, name: &[u8], number: u32) -> Result<(), Failed>
-    ensures written { WritesAll (O.written out.old) (O.written out.new) result (number_form name.now number) }
-    ensures cause { HasCause O.counts_failures_alone (O.faults out.old) (O.faults out.new) result }
-{
-    let mut digits = Buffer::new();
-    write_pieces(out, &[name, digits.format(number).as_bytes(), b"\n"])
-}
-
 /// Writes how many queues there are, how many of them are good, and the rate.
 pub fn write_numbers<O: Sink>(out: &mut O, all: u32, good: u32) -> Result<(), Failed>
     requires some { 0 < all }
@@ -57,7 +47,7 @@ pub fn write_numbers<O: Sink>(out: &mut O, all: u32, good: u32) -> Result<(), Fa
     ensures written { WritesAll (O.written out.old) (O.written out.new) result (numbers_form all good) }
     ensures cause { HasCause O.counts_failures_alone (O.faults out.old) (O.faults out.new) result }
 {
-    write_number(out, b"queues ", all)?;
-    write_number(out, b"good ", good)?;
-    write_number(out, b"rate ", rate(good, all))
+    write_count(out, b"queues ", u64::from(all))?;
+    write_count(out, b"good ", u64::from(good))?;
+    write_count(out, b"rate ", u64::from(rate(good, all)))
 }

@@ -1,6 +1,5 @@
 -- The pages of a line, one after the other, and that they can be written.
-use Rattle.std.proofs.Common.{◌≡◌, ℕ, ◌+◌, ◌-◌, ◌<◌, ◌≤◌, Bool, true, false, List, [], ◌∷◌, ◌++◌, length, drop, get_or, Option, None, Result, Ok, Err, refl, sym, ap, subst, ◌∙◌, arith, append_assoc, append-nil}
-use Rattle.std.specs.Prelude.{OnOk}
+use Rattle.std.proofs.Common.{◌≡◌, ℕ, ◌+◌, ◌-◌, ◌<◌, ◌≤◌, Bool, true, false, List, [], ◌∷◌, ◌++◌, length, drop, get_or, Option, None, sym, ap, ◌∙◌, arith, append_assoc, append-nil}
 use Rattle.std.proofs.lemmas.List.{drop_more, drop_all}
 use Rattle.lane_board.specs.Field.{Field}
 use Rattle.srs.specs.declared.placement.Placement.{Placement}
@@ -17,13 +16,6 @@ use Rattle.fumen_pages.specs.declared.page.Page.{Page}
 use Rattle.fumen_pages.specs.Next.{next}
 use Rattle.fumen_text.specs.Texts.{most_pages}
 use Rattle.fumen_text.specs.Written.{list_encode_fault}
-use Rattle.pc_outside.specs.declared.answers.Failed.{Failed}
-use Rattle.pc_outside.specs.Counts.{HasCause}
-use Rattle.pc_outside.specs.Writes.{Grows, GrowsByFront, WritesAll}
-use Rattle.pc_outside.specs.WriteLaws.{begins, is_front}
-use Rattle.report.specs.declared.write_fault.WriteFault.{WriteFault}
-use Rattle.report.specs.declared.write_fault.WriteFault.TheVariants as faults
-use Rattle.report.specs.WriteCause.{HasWriteCause}
 use Rattle.report.specs.Forms.{KeysOf, key_part}
 use Rattle.report.specs.FumenLine.{placement_pages, placing_page, sequence_pages}
 use Rattle.report.proofs.LineFields.{AreShort, EndsEmpty, line_fault}
@@ -46,12 +38,6 @@ pub pages_are_written : (with : Bool) (table : Table) (mode : DropMode) (F : Fie
 pages_are_written with table mode F rows s plays few =
     line_fault (key_part with table mode) (keys_are_short with table mode) F s (plays_end table mode s F rows plays) few
 
--- so can the pages that a call made
-pub fit_pages : {T E : Type 0} (with : Bool) (table : Table) (mode : DropMode) (F : Field) (rows : ℕ) (s : List Placement) (pages : List Page) (result : Result T E) → Plays table mode F rows s → length s ≤ 22
-    → OnOk result (pages ≡ sequence_pages (key_part with table mode) F s) → OnOk result (list_encode_fault V115 pages ≡ None)
-fit_pages with table mode F rows s pages (Ok x) plays few same = ap (list_encode_fault V115) same ∙ pages_are_written with table mode F rows s plays (omega (arith, few))
-fit_pages with table mode F rows s pages (Err e) plays few same = tt
-
 -- one more page is made
 pub page_more : (keys : KeysOf) (whole made : List Page) (page : Page) (cells : List ℕ) (colour : Bool) (F after : Field) (s : List Placement) (i : ℕ) (d : Placement) (word : Option (List Key)) → i < length s
     → page ≡ placing_page cells colour (get_or s i d) word → word ≡ keys F (get_or s i d) → after ≡ locked F (get_or s i d)
@@ -71,24 +57,3 @@ pub pages_end : (keys : KeysOf) (whole made : List Page) (cells : List ℕ) (col
 unfolding placement_pages
 pages_end keys whole made cells colour F s i past so_far =
     sym (so_far ∙ ap (λ l. made ++ placement_pages keys cells colour F l) (drop_all i s past) ∙ append-nil made)
-
--- ---- what the one write of a line answers
-
-pub line_written : {T U : Type 0} {old new : Option (List ℕ)} {bytes whole : List ℕ} {x : T} {y : U} → WritesAll {T = T} {E = Failed} old new (Ok x) bytes → bytes ≡ whole → WritesAll {T = U} {E = WriteFault} old new (Ok y) whole
-line_written {old = old} {new = new} written same = record { done = subst (Grows old new) same written.done; failed = tt }
-
-pub line_failed : {T U : Type 0} {old new : Option (List ℕ)} {bytes whole : List ℕ} {e : Failed} (fault : WriteFault) → WritesAll {T = T} {E = Failed} old new (Err e) bytes → bytes ≡ whole
-    → WritesAll {T = U} {E = WriteFault} old new (Err fault) whole
-line_failed {old = old} {new = new} fault written same = record { done = tt; failed = subst (GrowsByFront old new) same written.failed }
-
-pub nothing_written : {U : Type 0} (old : Option (List ℕ)) (whole : List ℕ) (fault : WriteFault) → WritesAll {T = U} {E = WriteFault} old old (Err fault) whole
-nothing_written old whole fault = record { done = tt; failed = is_front (begins old whole) }
-
-pub cause_written : {T U : Type 0} {alone : Bool} {before now : ℕ} {x : T} {y : U} → HasCause {T = T} {E = Failed} alone before now (Ok x) → HasWriteCause {T = U} alone before now (Ok y)
-cause_written cause = record { later = cause.later; kept = λ is _. cause.kept is; failed = λ e. absurd cc }
-
-pub cause_failed : {T U : Type 0} {alone : Bool} {before now : ℕ} {e : Failed} → HasCause {T = T} {E = Failed} alone before now (Err e) → HasWriteCause {T = U} alone before now (Err faults.Failed)
-cause_failed cause = record { later = cause.later; kept = λ _ other. absurd (other refl); failed = λ _. cause.failed }
-
-pub no_cause : {U : Type 0} (alone : Bool) (count : ℕ) → HasWriteCause {T = U} alone count count (Err faults.NoMemory)
-no_cause alone count = record { later = omega arith; kept = λ _ _. refl; failed = λ e. absurd cc }

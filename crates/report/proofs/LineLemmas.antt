@@ -1,5 +1,5 @@
 -- A line placement by placement: without keys the fields do not matter, and with keys each placement is free in its field.
-use Rattle.std.proofs.Common.{◌≡◌, ℕ, ◌+◌, ◌-◌, ◌<◌, ◌≤◌, true, false, List, [], ◌∷◌, ◌++◌, length, drop, get_or, refl, sym, ap, subst, ◌∙◌, append_assoc, arith, Option, None}
+use Rattle.std.proofs.Common.{None, arith, false, ◌≡◌, ℕ, ◌+◌, ◌-◌, ◌<◌, ◌≤◌, true, List, [], ◌∷◌, ◌++◌, length, drop, get_or, refl, sym, ap, subst, ◌∙◌, append_assoc, Option}
 use Rattle.std.specs.List.{flat_map}
 use Rattle.std.proofs.lemmas.List.{drop_more, drop_all}
 use Rattle.lane_board.specs.Field.{Field}
@@ -11,15 +11,14 @@ use Rattle.well.specs.Free.{is_free}
 use Rattle.well.specs.Lock.{locked, rows_removed}
 use Rattle.moves.specs.declared.key.DropMode.{DropMode}
 use Rattle.moves.specs.declared.key.Key.{Key}
-use Rattle.key_path.specs.LeastKeyWord.{least_key_word}
 use Rattle.lane_board.proofs.CallerLemmas.{cell_count-le}
 use Rattle.lane_board.specs.CellCount.{cell_count}
+use Rattle.combo.proofs.CallerLemmas.{runs_take_cells}
 use Rattle.problem.specs.Plays.{Plays}
 use Rattle.well.proofs.CallerLemmas.{free_inside}
 use Rattle.moves.proofs.CallerLemmas.{place-free}
 use Rattle.sequence_text.specs.Written.{keyed_form, sequence_form, without_keys}
 use Rattle.combo.specs.Runs.{Runs}
-use Rattle.combo.proofs.CallerLemmas.{runs_take_cells}
 use Rattle.report.specs.Played.{AreFree}
 use Rattle.report.specs.Forms.{KeysOf, key_part, keyed, line_form}
 
@@ -115,11 +114,11 @@ first_inside F s i d within free = free_inside F (get_or s i d) (first_free F s 
 pub next_free : (F : Field) (s : List Placement) (i : ℕ) (d : Placement) → i < length s → AreFree F (drop i s) → AreFree (locked F (get_or s i d)) (drop (i + 1) s)
 next_free F s i d within free = (free_from F s i d within free).1
 
--- a text of the next placement with its key word is the next piece of the line
-pub next_piece : (table : Table) (mode : DropMode) (divider : List ℕ) (F after : Field) (s : List Placement) (i : ℕ) (d : Placement) (piece : List ℕ) (word : Option (List Key)) → i < length s →
-    piece ≡ divider ++ keyed_form (get_or s i d, word) → word ≡ least_key_word table F mode (get_or s i d) → after ≡ locked F (get_or s i d) →
-    line_from (key_part true table mode) divider F (drop i s) ≡ piece ++ line_from (key_part true table mode) (32 ∷ []) after (drop (i + 1) s)
-next_piece table mode divider F after s i d piece word within text named left =
-    one_placement (key_part true table mode) divider F s i d within
-    ∙ (λ k. (divider ++ keyed_form (get_or s i d, sym named k)) ++ line_from (key_part true table mode) (32 ∷ []) (sym left k) (drop (i + 1) s))
-    ∙ (λ k. sym text k ++ line_from (key_part true table mode) (32 ∷ []) after (drop (i + 1) s))
+-- a text of the next placement with its keys is the next piece of the line
+pub next_piece : (keys : KeysOf) (divider : List ℕ) (F after : Field) (s : List Placement) (i : ℕ) (d : Placement) (piece : List ℕ) (word : Option (List Key)) → i < length s →
+    piece ≡ divider ++ keyed_form (get_or s i d, word) → word ≡ keys F (get_or s i d) → after ≡ locked F (get_or s i d) →
+    line_from keys divider F (drop i s) ≡ piece ++ line_from keys (32 ∷ []) after (drop (i + 1) s)
+next_piece keys divider F after s i d piece word within text named left =
+    one_placement keys divider F s i d within
+    ∙ (λ k. (divider ++ keyed_form (get_or s i d, sym named k)) ++ line_from keys (32 ∷ []) (sym left k) (drop (i + 1) s))
+    ∙ (λ k. sym text k ++ line_from keys (32 ∷ []) after (drop (i + 1) s))

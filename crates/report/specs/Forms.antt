@@ -1,6 +1,7 @@
 -- The bytes of a report's lines.
-use Rattle.std.specs.Prelude.{ℕ, Bool, true, false, Option, None, List, [], ◌∷◌, ◌++◌, codes, decimal, take, length, min, nat_le, if◌then◌else◌}
+use Rattle.std.specs.Prelude.{ℕ, Bool, true, false, Option, None, List, [], ◌∷◌, ◌++◌, codes, take, length, min, nat_le, if◌then◌else◌}
 use Rattle.std.specs.List.{flat_map}
+use Rattle.line_writing.specs.Count.{count_form}
 use Rattle.lane_board.specs.Field.{Field}
 use Rattle.srs.specs.declared.placement.Placement.{Placement}
 use Rattle.srs.specs.Kick.{Table}
@@ -42,11 +43,11 @@ tail_word Limit = codes "limit "
 
 -- the line that ends a report, as `end 12`
 abbrev pub tail_form : Tail → ℕ → List ℕ
-tail_form tail count = tail_word tail ++ decimal count ++ 10 ∷ []
+tail_form tail count = count_form (tail_word tail) count
 
 -- the line of a number of floods, as `floods 3`
 abbrev pub floods_form : ℕ → List ℕ
-floods_form floods = codes "floods " ++ decimal floods ++ 10 ∷ []
+floods_form floods = count_form (codes "floods ") floods
 
 -- the report of a list of sequences, each in this form, of which at most so many are written
 unfoldable pub report_form : (List Placement → List ℕ) → ℕ → List (List Placement) → List ℕ

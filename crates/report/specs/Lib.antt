@@ -2,8 +2,8 @@
 pub mod Forms
 pub mod Grid
 pub mod FumenLine
-pub mod WriteCause
 pub mod Writer
+pub mod Keys
 -- What serves proofs alone.
 pub mod Played
 pub mod HandsOn

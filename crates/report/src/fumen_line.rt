@@ -1,5 +1,5 @@
 // A sequence as a fumen text, with one page for each placement.
-ghost use Rattle.std.specs.Prelude.{◌≡◌, ◌≤◌, [], ◌∷◌, ◌++◌, true, false, Err, None, IfOk, OnOk, IsTrue, is_some, length, map, option_map};
+ghost use Rattle.std.specs.Prelude.{◌≡◌, ◌≤◌, [], ◌∷◌, ◌++◌, Err, None, IfOk, OnOk, IsTrue, length, map, option_map};
 ghost use Rattle.srs.specs.Cells.{is_inside_of};
 ghost use Rattle.srs.specs.Rules.{table_of};
 ghost use Rattle.well.specs.Well.{filled};
@@ -12,16 +12,18 @@ ghost use Rattle.fumen_pages.specs.Cells.{AreCells};
 ghost use Rattle.fumen_pages.specs.Next.{next};
 ghost use Rattle.fumen_text.specs.Written.{list_encode_fault, written};
 ghost use Rattle.report.specs.FumenLine.{fumen_form, placing_page, sequence_pages};
-ghost use Rattle.report.specs.WriteCause.{HasWriteCause};
+ghost use Rattle.report.specs.Keys.{has_keys};
+ghost use Rattle.line_writing.specs.WriteCause.{HasWriteCause};
 ghost use Rattle.report.specs.Writer.{pages_of_line, room_for_pages};
 
 use crate::grey::grey_cells;
-use crate::write_fault::WriteFault;
+use crate::keys::WrittenKeys;
 use fumen_comment::Comment;
 use fumen_digits::Dialect;
 use fumen_pages::{Page, next_cells};
 use fumen_text::encode;
-use key_path::{Finder, KeyWord};
+use key_path::KeyWord;
+use line_writing::WriteFault;
 use pc_outside::{NoMemory, Refused, Sink};
 use problem::{Problem, Sequence};
 use srs::Placement;
@@ -52,24 +54,20 @@ impl FumenWriter {
         out: &mut O,
         problem: &Problem,
         sequence: &Sequence,
-        finder: Option<&mut Finder>,
+        keys: &mut WrittenKeys,
     ) -> Result<(), WriteFault>
         requires { Plays (table_of problem.now.rules) problem.now.drop_mode
             (filled problem.now.well) problem.now.height sequence.now.items }
         ensures written { WritesAll (O.written out.old) (O.written out.new) result
-            (fumen_form (key_part (is_some finder.entry) (table_of problem.now.rules) problem.now.drop_mode)
+            (fumen_form (key_part (has_keys keys.old) (table_of problem.now.rules) problem.now.drop_mode)
             (filled problem.now.well) sequence.now.items) }
         ensures untouched { result ≡ Err WriteFault.NoMemory → out.new ≡ out.old }
         ensures cause { HasWriteCause O.counts_failures_alone (O.faults out.old) (O.faults out.new) result }
+        ensures keys { has_keys keys.new ≡ has_keys keys.old }
     {
-        let text = match self.text(alloc, problem, sequence.as_slice(), finder) {
-            Ok(text) => text,
-            Err(_) => return Err(WriteFault::NoMemory),
-        };
-        match out.write(text.as_slice()) {
-            Ok(()) => Ok(()),
-            Err(_) => Err(WriteFault::Failed),
-        }
+        let text = self.text(alloc, problem, sequence.as_slice(), keys)?;
+        out.write(text.as_slice())?;
+        Ok(())
     }
 
     /// The text of a line, and a newline.
@@ -79,16 +77,17 @@ impl FumenWriter {
         alloc: Global,
         problem: &Problem,
         placements: &[Placement],
-        finder: Option<&mut Finder>,
+        keys: &mut WrittenKeys,
     ) -> Result<Vec<u8>, NoMemory>
         requires plays { Plays (table_of problem.now.rules) problem.now.drop_mode
             (filled problem.now.well) problem.now.height placements.now }
         requires few { length placements.now ≤ 22 }
-        ensures { IfOk result (λ text. text.items
-            ≡ fumen_form (key_part (is_some finder.entry) (table_of problem.now.rules) problem.now.drop_mode)
+        ensures text { IfOk result (λ text. text.items
+            ≡ fumen_form (key_part (has_keys keys.old) (table_of problem.now.rules) problem.now.drop_mode)
             (filled problem.now.well) placements.now) }
+        ensures keys { has_keys keys.new ≡ has_keys keys.old }
     {
-        self.set_pages(alloc, problem, placements, finder)?;
+        self.set_pages(alloc, problem, placements, keys)?;
         text_of(alloc, &self.pages)
     }
 
@@ -98,66 +97,25 @@ impl FumenWriter {
         alloc: Global,
         problem: &Problem,
         placements: &[Placement],
-        finder: Option<&mut Finder>,
+        keys: &mut WrittenKeys,
     ) -> Result<(), NoMemory>
         requires plays { Plays (table_of problem.now.rules) problem.now.drop_mode
             (filled problem.now.well) problem.now.height placements.now }
         requires few { length placements.now ≤ 22 }
         ensures pages { OnOk result (self.new.pages.items
-            ≡ sequence_pages (key_part (is_some finder.entry) (table_of problem.now.rules) problem.now.drop_mode)
+            ≡ sequence_pages (key_part (has_keys keys.old) (table_of problem.now.rules) problem.now.drop_mode)
             (filled problem.now.well) placements.now) }
         ensures fit { OnOk result (list_encode_fault V115 self.new.pages.items ≡ None) }
-    {
-        match finder {
-            Some(finder) => self.set_with_keys(alloc, problem, placements, finder),
-            None => self.set_without_keys(alloc, problem, placements),
-        }
-    }
-
-    fn set_with_keys(
-        &mut self,
-        alloc: Global,
-        problem: &Problem,
-        placements: &[Placement],
-        finder: &mut Finder,
-    ) -> Result<(), NoMemory>
-        requires { Plays (table_of problem.now.rules) problem.now.drop_mode
-            (filled problem.now.well) problem.now.height placements.now }
-        ensures { OnOk result (self.new.pages.items
-            ≡ sequence_pages (key_part true (table_of problem.now.rules) problem.now.drop_mode)
-            (filled problem.now.well) placements.now) }
+        ensures keys { has_keys keys.new ≡ has_keys keys.old }
     {
         self.pages.clear();
         let mut well = problem.well;
         let mut cells = grey_cells(&well);
         let mut colour = true;
+        let is_srs = keys.are_srs(&problem.rules);
         for placement in placements {
-            let word = finder.find(&well, &problem.rules, placement, problem.drop_mode);
+            let word = keys.word_of(&well, &problem.rules, is_srs, placement, problem.drop_mode);
             cells = self.push_page(alloc, &cells, colour, placement, &word)?;
-            well = well.lock(placement).0;
-            colour = false;
-        }
-        Ok(())
-    }
-
-    fn set_without_keys(
-        &mut self,
-        alloc: Global,
-        problem: &Problem,
-        placements: &[Placement],
-    ) -> Result<(), NoMemory>
-        requires { Plays (table_of problem.now.rules) problem.now.drop_mode
-            (filled problem.now.well) problem.now.height placements.now }
-        ensures { OnOk result (self.new.pages.items
-            ≡ sequence_pages (key_part false (table_of problem.now.rules) problem.now.drop_mode)
-            (filled problem.now.well) placements.now) }
-    {
-        self.pages.clear();
-        let mut well = problem.well;
-        let mut cells = grey_cells(&well);
-        let mut colour = true;
-        for placement in placements {
-            cells = self.push_page(alloc, &cells, colour, placement, &None)?;
             well = well.lock(placement).0;
             colour = false;
         }
@@ -242,25 +200,24 @@ fn text_of(alloc: Global, pages: &[Page]) -> Result<Vec<u8>, NoMemory>
 
 /// Writes a sequence that solves the problem as a fumen text with one page for each placement, and a newline. The first
 /// page has the well's cells in grey and the colour flag. Each later page has the cells that the page before it leaves.
-/// Each page has its placement as the operation, and locks. With a finder, its comment is the key word of the placement
-/// in the field before it, and `H`. If memory runs out, nothing was written.
+/// Each page has its placement as the operation, and locks. If keys are written, its comment is the key word of the
+/// placement in the field before it, and `H`. If memory runs out, nothing was written.
 pub fn write_fumen_line<O: Sink>(
     alloc: Global,
     out: &mut O,
     problem: &Problem,
     sequence: &Sequence,
-    finder: Option<&mut Finder>,
+    keys: &mut WrittenKeys,
 ) -> Result<(), WriteFault>
     requires { Plays (table_of problem.now.rules) problem.now.drop_mode
         (filled problem.now.well) problem.now.height sequence.now.items }
     ensures written { WritesAll (O.written out.old) (O.written out.new) result
-        (fumen_form (key_part (is_some finder.entry) (table_of problem.now.rules) problem.now.drop_mode)
+        (fumen_form (key_part (has_keys keys.old) (table_of problem.now.rules) problem.now.drop_mode)
         (filled problem.now.well) sequence.now.items) }
     ensures untouched { result ≡ Err WriteFault.NoMemory → out.new ≡ out.old }
     ensures cause { HasWriteCause O.counts_failures_alone (O.faults out.old) (O.faults out.new) result }
+    ensures keys { has_keys keys.new ≡ has_keys keys.old }
 {
-    match FumenWriter::new(alloc) {
-        Ok(mut writer) => writer.write_line(alloc, out, problem, sequence, finder),
-        Err(_) => Err(WriteFault::NoMemory),
-    }
+    let mut writer = FumenWriter::new(alloc)?;
+    writer.write_line(alloc, out, problem, sequence, keys)
 }

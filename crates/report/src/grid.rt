@@ -1,5 +1,5 @@
 // A sequence as pictures of its placements.
-ghost use Rattle.std.specs.Prelude.{◌≡◌, ◌+◌, ◌≤◌, ◌<◌, ◌++◌, [], ◌∷◌, pos, is_some, map, length};
+ghost use Rattle.std.specs.Prelude.{◌≡◌, ◌+◌, ◌≤◌, ◌<◌, ◌++◌, [], ◌∷◌, pos, map, length};
 ghost use Rattle.arrayvec.specs.ArrayVec.{array_vec_len};
 ghost use Rattle.lane_board.specs.FullRows.{columns};
 ghost use Rattle.srs.specs.Cells.{cells_of, is_inside_of};
@@ -10,11 +10,12 @@ ghost use Rattle.pc_outside.specs.Counts.{HasCause};
 ghost use Rattle.pc_outside.specs.Writes.{WritesAll};
 ghost use Rattle.problem.specs.Plays.{Plays};
 ghost use Rattle.report.specs.Forms.{key_part};
+ghost use Rattle.report.specs.Keys.{has_keys};
 ghost use Rattle.report.specs.Grid.{grid_form, grid_letter, grid_pictures, grid_row, grid_rows};
 
+use crate::keys::WrittenKeys;
 use crate::line::write_line;
 use arrayvec::ArrayVec;
-use key_path::Finder;
 use pc_outside::{Failed, Sink};
 use problem::{Problem, Sequence};
 use srs::{Placement, cells};
@@ -37,16 +38,17 @@ pub fn write_grid<O: Sink>(
     out: &mut O,
     problem: &Problem,
     sequence: &Sequence,
-    finder: Option<&mut Finder>,
+    keys: &mut WrittenKeys,
 ) -> Result<(), Failed>
     requires { Plays (table_of problem.now.rules) problem.now.drop_mode
         (filled problem.now.well) problem.now.height sequence.now.items }
     ensures written { WritesAll (O.written out.old) (O.written out.new) result
-        (grid_form (key_part (is_some finder.entry) (table_of problem.now.rules) problem.now.drop_mode)
+        (grid_form (key_part (has_keys keys.old) (table_of problem.now.rules) problem.now.drop_mode)
         (filled problem.now.well) problem.now.height sequence.now.items) }
     ensures cause { HasCause O.counts_failures_alone (O.faults out.old) (O.faults out.new) result }
+    ensures keys { has_keys keys.new ≡ has_keys keys.old }
 {
-    write_line(out, problem, sequence, finder)?;
+    write_line(out, problem, sequence, keys)?;
     write_pictures(out, problem, sequence.as_slice())
 }
 

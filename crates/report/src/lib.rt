@@ -9,13 +9,11 @@ pub mod laws;
 mod line;
 mod run;
 mod tail;
-mod write_fault;
 
 pub use fumen_line::{FumenWriter, write_fumen_line};
 pub use grid::write_grid;
-pub use keys::finder_for;
+pub use keys::WrittenKeys;
 pub use line::write_line;
 pub use page_show::show_page;
 pub use run::write_run;
 pub use tail::{Tail, write_floods, write_tail};
-pub use write_fault::WriteFault;

@@ -1,19 +1,18 @@
 // The line of a sequence.
-ghost use Rattle.std.specs.Prelude.{◌≡◌, ◌++◌, [], ◌∷◌, ◌≤◌, true, length, is_some, option_map, IsTrue, OnOk, OnErr};
-ghost use Rattle.srs.specs.Cells.{is_inside_of};
-ghost use Rattle.srs.specs.Kick.{srs_table};
+ghost use Rattle.std.specs.Prelude.{◌≡◌, ◌++◌, [], ◌∷◌, ◌≤◌, length, option_map, OnOk, OnErr};
 ghost use Rattle.srs.specs.Rules.{table_of};
 ghost use Rattle.well.specs.Well.{filled};
 ghost use Rattle.pc_outside.specs.Counts.{HasCause};
 ghost use Rattle.pc_outside.specs.Writes.{GrowsByFront, WritesAll};
-ghost use Rattle.key_path.specs.LeastKeyWord.{least_key_word};
 ghost use Rattle.problem.specs.Plays.{Plays};
 ghost use Rattle.sequence_text.specs.Written.{keyed_form, sequence_form, without_keys};
 ghost use Rattle.report.specs.Forms.{key_part, line_form};
 ghost use Rattle.report.specs.HandsOn.{HandsOn};
+ghost use Rattle.report.specs.Keys.{has_keys};
 ghost use Rattle.report.specs.Played.{AreFree};
 
-use key_path::{Finder, KeyWord};
+use crate::keys::WrittenKeys;
+use key_path::KeyWord;
 use moves::DropMode;
 use pc_outside::{Failed, Sink};
 use problem::{Problem, Sequence};
@@ -60,47 +59,28 @@ fn append<O: Sink>(out: &mut O, held: &mut SequenceText, bytes: &[u8]) -> Result
     Ok(())
 }
 
-/// The key word of a placement in the field before it.
-fn word_of(
-    finder: &mut Finder,
-    well: &Well,
-    rules: &Rules,
-    is_srs: bool,
-    placement: &Placement,
-    drop_mode: DropMode,
-) -> Option<KeyWord>
-    requires inside { IsTrue (is_inside_of placement.now) }
-    requires known { IsTrue is_srs → table_of rules.now ≡ srs_table }
-    ensures { option_map (λ word. word.items) result
-        ≡ least_key_word (table_of rules.now) (filled well.now) drop_mode placement.now }
-{
-    if is_srs {
-        return finder.find_by_srs(well, placement, drop_mode);
-    }
-    finder.find(well, rules, placement, drop_mode)
-}
-
-/// Writes the line of some placements, each with its key word in the field before it. If the line fits into a held
-/// text, this is one write.
-fn write_with_keys<O: Sink>(
+/// Writes the line of placements one after the other, each with its keys in the field before it. If the line fits into a
+/// held text, this is one write.
+fn write_each<O: Sink>(
     out: &mut O,
     well: &Well,
     rules: &Rules,
     drop_mode: DropMode,
     placements: &[Placement],
-    finder: &mut Finder,
+    keys: &mut WrittenKeys,
 ) -> Result<(), Failed>
     requires { AreFree (filled well.now) placements.now }
     ensures written { WritesAll (O.written out.old) (O.written out.new) result
-        (line_form (key_part true (table_of rules.now) drop_mode) (filled well.now) placements.now) }
+        (line_form (key_part (has_keys keys.old) (table_of rules.now) drop_mode) (filled well.now) placements.now) }
     ensures cause { HasCause O.counts_failures_alone (O.faults out.old) (O.faults out.new) result }
+    ensures keys { has_keys keys.new ≡ has_keys keys.old }
 {
     let mut before = *well;
     let mut divider: &[u8] = b"";
     let mut held = SequenceText::new();
-    let is_srs = rules.is_srs();
+    let is_srs = keys.are_srs(rules);
     for placement in placements {
-        let word = word_of(finder, &before, rules, is_srs, placement, drop_mode);
+        let word = keys.word_of(&before, rules, is_srs, placement, drop_mode);
         append(
             out,
             &mut held,
@@ -113,43 +93,46 @@ fn write_with_keys<O: Sink>(
     out.write(held.as_slice())
 }
 
-/// Writes the line of placements that are played from a well, with their key words if a finder is given.
+/// Writes the line of placements that are played from a well, each with its keys in the field before it.
 pub(crate) fn write_placements<O: Sink>(
     out: &mut O,
     well: &Well,
     rules: &Rules,
     drop_mode: DropMode,
     placements: &[Placement],
-    finder: Option<&mut Finder>,
+    keys: &mut WrittenKeys,
 ) -> Result<(), Failed>
     requires free { AreFree (filled well.now) placements.now }
     requires few { length placements.now ≤ 38 }
     ensures written { WritesAll (O.written out.old) (O.written out.new) result
-        (line_form (key_part (is_some finder.entry) (table_of rules.now) drop_mode)
-        (filled well.now) placements.now) }
+        (line_form (key_part (has_keys keys.old) (table_of rules.now) drop_mode) (filled well.now) placements.now) }
     ensures cause { HasCause O.counts_failures_alone (O.faults out.old) (O.faults out.new) result }
+    ensures keys { has_keys keys.new ≡ has_keys keys.old }
 {
-    match finder {
-        Some(finder) => write_with_keys(out, well, rules, drop_mode, placements, finder),
-        None => out.write(line_of(placements).as_slice()),
+    let asked = keys.are_asked();
+    if asked {
+        return write_each(out, well, rules, drop_mode, placements, keys);
     }
+    // Without keys no field is needed, and the whole line is made at once.
+    out.write(line_of(placements).as_slice())
 }
 
-/// Writes the line of a sequence that solves the problem, as in `I0:7,0 O0:8,0`. With a finder, the key word of each
-/// placement in the field before it follows the placement, as in `I0:7,0:RRRH`.
+/// Writes the line of a sequence that solves the problem, as in `I0:7,0 O0:8,0`. If keys are written, the key word of
+/// each placement in the field before it follows the placement, as in `I0:7,0:RRRH`.
 #[tactic(auto, using(crate::proofs::LineLemmas::played_free))]
 pub fn write_line<O: Sink>(
     out: &mut O,
     problem: &Problem,
     sequence: &Sequence,
-    finder: Option<&mut Finder>,
+    keys: &mut WrittenKeys,
 ) -> Result<(), Failed>
     requires { Plays (table_of problem.now.rules) problem.now.drop_mode
         (filled problem.now.well) problem.now.height sequence.now.items }
     ensures written { WritesAll (O.written out.old) (O.written out.new) result
-        (line_form (key_part (is_some finder.entry) (table_of problem.now.rules) problem.now.drop_mode)
+        (line_form (key_part (has_keys keys.old) (table_of problem.now.rules) problem.now.drop_mode)
         (filled problem.now.well) sequence.now.items) }
     ensures cause { HasCause O.counts_failures_alone (O.faults out.old) (O.faults out.new) result }
+    ensures keys { has_keys keys.new ≡ has_keys keys.old }
 {
     let placements = sequence.as_slice();
     write_placements(
@@ -158,6 +141,6 @@ pub fn write_line<O: Sink>(
         &problem.rules,
         problem.drop_mode,
         placements,
-        finder,
+        keys,
     )
 }

@@ -4,8 +4,8 @@ ghost use Rattle.pc_outside.specs.Counts.{HasCause};
 ghost use Rattle.pc_outside.specs.Writes.{WritesAll};
 ghost use Rattle.report.specs.Forms.{floods_form, tail_form, tail_word};
 
-use itoa::Buffer;
-use pc_outside::{Failed, Sink, write_pieces};
+use line_writing::write_count;
+use pc_outside::{Failed, Sink};
 
 /// Why a report ends.
 #[derive(Clone, Copy, Debug, PartialEq, Eq)]
@@ -32,8 +32,7 @@ pub fn write_tail<O: Sink>(out: &mut O, tail: Tail, count: u64) -> Result<(), Fa
     ensures written { WritesAll (O.written out.old) (O.written out.new) result (tail_form tail count) }
     ensures cause { HasCause O.counts_failures_alone (O.faults out.old) (O.faults out.new) result }
 {
-    let mut digits = Buffer::new();
-    write_pieces(out, &[tail.word(), digits.format(count).as_bytes(), b"\n"])
+    write_count(out, tail.word(), count)
 }
 
 /// Writes the line with the number of floods, which follows a report: `floods 3`.
@@ -41,6 +40,5 @@ pub fn write_floods<O: Sink>(out: &mut O, floods: u64) -> Result<(), Failed>
     ensures written { WritesAll (O.written out.old) (O.written out.new) result (floods_form floods) }
     ensures cause { HasCause O.counts_failures_alone (O.faults out.old) (O.faults out.new) result }
 {
-    let mut digits = Buffer::new();
-    write_pieces(out, &[b"floods ", digits.format(floods).as_bytes(), b"\n"])
+    write_count(out, b"floods ", floods)
 }

@@ -1,5 +1,5 @@
 -- Where no fault stands, there is an output.
-use Rattle.std.proofs.Common.{◌≡◌, ◌∙◌, ◌↔◌, ℕ, zero, suc, ◌-◌, ◌/◌, ◌<◌, ◌≤◌, true, false, not, ◌&&◌, ◌==◌, if◌then◌else◌, IsTrue, nat_lt, length, List, [], ◌∷◌, ◌++◌, Option, Some, None, Result, Ok, Err, refl, ap, sym, subst, arith, inl, inr}
+use Rattle.std.proofs.Common.{◌≡◌, ◌∙◌, ◌↔◌, ℕ, zero, suc, ◌-◌, ◌/◌, ◌<◌, ◌≤◌, Bool, true, false, not, ◌&&◌, ◌==◌, if◌then◌else◌, IsTrue, nat_lt, length, List, [], ◌∷◌, ◌++◌, Option, Some, None, Result, Ok, Err, refl, ap, sym, subst, arith, inl, inr}
 use Rattle.std.specs.Prelude.{codes, slice_get}
 use Rattle.std.specs.List.{flat_map}
 use Rattle.std.proofs.lemmas.Bool.{and_parts, cases_Bool, ltb-true, ne_eqb}
@@ -52,17 +52,23 @@ use Rattle.pc_source.specs.Faults.{asked_fault, cells_asked, field_fault, page_f
 use Rattle.pc_source.specs.FieldText.{IsFieldOf}
 use Rattle.pc_problem.specs.Faults.{full_row_fault, pattern_fault, problem_fault}
 use Rattle.pc_path.specs.Faults.{after_fault, listing_fault, path_fault}
-use Rattle.pc_path.specs.Formats.{solution_form}
-use Rattle.pc_path.specs.Output.{IsGiven, IsPathOutput, stats_form}
+use Rattle.pc_source.specs.FieldTask.{SourceOf, fault_by_field, field_task, its_field, its_rest, rest_bytes, text_bytes}
+use Rattle.pc_source.specs.Task.{Task}
+use Rattle.pc_path.specs.Formats.{solution_form, takes_memory_first}
+use Rattle.pc_path.specs.Output.{IsGiven, IsReportOf, stats_form}
+use Rattle.pc_path.specs.PathTask.{listing_task, path_task}
 use Rattle.pc_percent.specs.Faults.{percent_fault}
 use Rattle.pc_percent.specs.Lines.{percent_form}
-use Rattle.pc_percent.specs.Output.{IsPercentOutput}
-use Rattle.pc_cover.specs.Faults.{cover_fault, covering_fault, dash, given_fault}
+use Rattle.pc_percent.specs.Output.{IsAnsweredFor}
+use Rattle.pc_percent.specs.PercentTask.{asked_task, percent_task}
+use Rattle.pc_cover.specs.Faults.{cover_fault, covering_fault, given_fault}
 use Rattle.pc_cover.specs.Given.{Given, given_in}
 use Rattle.pc_cover.specs.Lines.{cover_form}
-use Rattle.pc_cover.specs.Output.{IsCoverOutput}
+use Rattle.pc_cover.specs.Output.{IsCoveringOf}
+use Rattle.pc_cover.specs.CoverTask.{cover_task, covering_task}
 use Rattle.pc_combo.specs.Faults.{combo_fault, count_fault, one_queue, run_fault}
-use Rattle.pc_combo.specs.Output.{IsComboOutput, IsOneQueue, combo_form}
+use Rattle.pc_combo.specs.Output.{IsOneQueue, IsRunFor, combo_form}
+use Rattle.pc_combo.specs.ComboTask.{combo_task, run_task}
 use Rattle.pc_pages.specs.Faults.{encode_fault, lines_fault, unwritten_fault}
 use Rattle.pc_pages.specs.Output.{IsDecodeOutput, IsEncodeOutput, IsShowOutput, IsShown, shown_from}
 use Rattle.pc_selfrun.specs.Lines.{selfrun_form}
@@ -108,16 +114,24 @@ module _ (known : Known) where
   given_sequence needed None none = (None, refl)
   given_sequence needed (Some text) none = let found = (known.given needed text).0 none in (Some found.0, found.1)
 
-  pub path_has : (request : PathRequest) (table : Table) (bytes : List ℕ) (floods : ℕ) → IsInRange request.common → request.common.table ≡ Ok table → IsSmallTable table → path_fault request bytes ≡ None
-      → Has (IsPathOutput request bytes floods)
-  unfolding path_fault listing_fault
-  path_has request table bytes floods range read small none =
+  -- what is asked about the field has an output
+  of_field : (source : SourceOf) (text : FieldText) (page : ℕ) (memory_first : Bool) (rest : Field → Task) (bytes : List ℕ) (floods : ℕ) → 1 ≤ page → (field_task source text page memory_first rest).fault bytes ≡ None
+      → ((F : Field) → LiesInWell F → (rest F).fault (rest_bytes source bytes) ≡ None → Has ((rest F).IsOutput (rest_bytes source bytes) floods)) → Has ((field_task source text page memory_first rest).IsOutput bytes floods)
+  unfolding fault_by_field
+  of_field source text page memory_first rest bytes floods first none has =
+      let F = cells_asked text page (text_bytes source bytes) in
+      let parts = both_none (field_fault text page (text_bytes source bytes)) ((rest F).fault (rest_bytes source bytes)) none in
+      let there = asked_field text page (text_bytes source bytes) first parts.0 in
+      let outputs = has F there.1 parts.1 in
+      record { output = outputs.output; is = record { field = F; asked = there.0; holds = outputs.is } }
+
+  listing_has : (request : PathRequest) (table : Table) (floods : ℕ) → IsInRange request.common → request.common.table ≡ Ok table → IsSmallTable table → (F : Field) → LiesInWell F → listing_fault request F ≡ None
+      → Has (IsReportOf request F floods)
+  unfolding listing_fault
+  listing_has request table floods range read small F lies none =
       let common = request.common in
-      let F = cells_asked common.field common.page bytes in
-      let parts = both_none (field_fault common.field common.page bytes) (listing_fault request F) none in
-      let listing = both_none (problem_fault common F) (after_fault (empties_below F common.height / 4) request.after) parts.1 in
-      let there = asked_field common.field common.page bytes range.page parts.0 in
-      let made = asked_problem common F table range there.1 read small listing.0 in
+      let listing = both_none (problem_fault common F) (after_fault (empties_below F common.height / 4) request.after) none in
+      let made = asked_problem common F table range lies read small listing.0 in
       let problem = made.problem in
       let needed : empties_below F common.height / 4 ≡ needed_of problem =
       ap (λ G. empties_below G common.height / 4) (sym made.named.field) ∙ ap (λ h. empties_below (filled problem.well) h / 4) (sym made.named.height) in
@@ -126,53 +140,44 @@ module _ (known : Known) where
       record {
         output = report_form (solution_form request.format request.keys problem) request.limit list.0 ++ stats_form request.stats floods;
         is = record {
-          field = F;
-          asked = there.0;
-          report = record {
-            listed = record { problem = problem; named = made.named; after = given.0; given = given.1; sequences = list.0; list = list.1 };
-            report = refl;
-          };
+          listed = record { problem = problem; named = made.named; after = given.0; given = given.1; sequences = list.0; list = list.1 };
+          report = refl;
         };
       }
 
-  pub percent_has : (request : PercentRequest) (table : Table) (bytes : List ℕ) → IsInRange request.common → request.common.table ≡ Ok table → IsSmallTable table → percent_fault request bytes ≡ None
-      → Has (IsPercentOutput request bytes)
-  unfolding percent_fault
-  percent_has request table bytes range read small none =
-      let common = request.common in
-      let F = cells_asked common.field common.page bytes in
-      let parts = both_none (field_fault common.field common.page bytes) (problem_fault common F) none in
-      let there = asked_field common.field common.page bytes range.page parts.0 in
-      let made = asked_problem common F table range there.1 read small parts.1 in
+  pub path_has : (request : PathRequest) (table : Table) (bytes : List ℕ) (floods : ℕ) → IsInRange request.common → request.common.table ≡ Ok table → IsSmallTable table → path_fault request bytes ≡ None
+      → Has ((path_task request).IsOutput bytes floods)
+  path_has request table bytes floods range read small none =
+      of_field its_field request.common.field request.common.page (takes_memory_first request.format) (listing_task request) bytes floods range.page none (listing_has request table floods range read small)
+
+  answers_have : (request : PercentRequest) (table : Table) → IsInRange request.common → request.common.table ≡ Ok table → IsSmallTable table → (F : Field) → LiesInWell F → problem_fault request.common F ≡ None
+      → Has (IsAnsweredFor request F)
+  answers_have request table range read small F lies none =
+      let made = asked_problem request.common F table range lies read small none in
       record {
         output = percent_form (is_good_queue made.problem) request.failed (queues (elements_of made.problem.pattern));
-        is = record {
-          field = F;
-          asked = there.0;
-          answered = record { problem = made.problem; named = made.named; is_good = is_good_queue made.problem; decides = λ queue. known.good made.problem queue made.fit; lines = refl };
-        };
+        is = record { problem = made.problem; named = made.named; is_good = is_good_queue made.problem; decides = λ queue. known.good made.problem queue made.fit; lines = refl };
       }
 
-  pub cover_has : (request : FieldRequest) (table : Table) (bytes : List ℕ) → IsInRange request → request.table ≡ Ok table → IsSmallTable table → cover_fault request bytes ≡ None → Has (IsCoverOutput request bytes)
-  unfolding cover_fault covering_fault
-  cover_has request table bytes range read small none =
-      let F = cells_asked request.field request.page dash in
-      let parts = both_none (field_fault request.field request.page dash) (covering_fault request F bytes) none in
-      let covering = both_none (problem_fault request F) (given_fault (given_in (empties_below F request.height / 4) bytes)) parts.1 in
-      let there = asked_field request.field request.page dash range.page parts.0 in
-      let made = asked_problem request F table range there.1 read small covering.0 in
+  pub percent_has : (request : PercentRequest) (table : Table) (bytes : List ℕ) (floods : ℕ) → IsInRange request.common → request.common.table ≡ Ok table → IsSmallTable table → percent_fault request bytes ≡ None
+      → Has ((percent_task request).IsOutput bytes floods)
+  percent_has request table bytes floods range read small none =
+      of_field its_field request.common.field request.common.page true (asked_task request) bytes floods range.page none (answers_have request table range read small)
+
+  covering_has : (request : FieldRequest) (table : Table) (bytes : List ℕ) → IsInRange request → request.table ≡ Ok table → IsSmallTable table → (F : Field) → LiesInWell F → covering_fault request F bytes ≡ None
+      → Has (IsCoveringOf request F bytes)
+  unfolding covering_fault
+  covering_has request table bytes range read small F lies none =
+      let covering = both_none (problem_fault request F) (given_fault (given_in (empties_below F request.height / 4) bytes)) none in
+      let made = asked_problem request F table range lies read small covering.0 in
       let given = given_lines (given_in (empties_below F request.height / 4) bytes) covering.1 in
       let covered = known.covered made.problem given.0 made.fit in
       record {
         output = cover_form (queues (elements_of made.problem.pattern)) covered.0;
         is = record {
-          field = F;
-          asked = there.0;
-          covering = record {
-            sequences = given.0;
-            given = given.1;
-            covered = record { problem = made.problem; named = made.named; numbers = covered.0; covered = covered.1; lines = refl };
-          };
+          sequences = given.0;
+          given = given.1;
+          covered = record { problem = made.problem; named = made.named; numbers = covered.0; covered = covered.1; lines = refl };
         };
       }
     where
@@ -180,22 +185,20 @@ module _ (known : Known) where
       given_lines (Ok sequences) none = (sequences, refl)
       given_lines (Err fault) none = let bad : Some (faults.Cover fault) ≡ None = none in cc
 
-  pub combo_has : (request : ComboRequest) (table : Table) (bytes : List ℕ) → 1 ≤ request.page → request.table ≡ Ok table → combo_fault request bytes ≡ None → Has (IsComboOutput request bytes)
-  unfolding combo_fault run_fault
-  combo_has request table bytes page is_read none =
-      let F = cells_asked request.field request.page bytes in
+  pub cover_has : (request : FieldRequest) (table : Table) (bytes : List ℕ) (floods : ℕ) → IsInRange request → request.table ≡ Ok table → IsSmallTable table → cover_fault request bytes ≡ None → Has ((cover_task request).IsOutput bytes floods)
+  cover_has request table bytes floods range read small none =
+      of_field its_rest request.field request.page true (covering_task request) bytes floods range.page none (covering_has request table bytes range read small)
+
+  run_has : (request : ComboRequest) (table : Table) → request.table ≡ Ok table → (F : Field) → LiesInWell F → run_fault request F ≡ None → Has (IsRunFor request F)
+  unfolding run_fault
+  run_has request table is_read F lies none =
       let read = limited (elements request.patterns) in
-      let parts = both_none (field_fault request.field request.page bytes) (run_fault request F) none in
-      let run = three_none (full_row_fault F) (pattern_fault read) (count_fault read) parts.1 in
+      let run = three_none (full_row_fault F) (pattern_fault read) (count_fault read) none in
       let named = one_queue_of read refl run.1 run.2 in
       let longest = known.longest table request.drop_mode F request.hold named.0 request.held in
       record {
         output = combo_form (key_part request.keys table request.drop_mode) F longest.0;
-        is = record {
-          field = F;
-          asked = known.fields request.field request.page bytes page parts.0;
-          answered = record { table = table; rules = sym is_read; queue = named.0; named = named.1; run = longest.0; longest = longest.1; lines = refl };
-        };
+        is = record { table = table; rules = sym is_read; queue = named.0; named = named.1; run = longest.0; longest = longest.1; lines = refl };
       }
     where
       only_one : (list : List (List Piece)) → one_queue (length list) ≡ None → (queue : List Piece) × (list ≡ queue ∷ [])
@@ -208,6 +211,10 @@ module _ (known : Known) where
       one_queue_of : (read : Result (List Element) PatternFault) → limited (elements request.patterns) ≡ read → pattern_fault read ≡ None → count_fault read ≡ None → (queue : List Piece) × IsOneQueue request.patterns queue
       one_queue_of (Ok es) is pattern count = let only = only_one (queues es) count in (only.0, record { elements = es; read = is; only = only.1 })
       one_queue_of (Err fault) is pattern count = let bad : Some (faults.Pattern fault) ≡ None = pattern in cc
+
+  pub combo_has : (request : ComboRequest) (table : Table) (bytes : List ℕ) (floods : ℕ) → 1 ≤ request.page → request.table ≡ Ok table → combo_fault request bytes ≡ None → Has ((combo_task request).IsOutput bytes floods)
+  combo_has request table bytes floods page read none =
+      of_field its_field request.field request.page true (run_task request) bytes floods page none (run_has request table read)
 
   -- ---- the problem of a column
 

@@ -28,9 +28,9 @@ module _ (known : Known) (bytes : List ℕ) (floods : ℕ) where
   of_request : (request : Request) → AsksInRange request → (table : Table) → table_asked request ≡ Ok table → IsSmallTable table → (task_for request).fault bytes ≡ None
       → Has ((task_for request).IsOutput bytes floods)
   of_request (path request) range table read small none = path_has known request table bytes floods range read small none
-  of_request (percent request) range table read small none = percent_has known request table bytes range read small none
-  of_request (cover request) range table read small none = cover_has known request table bytes range read small none
-  of_request (combo request) range table read small none = combo_has known request table bytes range read none
+  of_request (percent request) range table read small none = percent_has known request table bytes floods range read small none
+  of_request (cover request) range table read small none = cover_has known request table bytes floods range read small none
+  of_request (combo request) range table read small none = combo_has known request table bytes floods range read none
   of_request decode range table read small none = decode_has bytes none
   of_request (encode dialect) range table read small none = encode_has dialect bytes none
   of_request (show asked) range table read small none = show_has asked bytes range none

@@ -1,7 +1,6 @@
 -- What each command writes is the same but for the number of floods.
 use Rattle.std.proofs.Common.{ℕ, List, Result, Ok, Err}
 use Rattle.pc_faults.specs.declared.fault.Fault.{Fault}
-use Rattle.pc_source.specs.Task.{Task}
 use Rattle.pc_path.proofs.CallerLemmas.{shared_path_output}
 use Rattle.pc_percent.proofs.CallerLemmas.{one_percent_output}
 use Rattle.pc_cover.proofs.CallerLemmas.{one_cover_output}
@@ -19,9 +18,9 @@ shared_for : (request : Request) (bytes : List ℕ) (floods others : ℕ) (a b :
 shared_for (path request) bytes floods others a b first second =
     let shared = shared_path_output request bytes floods others a b first second in
     record { output = shared.0; one = shared.1; other = shared.2 }
-shared_for (percent request) bytes floods others a b first second = same_shared floods others a b (one_percent_output request bytes a b first second)
-shared_for (cover request) bytes floods others a b first second = same_shared floods others a b (one_cover_output request bytes a b first second)
-shared_for (combo request) bytes floods others a b first second = same_shared floods others a b (one_combo_output request bytes a b first second)
+shared_for (percent request) bytes floods others a b first second = same_shared floods others a b (one_percent_output request bytes floods others a b first second)
+shared_for (cover request) bytes floods others a b first second = same_shared floods others a b (one_cover_output request bytes floods others a b first second)
+shared_for (combo request) bytes floods others a b first second = same_shared floods others a b (one_combo_output request bytes floods others a b first second)
 shared_for decode bytes floods others a b first second = same_shared floods others a b (one_decode_output bytes a b first second)
 shared_for (encode dialect) bytes floods others a b first second = same_shared floods others a b (one_encode_output dialect bytes a b first second)
 shared_for (show asked) bytes floods others a b first second = same_shared floods others a b (one_show_output asked bytes a b first second)

@@ -3,7 +3,7 @@ use Rattle.std.proofs.Common.{ℕ, List, length, take, ap, subst, ◌∙◌}
 use Rattle.pc_words.specs.Words.{texts}
 use Rattle.pc_app.specs.Tasks.{task_of}
 use Rattle.pc_c.specs.Call.{ForFloods, TellsFault, WritesCut, WritesFront, WritesOutput, seen}
-use Rattle.pc_c.proofs.CallLemmas.{at_cut, at_done, at_fault, at_idle, at_no_memory, nothing_written}
+use Rattle.pc_c.proofs.CallLemmas.{at_cut, at_done, at_fault, at_idle, at_no_memory, at_silent, none_told, nothing_written}
 use Rattle.pc_c.proofs.WordLemmas.{one_spelling}
 use Rattle.pc_c.proofs.voidosier_run.Goals as goal
 
@@ -36,3 +36,6 @@ returns-in-Ok-clause-no_memory c = λ words is status.
 
 pub returns-in-Err-NoMemory-clause-no_memory : goal.returns-in-Err-NoMemory-clause-no_memory
 returns-in-Err-NoMemory-clause-no_memory c = λ words is status. nothing_written (task_of words) (seen (task_of words) c.args.input.now)
+
+pub returns-in-Ok-clause-no_line : goal.returns-in-Ok-clause-no_line
+returns-in-Ok-clause-no_line c = λ other. none_told _ _ c.run_words-ended.ensures.told (at_silent _ _ _ _ _ _ _ _ c.run_words-ended.ensures.ended other)

@@ -1,10 +1,11 @@
 -- The first frame stands for the first position.
 use Rattle.std.proofs.Common.{sym, ap, ◌+◌, ◌∙◌, arith}
 use Rattle.hold_queue.specs.QueueSet.{queues_in_play}
+use Rattle.hold_queue.specs.Supply.{supply_of}
 use Rattle.prune.specs.Tiling.{supply_in}
 use Rattle.enumerate.specs.Frames.{position_of}
 use Rattle.enumerate.specs.Items.{items_of}
-use Rattle.enumerate.specs.Position.{line_at, may_play}
+use Rattle.enumerate.specs.Position.{line_at}
 use Rattle.problem.proofs.CallerLemmas.{filled-low}
 use Rattle.enumerate.proofs.SearchLemmas.{first-position}
 use Rattle.enumerate.proofs.TilingLaws.{supplies-read}
@@ -14,18 +15,15 @@ use Rattle.enumerate.proofs.start.first_frame.Goals.{in-None, in-Some}
 pub invariant_of-result-clause-bounded : goal.invariant_of-result-clause-bounded
 invariant_of-result-clause-bounded c = record { none = (filled-low c.args.problem.now.well c.args.problem.now.height (omega (arith, c.requires.low)) c.requires.below).none }
 
-pub invariant_of-result-clause-coming : goal.invariant_of-result-clause-coming
-unfolding may_play
-invariant_of-result-clause-coming c = c.permitted.ensures
-
 pub invariant_of-result-clause-supplied : goal.invariant_of-result-clause-supplied
 invariant_of-result-clause-supplied c = ap supply_in c.supply.ensures ∙ supplies-read (queues_in_play c.match-queue.queues) (c.saturating_sub-left.result + 1)
+    ∙ ap (λ set. supply_of (queues_in_play set) (c.saturating_sub-left.result + 1)) (sym c.of.ensures)
 
 pub returns-clause-position : goal.returns-clause-position
 unfolding position_of
 returns-clause-position c =
-    first-position c.args.problem.now (items_of c.args.queue.now) c.match-queue.queues
-    (elim c.match-queue.branch [
+    first-position c.args.problem.now (items_of c.args.queue.now) _
+    (ap queues_in_play c.of.ensures ∙ elim c.match-queue.branch [
       | in-None w ↦ ap queues_in_play w.queues-is ∙ w.start-queues.ensures ∙ sym (ap (λ q. line_at c.args.problem.now (items_of q)) w.in-None.is)
       | in-Some w ↦ ap queues_in_play w.queues-is ∙ w.start_one-queues.ensures ∙ sym (ap (λ q. line_at c.args.problem.now (items_of q)) w.in-Some.is)
     ])

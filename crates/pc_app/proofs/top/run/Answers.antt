@@ -1,27 +1,13 @@
--- On every status a front of each output was appended.
-use Rattle.std.proofs.Common.{ap, refl}
+-- What the run answered before its fault was told, and the line of the fault.
+use Rattle.std.proofs.Common.{ap}
 use Rattle.pc_words.specs.Words.{texts}
-use Rattle.pc_app.specs.Tasks.{task_of}
-use Rattle.pc_app.proofs.Answering.{front_of_each}
-use Rattle.pc_app.proofs.Commands.{one_output}
+use Rattle.pc_app.proofs.Ending.{run_ends}
 use Rattle.pc_app.proofs.top.run.Goals as goal
 
-pub returns-in-Done-clause-front : goal.returns-in-Done-clause-front
-returns-in-Done-clause-front g c = λ bytes told.
-    front_of_each (task_of (texts c.args.words.now)) bytes _ _ _ (one_output (texts c.args.words.now) bytes _ _ (λ told. refl)) (λ kept. ap g.O.Sink.written kept) _ (c.answer.ensures.ran bytes told)
-
-pub returns-in-Input-clause-front : goal.returns-in-Input-clause-front
-returns-in-Input-clause-front g c = λ bytes told.
-    front_of_each (task_of (texts c.args.words.now)) bytes _ _ _ (one_output (texts c.args.words.now) bytes _ _ (λ told. refl)) (λ kept. ap g.O.Sink.written kept) _ (c.answer.ensures.ran bytes told)
-
-pub returns-in-SourceFault-clause-front : goal.returns-in-SourceFault-clause-front
-returns-in-SourceFault-clause-front g c = λ bytes told.
-    front_of_each (task_of (texts c.args.words.now)) bytes _ _ _ (one_output (texts c.args.words.now) bytes _ _ (λ told. refl)) (λ kept. ap g.O.Sink.written kept) _ (c.answer.ensures.ran bytes told)
-
-pub returns-in-SinkFault-clause-front : goal.returns-in-SinkFault-clause-front
-returns-in-SinkFault-clause-front g c = λ bytes told.
-    front_of_each (task_of (texts c.args.words.now)) bytes _ _ _ (one_output (texts c.args.words.now) bytes _ _ (λ told. refl)) (λ kept. ap g.O.Sink.written kept) _ (c.answer.ensures.ran bytes told)
-
-pub returns-in-NoMemory-clause-front : goal.returns-in-NoMemory-clause-front
-returns-in-NoMemory-clause-front g c = λ bytes told.
-    front_of_each (task_of (texts c.args.words.now)) bytes _ _ _ (one_output (texts c.args.words.now) bytes _ _ (λ told. refl)) (λ kept. ap g.O.Sink.written kept) _ (c.answer.ensures.ran bytes told)
+pub returns : goal.returns
+returns g c =
+    let answer = c.answer-status.ensures in
+    let told = c.tell_fault.ensures in
+    run_ends (texts c.args.words.now) _ _ _ _ _ _ c.args.steps.now _ c.answer-status.result (λ kept. ap g.O.Sink.written kept) (λ kept. ap g.O.Sink.faults kept)
+    answer.ran answer.sink answer.words_fault answer.kicks_fault answer.source answer.source_rose answer.source_kept answer.work answer.rose answer.input_idle answer.unread_idle answer.fault_idle
+    told.whole_line told.fault_line told.no_line

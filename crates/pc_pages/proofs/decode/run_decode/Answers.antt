@@ -5,8 +5,8 @@ use Rattle.fumen_pages.specs.declared.page.Page.{Page}
 use Rattle.page_list.specs.PrintedLine.{page_form}
 use Rattle.pc_source.specs.Had.{HasText, IsShowable}
 use Rattle.pc_source.proofs.CallerLemmas.{has_prefix, refused_answers, text_reads, text_refused, wants_memory}
-use Rattle.pc_pages.specs.declared.decode.WriteFault.{WriteFault}
-use Rattle.pc_pages.specs.declared.decode.WriteFault.TheVariants as faults
+use Rattle.line_writing.specs.declared.write_fault.WriteFault.{WriteFault}
+use Rattle.line_writing.specs.declared.write_fault.WriteFault.TheVariants as faults
 use Rattle.pc_pages.specs.Output.{IsDecodeOutput}
 use Rattle.pc_pages.specs.Tasks.{decode_task}
 use Rattle.pc_pages.proofs.decode.run_decode.Goals as goal
@@ -30,7 +30,7 @@ returns-in-Ok-write_lines-clause-answers g c =
     record {
       none = text_reads None c.args.bytes.now c.deref.result.now has;
       wrote = record { output = _; is_output = lines_of c.args.bytes.now c.deref.result.now has; grown = c.in-Ok-write_lines.ensures.written.done };
-      kept = λ alone. c.in-Ok-write_lines.ensures.kept alone (λ is. cc);
+      kept = λ alone. c.in-Ok-write_lines.ensures.cause.kept alone (λ is. cc);
     }
 
 pub returns-in-Err-Failed-clause-answers : goal.returns-in-Err-Failed-clause-answers
@@ -39,7 +39,7 @@ returns-in-Err-Failed-clause-answers g c =
     record {
       none = text_reads None c.args.bytes.now c.deref.result.now has;
       front = record { output = _; is_output = lines_of c.args.bytes.now c.deref.result.now has; grown = c.in-Err-Failed.ensures.written.failed };
-      rose = c.in-Err-Failed.ensures.rose (ap (λ e. Err e) c.in-Err-Failed.field-0-is);
+      rose = c.in-Err-Failed.ensures.cause.failed (ap (λ e. Err e) c.in-Err-Failed.field-0-is);
     }
 
 pub returns-clause-answers : goal.returns-clause-answers
@@ -51,7 +51,7 @@ returns-clause-answers g c =
       ended = inr (record {
         none = text_reads None c.args.bytes.now c.deref.result.now has;
         front = record { output = _; is_output = lines_of c.args.bytes.now c.deref.result.now has; grown = c.in-Err-NoMemory.ensures.written.failed };
-        kept = λ alone. c.in-Err-NoMemory.ensures.kept alone (other_fault c.in-Err-NoMemory.field-0 c.in-Err-NoMemory.field-0-is);
+        kept = λ alone. c.in-Err-NoMemory.ensures.cause.kept alone (other_fault c.in-Err-NoMemory.field-0 c.in-Err-NoMemory.field-0-is);
       });
     }
 

@@ -20,7 +20,7 @@ loop-page-preserved g c = (
   next_item page_form c.args.pages.now c.loop-page.page-index c.page-item.result c.loop-page-test.true c.loop-page.invariant.0
       (item_written page_form c.page-item.result _ c.page-item.is c.in_ok-write_line.ensures.written),
   record {
-    later = omega (arith, c.in_ok-write_line.ensures.later, c.loop-page.invariant.1.later);
-    kept = λ alone. c.in_ok-write_line.ensures.kept alone (λ is. cc) ∙ c.loop-page.invariant.1.kept alone;
+    later = omega (arith, c.in_ok-write_line.ensures.cause.later, c.loop-page.invariant.1.later);
+    kept = λ alone. c.in_ok-write_line.ensures.cause.kept alone (λ is. cc) ∙ c.loop-page.invariant.1.kept alone;
   },
 )

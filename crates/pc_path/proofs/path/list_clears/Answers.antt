@@ -1,28 +1,28 @@
 -- The list is that of the search which was started.
-use Rattle.std.proofs.Common.{◌≡◌, ◌-◌, ◌<◌, ◌++◌, ◌∙◌, ℕ, List, [], Option, None, Result, Ok, Err, OnOk, OnErr, IsOk, length, drop, refl, ap, sym, subst, arith}
+use Rattle.std.proofs.Common.{[], ◌≡◌, ◌-◌, ◌++◌, ◌∙◌, List, Option, None, Result, Ok, Err, OnOk, OnErr, IsOk, refl, ap, sym, subst, inl, arith}
 use Rattle.lane_board.specs.Field.{Field}
 use Rattle.problem.specs.SolutionList.{View, IsList}
-use Rattle.enumerate.specs.ViewOf.{after_given, solutions, view_of, work}
+use Rattle.enumerate.specs.ViewOf.{solutions, view_of}
 use Rattle.enumerate.specs.Items.{items_of}
 use Rattle.problem.specs.Problem.{needed_of}
-use Rattle.enumerate.specs.Work.{pairs}
 use Rattle.problem.specs.declared.problem.Problem.{Problem}
 use Rattle.enumerate.specs.declared.search.Search.{Search}
 use Rattle.report.specs.Forms.{report_form}
-use Rattle.report.specs.declared.write_fault.WriteFault.{WriteFault}
-use Rattle.report.specs.declared.write_fault.WriteFault.TheVariants as faults
+use Rattle.line_writing.specs.declared.write_fault.WriteFault.{WriteFault}
+use Rattle.line_writing.specs.declared.write_fault.WriteFault.TheVariants as faults
 use Rattle.well.specs.Well.{filled}
 use Rattle.srs.specs.declared.placement.Placement.{Placement}
 use Rattle.pc_outside.specs.Writes.{WritesAll}
-use Rattle.pc_faults.specs.declared.status.Status.TheVariants.{Done, SinkFault}
+use Rattle.pc_settings.specs.declared.format.Format.TheVariants.{Fumen}
 use Rattle.pc_settings.specs.Request.{PathRequest}
 use Rattle.pc_settings.specs.Views.{path_view}
 use Rattle.pc_source.specs.Sink.{sink_change}
+use Rattle.pc_source.proofs.CommandEnds.{ends_by_fault, ends_unwritten}
 use Rattle.pc_problem.specs.Problem.{IsProblemOf}
 use Rattle.pc_path.specs.Formats.{solution_form}
 use Rattle.pc_path.specs.Output.{IsGiven, Listed, stats_form}
+use Rattle.pc_path.specs.PathTask.{listing_task}
 use Rattle.pc_path.specs.Work.{IsSearchOf, StoppedBefore}
-use Rattle.pc_path.specs.Writer.{format_of}
 use Rattle.pc_path.proofs.Formatted.{report_answers, report_works}
 use Rattle.pc_path.proofs.path.list_clears.Goals as goal
 
@@ -53,24 +53,19 @@ write_listing-written-requires g c =
     let view = c.in-Ok-start.ensures.view in
     record { same = ap (λ (v : View). v.problem) view; all = ap (λ (v : View). v.queue) view; given = refl; made = c.in-Ok-start.ensures.work; bound = omega arith }
 
-pub returns-clause-answers : goal.returns-clause-answers
-returns-clause-answers g c =
-    let problem = c.in-Ok.listing.problem in
-    let request = path_view c.args.settings.now in
-    let F = filled c.args.well in
-    let search = c.in-Ok-start.search in
-    let floods = c.write_listing-written.new.steps - c.args.steps.now in
-    let listed = listed_of request F problem (items_of c.in-Ok.listing.after) search c.in-Ok.ensures.problem c.in-Ok.ensures.after c.in-Ok-start.ensures.view c.in-Ok-start.ensures.list in
-    let report = report_form (solution_form request.format request.keys problem) request.limit (solutions search) ++ stats_form request.stats floods in
-    let written = subst (λ format. WritesAll {T = Unit {0}} {E = WriteFault} (g.O.Sink.written c.args.out.now) (g.O.Sink.written c.write_listing-written.new.out) c.write_listing-written.result (report_form (solution_form format request.keys problem) c.args.settings.now.limit (solutions search) ++ stats_form c.args.settings.now.stats floods))
-    c.in-Ok-writer_for.ensures.form
-    (subst (λ keys. WritesAll {T = Unit {0}} {E = WriteFault} (g.O.Sink.written c.args.out.now) (g.O.Sink.written c.write_listing-written.new.out) c.write_listing-written.result (report_form (solution_form (format_of c.in-Ok-writer_for.writer) keys problem) c.args.settings.now.limit (solutions search) ++ stats_form c.args.settings.now.stats floods))
-    c.in-Ok-finder_for.ensures.finder c.write_listing-written.ensures.written) in
-    report_answers request F (sink_change _ _ _ _ _) floods c.in-Ok.ensures.none _ report (record { listed = listed; report = refl }) c.write_listing-written.result c.line_status.result c.line_status.ensures written c.write_listing-written.ensures.cause
-    (λ is. sym c.in-Ok-writer_for.ensures.form ∙ c.write_listing-written.ensures.memory is)
+pub returns-in-Err : goal.returns-in-Err
+returns-in-Err g c = ends_by_fault (listing_task (path_view c.args.settings.now) (filled c.args.well)) [] _ _ c.args.steps.now c.args.steps.now c.in-Err.fault c.in-Err.ensures.fault refl refl
 
-pub returns-clause-works : goal.returns-clause-works
-returns-clause-works g c =
+pub returns-in-Err-start : goal.returns-in-Err-start
+returns-in-Err-start g c =
+    ends_unwritten (listing_task (path_view c.args.settings.now) (filled c.args.well)) [] _ _ c.args.steps.now c.args.steps.now c.in-Ok.ensures.none refl (omega arith) (inl refl)
+
+pub returns-in-Err-new : goal.returns-in-Err-new
+returns-in-Err-new g c =
+    ends_unwritten (listing_task (path_view c.args.settings.now) (filled c.args.well)) [] _ _ c.args.steps.now c.args.steps.now c.in-Ok.ensures.none refl (omega arith) (inl refl)
+
+pub returns : goal.returns
+returns g c =
     let problem = c.in-Ok.listing.problem in
     let request = path_view c.args.settings.now in
     let F = filled c.args.well in
@@ -79,33 +74,40 @@ returns-clause-works g c =
     let floods = c.write_listing-written.new.steps - c.args.steps.now in
     let sink = sink_change g.O.Sink.counts_failures_alone (g.O.Sink.written c.args.out.now) (g.O.Sink.written c.write_listing-written.new.out) (g.O.Sink.faults c.args.out.now) (g.O.Sink.faults c.write_listing-written.new.out) in
     let listed = listed_of request F problem (items_of c.in-Ok.listing.after) before c.in-Ok.ensures.problem c.in-Ok.ensures.after c.in-Ok-start.ensures.view c.in-Ok-start.ensures.list in
+    let report = report_form (solution_form request.format request.keys problem) request.limit (solutions before) ++ stats_form request.stats floods in
+    let asked = c.in-Ok-new.ensures.asked in
+    let memory : c.write_listing-written.result ≡ Err faults.NoMemory → request.format ≡ Fumen = λ is. sym (ap (λ asked. asked.0) asked) ∙ c.write_listing-written.ensures.memory is in
+    let written = subst (λ asked. WritesAll {T = Unit {0}} {E = WriteFault} sink.held sink.holds c.write_listing-written.result (report_form (solution_form asked.0 asked.1 problem) request.limit (solutions before) ++ stats_form request.stats floods))
+    asked c.write_listing-written.ensures.written in
     let searched = subst (λ after. IsSearchOf problem after search floods) c.in-Ok-start.ensures.after c.write_listing-written.ensures.searched in
-    let stopped = subst (λ format. OnErr {T = Unit {0}} {E = WriteFault} c.write_listing-written.result (StoppedBefore (solution_form format request.keys problem) (solutions before) (solutions search) sink.held sink.holds))
-    c.in-Ok-writer_for.ensures.form
-    (subst (λ keys. OnErr {T = Unit {0}} {E = WriteFault} c.write_listing-written.result (StoppedBefore (solution_form (format_of c.in-Ok-writer_for.writer) keys problem) (solutions before) (solutions search) sink.held sink.holds))
-    c.in-Ok-finder_for.ensures.finder c.write_listing-written.ensures.stopped) in
-    report_works request F sink floods c.in-Ok.ensures.none c.write_listing-written.result c.line_status.result c.line_status.ensures
-    (λ all is. record {
-      listed = listed;
-      search = search;
-      searched = searched;
-      left = done_by c.write_listing-written.result all is c.write_listing-written.ensures.left;
-      late = λ done. cc;
-      ended = λ done none short. sym searched.made ∙ c.write_listing-written.ensures.ended (is_done c.write_listing-written.result all is) (c.in-Ok-start.ensures.after ∙ none) short;
-    })
-    (λ is. record {
-      listed = listed;
-      search = search;
-      searched = searched;
-      left = failed_by c.write_listing-written.result faults.Failed is stopped;
-      late = λ failed. cc;
-      ended = λ done none short. cc;
-    })
-    (λ is. record {
-      listed = listed;
-      search = search;
-      searched = searched;
-      left = failed_by c.write_listing-written.result faults.NoMemory is stopped;
-      late = λ _. sym c.in-Ok-writer_for.ensures.form ∙ c.write_listing-written.ensures.memory is;
-      ended = λ done none short. cc;
-    })
+    let stopped = subst (λ asked. OnErr {T = Unit {0}} {E = WriteFault} c.write_listing-written.result (StoppedBefore (solution_form asked.0 asked.1 problem) (solutions before) (solutions search) sink.held sink.holds))
+    asked c.write_listing-written.ensures.stopped in record {
+      answers = report_answers request F sink floods c.in-Ok.ensures.none _ report (record { listed = listed; report = refl }) c.write_listing-written.result c.line_status.result c.line_status.ensures written c.write_listing-written.ensures.cause memory;
+      works =
+          report_works request F sink floods c.in-Ok.ensures.none c.write_listing-written.result c.line_status.result c.line_status.ensures
+          (λ all is. record {
+            listed = listed;
+            search = search;
+            searched = searched;
+            left = done_by c.write_listing-written.result all is c.write_listing-written.ensures.left;
+            late = λ done. cc;
+            ended = λ done none short. sym searched.made ∙ c.write_listing-written.ensures.ended (is_done c.write_listing-written.result all is) (c.in-Ok-start.ensures.after ∙ none) short;
+          })
+          (λ is. record {
+            listed = listed;
+            search = search;
+            searched = searched;
+            left = failed_by c.write_listing-written.result faults.Failed is stopped;
+            late = λ failed. cc;
+            ended = λ done none short. cc;
+          })
+          (λ is. record {
+            listed = listed;
+            search = search;
+            searched = searched;
+            left = failed_by c.write_listing-written.result faults.NoMemory is stopped;
+            late = λ _. memory is;
+            ended = λ done none short. cc;
+          });
+      counted = c.write_listing-written.ensures.counted;
+    }

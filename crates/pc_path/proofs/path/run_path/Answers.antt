@@ -1,29 +1,20 @@
 -- The field is had, or the run ends.
-use Rattle.std.proofs.Common.{◌≡◌, ◌∙◌, ◌-◌, Err, refl, ap, arith}
+use Rattle.std.proofs.Common.{Err, refl, ap}
 use Rattle.well.specs.Well.{filled}
 use Rattle.pc_settings.specs.Views.{path_view}
-use Rattle.pc_source.specs.Sink.{sink_change}
-use Rattle.pc_source.proofs.CallerLemmas.{none_added, refused_answers, refused_works}
-use Rattle.pc_path.specs.PathTask.{path_task}
-use Rattle.pc_path.proofs.PathAnswers.{field_refused, lists, lists_work}
+use Rattle.pc_source.specs.FieldTask.{its_field}
+use Rattle.pc_source.proofs.FieldTasks.{field_had, field_refused}
+use Rattle.pc_path.specs.Formats.{takes_memory_first}
+use Rattle.pc_path.specs.PathTask.{listing_task}
 use Rattle.pc_path.proofs.path.run_path.Goals as goal
 
-pub returns-in-Err-clause-answers : goal.returns-in-Err-clause-answers
-returns-in-Err-clause-answers g c =
+pub returns-in-Err : goal.returns-in-Err
+returns-in-Err g c =
     let request = path_view c.args.settings.now in
-    refused_answers (path_task request) c.args.bytes.now _ _ (c.args.steps.now - c.args.steps.now) c.in-Err.refused c.from.result c.from.ensures refl
-    (λ is. c.in-Err.ensures.memory (ap (λ r. Err r) is)) (field_refused request c.args.bytes.now c.in-Err.refused c.in-Err.ensures.refused)
+    field_refused its_field request.common.field request.common.page (takes_memory_first request.format) (listing_task request) c.args.bytes.now _ _ c.args.steps.now c.args.steps.now c.in-Err.refused c.from.result c.from.ensures refl refl
+    (λ is. c.in-Err.ensures.memory (ap (λ r. Err r) is)) c.in-Err.ensures.refused
 
-pub returns-in-Err-clause-works : goal.returns-in-Err-clause-works
-returns-in-Err-clause-works g c =
-    let task = path_task (path_view c.args.settings.now) in
-    let sink = sink_change g.O.Sink.counts_failures_alone (g.O.Sink.written c.args.out.now) (g.O.Sink.written c.args.out.now) (g.O.Sink.faults c.args.out.now) (g.O.Sink.faults c.args.out.now) in
-    refused_works task (task.fault c.args.bytes.now) c.args.bytes.now sink (c.args.steps.now - c.args.steps.now) c.in-Err.refused c.from.result c.from.ensures (none_added _ _ refl)
-
-pub returns-in-Ok-clause-answers : goal.returns-in-Ok-clause-answers
-returns-in-Ok-clause-answers g c = lists (path_view c.args.settings.now) c.args.bytes.now (filled c.in-Ok.well) c.in-Ok.ensures.field _ _ (c.list_clears.new.steps - c.args.steps.now) c.list_clears.result c.list_clears.ensures.answers
-
-pub returns-in-Ok-clause-works : goal.returns-in-Ok-clause-works
-returns-in-Ok-clause-works g c =
-    let sink = sink_change g.O.Sink.counts_failures_alone (g.O.Sink.written c.args.out.now) (g.O.Sink.written c.list_clears.new.out) (g.O.Sink.faults c.args.out.now) (g.O.Sink.faults c.list_clears.new.out) in
-    lists_work (path_view c.args.settings.now) c.args.bytes.now (filled c.in-Ok.well) c.in-Ok.ensures.field sink (c.list_clears.new.steps - c.args.steps.now) c.list_clears.result c.list_clears.ensures.works
+pub returns-in-Ok : goal.returns-in-Ok
+returns-in-Ok g c =
+    let request = path_view c.args.settings.now in
+    field_had its_field request.common.field request.common.page (takes_memory_first request.format) (listing_task request) c.args.bytes.now _ _ c.args.steps.now c.list_clears.new.steps (filled c.in-Ok.well) c.in-Ok.ensures.field (λ _. refl) (λ first. first) c.list_clears.result c.list_clears.ensures

@@ -1,6 +1,5 @@
 -- The report, and behind it the floods.
-use Rattle.std.proofs.Common.{◌≡◌, ◌-◌, ◌++◌, ◌∙◌, take, length, min, nat_le, if◌then◌else◌, refl, sym, ap, subst}
-use Rattle.std.specs.Prelude.{is_some}
+use Rattle.std.proofs.Common.{◌≡◌, ◌-◌, ◌∙◌, length, min, nat_le, if◌then◌else◌, sym, ap, subst}
 use Rattle.pc_outside.specs.CountLaws.{none_yet}
 use Rattle.pc_outside.specs.Writes.{WritesAll}
 use Rattle.pc_outside.specs.WriteLaws.{first_failed, two_calls}
@@ -8,9 +7,8 @@ use Rattle.enumerate.specs.Counted.{as_count}
 use Rattle.enumerate.specs.ViewOf.{solutions}
 use Rattle.report.specs.declared.tail.Tail.TheVariants.{End, Limit}
 use Rattle.report.specs.Forms.{floods_form, report_form, tail_form}
-use Rattle.report.specs.declared.write_fault.WriteFault.{WriteFault}
-use Rattle.pc_path.specs.Formats.{solution_form}
-use Rattle.pc_path.specs.Writer.{format_of}
+use Rattle.line_writing.specs.declared.write_fault.WriteFault.{WriteFault}
+use Rattle.pc_path.specs.Writer.{form_of}
 use Rattle.pc_path.proofs.Formatted.{cause_after, line_cause, line_memory, line_writes, none_more_lines}
 use Rattle.pc_path.specs.Output.{stats_form}
 use Rattle.pc_path.proofs.Searching.{more_on_err, stopped_after}
@@ -36,7 +34,7 @@ returns-then-settings-clause-memory g c = λ none. line_memory c.write_floods.re
 pub returns-then-settings-clause-stopped : goal.returns-then-settings-clause-stopped
 unfolding report_form
 returns-then-settings-clause-stopped g c =
-    let line = solution_form (format_of c.args.writer.now) (is_some c.args.finder.now) c.args.problem.now in
+    let line = form_of c.args.writer.now c.args.problem.now in
     let sequences = solutions c.args.search.now in
     let limit = c.args.settings.now.limit in
     more_on_err c.as_line.result

@@ -1,15 +1,12 @@
 -- Each turn writes the line of the next sequence.
-use Rattle.std.proofs.Common.{◌≡◌, ◌+◌, ◌-◌, ◌≤◌, drop, length, refl, ap, sym, subst, ◌∙◌, Ok, Err, arith}
-use Rattle.std.specs.Prelude.{is_some}
+use Rattle.std.proofs.Common.{◌≡◌, drop, refl, ap, sym, subst, ◌∙◌, Ok, Err, arith}
 use Rattle.pc_outside.specs.Writes.{WritesAll}
 use Rattle.pc_outside.specs.WriteLaws.{after_piece, failed_piece, grows_nothing, last_call, at_err}
 use Rattle.problem.specs.SolutionList.{View}
-use Rattle.enumerate.specs.ViewOf.{after_given, solutions, view_of, work}
-use Rattle.report.specs.declared.tail.Tail.TheVariants.{End, Limit}
-use Rattle.report.specs.Forms.{tail_form}
-use Rattle.report.specs.declared.write_fault.WriteFault.{WriteFault}
+use Rattle.enumerate.specs.ViewOf.{after_given, solutions, view_of}
+use Rattle.line_writing.specs.declared.write_fault.WriteFault.{WriteFault}
 use Rattle.pc_path.specs.Formats.{solution_form}
-use Rattle.pc_path.specs.Writer.{format_of}
+use Rattle.pc_path.specs.Writer.{form_of}
 use Rattle.pc_outside.specs.CountLaws.{none_yet}
 use Rattle.pc_path.proofs.Formatted.{cause_after, line_cause, line_memory, line_writes, none_more_lines}
 use Rattle.pc_path.proofs.Reports.{report_begins, left_over, left_next, left_full, left_as, next_plays}
@@ -26,11 +23,10 @@ loop-count-init g c = (
   refl,
   omega arith,
   grows_nothing _,
-  refl,
 )
 
-pub write_solution-requires : goal.write_solution-requires
-write_solution-requires g c =
+pub write-requires : goal.write-requires
+write-requires g c =
     next_plays c.args.problem.now (view_of c.loop-count.search) c.in-Some.sequence.items _ _ c.loop-count.invariant.4.same c.in-Some.ensures.list c.in-Some.ensures.found.0
 
 pub returns-in-None-clause-written : goal.returns-in-None-clause-written
@@ -49,7 +45,7 @@ returns-in-None-clause-left g c =
 
 pub returns-in-None-clause-stopped : goal.returns-in-None-clause-stopped
 returns-in-None-clause-stopped g c =
-    let line = solution_form (format_of c.args.writer.now) (is_some c.args.finder.now) c.args.problem.now in
+    let line = form_of c.args.writer.now c.args.problem.now in
     more_on_err c.as_line.result
     (stopped_behind line (solutions c.args.search.now) c.loop-count.count (solutions c.next.new.self) _ (c.in-None.ensures.found.1 ∙ sym c.in-None.ensures.found.0 ∙ c.loop-count.invariant.5) c.loop-count.invariant.7)
     (line_writes c.write_tail.result c.as_line.result c.as_line.ensures c.write_tail.ensures.written).failed
@@ -58,57 +54,50 @@ pub returns-in-None-clause-ended : goal.returns-in-None-clause-ended
 returns-in-None-clause-ended g c = λ ok none short.
     all_pairs c.args.problem.now (after_given c.args.search.now) c.loop-count.search _ _ c.loop-count.invariant.4 (c.in-None.ensures.whole (c.loop-count.invariant.4.given ∙ none))
 
-pub returns-in_err-write_solution-clause-written : goal.returns-in_err-write_solution-clause-written
-returns-in_err-write_solution-clause-written g c =
+pub returns-in_err-write-clause-written : goal.returns-in_err-write-clause-written
+returns-in_err-write-clause-written g c =
     let problem = c.args.problem.now in
-    let written = subst (λ format. WritesAll {T = Unit {0}} {E = WriteFault} (g.O.Sink.written c.loop-count.out) (g.O.Sink.written c.write_solution.new.out) (Err c.in_err-write_solution.field-0.0) (solution_form format (is_some c.args.finder.now) problem c.in-Some.sequence.items))
-    c.loop-count.invariant.8
-    (subst (λ keys. WritesAll {T = Unit {0}} {E = WriteFault} (g.O.Sink.written c.loop-count.out) (g.O.Sink.written c.write_solution.new.out) (Err c.in_err-write_solution.field-0.0) (solution_form (format_of c.loop-count.writer) keys problem c.in-Some.sequence.items))
-    c.loop-count.invariant.2 c.in_err-write_solution.ensures.written) in
+    let written = subst (λ asked. WritesAll {T = Unit {0}} {E = WriteFault} (g.O.Sink.written c.loop-count.out) (g.O.Sink.written c.write.new.out) (Err c.in_err-write.field-0.0) (solution_form asked.0 asked.1 problem c.in-Some.sequence.items))
+    c.loop-count.invariant.2 c.in_err-write.ensures.written in
     at_err c.from_residual.ensures.0
     (failed_piece _ c.loop-count.invariant.0 (left_next _ _ _ _ _ _ c.loop-count-test.true c.in-Some.ensures.found.0) written)
 
-pub returns-in_err-write_solution-clause-searched : goal.returns-in_err-write_solution-clause-searched
-returns-in_err-write_solution-clause-searched g c =
+pub returns-in_err-write-clause-searched : goal.returns-in_err-write-clause-searched
+returns-in_err-write-clause-searched g c =
     goes_on c.args.problem.now (after_given c.args.search.now) c.loop-count.search c.next.new.self c.args.steps.now c.loop-count.steps c.next.new.steps c.loop-count.invariant.4 c.loop-count.invariant.3
     (ap (λ (v : View). v.problem) c.in-Some.ensures.found.1) (ap (λ (v : View). v.queue) c.in-Some.ensures.found.1) c.in-Some.ensures.after c.in-Some.ensures.counted c.in-Some.ensures.rose c.in-Some.ensures.bounded
 
-pub returns-in_err-write_solution-clause-left : goal.returns-in_err-write_solution-clause-left
-returns-in_err-write_solution-clause-left g c = no_ok _ _ c.from_residual.ensures.0
+pub returns-in_err-write-clause-left : goal.returns-in_err-write-clause-left
+returns-in_err-write-clause-left g c = no_ok _ _ c.from_residual.ensures.0
 
-pub returns-in_err-write_solution-clause-stopped : goal.returns-in_err-write_solution-clause-stopped
-returns-in_err-write_solution-clause-stopped g c =
+pub returns-in_err-write-clause-stopped : goal.returns-in_err-write-clause-stopped
+returns-in_err-write-clause-stopped g c =
     let problem = c.args.problem.now in
-    let line = solution_form (format_of c.args.writer.now) (is_some c.args.finder.now) problem in
-    let written = subst (λ format. WritesAll {T = Unit {0}} {E = WriteFault} (g.O.Sink.written c.loop-count.out) (g.O.Sink.written c.write_solution.new.out) (Err c.in_err-write_solution.field-0.0) (solution_form format (is_some c.args.finder.now) problem c.in-Some.sequence.items))
-    c.loop-count.invariant.8
-    (subst (λ keys. WritesAll {T = Unit {0}} {E = WriteFault} (g.O.Sink.written c.loop-count.out) (g.O.Sink.written c.write_solution.new.out) (Err c.in_err-write_solution.field-0.0) (solution_form (format_of c.loop-count.writer) keys problem c.in-Some.sequence.items))
-    c.loop-count.invariant.2 c.in_err-write_solution.ensures.written) in
+    let line = form_of c.args.writer.now problem in
+    let written = subst (λ asked. WritesAll {T = Unit {0}} {E = WriteFault} (g.O.Sink.written c.loop-count.out) (g.O.Sink.written c.write.new.out) (Err c.in_err-write.field-0.0) (solution_form asked.0 asked.1 problem c.in-Some.sequence.items))
+    c.loop-count.invariant.2 c.in_err-write.ensures.written in
     on_err _ (stopped_line line (solutions c.args.search.now) c.loop-count.count c.in-Some.sequence.items (solutions c.next.new.self) (solutions c.next.new.self)
     (sym c.loop-count.invariant.5 ∙ c.in-Some.ensures.found.0) refl c.loop-count.invariant.7 written.failed)
 
-pub returns-in_err-write_solution-clause-ended : goal.returns-in_err-write_solution-clause-ended
-returns-in_err-write_solution-clause-ended g c = λ ok none short. absurd (never_ok _ c.from_residual.ensures.0 ok)
+pub returns-in_err-write-clause-ended : goal.returns-in_err-write-clause-ended
+returns-in_err-write-clause-ended g c = λ ok none short. absurd (never_ok _ c.from_residual.ensures.0 ok)
 
 pub loop-count-preserved : goal.loop-count-preserved
 loop-count-preserved g c =
     let problem = c.args.problem.now in
-    let line = solution_form (format_of c.args.writer.now) (is_some c.args.finder.now) problem in
-    let written = subst (λ format. WritesAll {T = Unit {0}} {E = WriteFault} (g.O.Sink.written c.loop-count.out) (g.O.Sink.written c.write_solution.new.out) (Ok c.in_ok-write_solution.field-0) (solution_form format (is_some c.args.finder.now) problem c.in-Some.sequence.items))
-    c.loop-count.invariant.8
-    (subst (λ keys. WritesAll {T = Unit {0}} {E = WriteFault} (g.O.Sink.written c.loop-count.out) (g.O.Sink.written c.write_solution.new.out) (Ok c.in_ok-write_solution.field-0) (solution_form (format_of c.loop-count.writer) keys problem c.in-Some.sequence.items))
-    c.loop-count.invariant.2 c.in_ok-write_solution.ensures.written) in
+    let line = form_of c.args.writer.now problem in
+    let written = subst (λ asked. WritesAll {T = Unit {0}} {E = WriteFault} (g.O.Sink.written c.loop-count.out) (g.O.Sink.written c.write.new.out) (Ok c.in_ok-write.field-0) (solution_form asked.0 asked.1 problem c.in-Some.sequence.items))
+    c.loop-count.invariant.2 c.in_ok-write.ensures.written in
     let next = sym c.loop-count.invariant.5 ∙ c.in-Some.ensures.found.0 in (
       after_piece c.loop-count.invariant.0 (left_next _ _ _ _ _ _ c.loop-count-test.true c.in-Some.ensures.found.0) written,
-      none_more_lines c.loop-count.invariant.1 c.in_ok-write_solution.ensures.cause,
-      c.write_solution.ensures.finder ∙ c.loop-count.invariant.2,
+      none_more_lines c.loop-count.invariant.1 c.in_ok-write.ensures.cause,
+      c.write.ensures.same ∙ c.loop-count.invariant.2,
       omega (arith, c.loop-count.invariant.3, c.in-Some.ensures.rose),
       goes_on c.args.problem.now (after_given c.args.search.now) c.loop-count.search c.next.new.self c.args.steps.now c.loop-count.steps c.next.new.steps c.loop-count.invariant.4 c.loop-count.invariant.3
           (ap (λ (v : View). v.problem) c.in-Some.ensures.found.1) (ap (λ (v : View). v.queue) c.in-Some.ensures.found.1) c.in-Some.ensures.after c.in-Some.ensures.counted c.in-Some.ensures.rose c.in-Some.ensures.bounded,
       sym (drop_next (solutions c.args.search.now) c.loop-count.count c.in-Some.sequence.items (solutions c.next.new.self) next),
       within_next (solutions c.args.search.now) c.loop-count.count c.in-Some.sequence.items (solutions c.next.new.self) next,
       lines_more line (solutions c.args.search.now) c.loop-count.count c.in-Some.sequence.items (solutions c.next.new.self) next c.loop-count.invariant.7 written.done,
-      c.write_solution.ensures.form ∙ c.loop-count.invariant.8,
     )
 
 pub returns-clause-written : goal.returns-clause-written
@@ -123,7 +112,7 @@ returns-clause-left g c =
 
 pub returns-clause-stopped : goal.returns-clause-stopped
 returns-clause-stopped g c =
-    let line = solution_form (format_of c.args.writer.now) (is_some c.args.finder.now) c.args.problem.now in
+    let line = form_of c.args.writer.now c.args.problem.now in
     more_on_err c.as_line-2.result
     (stopped_behind line (solutions c.args.search.now) c.loop-count.count (solutions c.loop-count.search) _ c.loop-count.invariant.5 c.loop-count.invariant.7)
     (line_writes c.write_tail-2.result c.as_line-2.result c.as_line-2.ensures c.write_tail-2.ensures.written).failed

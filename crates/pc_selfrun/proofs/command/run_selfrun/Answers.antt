@@ -1,5 +1,5 @@
 -- The pages have no fault, and all solutions of the problem of their column are counted.
-use Rattle.std.proofs.Common.{◌≡◌, ◌∙◌, ◌-◌, ℕ, List, [], length, true, None, refl, sym, ap, subst}
+use Rattle.std.proofs.Common.{◌≡◌, ◌∙◌, ◌-◌, ℕ, List, [], length, true, None, refl, sym, ap, subst, inl, arith}
 use Rattle.fumen_digits.specs.declared.dialect.Dialect.TheVariants.{V115}
 use Rattle.fumen_pages.specs.declared.page.Page.{Page}
 use Rattle.fumen_text.specs.Written.{list_encode_fault, written}
@@ -9,8 +9,7 @@ use Rattle.enumerate.specs.ViewOf.{solutions, view_of}
 use Rattle.enumerate.specs.Work.{pairs}
 use Rattle.problem.specs.declared.problem.Problem.{Problem}
 use Rattle.enumerate.specs.declared.search.Search.{Search}
-use Rattle.pc_source.specs.Sink.{sink_change}
-use Rattle.pc_source.proofs.CallerLemmas.{written_answers, written_works}
+use Rattle.pc_source.proofs.CommandEnds.{ends_unwritten, ends_written}
 use Rattle.pc_selfrun.specs.Lines.{selfrun_form}
 use Rattle.pc_selfrun.specs.Problem.{IsColumnProblem}
 use Rattle.pc_selfrun.specs.SelfrunTask.{selfrun_task}
@@ -43,8 +42,17 @@ count_solutions-solutions-requires g c =
     few_solutions problem (solutions c.in-Ok-start.search) c.column_problem.ensures.fit (four_needed c.in-Ok.sample.column problem c.in-Ok.ensures.within c.column_problem.ensures.problem)
     (list_of problem c.in-Ok-start.search start.view start.list)
 
-pub returns-clause-answers : goal.returns-clause-answers
-returns-clause-answers g c =
+pub returns-in-Err : goal.returns-in-Err
+returns-in-Err g c = ends_unwritten (selfrun_task c.args.number c.args.pages) [] _ _ c.args.steps.now c.args.steps.now refl refl (omega arith) (inl refl)
+
+pub returns-in-Err-checked_text : goal.returns-in-Err-checked_text
+returns-in-Err-checked_text g c = ends_unwritten (selfrun_task c.args.number c.args.pages) [] _ _ c.args.steps.now c.args.steps.now refl refl (omega arith) (inl refl)
+
+pub returns-in-Err-start : goal.returns-in-Err-start
+returns-in-Err-start g c = ends_unwritten (selfrun_task c.args.number c.args.pages) [] _ _ c.args.steps.now c.args.steps.now refl refl (omega arith) (inl refl)
+
+pub returns : goal.returns
+returns g c =
     let number = c.args.number in
     let pages = c.args.pages in
     let problem = c.column_problem.result in
@@ -54,7 +62,11 @@ returns-clause-answers g c =
     let lines = selfrun_form pages check.check.bytes check.check.same c.in-Ok.sample.column c.count_solutions-solutions.result in
     let same = (λ i. selfrun_form pages check.check.bytes (check.ensures.same i) c.in-Ok.sample.column c.count_solutions-solutions.result)
     ∙ lines_of number pages _ _ _ (column_drawn number pages) _ c.in-Ok.sample.pages.items c.deref.result.now c.deref.ensures.value c.in-Ok.ensures.pages check.ensures.bytes c.in-Ok.ensures.column c.count_solutions-solutions.ensures.count in
-    written_answers (selfrun_task number pages) [] lines _ _ (c.count_solutions-solutions.new.steps - c.args.steps.now) c.write_findings.result c.after_writes.result c.after_writes.ensures refl
+    let floods = c.count_solutions-solutions.new.steps - c.args.steps.now in
+    let all : floods ≡ pairs problem None =
+    c.count_solutions-solutions.ensures.all start.after start.work ∙ (λ i. pairs (start.view i).problem (start.view i).queue) in
+    let work : IsWholeSearch (column_drawn number pages) floods = record { problem = problem; named = named; all = all } in
+    ends_written (selfrun_task number pages) [] _ _ c.args.steps.now c.count_solutions-solutions.new.steps lines c.write_findings.result c.after_writes.result c.after_writes.ensures refl
     (record {
       problem = problem;
       named = named;
@@ -62,18 +74,4 @@ returns-clause-answers g c =
       list = list_of problem c.in-Ok-start.search start.view start.list;
       lines = same;
     })
-    c.write_findings.ensures.written c.write_findings.ensures.cause
-
-pub returns-clause-works : goal.returns-clause-works
-returns-clause-works g c =
-    let number = c.args.number in
-    let pages = c.args.pages in
-    let problem = c.column_problem.result in
-    let start = c.in-Ok-start.ensures in
-    let floods = c.count_solutions-solutions.new.steps - c.args.steps.now in
-    let named = subst (λ column. IsColumnProblem column problem) c.in-Ok.ensures.column c.column_problem.ensures.problem in
-    let all : floods ≡ pairs problem None =
-    c.count_solutions-solutions.ensures.all start.after start.work ∙ (λ i. pairs (start.view i).problem (start.view i).queue) in
-    let work : IsWholeSearch (column_drawn number pages) floods = record { problem = problem; named = named; all = all } in
-    let sink = sink_change g.O.Sink.counts_failures_alone (g.O.Sink.written c.args.out.now) (g.O.Sink.written c.write_findings.new.out) (g.O.Sink.faults c.args.out.now) (g.O.Sink.faults c.write_findings.new.out) in
-    written_works (selfrun_task number pages) None [] sink floods c.write_findings.result c.after_writes.result c.after_writes.ensures (λ all is. work) (λ failed is. work)
+    c.write_findings.ensures.written c.write_findings.ensures.cause c.count_solutions-solutions.ensures.counted work work

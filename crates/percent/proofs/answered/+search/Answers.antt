@@ -1,5 +1,5 @@
 -- Each answer is made of lists whose contracts say what they have.
-use Rattle.std.proofs.Common.{◌≡◌, ◌<◌, ℕ, ◌==◌, ◌&&◌, All, Bool, not, List, length, get_or, true, refl, ap, subst, ◌∙◌, sym, arith}
+use Rattle.std.proofs.Common.{◌≡◌, ◌<◌, ℕ, ◌+◌, ◌-◌, ◌==◌, ◌&&◌, ◌||◌, All, Bool, not, List, length, get_or, true, refl, ap, subst, ◌∙◌, sym, arith}
 use Rattle.std.specs.Prelude.{vec_len, IsPermutation}
 use Rattle.srs.specs.declared.piece.Piece.{Piece}
 use Rattle.srs.specs.declared.piece.Piece.TheVariants.{I}
@@ -14,6 +14,7 @@ use Rattle.number_sets.proofs.CallerLemmas.{has-none}
 use Rattle.percent.specs.declared.position.Child.{Child}
 use Rattle.percent.specs.declared.position.Position.{Position}
 use Rattle.percent.specs.Children.{IsChild}
+use Rattle.percent.specs.Marks.{ArePlaces}
 use Rattle.percent.specs.GoodHands.{is_good, is_good_after, is_good_at}
 use Rattle.percent.proofs.GoodSteps.{good-ends, answer-kept, answer-known, explore-ends, explore-step, try-ends, try-step, try-starts, ok-map}
 use Rattle.percent.proofs.answered.+search.Goals as goal
@@ -43,6 +44,19 @@ answered-returns-then-is_empty-2-clause-members g t c =
     answer-known c.in_ok-known.known.items c.in_ok-known.unknown.items c.args.hands.now good
     c.in_ok-known.ensures.members
     (λ hand. ap (λ l. has l hand) nil ∙ has-none hand)
+
+pub answered-returns-then-is_empty-3-clause-members : goal.answered-returns-then-is_empty-3-clause-members
+answered-returns-then-is_empty-3-clause-members g t c = λ hand.
+    let p = c.args.position.now in
+    let good : ℕ → Bool = is_good c.args.kept.now.game (filled p.well) p.rows c.args.left in
+    let none : (vec_len c.in_ok-known.known == 0) ≡ true = sym c.is_empty-3.ensures ∙ c.if-is_empty-3.true in
+    let short : length c.in_ok-known.known.items ≡ 0 = grind (arith, nat_tests) in
+    let nil = nil_from_length c.in_ok-known.known.items short in
+    let whole : c.args.left - 1 + 1 ≡ c.args.left = omega (arith, c.if-left-eq0.false) in
+    c.in_ok-found.ensures.members hand
+    ∙ (λ i. has (c.as_slice.ensures.value i) hand && is_good c.args.kept.now.game (filled p.well) p.rows (whole i) hand)
+    ∙ ap (λ b. b || (has c.in_ok-known.unknown.items hand && good hand)) (sym (ap (λ l. has l hand) nil ∙ has-none hand))
+    ∙ c.in_ok-known.ensures.members hand
 
 seven : (order : List Piece) → IsPermutation all_pieces order → length order ≡ 7
 seven order same = length_permutation all_pieces order same
@@ -80,42 +94,56 @@ tried-returns-then-is_empty-clause-members g t c = λ rest.
     (has-none rest ∙ sym (ap (λ b. b && is_good_after c.args.kept.now.game (filled p.well) p.rows c.args.piece c.args.left rest) (ap (λ l. has l rest) nil ∙ has-none rest)))
 
 pub tried-loop-child-init : goal.tried-loop-child-init
-tried-loop-child-init g t c =
-    try-starts c.args.kept.now.game c.args.left c.deref-child-items.result.now c.args.rests.now c.in_ok-open.open.items c.args.steps.now c.children.new.steps
-    c.in_ok-open.ensures.items c.requires.rises (omega (arith, c.in_ok-children.ensures.counted))
+tried-loop-child-init g t c = (
+  try-starts c.args.kept.now.game c.args.left c.deref-child-items.result.now c.args.rests.now c.in_ok-asked.asked.rests.items c.args.steps.now c.children.new.steps
+      (c.in_ok-asked.ensures.rests ∙ c.in_ok-all.ensures.items) c.requires.rises (omega (arith, c.in_ok-children.ensures.counted)),
+  c.in_ok-asked.ensures.places,
+)
 
 -- the child of the iteration comes after a placement
-child_is : (F : Field) (rows : ℕ) (items children : List Child) (i : ℕ) (child : Child) → children ≡ items → All (IsChild F rows) items → i < length children → child ≡ get_or children i child
-    → IsChild F rows child
-child_is F rows items children i child same all within is = subst (IsChild F rows) (sym is) (subst (All (IsChild F rows)) (sym same) all i child within)
+child_is : (F : Field) (rows : ℕ) (piece : Piece) (items children : List Child) (i : ℕ) (child : Child) → children ≡ items → All (IsChild F rows piece) items → i < length children → child ≡ get_or children i child
+    → IsChild F rows piece child
+child_is F rows piece items children i child same all within is = subst (IsChild F rows piece) (sym is) (subst (All (IsChild F rows piece)) (sym same) all i child within)
 
 pub tried-fitting_after-requires-clause-child : goal.tried-fitting_after-requires-clause-child
 tried-fitting_after-requires-clause-child g t c =
     let p = c.args.marks.now.position in
-    child_is (filled p.well) p.rows c.in_ok-children.children.items c.deref-child-items.result.now c.loop-child.child-index c.child-item.result
-    c.deref-child-items.ensures.value c.in_ok-children.ensures.after c.loop-child-test.true c.child-item.is
+    let is = child_is (filled p.well) p.rows c.args.piece c.in_ok-children.children.items c.deref-child-items.result.now c.loop-child.child-index c.child-item.result
+    c.deref-child-items.ensures.value c.in_ok-children.ensures.after c.loop-child-test.true c.child-item.is in
+    subst (λ piece. IsChild (filled p.well) p.rows piece c.child-item.result) (sym is.kind) is
+
+pub tried-fitting_after-requires-clause-places : goal.tried-fitting_after-requires-clause-places
+tried-fitting_after-requires-clause-places g t c =
+    let p = c.args.marks.now.position in
+    let is = child_is (filled p.well) p.rows c.args.piece c.in_ok-children.children.items c.deref-child-items.result.now c.loop-child.child-index c.child-item.result
+    c.deref-child-items.ensures.value c.in_ok-children.ensures.after c.loop-child-test.true c.child-item.is in
+    subst (λ piece. ArePlaces c.args.marks.now.known.items piece c.args.left c.loop-child.asked.rests.items c.loop-child.asked.places.items) (sym is.kind) c.loop-child.invariant.1
 
 pub tried-loop-child-preserved : goal.tried-loop-child-preserved
-tried-loop-child-preserved g t c =
-    try-step c.args.kept.now.game c.loop-child.kept.game c.answered.new.kept.game c.args.left c.deref-child-items.result.now c.args.rests.now
-    c.loop-child.open.items c.as_slice.result.now c.loop-child.open.items c.in_ok-good.good.items c.as_slice-in-loop-child-2.result.now c.in_ok-open-2.open.items
-    c.args.steps.now c.loop-child.steps c.answered.new.steps c.loop-child.child-index c.child-item.result
-    c.loop-child.invariant c.loop-child-test.true (sym c.child-item.is)
-    c.as_slice.ensures.value
-    (λ rest.
-    c.in_ok-good.ensures.members rest
-    ∙ answer-kept c.in_ok-fit.fit.items c.as_slice-in-loop-child.result.now c.as_slice.result.now
-    (is_good c.loop-child.kept.game (filled c.child-item.result.position.well) c.child-item.result.position.rows c.args.left)
-    c.as_slice-in-loop-child.ensures.value (c.in_ok-fit.ensures.members c.loop-child.kept.game) rest)
-    c.in_ok-good.ensures.game c.in_ok-good.ensures.counted
-    c.in_ok-open-2.ensures.rises refl c.as_slice-in-loop-child-2.ensures.value c.in_ok-open-2.ensures.members
+tried-loop-child-preserved g t c = (
+  try-step c.args.kept.now.game c.loop-child.kept.game c.answered.new.kept.game c.args.left c.deref-child-items.result.now c.args.rests.now
+      c.loop-child.asked.rests.items c.loop-child.asked.rests.items c.loop-child.asked.rests.items c.in_ok-good.good.items c.as_slice-in-loop-child.result.now c.in_ok-asked-2.asked.rests.items
+      c.args.steps.now c.loop-child.steps c.answered.new.steps c.loop-child.child-index c.child-item.result
+      c.loop-child.invariant.0 c.loop-child-test.true (sym c.child-item.is)
+      refl
+      (λ rest.
+      c.in_ok-good.ensures.members rest
+      ∙ answer-kept c.in_ok-fit.fit.items c.as_slice.result.now c.loop-child.asked.rests.items
+      (is_good c.loop-child.kept.game (filled c.child-item.result.position.well) c.child-item.result.position.rows c.args.left)
+      c.as_slice.ensures.value (c.in_ok-fit.ensures.members c.loop-child.kept.game) rest)
+      c.in_ok-good.ensures.game c.in_ok-good.ensures.counted
+      c.in_ok-asked-2.ensures.rises refl c.as_slice-in-loop-child.ensures.value c.in_ok-asked-2.ensures.members,
+  c.in_ok-asked-2.ensures.places,
+)
 
 pub tried-returns-clause-members : goal.tried-returns-clause-members
 tried-returns-clause-members g t c =
     let p = c.args.marks.now.position in
+    let all = c.in_ok-asked.ensures.rests ∙ c.in_ok-all.ensures.items in
     ok-map c.without.result _ _
-    (λ v h. try-ends c.args.kept.now.game c.loop-child.kept.game (filled p.well) p.rows c.args.piece c.args.left c.deref-child-items.result.now c.args.rests.now c.loop-child.open.items v.items
-    c.args.steps.now c.loop-child.steps c.loop-child.child-index c.loop-child.invariant c.loop-child-test.false
-    (subst (λ l. (rest : ℕ) → has c.args.rests.now rest ≡ true → is_good_at c.args.kept.now.game l c.args.left rest ≡ is_good_after c.args.kept.now.game (filled p.well) p.rows c.args.piece c.args.left rest) (sym c.deref-child-items.ensures.value) c.in_ok-children.ensures.good)
+    (λ v h. try-ends c.args.kept.now.game c.loop-child.kept.game (filled p.well) p.rows c.args.piece c.args.left c.deref-child-items.result.now c.args.rests.now c.loop-child.asked.rests.items v.items
+    c.args.steps.now c.loop-child.steps c.loop-child.child-index c.loop-child.invariant.0 c.loop-child-test.false
+    (subst (λ l. (rest : ℕ) → has c.args.rests.now rest ≡ true → is_good_at c.args.kept.now.game l c.args.left rest ≡ is_good_after c.args.kept.now.game (filled p.well) p.rows c.args.piece c.args.left rest) (sym c.deref-child-items.ensures.value)
+    (subst (λ l. (rest : ℕ) → has l rest ≡ true → is_good_at c.args.kept.now.game c.in_ok-children.children.items c.args.left rest ≡ is_good_after c.args.kept.now.game (filled p.well) p.rows c.args.piece c.args.left rest) all c.in_ok-children.ensures.good))
     (λ rest. h rest ∙ ap (λ l. has c.args.rests.now rest && not (has l rest)) c.as_slice-2.ensures.value))
     c.without.ensures.members

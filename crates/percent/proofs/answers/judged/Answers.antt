@@ -1,7 +1,8 @@
 -- Each queue is judged by its hand.
-use Rattle.std.proofs.Common.{subst, sym, ◌∙◌, ap, arith}
-use Rattle.number_sets.specs.Rising.{has}
-use Rattle.percent.specs.GoodHands.{AreAnswers}
+use Rattle.std.proofs.Common.{◌≡◌, length, rules, subst, arith}
+use Rattle.queue_pattern.specs.Pattern.{elements_of}
+use Rattle.queue_pattern.specs.Queues.{queues}
+use Rattle.percent.specs.GoodHands.{AreAnswers, HasHandsBefore}
 use Rattle.percent.proofs.AnswerLemmas.{judge-starts, judge-more}
 use Rattle.percent.proofs.answers.judged.Goals as goal
 
@@ -11,8 +12,13 @@ loop-number-init c = judge-starts c.args.problem.now c.in_ok-answers.answers.ite
 pub loop-number-preserved : goal.loop-number-preserved
 loop-number-preserved c =
     rw c.in_ok-push.ensures.items
-    (judge-more c.args.problem.now c.args.hands.now c.loop-number.answers.items c.loop-number.number c.hand.result c.holds.result c.requires.exact
+    (judge-more c.args.problem.now c.args.good.now c.loop-number.answers.items c.loop-number.number c.hand.result c.holds.result c.requires.exact
     (omega (arith, c.loop-number-test.true, c.count-count.ensures.number)) c.hand.ensures c.holds.ensures c.loop-number.invariant)
 
 pub returns : goal.returns
 returns c = subst (AreAnswers c.args.problem.now c.loop-number.answers.items) (omega (arith, c.loop-number-test.false, c.loop-number.auto.number-end, c.count-count.ensures.number)) c.loop-number.invariant
+
+pub all_good-requires-clause-each : goal.all_good-requires-clause-each
+all_good-requires-clause-each c =
+    let same : c.args.hands.now ≡ c.args.good.now = search rules in
+    subst (λ l. HasHandsBefore c.args.problem.now l (length (queues (elements_of c.args.problem.now.pattern)))) same c.requires.each

@@ -1,10 +1,10 @@
 -- One more piece of its kind.
-use Rattle.std.proofs.Common.{◌≡◌, ◌≤◌, ◌<◌, ◌==◌, ◌+◌, ℕ, true, false, cond, get_or, sym, ap, ◌∙◌, inl, inr, arith}
+use Rattle.std.proofs.Common.{◌≡◌, ◌==◌, ℕ, get_or, sym, ap, ◌∙◌, inl, inr, arith}
 use Rattle.std.proofs.lemmas.Bool.{cases_eq, cond-true, cond-false, eq-eqb, ne_eqb}
 use Rattle.std.proofs.lemmas.List.{get_or-set_other}
 use Rattle.std.proofs.lemmas.Grind.{get_or-set_at}
 use Rattle.srs.specs.Piece.{piece_code}
-use Rattle.percent.specs.Fitting.{codes_in, codes_with}
+use Rattle.percent.specs.Fitting.{codes_with}
 use Rattle.percent.proofs.HandLemmas.{code-few}
 use Rattle.percent.proofs.TiledLemmas.{codes-few}
 use Rattle.percent.proofs.marks.counts_with.Goals as goal

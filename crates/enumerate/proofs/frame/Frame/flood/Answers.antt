@@ -18,14 +18,14 @@ invariant_of-self g c = record {
   few = c.args.self.now.few;
   bounded = c.args.self.now.bounded;
   emptied = c.args.self.now.emptied;
-  coming = c.args.self.now.coming;
+  followed = c.args.self.now.followed;
   supplied = c.args.self.now.supplied;
   lockable = λ x is. subst (λ p. Lockable (filled c.args.self.now.well) p) (some_same is)
       (flooded-lockable (flood_table c.args.rules.now) (filled c.args.self.now.well) c.args.drop_mode c.args.piece c.flood_below.new.held c.flood_below.ensures.piece c.args.self.now.rows c.flood_below.ensures.held);
   held_below = λ x is. subst (λ p. HeldBelow c.args.self.now.rows p) (some_same is)
       (flooded-below (flood_table c.args.rules.now) (filled c.args.self.now.well) c.args.drop_mode c.args.piece c.flood_below.new.held c.flood_below.ensures.piece c.args.self.now.rows c.flood_below.ensures.held);
-  permitted = λ x is. subst (λ p. may_play (queues_in_play c.args.self.now.queues) (piece_of p) ≡ true) (some_same is)
-      (subst (λ p. may_play (queues_in_play c.args.self.now.queues) p ≡ true) (sym c.flood_below.ensures.piece) c.requires);
+  permitted = λ x is. subst (λ p. may_play (queues_in_play c.args.self.now.line.queues) (piece_of p) ≡ true) (some_same is)
+      (subst (λ p. may_play (queues_in_play c.args.self.now.line.queues) p ≡ true) (sym c.flood_below.ensures.piece) c.requires);
   same_piece = λ x is q none. cc;
 }
 

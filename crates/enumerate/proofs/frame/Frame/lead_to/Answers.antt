@@ -7,33 +7,26 @@ use Rattle.hold_queue.specs.QueueSet.{queues_in_play}
 use Rattle.hold_queue.specs.Supply.{supply_of}
 use Rattle.prune.specs.Tiling.{supply_in}
 use Rattle.enumerate.specs.Frames.{position_of}
-use Rattle.enumerate.specs.Position.{after_of, is_live, may_play}
+use Rattle.enumerate.specs.Position.{after_of, is_live}
 use Rattle.enumerate.proofs.PlaceLaws.{lockable-free}
 use Rattle.enumerate.proofs.TilingLaws.{locked-below, supply-moves}
-use Rattle.enumerate.proofs.TurnLemmas.{enters-child, is_child, line-permits}
+use Rattle.enumerate.proofs.TurnLemmas.{enters-child, is_child}
 use Rattle.enumerate.proofs.frame.Frame.lead_to.Goals as goal
 
 pub lock-removed-requires : goal.lock-removed-requires
 lock-removed-requires c = lockable-free (filled c.args.self.now.well) c.args.placement.now.piece c.args.placement.now c.requires.lockable
-
-pub after-queues-requires : goal.after-queues-requires
-after-queues-requires c = line-permits _ c.args.placement.now.piece c.requires.permitted
 
 pub invariant_of-child-clause-bounded : goal.invariant_of-child-clause-bounded
 invariant_of-child-clause-bounded c =
     locked-below c.args.self.now c.args.placement.now _ _ c.requires.below (lockable-free (filled c.args.self.now.well) c.args.placement.now.piece c.args.placement.now c.requires.lockable)
     c.lock-removed.ensures.field (c.saturating_sub-rows.ensures ∙ ap (λ k. c.args.self.now.rows - k) c.lock-removed.ensures.removed)
 
-pub invariant_of-child-clause-coming : goal.invariant_of-child-clause-coming
-unfolding may_play
-invariant_of-child-clause-coming c = c.permitted-child.ensures
-
 pub invariant_of-child-clause-supplied : goal.invariant_of-child-clause-supplied
 invariant_of-child-clause-supplied c =
     let frame = c.args.self.now in
     let left : frame.left ≡ frame.left - 1 + 1 = omega (arith, c.requires.some) in
-    supply-moves (queues_in_play frame.queues) c.args.placement.now.piece frame.left (supply_in frame.supply) (supply_in c.supply_after-child.result) frame.supplied c.supply_after-child.ensures
-    ∙ (λ i. supply_of (sym c.after-queues.ensures i) (left i))
+    supply-moves (queues_in_play frame.line.queues) c.args.placement.now.piece frame.left (supply_in frame.supply) (supply_in c.supply_after-supply.result) frame.supplied c.supply_after-supply.ensures
+    ∙ (λ i. supply_of (sym c.line_after-child.ensures i) (left i))
 
 pub returns : goal.returns
 returns c =
@@ -41,6 +34,6 @@ returns c =
     let left : c.args.self.now.left - 1 + 1 ≡ c.args.self.now.left = omega (arith, c.requires.some) in
     let live : (table : Table) (mode : DropMode) → is_live (c.args.self.now.left - 1) (after_of (position_of table mode c.args.self.now) c.args.placement.now) ≡ true =
     λ table mode. c.requires.live table mode (c.args.self.now.left - 1) left in (
-      enters-child c.args.self.now c.args.placement.now c.requires.below _ c.lock-removed.ensures.field rows c.after-queues.ensures left refl refl live,
-      is_child c.args.self.now c.args.placement.now c.requires.below _ c.lock-removed.ensures.field rows c.after-queues.ensures left refl refl live,
+      enters-child c.args.self.now c.args.placement.now c.requires.below _ c.lock-removed.ensures.field rows c.line_after-child.ensures left refl refl live,
+      is_child c.args.self.now c.args.placement.now c.requires.below _ c.lock-removed.ensures.field rows c.line_after-child.ensures left refl refl live,
     )

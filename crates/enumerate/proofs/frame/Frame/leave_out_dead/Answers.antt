@@ -8,7 +8,6 @@ use Rattle.srs.specs.Rotation.{rotation_place}
 use Rattle.lists.proofs.CallerLemmas.{and_first, some_same}
 use Rattle.lane_board.specs.Words.{cells_of_words}
 use Rattle.well.specs.Well.{filled}
-use Rattle.well.specs.LockLaws.{is_below}
 use Rattle.reach.specs.Places.{holds, piece_of}
 use Rattle.hold_queue.specs.QueueSet.{queues_in_play}
 use Rattle.enumerate.specs.Events.{entered, enter, tried_in_turn}
@@ -31,13 +30,13 @@ invariant_of-self c =
       few = frame.few;
       bounded = frame.bounded;
       emptied = frame.emptied;
-      coming = frame.coming;
+      followed = frame.followed;
       supplied = frame.supplied;
       lockable = λ x is. subst (λ p. Lockable (filled frame.well) p) (some_same is)
           (λ q held. subst (λ p. may_lock (filled frame.well) p q ≡ true) (sym c.leave_out.ensures.piece) (frame.lockable places c.in-Some.is q (was q held)));
       held_below = λ x is. subst (λ p. HeldBelow frame.rows p) (some_same is) (λ q held. frame.held_below places c.in-Some.is q (was q held));
-      permitted = λ x is. subst (λ p. may_play (queues_in_play frame.queues) (piece_of p) ≡ true) (some_same is)
-          (subst (λ p. may_play (queues_in_play frame.queues) p ≡ true) (sym c.leave_out.ensures.piece) (frame.permitted places c.in-Some.is));
+      permitted = λ x is. subst (λ p. may_play (queues_in_play frame.line.queues) (piece_of p) ≡ true) (some_same is)
+          (subst (λ p. may_play (queues_in_play frame.line.queues) p ≡ true) (sym c.leave_out.ensures.piece) (frame.permitted places c.in-Some.is));
       same_piece = λ x is q is_q. frame.same_piece places c.in-Some.is q is_q ∙ sym c.leave_out.ensures.piece ∙ ap piece_of (some_same is);
     }
 

@@ -21,10 +21,10 @@ unfolding places_left
 returns-then-not-may_play-clause-skips g c = λ prefix given.
     skips-same _ _ c.args.steps.now
     (passes-kind (flood_table c.args.rules.now) c.args.drop_mode c.args.self.now _ record { well = refl; rows = refl; queues = refl; left = refl } c.args.target.now c.requires.fresh.live c.code-self.ensures
-    (may_play-answer (queues_in_play c.args.self.now.queues) c.args.target.now.piece c.may_play.result c.may_play.ensures.permitted ∙ c.if-not-may_play.true) refl prefix given)
+    (may_play-answer (queues_in_play c.args.self.now.line.queues) c.args.target.now.piece c.may_play.result c.may_play.ensures.permitted ∙ c.if-not-may_play.true) refl prefix given)
 
 pub flood-requires : goal.flood-requires
-flood-requires g c = may_play-answer (queues_in_play c.args.self.now.queues) c.args.target.now.piece c.may_play.result c.may_play.ensures.permitted ∙ c.if-not-may_play.false
+flood-requires g c = may_play-answer (queues_in_play c.args.self.now.line.queues) c.args.target.now.piece c.may_play.result c.may_play.ensures.permitted ∙ c.if-not-may_play.false
 
 pub invariant_of-self-2 : goal.invariant_of-self-2
 invariant_of-self-2 g c = record {
@@ -32,7 +32,7 @@ invariant_of-self-2 g c = record {
   few = c.flood.new.self.few;
   bounded = c.flood.new.self.bounded;
   emptied = c.flood.new.self.emptied;
-  coming = c.flood.new.self.coming;
+  followed = c.flood.new.self.followed;
   supplied = c.flood.new.self.supplied;
   lockable = c.flood.new.self.lockable;
   held_below = c.flood.new.self.held_below;
@@ -43,7 +43,7 @@ invariant_of-self-2 g c = record {
 pub returns-then-not-reached-clause-skips : goal.returns-then-not-reached-clause-skips
 unfolding position_of
 returns-then-not-reached-clause-skips g c =
-    let played = may_play-answer (queues_in_play c.args.self.now.queues) c.args.target.now.piece c.may_play.result c.may_play.ensures.permitted ∙ c.if-not-may_play.false in
+    let played = may_play-answer (queues_in_play c.args.self.now.line.queues) c.args.target.now.piece c.may_play.result c.may_play.ensures.permitted ∙ c.if-not-may_play.false in
     skips-unplaced (flood_table c.args.rules.now) c.args.drop_mode c.args.self.now _
     record { well = c.flood.ensures.same.well; rows = c.flood.ensures.same.rows; queues = c.flood.ensures.same.queues; left = c.flood.ensures.same.left } c.args.target.now c.requires.fresh.live
     (c.flood.ensures.tried ∙ c.code-self.ensures) played
@@ -68,12 +68,12 @@ enter-requires-clause-below g c =
 pub enter-requires-clause-permitted : goal.enter-requires-clause-permitted
 enter-requires-clause-permitted g c =
     subst (λ s. may_play (queues_in_play s) c.args.target.now.piece ≡ true) (sym c.flood.ensures.same.queues)
-    (may_play-answer (queues_in_play c.args.self.now.queues) c.args.target.now.piece c.may_play.result c.may_play.ensures.permitted ∙ c.if-not-may_play.false)
+    (may_play-answer (queues_in_play c.args.self.now.line.queues) c.args.target.now.piece c.may_play.result c.may_play.ensures.permitted ∙ c.if-not-may_play.false)
 
 pub returns-in-Entered-clause-skips : goal.returns-in-Entered-clause-skips
 unfolding position_of
 returns-in-Entered-clause-skips g c =
-    let played = may_play-answer (queues_in_play c.args.self.now.queues) c.args.target.now.piece c.may_play.result c.may_play.ensures.permitted ∙ c.if-not-may_play.false in
+    let played = may_play-answer (queues_in_play c.args.self.now.line.queues) c.args.target.now.piece c.may_play.result c.may_play.ensures.permitted ∙ c.if-not-may_play.false in
     let placed = held-place (position_of (flood_table c.args.rules.now) c.args.drop_mode c.args.self.now) c.args.target.now _ c.flood.ensures.places c.reaches-reached.result c.reaches-reached.ensures c.if-not-reached.false in (
       skips-entered (flood_table c.args.rules.now) c.args.drop_mode c.args.self.now _
           record { well = c.flood.ensures.same.well; rows = c.flood.ensures.same.rows; queues = c.flood.ensures.same.queues; left = c.flood.ensures.same.left } c.args.target.now c.requires.fresh.live
@@ -87,7 +87,7 @@ returns-in-Entered-clause-skips g c =
 pub returns-in_default : goal.returns-in_default
 unfolding position_of
 returns-in_default g c =
-    let played = may_play-answer (queues_in_play c.args.self.now.queues) c.args.target.now.piece c.may_play.result c.may_play.ensures.permitted ∙ c.if-not-may_play.false in
+    let played = may_play-answer (queues_in_play c.args.self.now.line.queues) c.args.target.now.piece c.may_play.result c.may_play.ensures.permitted ∙ c.if-not-may_play.false in
     record {
       skips = skips-dead (flood_table c.args.rules.now) c.args.drop_mode c.args.self.now _
           record { well = c.flood.ensures.same.well; rows = c.flood.ensures.same.rows; queues = c.flood.ensures.same.queues; left = c.flood.ensures.same.left } c.args.target.now c.requires.fresh.live
@@ -122,7 +122,7 @@ enter-requires-clause-live g c = c.is_worth.ensures.live c.if-not-is_worth.false
 pub returns-then-not-is_worth-clause-skips : goal.returns-then-not-is_worth-clause-skips
 unfolding position_of
 returns-then-not-is_worth-clause-skips g c =
-    let played = may_play-answer (queues_in_play c.args.self.now.queues) c.args.target.now.piece c.may_play.result c.may_play.ensures.permitted ∙ c.if-not-may_play.false in
+    let played = may_play-answer (queues_in_play c.args.self.now.line.queues) c.args.target.now.piece c.may_play.result c.may_play.ensures.permitted ∙ c.if-not-may_play.false in
     skips-dead (flood_table c.args.rules.now) c.args.drop_mode c.args.self.now _ record { well = c.flood.ensures.same.well; rows = c.flood.ensures.same.rows; queues = c.flood.ensures.same.queues; left = c.flood.ensures.same.left } c.args.target.now c.requires.fresh.live
     (c.flood.ensures.tried ∙ c.code-self.ensures) played
     (left-above (position_of (flood_table c.args.rules.now) c.args.drop_mode c.args.self.now) c.flood.new.self.places c.flood.new.self.entered c.flood.ensures.entered c.args.target.now c.flood.ensures.places)

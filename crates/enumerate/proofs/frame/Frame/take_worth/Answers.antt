@@ -1,12 +1,11 @@
 -- What is left to do is what was to do at the start, until there is something to do at a placement.
-use Rattle.std.proofs.Common.{◌≡◌, ◌++◌, [], length, refl, sym, ap, subst, ◌∙◌, arith}
+use Rattle.std.proofs.Common.{◌≡◌, length, refl, sym, ap, subst, ◌∙◌, arith}
 use Rattle.std.specs.Prelude.{true}
 use Rattle.lists.proofs.CallerLemmas.{some_same}
 use Rattle.well.specs.Well.{filled}
 use Rattle.well.specs.LockLaws.{is_below}
 use Rattle.reach.specs.Places.{piece_of}
 use Rattle.hold_queue.specs.QueueSet.{queues_in_play}
-use Rattle.enumerate.specs.Frames.{events_of}
 use Rattle.enumerate.specs.Position.{may_play}
 use Rattle.enumerate.specs.Standing.{may_lock}
 use Rattle.enumerate.proofs.TurnLemmas.{none-left, one-entered, one-passed}
@@ -21,7 +20,7 @@ invariant_of-self c = record {
   few = c.take_upcoming.new.self.few;
   bounded = c.take_upcoming.new.self.bounded;
   emptied = c.take_upcoming.new.self.emptied;
-  coming = c.take_upcoming.new.self.coming;
+  followed = c.take_upcoming.new.self.followed;
   supplied = c.take_upcoming.new.self.supplied;
   lockable = c.take_upcoming.new.self.lockable;
   held_below = c.take_upcoming.new.self.held_below;

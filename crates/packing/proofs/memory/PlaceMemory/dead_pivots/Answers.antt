@@ -1,5 +1,5 @@
 -- What is remembered is true, and where nothing is there is no pivot.
-use Rattle.std.proofs.Common.{◌≡◌, ◌+◌, ◌*◌, ◌/◌, true, false, List, ℕ, sym, ap, ◌∙◌}
+use Rattle.std.proofs.Common.{◌+◌, ◌*◌, ◌/◌, List, ℕ, sym, ap, ◌∙◌}
 use Rattle.std.proofs.lemmas.Bool.{both_ways}
 use Rattle.lane_board.specs.Field.{Field}
 use Rattle.srs.specs.Rotation.{rotation_place}

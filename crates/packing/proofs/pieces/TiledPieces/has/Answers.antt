@@ -1,6 +1,5 @@
 -- The pivots of its kind have it.
 use Rattle.std.proofs.Common.{ap, ◌∙◌, get_or, ◌-◌, []}
-use Rattle.packing.specs.declared.pivots.Pivots.{Pivots}
 use Rattle.packing.specs.Pivots.{has_pivot}
 use Rattle.packing.specs.TiledPieces.{is_marked}
 use Rattle.packing.proofs.pieces.TiledPieces.has.Goals as goal

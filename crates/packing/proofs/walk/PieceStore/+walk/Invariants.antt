@@ -1,7 +1,7 @@
 -- Pieces and spans are used up.
 use Rattle.std.proofs.Common.{◌+◌, ◌*◌, false, [], ◌∷◌}
 use Rattle.prune.specs.Tiling.{supply_in}
-use Rattle.packing.specs.Empties.{empty_cells}
+use Rattle.packing.specs.ShiftedCells.{shifted_cells}
 use Rattle.packing.specs.Walks.{FindsWith, noted}
 use Rattle.packing.proofs.SearchLemmas.{total}
 use Rattle.packing.proofs.WalkRows.{GoneThrough}
@@ -19,9 +19,6 @@ decreases-takes l = 20 * total (supply_in l.supply.now) + 1
 abbrev pub decreases-forms : goal.decreases-forms
 decreases-forms l = 20 * total (supply_in l.cover.now.supply) + 20
 
-abbrev pub decreases-form : goal.decreases-form
-decreases-form l = 20 * total (supply_in l.cover.now.supply) + 19
-
 abbrev pub decreases-stacks_four : goal.decreases-stacks_four
 decreases-stacks_four l = 20 * total (supply_in l.cover.now.supply) + 8
 
@@ -38,25 +35,25 @@ abbrev pub decreases-leaves : goal.decreases-leaves
 decreases-leaves l = 20 * total (supply_in l.cover.now.supply) + 4
 
 abbrev pub invariant-stacks_one-loop-rows : goal.invariant-stacks_one-loop-rows
-invariant-stacks_one-loop-rows l = GoneThrough (FindsWith l.cover) (empty_cells l.cells) l.cover.x l.cover.y l.floor l.a [] l.rows (noted false l.initial.self.pieces) (noted l.any l.self.pieces)
+invariant-stacks_one-loop-rows l = GoneThrough (FindsWith l.cover l.piece) (shifted_cells l.cells) l.cells.x l.cover.y l.floor l.a [] l.rows (noted false l.initial.self.pieces) (noted l.any l.self.pieces)
 
 abbrev pub decreases-stacks_one-loop-rows : goal.decreases-stacks_one-loop-rows
 decreases-stacks_one-loop-rows l = l.rows
 
 abbrev pub invariant-stacks_two-loop-rows : goal.invariant-stacks_two-loop-rows
-invariant-stacks_two-loop-rows l = GoneThrough (FindsWith l.cover) (empty_cells l.cells) l.cover.x l.cover.y l.floor l.a (l.b ∷ []) l.rows (noted false l.initial.self.pieces) (noted l.any l.self.pieces)
+invariant-stacks_two-loop-rows l = GoneThrough (FindsWith l.cover l.piece) (shifted_cells l.cells) l.cells.x l.cover.y l.floor l.a (l.b ∷ []) l.rows (noted false l.initial.self.pieces) (noted l.any l.self.pieces)
 
 abbrev pub decreases-stacks_two-loop-rows : goal.decreases-stacks_two-loop-rows
 decreases-stacks_two-loop-rows l = l.rows
 
 abbrev pub invariant-stacks_three-loop-rows : goal.invariant-stacks_three-loop-rows
-invariant-stacks_three-loop-rows l = GoneThrough (FindsWith l.cover) (empty_cells l.cells) l.cover.x l.cover.y l.floor l.a (l.b ∷ l.c ∷ []) l.rows (noted false l.initial.self.pieces) (noted l.any l.self.pieces)
+invariant-stacks_three-loop-rows l = GoneThrough (FindsWith l.cover l.piece) (shifted_cells l.cells) l.cells.x l.cover.y l.floor l.a (l.b ∷ l.c ∷ []) l.rows (noted false l.initial.self.pieces) (noted l.any l.self.pieces)
 
 abbrev pub decreases-stacks_three-loop-rows : goal.decreases-stacks_three-loop-rows
 decreases-stacks_three-loop-rows l = l.rows
 
 abbrev pub invariant-stacks_four-loop-rows : goal.invariant-stacks_four-loop-rows
-invariant-stacks_four-loop-rows l = GoneThrough (FindsWith l.cover) (empty_cells l.cells) l.cover.x l.cover.y l.floor l.a (l.b ∷ l.c ∷ l.d ∷ []) l.rows (noted false l.initial.self.pieces) (noted l.any l.self.pieces)
+invariant-stacks_four-loop-rows l = GoneThrough (FindsWith l.cover l.piece) (shifted_cells l.cells) l.cells.x l.cover.y l.floor l.a (l.b ∷ l.c ∷ l.d ∷ []) l.rows (noted false l.initial.self.pieces) (noted l.any l.self.pieces)
 
 abbrev pub decreases-stacks_four-loop-rows : goal.decreases-stacks_four-loop-rows
 decreases-stacks_four-loop-rows l = l.rows

@@ -1,5 +1,5 @@
 -- Nothing is known of a position whose slot is another's.
-use Rattle.std.proofs.Common.{◌≡◌, ℕ, ◌<◌, length, get_or, ap, subst, ◌∙◌, sym, arith}
+use Rattle.std.proofs.Common.{◌≡◌, ℕ, ◌<◌, length, get_or, ap, subst, ◌∙◌, sym}
 use Rattle.std.proofs.lemmas.List.Elements.{All-get_or}
 use Rattle.number_sets.specs.Rising.{IsRising, has}
 use Rattle.number_sets.proofs.CallerLemmas.{has-none}
@@ -22,19 +22,19 @@ returns-clause-missed_true c = λ hand there. let none = has-none hand in cc
 pub returns-then-slot-left-clause-found_rises : goal.returns-then-slot-left-clause-found_rises
 returns-then-slot-left-clause-found_rises c =
     let kept = c.args.self.now in
-    let slot : IsTrueSlot kept.game c.index-slot.result.now = slot_at kept c.place_of-place.result c.index-slot.result.now (omega (arith, c.if-place-len.true, c.len.ensures)) c.index-slot.ensures in
+    let slot : IsTrueSlot kept.game c.index-slot.result.now = slot_at kept c.place_of.result c.index-slot.result.now c.place_of.ensures c.index-slot.ensures in
     subst IsRising (sym c.as_slice.ensures.value) slot.found_rises
 
 pub returns-then-slot-left-clause-missed_rises : goal.returns-then-slot-left-clause-missed_rises
 returns-then-slot-left-clause-missed_rises c =
     let kept = c.args.self.now in
-    let slot : IsTrueSlot kept.game c.index-slot.result.now = slot_at kept c.place_of-place.result c.index-slot.result.now (omega (arith, c.if-place-len.true, c.len.ensures)) c.index-slot.ensures in
+    let slot : IsTrueSlot kept.game c.index-slot.result.now = slot_at kept c.place_of.result c.index-slot.result.now c.place_of.ensures c.index-slot.ensures in
     subst IsRising (sym c.as_slice-then-slot-left.ensures.value) slot.missed_rises
 
 pub returns-then-slot-left-clause-found_true : goal.returns-then-slot-left-clause-found_true
 returns-then-slot-left-clause-found_true c = λ hand there.
     let kept = c.args.self.now in
-    let slot : IsTrueSlot kept.game c.index-slot.result.now = slot_at kept c.place_of-place.result c.index-slot.result.now (omega (arith, c.if-place-len.true, c.len.ensures)) c.index-slot.ensures in
+    let slot : IsTrueSlot kept.game c.index-slot.result.now = slot_at kept c.place_of.result c.index-slot.result.now c.place_of.ensures c.index-slot.ensures in
     slot-found kept.game c.index-slot.result.now c.args.position.now c.args.left slot
     (ap cells_in_bits c.if-slot-cells.true ∙ bits-filled c.args.position.now c.cells_below-cells.result c.cells_below-cells.ensures) c.if-slot-position.true c.if-slot-left.true hand
     (sym (ap (λ l. has l hand) c.as_slice.ensures.value) ∙ there)
@@ -42,7 +42,7 @@ returns-then-slot-left-clause-found_true c = λ hand there.
 pub returns-then-slot-left-clause-missed_true : goal.returns-then-slot-left-clause-missed_true
 returns-then-slot-left-clause-missed_true c = λ hand there.
     let kept = c.args.self.now in
-    let slot : IsTrueSlot kept.game c.index-slot.result.now = slot_at kept c.place_of-place.result c.index-slot.result.now (omega (arith, c.if-place-len.true, c.len.ensures)) c.index-slot.ensures in
+    let slot : IsTrueSlot kept.game c.index-slot.result.now = slot_at kept c.place_of.result c.index-slot.result.now c.place_of.ensures c.index-slot.ensures in
     slot-missed kept.game c.index-slot.result.now c.args.position.now c.args.left slot
     (ap cells_in_bits c.if-slot-cells.true ∙ bits-filled c.args.position.now c.cells_below-cells.result c.cells_below-cells.ensures) c.if-slot-position.true c.if-slot-left.true hand
     (sym (ap (λ l. has l hand) c.as_slice-then-slot-left.ensures.value) ∙ there)

@@ -1,5 +1,5 @@
 -- The answers of the slot go, and those of the entry come.
-use Rattle.std.proofs.Common.{arith}
+use Rattle.std.proofs.Common.{length-set, arith}
 use Rattle.std.proofs.lemmas.List.Elements.{All-set}
 use Rattle.percent.specs.Kept.{IsTrueSlot}
 use Rattle.percent.proofs.KeptLemmas.{one-of-all, replaced}
@@ -21,4 +21,5 @@ invariant_of-self c =
       are_true = All-set (IsTrueSlot kept.game) kept.slots.items c.args.place c.args.slot c.requires.holds kept.are_true;
       counted = omega (arith, few, change, kept.counted, c.len.ensures, c.len-2.ensures);
       bounded = omega (arith, kept.bounded, c.requires.room, c.len.ensures, c.len-2.ensures);
+      some = let long = length-set kept.slots.items c.args.place c.args.slot in omega (arith, long, kept.some);
     }

@@ -18,7 +18,7 @@ use Rattle.moves.specs.Place.{IsPlace}
 use Rattle.percent.specs.declared.game.Game.{Game}
 use Rattle.percent.specs.Children.{IsChild}
 use Rattle.percent.proofs.PlaceLemmas.{NextPlace, next-place, places_above, follow-starts, follow-more, follow-skip, follow-ends, in-any-order}
-use Rattle.percent.specs.Marks.{KnowsPieces}
+use Rattle.percent.specs.Marks.{IsMarkOf}
 use Rattle.percent.proofs.MarkLemmas.{none-placed}
 use Rattle.percent.proofs.marks.Marks.children.Goals as goal
 
@@ -34,8 +34,8 @@ next game T F rows piece places rules held last bound result same is =
 
 pub loop-placement-init : goal.loop-placement-init
 loop-placement-init g c = (
-  rw c.new-children.ensures.items (follow-starts c.args.game.now (filled c.args.self.now.position.well) c.args.self.now.position.rows c.args.piece c.args.left c.args.rests.now),
-  subst (All (IsChild (filled c.args.self.now.position.well) c.args.self.now.position.rows)) (sym c.new-children.ensures.items) (All-nil (IsChild (filled c.args.self.now.position.well) c.args.self.now.position.rows)),
+  rw c.new-children.ensures.items (follow-starts c.args.game.now (filled c.args.self.now.position.well) c.args.self.now.position.rows c.args.piece c.args.left c.args.asked.now.rests.items),
+  subst (All (IsChild (filled c.args.self.now.position.well) c.args.self.now.position.rows c.args.piece)) (sym c.new-children.ensures.items) (All-nil (IsChild (filled c.args.self.now.position.well) c.args.self.now.position.rows c.args.piece)),
   tt,
 )
 
@@ -63,11 +63,11 @@ pub loop-placement-preserved-in_ok-push : goal.loop-placement-preserved-in_ok-pu
 loop-placement-preserved-in_ok-push g c =
     let marks = c.args.self.now in
     let n = next c.args.game.now _ (filled c.args.self.now.position.well) c.args.self.now.position.rows c.args.piece c.flood_below.new.held c.requires.rules c.flood_below.ensures.held c.loop-placement.last _ (Some c.in-Some.placement) c.as_ref.ensures.value c.in-Some.ensures in (
-      rw c.in_ok-push.ensures.items (follow-more c.args.game.now (filled marks.position.well) marks.position.rows c.args.piece c.args.left c.args.rests.now c.loop-placement.children.items c.loop-placement.last c.in-Some.placement (record { placement = c.in-Some.placement; position = c.after.result })
+      rw c.in_ok-push.ensures.items (follow-more c.args.game.now (filled marks.position.well) marks.position.rows c.args.piece c.args.left c.args.asked.now.rests.items c.loop-placement.children.items c.loop-placement.last c.in-Some.placement (record { placement = c.in-Some.placement; position = c.after.result })
           c.loop-placement.invariant.0 n.0 n.3 c.after.ensures.field c.after.ensures.rows),
-      subst (All (IsChild (filled marks.position.well) marks.position.rows)) (sym c.in_ok-push.ensures.items)
-          (All-push (IsChild (filled marks.position.well) marks.position.rows) c.loop-placement.children.items _ c.loop-placement.invariant.1
-          (record { free = n.2; below = n.3; field = c.after.ensures.field; left = c.after.ensures.rows })),
+      subst (All (IsChild (filled marks.position.well) marks.position.rows c.args.piece)) (sym c.in_ok-push.ensures.items)
+          (All-push (IsChild (filled marks.position.well) marks.position.rows c.args.piece) c.loop-placement.children.items _ c.loop-placement.invariant.1
+          (record { kind = n.1; free = n.2; below = n.3; field = c.after.ensures.field; left = c.after.ensures.rows })),
       n.1,
     )
 
@@ -75,9 +75,10 @@ pub loop-placement-preserved : goal.loop-placement-preserved
 loop-placement-preserved g c =
     let marks = c.args.self.now in
     let n = next c.args.game.now _ (filled c.args.self.now.position.well) c.args.self.now.position.rows c.args.piece c.flood_below.new.held c.requires.rules c.flood_below.ensures.held c.loop-placement.last _ (Some c.in-Some.placement) c.as_ref.ensures.value c.in-Some.ensures in (
-      follow-skip c.args.game.now (filled marks.position.well) marks.position.rows c.args.piece c.args.left c.args.rests.now c.loop-placement.children.items c.loop-placement.last c.in-Some.placement c.loop-placement.invariant.0 n.0
-          (λ rest here. none-placed c.args.game.now marks.position marks.known.items marks.cells c.in-Some.placement c.args.left rest marks.empty marks.are_true n.2 n.3
-          (subst (λ piece. KnowsPieces marks.known.items piece c.args.left rest) (sym n.1) (c.knows_all-knows_all.ensures (c.is_worth.ensures.known c.if-is_worth.false) rest here))
+      follow-skip c.args.game.now (filled marks.position.well) marks.position.rows c.args.piece c.args.left c.args.asked.now.rests.items c.loop-placement.children.items c.loop-placement.last c.in-Some.placement c.loop-placement.invariant.0 n.0
+          (λ rest here. let known = c.knows_all-knows_all.ensures (c.is_worth.ensures.known c.if-is_worth.false) rest here in
+          none-placed c.args.game.now marks.position marks.known.items marks.cells c.in-Some.placement c.args.left rest known.0 marks.empty marks.are_true n.2 n.3
+          (subst (λ piece. IsMarkOf marks.known.items piece c.args.left rest known.0) (sym n.1) known.1)
           (c.is_worth.ensures.none c.if-is_worth.false)),
       c.loop-placement.invariant.1,
       n.1,
@@ -89,8 +90,8 @@ returns-clause-good g c = λ rest here.
     let none : places_above c.args.game.now F c.args.self.now.position.rows c.args.piece c.loop-placement.last ≡ [] =
     next c.args.game.now _ F c.args.self.now.position.rows c.args.piece c.flood_below.new.held c.requires.rules c.flood_below.ensures.held c.loop-placement.last _ None c.as_ref.ensures.value c.in_default.ensures in
     in-any-order c.args.game.now c.loop-placement.children.items c.sort_unstable_by_key.new.self.items c.args.left rest c.sort_unstable_by_key.ensures.permutation
-    ∙ follow-ends c.args.game.now F c.args.self.now.position.rows c.args.piece c.args.left c.args.rests.now c.loop-placement.children.items c.loop-placement.last c.loop-placement.invariant.0 none rest here
+    ∙ follow-ends c.args.game.now F c.args.self.now.position.rows c.args.piece c.args.left c.args.asked.now.rests.items c.loop-placement.children.items c.loop-placement.last c.loop-placement.invariant.0 none rest here
 
 pub returns-clause-after : goal.returns-clause-after
 returns-clause-after g c =
-    All-permutation (IsChild (filled c.args.self.now.position.well) c.args.self.now.position.rows) c.loop-placement.children.items c.sort_unstable_by_key.new.self.items c.sort_unstable_by_key.ensures.permutation c.loop-placement.invariant.1
+    All-permutation (IsChild (filled c.args.self.now.position.well) c.args.self.now.position.rows c.args.piece) c.loop-placement.children.items c.sort_unstable_by_key.new.self.items c.sort_unstable_by_key.ensures.permutation c.loop-placement.invariant.1

@@ -1,36 +1,47 @@
 -- A rest is left out where the placement stands in no tiling by its pieces.
-use Rattle.std.proofs.Common.{◌≤◌, ◌<◌, ℕ, get_or, arith}
+use Rattle.std.proofs.Common.{◌&&◌, ◌<◌, ◌∙◌, length, get_or, ap, subst, sym, arith}
+use Rattle.number_sets.specs.Rising.{IsRising, has}
 use Rattle.well.specs.Well.{filled}
 use Rattle.percent.specs.GoodHands.{is_good}
+use Rattle.percent.specs.Marks.{ArePlaces}
 use Rattle.percent.proofs.FittingLemmas.{sift-ends, sift-pass, sift-push, sift-starts}
 use Rattle.percent.proofs.MarkLemmas.{bad-stand}
 use Rattle.percent.proofs.marks.Marks.likely.Goals as goal
 use Rattle.percent.proofs.marks.Marks.likely.Goals.{then-may_stand+in_ok-push, else-may_stand}
 
-pub loop-rest-init : goal.loop-rest-init
-loop-rest-init c =
+pub loop-index-init : goal.loop-index-init
+loop-index-init c =
     let p = c.args.child.now.position in
-    sift-starts (λ game. is_good game (filled p.well) p.rows c.args.left) c.args.rests.now c.new-v.result.items c.new-v.ensures.items
+    sift-starts (λ game. is_good game (filled p.well) p.rows c.args.left) c.as_slice-rests.result.now c.in_ok-v.v.items c.in_ok-v.ensures.items
 
-pub loop-rest-preserved : goal.loop-rest-preserved
-loop-rest-preserved c =
+pub loop-index-preserved : goal.loop-index-preserved
+loop-index-preserved c =
     let p = c.args.child.now.position in
     let marks = c.args.self.now in
+    let rests = c.as_slice-rests.result.now in
+    let index = c.loop-index.index in
+    let rises : IsRising rests = subst IsRising (sym c.as_slice-rests.ensures.value) c.requires.rises in
+    let within : index < length rests = omega (arith, c.loop-index-test.true) in
     elim c.if-may_stand.branch [
       | then-may_stand+in_ok-push w ↦
           rw (w.v-is, w.in_ok-push.ensures.items)
-          (sift-push (λ game. is_good game (filled p.well) p.rows c.args.left) c.args.rests.now c.loop-rest.v.items c.loop-rest.rest-index c.requires.rises c.loop-rest.invariant c.loop-rest-test.true)
+          (sift-push (λ game. is_good game (filled p.well) p.rows c.args.left) rests c.loop-index.v.items index rises c.loop-index.invariant within)
       | else-may_stand w ↦
+          let are : ArePlaces marks.known.items c.args.child.now.placement.piece c.args.left rests c.as_slice-places.result.now =
+          subst (λ l. ArePlaces marks.known.items c.args.child.now.placement.piece c.args.left l c.as_slice-places.result.now) (sym c.as_slice-rests.ensures.value)
+          (subst (λ l. ArePlaces marks.known.items c.args.child.now.placement.piece c.args.left c.args.asked.now.rests.items l) (sym c.as_slice-places.ensures.value) c.requires.places) in
+          let mark = are.each index within (c.may_stand.ensures.known w.if-may_stand.false) in
           rw w.v-is
-          (sift-pass (λ game. is_good game (filled p.well) p.rows c.args.left) c.args.rests.now c.loop-rest.v.items c.loop-rest.rest-index c.requires.rises c.loop-rest.invariant c.loop-rest-test.true
-          (λ game. bad-stand game marks.position c.args.child.now c.args.left (get_or c.args.rests.now c.loop-rest.rest-index 0) c.counts_with-counts.result marks.cells marks.empty c.requires.child
-          c.counts_with-counts.ensures (c.may_stand.ensures w.if-may_stand.false)))
+          (sift-pass (λ game. is_good game (filled p.well) p.rows c.args.left) rests c.loop-index.v.items index rises c.loop-index.invariant within
+          (λ game. bad-stand game marks.position c.args.child.now c.args.left (get_or rests index 0) mark.counts marks.cells marks.empty c.requires.child
+          mark.enough (c.may_stand.ensures.none w.if-may_stand.false mark.counts mark.there)))
     ]
 
 pub returns-clause-rises : goal.returns-clause-rises
-returns-clause-rises c = c.loop-rest.invariant.rises
+returns-clause-rises c = c.loop-index.invariant.rises
 
 pub returns-clause-members : goal.returns-clause-members
-returns-clause-members c =
+returns-clause-members c = λ game rest.
     let p = c.args.child.now.position in
-    sift-ends (λ game. is_good game (filled p.well) p.rows c.args.left) c.args.rests.now c.loop-rest.v.items c.loop-rest.rest-index c.loop-rest-test.false c.loop-rest.invariant
+    sift-ends (λ game. is_good game (filled p.well) p.rows c.args.left) c.as_slice-rests.result.now c.loop-index.v.items c.loop-index.index (omega (arith, c.loop-index-test.false)) c.loop-index.invariant game rest
+    ∙ ap (λ l. has l rest && is_good game (filled p.well) p.rows c.args.left rest) c.as_slice-rests.ensures.value

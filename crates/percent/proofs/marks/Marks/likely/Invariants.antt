@@ -3,5 +3,5 @@ use Rattle.percent.specs.GoodHands.{is_good}
 use Rattle.percent.proofs.FittingLemmas.{Sifting}
 use Rattle.percent.proofs.marks.Marks.likely.Given as goal
 
-abbrev pub invariant-loop-rest : goal.invariant-loop-rest
-invariant-loop-rest l = Sifting (λ game. is_good game (filled l.child.position.well) l.child.position.rows l.left) l.rests l.v.items l.rest-index
+abbrev pub invariant-loop-index : goal.invariant-loop-index
+invariant-loop-index l = Sifting (λ game. is_good game (filled l.child.position.well) l.child.position.rows l.left) l.rests l.v.items l.index

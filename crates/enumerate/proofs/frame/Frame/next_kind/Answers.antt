@@ -1,0 +1,28 @@
+-- A kind that may not come is passed by.
+use Rattle.std.proofs.Common.{length, refl, sym, ap, ◌∙◌, arith}
+use Rattle.enumerate.proofs.TurnLemmas.{goes-past_kind}
+use Rattle.enumerate.proofs.frame.Frame.next_kind.Goals as goal
+
+pub loop-piece-init : goal.loop-piece-init
+loop-piece-init c = record { same = record { well = refl; rows = refl; queues = refl; left = refl }; none = c.requires; goes = λ table mode prefix. refl }
+
+pub loop-piece-smaller : goal.loop-piece-smaller
+loop-piece-smaller c = omega (arith, ap length c.in-Some.ensures)
+
+pub loop-piece-preserved : goal.loop-piece-preserved
+loop-piece-preserved c =
+    let before = c.loop-piece.invariant in
+    record {
+      same = record { well = before.same.well; rows = before.same.rows; queues = before.same.queues; left = before.same.left };
+      none = before.none;
+      goes = λ table mode prefix.
+          before.goes table mode prefix
+          ∙ goes-past_kind table mode c.loop-piece.self _ record { well = refl; rows = refl; queues = refl; left = refl } c.in-Some.piece before.none c.in-Some.ensures
+          (sym c.may_come.ensures ∙ c.if-may_come.false) before.none prefix;
+    }
+
+pub returns-then-may_come-clause-next : goal.returns-then-may_come-clause-next
+returns-then-may_come-clause-next c = (c.in-Some.ensures, sym c.may_come.ensures ∙ c.if-may_come.true)
+
+pub returns-clause-next : goal.returns-clause-next
+returns-clause-next c = c.in_default.ensures

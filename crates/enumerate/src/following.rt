@@ -1,0 +1,83 @@
+// What may still be played after a piece of one kind, known for all its places.
+ghost use Rattle.std.specs.Prelude.{◌≡◌, ◌+◌, IsTrue, min};
+ghost use Rattle.srs.specs.declared.piece.Piece.{Piece};
+ghost use Rattle.hold_queue.specs.QueueSet.{queues_in_play};
+ghost use Rattle.prune.specs.Tiling.{supply_in};
+ghost use Rattle.prune.specs.OnePart.{less_one};
+ghost use Rattle.enumerate.specs.Position.{line_after, may_play};
+ghost use Rattle.enumerate.specs.Turns.{SamePlaces, SamePosition};
+
+use crate::after_kind::AfterKind;
+use crate::frame::Frame;
+use crate::line::Line;
+use crate::supply::supply_after;
+use srs::Piece;
+
+impl Frame {
+    /// How many pieces of each kind may still be played after a piece of this kind.
+    pub fn supply_after(&self, piece: Piece) -> [u8; 7]
+        ensures { (other : Piece)
+            → supply_in result other ≡ min self.now.left (less_one (supply_in self.now.supply) piece other) }
+    {
+        if let Some(after) = self.after_kind {
+            if after.kind.code() == piece.code() {
+                return after.supply;
+            }
+        }
+        supply_after(&self.supply, piece, self.left)
+    }
+
+    /// The line after a piece of this kind.
+    pub fn line_after(&self, piece: Piece) -> Line
+        requires { IsTrue (may_play (queues_in_play self.now.line.queues) piece) }
+        ensures { queues_in_play result.queues ≡ line_after (queues_in_play self.now.line.queues) piece }
+    {
+        if let Some(after) = self.after_kind {
+            if let Some(line) = after.line {
+                if after.kind.code() == piece.code() {
+                    return line;
+                }
+            }
+        }
+        self.line.after(piece)
+    }
+
+    /// Whether the line after a piece of this kind is kept.
+    fn keeps_line(&self, piece: Piece) -> bool {
+        match self.after_kind {
+            None => false,
+            Some(after) => after.line.is_some() && after.kind.code() == piece.code(),
+        }
+    }
+
+    /// Keeps the supply after a piece of this kind, for all its places.
+    pub fn keep_supply(&mut self, piece: Piece)
+        ensures same { SamePosition self.old self.new }
+        ensures places { SamePlaces self.old self.new }
+    {
+        if self.left == 0 {
+            return;
+        }
+        self.after_kind = Some(AfterKind {
+            kind: piece,
+            supply: supply_after(&self.supply, piece, self.left),
+            line: None,
+        });
+    }
+
+    /// Keeps the line after a piece of this kind too, if a placement is to come after it.
+    pub fn keep_line(&mut self, piece: Piece)
+        requires { IsTrue (may_play (queues_in_play self.old.line.queues) piece) }
+        ensures same { SamePosition self.old self.new }
+        ensures places { SamePlaces self.old self.new }
+    {
+        if self.left == 0 || self.keeps_line(piece) {
+            return;
+        }
+        self.after_kind = Some(AfterKind {
+            kind: piece,
+            supply: self.supply_after(piece),
+            line: Some(self.line.after(piece)),
+        });
+    }
+}

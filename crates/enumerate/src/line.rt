@@ -1,0 +1,44 @@
+// The queues at a position, and which kinds may come next.
+ghost use Rattle.std.specs.Prelude.{◌≡◌, IsTrue, map};
+ghost use Rattle.srs.specs.Piece.{all_pieces};
+ghost use Rattle.hold_queue.specs.QueueSet.{queues_in_play};
+ghost use Rattle.enumerate.specs.Position.{line_after, may_play};
+
+use hold_queue::QueueSet;
+use srs::Piece;
+
+/// The queues with the pieces that were played, and which kinds may come next.
+#[derive(Clone, Copy)]
+pub struct Line {
+    pub queues: QueueSet,
+    /// Whether each kind may come next, in the order of codes.
+    may_come: [bool; 7],
+    ghost coming: { may_come ≡ map (may_play (queues_in_play queues)) all_pieces },
+}
+
+impl Line {
+    /// The line of these queues.
+    pub fn of(queues: QueueSet) -> Line
+        ensures { result.queues ≡ queues }
+    {
+        Line {
+            queues,
+            may_come: queues.permitted(),
+        }
+    }
+
+    /// Whether a kind may come next.
+    pub fn may_come(&self, piece: Piece) -> bool
+        ensures { result ≡ may_play (queues_in_play self.now.queues) piece }
+    {
+        self.may_come[piece.code() as usize - 1]
+    }
+
+    /// The line after one more piece.
+    pub fn after(&self, piece: Piece) -> Line
+        requires { IsTrue (may_play (queues_in_play self.now.queues) piece) }
+        ensures { queues_in_play result.queues ≡ line_after (queues_in_play self.now.queues) piece }
+    {
+        Line::of(self.queues.after(piece))
+    }
+}

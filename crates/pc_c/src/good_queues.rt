@@ -1,0 +1,270 @@
+// The answers of `percent` as bits, called from C.
+ghost use Rattle.std.specs.Prelude.{◌≡◌, ◌≢◌, ◌<◌, ◌≤◌, ◌-◌, ◌⊎◌, ℕ, List, length, take, drop, true, IfOk, IfErr, OnErr, OnOk, MatchOption, None, Ok};
+ghost use Rattle.pc_settings.specs.Request.{IsInRange};
+ghost use Rattle.pc_settings.specs.Views.{percent_view};
+ghost use Rattle.pc_source.specs.Task.{first_fault};
+ghost use Rattle.pc_words.specs.Views.{settings_view};
+ghost use Rattle.pc_words.specs.Words.{texts};
+ghost use Rattle.pc_words.specs.declared.settings.Settings.{Settings};
+ghost use Rattle.pc_percent.specs.PercentTask.{percent_task};
+ghost use Rattle.pc_good_queues.specs.Bits;
+ghost use Rattle.pc_good_queues.specs.GoodQueues.{AreGoodQueues};
+ghost use Rattle.pc_c.specs.Call.{seen};
+ghost use Rattle.pc_c.specs.GoodQueues.{HasBitRoom, IsQueuesStatus, LacksBitRoom, TellsPercentFault, WritesBits};
+ghost use Rattle.pc_c.specs.OtherCommand.{asks_other, is_other, is_percent};
+ghost use Rattle.pc_c.specs.QueuesEnded.{EndsQueues, IsAnswer, RefusesInput};
+ghost use Rattle.pc_c.specs.Words.{SpellsNoWords, SpellsWords};
+
+use crate::input::seen_bytes;
+use crate::slots::write_line;
+use crate::status::{DONE, FAULT, NO_MEMORY, NO_ROOM, NO_WORDS, OTHER_COMMAND};
+use crate::words::{NoWords, words_in};
+use pc_good_queues::{NoBits, QueueCounts, bytes_for, write_good_queues};
+use pc_settings::PercentSettings;
+use pc_source::is_of_source;
+use pc_words::{Settings, read_words};
+use reach::Steps;
+use std::alloc::Global;
+use std::marker::Brand;
+use std::sync::ledger::{Blank, Ledger};
+
+/// What the words have for an answer.
+#[derive(Drop)]
+enum Answer {
+    /// The bits are written, and these are the numbers of queues.
+    Written(QueueCounts),
+    /// The words ask for another command.
+    OtherCommand,
+    /// There are no bits, and this is why.
+    Unwritten(NoBits),
+}
+
+/// An answer, and how many floods were made for it, or the greatest value of a u64 if there were more.
+#[derive(Drop)]
+struct Answered {
+    answer: Answer,
+    floods: u64,
+}
+
+/// The status of a call, how many bytes it wrote to each buffer, and the numbers that it tells.
+#[derive(Drop)]
+struct QueuesEnded {
+    status: u8,
+    written: usize,
+    queues: u32,
+    good: u32,
+    told: usize,
+    floods: u64,
+}
+
+/// The settings of `percent`, if these are its settings.
+fn of_percent(settings: Settings<'_>) -> Option<PercentSettings<'_>>
+    ensures { MatchOption result (is_other is_percent (Ok (settings_view settings.entry)) ≡ true)
+        (λ percent. settings.entry ≡ Settings.Percent percent) }
+{
+    match settings {
+        Settings::Percent(percent) => Some(percent),
+        _ => None,
+    }
+}
+
+/// Writes the bits of the queues that the settings of `percent` name.
+fn answer_percent<L: Ledger>(
+    alloc: Global,
+    settings: &PercentSettings<'_>,
+    input: &[u8],
+    bits: &mut [u8],
+    steps: &mut Steps<L>,
+) -> Result<QueueCounts, NoBits>
+    requires { IsInRange (percent_view settings.now).common }
+    ensures found { let task = percent_task (percent_view settings.now) in
+        IfOk result (λ counts. AreGoodQueues (percent_view settings.now).common (seen task input.now)
+        (take (Bits.bytes_for counts.queues) bits.new) counts.queues counts.good) }
+    ensures none { let task = percent_task (percent_view settings.now) in
+        OnOk result (first_fault task (seen task input.now) ≡ None) }
+    ensures rest { IfOk result (λ counts.
+        drop (Bits.bytes_for counts.queues) bits.new ≡ drop (Bits.bytes_for counts.queues) bits.old) }
+    ensures refused { IfErr result (λ why. RefusesInput (percent_view settings.now) input.now (length bits.old)
+        (steps.new - steps.old) why) }
+    ensures kept { OnErr result (bits.new ≡ bits.old) }
+    ensures counted { steps.old ≤ steps.new }
+{
+    let bytes = seen_bytes(input, is_of_source(settings.common.field))?;
+    write_good_queues(alloc, settings, bytes, bits, steps)
+}
+
+/// Writes the bits of the queues that the words name.
+fn answer_words<L: Ledger>(
+    alloc: Global,
+    words: &[String],
+    input: &[u8],
+    bits: &mut [u8],
+    steps: &mut Steps<L>,
+) -> Answer
+    ensures answer { IsAnswer (texts words.now) input.now bits.old bits.new (steps.new - steps.old) result }
+    ensures counted { steps.old ≤ steps.new }
+{
+    let settings = match read_words(words) {
+        Ok(settings) => settings,
+        Err(fault) => return Answer::Unwritten(NoBits::Fault(fault)),
+    };
+    let Some(settings) = of_percent(settings) else {
+        return Answer::OtherCommand;
+    };
+    match answer_percent(alloc, &settings, input, bits, steps) {
+        Ok(counts) => Answer::Written(counts),
+        Err(why) => Answer::Unwritten(why),
+    }
+}
+
+/// The answer for the words, with the number of its floods.
+fn counted_answer<L: Ledger>(
+    alloc: Global,
+    blank: Blank,
+    words: &[String],
+    input: &[u8],
+    bits: &mut [u8],
+) -> Answered
+    requires name { blank.name ≡ L.name }
+    requires parts { blank.parts ≡ L.parts }
+    requires some { 0 < blank.parts }
+    ensures { IsAnswer (texts words.now) input.now bits.old bits.new result.floods result.answer }
+{
+    let mut steps = Steps::<L>::new(blank);
+    let answer = answer_words(alloc, words, input, bits, &mut steps);
+    Answered {
+        answer,
+        floods: steps.count(),
+    }
+}
+
+/// The end of a call that writes nothing and tells no numbers.
+fn quiet(status: u8) -> QueuesEnded
+    ensures { result ≡ record {
+      status = status;
+      written = 0;
+      queues = 0;
+      good = 0;
+      told = 0;
+      floods = 0;
+    } }
+{
+    QueuesEnded {
+        status,
+        written: 0,
+        queues: 0,
+        good: 0,
+        told: 0,
+        floods: 0,
+    }
+}
+
+/// Answers the words over the input and writes to these buffers.
+fn run_queues(
+    alloc: Global,
+    words: &[String],
+    input: &[u8],
+    bits: &mut [u8],
+    err: &mut [u8],
+) -> QueuesEnded
+    ensures written { result.written ≤ length bits.new }
+    ensures told { result.told ≤ length err.new }
+    ensures rest { drop result.written bits.new ≡ drop result.written bits.old }
+    ensures err_rest { drop result.told err.new ≡ drop result.told err.old }
+    ensures ended { EndsQueues (texts words.now) input.now (take result.written bits.new) (length bits.old)
+        result.queues result.good (take result.told err.new) (length err.old) result.floods result.status }
+    ensures quiet { result.status ≢ 0 → (result.written ≡ 0) × (result.good ≡ 0) }
+    ensures uncounted { result.status ≢ 0 → result.status ≢ 4 → result.queues ≡ 0 }
+    ensures idle { result.status ≢ 0 → result.status ≢ 5 → result.floods ≡ 0 }
+    ensures no_line { result.status ≢ 2 → result.told ≡ 0 }
+{
+    let answered = counted_answer::<Brand>(alloc, Blank::new(1), words, input, bits);
+    match answered.answer {
+        Answer::Written(counts) => QueuesEnded {
+            written: bytes_for(counts.queues),
+            queues: counts.queues,
+            good: counts.good,
+            floods: answered.floods,
+            ..quiet(DONE)
+        },
+        Answer::OtherCommand => quiet(OTHER_COMMAND),
+        Answer::Unwritten(NoBits::Fault(fault)) => QueuesEnded {
+            told: write_line(fault, err),
+            ..quiet(FAULT)
+        },
+        Answer::Unwritten(NoBits::NoRoom { queues }) => QueuesEnded {
+            queues,
+            ..quiet(NO_ROOM)
+        },
+        Answer::Unwritten(NoBits::NoMemory) => QueuesEnded {
+            floods: answered.floods,
+            ..quiet(NO_MEMORY)
+        },
+    }
+}
+
+/// Writes one bit for each queue that a command line of `percent` asks about, in rising order: 1 if the queue has a
+/// perfect clear. Queue i, counted from 0, is bit i mod 8 of byte i / 8, counted from the lowest, and the bits of the
+/// last byte behind the last queue are 0. These are the first `bits_length` bytes of `bits`; no other bytes change.
+/// `queues` is how many queues there are, and `good` how many of them are 1. `--failed` changes nothing. The words, the
+/// input, `err` and `floods` are as in `voidosier_run`, and so are the statuses 2, 5 and 6. Of the others, 0 is done; 4
+/// says that the bits take more bytes than `bits` has, of which `queues` tells, before any flood; 7 says that the words
+/// have no fault and ask for another command. Nothing is kept from call to call.
+#[unsafe(no_mangle)]
+pub extern "C" fn voidosier_good_queues(
+    alloc: Global,
+    words: &[u8],
+    input: &[u8],
+    bits: &mut [u8],
+    bits_length: &mut usize,
+    queues: &mut u32,
+    good: &mut u32,
+    err: &mut [u8],
+    err_length: &mut usize,
+    floods: &mut u64,
+) -> u8
+    ensures status { IsQueuesStatus result }
+    // Which bytes of the buffers change.
+    ensures bits_within { bits_length.new ≤ length bits.new }
+    ensures bits_rest { drop bits_length.new bits.new ≡ drop bits_length.new bits.old }
+    ensures err_within { err_length.new ≤ length err.new }
+    ensures err_rest { drop err_length.new err.new ≡ drop err_length.new err.old }
+    // What each status means.
+    ensures done { (texts : List (List ℕ)) → SpellsWords words.now texts → result ≡ 0
+        → WritesBits texts input.now (take bits_length.new bits.new) queues.new good.new }
+    ensures faulty { (texts : List (List ℕ)) → SpellsWords words.now texts → result ≡ 2
+        → TellsPercentFault texts input.now (take err_length.new err.new) (length err.old) }
+    ensures no_room { (texts : List (List ℕ)) → SpellsWords words.now texts → result ≡ 4
+        → LacksBitRoom texts input.now (length bits.old) queues.new }
+    ensures no_memory { (texts : List (List ℕ)) → SpellsWords words.now texts → result ≡ 5
+        → (floods.new ≡ 0) ⊎ HasBitRoom texts input.now (length bits.old) }
+    ensures other { (texts : List (List ℕ)) → SpellsWords words.now texts → result ≡ 7
+        → asks_other is_percent texts ≡ true }
+    ensures other_ends { (texts : List (List ℕ)) → SpellsWords words.now texts → asks_other is_percent texts ≡ true
+        → (result ≡ 5) ⊎ (result ≡ 7) }
+    ensures no_words { result ≡ 6 → SpellsNoWords words.now }
+    ensures unspelled { SpellsNoWords words.now → (result ≡ 5) ⊎ (result ≡ 6) }
+    ensures quiet { result ≢ 0 → (bits_length.new ≡ 0) × (good.new ≡ 0) }
+    ensures uncounted { result ≢ 0 → result ≢ 4 → queues.new ≡ 0 }
+    ensures idle { result ≢ 0 → result ≢ 5 → floods.new ≡ 0 }
+    ensures no_line { result ≢ 2 → err_length.new ≡ 0 }
+{
+    *bits_length = 0;
+    *queues = 0;
+    *good = 0;
+    *err_length = 0;
+    *floods = 0;
+    match words_in(alloc, words) {
+        Ok(texts) => {
+            let ended = run_queues(alloc, &texts, input, bits, err);
+            *bits_length = ended.written;
+            *queues = ended.queues;
+            *good = ended.good;
+            *err_length = ended.told;
+            *floods = ended.floods;
+            ended.status
+        }
+        Err(NoWords::Unspelled) => NO_WORDS,
+        Err(NoWords::NoMemory) => NO_MEMORY,
+    }
+}

@@ -1,0 +1,233 @@
+// The solutions that `path` lists as numbers, called from C.
+ghost use Rattle.std.specs.Prelude.{◌≡◌, ◌≢◌, ◌<◌, ◌≤◌, ◌-◌, ◌==◌, ◌⊎◌, ℕ, List, true, None, Ok, IfOk, IfErr, MatchOption, OnOk, OnErr, length, take, drop};
+ghost use Rattle.pc_faults.specs.declared.fault.Fault.{Fault};
+ghost use Rattle.pc_settings.specs.Request.{IsInRange};
+ghost use Rattle.pc_settings.specs.Views.{path_view};
+ghost use Rattle.pc_source.specs.Task.{first_fault};
+ghost use Rattle.pc_words.specs.Views.{settings_view};
+ghost use Rattle.pc_words.specs.Words.{texts};
+ghost use Rattle.pc_words.specs.declared.settings.Settings.{Settings};
+ghost use Rattle.pc_path.specs.PathTask.{path_task};
+ghost use Rattle.pc_solutions.specs.Written.{WritesSolutions};
+ghost use Rattle.pc_solutions.specs.declared.solutions.Refusal.{Refusal};
+ghost use Rattle.pc_c.specs.Call.{ForFloods, seen};
+ghost use Rattle.pc_c.specs.Solutions.{IsSolutionsStatus, LacksRoom, LacksSequence, TellsPathFault, TellsSolutions};
+ghost use Rattle.pc_c.specs.OtherCommand.{asks_other, is_other, is_path};
+ghost use Rattle.pc_c.specs.SolutionsEnded.{IsAnswer, IsPathRefusal};
+ghost use Rattle.pc_c.specs.Words.{SpellsNoWords, SpellsWords};
+
+use crate::input::seen_bytes;
+use crate::slots::write_line;
+use crate::status::{DONE, FAULT, NO_MEMORY, NO_ROOM, NO_SEQUENCE, NO_WORDS, OTHER_COMMAND};
+use crate::words::{NoWords, words_in};
+use pc_settings::PathSettings;
+use pc_solutions::{Refusal, Written, write_solutions};
+use pc_source::is_of_source;
+use pc_words::{Settings, read_words};
+use reach::Steps;
+use std::alloc::Global;
+use std::marker::Brand;
+use std::sync::ledger::{Blank, Ledger};
+
+/// What the words have for an answer.
+#[derive(Drop)]
+enum Answer {
+    /// Solutions are written.
+    Written(Written),
+    /// The words ask for another command.
+    OtherCommand,
+    /// No solutions are written, and this is why.
+    Unwritten(Refusal),
+}
+
+/// An answer, and how many floods were made for it, or the greatest value of a u64 if there were more.
+#[derive(Drop)]
+struct Answered {
+    answer: Answer,
+    floods: u64,
+}
+
+/// The settings of `path`, if these are its settings.
+fn of_path(settings: Settings<'_>) -> Option<PathSettings<'_>>
+    ensures { MatchOption result (is_other is_path (Ok (settings_view settings.entry)) ≡ true)
+        (λ path. settings.entry ≡ Settings.Path path) }
+{
+    match settings {
+        Settings::Path(path) => Some(path),
+        _ => None,
+    }
+}
+
+/// Writes the solutions that the settings of `path` name.
+fn answer_path<L: Ledger>(
+    alloc: Global,
+    settings: &PathSettings<'_>,
+    input: &[u8],
+    after: &[u8],
+    placements: &mut [u8],
+    steps: &mut Steps<L>,
+) -> Result<Written, Refusal>
+    requires { IsInRange (path_view settings.now).common }
+    ensures written { let request = path_view settings.now in let bytes = seen (path_task request) input.now in
+        IfOk result (λ written. WritesSolutions request bytes after.now (length placements.old)
+        (take written.size placements.new) written.count written.ended (steps.new - steps.old)) }
+    ensures none { let request = path_view settings.now in let bytes = seen (path_task request) input.now in
+        OnOk result (first_fault (path_task request) bytes ≡ None) }
+    ensures within { IfOk result (λ written. written.size ≤ length placements.new) }
+    ensures rest { IfOk result (λ written. drop written.size placements.new ≡ drop written.size placements.old) }
+    ensures refused { IfErr result
+        (λ refusal. IsPathRefusal (path_view settings.now) input.now after.now (length placements.old) refusal) }
+    ensures quiet { OnErr result (placements.new ≡ placements.old) }
+    ensures idle { OnErr result (steps.new ≡ steps.old) }
+    ensures counted { steps.old ≤ steps.new }
+{
+    match seen_bytes(input, is_of_source(settings.common.field)) {
+        Ok(bytes) => write_solutions(alloc, settings, bytes, after, placements, steps),
+        Err(fault) => Err(Refusal::Input(fault)),
+    }
+}
+
+/// Writes the solutions that the words name.
+fn answer_words<L: Ledger>(
+    alloc: Global,
+    words: &[String],
+    input: &[u8],
+    after: &[u8],
+    placements: &mut [u8],
+    steps: &mut Steps<L>,
+) -> Answer
+    ensures answer { IsAnswer (texts words.now) input.now after.now placements.old placements.new
+        (steps.new - steps.old) result }
+    ensures counted { steps.old ≤ steps.new }
+{
+    let settings = match read_words(words) {
+        Ok(settings) => settings,
+        Err(fault) => return Answer::Unwritten(Refusal::Input(fault)),
+    };
+    let Some(settings) = of_path(settings) else {
+        return Answer::OtherCommand;
+    };
+    match answer_path(alloc, &settings, input, after, placements, steps) {
+        Ok(written) => Answer::Written(written),
+        Err(refusal) => Answer::Unwritten(refusal),
+    }
+}
+
+/// The answer for the words, with the number of its floods.
+fn counted_answer<L: Ledger>(
+    alloc: Global,
+    blank: Blank,
+    words: &[String],
+    input: &[u8],
+    after: &[u8],
+    placements: &mut [u8],
+) -> Answered
+    requires name { blank.name ≡ L.name }
+    requires parts { blank.parts ≡ L.parts }
+    requires some { 0 < blank.parts }
+    ensures { ForFloods result.floods
+        (λ floods. IsAnswer (texts words.now) input.now after.now placements.old placements.new floods
+        result.answer) }
+{
+    let mut steps = Steps::<L>::new(blank);
+    let answer = answer_words(alloc, words, input, after, placements, &mut steps);
+    Answered {
+        answer,
+        floods: steps.count(),
+    }
+}
+
+/// 1 if it holds, and 0 if not.
+fn flag(holds: bool) -> u8
+    ensures same { (result == 1) ≡ holds }
+    ensures small { result ≤ 1 }
+{
+    if holds { 1 } else { 0 }
+}
+
+/// Writes the solutions that a command line of `path` lists as numbers: of each placement its piece (1 to 7 in the
+/// order I, L, O, Z, T, J, S), its rotation (0 to 3 in the order 0, R, 2, L), and the column and the row of its pivot,
+/// a byte each. `count` is how many solutions were written: as many as there are, but no more than `--limit` allows,
+/// and no more than `placements` holds whole. They are the first `placements_length` bytes of `placements`; no other
+/// bytes change. `ended` is 1 if the list is known to end with them, and 0 if it may go on. The list begins after the
+/// sequence whose numbers `after` has; if `after` is empty, after the one that `--after` gives, if any. `--keys`,
+/// `--format` and `--stats` change nothing. The words, the input, `err` and `floods` are as in `voidosier_run`, and so
+/// are the statuses 2, 5 and 6. Of the others, 0 is done; 4 says that `placements` is too small for one solution; 7
+/// says that the words have no fault and ask for another command; 8 says that `after` is not the numbers of as many
+/// placements as a solution has. At every status but 0 nothing is written to `placements`, and no flood was made.
+/// Nothing is kept from call to call.
+#[unsafe(no_mangle)]
+pub extern "C" fn voidosier_solutions(
+    alloc: Global,
+    words: &[u8],
+    input: &[u8],
+    after: &[u8],
+    placements: &mut [u8],
+    placements_length: &mut usize,
+    count: &mut u32,
+    ended: &mut u8,
+    err: &mut [u8],
+    err_length: &mut usize,
+    floods: &mut u64,
+) -> u8
+    ensures status { IsSolutionsStatus result }
+    // Which bytes of the buffers change.
+    ensures within { placements_length.new ≤ length placements.new }
+    ensures rest { drop placements_length.new placements.new ≡ drop placements_length.new placements.old }
+    ensures err_within { err_length.new ≤ length err.new }
+    ensures err_rest { drop err_length.new err.new ≡ drop err_length.new err.old }
+    // What each status means.
+    ensures done { (texts : List (List ℕ)) → SpellsWords words.now texts → result ≡ 0
+        → TellsSolutions texts input.now after.now (length placements.old)
+        (take placements_length.new placements.new) count.new ended.new floods.new }
+    ensures faulty { (texts : List (List ℕ)) → SpellsWords words.now texts → result ≡ 2
+        → TellsPathFault texts input.now (take err_length.new err.new) (length err.old) }
+    ensures no_room { (texts : List (List ℕ)) → SpellsWords words.now texts → result ≡ 4
+        → LacksRoom texts input.now after.now (length placements.old) }
+    ensures no_sequence { (texts : List (List ℕ)) → SpellsWords words.now texts → result ≡ 8
+        → LacksSequence texts input.now after.now }
+    ensures other { (texts : List (List ℕ)) → SpellsWords words.now texts → result ≡ 7
+        → asks_other is_path texts ≡ true }
+    ensures other_ends { (texts : List (List ℕ)) → SpellsWords words.now texts → asks_other is_path texts ≡ true
+        → (result ≡ 5) ⊎ (result ≡ 7) }
+    ensures no_words { result ≡ 6 → SpellsNoWords words.now }
+    ensures unspelled { SpellsNoWords words.now → (result ≡ 5) ⊎ (result ≡ 6) }
+    ensures told { ended.new ≤ 1 }
+    ensures quiet { result ≢ 0 → (placements_length.new ≡ 0) × (count.new ≡ 0) × (ended.new ≡ 0) }
+    ensures idle { result ≢ 0 → floods.new ≡ 0 }
+    ensures no_line { result ≢ 2 → err_length.new ≡ 0 }
+{
+    *placements_length = 0;
+    *count = 0;
+    *ended = 0;
+    *err_length = 0;
+    *floods = 0;
+    let texts = match words_in(alloc, words) {
+        Ok(texts) => texts,
+        Err(NoWords::Unspelled) => return NO_WORDS,
+        Err(NoWords::NoMemory) => return NO_MEMORY,
+    };
+    let Answered {
+        answer,
+        floods: made,
+    } = counted_answer::<Brand>(alloc, Blank::new(1), &texts, input, after, placements);
+    match answer {
+        Answer::Written(written) => {
+            *placements_length = written.size;
+            *count = written.count;
+            *ended = flag(written.ended);
+            *floods = made;
+            DONE
+        }
+        Answer::OtherCommand => OTHER_COMMAND,
+        Answer::Unwritten(refusal) => match refusal {
+            Refusal::Input(fault) => {
+                *err_length = write_line(fault, err);
+                FAULT
+            }
+            Refusal::NoSequence => NO_SEQUENCE,
+            Refusal::NoRoom => NO_ROOM,
+            Refusal::NoMemory => NO_MEMORY,
+        },
+    }
+}

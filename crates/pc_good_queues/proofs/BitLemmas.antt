@@ -1,0 +1,85 @@
+-- The bits of a byte, and of bytes that are set one after the other.
+use Rattle.std.proofs.Common.{◌≡◌, ◌≢◌, ℕ, ◌+◌, ◌*◌, ◌/◌, ◌%◌, ◌^◌, ◌<◌, ◌≤◌, Bool, true, false, ◌&&◌, ◌==◌, nat_lt, List, length, take, get_or, bit_or, w8, refl, sym, ap, subst, ◌∙◌, inl, inr, arith}
+use Rattle.std.specs.Int.{bit_at}
+use Rattle.std.specs.Prelude.{slice_set}
+use Rattle.std.proofs.lemmas.Bool.{cases_eq, cases_lt, lt-ltb}
+use Rattle.std.proofs.lemmas.Bool.Decides.{nat_tests}
+use Rattle.std.proofs.lemmas.List.{get_or_past, get_or-set_other, get_or-set_same, get_or-take, length-take}
+use Rattle.std.proofs.lemmas.Nat.Bits.{bit_at-zero, bit_at_set_other, bit_at_set_same}
+use Rattle.pc_good_queues.specs.Bits.{AreBitsOf, bytes_for, is_one}
+
+-- the bits below a place are the flags from one on, and those from the place on are 0
+pub record HasFlags (flags : List Bool) (first place byte : ℕ) : Type 0 where
+  pub each : (k : ℕ) → (bit_at byte k == 1) ≡ (nat_lt k place && get_or flags (first + k) false)
+
+one_more : (k place : ℕ) → k ≢ place → nat_lt k place ≡ nat_lt k (place + 1)
+one_more k place other = grind (arith, nat_tests)
+
+module _ (flags : List Bool) (first place byte : ℕ) (so_far : HasFlags flags first place byte) where
+  next_flag : (next : ℕ) → ((k : ℕ) → k ≢ place → bit_at next k ≡ bit_at byte k)
+      → (bit_at next place == 1) ≡ get_or flags (first + place) false → HasFlags flags first (place + 1) next
+  next_flag next others here = record { each = each } where
+    each : (k : ℕ) → (bit_at next k == 1) ≡ (nat_lt k (place + 1) && get_or flags (first + k) false)
+    each k = elim (cases_eq k place) [
+      | inl same ↦ subst (λ n. (bit_at next n == 1) ≡ (nat_lt n (place + 1) && get_or flags (first + n) false)) (sym same)
+          (here ∙ sym (ap (λ b. b && get_or flags (first + place) false) (lt-ltb place (place + 1) (omega arith))))
+      | inr other ↦ ap (λ n. n == 1) (others k other) ∙ so_far.each k
+          ∙ ap (λ b. b && get_or flags (first + k) false) (one_more k place other)
+    ]
+
+  pub flag_set : place < 8 → get_or flags (first + place) false ≡ true
+      → HasFlags flags first (place + 1) (bit_or byte (1 * 2 ^ place % 2 ^ 8))
+  flag_set low is = next_flag (bit_or byte (1 * 2 ^ place % 2 ^ 8)) (λ k other. bit_at_set_other w8 byte place low k other)
+      (ap (λ n. n == 1) (bit_at_set_same w8 byte place low) ∙ sym is)
+
+  pub flag_left : get_or flags (first + place) false ≡ false → HasFlags flags first (place + 1) byte
+  flag_left is = next_flag byte (λ k other. refl)
+      (so_far.each place ∙ ap (λ b. nat_lt place place && b) is ∙ both_false (nat_lt place place) ∙ sym is)
+    where
+      both_false : (b : Bool) → (b && false) ≡ false
+      both_false true = refl
+      both_false false = refl
+
+-- the bits of so many bytes are flags
+pub record HasBytes (flags : List Bool) (count : ℕ) (bytes : List ℕ) : Type 0 where
+  pub each : (number : ℕ) → number < 8 * count → is_one bytes number ≡ get_or flags number false
+
+pub more_bytes : (flags : List Bool) (count : ℕ) (bytes : List ℕ) (byte : ℕ) → HasBytes flags count bytes
+    → count < length bytes → ((k : ℕ) → k < 8 → (bit_at byte k == 1) ≡ get_or flags (8 * count + k) false)
+    → HasBytes flags (count + 1) (slice_set bytes count byte)
+unfolding is_one
+more_bytes flags count bytes byte so_far within here = record { each = each } where
+  each : (number : ℕ) → number < 8 * (count + 1)
+      → (bit_at (get_or (slice_set bytes count byte) (number / 8) 0) (number % 8) == 1) ≡ get_or flags number false
+  each number low = elim (cases_eq (number / 8) count) [
+    | inl same ↦
+        let byte_here : get_or (slice_set bytes count byte) (number / 8) 0 ≡ byte =
+        ap (λ n. get_or (slice_set bytes count byte) n 0) same ∙ get_or-set_same bytes count byte 0 within in
+        ap (λ n. bit_at n (number % 8) == 1) byte_here ∙ here (number % 8) (omega arith)
+        ∙ ap (λ n. get_or flags n false) (omega (arith, same))
+    | inr other ↦
+        ap (λ n. bit_at n (number % 8) == 1) (get_or-set_other bytes count (number / 8) byte 0 other)
+        ∙ so_far.each number (omega (arith, low, other))
+  ]
+
+-- all flags have their bits
+pub all_bytes : (flags : List Bool) (count : ℕ) (bytes : List ℕ) → length flags ≡ count → bytes_for count ≤ length bytes
+    → HasBytes flags (bytes_for count) bytes → AreBitsOf flags (take (bytes_for count) bytes)
+unfolding is_one
+all_bytes flags count bytes all room has = record {
+  size = length-take (bytes_for count) bytes ∙ omega (arith, all, room);
+  each = each;
+} where
+  each : (number : ℕ) → (bit_at (get_or (take (bytes_for count) bytes) (number / 8) 0) (number % 8) == 1)
+      ≡ get_or flags number false
+  each number = elim (cases_lt number (8 * bytes_for count)) [
+    | inl low ↦
+        ap (λ n. bit_at n (number % 8) == 1) (get_or-take (bytes_for count) bytes (number / 8) 0 (omega (arith, low)))
+        ∙ has.each number low
+    | inr high ↦
+        let size = length-take (bytes_for count) bytes in
+        let none : get_or (take (bytes_for count) bytes) (number / 8) 0 ≡ 0 =
+        get_or_past (take (bytes_for count) bytes) (number / 8) 0 (omega (arith, size, high)) in
+        ap (λ n. bit_at n (number % 8) == 1) none ∙ ap (λ n. n == 1) (bit_at-zero (number % 8))
+        ∙ sym (get_or_past flags number false (omega (arith, all, high)))
+  ]

@@ -1,0 +1,4 @@
+-- Lemmas of this crate.
+mod BitLemmas
+mod CallLemmas
+mod FlagLemmas

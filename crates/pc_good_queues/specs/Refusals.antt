@@ -1,0 +1,40 @@
+-- Why no bits are written.
+use Rattle.std.specs.Prelude.{◌≡◌, ◌≢◌, ℕ, ◌<◌, ◌≤◌, List, length, Some, None, Ok, ◌⊎◌}
+use Rattle.queue_pattern.specs.declared.element.Element.{Element}
+use Rattle.queue_pattern.specs.Queues.{queues}
+use Rattle.pc_settings.specs.Request.{FieldRequest, PercentRequest}
+use Rattle.pc_source.specs.FieldText.{field_needs}
+use Rattle.pc_source.specs.Task.{nothing}
+use Rattle.pc_problem.specs.Faults.{elements_asked}
+use Rattle.pc_percent.specs.Faults.{percent_fault}
+use Rattle.pc_good_queues.specs.declared.answer.NoBits.{NoBits}
+use Rattle.pc_good_queues.specs.declared.answer.NoBits.TheVariants.{Fault, NoRoom, NoMemory}
+use Rattle.pc_good_queues.specs.Bits.{bytes_for}
+
+-- the pattern that is asked for stands for so many queues
+pub record AsksQueues (request : FieldRequest) (count : ℕ) : Type 0 where
+  pub elements : List Element
+  pub spelled : elements_asked request ≡ Ok elements
+  pub all : count ≡ length (queues elements)
+
+-- no fault stands, and the bits of so many queues take more bytes than there is room for
+pub record LacksRoom (request : PercentRequest) (bytes : List ℕ) (room count : ℕ) : Type 0 where
+  pub none : percent_fault request bytes ≡ None
+  pub asked : AsksQueues request.common count
+  pub short : room < bytes_for count
+
+-- no fault stands, and there is room for the bits
+pub record HasRoom (request : PercentRequest) (bytes : List ℕ) (room : ℕ) : Type 0 where
+  pub none : percent_fault request bytes ≡ None
+  pub count : ℕ
+  pub asked : AsksQueues request.common count
+  pub enough : bytes_for count ≤ room
+
+-- A refusal with its cause, where the source has these bytes, there is so much room, and so many floods were made.
+-- Memory runs out before the first flood if the text of the field takes some, or later, if no fault stands and there is
+-- room.
+abbrev pub Refuses : PercentRequest → (bytes : List ℕ) → (room floods : ℕ) → NoBits → Type 0
+Refuses request bytes room floods (Fault fault) = (percent_fault request bytes ≡ Some fault) × (floods ≡ 0)
+Refuses request bytes room floods (NoRoom count) = LacksRoom request bytes room count × (floods ≡ 0)
+Refuses request bytes room floods NoMemory =
+    ((field_needs request.common.field ≢ nothing) × (floods ≡ 0)) ⊎ HasRoom request bytes room

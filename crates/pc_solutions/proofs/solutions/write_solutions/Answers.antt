@@ -1,0 +1,81 @@
+-- What is asked, the sequence after which the list begins, the room, and then what one search lists.
+use Rattle.std.proofs.Common.{◌≡◌, ◌∙◌, ◌*◌, ◌-◌, ◌<◌, ◌≤◌, nat_lt, min, length, sym, ap, subst, arith}
+use Rattle.std.proofs.lemmas.List.{length-take-le}
+use Rattle.placement_numbers.specs.Numbers.{AreNumbersOf}
+use Rattle.problem.specs.SolutionList.{IsList}
+use Rattle.enumerate.specs.Items.{items_of}
+use Rattle.enumerate.specs.ViewOf.{solutions}
+use Rattle.pc_settings.specs.Views.{path_view}
+use Rattle.pc_path.specs.Output.{IsGiven}
+use Rattle.pc_path.specs.Work.{IsSearchOf}
+use Rattle.pc_solutions.specs.Asked.{IsAfter}
+use Rattle.pc_solutions.specs.Written.{most_written}
+use Rattle.pc_solutions.proofs.Room.{all_fit, most_fits}
+use Rattle.pc_solutions.proofs.solutions.write_solutions.Goals as goal
+
+pub returns-in_err-after-clause-no_sequence : goal.returns-in_err-after-clause-no_sequence
+returns-in_err-after-clause-no_sequence g c = λ is. record {
+  problem = c.in_ok-listing.listing.problem;
+  asked = c.in_ok-listing.ensures.asked;
+  some = c.in_err-after.ensures.refused.1;
+  none = λ sequence of. c.in_err-after.ensures.refused.2 sequence (subst (λ needed. AreNumbersOf needed c.args.after.now sequence) (sym c.needed-needed.ensures) of);
+}
+
+pub returns-then-placements-from-clause-no_room : goal.returns-then-placements-from-clause-no_room
+returns-then-placements-from-clause-no_room g c = λ is.
+    let text = (path_view c.args.settings.now).after in
+    let needed = c.needed-needed.ensures in
+    record {
+      problem = c.in_ok-listing.listing.problem;
+      asked = c.in_ok-listing.ensures.asked;
+      after = items_of c.in_ok-after.after;
+      given = subst (λ n. IsAfter n c.args.after.now text (items_of c.in_ok-after.after)) needed
+          (c.in_ok-after.ensures.after text (subst (λ n. IsGiven n text (items_of c.in_ok-listing.listing.after)) (sym needed) c.in_ok-listing.ensures.after));
+      short = omega (arith, c.if-placements-from.true, needed, c.from.ensures);
+    }
+
+pub write_list-requires-clause-room : goal.write_list-requires-clause-room
+write_list-requires-clause-room g c =
+    subst (λ most. most * (4 * c.needed-needed.result) ≤ length c.args.placements.now) (sym c.most_written-most.ensures)
+    (most_fits c.args.settings.now.limit (length c.args.placements.now) c.needed-needed.result)
+
+pub returns-clause-within : goal.returns-clause-within
+returns-clause-within g c =
+    let list = c.write_list.ensures in
+    let fits = all_fit c.write_list.result.count c.most_written-most.result (4 * c.needed-needed.result) (length c.args.placements.now) _ list.count
+    (subst (λ most. most * (4 * c.needed-needed.result) ≤ length c.args.placements.now) (sym c.most_written-most.ensures)
+    (most_fits c.args.settings.now.limit (length c.args.placements.now) c.needed-needed.result)) in
+    omega (arith, fits, list.size, c.write_list.auto.placements)
+
+pub returns-clause-written : goal.returns-clause-written
+returns-clause-written g c =
+    let text = (path_view c.args.settings.now).after in
+    let problem = c.in_ok-listing.listing.problem in
+    let needed = c.needed-needed.ensures in
+    let search = c.in-Ok.search in
+    let list = c.write_list.ensures in
+    let after = items_of c.in_ok-after.after in
+    let given = c.in-Ok.ensures.after in
+    let room = length c.args.placements.now in
+    let limit = c.args.settings.now.limit in
+    let most = c.most_written-most.ensures ∙ ap (most_written limit room) needed in
+    record {
+      problem = problem;
+      asked = c.in_ok-listing.ensures.asked;
+      after = after;
+      given = subst (λ n. IsAfter n c.args.after.now text after) needed
+          (c.in_ok-after.ensures.after text (subst (λ n. IsGiven n text (items_of c.in_ok-listing.listing.after)) (sym needed) c.in_ok-listing.ensures.after));
+      fits = omega (arith, c.if-placements-from.false, needed, c.from.ensures);
+      sequences = solutions search;
+      list = subst (λ v. IsList v (solutions search)) c.in-Ok.ensures.view c.in-Ok.ensures.list;
+      counted = subst (λ n. c.write_list.result.count ≡ n) (ap (λ m. min m (length (solutions search))) most) list.count;
+      are = list.written;
+      size = length-take-le c.write_list.result.size c.write_list.new.placements (returns-clause-within g c) ∙ list.size ∙ ap (λ n. c.write_list.result.count * (4 * n)) needed;
+      end = list.ended ∙ ap (λ m. nat_lt (length (solutions search)) m) most;
+      work = record {
+        search = c.write_list.new.search;
+        searched = subst (λ a. IsSearchOf problem a c.write_list.new.search (c.write_list.new.steps - c.args.steps.now)) given list.searched;
+        left = list.left;
+        ended = λ none short. list.whole (given ∙ none) (subst (λ m. length (solutions search) < m) (sym most) short);
+      };
+    }

@@ -1,0 +1,5 @@
+use Rattle.percent.specs.GoodHands.{AreAnswers}
+use Rattle.percent.proofs.answers.all_good.Given as goal
+
+abbrev pub invariant-loop-number : goal.invariant-loop-number
+invariant-loop-number l = AreAnswers l.problem l.answers.items l.number

@@ -1,0 +1,4 @@
+-- Lemmas on the numbers of placements.
+mod ReadAsTheyStand
+mod OneMore
+pub mod CallerLemmas

@@ -1,0 +1,11 @@
+// Placements as numbers, written and read.
+#![tactic(auto)]
+
+pub mod laws;
+mod reading;
+#[cfg(test)]
+mod tests;
+mod writing;
+
+pub use reading::{Sequence, sequence_in};
+pub use writing::{numbers_of, write_sequence};

@@ -1,0 +1,56 @@
+// Reading numbers as placements.
+ghost use Rattle.std.specs.Prelude.{◌≡◌, ◌≤◌, List, MatchOption};
+ghost use Rattle.srs.specs.declared.placement.Placement.{Placement};
+ghost use Rattle.placement_numbers.specs.Numbers.{AreNumbersOf};
+ghost use Rattle.placement_numbers.specs.Reading.{placement_in, rotation_at};
+
+use arrayvec::ArrayVec;
+use srs::{Piece, Placement, Rotation};
+
+/// At most 22 placements.
+pub type Sequence = ArrayVec<Placement, 22>;
+
+/// The rotation at this place of the order 0, R, 2, L, if there is one.
+fn rotation_at(place: u8) -> Option<Rotation>
+    ensures { result ≡ rotation_at place }
+{
+    Rotation::ALL
+        .iter()
+        .copied()
+        .find(|rotation| rotation.place() == place)
+}
+
+/// The placement with these four numbers and its pivot in the well, if there is one.
+#[tactic(auto, unfolding(crate::specs::Reading::placement_in))]
+fn placement_in(code: u8, place: u8, column: u8, row: u8) -> Option<Placement>
+    ensures { result ≡ placement_in code place column row }
+{
+    let piece = Piece::from_code(code)?;
+    let rotation = rotation_at(place)?;
+    (column <= 9 && row <= 22).then_some(Placement {
+        piece,
+        rotation,
+        x: column,
+        y: row,
+    })
+}
+
+/// The sequence of `needed` placements, each with its pivot in the well, that has these numbers. `None` exactly if
+/// there is none.
+pub fn sequence_in(needed: u8, numbers: &[u8]) -> Option<Sequence>
+    requires { needed ≤ 22 }
+    ensures { MatchOption result
+        ((sequence : List Placement) → AreNumbersOf needed numbers.now sequence → ⊥)
+        (λ sequence. AreNumbersOf needed numbers.now sequence.items) }
+{
+    if numbers.len() != 4 * usize::from(needed) {
+        return None;
+    }
+    let mut sequence = Sequence::new();
+    let mut rest = numbers;
+    while let [code, place, column, row, behind @ ..] = rest {
+        sequence.push(placement_in(*code, *place, *column, *row)?);
+        rest = behind;
+    }
+    Some(sequence)
+}
