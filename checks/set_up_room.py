@@ -16,15 +16,18 @@ PROGRAM = os.environ.get("PC_PROGRAM", os.path.join(TOP, "crates", "pc_cli", "ou
 LIBRARY_TOOLS = ["cc", "ld", "ar", "objcopy"]
 # How the stand-in is to behave: seconds for each crate, and the crate that it does not prove.
 STAND_IN = r'''#!/usr/bin/env python3
-import os, shutil, sys, time, types
+import os, shutil, sys, time, types, zlib
 
 KIT = os.path.dirname(os.path.dirname(os.path.realpath(__file__)))
 
 class Crate:
+    allowed, cuts_libraries = (), False
     def __init__(self, name, top):
         self.name, self.folder, self.deps, self.out = name, f"{top}/crates/{name}", [], sys.stdout
+        self.rlib = f"{self.folder}/out/rlib/{name}.rlib"
+        self.is_static = name == "pc_c"
     def makes_rlib(self):
-        return self.name != "pc_cli"
+        return self.name not in ("pc_cli", "pc_c")
     def below(self):
         found = []
         for dep in self.deps:
@@ -32,18 +35,27 @@ class Crate:
         return found
     def count(self, pattern):
         return 100
-    def build_rlib(self, flags, anew):
-        rlib = f"{self.folder}/out/rlib"
-        if os.path.exists(f"{rlib}/stamp"):
-            return 0
-        os.makedirs(rlib, exist_ok=True)
-        os.utime(rlib)
+    def stamp(self):
+        with open(f"{self.folder}/src/{'main' if self.name == 'pc_cli' else 'lib'}.rt", "rb") as it:
+            return str(zlib.crc32(it.read()))
+    def is_built(self):
+        return os.path.exists(f"{self.folder}/out/rlib/stamp")
+    def words(self, flags, keeps):
+        return flags
+    def prove(self, words):
         print("proving", self.name, file=self.out, flush=True)
         time.sleep(float(os.environ.get("STAND_IN_SECONDS", "0")))
         if self.name == os.environ.get("STAND_IN_FAILS"):
             print("a goal is open", file=self.out)
             return 1
-        open(f"{rlib}/stamp", "w").close()
+        shutil.copy(f"{KIT}/libpc_c.a" if self.is_static else __file__, words[-1])
+        return 0
+    def build_rlib(self, flags, anew):
+        shutil.rmtree(f"{self.folder}/out/rlib", ignore_errors=True)
+        os.makedirs(self.rlib)
+        return self.prove([*flags, f"{self.rlib}/format"])
+    def link(self, made, program):
+        shutil.copy(os.environ["STAND_IN_PROGRAM"], program)
         return 0
 
 def crates_below(folder):
@@ -55,12 +67,13 @@ def crates_below(folder):
     made = {name: Crate(name, top) for name in rows}
     for name, crate in made.items():
         crate.deps = [made[it] for it in rows[name] if it in made]
-    return [*made["pc_cli"].below(), made["pc_cli"]]
+    last = made[os.path.basename(folder)]
+    return [*last.below(), last]
 
 rtlib = types.SimpleNamespace(guarded=lambda: None, crates_below=crates_below, lock=lambda crates: [])
 
-def share_work(is_alone):
-    pass
+def handles_of(folder):
+    return ()
 
 if __name__ == "__main__":
     if sys.argv[1] == "version":
@@ -68,9 +81,6 @@ if __name__ == "__main__":
     elif sys.argv[1] == "run":
         shutil.copy(os.environ["STAND_IN_PROGRAM"], "out/pc_cli")
     elif sys.argv[1] == "lib":
-        time.sleep(float(os.environ.get("STAND_IN_SECONDS", "0")))
-        if os.environ.get("STAND_IN_FAILS") == "pc_c":
-            sys.exit("a goal is open")
         shutil.copy(f"{KIT}/libpc_c.a", "out")
 '''
 
@@ -201,7 +211,11 @@ class Room:
         return Started(self, words, env or {}).end()[:2]
 
     def is_proved(self, name):
-        return os.path.exists(f"{self.top}/crates/{name}/out/rlib/stamp")
+        return os.path.exists(f"{self.top}/crates/{name}/out/rlib/proved")
+
+    def logged(self, text):
+        with open(f"{self.top}/out/build.log", "rb") as it:
+            return text in it.read()
 
     def left(self):
         """The processes that still work in this room."""

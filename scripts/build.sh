@@ -125,10 +125,13 @@ look_around() {
     ((free >= left)) || fail "proving takes $left MB of disk under $here, and $free MB are free"
 }
 
+# Whether a crate's library is built: with its statements by scripts/prove, or with its proofs by rt.
+is_proved() { [ -e "$here/crates/$1/out/rlib/proved" ] || [ -e "$here/crates/$1/out/rlib/stamp" ]; }
+
 whole_left() {
     local name count=0
     for name in "${names[@]}"; do
-        [ -e "$here/crates/$name/out/rlib/stamp" ] || count=$((count + 1))
+        is_proved "$name" || count=$((count + 1))
     done
     echo $((whole_disk * count / ${#names[@]} + 100))
 }
@@ -142,7 +145,7 @@ progress() {
     ended=$(awk '/^== [a-z_]+$/ && $2 != "summary" && !seen[$2]++ { count++ } END { print count + 0 }' "$log")
     for name in "${names[@]}"; do
         rlib=$here/crates/$name/out/rlib
-        if [ -d "$rlib" ] && [ ! -e "$rlib/stamp" ] && [ "$rlib" -nt "$begun" ]; then
+        if [ -d "$rlib" ] && [ "$rlib" -nt "$begun" ] && ! is_proved "$name"; then
             proving+=("$name")
         fi
     done
@@ -214,19 +217,22 @@ tell_failure() {
     say "the whole log is $log"
 }
 
-# Proves the libraries below the program; where this kit is another than prove-libraries knows, rt all check does that.
+# The question that the built program is asked first.
+question=(path --rows XXXXXX____ --clear-line 1 --patterns I)
+
+# Proves the program and the libraries below it, and builds it; where scripts/prove leaves that to rt, rt does it. (rt builds
+# a program in order to run it, and proves it before.)
 prove() {
     local status=0
-    watched "$here/scripts/prove-libraries" "$jobs" || status=$?
+    watched "$here/scripts/prove" "$jobs" || status=$?
     if ((status == 3)); then
-        watched rt all check --jobs "$jobs"
-    else
+        watched rt all check --jobs "$jobs" && watched rt run -- "${question[@]}"
+    elif ((status)); then
         return "$status"
+    else
+        watched "$program" "${question[@]}"
     fi
 }
-
-# The question that the built program is asked: rt builds a program in order to run it, and proves it before.
-question=(path --rows XXXXXX____ --clear-line 1 --patterns I)
 
 build() {
     look_around
@@ -240,7 +246,7 @@ build() {
         # shellcheck disable=SC2064
         trap "interrupted $signal" "$signal"
     done
-    if ! prove || ! watched rt run -- "${question[@]}" || [ ! -x "$program" ]; then
+    if ! prove || [ ! -x "$program" ]; then
         tell_failure
         exit 1
     fi
