@@ -4,6 +4,7 @@ mod ColumnBits
 mod Mirrors
 mod EmptiesLemmas
 mod SupplyLemmas
+mod SupplyWordLemmas
 mod PivotLemmas
 mod PivotMirrors
 mod MarkLemmas

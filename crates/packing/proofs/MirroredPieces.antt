@@ -1,8 +1,7 @@
 -- A placement stands in a tiling exactly where the mirror shows that it does.
 use Rattle.std.proofs.Common.{◌≡◌, ◌↔◌, ℕ, ◌-◌, ◌≤◌, true, not, cond, ◌&&◌, ◌==◌, pos, ◌+ℤ◌, neg_ℤ, refl, sym, ap, ap₂, subst, ◌∙◌, arith}
 use Rattle.std.proofs.Math.Path.{fun_ext}
-use Rattle.std.specs.List.{list_all}
-use Rattle.std.proofs.lemmas.Bool.{eq-eqb, eqb-true}
+use Rattle.std.proofs.lemmas.Bool.{eqb-true}
 use Rattle.std.proofs.lemmas.Int.{ints}
 use Rattle.lane_board.specs.Field.{Field}
 use Rattle.lane_board.proofs.CallerLemmas.{same_from_both}
@@ -13,17 +12,17 @@ use Rattle.srs.specs.Piece.{piece_code}
 use Rattle.srs.specs.Rotation.{rotation_place}
 use Rattle.srs.specs.Cells.{Cell, cells_of, moved, pivot_of, shape}
 use Rattle.srs.specs.SameCells.{is_among}
-use Rattle.srs.proofs.CallerLemmas.{each_state, is_among-all, list_all-from_is_among, piece_code-injective, rotation_place-injective}
+use Rattle.srs.proofs.CallerLemmas.{each_state, is_among-all, list_all-from_is_among, rotation_place-injective}
 use Rattle.prune.specs.Mirror.{flip, mirror_cell, mirror_kind, mirror_rotation, mirrored_supply}
 use Rattle.prune.specs.OnePart.{less_one}
 use Rattle.prune.specs.Tiling.{Supply, Tiling}
-use Rattle.prune.proofs.CallerLemmas.{kind_again}
+use Rattle.prune.proofs.CallerLemmas.{cell_again, flips_in, kind_again, same_kind}
 use Rattle.packing.specs.Empties.{all_but, without_placement}
 use Rattle.packing.specs.Pivots.{mirror_placement}
 use Rattle.packing.specs.TiledPieces.{has_cell, StandsInTiling}
 use Rattle.packing.proofs.FillLemmas.{sent_from, sent_has}
 use Rattle.packing.proofs.FirstCells.{CellOf, cell_of}
-use Rattle.packing.proofs.Mirrors.{to_mirror}
+use Rattle.packing.proofs.Mirrors.{supply_again, to_mirror, turned_back}
 use Rattle.packing.proofs.StackLemmas.{IsSmall}
 
 -- a mirror in a mirror
@@ -39,15 +38,6 @@ placement_again q near =
     let rotation = rotation_again q.piece q.rotation in
     let x : 9 - (9 - q.x) ≡ q.x = omega (arith, near) in
     λ i. record { piece = kind i; rotation = rotation i; x = x i; y = q.y }
-
-cell_again : (cell : Cell) → mirror_cell (mirror_cell cell) ≡ cell
-unfolding mirror_cell
-cell_again cell = let column : pos 9 +ℤ neg_ℤ (pos 9 +ℤ neg_ℤ cell.0) ≡ cell.0 = omega (arith, ints) in λ i. (column i, cell.1)
-
--- the shapes
-flips_in : (piece : Piece) (rotation : Rotation) → list_all (λ c. is_among (shape (mirror_kind piece) (mirror_rotation piece rotation)) (flip c)) (shape piece rotation) ≡ true
-unfolding is_among
-flips_in = each_state (λ p r. list_all (λ c. is_among (shape (mirror_kind p) (mirror_rotation p r)) (flip c)) (shape p r)) refl
 
 -- the cells of a placement in the mirror
 shown_cell : (q : Placement) → q.x ≤ 9 → (cell : Cell) → is_among (cells_of q) cell ≡ true → is_among (cells_of (mirror_placement q)) (mirror_cell cell) ≡ true
@@ -85,14 +75,12 @@ same_cell q near x y column = same_from_both _ _
         back = omega (arith, column)
 
 -- the supplies
-same_kind : (a b : Piece) → (piece_code a == piece_code (mirror_kind b)) ≡ (piece_code (mirror_kind a) == piece_code b)
-same_kind a b = same_from_both _ _
-    (λ e. eq-eqb _ _ (ap piece_code (ap mirror_kind (piece_code-injective a (mirror_kind b) (eqb-true _ _ e)) ∙ kind_again b)))
-    (λ e. eq-eqb _ _ (ap piece_code (sym (kind_again a) ∙ ap mirror_kind (piece_code-injective (mirror_kind a) b (eqb-true _ _ e)))))
+kind_other : (a b : Piece) → (piece_code a == piece_code (mirror_kind b)) ≡ (piece_code (mirror_kind a) == piece_code b)
+kind_other a b = sym (same_kind a (mirror_kind b)) ∙ ap (λ p. piece_code (mirror_kind a) == piece_code p) (kind_again b)
 
 less_mirrored : (supply : Supply) (piece : Piece) → mirrored_supply (less_one supply piece) ≡ less_one (mirrored_supply supply) (mirror_kind piece)
 unfolding less_one
-less_mirrored supply piece = fun_ext (λ other. ap (λ b. cond b (supply (mirror_kind other) - 1) (supply (mirror_kind other))) (same_kind piece other))
+less_mirrored supply piece = fun_ext (λ other. ap (λ b. cond b (supply (mirror_kind other) - 1) (supply (mirror_kind other))) (kind_other piece other))
 
 module _ (E G : Field) (turned : (x y : ℕ) → x ≤ 9 → G x y ≡ E (9 - x) y) where
   left_turned : (q : Placement) → q.x ≤ 9 → (x y : ℕ) → x ≤ 9 → without_placement G (mirror_placement q) x y ≡ without_placement E q (9 - x) y
@@ -118,17 +106,11 @@ module _ (E G : Field) (turned : (x y : ℕ) → x ≤ 9 → G x y ≡ E (9 - x)
           (turned (9 - at.x) at.y (omega arith) ∙ ap (λ k. E k at.y) {x = 9 - (9 - at.x)} {y = at.x} (omega (arith, near_x)) ∙ at.has)
 
 -- so the pieces of all tilings are those that the mirror shows
-supply_again : (supply : Supply) → mirrored_supply (mirrored_supply supply) ≡ supply
-supply_again supply = fun_ext (λ piece. ap supply (kind_again piece))
-
 pub stands_both : (E G : Field) → ((x y : ℕ) → x ≤ 9 → G x y ≡ E (9 - x) y) → IsSmall 8 E → IsSmall 8 G → (supply : Supply) (q : Placement) → q.x ≤ 9 →
     StandsInTiling G (mirrored_supply supply) (mirror_placement q) ↔ StandsInTiling E supply q
 stands_both E G turned small_e small_g supply q near = (
   λ t. subst (λ (s : Supply). StandsInTiling E s q) (supply_again supply)
       (subst (λ r. StandsInTiling E (mirrored_supply (mirrored_supply supply)) r) (placement_again q near)
-      (stands_shown G E back small_g (mirrored_supply supply) (mirror_placement q) (omega arith) t)),
+      (stands_shown G E (turned_back E G turned) small_g (mirrored_supply supply) (mirror_placement q) (omega arith) t)),
   λ t. stands_shown E G turned small_e supply q near t,
 )
-  where
-    back : (x y : ℕ) → x ≤ 9 → E x y ≡ G (9 - x) y
-    back x y column = sym (turned (9 - x) y (omega arith) ∙ ap (λ k. E k y) {x = 9 - (9 - x)} {y = x} (omega (arith, column)))

@@ -1,18 +1,20 @@
 -- Words of pivots in the mirror.
-use Rattle.std.proofs.Common.{◌≡◌, ℕ, zero, suc, ◌+◌, ◌-◌, ◌*◌, ◌/◌, ◌%◌, ◌^◌, ◌<◌, Bool, true, false, ◌&&◌, ◌||◌, ◌==◌, nat_lt, nat_le, bit_and, bit_or, List, [], ◌∷◌, get_or, refl, sym, ap, ap₂, ◌∙◌, inl, inr, arith}
-use Rattle.std.proofs.lemmas.Bool.{agree_below_at, and_left, and_parts, and_right, cases_eq, cases_lt, eq-eqb, false_from_ne_true, le-leb, le-ltb, leb-true, lt-ltb, ltb-true, ne_eqb}
+use Rattle.std.proofs.Common.{◌≡◌, ℕ, zero, suc, ◌+◌, ◌-◌, ◌*◌, ◌/◌, ◌%◌, ◌^◌, ◌<◌, Bool, true, false, ◌&&◌, ◌||◌, ◌==◌, nat_lt, nat_le, bit_and, bit_or, List, [], ◌∷◌, length, map, get_or, refl, sym, ap, ap₂, ◌∙◌, inl, inr, arith}
+use Rattle.std.proofs.lemmas.Bool.{agree_below_at, and_left, and_parts, and_right, cases_eq, cases_lt, eq-eqb, eqb-true, false_from_ne_true, le-leb, le-ltb, leb-true, lt-ltb, ltb-true, ne_eqb}
+use Rattle.std.proofs.lemmas.List.{get_or-map}
 use Rattle.lane_board.specs.Lanes.{has_bit}
 use Rattle.lane_board.specs.Words.{cells_of_words}
 use Rattle.lane_board.proofs.CallerLemmas.{has_bit-and, has_bit-low, has_bit-or, has_bit-shifted_high, has_bit-shifted_low, has_bit-shifted_right, has_bit-zero}
 use Rattle.srs.specs.declared.piece.Piece.{Piece}
 use Rattle.srs.specs.declared.piece.Piece.TheVariants.{I, L, O, Z, T, J, S}
 use Rattle.srs.specs.declared.rotation.Rotation.{Rotation}
-use Rattle.srs.specs.declared.rotation.Rotation.TheVariants.{Spawn, Right, Reverse, Left}
 use Rattle.srs.specs.declared.placement.Placement.{Placement}
 use Rattle.srs.specs.Rotation.{rotation_place}
+use Rattle.srs.proofs.CallerLemmas.{each_piece, each_state}
 use Rattle.prune.specs.Mirror.{mirror_rotation}
 use Rattle.packing.specs.declared.pivots.Pivots.{Pivots}
 use Rattle.packing.specs.Pivots.{has_pivot, mirror_turned}
+use Rattle.packing.proofs.PivotLemmas.{place_small}
 
 -- a word with columns 0 to 9 counted from the right
 abbrev pub IsMirrored : ℕ → ℕ → Type 0
@@ -119,75 +121,48 @@ cells_mirrored words s each rotation x y few = elim (cases_lt y 8) [
   | inr high ↦ and_left _ _ (and_right (nat_lt x 16) _ (le-ltb y 8 high)) ∙ sym (and_right (nat_le x 9) _ (and_left _ _ (and_right (nat_lt (9 - x) 16) _ (le-ltb y 8 high))))
 ]
 
--- words of rotations in the mirror
-abbrev pub turned_i : List ℕ → List ℕ
-turned_i s = get_or s 4 0 ∷ get_or s 5 0 ∷ get_or s 2 0 ∷ get_or s 3 0 ∷ get_or s 0 0 ∷ get_or s 1 0 ∷ get_or s 6 0 ∷ get_or s 7 0 ∷ []
+-- words of rotations in the mirror: the place from which each one comes
+abbrev pub mirror_places : Piece → List ℕ
+mirror_places I = 4 ∷ 5 ∷ 2 ∷ 3 ∷ 0 ∷ 1 ∷ 6 ∷ 7 ∷ []
+mirror_places O = 6 ∷ 7 ∷ 4 ∷ 5 ∷ 2 ∷ 3 ∷ 0 ∷ 1 ∷ []
+mirror_places _ = 0 ∷ 1 ∷ 6 ∷ 7 ∷ 4 ∷ 5 ∷ 2 ∷ 3 ∷ []
 
-abbrev pub turned_o : List ℕ → List ℕ
-turned_o s = get_or s 6 0 ∷ get_or s 7 0 ∷ get_or s 4 0 ∷ get_or s 5 0 ∷ get_or s 2 0 ∷ get_or s 3 0 ∷ get_or s 0 0 ∷ get_or s 1 0 ∷ []
-
-abbrev pub turned_other : List ℕ → List ℕ
-turned_other s = get_or s 0 0 ∷ get_or s 1 0 ∷ get_or s 6 0 ∷ get_or s 7 0 ∷ get_or s 4 0 ∷ get_or s 5 0 ∷ get_or s 2 0 ∷ get_or s 3 0 ∷ []
+abbrev pub turned_words : Piece → List ℕ → List ℕ
+turned_words piece s = map (λ place. get_or s place 0) (mirror_places piece)
 
 abbrev pub AreTurned : Piece → List ℕ → List ℕ → Type 0
 AreTurned piece words s = (rotation : Rotation) (half : ℕ) → half < 2 → get_or words (2 * rotation_place rotation + half) 0 ≡ get_or s (2 * rotation_place (mirror_rotation piece rotation) + half) 0
 
-pub i_turned : (s : List ℕ) → AreTurned I (turned_i s) s
-i_turned s Spawn zero low = refl
-i_turned s Spawn (suc zero) low = refl
-i_turned s Right zero low = refl
-i_turned s Right (suc zero) low = refl
-i_turned s Reverse zero low = refl
-i_turned s Reverse (suc zero) low = refl
-i_turned s Left zero low = refl
-i_turned s Left (suc zero) low = refl
-i_turned s rotation (suc (suc half)) low = absurd (omega (arith, low))
+abbrev is_half : Piece → Rotation → ℕ → Bool
+is_half piece rotation half = get_or (mirror_places piece) (2 * rotation_place rotation + half) 0 == 2 * rotation_place (mirror_rotation piece rotation) + half
 
-pub o_turned : (s : List ℕ) → AreTurned O (turned_o s) s
-o_turned s Spawn zero low = refl
-o_turned s Spawn (suc zero) low = refl
-o_turned s Right zero low = refl
-o_turned s Right (suc zero) low = refl
-o_turned s Reverse zero low = refl
-o_turned s Reverse (suc zero) low = refl
-o_turned s Left zero low = refl
-o_turned s Left (suc zero) low = refl
-o_turned s rotation (suc (suc half)) low = absurd (omega (arith, low))
+each_half : (piece : Piece) (rotation : Rotation) → (is_half piece rotation 0 && is_half piece rotation 1) ≡ true
+each_half = each_state (λ p r. is_half p r 0 && is_half p r 1) refl
 
-t_turned : (s : List ℕ) → AreTurned T (turned_other s) s
-t_turned s Spawn zero low = refl
-t_turned s Spawn (suc zero) low = refl
-t_turned s Right zero low = refl
-t_turned s Right (suc zero) low = refl
-t_turned s Reverse zero low = refl
-t_turned s Reverse (suc zero) low = refl
-t_turned s Left zero low = refl
-t_turned s Left (suc zero) low = refl
-t_turned s rotation (suc (suc half)) low = absurd (omega (arith, low))
+eight_places : (piece : Piece) → length (mirror_places piece) ≡ 8
+eight_places piece = eqb-true _ _ (each_piece (λ p. length (mirror_places p) == 8) refl piece)
 
-other_turned : (piece : Piece) → (piece ≡ I → ⊥) → (piece ≡ O → ⊥) → (rotation : Rotation) → mirror_rotation piece rotation ≡ mirror_rotation T rotation
-other_turned I no_i no_o rotation = absurd (no_i refl)
-other_turned O no_i no_o rotation = absurd (no_o refl)
-other_turned L no_i no_o Spawn = refl
-other_turned L no_i no_o Right = refl
-other_turned L no_i no_o Reverse = refl
-other_turned L no_i no_o Left = refl
-other_turned Z no_i no_o Spawn = refl
-other_turned Z no_i no_o Right = refl
-other_turned Z no_i no_o Reverse = refl
-other_turned Z no_i no_o Left = refl
-other_turned T no_i no_o rotation = refl
-other_turned J no_i no_o Spawn = refl
-other_turned J no_i no_o Right = refl
-other_turned J no_i no_o Reverse = refl
-other_turned J no_i no_o Left = refl
-other_turned S no_i no_o Spawn = refl
-other_turned S no_i no_o Right = refl
-other_turned S no_i no_o Reverse = refl
-other_turned S no_i no_o Left = refl
+from_half : (piece : Piece) (rotation : Rotation) (half : ℕ) → half < 2 → get_or (mirror_places piece) (2 * rotation_place rotation + half) 0 ≡ 2 * rotation_place (mirror_rotation piece rotation) + half
+from_half piece rotation zero low = eqb-true _ _ (and_parts _ _ (each_half piece rotation)).0
+from_half piece rotation (suc zero) low = eqb-true _ _ (and_parts _ _ (each_half piece rotation)).1
+from_half piece rotation (suc (suc half)) low = absurd (omega (arith, low))
 
-pub others_turned : (piece : Piece) → (piece ≡ I → ⊥) → (piece ≡ O → ⊥) → (s : List ℕ) → AreTurned piece (turned_other s) s
-others_turned piece no_i no_o s rotation half low = t_turned s rotation half low ∙ ap (λ r. get_or s (2 * rotation_place r + half) 0) (sym (other_turned piece no_i no_o rotation))
+-- a piece that takes them from the same places as a kind
+pub words_turned : (piece kind : Piece) (s : List ℕ) → mirror_places piece ≡ mirror_places kind → AreTurned piece (turned_words kind s) s
+words_turned piece kind s same rotation half low =
+    get_or-map (λ place. get_or s place 0) (mirror_places kind) (2 * rotation_place rotation + half) 0 0 (omega (arith, low, eight_places kind, place_small rotation))
+    ∙ ap (λ places. get_or s (get_or places (2 * rotation_place rotation + half) 0) 0) (sym same)
+    ∙ ap (λ place. get_or s place 0) (from_half piece rotation half low)
+
+-- all kinds but I and O are turned alike
+pub other_places : (piece : Piece) → (piece ≡ I → ⊥) → (piece ≡ O → ⊥) → mirror_places piece ≡ mirror_places T
+other_places I no_i no_o = absurd (no_i refl)
+other_places L no_i no_o = refl
+other_places O no_i no_o = absurd (no_o refl)
+other_places Z no_i no_o = refl
+other_places T no_i no_o = refl
+other_places J no_i no_o = refl
+other_places S no_i no_o = refl
 
 -- so the pivots are
 where_true : (p q r : Bool) → (p ≡ true → q ≡ r) → (p && q) ≡ (p && r)

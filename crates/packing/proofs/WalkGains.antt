@@ -16,12 +16,12 @@ use Rattle.packing.specs.declared.pieces.TiledPieces.{TiledPieces}
 use Rattle.packing.specs.Empties.{without_placement}
 use Rattle.packing.specs.Spans.{IsFirst, forms_of}
 use Rattle.packing.specs.Stacks.{is_allowed, CanFill, Stacks}
-use Rattle.packing.specs.TiledPieces.{has_cell}
+use Rattle.packing.specs.TiledPieces.{has_cell, is_marked}
 use Rattle.packing.specs.Walks.{Finds, FindsBy, Gains, IsOver, IsPlaced, IsTurned, IsWhole, StacksBy, Takes, beside, itself, noted}
 use Rattle.packing.proofs.StackLemmas.{IsSmall}
 use Rattle.packing.proofs.FillLemmas.{one_back}
 use Rattle.packing.proofs.FirstCells.{one_over}
-use Rattle.packing.proofs.WalkLemmas.{gains_as, gains_then}
+use Rattle.packing.proofs.WalkLemmas.{gains_as, gains_known, gains_then}
 use Rattle.packing.proofs.WalkSteps.{found_by_stack, some_takes_it}
 
 abbrev Seven : (Piece → Option Placement → Type 0) → Option Placement → Type 0
@@ -69,6 +69,13 @@ turns_gain E left x y piece p0 p1 p2 p3 p4 ga gb gc gd =
 pub turned_is : (E left : Field) (x y : ℕ) (piece : Piece) (rotation : Rotation) (q : Placement) (found : Option Placement) → (q.piece ≡ piece) × (q.rotation ≡ rotation) → IsOver x y q →
     (t : IsTurned E left x y piece rotation found) → t.whole.placement ≡ q
 turned_is E left x y piece rotation q found (kind, turned) over t = one_over x y t.whole.placement q (t.whole.kind ∙ sym kind) (t.turned ∙ sym turned) t.whole.over over
+
+-- it was marked before
+pub turned_known : (E left : Field) (x y : ℕ) (piece : Piece) (rotation : Rotation) (q : Placement) (pieces : TiledPieces) → (q.piece ≡ piece) × (q.rotation ≡ rotation) → IsOver x y q →
+    is_marked pieces q ≡ true → Gains (noted false pieces) (noted false pieces) (IsTurned E left x y piece rotation) (IsWhole E left x y piece)
+unfolding noted
+turned_known E left x y piece rotation q pieces same over marked = gains_known _ _ _ (λ found t.
+    subst (λ found. noted false pieces found ≡ true) (sym (t.whole.is ∙ ap Some (turned_is E left x y piece rotation q found same over t))) marked)
 
 -- it leaves another set
 pub turned_leaves : (E left : Field) (x y : ℕ) (piece : Piece) (rotation : Rotation) (q : Placement) (found : Option Placement) → (q.piece ≡ piece) × (q.rotation ≡ rotation) → IsOver x y q →

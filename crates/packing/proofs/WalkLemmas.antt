@@ -26,12 +26,15 @@ use Rattle.packing.proofs.FillLemmas.{empty_is, one_back, fills_chosen}
 use Rattle.packing.proofs.FirstCells.{CellOf, cell_of}
 
 -- nothing is gained
-pub gains_none : (old : Option Placement → Bool) (Least Most : Option Placement → Type 0) → ((found : Option Placement) → Least found → ⊥) → Gains old old Least Most
-gains_none old Least Most none = record {
+pub gains_known : (old : Option Placement → Bool) (Least Most : Option Placement → Type 0) → ((found : Option Placement) → Least found → old found ≡ true) → Gains old old Least Most
+gains_known old Least Most known = record {
   kept = λ found has. has;
-  gained = λ found least. absurd (none found least);
+  gained = known;
   only = λ found has hasnt. absurd (both_ways _ hasnt has);
 }
+
+pub gains_none : (old : Option Placement → Bool) (Least Most : Option Placement → Type 0) → ((found : Option Placement) → Least found → ⊥) → Gains old old Least Most
+gains_none old Least Most none = gains_known old Least Most (λ found least. absurd (none found least))
 
 -- one gain and then another one, of which each says whether there is a tiling
 pub gains_then : (a b c : Bool) (p q r : TiledPieces) (Least More Most : Option Placement → Type 0) →

@@ -12,18 +12,20 @@ use Rattle.srs.specs.declared.placement.Placement.{Placement}
 use Rattle.srs.specs.Cells.{Cell, cells_of}
 use Rattle.srs.specs.SameCells.{is_among}
 use Rattle.srs.proofs.CallerLemmas.{is_among-all, list_all-from_is_among}
-use Rattle.prune.specs.Tiling.{Supply, is_empty_below, supply_in}
+use Rattle.prune.specs.Tiling.{Supply, is_empty_below}
 use Rattle.prune.specs.Laws.{with_one}
 use Rattle.prune.specs.OnePart.{less_one}
 use Rattle.prune.proofs.CallerLemmas.{placed, placed_generalized}
 use Rattle.packing.specs.declared.empties.Empties.{Empties}
 use Rattle.packing.specs.declared.pieces.TiledPieces.{TiledPieces}
+use Rattle.packing.specs.declared.supply.SupplyWord.{SupplyWord}
 use Rattle.packing.specs.declared.walked.Outcome.{Outcome}
 use Rattle.packing.specs.declared.walked.Outcome.TheVariants.{NoTiling, Walked as InWalk}
 use Rattle.packing.specs.declared.walked.Walked.{Walked}
 use Rattle.packing.specs.Empties.{all_but, empty_cells, without_placement}
 use Rattle.packing.specs.Spans.{HasNoCell, IsFirst}
 use Rattle.packing.specs.Stacks.{is_allowed, CanFill, Stacks, in_stack, without_stack}
+use Rattle.packing.specs.SupplyWords.{supply_of}
 use Rattle.packing.specs.TiledPieces.{has_cell, is_marked, StandsInTiling}
 use Rattle.packing.specs.Walks.{CameTo, Finds, FindsBy, Gains, IsPlaced, IsTrueIn, IsWhole, StacksBy, Takes, beside, itself, noted}
 use Rattle.packing.proofs.StackLemmas.{IsSmall, Chosen}
@@ -250,25 +252,25 @@ one_noted old new q marked more only = record { kept = kept; gained = λ found i
     one (Some r) has hasnt = ap Some (only r has hasnt)
 
 -- what is known of a question
-pub known_gains : (walk : ℕ) (pieces : TiledPieces) (walked : Walked) (supply : List ℕ) (E : Field) (answer : Bool) → IsSmall 8 E → IsTrueIn walk pieces walked →
+pub known_gains : (walk : ℕ) (pieces : TiledPieces) (walked : Walked) (supply : SupplyWord) (E : Field) (answer : Bool) → IsSmall 8 E → IsTrueIn walk pieces walked →
     (empty_cells walked.cells ≡ E) × (walked.supply ≡ supply) → (answer ≡ false → walked.outcome ≡ NoTiling) → (answer ≡ true → walked.outcome ≡ InWalk walk) →
-    Gains (noted false pieces) (noted answer pieces) (Finds (supply_in supply) E) (Finds (supply_in supply) E)
+    Gains (noted false pieces) (noted answer pieces) (Finds (supply_of supply) E) (Finds (supply_of supply) E)
 known_gains walk pieces walked supply E false small is (cells, same) none found =
-    gains_nothing pieces (supply_in supply) E small (subst (λ (s : List ℕ). CanFill 8 (supply_in s) E → ⊥) same (subst (λ (G : Field). CanFill 8 (supply_in walked.supply) G → ⊥) cells (is.0 (none refl))))
+    gains_nothing pieces (supply_of supply) E small (subst (λ (s : SupplyWord). CanFill 8 (supply_of s) E → ⊥) same (subst (λ (G : Field). CanFill 8 (supply_of walked.supply) G → ⊥) cells (is.0 (none refl))))
 known_gains walk pieces walked supply E true small is (cells, same) none found =
     let told = is.2 (found refl) in
-    subst (λ (s : List ℕ). Gains (noted false pieces) (noted true pieces) (Finds (supply_in s) E) (Finds (supply_in s) E)) same
-    (subst (λ (G : Field). Gains (noted false pieces) (noted true pieces) (Finds (supply_in walked.supply) G) (Finds (supply_in walked.supply) G)) cells
-    (gains_tiled pieces (supply_in walked.supply) (empty_cells walked.cells) ((tiling_decided (all_but (empty_cells walked.cells)) 8 (supply_in walked.supply)).0 told.0) told.1))
+    subst (λ (s : SupplyWord). Gains (noted false pieces) (noted true pieces) (Finds (supply_of s) E) (Finds (supply_of s) E)) same
+    (subst (λ (G : Field). Gains (noted false pieces) (noted true pieces) (Finds (supply_of walked.supply) G) (Finds (supply_of walked.supply) G)) cells
+    (gains_tiled pieces (supply_of walked.supply) (empty_cells walked.cells) ((tiling_decided (all_but (empty_cells walked.cells)) 8 (supply_of walked.supply)).0 told.0) told.1))
 
 -- what is kept of it
-pub came_true : (walk : ℕ) (old new : TiledPieces) (walked : Walked) (cells : Empties) (supply : List ℕ) (answer : Bool) → walked.cells ≡ cells → walked.supply ≡ supply →
-    Gains (noted false old) (noted answer new) (Finds (supply_in supply) (empty_cells cells)) (Finds (supply_in supply) (empty_cells cells)) →
+pub came_true : (walk : ℕ) (old new : TiledPieces) (walked : Walked) (cells : Empties) (supply : SupplyWord) (answer : Bool) → walked.cells ≡ cells → walked.supply ≡ supply →
+    Gains (noted false old) (noted answer new) (Finds (supply_of supply) (empty_cells cells)) (Finds (supply_of supply) (empty_cells cells)) →
     (answer ≡ false → walked.outcome ≡ NoTiling) → (answer ≡ true → walked.outcome ≡ InWalk walk) → IsTrueIn walk new walked
 came_true walk old new walked cells supply answer same_cells same_supply gains none found =
-    subst (λ (e : Empties). CameTo walk new (supply_in walked.supply) (empty_cells e) walked.outcome) (sym same_cells)
-    (subst (λ (s : List ℕ). CameTo walk new (supply_in s) (empty_cells cells) walked.outcome) (sym same_supply)
-    (came_of walk old new (supply_in supply) (empty_cells cells) answer walked.outcome gains none found))
+    subst (λ (e : Empties). CameTo walk new (supply_of walked.supply) (empty_cells e) walked.outcome) (sym same_cells)
+    (subst (λ (s : SupplyWord). CameTo walk new (supply_of s) (empty_cells cells) walked.outcome) (sym same_supply)
+    (came_of walk old new (supply_of supply) (empty_cells cells) answer walked.outcome gains none found))
 
 -- the same question at each place
 pub each_place : (n : ℕ) (walked : Walked) (items : List Walked) (walk : ℕ) (pieces : TiledPieces) → items ≡ replicate n walked → IsTrueIn walk pieces walked → (length items ≡ n) × All (IsTrueIn walk pieces) items

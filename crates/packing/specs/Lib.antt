@@ -3,6 +3,7 @@ pub mod Empties
 pub mod TiledPieces
 -- What serves proofs alone
 pub mod Pivots
+pub mod SupplyWords
 pub mod Spans
 pub mod ShiftedCells
 pub mod ShapeBits

@@ -8,7 +8,7 @@ use Rattle.srs.specs.declared.rotation.Rotation.{Rotation}
 use Rattle.srs.specs.declared.rotation.Rotation.TheVariants.{Spawn, Right, Reverse, Left}
 use Rattle.srs.specs.declared.placement.Placement.{Placement}
 use Rattle.srs.specs.Cells.{Cell, minus, moved, pivot_of, cells_of}
-use Rattle.prune.specs.Tiling.{Supply, supply_in}
+use Rattle.prune.specs.Tiling.{Supply}
 use Rattle.prune.specs.OnePart.{less_one}
 use Rattle.packing.specs.declared.cover.Cover.{Cover}
 use Rattle.packing.specs.declared.pieces.TiledPieces.{TiledPieces}
@@ -22,6 +22,7 @@ use Rattle.packing.specs.HasTiling.{has_tiling}
 use Rattle.packing.specs.ShiftedCells.{shifted_cells}
 use Rattle.packing.specs.Spans.{forms_of}
 use Rattle.packing.specs.Stacks.{CanFill, Stacks, is_allowed}
+use Rattle.packing.specs.SupplyWords.{supply_of}
 use Rattle.packing.specs.TiledPieces.{has_cell, is_marked, StandsInTiling}
 
 -- there is a tiling; or a placement stands in one
@@ -88,7 +89,7 @@ pub data FindsBy (supply : Supply) (E : Field) (x y : ℕ) (piece : Piece) (left
 
 abbrev pub FindsWith : Cover → Piece → Field → Option Placement → Type 0
 FindsWith cover piece left found =
-    FindsBy (supply_in cover.supply) (shifted_cells cover.cells) cover.cells.x cover.y piece left found
+    FindsBy (supply_of cover.supply) (shifted_cells cover.cells) cover.cells.x cover.y piece left found
 
 -- spans are taken from a set, and something is found with what they leave
 abbrev pub StacksWith : Cover → Piece → Shifted → ℕ → List Span → Option Placement → Type 0
@@ -104,7 +105,7 @@ pub record StacksBy (supply : Supply) (E : Field) (x y : ℕ) (piece : Piece) (p
 
 abbrev pub StacksAt : Cover → Piece → ℕ → Option Placement → Type 0
 StacksAt cover piece place found =
-    StacksBy (supply_in cover.supply) (shifted_cells cover.cells) cover.cells.x cover.y piece place found
+    StacksBy (supply_of cover.supply) (shifted_cells cover.cells) cover.cells.x cover.y piece place found
 
 -- a piece of this kind has the first cell
 pub record Takes (supply : Supply) (E : Field) (x y : ℕ) (piece : Piece) (found : Option Placement) : Type 0 where
@@ -121,4 +122,4 @@ CameTo walk pieces supply E outcome = (outcome ≡ NoTiling → CanFill 8 supply
     × ((found : Option Placement) → Finds supply E found → noted true pieces found ≡ true))
 
 abbrev pub IsTrueIn : ℕ → TiledPieces → Walked → Type 0
-IsTrueIn walk pieces walked = CameTo walk pieces (supply_in walked.supply) (empty_cells walked.cells) walked.outcome
+IsTrueIn walk pieces walked = CameTo walk pieces (supply_of walked.supply) (empty_cells walked.cells) walked.outcome

@@ -1,15 +1,15 @@
 // The cells of a set column by column: quick tests that show that it has no tiling.
 ghost use Rattle.std.specs.Prelude.{◌≡◌, ◌≤◌, ◌↔◌, ◌+◌, ◌*◌, IsTrue, sum_by};
 ghost use Rattle.std.specs.List.{range_with_len};
-ghost use Rattle.prune.specs.Tiling.{supply_in, Supply, Tiling};
+ghost use Rattle.prune.specs.Tiling.{Supply, Tiling};
 ghost use Rattle.prune.specs.Counts.{column_empties, run_empties};
 ghost use Rattle.prune.specs.Walls.{IsWall, HasUnevenPart};
 ghost use Rattle.packing.specs.Empties.{all_but, empty_cells};
+ghost use Rattle.packing.specs.SupplyWords.{supply_of};
 
 use crate::empties::Empties;
 use crate::span::Span;
-use crate::supply::count_of;
-use prune::pieces;
+use crate::supply::SupplyWord;
 use srs::Piece;
 
 impl Empties {
@@ -67,19 +67,19 @@ impl Empties {
     /// Whether parity shows that there is no tiling: the supply has no T, the cells would use it up, and the number of
     /// cells in even columns is even while that of L and J pieces together is odd, or the other way round.
     #[inline(always)]
-    pub(crate) fn has_wrong_parity(&self, supply: &[u8; 7]) -> bool
-        ensures { IsTrue result → Tiling (all_but (empty_cells self.now)) 8 (supply_in supply.now) → ⊥ }
+    pub(crate) fn has_wrong_parity(&self, supply: SupplyWord) -> bool
+        ensures { IsTrue result → Tiling (all_but (empty_cells self.now)) 8 (supply_of supply) → ⊥ }
     {
-        if count_of(supply, Piece::T) > 0 {
+        if supply.count_of(Piece::T) > 0 {
             return false;
         }
-        let odd_kinds = count_of(supply, Piece::L) % 2 + count_of(supply, Piece::J) % 2;
+        let odd_kinds = supply.count_of(Piece::L) % 2 + supply.count_of(Piece::J) % 2;
         let even_columns = self.in_five_columns(0);
         if (even_columns + odd_kinds) % 2 == 0 {
             return false;
         }
         let cells = even_columns + self.in_five_columns(1);
-        4 * pieces(supply) == u16::from(cells)
+        4 * supply.pieces() == u16::from(cells)
     }
 
     /// How many cells every second column has, from column `first` on, which is 0 or 1.

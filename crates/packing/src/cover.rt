@@ -2,6 +2,7 @@
 ghost use Rattle.std.specs.Prelude.{◌≤◌};
 
 use crate::shifted::Shifted;
+use crate::supply::SupplyWord;
 
 /// A set of cells, of whose first one a piece is to cover, and the supply for what it leaves.
 #[derive(Clone, Copy)]
@@ -10,6 +11,6 @@ pub(crate) struct Cover {
     pub(crate) cells: Shifted,
     /// The row of the first cell.
     pub(crate) y: u8,
-    pub(crate) supply: [u8; 7],
+    pub(crate) supply: SupplyWord,
     ghost row: { y ≤ 7 },
 }

@@ -7,11 +7,13 @@ ghost use Rattle.prune.specs.Tiling.{supply_in, Tiling};
 ghost use Rattle.packing.specs.Empties.{all_but, empty_cells, without_placement};
 ghost use Rattle.packing.specs.HasTiling.{has_tiling};
 ghost use Rattle.packing.specs.Pivots.{has_pivot};
+ghost use Rattle.packing.specs.SupplyWords.{supply_of};
 
 use crate::decided;
 use crate::empties::Empties;
 use crate::pivots::Pivots;
 use crate::store::TilingStore;
+use crate::supply::SupplyWord;
 use pc_outside::NoMemory;
 use srs::{Piece, Placement};
 use std::alloc::Global;
@@ -23,26 +25,26 @@ const PLACES: usize = 32768;
 #[derive(Clone, Copy)]
 struct Remembered {
     cells: Empties,
-    supply: [u8; 7],
+    supply: SupplyWord,
     piece: Piece,
     live: Pivots,
     dead: Pivots,
     ghost live_is_true: { (q : Placement) → q.piece ≡ piece → has_pivot live q ≡ true
-        → has_tiling (all_but (without_placement (empty_cells cells) q)) 8 (supply_in supply) ≡ true },
+        → has_tiling (all_but (without_placement (empty_cells cells) q)) 8 (supply_of supply) ≡ true },
     ghost dead_is_true: { (q : Placement) → q.piece ≡ piece → has_pivot dead q ≡ true
-        → has_tiling (all_but (without_placement (empty_cells cells) q)) 8 (supply_in supply) ≡ false },
+        → has_tiling (all_but (without_placement (empty_cells cells) q)) 8 (supply_of supply) ≡ false },
 }
 
 impl Remembered {
     /// A memory in which nothing was asked yet.
-    fn nothing(cells: &Empties, supply: &[u8; 7], piece: Piece) -> Remembered
+    fn nothing(cells: &Empties, supply: SupplyWord, piece: Piece) -> Remembered
         ensures cells { result.cells ≡ cells.now }
-        ensures supply { result.supply ≡ supply.now }
+        ensures supply { result.supply ≡ supply }
         ensures piece { result.piece ≡ piece }
     {
         Remembered {
             cells: *cells,
-            supply: *supply,
+            supply,
             piece,
             live: Pivots::none(),
             dead: Pivots::none(),
@@ -51,19 +53,21 @@ impl Remembered {
 
     /// Whether this is about these cells, this supply and this piece.
     #[inline(always)]
-    fn is_about(&self, cells: &Empties, supply: &[u8; 7], piece: Piece) -> bool
+    fn is_about(&self, cells: &Empties, supply: SupplyWord, piece: Piece) -> bool
         ensures cells { IsTrue result → empty_cells self.now.cells ≡ empty_cells cells.now }
-        ensures supply { IsTrue result → self.now.supply ≡ supply.now }
+        ensures supply { IsTrue result → self.now.supply ≡ supply }
         ensures piece { IsTrue result → self.now.piece ≡ piece }
     {
-        self.cells.is_equal(cells) && self.supply == *supply && self.piece.code() == piece.code()
+        self.cells.is_equal(cells)
+            && self.supply.is_equal(supply)
+            && self.piece.code() == piece.code()
     }
 
     /// Whether a placement leaves a tiling, if that was asked before.
     #[inline(always)]
-    fn answer_to(&self, cells: &Empties, supply: &[u8; 7], placement: &Placement) -> Option<bool>
+    fn answer_to(&self, cells: &Empties, supply: SupplyWord, placement: &Placement) -> Option<bool>
         ensures { IfSome result (λ answer. answer ≡ has_tiling
-            (all_but (without_placement (empty_cells cells.now) placement.now)) 8 (supply_in supply.now)) }
+            (all_but (without_placement (empty_cells cells.now) placement.now)) 8 (supply_of supply)) }
     {
         if !self.is_about(cells, supply, placement.piece) {
             return None;
@@ -83,7 +87,7 @@ impl Remembered {
         requires row { placement.now.y ≤ 7 }
         requires piece { placement.now.piece ≡ self.now.piece }
         requires answer { answer ≡ has_tiling
-            (all_but (without_placement (empty_cells self.now.cells) placement.now)) 8 (supply_in self.now.supply) }
+            (all_but (without_placement (empty_cells self.now.cells) placement.now)) 8 (supply_of self.now.supply) }
     {
         let mut more = *self;
         if answer {
@@ -98,7 +102,7 @@ impl Remembered {
 /// The index at which a memory of this size keeps a question about a piece. For the same cells and the same supply the
 /// seven kinds have different indices: the first seven multiples of 4679 differ, and each is less than 32,768.
 #[inline(always)]
-fn place_of(cells: &Empties, supply: &[u8; 7], piece: Piece, count: usize) -> usize
+fn place_of(cells: &Empties, supply: SupplyWord, piece: Piece, count: usize) -> usize
     requires { 0 < count }
     ensures { result < count }
 {
@@ -116,7 +120,7 @@ pub struct PlaceMemory {
 impl PlaceMemory {
     /// An empty memory. `NoMemory` if there is not enough memory.
     pub fn new(alloc: Global) -> Result<PlaceMemory, NoMemory> {
-        let nothing = Remembered::nothing(&Empties::empty(), &[0; 7], Piece::I);
+        let nothing = Remembered::nothing(&Empties::empty(), SupplyWord::new(&[0; 7]), Piece::I);
         let sets = vec![in alloc; nothing; PLACES]?;
         Ok(PlaceMemory { sets })
     }
@@ -135,14 +139,15 @@ impl PlaceMemory {
         ensures { result ≡ has_tiling (all_but (without_placement (empty_cells cells.now) placement.now)) 8
             (supply_in supply.now) }
     {
-        let place = place_of(cells, supply, placement.piece, self.sets.len());
-        if let Some(answer) = self.sets[place].answer_to(cells, supply, placement) {
+        let word = SupplyWord::new(supply);
+        let place = place_of(cells, word, placement.piece, self.sets.len());
+        if let Some(answer) = self.sets[place].answer_to(cells, word, placement) {
             return answer;
         }
         let answer = store.has_tiling_near(&cells.without(placement), placement.x, supply);
         if placement.y < 8 {
             self.sets[place] = self
-                .known(place, cells, supply, placement)
+                .known(place, cells, word, placement)
                 .with(placement, answer);
         }
         answer
@@ -156,8 +161,9 @@ impl PlaceMemory {
             → cells_of_words result (rotation_place q.rotation) q.x q.y ≡ true
             → has_tiling (all_but (without_placement (empty_cells cells.now) q)) 8 (supply_in supply.now) ≡ false }
     {
-        let known = &self.sets[place_of(cells, supply, piece, self.sets.len())];
-        if known.is_about(cells, supply, piece) {
+        let word = SupplyWord::new(supply);
+        let known = &self.sets[place_of(cells, word, piece, self.sets.len())];
+        if known.is_about(cells, word, piece) {
             return known.dead.words();
         }
         [0; 8]
@@ -168,12 +174,12 @@ impl PlaceMemory {
         &self,
         place: usize,
         cells: &Empties,
-        supply: &[u8; 7],
+        supply: SupplyWord,
         placement: &Placement,
     ) -> Remembered
         requires { place < 32768 }
         ensures cells { empty_cells result.cells ≡ empty_cells cells.now }
-        ensures supply { result.supply ≡ supply.now }
+        ensures supply { result.supply ≡ supply }
         ensures piece { result.piece ≡ placement.now.piece }
     {
         let known = &self.sets[place];

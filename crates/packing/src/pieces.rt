@@ -26,6 +26,7 @@ impl TiledPieces {
     }
 
     /// Whether a placement is one of these.
+    #[inline(always)]
     pub fn has(&self, placement: &Placement) -> bool
         ensures { result ≡ is_marked self.now placement.now }
     {

@@ -6,12 +6,13 @@ ghost use Rattle.prune.specs.Tiling.{supply_in, Tiling};
 ghost use Rattle.packing.specs.Empties.{empty_cells, all_but};
 ghost use Rattle.packing.specs.Spans.{has_first, IsFirst};
 ghost use Rattle.packing.specs.Stacks.{is_allowed, StacksOver, StacksPiece, TakesPiece};
+ghost use Rattle.packing.specs.SupplyWords.{supply_of};
 
 use crate::decided::{Decided, place_of};
 use crate::empties::Empties;
 use crate::rows::{has_row, lowest_row, rows_from, rows_without, without_row};
 use crate::span::Span;
-use crate::supply::{count_of, without_one};
+use crate::supply::SupplyWord;
 use Span::{AllFour, First, FirstThree, FirstTwo, Second, SecondTwo, Third};
 use srs::Piece;
 
@@ -53,13 +54,13 @@ impl Empties {
         if self.has_uneven_part() {
             return false;
         }
-        self.decide(supply, &mut [])
+        self.decide(SupplyWord::new(supply), &mut [])
     }
 
     /// The same. It uses the answers in `known`, and adds its own.
     #[cycle(search)]
-    pub(crate) fn decide(&self, supply: &[u8; 7], known: &mut [Decided]) -> bool
-        ensures { IsTrue result ↔ Tiling (all_but (empty_cells self.now)) 8 (supply_in supply.now) }
+    pub(crate) fn decide(&self, supply: SupplyWord, known: &mut [Decided]) -> bool
+        ensures { IsTrue result ↔ Tiling (all_but (empty_cells self.now)) 8 (supply_of supply) }
     {
         let Some((x, y)) = self.first() else {
             return true;
@@ -70,9 +71,9 @@ impl Empties {
     /// The same for a set that has cells in column 0; `y` is the row of the lowest of them.
     #[cycle(search)]
     #[inline(always)]
-    fn recall(&self, y: u8, supply: &[u8; 7], known: &mut [Decided]) -> bool
+    fn recall(&self, y: u8, supply: SupplyWord, known: &mut [Decided]) -> bool
         requires { IsFirst (empty_cells self.now) 0 y }
-        ensures { IsTrue result ↔ Tiling (all_but (empty_cells self.now)) 8 (supply_in supply.now) }
+        ensures { IsTrue result ↔ Tiling (all_but (empty_cells self.now)) 8 (supply_of supply) }
     {
         if known.is_empty() || self.is_few() {
             return self.covers(y, supply, known);
@@ -85,15 +86,15 @@ impl Empties {
             return answer;
         }
         let answer = self.covers(y, supply, known);
-        known[place] = Decided::new(*self, *supply, answer);
+        known[place] = Decided::new(*self, supply, answer);
         answer
     }
 
     /// Whether some piece of the supply can cover the first cell so that the others fill what is left.
     #[cycle(search)]
-    fn covers(&self, y: u8, supply: &[u8; 7], known: &mut [Decided]) -> bool
+    fn covers(&self, y: u8, supply: SupplyWord, known: &mut [Decided]) -> bool
         requires { IsFirst (empty_cells self.now) 0 y }
-        ensures { IsTrue result ↔ Tiling (all_but (empty_cells self.now)) 8 (supply_in supply.now) }
+        ensures { IsTrue result ↔ Tiling (all_but (empty_cells self.now)) 8 (supply_of supply) }
     {
         any_of!(
             self.takes(y, Piece::I, supply, known),
@@ -109,25 +110,25 @@ impl Empties {
     /// Whether the supply has a piece of this kind that can cover the first cell so that the others fill what is left.
     #[cycle(search)]
     #[inline(always)]
-    fn takes(&self, y: u8, piece: Piece, supply: &[u8; 7], known: &mut [Decided]) -> bool
+    fn takes(&self, y: u8, piece: Piece, supply: SupplyWord, known: &mut [Decided]) -> bool
         requires { y ≤ 7 }
         ensures { IsTrue result
-            ↔ TakesPiece (supply_in supply.now) (empty_cells self.now) 0 y piece }
+            ↔ TakesPiece (supply_of supply) (empty_cells self.now) 0 y piece }
     {
-        if count_of(supply, piece) == 0 {
+        if supply.count_of(piece) == 0 {
             return false;
         }
-        let left = without_one(supply, piece);
-        self.stacks_piece(y, piece, &left, known)
+        let left = supply.without_one(piece);
+        self.stacks_piece(y, piece, left, known)
     }
 
     /// Whether a piece of this kind can cover the first cell so that the supply fills what is left.
     #[cycle(search)]
     #[inline(always)]
-    fn stacks_piece(&self, y: u8, piece: Piece, supply: &[u8; 7], known: &mut [Decided]) -> bool
+    fn stacks_piece(&self, y: u8, piece: Piece, supply: SupplyWord, known: &mut [Decided]) -> bool
         requires { y ≤ 7 }
         ensures { IsTrue result
-            ↔ StacksPiece (supply_in supply.now) (empty_cells self.now) 0 y piece }
+            ↔ StacksPiece (supply_of supply) (empty_cells self.now) 0 y piece }
     {
         match piece {
             Piece::I => self.stacks_i(y, supply, known),
@@ -142,10 +143,10 @@ impl Empties {
 
     /// Whether an I can cover the first cell so that the supply fills what is left.
     #[cycle(search)]
-    fn stacks_i(&self, y: u8, supply: &[u8; 7], known: &mut [Decided]) -> bool
+    fn stacks_i(&self, y: u8, supply: SupplyWord, known: &mut [Decided]) -> bool
         requires { y ≤ 7 }
         ensures { IsTrue result
-            ↔ StacksPiece (supply_in supply.now) (empty_cells self.now) 0 y I }
+            ↔ StacksPiece (supply_of supply) (empty_cells self.now) 0 y I }
     {
         self.first_one(y, AllFour, supply, known)
             || self.first_four(y, First, First, First, First, supply, known)
@@ -153,10 +154,10 @@ impl Empties {
 
     /// Whether an L can cover the first cell so that the supply fills what is left.
     #[cycle(search)]
-    fn stacks_l(&self, y: u8, supply: &[u8; 7], known: &mut [Decided]) -> bool
+    fn stacks_l(&self, y: u8, supply: SupplyWord, known: &mut [Decided]) -> bool
         requires { y ≤ 7 }
         ensures { IsTrue result
-            ↔ StacksPiece (supply_in supply.now) (empty_cells self.now) 0 y L }
+            ↔ StacksPiece (supply_of supply) (empty_cells self.now) 0 y L }
     {
         any_of!(
             self.first_two(y, FirstThree, Third, supply, known),
@@ -168,20 +169,20 @@ impl Empties {
 
     /// Whether an O can cover the first cell so that the supply fills what is left.
     #[cycle(search)]
-    fn stacks_o(&self, y: u8, supply: &[u8; 7], known: &mut [Decided]) -> bool
+    fn stacks_o(&self, y: u8, supply: SupplyWord, known: &mut [Decided]) -> bool
         requires { y ≤ 7 }
         ensures { IsTrue result
-            ↔ StacksPiece (supply_in supply.now) (empty_cells self.now) 0 y O }
+            ↔ StacksPiece (supply_of supply) (empty_cells self.now) 0 y O }
     {
         self.first_two(y, FirstTwo, FirstTwo, supply, known)
     }
 
     /// Whether a Z can cover the first cell so that the supply fills what is left.
     #[cycle(search)]
-    fn stacks_z(&self, y: u8, supply: &[u8; 7], known: &mut [Decided]) -> bool
+    fn stacks_z(&self, y: u8, supply: SupplyWord, known: &mut [Decided]) -> bool
         requires { y ≤ 7 }
         ensures { IsTrue result
-            ↔ StacksPiece (supply_in supply.now) (empty_cells self.now) 0 y Z }
+            ↔ StacksPiece (supply_of supply) (empty_cells self.now) 0 y Z }
     {
         self.stacks_two(y, 0, SecondTwo, FirstTwo, supply, known)
             || self.first_three(y, First, FirstTwo, Second, supply, known)
@@ -189,10 +190,10 @@ impl Empties {
 
     /// Whether a T can cover the first cell so that the supply fills what is left.
     #[cycle(search)]
-    fn stacks_t(&self, y: u8, supply: &[u8; 7], known: &mut [Decided]) -> bool
+    fn stacks_t(&self, y: u8, supply: SupplyWord, known: &mut [Decided]) -> bool
         requires { y ≤ 7 }
         ensures { IsTrue result
-            ↔ StacksPiece (supply_in supply.now) (empty_cells self.now) 0 y T }
+            ↔ StacksPiece (supply_of supply) (empty_cells self.now) 0 y T }
     {
         any_of!(
             self.first_two(y, FirstThree, Second, supply, known),
@@ -204,10 +205,10 @@ impl Empties {
 
     /// Whether a J can cover the first cell so that the supply fills what is left.
     #[cycle(search)]
-    fn stacks_j(&self, y: u8, supply: &[u8; 7], known: &mut [Decided]) -> bool
+    fn stacks_j(&self, y: u8, supply: SupplyWord, known: &mut [Decided]) -> bool
         requires { y ≤ 7 }
         ensures { IsTrue result
-            ↔ StacksPiece (supply_in supply.now) (empty_cells self.now) 0 y J }
+            ↔ StacksPiece (supply_of supply) (empty_cells self.now) 0 y J }
     {
         any_of!(
             self.first_two(y, FirstThree, First, supply, known),
@@ -219,10 +220,10 @@ impl Empties {
 
     /// Whether an S can cover the first cell so that the supply fills what is left.
     #[cycle(search)]
-    fn stacks_s(&self, y: u8, supply: &[u8; 7], known: &mut [Decided]) -> bool
+    fn stacks_s(&self, y: u8, supply: SupplyWord, known: &mut [Decided]) -> bool
         requires { y ≤ 7 }
         ensures { IsTrue result
-            ↔ StacksPiece (supply_in supply.now) (empty_cells self.now) 0 y S }
+            ↔ StacksPiece (supply_of supply) (empty_cells self.now) 0 y S }
     {
         self.first_two(y, FirstTwo, SecondTwo, supply, known)
             || self.stacks_three(y, 0, Second, FirstTwo, First, supply, known)
@@ -231,11 +232,18 @@ impl Empties {
     /// Whether a span in a row from `floor` on can cover the first cell so that the supply fills what is left.
     #[cycle(search)]
     #[inline(always)]
-    fn stacks_one(&self, y: u8, floor: u8, a: Span, supply: &[u8; 7], known: &mut [Decided]) -> bool
+    fn stacks_one(
+        &self,
+        y: u8,
+        floor: u8,
+        a: Span,
+        supply: SupplyWord,
+        known: &mut [Decided],
+    ) -> bool
         requires row { y ≤ 7 }
         requires start { floor ≤ 8 }
         ensures { IsTrue result
-            ↔ StacksOver (supply_in supply.now) (empty_cells self.now) 0 y floor (a ∷ []) }
+            ↔ StacksOver (supply_of supply) (empty_cells self.now) 0 y floor (a ∷ []) }
     {
         some_row!(self, y, floor, a, rest, row => rest.decide(supply, known))
     }
@@ -249,13 +257,13 @@ impl Empties {
         floor: u8,
         a: Span,
         b: Span,
-        supply: &[u8; 7],
+        supply: SupplyWord,
         known: &mut [Decided],
     ) -> bool
         requires row { y ≤ 7 }
         requires start { floor ≤ 8 }
         ensures { IsTrue result
-            ↔ StacksOver (supply_in supply.now) (empty_cells self.now) 0 y floor (a ∷ b ∷ []) }
+            ↔ StacksOver (supply_of supply) (empty_cells self.now) 0 y floor (a ∷ b ∷ []) }
     {
         some_row!(self, y, floor, a, rest, row => rest.stacks_one(y, row + 1, b, supply, known))
     }
@@ -270,13 +278,13 @@ impl Empties {
         a: Span,
         b: Span,
         c: Span,
-        supply: &[u8; 7],
+        supply: SupplyWord,
         known: &mut [Decided],
     ) -> bool
         requires row { y ≤ 7 }
         requires start { floor ≤ 8 }
         ensures { IsTrue result
-            ↔ StacksOver (supply_in supply.now) (empty_cells self.now) 0 y floor (a ∷ b ∷ c ∷ []) }
+            ↔ StacksOver (supply_of supply) (empty_cells self.now) 0 y floor (a ∷ b ∷ c ∷ []) }
     {
         some_row!(self, y, floor, a, rest, row => rest.stacks_two(y, row + 1, b, c, supply, known))
     }
@@ -285,11 +293,11 @@ impl Empties {
     /// left.
     #[cycle(search)]
     #[inline(always)]
-    fn first_one(&self, y: u8, a: Span, supply: &[u8; 7], known: &mut [Decided]) -> bool
+    fn first_one(&self, y: u8, a: Span, supply: SupplyWord, known: &mut [Decided]) -> bool
         requires row { y ≤ 7 }
         requires first { has_first a ≡ true }
         ensures { IsTrue result
-            ↔ StacksOver (supply_in supply.now) (empty_cells self.now) 0 y 0 (a ∷ []) }
+            ↔ StacksOver (supply_of supply) (empty_cells self.now) 0 y 0 (a ∷ []) }
     {
         if !has_row(self.rows_with(0, a), y) {
             return false;
@@ -301,11 +309,11 @@ impl Empties {
     /// The same for such a span and one above it.
     #[cycle(search)]
     #[inline(always)]
-    fn first_two(&self, y: u8, a: Span, b: Span, supply: &[u8; 7], known: &mut [Decided]) -> bool
+    fn first_two(&self, y: u8, a: Span, b: Span, supply: SupplyWord, known: &mut [Decided]) -> bool
         requires row { y ≤ 7 }
         requires first { has_first a ≡ true }
         ensures { IsTrue result
-            ↔ StacksOver (supply_in supply.now) (empty_cells self.now) 0 y 0 (a ∷ b ∷ []) }
+            ↔ StacksOver (supply_of supply) (empty_cells self.now) 0 y 0 (a ∷ b ∷ []) }
     {
         if !has_row(self.rows_with(0, a), y) {
             return false;
@@ -323,13 +331,13 @@ impl Empties {
         a: Span,
         b: Span,
         c: Span,
-        supply: &[u8; 7],
+        supply: SupplyWord,
         known: &mut [Decided],
     ) -> bool
         requires row { y ≤ 7 }
         requires first { has_first a ≡ true }
         ensures { IsTrue result
-            ↔ StacksOver (supply_in supply.now) (empty_cells self.now) 0 y 0 (a ∷ b ∷ c ∷ []) }
+            ↔ StacksOver (supply_of supply) (empty_cells self.now) 0 y 0 (a ∷ b ∷ c ∷ []) }
     {
         if !has_row(self.rows_with(0, a), y) {
             return false;
@@ -348,13 +356,13 @@ impl Empties {
         b: Span,
         c: Span,
         d: Span,
-        supply: &[u8; 7],
+        supply: SupplyWord,
         known: &mut [Decided],
     ) -> bool
         requires row { y ≤ 7 }
         requires first { has_first a ≡ true }
         ensures { IsTrue result
-            ↔ StacksOver (supply_in supply.now) (empty_cells self.now) 0 y 0 (a ∷ b ∷ c ∷ d ∷ []) }
+            ↔ StacksOver (supply_of supply) (empty_cells self.now) 0 y 0 (a ∷ b ∷ c ∷ d ∷ []) }
     {
         if !has_row(self.rows_with(0, a), y) {
             return false;

@@ -4,6 +4,7 @@ ghost use Rattle.packing.specs.Empties.{empty_cells};
 
 use crate::empties::Empties;
 use crate::span::Span;
+use crate::supply::SupplyWord;
 
 /// A set of cells, none of which lies before a column. Its columns are counted from that one.
 #[derive(Clone, Copy)]
@@ -18,10 +19,11 @@ pub(crate) struct Shifted {
 impl Shifted {
     ghost use Rattle.std.specs.Prelude.{◌<◌, IsTrue, MatchOption};
     ghost use Rattle.lane_board.specs.Lanes.{has_bit};
-    ghost use Rattle.prune.specs.Tiling.{Supply, supply_in, Tiling};
+    ghost use Rattle.prune.specs.Tiling.{Supply, Tiling};
     ghost use Rattle.packing.specs.Empties.{all_but};
     ghost use Rattle.packing.specs.Spans.{has_span, without_span, HasNoCell, IsFirst};
     ghost use Rattle.packing.specs.ShiftedCells.{shifted_cells};
+    ghost use Rattle.packing.specs.SupplyWords.{supply_of};
 
     /// A set with its columns counted from 0.
     pub(crate) fn new(cells: &Empties) -> Shifted
@@ -88,8 +90,8 @@ impl Shifted {
 
     /// Whether a wall in the first four columns, or parity, shows that there is no tiling.
     #[inline(always)]
-    pub(crate) fn is_refused(&self, supply: &[u8; 7]) -> bool
-        ensures { IsTrue result → Tiling (all_but (shifted_cells self.now)) 8 (supply_in supply.now) → ⊥ }
+    pub(crate) fn is_refused(&self, supply: SupplyWord) -> bool
+        ensures { IsTrue result → Tiling (all_but (shifted_cells self.now)) 8 (supply_of supply) → ⊥ }
     {
         self.cells.has_uneven_start() || self.cells.has_wrong_parity(supply)
     }

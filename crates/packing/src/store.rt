@@ -6,6 +6,7 @@ ghost use Rattle.packing.specs.Empties.{all_but, empty_cells};
 use crate::decided::Decided;
 use crate::empties::Empties;
 use crate::mirror::mirrored_supply;
+use crate::supply::SupplyWord;
 use pc_outside::NoMemory;
 use std::alloc::Global;
 
@@ -42,10 +43,9 @@ impl TilingStore {
             return false;
         }
         if !cells.lies_right(column) {
-            return cells.decide(supply, &mut self.decided);
+            return cells.decide(SupplyWord::new(supply), &mut self.decided);
         }
-        cells
-            .mirrored()
-            .decide(&mirrored_supply(supply), &mut self.decided)
+        let mirrored = SupplyWord::new(&mirrored_supply(supply));
+        cells.mirrored().decide(mirrored, &mut self.decided)
     }
 }

@@ -6,6 +6,7 @@ ghost use Rattle.prune.specs.Laws.{with_one};
 ghost use Rattle.packing.specs.Empties.{empty_cells};
 ghost use Rattle.packing.specs.ShiftedCells.{shifted_cells};
 ghost use Rattle.packing.specs.Spans.{IsFirst};
+ghost use Rattle.packing.specs.SupplyWords.{supply_of};
 ghost use Rattle.packing.specs.TiledPieces.{is_marked, StandsInTiling};
 ghost use Rattle.packing.specs.Walks.{Finds, FindsWith, Gains, IsTrueIn, IsWhole, StacksAt, StacksWith, Takes, noted};
 
@@ -18,7 +19,7 @@ use crate::rows::{lowest_row, without_row};
 use crate::search::allowed;
 use crate::shifted::Shifted;
 use crate::span::Span;
-use crate::supply::{count_of, without_one};
+use crate::supply::SupplyWord;
 use crate::walked::Walked;
 use Span::{AllFour, First, FirstThree, FirstTwo, Second, SecondTwo, Third};
 use srs::Piece;
@@ -90,7 +91,7 @@ impl PieceStore {
             ↔ StandsInTiling (empty_cells cells.now) (supply_in supply.now) q }
     {
         self.begin();
-        self.search(&Shifted::new(cells), supply);
+        self.search(&Shifted::new(cells), SupplyWord::new(supply));
         self.pieces
     }
 
@@ -156,10 +157,10 @@ impl PieceStore {
     /// Goes through all tilings of the cells and marks the placements that stand in one. Returns whether there is a
     /// tiling.
     #[cycle(walk)]
-    fn search(&mut self, cells: &Shifted, supply: &[u8; 7]) -> bool
+    fn search(&mut self, cells: &Shifted, supply: SupplyWord) -> bool
         ensures { Gains (noted false self.old.pieces) (noted result self.new.pieces)
-            (Finds (supply_in supply.now) (shifted_cells cells.now))
-            (Finds (supply_in supply.now) (shifted_cells cells.now)) }
+            (Finds (supply_of supply) (shifted_cells cells.now))
+            (Finds (supply_of supply) (shifted_cells cells.now)) }
     {
         let Some((counted, y)) = cells.from_first() else {
             return true;
@@ -176,18 +177,18 @@ impl PieceStore {
             return answer;
         }
         let answer = self.covers(&counted, y, supply);
-        self.note(place, Walked::new(all, *supply, answer, self.walk));
+        self.note(place, Walked::new(all, supply, answer, self.walk));
         answer
     }
 
     /// The same for cells whose first one (the lowest of the leftmost column) is in this row of the column from which
     /// they are counted.
     #[cycle(walk)]
-    fn covers(&mut self, cells: &Shifted, y: u8, supply: &[u8; 7]) -> bool
+    fn covers(&mut self, cells: &Shifted, y: u8, supply: SupplyWord) -> bool
         requires { IsFirst (shifted_cells cells.now) cells.now.x y }
         ensures { Gains (noted false self.old.pieces) (noted result self.new.pieces)
-            (Finds (supply_in supply.now) (shifted_cells cells.now))
-            (Finds (supply_in supply.now) (shifted_cells cells.now)) }
+            (Finds (supply_of supply) (shifted_cells cells.now))
+            (Finds (supply_of supply) (shifted_cells cells.now)) }
     {
         let i = self.takes(cells, y, Piece::I, supply);
         let l = self.takes(cells, y, Piece::L, supply);
@@ -202,19 +203,19 @@ impl PieceStore {
     /// The same for the tilings in which a piece of this kind covers the first cell.
     #[cycle(walk)]
     #[inline(always)]
-    fn takes(&mut self, cells: &Shifted, y: u8, piece: Piece, supply: &[u8; 7]) -> bool
+    fn takes(&mut self, cells: &Shifted, y: u8, piece: Piece, supply: SupplyWord) -> bool
         requires { IsFirst (shifted_cells cells.now) cells.now.x y }
         ensures { Gains (noted false self.old.pieces) (noted result self.new.pieces)
-            (Takes (supply_in supply.now) (shifted_cells cells.now) cells.now.x y piece)
-            (Finds (supply_in supply.now) (shifted_cells cells.now)) }
+            (Takes (supply_of supply) (shifted_cells cells.now) cells.now.x y piece)
+            (Finds (supply_of supply) (shifted_cells cells.now)) }
     {
-        if count_of(supply, piece) == 0 {
+        if supply.count_of(piece) == 0 {
             return false;
         }
         let cover = Cover {
             cells: *cells,
             y,
-            supply: without_one(supply, piece),
+            supply: supply.without_one(piece),
         };
         self.forms(&cover, piece)
     }
@@ -224,7 +225,7 @@ impl PieceStore {
     fn forms(&mut self, cover: &Cover, piece: Piece) -> bool
         ensures { Gains (noted false self.old.pieces) (noted result self.new.pieces)
             (λ found. (place : ℕ) × StacksAt cover.now piece place found)
-            (Finds (with_one (supply_in cover.now.supply) piece) (shifted_cells cover.now.cells)) }
+            (Finds (with_one (supply_of cover.now.supply) piece) (shifted_cells cover.now.cells)) }
     {
         let cells = &cover.cells;
         match piece {
@@ -352,7 +353,7 @@ impl PieceStore {
             (FindsWith cover.now piece (shifted_cells rest.now))
             (FindsWith cover.now piece (shifted_cells rest.now)) }
     {
-        if !self.search(rest, &cover.supply) {
+        if !self.search(rest, cover.supply) {
             return false;
         }
         self.mark_whole(cover, piece, rest);

@@ -4,6 +4,7 @@ ghost use Rattle.packing.specs.Empties.{empty_cells};
 ghost use Rattle.packing.specs.declared.walked.Outcome.{Outcome};
 
 use crate::empties::Empties;
+use crate::supply::SupplyWord;
 
 /// The result for a question.
 #[derive(Clone, Copy)]
@@ -18,7 +19,7 @@ pub(crate) enum Outcome {
 #[derive(Clone, Copy)]
 pub(crate) struct Walked {
     pub(crate) cells: Empties,
-    pub(crate) supply: [u8; 7],
+    pub(crate) supply: SupplyWord,
     pub(crate) outcome: Outcome,
 }
 
@@ -27,7 +28,7 @@ impl Walked {
     ghost use Rattle.packing.specs.Walks.{IsTrueIn};
 
     /// A question that was answered in the walk with this number.
-    pub(crate) fn new(cells: Empties, supply: [u8; 7], answer: bool, walk: u32) -> Walked
+    pub(crate) fn new(cells: Empties, supply: SupplyWord, answer: bool, walk: u32) -> Walked
         ensures cells { result.cells ≡ cells }
         ensures supply { result.supply ≡ supply }
         ensures none { answer ≡ false → result.outcome ≡ Outcome.NoTiling }
@@ -51,20 +52,20 @@ impl Walked {
     {
         Walked {
             cells: Empties::empty(),
-            supply: [0; 7],
+            supply: SupplyWord::new(&[0; 7]),
             outcome: Outcome::Walked(0),
         }
     }
 
     /// Whether there is a tiling. `None` if this is another question, or if there is a tiling but it was asked in
     /// another walk.
-    pub(crate) fn answer_to(&self, cells: &Empties, supply: &[u8; 7], walk: u32) -> Option<bool>
+    pub(crate) fn answer_to(&self, cells: &Empties, supply: SupplyWord, walk: u32) -> Option<bool>
         ensures same { IfSome result (λ answer. (empty_cells self.now.cells ≡ empty_cells cells.now)
-            × (self.now.supply ≡ supply.now)) }
+            × (self.now.supply ≡ supply)) }
         ensures none { IfSome result (λ answer. answer ≡ false → self.now.outcome ≡ Outcome.NoTiling) }
         ensures walked { IfSome result (λ answer. answer ≡ true → self.now.outcome ≡ Outcome.Walked walk) }
     {
-        if !self.cells.is_equal(cells) || self.supply != *supply {
+        if !self.cells.is_equal(cells) || !self.supply.is_equal(supply) {
             return None;
         }
         match self.outcome {

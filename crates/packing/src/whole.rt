@@ -1,9 +1,11 @@
 // Marks of the unbroken pieces that cover a first cell.
-ghost use Rattle.std.specs.Prelude.{◌≡◌, false};
+ghost use Rattle.std.specs.Prelude.{◌≡◌, ◌≤◌, false};
+ghost use Rattle.packing.specs.Empties.{empty_cells};
 ghost use Rattle.packing.specs.ShiftedCells.{shifted_cells};
 ghost use Rattle.packing.specs.Walks.{Gains, IsTurned, IsWhole, noted};
 
 use crate::cover::Cover;
+use crate::empties::Empties;
 use crate::pieces::TiledPieces;
 use crate::placed::placement_over;
 use crate::shifted::Shifted;
@@ -17,26 +19,40 @@ impl TiledPieces {
             (IsWhole (shifted_cells cover.now.cells) (shifted_cells rest.now) cover.now.cells.x cover.now.y piece)
             (IsWhole (shifted_cells cover.now.cells) (shifted_cells rest.now) cover.now.cells.x cover.now.y piece) }
     {
-        self.mark_turned(cover, piece, Rotation::Spawn, rest);
-        self.mark_turned(cover, piece, Rotation::Right, rest);
-        self.mark_turned(cover, piece, Rotation::Reverse, rest);
-        self.mark_turned(cover, piece, Rotation::Left, rest);
-    }
-
-    /// The same for the placement in this rotation.
-    #[inline(always)]
-    fn mark_turned(&mut self, cover: &Cover, piece: Piece, rotation: Rotation, rest: &Shifted)
-        ensures { Gains (noted false self.old) (noted false self.new)
-            (IsTurned (shifted_cells cover.now.cells) (shifted_cells rest.now) cover.now.cells.x cover.now.y piece
-            rotation)
-            (IsWhole (shifted_cells cover.now.cells) (shifted_cells rest.now) cover.now.cells.x cover.now.y piece) }
-    {
-        let Some(placement) = placement_over(piece, rotation, cover.cells.x, cover.y) else {
-            return;
-        };
         let before = cover.cells.cells();
         let left = rest.cells();
-        if !before.without(&placement).is_equal(&left) {
+        let (x, y) = (cover.cells.x, cover.y);
+        self.mark_turned(&before, &left, x, y, piece, Rotation::Spawn);
+        self.mark_turned(&before, &left, x, y, piece, Rotation::Right);
+        self.mark_turned(&before, &left, x, y, piece, Rotation::Reverse);
+        self.mark_turned(&before, &left, x, y, piece, Rotation::Left);
+    }
+
+    /// The same for the placement in this rotation, if the first cell is in this column and row. What is marked already
+    /// isn't looked at.
+    #[inline(always)]
+    fn mark_turned(
+        &mut self,
+        before: &Empties,
+        left: &Empties,
+        x: u8,
+        y: u8,
+        piece: Piece,
+        rotation: Rotation,
+    )
+        requires column { x ≤ 9 }
+        requires row { y ≤ 7 }
+        ensures { Gains (noted false self.old) (noted false self.new)
+            (IsTurned (empty_cells before.now) (empty_cells left.now) x y piece rotation)
+            (IsWhole (empty_cells before.now) (empty_cells left.now) x y piece) }
+    {
+        let Some(placement) = placement_over(piece, rotation, x, y) else {
+            return;
+        };
+        if self.has(&placement) {
+            return;
+        }
+        if !before.without(&placement).is_equal(left) {
             return;
         }
         if !before.has_all(&placement) {

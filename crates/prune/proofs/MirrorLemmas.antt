@@ -30,20 +30,20 @@ kind_again T = refl
 kind_again J = refl
 kind_again S = refl
 
-cell_again : (cell : Cell) → mirror_cell (mirror_cell cell) ≡ cell
+pub cell_again : (cell : Cell) → mirror_cell (mirror_cell cell) ≡ cell
 unfolding mirror_cell
 cell_again cell = let column : pos 9 +ℤ neg_ℤ (pos 9 +ℤ neg_ℤ cell.0) ≡ cell.0 = omega (arith, ints) in λ i. (column i, cell.1)
 
 flip_again : (cell : Cell) → flip (flip cell) ≡ cell
 flip_again cell = let column : neg_ℤ (neg_ℤ cell.0) ≡ cell.0 = omega (arith, ints) in λ i. (column i, cell.1)
 
-same_kind : (a b : Piece) → (piece_code (mirror_kind a) == piece_code (mirror_kind b)) ≡ (piece_code a == piece_code b)
+pub same_kind : (a b : Piece) → (piece_code (mirror_kind a) == piece_code (mirror_kind b)) ≡ (piece_code a == piece_code b)
 same_kind a b = both_ways (piece_code (mirror_kind a) == piece_code (mirror_kind b)) (piece_code a == piece_code b)
     (λ e. eq-eqb _ _ (ap piece_code (sym (kind_again a) ∙ ap mirror_kind (piece_code-injective (mirror_kind a) (mirror_kind b) (eqb-true _ _ e)) ∙ kind_again b)))
     (λ e. eq-eqb _ _ (ap (λ p. piece_code (mirror_kind p)) (piece_code-injective a b (eqb-true _ _ e))))
 
 -- the shapes
-flips_in : (piece : Piece) (rotation : Rotation) → list_all (λ c. is_among (shape (mirror_kind piece) (mirror_rotation piece rotation)) (flip c)) (shape piece rotation) ≡ true
+pub flips_in : (piece : Piece) (rotation : Rotation) → list_all (λ c. is_among (shape (mirror_kind piece) (mirror_rotation piece rotation)) (flip c)) (shape piece rotation) ≡ true
 unfolding is_among
 flips_in = each_state (λ p r. list_all (λ c. is_among (shape (mirror_kind p) (mirror_rotation p r)) (flip c)) (shape p r)) refl
 

@@ -25,7 +25,7 @@ pub fn cheap_no(well: &Well, rows_left: u8, supply: &[u8; 7]) -> bool
 
 /// How many pieces a supply has in all. Its entries stand in the order of piece codes.
 #[tactic(auto, unfolding(crate::specs::Tiling::supply_in))]
-pub fn pieces(supply: &[u8; 7]) -> u16
+fn pieces(supply: &[u8; 7]) -> u16
     ensures number { result ≡ sum_by (supply_in supply.now) all_pieces }
     ensures small { result ≤ 1785 }
 {

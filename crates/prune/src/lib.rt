@@ -8,5 +8,5 @@ pub mod laws;
 mod tests;
 mod walls;
 
-pub use cheap::{cheap_no, pieces};
+pub use cheap::cheap_no;
 pub use walls::has_uneven_part;

@@ -4,6 +4,6 @@ use Rattle.lane_board.specs.Field.{Field, empty_field}
 use Rattle.packing.proofs.FillLemmas.{fills_nothing}
 use Rattle.packing.proofs.decided.Decided.nothing.Goals as goal
 
-pub new-requires : goal.new-requires
+pub new-requires-2 : goal.new-requires-2
 unfolding empty_field
-new-requires c = (λ _. fills_nothing 8 _ _ (record { none = λ x y. ap (λ (E : Field). E x y) c.empty.ensures }), λ _. refl)
+new-requires-2 c = (λ _. fills_nothing 8 _ _ (record { none = λ x y. ap (λ (E : Field). E x y) c.empty.ensures }), λ _. refl)

@@ -4,10 +4,11 @@ use Rattle.std.proofs.lemmas.Bool.{both_ways, false≢true}
 use Rattle.lane_board.specs.Field.{Field}
 use Rattle.srs.specs.declared.piece.Piece.{Piece}
 use Rattle.srs.specs.declared.piece.Piece.TheVariants.{L, T, J}
-use Rattle.prune.specs.Tiling.{Supply, Tiling, supply_in}
+use Rattle.prune.specs.Tiling.{Supply, Tiling}
 use Rattle.packing.specs.Empties.{all_but, empty_cells}
 use Rattle.packing.specs.Spans.{IsFirst}
 use Rattle.packing.specs.Stacks.{StacksOver, StacksPiece}
+use Rattle.packing.specs.SupplyWords.{supply_of}
 use Rattle.packing.proofs.EmptiesLemmas.{cells_small}
 use Rattle.packing.proofs.FillLemmas.{fills_nothing}
 use Rattle.packing.proofs.MovedTilings.{both_moved, first_moved}
@@ -26,8 +27,8 @@ decide-recall-requires t c = (
 pub decide-returns : goal.decide-returns
 decide-returns t c =
     let E = empty_cells c.args.self.now in
-    let both = both_moved E c.in-Some.x (cells_small c.args.self.now) c.in-Some.ensures.leftmost (supply_in c.args.supply.now) in
-    let exact = subst (λ (G : Field). (c.recall.result ≡ true) ↔ Tiling (all_but G) 8 (supply_in c.args.supply.now)) c.from_column.ensures c.recall.ensures in
+    let both = both_moved E c.in-Some.x (cells_small c.args.self.now) c.in-Some.ensures.leftmost (supply_of c.args.supply) in
+    let exact = subst (λ (G : Field). (c.recall.result ≡ true) ↔ Tiling (all_but G) 8 (supply_of c.args.supply)) c.from_column.ensures c.recall.ensures in
     (λ e. both.0 (exact.0 e), λ t. exact.1 (both.1 t))
 
 pub takes-stacks_piece-requires : goal.takes-stacks_piece-requires
@@ -93,7 +94,7 @@ stacks_one-returns-then-decide t c = (
 
 pub stacks_one-loop-rows-preserved : goal.stacks_one-loop-rows-preserved
 stacks_one-loop-rows-preserved t c = tried-next _ _ _ _ _ c.args.a [] _ _ c.lowest_row-row.result c.loop-rows.invariant
-    (record { fails = λ may stacks. false≢true ((stacks_none _ _ 0 c.args.y (c.lowest_row-row.result + 1) [] false refl c.if-decide.ensures).1 (subst (λ (E : Field). StacksOver (supply_in c.args.supply.now) E 0 c.args.y (c.lowest_row-row.result + 1) []) (sym c.without_span-rest.ensures) stacks)) })
+    (record { fails = λ may stacks. false≢true ((stacks_none _ _ 0 c.args.y (c.lowest_row-row.result + 1) [] false refl c.if-decide.ensures).1 (subst (λ (E : Field). StacksOver (supply_of c.args.supply) E 0 c.args.y (c.lowest_row-row.result + 1) []) (sym c.without_span-rest.ensures) stacks)) })
     c.without_row-rows.ensures.others
 
 pub stacks_one-loop-rows-smaller : goal.stacks_one-loop-rows-smaller
@@ -118,7 +119,7 @@ stacks_two-returns-then-stacks_one t c = (
 
 pub stacks_two-loop-rows-preserved : goal.stacks_two-loop-rows-preserved
 stacks_two-loop-rows-preserved t c = tried-next _ _ _ _ _ c.args.a (c.args.b ∷ []) _ _ c.lowest_row-row.result c.loop-rows.invariant
-    (record { fails = λ may stacks. false≢true (c.if-stacks_one.ensures.1 (subst (λ (E : Field). StacksOver (supply_in c.args.supply.now) E 0 c.args.y (c.lowest_row-row.result + 1) (c.args.b ∷ [])) (sym c.without_span-rest.ensures) stacks)) })
+    (record { fails = λ may stacks. false≢true (c.if-stacks_one.ensures.1 (subst (λ (E : Field). StacksOver (supply_of c.args.supply) E 0 c.args.y (c.lowest_row-row.result + 1) (c.args.b ∷ [])) (sym c.without_span-rest.ensures) stacks)) })
     c.without_row-rows.ensures.others
 
 pub stacks_two-loop-rows-smaller : goal.stacks_two-loop-rows-smaller
@@ -143,7 +144,7 @@ stacks_three-returns-then-stacks_two t c = (
 
 pub stacks_three-loop-rows-preserved : goal.stacks_three-loop-rows-preserved
 stacks_three-loop-rows-preserved t c = tried-next _ _ _ _ _ c.args.a (c.args.b ∷ c.args.c ∷ []) _ _ c.lowest_row-row.result c.loop-rows.invariant
-    (record { fails = λ may stacks. false≢true (c.if-stacks_two.ensures.1 (subst (λ (E : Field). StacksOver (supply_in c.args.supply.now) E 0 c.args.y (c.lowest_row-row.result + 1) (c.args.b ∷ c.args.c ∷ [])) (sym c.without_span-rest.ensures) stacks)) })
+    (record { fails = λ may stacks. false≢true (c.if-stacks_two.ensures.1 (subst (λ (E : Field). StacksOver (supply_of c.args.supply) E 0 c.args.y (c.lowest_row-row.result + 1) (c.args.b ∷ c.args.c ∷ [])) (sym c.without_span-rest.ensures) stacks)) })
     c.without_row-rows.ensures.others
 
 pub stacks_three-loop-rows-smaller : goal.stacks_three-loop-rows-smaller
@@ -196,25 +197,25 @@ first_four-returns t c = first_exact _ _ _ 0 c.args.y c.args.a (c.args.b ∷ c.a
     (sym (c.rows_with.ensures c.args.y (omega arith)) ∙ sym c.has_row.ensures ∙ c.if-not-has_row.false) c.without_span-rest.ensures c.stacks_three.ensures
 
 pub stacks_piece-returns-in-I : goal.stacks_piece-returns-in-I
-stacks_piece-returns-in-I t c = subst (λ (p : Piece). (c.stacks_i.result ≡ true) ↔ StacksPiece (supply_in c.args.supply.now) (empty_cells c.args.self.now) 0 c.args.y p) (sym c.in-I.is) c.stacks_i.ensures
+stacks_piece-returns-in-I t c = subst (λ (p : Piece). (c.stacks_i.result ≡ true) ↔ StacksPiece (supply_of c.args.supply) (empty_cells c.args.self.now) 0 c.args.y p) (sym c.in-I.is) c.stacks_i.ensures
 
 pub stacks_piece-returns-in-L : goal.stacks_piece-returns-in-L
-stacks_piece-returns-in-L t c = subst (λ (p : Piece). (c.stacks_l.result ≡ true) ↔ StacksPiece (supply_in c.args.supply.now) (empty_cells c.args.self.now) 0 c.args.y p) (sym c.in-L.is) c.stacks_l.ensures
+stacks_piece-returns-in-L t c = subst (λ (p : Piece). (c.stacks_l.result ≡ true) ↔ StacksPiece (supply_of c.args.supply) (empty_cells c.args.self.now) 0 c.args.y p) (sym c.in-L.is) c.stacks_l.ensures
 
 pub stacks_piece-returns-in-O : goal.stacks_piece-returns-in-O
-stacks_piece-returns-in-O t c = subst (λ (p : Piece). (c.stacks_o.result ≡ true) ↔ StacksPiece (supply_in c.args.supply.now) (empty_cells c.args.self.now) 0 c.args.y p) (sym c.in-O.is) c.stacks_o.ensures
+stacks_piece-returns-in-O t c = subst (λ (p : Piece). (c.stacks_o.result ≡ true) ↔ StacksPiece (supply_of c.args.supply) (empty_cells c.args.self.now) 0 c.args.y p) (sym c.in-O.is) c.stacks_o.ensures
 
 pub stacks_piece-returns-in-Z : goal.stacks_piece-returns-in-Z
-stacks_piece-returns-in-Z t c = subst (λ (p : Piece). (c.stacks_z.result ≡ true) ↔ StacksPiece (supply_in c.args.supply.now) (empty_cells c.args.self.now) 0 c.args.y p) (sym c.in-Z.is) c.stacks_z.ensures
+stacks_piece-returns-in-Z t c = subst (λ (p : Piece). (c.stacks_z.result ≡ true) ↔ StacksPiece (supply_of c.args.supply) (empty_cells c.args.self.now) 0 c.args.y p) (sym c.in-Z.is) c.stacks_z.ensures
 
 pub stacks_piece-returns-in-T : goal.stacks_piece-returns-in-T
-stacks_piece-returns-in-T t c = subst (λ (p : Piece). (c.stacks_t.result ≡ true) ↔ StacksPiece (supply_in c.args.supply.now) (empty_cells c.args.self.now) 0 c.args.y p) (sym c.in-T.is) c.stacks_t.ensures
+stacks_piece-returns-in-T t c = subst (λ (p : Piece). (c.stacks_t.result ≡ true) ↔ StacksPiece (supply_of c.args.supply) (empty_cells c.args.self.now) 0 c.args.y p) (sym c.in-T.is) c.stacks_t.ensures
 
 pub stacks_piece-returns-in-J : goal.stacks_piece-returns-in-J
-stacks_piece-returns-in-J t c = subst (λ (p : Piece). (c.stacks_j.result ≡ true) ↔ StacksPiece (supply_in c.args.supply.now) (empty_cells c.args.self.now) 0 c.args.y p) (sym c.in-J.is) c.stacks_j.ensures
+stacks_piece-returns-in-J t c = subst (λ (p : Piece). (c.stacks_j.result ≡ true) ↔ StacksPiece (supply_of c.args.supply) (empty_cells c.args.self.now) 0 c.args.y p) (sym c.in-J.is) c.stacks_j.ensures
 
 pub stacks_piece-returns-in-S : goal.stacks_piece-returns-in-S
-stacks_piece-returns-in-S t c = subst (λ (p : Piece). (c.stacks_s.result ≡ true) ↔ StacksPiece (supply_in c.args.supply.now) (empty_cells c.args.self.now) 0 c.args.y p) (sym c.in-S.is) c.stacks_s.ensures
+stacks_piece-returns-in-S t c = subst (λ (p : Piece). (c.stacks_s.result ≡ true) ↔ StacksPiece (supply_of c.args.supply) (empty_cells c.args.self.now) 0 c.args.y p) (sym c.in-S.is) c.stacks_s.ensures
 
 pub stacks_l-returns-then-first_two-2 : goal.stacks_l-returns-then-first_two-2
 stacks_l-returns-then-first_two-2 t c = (λ _. third_form _ _ _ _ L L refl (omega arith) (c.if-first_two-2.ensures.0 refl), λ _. refl)

@@ -1,11 +1,13 @@
 -- What is remembered is true, and where nothing is there is no pivot.
-use Rattle.std.proofs.Common.{◌+◌, ◌*◌, ◌/◌, List, ℕ, sym, ap, ◌∙◌}
+use Rattle.std.proofs.Common.{◌+◌, ◌*◌, ◌/◌, sym, ap, ◌∙◌}
 use Rattle.std.proofs.lemmas.Bool.{both_ways}
 use Rattle.lane_board.specs.Field.{Field}
 use Rattle.srs.specs.Rotation.{rotation_place}
-use Rattle.prune.specs.Tiling.{supply_in}
+use Rattle.prune.specs.Tiling.{Supply, supply_in}
+use Rattle.packing.specs.declared.supply.SupplyWord.{SupplyWord}
 use Rattle.packing.specs.Empties.{all_but, empty_cells, without_placement}
 use Rattle.packing.specs.HasTiling.{has_tiling}
+use Rattle.packing.specs.SupplyWords.{supply_of}
 use Rattle.packing.proofs.PivotLemmas.{no_pivot, no_words}
 use Rattle.packing.proofs.memory.PlaceMemory.dead_pivots.Goals as goal
 
@@ -16,5 +18,6 @@ pub returns-then-is_about : goal.returns-then-is_about
 returns-then-is_about c = λ q kind has.
     let known = c.index-known.result.now in
     ap (λ (E : Field). has_tiling (all_but (without_placement E q)) 8 (supply_in c.args.supply.now)) (sym (c.is_about.ensures.cells c.if-is_about.true))
-    ∙ ap (λ (s : List ℕ). has_tiling (all_but (without_placement (empty_cells known.cells) q)) 8 (supply_in s)) (sym (c.is_about.ensures.supply c.if-is_about.true))
+    ∙ ap (λ (s : Supply). has_tiling (all_but (without_placement (empty_cells known.cells) q)) 8 s) (sym c.new-word.ensures)
+    ∙ ap (λ (word : SupplyWord). has_tiling (all_but (without_placement (empty_cells known.cells) q)) 8 (supply_of word)) (sym (c.is_about.ensures.supply c.if-is_about.true))
     ∙ known.dead_is_true q (kind ∙ sym (c.is_about.ensures.piece c.if-is_about.true)) (c.words.ensures q ∙ has)
