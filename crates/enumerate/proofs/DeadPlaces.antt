@@ -14,8 +14,8 @@ use Rattle.lists.proofs.CallerLemmas.{filter-false, filter-true}
 use Rattle.lane_board.specs.Words.{cells_of_words}
 use Rattle.well.specs.Well.{filled}
 use Rattle.moves.specs.declared.key.DropMode.{DropMode}
-use Rattle.reach.specs.declared.held.Places.{Places}
-use Rattle.reach.specs.Places.{holds, piece_of}
+use Rattle.reach.specs.declared.low_held.LowPlaces.{LowPlaces}
+use Rattle.reach.specs.LowPlaces.{holds, piece_of}
 use Rattle.prune.specs.Tiling.{supply_in}
 use Rattle.prune.specs.OnePart.{less_one}
 use Rattle.packing.specs.Empties.{all_but, empty_cells, without_placement}
@@ -46,7 +46,7 @@ without_dead true false above events none = refl
 without_dead true true true events none = sym (none refl refl)
 without_dead true true false events none = refl
 
-module _ (frame : Frame) (places : Places) (is : frame.places ≡ Some places) (piece : Piece) (kind : piece_of places ≡ piece) (some : 1 ≤ frame.left)
+module _ (frame : Frame) (places : LowPlaces) (is : frame.places ≡ Some places) (piece : Piece) (kind : piece_of places ≡ piece) (some : 1 ≤ frame.left)
     (supply : List ℕ) (moves : (other : Piece) → supply_in supply other ≡ min frame.left (less_one (supply_in frame.supply) piece other))
     (words : List ℕ) (dead : (q : Placement) → q.piece ≡ piece → cells_of_words words (rotation_place q.rotation) q.x q.y ≡ true → has_tiling (all_but (without_placement (empty_cells frame.empties) q)) 8 (supply_in supply) ≡ false) where
   abbrev is_dead : Placement → Bool
@@ -66,7 +66,7 @@ module _ (frame : Frame) (places : Places) (is : frame.places ≡ Some places) (
       live-after table mode frame q (supply_in supply) (λ other. moves other ∙ ap (λ (p : Piece). min frame.left (less_one (supply_in frame.supply) p other)) (sym of_kind)) (frame.left - 1) less
       ∙ sym told ∙ dead q of_kind none)).same table mode prefix
 
-  pub left-out : (kept : Places) → piece_of kept ≡ piece_of places → ((q : Placement) → holds kept q ≡ (holds places q && not (is_dead q))) → (table : Table) (mode : DropMode) (prefix : List Placement) →
+  pub left-out : (kept : LowPlaces) → piece_of kept ≡ piece_of places → ((q : Placement) → holds kept q ≡ (holds places q && not (is_dead q))) → (table : Table) (mode : DropMode) (prefix : List Placement) →
       flat_map (entered (enter frame.left) prefix (position_of table mode frame)) (places_left (Some kept) frame.entered) ≡ flat_map (entered (enter frame.left) prefix (position_of table mode frame)) (places_left (Some places) frame.entered)
   unfolding places_left
   left-out kept same_kind held table mode prefix =

@@ -18,8 +18,8 @@ use Rattle.lists.proofs.CallerLemmas.{Contains-cases, Contains-filter, Contains-
 use Rattle.srs.proofs.CallerLemmas.{placement_cmp-total, placements_of-list}
 use Rattle.moves.specs.declared.key.DropMode.{DropMode}
 use Rattle.moves.specs.PlaceTest.{is_place}
-use Rattle.reach.specs.declared.held.Places.{Places}
-use Rattle.reach.specs.Places.{holds, piece_of}
+use Rattle.reach.specs.declared.low_held.LowPlaces.{LowPlaces}
+use Rattle.reach.specs.LowPlaces.{holds, piece_of}
 use Rattle.hold_queue.specs.QueueSet.{queues_in_play}
 use Rattle.enumerate.specs.declared.frame.Frame.{Frame}
 use Rattle.enumerate.specs.declared.turn.Turn.{Turn}
@@ -38,13 +38,13 @@ use Rattle.enumerate.proofs.Choices.{if_false, if_true}
 use Rattle.enumerate.proofs.TurnLemmas.{entered-below, filter-both, filter-same, same-position}
 use Rattle.enumerate.proofs.Walks.{finds-enter, found-append, floods-append, prefixed}
 
-pub places_left-rising : (places : Option Places) (last : Option Placement) → IsStrictlySortedBy placement_cmp (places_left places last)
+pub places_left-rising : (places : Option LowPlaces) (last : Option Placement) → IsStrictlySortedBy placement_cmp (places_left places last)
 unfolding places_left
 places_left-rising None last = rising-none placement_cmp
 places_left-rising (Some places) last = IsStrictlySortedBy-filter placement_cmp (λ q. holds places q && is_above placement_cmp last q) (placements_of (piece_of places)) (placements_of-list (piece_of places)).rising
 
 -- those above a placement
-pub places_left-above : (places : Option Places) (q : Placement) → places_left places (Some q) ≡ filter (is_above placement_cmp (Some q)) (places_left places None)
+pub places_left-above : (places : Option LowPlaces) (q : Placement) → places_left places (Some q) ≡ filter (is_above placement_cmp (Some q)) (places_left places None)
 unfolding places_left
 places_left-above None q = refl
 places_left-above (Some places) q =
@@ -240,7 +240,7 @@ module _ (table : Table) (mode : DropMode) (old new : Frame) (same : SamePositio
 
 -- ---- after the flood
 
-pub left-above : (n : Position) (places : Option Places) (last : Option Placement) → last ≡ None → (q : Placement) → places_left places last ≡ filter (is_below n.rows) (places_at n q.piece) →
+pub left-above : (n : Position) (places : Option LowPlaces) (last : Option Placement) → last ≡ None → (q : Placement) → places_left places last ≡ filter (is_below n.rows) (places_at n q.piece) →
     places_left places (Some q) ≡ filter (is_above placement_cmp (Some q)) (filter (is_below n.rows) (places_at n q.piece))
 left-above n places last none q e =
     places_left-above places q

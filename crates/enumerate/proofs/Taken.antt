@@ -17,8 +17,8 @@ use Rattle.lists.specs.Rising.{is_above, IsNextAbove, IsLeastAbove, IsRisingList
 use Rattle.lists.proofs.CallerLemmas.{Contains-filter, Contains-from_filter, filter_above-next, filter_above-none, find-next_of, IsNextAbove-unique, some_same}
 use Rattle.well.specs.Well.{filled}
 use Rattle.well.specs.LockLaws.{is_below}
-use Rattle.reach.specs.declared.held.Places.{Places}
-use Rattle.reach.specs.Places.{holds, piece_of}
+use Rattle.reach.specs.declared.low_held.LowPlaces.{LowPlaces}
+use Rattle.reach.specs.LowPlaces.{holds, piece_of}
 use Rattle.hold_queue.specs.QueueSet.{queues_in_play}
 use Rattle.enumerate.specs.Frames.{places_left}
 use Rattle.enumerate.specs.declared.frame.Frame.{Frame}
@@ -28,10 +28,10 @@ use Rattle.enumerate.proofs.PlaceLaws.{lockable-piece}
 use Rattle.enumerate.proofs.TurnLemmas.{filter-both, filter-same}
 
 -- what places hold is among the placements of their piece
-abbrev pub Listed : Places → Type 0
+abbrev pub Listed : LowPlaces → Type 0
 Listed places = (q : Placement) → holds places q ≡ true → Contains (placements_of (piece_of places)) q
 
-module _ (places : Places) (listed : Listed places) where
+module _ (places : LowPlaces) (listed : Listed places) where
   abbrev held : List Placement
   held = filter (holds places) (placements_of (piece_of places))
 
@@ -64,7 +64,7 @@ module _ (places : Places) (listed : Listed places) where
           ∙ ap (λ l. q ∷ l) (sym (filter-both (holds places) (is_above placement_cmp (Some q)) (placements_of (piece_of places))))
 
 -- one is taken out, or none where none is held
-module _ (old new : Places) (kind : piece_of new ≡ piece_of old) (taken : Option Placement)
+module _ (old new : LowPlaces) (kind : piece_of new ≡ piece_of old) (taken : Option Placement)
     (rest : (q : Placement) → (holds new q ≡ true) ↔ ((holds old q ≡ true) × (taken ≢ Some q))) where
   pub taken-held : (q : Placement) → holds new q ≡ true → holds old q ≡ true
   taken-held q is = ((rest q).0 is).0
@@ -106,7 +106,7 @@ module _ (old new : Places) (kind : piece_of new ≡ piece_of old) (taken : Opti
         at p false e = refl
 
 -- what is taken out at a frame may be entered there
-pub upcoming-taken : (frame : Frame) (places new : Places) → frame.places ≡ Some places → piece_of new ≡ piece_of places → (r : Option Placement)
+pub upcoming-taken : (frame : Frame) (places new : LowPlaces) → frame.places ≡ Some places → piece_of new ≡ piece_of places → (r : Option Placement)
     → MatchOption r ((places_left (Some places) frame.entered ≡ []) × (places_left (Some new) frame.entered ≡ []))
     (λ q. (places_left (Some places) frame.entered ≡ q ∷ places_left (Some new) (Some q)) × IsTrue (holds places q))
     → MatchOption r ((places_left frame.places frame.entered ≡ []) × (places_left (Some new) frame.entered ≡ []))

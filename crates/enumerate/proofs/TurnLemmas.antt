@@ -18,8 +18,8 @@ use Rattle.well.specs.Lock.{locked, rows_removed}
 use Rattle.moves.specs.declared.key.DropMode.{DropMode}
 use Rattle.moves.specs.Place.{IsPlace}
 use Rattle.moves.specs.PlaceTest.{is_place}
-use Rattle.reach.specs.declared.held.Places.{Places}
-use Rattle.reach.specs.Places.{holds, piece_of}
+use Rattle.reach.specs.declared.low_held.LowPlaces.{LowPlaces}
+use Rattle.reach.specs.LowPlaces.{holds, piece_of}
 use Rattle.hold_queue.specs.QueueSet.{QueuesInPlay, QueuesPermit, queues_in_play, queues_permit}
 use Rattle.moves.proofs.CallerLemmas.{is_place-decides}
 use Rattle.hold_queue.proofs.CallerLemmas.{queues_permit-decides}
@@ -61,15 +61,15 @@ filter-same a b (x ∷ xs) each =
     ]
 
 -- what a frame's places hold may lock
-abbrev pub Lockable : Field → Places → Type 0
+abbrev pub Lockable : Field → LowPlaces → Type 0
 Lockable F places = (q : Placement) → holds places q ≡ true → may_lock F (piece_of places) q ≡ true
 
 -- and it lies below a row
-abbrev pub HeldBelow : ℕ → Places → Type 0
+abbrev pub HeldBelow : ℕ → LowPlaces → Type 0
 HeldBelow rows places = (q : Placement) → holds places q ≡ true → is_below rows q ≡ true
 
 -- what a flood below the rows left holds is the places there, in order
-module _ (table : Table) (F : Field) (mode : DropMode) (piece : Piece) (places : Places) (kind : piece_of places ≡ piece) (rows : ℕ)
+module _ (table : Table) (F : Field) (mode : DropMode) (piece : Piece) (places : LowPlaces) (kind : piece_of places ≡ piece) (rows : ℕ)
     (held : (q : Placement) → (holds places q ≡ true) ↔ ((q.piece ≡ piece) × IsPlace table F mode q × (is_below rows q ≡ true))) where
   pub flooded-places : (n : Position) → n.table ≡ table → n.mode ≡ mode → n.field ≡ F → places_left (Some places) None ≡ filter (is_below rows) (places_at n piece)
   unfolding places_left places_at

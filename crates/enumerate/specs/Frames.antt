@@ -10,8 +10,8 @@ use Rattle.srs.specs.Placements.{placements_of}
 use Rattle.lists.specs.Rising.{is_above}
 use Rattle.well.specs.Well.{filled}
 use Rattle.moves.specs.declared.key.DropMode.{DropMode}
-use Rattle.reach.specs.declared.held.Places.{Places}
-use Rattle.reach.specs.Places.{holds, piece_of}
+use Rattle.reach.specs.declared.low_held.LowPlaces.{LowPlaces}
+use Rattle.reach.specs.LowPlaces.{holds, piece_of}
 use Rattle.hold_queue.specs.QueueSet.{queues_in_play}
 use Rattle.enumerate.specs.declared.frame.Frame.{Frame}
 use Rattle.enumerate.specs.Position.{Position}
@@ -27,7 +27,7 @@ position_of table mode frame = record {
 }
 
 -- the held placements above the one that was entered last
-unfoldable pub places_left : Option Places → Option Placement → List Placement
+unfoldable pub places_left : Option LowPlaces → Option Placement → List Placement
 places_left None last = []
 places_left (Some places) last =
     filter (λ q. holds places q && is_above placement_cmp last q) (placements_of (piece_of places))

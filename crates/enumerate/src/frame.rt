@@ -5,7 +5,7 @@ ghost use Rattle.lane_board.specs.Field.{difference, rows_below};
 ghost use Rattle.srs.specs.declared.placement.Placement.{Placement};
 ghost use Rattle.well.specs.Well.{filled};
 ghost use Rattle.well.specs.LockLaws.{LiesBelow, is_below};
-ghost use Rattle.reach.specs.Places.{holds, piece_of};
+ghost use Rattle.reach.specs.LowPlaces.{holds, piece_of};
 ghost use Rattle.hold_queue.specs.QueueSet.{queues_in_play};
 ghost use Rattle.hold_queue.specs.Supply.{supply_of};
 ghost use Rattle.prune.specs.Tiling.{supply_in};
@@ -17,7 +17,7 @@ ghost use Rattle.enumerate.specs.AfterKind.{IsAfterKind};
 use crate::after_kind::AfterKind;
 use crate::line::Line;
 use packing::Empties;
-use reach::Places;
+use reach::LowPlaces;
 use srs::Placement;
 use well::Well;
 
@@ -38,7 +38,7 @@ pub struct Frame {
     pub after_kind: Option<AfterKind>,
     /// How many kinds were tried.
     pub tried: u8,
-    pub places: Option<Places>,
+    pub places: Option<LowPlaces>,
     pub entered: Option<Placement>,
     ghost low: { rows ≤ 8 },
     ghost few: { left ≤ 19 },

@@ -4,10 +4,10 @@ ghost use Rattle.srs.specs.declared.placement.Placement.{Placement};
 ghost use Rattle.srs.specs.Order.{placement_cmp};
 ghost use Rattle.srs.specs.Placements.{placements_of};
 ghost use Rattle.lists.specs.Rising;
-ghost use Rattle.reach.specs.Places.{holds, piece_of};
+ghost use Rattle.reach.specs.LowPlaces.{holds, piece_of};
 ghost use Rattle.enumerate.specs.Frames.{places_left};
 
-use reach::Places;
+use reach::LowPlaces;
 use srs::{Placement, compare};
 use std::cmp::Ordering;
 
@@ -23,7 +23,7 @@ fn is_above(bound: &Option<Placement>, placement: &Placement) -> bool
 
 /// Removes the least placement above the bound, and all before it. Returns it; `None` exactly if none is above the
 /// bound.
-pub fn take_above(places: &mut Places, bound: &Option<Placement>) -> Option<Placement>
+pub fn take_above(places: &mut LowPlaces, bound: &Option<Placement>) -> Option<Placement>
     requires { (q : Placement) → IsTrue (holds places.old q) → Contains (placements_of (piece_of places.old)) q }
     ensures piece { piece_of places.new ≡ piece_of places.old }
     ensures held { (q : Placement) → IsTrue (holds places.new q) → IsTrue (holds places.old q) }

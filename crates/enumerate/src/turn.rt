@@ -9,7 +9,7 @@ ghost use Rattle.lane_board.specs.Field.{difference, rows_below};
 ghost use Rattle.well.specs.Well.{filled};
 ghost use Rattle.moves.specs.declared.key.DropMode.{DropMode};
 ghost use Rattle.reach.specs.FloodRules.{flood_table};
-ghost use Rattle.reach.specs.Places.{piece_of};
+ghost use Rattle.reach.specs.LowPlaces.{piece_of};
 ghost use Rattle.hold_queue.specs.QueueSet.{queues_in_play};
 ghost use Rattle.well.specs.Lock.{locked, rows_removed};
 ghost use Rattle.well.specs.LockLaws.{is_below};
@@ -30,7 +30,7 @@ use crate::notes::Notes;
 use crate::tilings::Tilings;
 use moves::DropMode;
 use packing::Empties;
-use reach::{FloodRules, Places, Steps};
+use reach::{FloodRules, Steps};
 use srs::{Piece, Placement};
 use std::sync::ledger::Ledger;
 use well::Well;
@@ -233,8 +233,7 @@ impl Frame {
         ensures counted { steps.new ≡ steps.old + 1 }
         ensures noted { CountsUp floods.old floods.new steps.old steps.new }
     {
-        let places = self.places.get_or_insert_with(|| Places::none(piece));
-        rules.flood_below(&self.well, piece, drop_mode, self.rows, steps, places);
+        self.places = Some(rules.places_below(&self.well, piece, drop_mode, self.rows, steps));
         self.entered = None;
         *floods = floods.saturating_add(1);
     }

@@ -29,6 +29,7 @@ mod NumberLemmas
 mod WordsInUse
 mod PlaceNumbers
 mod TakeLemmas
+mod LowPlaceLemmas
 mod LaneTests
 mod LaneSound
 mod SoftLemmas

@@ -15,7 +15,9 @@ use Rattle.moves.specs.Leads.{pressed, spawned, state_after}
 use Rattle.moves.specs.Place.{IsPlace}
 use Rattle.moves.specs.Step.{first_free, kicked, turned, step_of}
 use Rattle.moves.proofs.CallerLemmas.{spawned-free, step_of-free}
+use Rattle.reach.specs.PlaceSets.{ArePlaces}
 use Rattle.reach.specs.SameOffsets.{HaveSameOffsets}
+use Rattle.reach.specs.States.{States}
 
 pub same_back : (table other : Table) (piece : Piece) → HaveSameOffsets table other piece → HaveSameOffsets other table piece
 same_back table other piece same = record { each = λ rotation test low high. sym (same.each rotation test low high) }
@@ -62,4 +64,13 @@ place_same table other F mode q same place = record {
     rests = place.led_to.rests;
     same_cells = place.led_to.same_cells;
   };
+}
+
+-- so the places by the one are the places by the other
+pub places_same : (table other : Table) (F : Field) (mode : DropMode) (piece : Piece) (S : States) → HaveSameOffsets table other piece → ArePlaces other F mode piece S → ArePlaces table F mode piece S
+places_same table other F mode piece S offsets are = record {
+  exact = λ q kind.
+      let same : HaveSameOffsets table other q.piece = subst (HaveSameOffsets table other) (sym kind) offsets in
+      let exact = are.exact q kind in
+      (λ has. place_same other table F mode q (same_back table other q.piece same) (exact.0 has), λ place. exact.1 (place_same table other F mode q same place));
 }

@@ -1,6 +1,7 @@
 -- What a reader must believe: which placements the places hold, by which table of offsets, and where a piece is free.
 pub mod FreePivots
 pub mod Places
+pub mod LowPlaces
 pub mod FloodRules
 -- What serves proofs alone: sets of states as boards, and floods.
 pub mod States

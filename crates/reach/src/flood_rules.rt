@@ -8,8 +8,11 @@ ghost use Rattle.reach.specs.SameOffsets.{HaveSameOffsets};
 
 use crate::find::{pivots_where, places_where};
 use crate::held::Places;
+use crate::low::{is_clear_from, low_places};
+use crate::low_held::LowPlaces;
 use crate::same_offsets::has_srs_offsets;
 use crate::steps::Steps;
+use crate::whole::whole_places;
 use moves::DropMode;
 use srs::{Piece, Rules};
 use std::sync::ledger::Ledger;
@@ -100,5 +103,44 @@ impl FloodRules {
         let srs = self.has_srs_offsets(piece);
         let pivots = pivots_where(well, &self.rules, srs, piece, drop_mode);
         held.fill(piece, &pivots, rows);
+    }
+}
+
+impl FloodRules {
+    ghost use Rattle.std.specs.Prelude.{◌+◌, ◌≤◌};
+    ghost use Rattle.srs.specs.declared.placement.Placement.{Placement};
+    ghost use Rattle.well.specs.LockLaws.{is_below};
+    ghost use Rattle.well.specs.Well.{filled};
+    ghost use Rattle.moves.specs.Place.{IsPlace};
+    ghost use Rattle.reach.specs.FloodRules.{flood_table};
+    ghost use Rattle.reach.specs.LowPlaces.{holds, piece_of};
+
+    #[tactic(auto, unfolding(crate::specs::FloodRules::flood_table))]
+    /// Those of the places that `places` gives whose cells all lie below row `rows`. Counts one flood.
+    pub fn places_below<L: Ledger>(
+        &self,
+        well: &Well,
+        piece: Piece,
+        drop_mode: DropMode,
+        rows: u8,
+        steps: &mut Steps<L>,
+    ) -> LowPlaces
+        requires { rows ≤ 8 }
+        ensures piece { piece_of result ≡ piece }
+        ensures held { (q : Placement) → (IsTrue (holds result q)) ↔ ((q.piece ≡ piece)
+            × IsPlace (flood_table self.now) (filled well.now) drop_mode q × IsTrue (is_below rows q)) }
+        ensures counted { steps.new ≡ steps.old + 1 }
+    {
+        steps.tick();
+        let filled = well.board();
+        let srs = self.has_srs_offsets(piece);
+        if srs && is_clear_from(&filled, 8) {
+            return LowPlaces::of_states(piece, &low_places(&filled, piece, drop_mode), rows);
+        }
+        LowPlaces::of_states(
+            piece,
+            &whole_places(&filled, &self.rules, piece, drop_mode),
+            rows,
+        )
     }
 }

@@ -13,6 +13,7 @@ mod lane_map;
 mod lane_shapes;
 mod lane_turn;
 mod low;
+mod low_held;
 mod numbers;
 mod pivots;
 mod rest;
@@ -30,6 +31,7 @@ pub use find::{is_low, places, window_places};
 pub use flood_rules::FloodRules;
 pub use free::free_pivots;
 pub use held::Places;
+pub use low_held::LowPlaces;
 pub use steps::Steps;
 
 #[cfg(test)]

@@ -1,25 +1,18 @@
 -- The pivots of the places, by the flood of low fields where the offsets are those of SRS.
-use Rattle.std.proofs.Common.{sym, subst}
+use Rattle.std.proofs.Common.{subst}
 use Rattle.lane_board.specs.Field.{Field}
 use Rattle.srs.specs.Kick.{srs_table}
 use Rattle.srs.specs.Rules.{table_of}
 use Rattle.well.specs.Well.{filled}
 use Rattle.reach.specs.PlaceSets.{ArePlaces}
-use Rattle.reach.specs.SameOffsets.{HaveSameOffsets}
 use Rattle.reach.specs.States.{states_of}
-use Rattle.reach.proofs.SameOffsets.{same_back, place_same}
+use Rattle.reach.proofs.SameOffsets.{places_same}
 use Rattle.reach.proofs.find.pivots_where.Goals as goal
 
 pub returns : goal.returns
 returns c = subst (λ (F : Field). ArePlaces (table_of c.args.rules.now) F c.args.drop_mode c.args.piece (states_of c.whole_places.result)) c.board-filled.ensures c.whole_places.ensures
 
 pub returns-then-is_clear_from : goal.returns-then-is_clear_from
-returns-then-is_clear_from c = record {
-  exact = λ q kind.
-      let table = table_of c.args.rules.now in
-      let F = filled c.args.well.now in
-      let same : HaveSameOffsets table srs_table q.piece = subst (HaveSameOffsets table srs_table) (sym kind) (c.requires c.if-srs.true) in
-      let are : ArePlaces srs_table F c.args.drop_mode c.args.piece (states_of c.low_places.result) = subst (λ (F : Field). ArePlaces srs_table F c.args.drop_mode c.args.piece (states_of c.low_places.result)) c.board-filled.ensures c.low_places.ensures in
-      let exact = are.exact q kind in
-      (λ has. place_same srs_table table F c.args.drop_mode q (same_back table srs_table q.piece same) (exact.0 has), λ place. exact.1 (place_same table srs_table F c.args.drop_mode q same place));
-}
+returns-then-is_clear_from c =
+    places_same (table_of c.args.rules.now) srs_table (filled c.args.well.now) c.args.drop_mode c.args.piece (states_of c.low_places.result) (c.requires c.if-srs.true)
+    (subst (λ (F : Field). ArePlaces srs_table F c.args.drop_mode c.args.piece (states_of c.low_places.result)) c.board-filled.ensures c.low_places.ensures)

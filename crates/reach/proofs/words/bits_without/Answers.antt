@@ -1,5 +1,5 @@
 -- The bits of the one that aren't in the other; of none, none is left.
-use Rattle.std.proofs.Common.{◌&&◌, not, refl, sym, ap, ◌∙◌}
+use Rattle.std.proofs.Common.{◌&&◌, not, sym, ap, ◌∙◌}
 use Rattle.lane_board.specs.Lanes.{has_bit}
 use Rattle.lane_board.proofs.CallerLemmas.{has_bit-and_not, has_bit-zero, same_from_columns}
 use Rattle.reach.proofs.words.bits_without.Goals as goal

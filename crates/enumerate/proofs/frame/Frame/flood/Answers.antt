@@ -4,7 +4,7 @@ use Rattle.std.specs.Prelude.{true}
 use Rattle.reach.specs.FloodRules.{flood_table}
 use Rattle.lists.proofs.CallerLemmas.{some_same}
 use Rattle.well.specs.Well.{filled}
-use Rattle.reach.specs.Places.{piece_of}
+use Rattle.reach.specs.LowPlaces.{piece_of}
 use Rattle.hold_queue.specs.QueueSet.{queues_in_play}
 use Rattle.enumerate.specs.Frames.{position_of}
 use Rattle.enumerate.specs.Position.{may_play}
@@ -21,22 +21,22 @@ invariant_of-self g c = record {
   followed = c.args.self.now.followed;
   supplied = c.args.self.now.supplied;
   lockable = λ x is. subst (λ p. Lockable (filled c.args.self.now.well) p) (some_same is)
-      (flooded-lockable (flood_table c.args.rules.now) (filled c.args.self.now.well) c.args.drop_mode c.args.piece c.flood_below.new.held c.flood_below.ensures.piece c.args.self.now.rows c.flood_below.ensures.held);
+      (flooded-lockable (flood_table c.args.rules.now) (filled c.args.self.now.well) c.args.drop_mode c.args.piece c.places_below.result c.places_below.ensures.piece c.args.self.now.rows c.places_below.ensures.held);
   held_below = λ x is. subst (λ p. HeldBelow c.args.self.now.rows p) (some_same is)
-      (flooded-below (flood_table c.args.rules.now) (filled c.args.self.now.well) c.args.drop_mode c.args.piece c.flood_below.new.held c.flood_below.ensures.piece c.args.self.now.rows c.flood_below.ensures.held);
+      (flooded-below (flood_table c.args.rules.now) (filled c.args.self.now.well) c.args.drop_mode c.args.piece c.places_below.result c.places_below.ensures.piece c.args.self.now.rows c.places_below.ensures.held);
   permitted = λ x is. subst (λ p. may_play (queues_in_play c.args.self.now.line.queues) (piece_of p) ≡ true) (some_same is)
-      (subst (λ p. may_play (queues_in_play c.args.self.now.line.queues) p ≡ true) (sym c.flood_below.ensures.piece) c.requires);
+      (subst (λ p. may_play (queues_in_play c.args.self.now.line.queues) p ≡ true) (sym c.places_below.ensures.piece) c.requires);
   same_piece = λ x is q none. cc;
 }
 
 pub returns-clause-places : goal.returns-clause-places
 unfolding position_of
 returns-clause-places g c =
-    flooded-places (flood_table c.args.rules.now) (filled c.args.self.now.well) c.args.drop_mode c.args.piece c.flood_below.new.held c.flood_below.ensures.piece c.args.self.now.rows c.flood_below.ensures.held
+    flooded-places (flood_table c.args.rules.now) (filled c.args.self.now.well) c.args.drop_mode c.args.piece c.places_below.result c.places_below.ensures.piece c.args.self.now.rows c.places_below.ensures.held
     (position_of (flood_table c.args.rules.now) c.args.drop_mode c.args.self.now) refl refl refl
 
 pub returns-clause-piece : goal.returns-clause-piece
-returns-clause-piece g c = λ x is. subst (λ p. piece_of p ≡ c.args.piece) (some_same is) c.flood_below.ensures.piece
+returns-clause-piece g c = λ x is. subst (λ p. piece_of p ≡ c.args.piece) (some_same is) c.places_below.ensures.piece
 
 pub returns-clause-noted : goal.returns-clause-noted
-returns-clause-noted g c = counts-one c.args.floods.now _ c.args.steps.now _ c.saturating_add.ensures c.flood_below.ensures.counted
+returns-clause-noted g c = counts-one c.args.floods.now _ c.args.steps.now _ c.saturating_add.ensures c.places_below.ensures.counted

@@ -1,5 +1,5 @@
 -- One word of each rotation more has lost its bits; those behind are as before.
-use Rattle.std.proofs.Common.{◌≡◌, ℕ, ◌+◌, ◌%◌, ◌<◌, false, get_or, sym, ap, ◌∙◌, inl, inr, arith}
+use Rattle.std.proofs.Common.{◌≡◌, ◌+◌, ◌%◌, get_or, sym, ap, ◌∙◌, inl, inr, arith}
 use Rattle.std.proofs.lemmas.Bool.{cases_lt}
 use Rattle.lane_board.specs.Lanes.{has_bit}
 use Rattle.reach.proofs.NumberLemmas.{four_later, four_set-length, loses_more, loses_rows}

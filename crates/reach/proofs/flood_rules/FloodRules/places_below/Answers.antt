@@ -1,0 +1,27 @@
+-- What is held are the places that lie so low.
+use Rattle.std.proofs.Common.{subst}
+use Rattle.lane_board.specs.Field.{Field}
+use Rattle.srs.specs.Kick.{srs_table}
+use Rattle.well.specs.Well.{filled}
+use Rattle.reach.specs.FloodRules.{flood_table}
+use Rattle.reach.specs.PlaceSets.{ArePlaces}
+use Rattle.reach.specs.States.{states_of}
+use Rattle.reach.proofs.LowPlaceLemmas.{low_places_held}
+use Rattle.reach.proofs.SameOffsets.{places_same}
+use Rattle.reach.proofs.flood_rules.FloodRules.places_below.Goals as goal
+
+pub returns-then-is_clear_from-clause-held : goal.returns-then-is_clear_from-clause-held
+returns-then-is_clear_from-clause-held g c =
+    let table = flood_table c.args.self.now in
+    let S = states_of c.low_places.result in
+    low_places_held table (filled c.args.well.now) c.args.drop_mode c.args.piece c.args.rows c.of_states.result S c.of_states.ensures.held
+    (places_same table srs_table (filled c.args.well.now) c.args.drop_mode c.args.piece S (c.has_srs_offsets-srs.ensures.0 c.if-srs.true)
+    (subst (λ (F : Field). ArePlaces srs_table F c.args.drop_mode c.args.piece S) c.board-filled.ensures c.low_places.ensures))
+
+pub returns-clause-held : goal.returns-clause-held
+unfolding flood_table
+returns-clause-held g c =
+    let table = flood_table c.args.self.now in
+    let S = states_of c.whole_places.result in
+    low_places_held table (filled c.args.well.now) c.args.drop_mode c.args.piece c.args.rows c.of_states-2.result S c.of_states-2.ensures.held
+    (subst (λ (F : Field). ArePlaces table F c.args.drop_mode c.args.piece S) c.board-filled.ensures c.whole_places.ensures)
