@@ -44,13 +44,13 @@ pub struct Asked {
     pub places: Vec<u8>,
 }
 
-/// The pieces of all tilings of some cells by pieces with these counts.
-fn pieces_of(store: &mut PieceStore, cells: &Empties, counts: &Counts) -> TiledPieces
+/// The pieces of all tilings of some cells by pieces with these counts. The walk begins at the side nearer to a column.
+fn pieces_of(store: &mut PieceStore, cells: &Empties, near: u8, counts: &Counts) -> TiledPieces
     ensures { (q : Placement) → IsTrue (is_marked result q)
         ↔ StandsInTiling (empty_cells cells.now) (supply_by counts.now) q }
 {
     let [_, i, l, o, z, t, j, s] = *counts;
-    store.pieces(cells, &[i, l, o, z, t, j, s])
+    store.pieces_near(cells, near, &[i, l, o, z, t, j, s])
 }
 
 /// The counts of the first `pieces` pieces of a hand and of one more piece.
@@ -105,7 +105,7 @@ impl Marks {
     fn find(&mut self, store: &mut PieceStore, counts: Counts) -> Result<(), NoMemory>
         ensures { self.new.position ≡ self.old.position }
     {
-        let pieces = pieces_of(store, &self.cells, &counts);
+        let pieces = pieces_of(store, &self.cells, self.position.near, &counts);
         self.known.push(Mark { counts, pieces })?;
         Ok(())
     }
