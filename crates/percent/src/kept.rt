@@ -71,7 +71,7 @@ pub struct Kept {
 }
 
 impl Kept {
-    ghost use Rattle.std.specs.Prelude.{◌↔◌, ℕ, ◌+◌, ◌&&◌, ◌||◌, true, false, Contains, IfOk, IsTrue, set};
+    ghost use Rattle.std.specs.Prelude.{◌↔◌, ℕ, ◌+◌, ◌&&◌, ◌||◌, true, false, Contains, IfOk, IfSome, IsTrue, set};
     ghost use Rattle.number_sets.specs.Rising.{IsRising, has};
     ghost use Rattle.dead_memo.specs.Keys.{cells_in_bits};
     ghost use Rattle.well.specs.Well.{filled};
@@ -128,29 +128,30 @@ impl Kept {
         (&[], &[])
     }
 
-    /// The hands that are known to be good at a position, and those about which nothing is known.
+    /// Those of the hands that are known to be good at a position, and those about which nothing is known. `None` if
+    /// nothing is known of the position.
     pub fn recalled(
         &self,
         alloc: Global,
         position: &Position,
         left: u8,
         hands: &[u64],
-    ) -> Result<(Vec<u64>, Vec<u64>), NoMemory>
+    ) -> Result<Option<(Vec<u64>, Vec<u64>)>, NoMemory>
         requires { IsRising hands.now }
-        ensures good_rises { IfOk result (λ v. IsRising v.0.items) }
-        ensures unknown_rises { IfOk result (λ v. IsRising v.1.items) }
-        ensures members { IfOk result (λ v. (hand : ℕ) → (has v.0.items hand
+        ensures good_rises { IfOk result (λ recalled. IfSome recalled (λ v. IsRising v.0.items)) }
+        ensures unknown_rises { IfOk result (λ recalled. IfSome recalled (λ v. IsRising v.1.items)) }
+        ensures members { IfOk result (λ recalled. IfSome recalled (λ v. (hand : ℕ) → (has v.0.items hand
             || (has v.1.items hand && is_good self.now.game (filled position.now.well) position.now.rows left hand))
-            ≡ (has hands.now hand && is_good self.now.game (filled position.now.well) position.now.rows left hand)) }
+            ≡ (has hands.now hand && is_good self.now.game (filled position.now.well) position.now.rows left hand))) }
     {
         let (found, missed) = self.known(position, left);
         if found.is_empty() && missed.is_empty() {
-            return Ok((Vec::new(alloc), Vec::from_slice(alloc, hands)?));
+            return Ok(None);
         }
         let open = without(alloc, hands, missed)?;
         let unknown = without(alloc, open.as_slice(), found)?;
         let good = without(alloc, open.as_slice(), unknown.as_slice())?;
-        Ok((good, unknown))
+        Ok(Some((good, unknown)))
     }
 
     /// Puts an entry in the place of an earlier one. There must be room for it.

@@ -4,8 +4,8 @@ use Rattle.srs.specs.Piece.{piece_code}
 use Rattle.number_sets.specs.Rising.{has}
 use Rattle.percent.specs.Hands.{takes}
 use Rattle.percent.proofs.RestSteps.{keep-starts, keep-push, keep-pass, keep-members}
-use Rattle.percent.proofs.hand.not_leading_to.Goals as goal
-use Rattle.percent.proofs.hand.not_leading_to.Goals.{then-not-leaves_one_of+in_ok-push, else-not-leaves_one_of}
+use Rattle.percent.proofs.hand.not_leading_to_some.Goals as goal
+use Rattle.percent.proofs.hand.not_leading_to_some.Goals.{then-not-leaves_one_of+in_ok-push, else-not-leaves_one_of}
 
 pub loop-hand-init : goal.loop-hand-init
 loop-hand-init c = rw c.new-v.ensures.items (keep-starts (λ hand. not (takes c.args.hold (piece_code c.args.piece) (has c.args.rests.now) hand)) c.args.hands.now)
