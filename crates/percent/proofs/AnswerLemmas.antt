@@ -11,13 +11,14 @@ use Rattle.percent.specs.Good.{Good}
 use Rattle.well.specs.Well.{filled}
 use Rattle.queue_pattern.specs.Pattern.{elements_of}
 use Rattle.queue_pattern.specs.Queues.{queues}
-use Rattle.number_sets.specs.Rising.{has}
+use Rattle.number_sets.specs.Rising.{IsRising, has}
 use Rattle.number_sets.proofs.CallerLemmas.{has-none, has-push, has-there}
 use Rattle.problem.specs.declared.problem.Problem.{Problem}
 use Rattle.problem.specs.Problem.{IsFit, empties_of, needed_of}
 use Rattle.percent.specs.Hands.{hand_of}
 use Rattle.percent.specs.GoodHands.{AreAnswers, game_of, hand_at, HasGoodHands, HasHandsBefore, is_good, is_good_queue}
 use Rattle.percent.proofs.TestLemmas.{or_first, or_second}
+use Rattle.percent.proofs.WholeLemmas.{whole-list}
 use Rattle.percent.proofs.GoodLemmas.{good-decides, uneven-none}
 
 -- the hand of a queue that was read
@@ -133,3 +134,14 @@ pub uneven-answer : (problem : Problem) (hands : List ℕ) → IsFit problem →
     → (hand : ℕ) → has [] hand ≡ (has hands hand && is_good (game_of problem) (filled problem.well) problem.height (needed_of problem) hand)
 uneven-answer problem hands fit uneven hand =
     has-none hand ∙ never (has hands hand) (is_good (game_of problem) (filled problem.well) problem.height (needed_of problem) hand) (uneven-none problem fit uneven (needed_of problem) hand)
+
+first_true : (a b : Bool) → (a && b) ≡ true → a ≡ true
+first_true true b h = refl
+first_true false b h = h
+
+-- where as many hands are good as there are, all are
+pub whole-hands : (problem : Problem) (hands good : List ℕ) (test : ℕ → Bool) (number : ℕ) → IsRising hands → IsRising good → ((hand : ℕ) → has good hand ≡ (has hands hand && test hand))
+    → length good ≡ length hands → HasHandsBefore problem hands number → HasHandsBefore problem good number
+whole-hands problem hands good test number hands_up good_up good_is same state = record {
+  each = λ k below. whole-list good hands good_up hands_up (λ hand there. first_true (has hands hand) (test hand) (sym (good_is hand) ∙ there)) same (hand_at problem k) (state.each k below);
+}

@@ -88,6 +88,20 @@ ask_less false a t u same = refl
 ask_less true true t u same = refl
 ask_less true false t u same = ap not (same refl)
 
+never_and : (a : Bool) → (a && false) ≡ false
+never_and true = refl
+never_and false = refl
+
+untaken : (w a b c : Bool) → w ≡ (w && not ((a && false) || (b && (c && false))))
+untaken w a b c = rw (never_and a, never_and c, never_and b) (not_none w)
+
+-- where nothing may be left nothing is taken
+pub takes-none : (hold : Hold) (code : ℕ) (hands rests : List ℕ) (hand : ℕ) → rests ≡ [] → has hands hand ≡ (has hands hand && not (takes hold code (has rests) hand))
+unfolding takes has
+takes-none hold code hands rests hand nil =
+    subst (λ (l : List ℕ). has hands hand ≡ (has hands hand && not (takes hold code (has l) hand))) (sym nil)
+    (untaken (has hands hand) (hand % 8 == code) (allows_hold hold) (hand / 8 % 8 == code))
+
 explore-more : (order : List Piece) (game now next_game : Game) (F : Field) (rows left : ℕ) (hands asked rests good next : List ℕ) (before middle after i : ℕ) (d : Piece)
     → Exploring order game now F rows left hands asked before middle i → i < length order
     → ((rest : ℕ) → has rests rest ≡ (has asked (with_first (piece_code (get_or order i d)) rest) || (allows_hold now.hold && has asked (with_second (piece_code (get_or order i d)) rest))))
@@ -134,15 +148,33 @@ taken_back false a = refl
 taken_back true true = refl
 taken_back true false = refl
 
+-- all kinds, in whatever order
+all_tried : (order : List Piece) (game : Game) (F : Field) (rows left i : ℕ) → IsPermutation all_pieces order → length order ≤ i
+    → (hand : ℕ) → list_any (λ piece. takes game.hold (piece_code piece) (is_good_after game F rows piece left) hand) (take i order) ≡ is_good game F rows (left + 1) hand
+all_tried order game F rows left i same all hand =
+    let test : Piece → Bool = λ piece. takes game.hold (piece_code piece) (is_good_after game F rows piece left) hand in
+    let one : left + 1 ≡ suc left = omega arith in
+    ap (list_any test) (take_all i order all) ∙ sym (list_any-IsPermutation test all_pieces order same) ∙ sym (good-step game F rows left hand) ∙ ap (λ n. is_good game F rows n hand) (sym one)
+
 pub explore-ends : (order : List Piece) (game now : Game) (F : Field) (rows left : ℕ) (hands asked found : List ℕ) (before after i : ℕ) → IsPermutation all_pieces order → Exploring order game now F rows left hands asked before after i → length order ≤ i
     → ((hand : ℕ) → has found hand ≡ (has hands hand && not (has asked hand)))
     → (hand : ℕ) → has found hand ≡ (has hands hand && is_good game F rows (left + 1) hand)
 explore-ends order game now F rows left hands asked found before after i same state all found_is hand =
     let test : Piece → Bool = λ piece. takes game.hold (piece_code piece) (is_good_after game F rows piece left) hand in
-    let one : left + 1 ≡ suc left = omega arith in
     found_is hand ∙ ap (λ b. has hands hand && not b) (state.members hand)
     ∙ taken_back (has hands hand) (list_any test (take i order))
-    ∙ ap (λ b. has hands hand && b) (ap (list_any test) (take_all i order all) ∙ sym (list_any-IsPermutation test all_pieces order same) ∙ sym (good-step game F rows left hand) ∙ ap (λ n. is_good game F rows n hand) (sym one))
+    ∙ ap (λ b. has hands hand && b) (all_tried order game F rows left i same all hand)
+
+not_second : (w t : Bool) → (w && not t) ≡ true → t ≡ false
+not_second true false there = refl
+not_second true true there = cc
+not_second false t there = cc
+
+-- the hands that are still asked about aren't good
+pub explore-bad : (order : List Piece) (game now : Game) (F : Field) (rows left : ℕ) (hands asked : List ℕ) (before after i : ℕ) → IsPermutation all_pieces order → Exploring order game now F rows left hands asked before after i → length order ≤ i
+    → (hand : ℕ) → has asked hand ≡ true → is_good game F rows (left + 1) hand ≡ false
+explore-bad order game now F rows left hands asked before after i same state all hand there =
+    sym (all_tried order game F rows left i same all hand) ∙ not_second (has hands hand) _ (sym (state.members hand) ∙ there)
 
 -- ---- one child after the other
 

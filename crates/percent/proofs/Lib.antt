@@ -5,6 +5,7 @@ mod HandLemmas
 mod GoodLemmas
 mod NumberSteps
 mod RestSteps
+mod WholeLemmas
 mod KeptLemmas
 mod MarkLemmas
 mod PlaceLemmas

@@ -2,7 +2,7 @@
 use Rattle.std.proofs.Common.{ℕ, suc, ◌≡◌, ◌∙◌, ◌+◌, ◌-◌, ◌<◌, ◌≤◌, true, false, not, ◌==◌, nat_le, List, [], ◌∷◌, ◌++◌, length, get_or, ap, pos, negsuc, int_lt, refl, sym, subst, inl, inr, arith}
 use Rattle.std.specs.List.{list_all, list_any}
 use Rattle.std.proofs.lemmas.Bool.{and_parts, and_from, cases_Bool, cases_lt, or_cases, eqb-true, cond-true, cond-false, both_ways, eq-eqb, false≢true, false_from_ne_true, lt-ltb, leb-true}
-use Rattle.std.specs.Prelude.{All}
+use Rattle.std.specs.Prelude.{All, Option, Some, None, IfSome, IsSomeAnd}
 use Rattle.std.proofs.lemmas.Option.{slice_get_within, get_or_from_slice_get}
 use Rattle.std.proofs.lemmas.List.{get_or_append_left, get_or_push, length-append}
 use Rattle.number_sets.specs.Rising.{has}
@@ -142,43 +142,45 @@ bad-stand game p child left rest counts cells are is most none =
 -- ---- places of marks
 
 -- a place for each of the first i rests
-pub record ArePlacesBefore (known : List Mark) (piece : Piece) (left : ℕ) (rests places : List ℕ) (i : ℕ) : Type 0 where
+pub record ArePlacesBefore (known : List Mark) (piece : Piece) (left : ℕ) (rests : List ℕ) (places : List (Option ℕ)) (i : ℕ) : Type 0 where
   pub size : length places ≡ i
-  pub each : (k : ℕ) → k < i → get_or places k 0 < 255 → IsMarkOf known piece left (get_or rests k 0) (get_or places k 0)
+  pub each : (k : ℕ) → k < i → IfSome (get_or places k None) (IsMarkOf known piece left (get_or rests k 0))
 
-pub places-start : (known : List Mark) (piece : Piece) (left : ℕ) (rests places : List ℕ) → places ≡ [] → ArePlacesBefore known piece left rests places 0
+pub places-start : (known : List Mark) (piece : Piece) (left : ℕ) (rests : List ℕ) (places : List (Option ℕ)) → places ≡ [] → ArePlacesBefore known piece left rests places 0
 places-start known piece left rests places nil = record { size = ap length nil; each = λ k low. absurd (omega arith) }
 
-pub places-more : (known : List Mark) (piece : Piece) (left : ℕ) (rests places : List ℕ) (i place : ℕ) → ArePlacesBefore known piece left rests places i
-    → (place < 255 → IsMarkOf known piece left (get_or rests i 0) place)
+pub places-more : (known : List Mark) (piece : Piece) (left : ℕ) (rests : List ℕ) (places : List (Option ℕ)) (i : ℕ) (place : Option ℕ) → ArePlacesBefore known piece left rests places i
+    → IfSome place (IsMarkOf known piece left (get_or rests i 0))
     → ArePlacesBefore known piece left rests (places ++ place ∷ []) (i + 1)
 places-more known piece left rests places i place state here = record {
   size = let long = length-append places (place ∷ []) in let size = state.size in omega (arith, long, size);
-  each = λ k low marked. elim (cases_lt k i) [
+  each = λ k low. elim (cases_lt k i) [
     | inl before ↦
-        let old = get_or_append_left places (place ∷ []) 0 k (let size = state.size in omega (arith, size)) in
-        subst (IsMarkOf known piece left (get_or rests k 0)) (sym old) (state.each k before (subst (λ n. n < 255) old marked))
+        let old = get_or_append_left places (place ∷ []) None k (let size = state.size in omega (arith, size)) in
+        subst (λ (o : Option ℕ). IfSome o (IsMarkOf known piece left (get_or rests k 0))) (sym old) (state.each k before)
     | inr past ↦
         let last : k ≡ i = omega arith in
-        let new = get_or_push places place 0 k (state.size ∙ sym last) in
-        subst (IsMarkOf known piece left (get_or rests k 0)) (sym new) (subst (λ j. IsMarkOf known piece left (get_or rests j 0) place) (sym last) (here (subst (λ n. n < 255) new marked)))
+        let new = get_or_push places place None k (state.size ∙ sym last) in
+        subst (λ (o : Option ℕ). IfSome o (IsMarkOf known piece left (get_or rests k 0))) (sym new)
+        (subst (λ j. IfSome place (IsMarkOf known piece left (get_or rests j 0))) (sym last) here)
   ];
 }
 
-pub places-end : (known : List Mark) (piece : Piece) (left : ℕ) (items rests places : List ℕ) (i : ℕ) → items ≡ rests → ArePlacesBefore known piece left items places i → i ≡ length items → ArePlaces known piece left rests places
+pub places-end : (known : List Mark) (piece : Piece) (left : ℕ) (items rests : List ℕ) (places : List (Option ℕ)) (i : ℕ) → items ≡ rests → ArePlacesBefore known piece left items places i → i ≡ length items → ArePlaces known piece left rests places
 places-end known piece left items rests places i same state all =
     subst (λ l. ArePlaces known piece left l places) same (record {
       size = state.size ∙ all;
       each = λ k low. state.each k (omega (arith, all));
     })
 
--- where no place is 255 each rest has a mark
-pub all-marked : (known : List Mark) (piece : Piece) (left : ℕ) (rests places : List ℕ) → ArePlaces known piece left rests places → ((k : ℕ) → k < length places → get_or places k 0 < 255)
+-- where each rest has a place each has a mark
+pub all-marked : (known : List Mark) (piece : Piece) (left : ℕ) (rests : List ℕ) (places : List (Option ℕ)) → ArePlaces known piece left rests places → ((k : ℕ) → k < length places → get_or places k None ≡ None → ⊥)
     → (rest : ℕ) → has rests rest ≡ true → (place : ℕ) × IsMarkOf known piece left rest place
 unfolding has
-all-marked known piece left rests places are marked rest here =
+all-marked known piece left rests places are some rest here =
     let at = has-at rests rest here in
-    (get_or places at.0 0, subst (λ r. IsMarkOf known piece left r (get_or places at.0 0)) at.2 (are.each at.0 at.1 (marked at.0 (let size = are.size in omega (arith, size)))))
+    subst (λ r. (place : ℕ) × IsMarkOf known piece left r place) at.2
+    (there (IsMarkOf known piece left (get_or rests at.0 0)) (get_or places at.0 None) (are.each at.0 at.1) (some at.0 (let size = are.size in omega (arith, size))))
   where
     has-at : (xs : List ℕ) (number : ℕ) → has xs number ≡ true → (k : ℕ) × (k < length xs) × (get_or xs k 0 ≡ number)
     has-at [] number there = absurd (false≢true there)
@@ -186,3 +188,18 @@ all-marked known piece left rests places are marked rest here =
       | inl first ↦ (0, omega arith, eqb-true x number first)
       | inr later ↦ let w = has-at xs number later in (suc w.0, omega (arith, w.1), w.2)
     ]
+
+    there : (P : ℕ → Type 0) (place : Option ℕ) → IfSome place P → (place ≡ None → ⊥) → (known_place : ℕ) × P known_place
+    there P None holds some = absurd (some refl)
+    there P (Some known_place) holds some = (known_place, holds)
+
+-- a mark of the counts of a rest and a piece more
+pub mark-with : (known : List Mark) (piece : Piece) (left rest : ℕ) (counts : List ℕ) (place : Option ℕ) → IfSome place (λ p. HasMarkAt known p counts)
+    → ((code : ℕ) → code < 8 → codes_with piece (left + 1) rest code ≤ get_or counts code 0) → IfSome place (IsMarkOf known piece left rest)
+mark-with known piece left rest counts None there enough = tt
+mark-with known piece left rest counts (Some p) there enough = record { counts = counts; there = there; enough = enough }
+
+-- the mark at a place of which something is known
+pub mark-there : (P Q : ℕ → Type 0) (place : Option ℕ) → IfSome place P → IsSomeAnd place Q → (known_place : ℕ) × P known_place × Q known_place
+mark-there P Q None holds is = absurd is
+mark-there P Q (Some known_place) holds is = (known_place, holds, is)

@@ -1,5 +1,6 @@
 -- Answers that are kept are true.
-use Rattle.std.specs.Prelude.{◌≡◌, ℕ, ◌+◌, true, false, List, length, sum_by}
+use Rattle.std.specs.Prelude.{◌≡◌, ℕ, ◌+◌, true, false, Contains, List, length, sum_by}
+use Rattle.lane_board.specs.Field.{Field}
 use Rattle.number_sets.specs.Rising.{IsRising, has}
 use Rattle.dead_memo.specs.Keys.{cells_in_bits}
 use Rattle.percent.specs.declared.game.Game.{Game}
@@ -14,6 +15,16 @@ pub record IsTrueSlot (game : Game) (slot : Slot) : Type 0 where
       → is_good game (cells_in_bits slot.cells) slot.rows slot.left hand ≡ true
   pub missed_true : (hand : ℕ) → has slot.missed.items hand ≡ true
       → is_good game (cells_in_bits slot.cells) slot.rows slot.left hand ≡ false
+
+-- an entry says of hands at a position that they are good, and of others that they are not
+pub record Keeps (slots : List Slot) (F : Field) (rows left : ℕ) (found missed : List ℕ) : Type 0 where
+  pub slot : Slot
+  pub among : Contains slots slot
+  pub field : cells_in_bits slot.cells ≡ F
+  pub height : slot.rows ≡ rows
+  pub to_come : slot.left ≡ left
+  pub good : (hand : ℕ) → has found hand ≡ true → has slot.found.items hand ≡ true
+  pub bad : (hand : ℕ) → has missed hand ≡ true → has slot.missed.items hand ≡ true
 
 -- how many answers a slot has, and how many there are in all
 unfoldable pub answers_of : Slot → ℕ

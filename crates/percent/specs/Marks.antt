@@ -1,5 +1,5 @@
 -- Marked placements: those that may stand in a tiling of some cells.
-use Rattle.std.specs.Prelude.{◌≡◌, ℕ, ◌+◌, ◌<◌, ◌≤◌, true, List, Some, length, slice_get, slice_index}
+use Rattle.std.specs.Prelude.{◌≡◌, ℕ, ◌+◌, ◌<◌, ◌≤◌, true, List, Option, Some, None, IfSome, length, slice_get, slice_index, slice_index_or}
 use Rattle.srs.specs.declared.piece.Piece.{Piece}
 use Rattle.srs.specs.declared.placement.Placement.{Placement}
 use Rattle.packing.specs.declared.empties.Empties.{Empties}
@@ -24,8 +24,8 @@ pub record IsMarkOf (known : List Mark) (piece : Piece) (left rest place : ℕ) 
   pub there : HasMarkAt known place counts
   pub enough : (code : ℕ) → code < 8 → codes_with piece (left + 1) rest code ≤ slice_index counts code
 
--- one place for each rest: that of the mark of its pieces, or 255
-pub record ArePlaces (known : List Mark) (piece : Piece) (left : ℕ) (rests places : List ℕ) : Type 0 where
+-- for each rest the place of the mark of its pieces, if there is one
+pub record ArePlaces (known : List Mark) (piece : Piece) (left : ℕ) (rests : List ℕ) (places : List (Option ℕ)) : Type 0 where
   pub size : length places ≡ length rests
-  pub each : (k : ℕ) → k < length rests → slice_index places k < 255
-      → IsMarkOf known piece left (slice_index rests k) (slice_index places k)
+  pub each : (k : ℕ) → k < length rests
+      → IfSome (slice_index_or places k None) (IsMarkOf known piece left (slice_index rests k))

@@ -80,20 +80,20 @@ pub fn answered<L: Ledger>(
     if hands.is_empty() {
         return Ok(Vec::new(alloc));
     }
-    let (known, unknown) = kept.recalled(alloc, position, left, hands)?;
+    let Some((known, unknown)) = kept.recalled(alloc, position, left, hands)? else {
+        return explored(alloc, kept, position, left - 1, hands, steps);
+    };
     if unknown.is_empty() {
         return Ok(known);
     }
     let found = explored(alloc, kept, position, left - 1, unknown.as_slice(), steps)?;
-    let missed = without(alloc, unknown.as_slice(), found.as_slice())?;
-    kept.keep(alloc, position, left, found.as_slice(), missed.as_slice());
     if known.is_empty() {
         return Ok(found);
     }
     merged(alloc, known.as_slice(), found.as_slice())
 }
 
-/// The hands that are good at a position with one placement to come and then `left` more, piece by piece.
+/// The hands that are good at a position with one placement to come and then `left` more, piece by piece. They are kept.
 #[cycle(search)]
 fn explored<L: Ledger>(
     alloc: Global,
@@ -117,9 +117,11 @@ fn explored<L: Ledger>(
         let hold = kept.game.hold;
         let rests = rests_of(alloc, hold, piece, open.as_slice())?;
         let good = tried(alloc, kept, &marks, left, piece, rests.as_slice(), steps)?;
-        open = not_leading_to(alloc, hold, piece, open.as_slice(), good.as_slice())?;
+        open = not_leading_to(alloc, hold, piece, open, good.as_slice())?;
     }
-    without(alloc, hands, open.as_slice())
+    let found = without(alloc, hands, open.as_slice())?;
+    kept.keep(alloc, position, left + 1, found.as_slice(), open.as_slice());
+    Ok(found)
 }
 
 /// The rests that are good after one of the places of a piece, at the position of the marks.

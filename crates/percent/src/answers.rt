@@ -43,20 +43,22 @@ fn all_good(alloc: Global, problem: &Problem, hands: &[u64]) -> Result<Vec<bool>
     Ok(answers)
 }
 
-/// For each queue, by its number, whether it is good: whether its hand is among the good ones of all hands.
+/// For each queue, by its number, whether it is good: whether its hand is among the good ones. If there are as many good
+/// hands as there are hands in `all`, each is.
 fn judged(
     alloc: Global,
     problem: &Problem,
-    hands: &[u64],
+    all: usize,
     good: &[u64],
 ) -> Result<Vec<bool>, NoMemory>
     requires fit { IsFit problem.now }
-    requires each { HasHandsBefore problem.now hands.now (length (queues (elements_of problem.now.pattern))) }
+    requires whole { length good.now ≡ all →
+        HasHandsBefore problem.now good.now (length (queues (elements_of problem.now.pattern))) }
     requires rises { IsRising good.now }
     requires exact { HasGoodHands problem.now good.now }
     ensures { IfOk result (λ v. AreAnswers problem.now v.items (length (queues (elements_of problem.now.pattern)))) }
 {
-    if hands == good {
+    if good.len() == all {
         return all_good(alloc, problem, good);
     }
     let count = problem.pattern.count();
@@ -109,8 +111,9 @@ impl Answers {
         ensures counted { steps.old ≤ steps.new }
     {
         let hands = hands_of(alloc, problem)?;
-        let good = good_hands(alloc, problem, hands.as_slice(), steps)?;
-        let good = judged(alloc, problem, hands.as_slice(), good.as_slice())?;
+        let all = hands.len();
+        let good = good_hands(alloc, problem, hands, steps)?;
+        let good = judged(alloc, problem, all, good.as_slice())?;
         let count = count_good(problem, good.as_slice());
         Ok(Answers {
             problem: *problem,

@@ -26,7 +26,7 @@ impl Marks {
             → (place : ℕ) × IsMarkOf self.now.known.items piece left rest place }
     {
         for place in &asked.places {
-            if *place == 255 {
+            if place.is_none() {
                 return false;
             }
         }

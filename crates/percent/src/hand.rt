@@ -127,7 +127,7 @@ fn leaves_one_of(hold: Hold, piece: Piece, rests: &[u64], hand: u64) -> bool
 }
 
 /// The hands from which a piece can't be taken so that one of these is left.
-pub fn not_leading_to(
+fn not_leading_to_some(
     alloc: Global,
     hold: Hold,
     piece: Piece,
@@ -147,4 +147,24 @@ pub fn not_leading_to(
         }
     }
     Ok(v)
+}
+
+/// The same, without a look at the hands if there are none of these.
+pub fn not_leading_to(
+    alloc: Global,
+    hold: Hold,
+    piece: Piece,
+    hands: Vec<u64>,
+    rests: &[u64],
+) -> Result<Vec<u64>, NoMemory>
+    requires hands { IsRising hands.items }
+    requires rests { IsRising rests.now }
+    ensures rises { IfOk result (λ v. IsRising v.items) }
+    ensures members { IfOk result (λ v. (hand : ℕ) → has v.items hand
+        ≡ (has hands.items hand && not (takes hold (piece_code piece) (has rests.now) hand))) }
+{
+    if rests.is_empty() {
+        return Ok(hands);
+    }
+    not_leading_to_some(alloc, hold, piece, hands.as_slice(), rests)
 }

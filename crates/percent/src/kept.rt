@@ -2,7 +2,7 @@
 ghost use Rattle.std.specs.Prelude.{◌≡◌, ◌≤◌, ◌<◌, All, length};
 ghost use Rattle.srs.specs.Rules.{table_of};
 ghost use Rattle.reach.specs.FloodRules.{flood_table};
-ghost use Rattle.percent.specs.Kept.{answers_in, answers_of, IsTrueSlot};
+ghost use Rattle.percent.specs.Kept.{answers_in, answers_of, IsTrueSlot, Keeps};
 
 use crate::game::Game;
 use crate::position::Position;
@@ -71,7 +71,7 @@ pub struct Kept {
 }
 
 impl Kept {
-    ghost use Rattle.std.specs.Prelude.{ℕ, ◌+◌, ◌&&◌, ◌||◌, true, false, Contains, IfOk, set};
+    ghost use Rattle.std.specs.Prelude.{◌↔◌, ℕ, ◌+◌, ◌&&◌, ◌||◌, true, false, Contains, IfOk, IfSome, IsTrue, set};
     ghost use Rattle.number_sets.specs.Rising.{IsRising, has};
     ghost use Rattle.dead_memo.specs.Keys.{cells_in_bits};
     ghost use Rattle.well.specs.Well.{filled};
@@ -128,29 +128,30 @@ impl Kept {
         (&[], &[])
     }
 
-    /// The hands that are known to be good at a position, and those about which nothing is known.
+    /// Those of the hands that are known to be good at a position, and those about which nothing is known. `None` if
+    /// nothing is known of the position.
     pub fn recalled(
         &self,
         alloc: Global,
         position: &Position,
         left: u8,
         hands: &[u64],
-    ) -> Result<(Vec<u64>, Vec<u64>), NoMemory>
+    ) -> Result<Option<(Vec<u64>, Vec<u64>)>, NoMemory>
         requires { IsRising hands.now }
-        ensures good_rises { IfOk result (λ v. IsRising v.0.items) }
-        ensures unknown_rises { IfOk result (λ v. IsRising v.1.items) }
-        ensures members { IfOk result (λ v. (hand : ℕ) → (has v.0.items hand
+        ensures good_rises { IfOk result (λ recalled. IfSome recalled (λ v. IsRising v.0.items)) }
+        ensures unknown_rises { IfOk result (λ recalled. IfSome recalled (λ v. IsRising v.1.items)) }
+        ensures members { IfOk result (λ recalled. IfSome recalled (λ v. (hand : ℕ) → (has v.0.items hand
             || (has v.1.items hand && is_good self.now.game (filled position.now.well) position.now.rows left hand))
-            ≡ (has hands.now hand && is_good self.now.game (filled position.now.well) position.now.rows left hand)) }
+            ≡ (has hands.now hand && is_good self.now.game (filled position.now.well) position.now.rows left hand))) }
     {
         let (found, missed) = self.known(position, left);
         if found.is_empty() && missed.is_empty() {
-            return Ok((Vec::new(alloc), Vec::from_slice(alloc, hands)?));
+            return Ok(None);
         }
         let open = without(alloc, hands, missed)?;
         let unknown = without(alloc, open.as_slice(), found)?;
         let good = without(alloc, open.as_slice(), unknown.as_slice())?;
-        Ok((good, unknown))
+        Ok(Some((good, unknown)))
     }
 
     /// Puts an entry in the place of an earlier one. There must be room for it.
@@ -228,24 +229,27 @@ impl Kept {
         })
     }
 
-    /// Keeps an entry, unless it alone has more answers than there is room for. Others may be evicted for it.
-    fn note(&mut self, alloc: Global, slot: Slot)
+    /// Keeps an entry, and says whether it did: not if it alone has more answers than there is room for. Others may be
+    /// evicted for it.
+    fn note(&mut self, alloc: Global, slot: Slot) -> bool
         requires { IsTrueSlot self.old.game slot }
         ensures game { self.new.game ≡ self.old.game }
         ensures bounded { answers_in self.new.slots.items ≤ 4194304 }
-        ensures kept { answers_of slot ≤ 4194304 → Contains self.new.slots.items slot }
+        ensures room { IsTrue result ↔ answers_of slot ≤ 4194304 }
+        ensures kept { IsTrue result → Contains self.new.slots.items slot }
     {
         let count = slot.len();
         if count > MOST {
-            return;
+            return false;
         }
         self.make_room(alloc, count);
         let place = self.place_of(slot.cells, slot.left);
         self.replace(place, slot);
+        true
     }
 
-    /// Keeps hands that are good at a position and hands that are not, beside those already known. Others may be
-    /// evicted for them. If there is no room or no memory for them, they are not kept.
+    /// Keeps hands that are good at a position and hands that are not, beside those already known, and says whether it
+    /// did. Others may be evicted for them. If there is no room or no memory for them, they are not kept.
     pub fn keep(
         &mut self,
         alloc: Global,
@@ -253,7 +257,7 @@ impl Kept {
         left: u8,
         found: &[u64],
         missed: &[u64],
-    )
+    ) -> bool
         requires found_rises { IsRising found.now }
         requires missed_rises { IsRising missed.now }
         requires found_true { (hand : ℕ) → has found.now hand ≡ true
@@ -261,12 +265,15 @@ impl Kept {
         requires missed_true { (hand : ℕ) → has missed.now hand ≡ true
             → is_good self.old.game (filled position.now.well) position.now.rows left hand ≡ false }
         ensures game { self.new.game ≡ self.old.game }
+        ensures kept { IsTrue result → Keeps self.new.slots.items (filled position.now.well) position.now.rows left
+            found.now missed.now }
     {
         if found.len() + missed.len() > MOST {
-            return;
+            return false;
         }
-        if let Ok(entry) = self.entry(alloc, position, left, found, missed) {
-            self.note(alloc, entry);
+        match self.entry(alloc, position, left, found, missed) {
+            Ok(entry) => self.note(alloc, entry),
+            Err(_) => false,
         }
     }
 }

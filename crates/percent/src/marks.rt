@@ -1,6 +1,6 @@
 // The placements that stand in some tiling by the available pieces. A piece placed elsewhere leaves cells that the
 // others can't fill.
-ghost use Rattle.std.specs.Prelude.{◌≡◌, ◌↔◌, ◌≤◌, ◌<◌, ◌&&◌, ℕ, IsTrue, IfOk, All, List, false, slice_index};
+ghost use Rattle.std.specs.Prelude.{◌≡◌, ◌↔◌, ◌≤◌, ◌<◌, ◌&&◌, ℕ, IsTrue, IfOk, IfSome, IsSomeAnd, All, List, false, slice_index};
 ghost use Rattle.lane_board.specs.Field.{difference, rows_below};
 ghost use Rattle.srs.specs.declared.placement.Placement.{Placement};
 ghost use Rattle.well.specs.Well.{filled};
@@ -37,20 +37,20 @@ pub struct Marks {
     ghost are_true: { All (IsTrueMark cells) known.items },
 }
 
-/// Rests of hands, and for each the place of the mark of its pieces.
+/// Rests of hands, and for each the place of the mark of its pieces, if there is one.
 #[derive(Drop)]
 pub struct Asked {
     pub rests: Vec<u64>,
-    pub places: Vec<u8>,
+    pub places: Vec<Option<u8>>,
 }
 
-/// The pieces of all tilings of some cells by pieces with these counts.
-fn pieces_of(store: &mut PieceStore, cells: &Empties, counts: &Counts) -> TiledPieces
+/// The pieces of all tilings of some cells by pieces with these counts. The walk begins at the side nearer to a column.
+fn pieces_of(store: &mut PieceStore, cells: &Empties, near: u8, counts: &Counts) -> TiledPieces
     ensures { (q : Placement) → IsTrue (is_marked result q)
         ↔ StandsInTiling (empty_cells cells.now) (supply_by counts.now) q }
 {
     let [_, i, l, o, z, t, j, s] = *counts;
-    store.pieces(cells, &[i, l, o, z, t, j, s])
+    store.pieces_near(cells, near, &[i, l, o, z, t, j, s])
 }
 
 /// The counts of the first `pieces` pieces of a hand and of one more piece.
@@ -105,31 +105,31 @@ impl Marks {
     fn find(&mut self, store: &mut PieceStore, counts: Counts) -> Result<(), NoMemory>
         ensures { self.new.position ≡ self.old.position }
     {
-        let pieces = pieces_of(store, &self.cells, &counts);
+        let pieces = pieces_of(store, &self.cells, self.position.near, &counts);
         self.known.push(Mark { counts, pieces })?;
         Ok(())
     }
 
-    /// The place of the mark of pieces with these counts, or 255 if there is none.
-    fn place_of(&self, counts: &Counts) -> u8
-        ensures { result < 255 → HasMarkAt self.now.known.items result counts.now }
+    /// The place of the mark of pieces with these counts, if there is one.
+    fn place_of(&self, counts: &Counts) -> Option<u8>
+        ensures { IfSome result (λ place. HasMarkAt self.now.known.items place counts.now) }
     {
-        for place in 0..self.known.len().min(255) {
+        for place in 0..self.known.len().min(256) {
             let mark = &self.known[place];
             if mark.counts == *counts {
-                return place as u8;
+                return Some(place as u8);
             }
         }
-        255
+        None
     }
 
-    /// The place of the mark of the pieces of a rest and one more, or 255 if there is none.
-    fn place_with(&self, rest: u64, left: u8, piece: Piece) -> u8
+    /// The place of the mark of the pieces of a rest and one more, if there is one.
+    fn place_with(&self, rest: u64, left: u8, piece: Piece) -> Option<u8>
         requires { left ≤ 20 }
-        ensures { result < 255 → IsMarkOf self.now.known.items piece left rest result }
+        ensures { IfSome result (λ place. IsMarkOf self.now.known.items piece left rest place) }
     {
         if self.known.is_empty() {
-            return 255;
+            return None;
         }
         self.place_of(&counts_with(rest, left + 1, piece))
     }
@@ -154,16 +154,16 @@ impl Marks {
         Ok(Asked { rests, places })
     }
 
-    /// Whether a placement may stand in a tiling by the pieces of the mark at a place.
-    fn may_stand(&self, place: u8, placement: &Placement) -> bool
-        ensures known { result ≡ false → place < 255 }
-        ensures none { result ≡ false → (counts : List ℕ) → HasMarkAt self.now.known.items place counts
-            → StandsInTiling (empty_cells self.now.cells) (supply_by counts) placement.now → ⊥ }
+    /// Whether a placement may stand in a tiling by the pieces of the mark at a place. If there is no mark, it may.
+    fn may_stand(&self, place: Option<u8>, placement: &Placement) -> bool
+        ensures { result ≡ false → IsSomeAnd place (λ known_place. (counts : List ℕ)
+            → HasMarkAt self.now.known.items known_place counts
+            → StandsInTiling (empty_cells self.now.cells) (supply_by counts) placement.now → ⊥) }
     {
-        if place == 255 {
+        let Some(known_place) = place else {
             return true;
-        }
-        match self.known.get(place as usize) {
+        };
+        match self.known.get(known_place as usize) {
             Some(mark) => mark.pieces.has(placement),
             None => true,
         }

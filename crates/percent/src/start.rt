@@ -59,13 +59,13 @@ fn room_for(hands: usize) -> usize
 pub fn good_hands<L: Ledger>(
     alloc: Global,
     problem: &Problem,
-    hands: &[u64],
+    hands: Vec<u64>,
     steps: &mut Steps<L>,
 ) -> Result<Vec<u64>, NoMemory>
     requires fit { IsFit problem.now }
-    requires rises { IsRising hands.now }
+    requires rises { IsRising hands.items }
     ensures rises { IfOk result (λ v. IsRising v.items) }
-    ensures members { IfOk result (λ v. (hand : ℕ) → has v.items hand ≡ (has hands.now hand
+    ensures members { IfOk result (λ v. (hand : ℕ) → has v.items hand ≡ (has hands.items hand
         && is_good (game_of problem.now) (filled problem.now.well) problem.now.height (needed_of problem.now) hand)) }
     ensures counted { steps.old ≤ steps.new }
 {
@@ -75,7 +75,8 @@ pub fn good_hands<L: Ledger>(
     let mut kept = Kept::new(alloc, game(problem), room_for(hands.len()))?;
     let position = first_position(problem);
     let left = needed(problem);
-    let fit = fitting(alloc, &mut kept.tilings, &position, left, hands)?;
+    let fit = fitting(alloc, &mut kept.tilings, &position, left, hands.as_slice())?;
+    drop(hands);
     answered(alloc, &mut kept, &position, left, fit.as_slice(), steps)
 }
 
@@ -102,6 +103,6 @@ pub fn solvable<L: Ledger>(
     ensures counted { steps.old ≤ steps.new }
 {
     let hand = hand_of(problem.hold, problem.held, needed(problem), queue);
-    let good = good_hands(alloc, problem, &[hand], steps)?;
+    let good = good_hands(alloc, problem, Vec::from_slice(alloc, &[hand])?, steps)?;
     Ok(holds(good.as_slice(), hand))
 }

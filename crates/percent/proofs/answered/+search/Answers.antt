@@ -1,6 +1,6 @@
 -- Each answer is made of lists whose contracts say what they have.
-use Rattle.std.proofs.Common.{◌≡◌, ◌<◌, ℕ, ◌+◌, ◌-◌, ◌==◌, ◌&&◌, ◌||◌, All, Bool, not, List, length, get_or, true, refl, ap, subst, ◌∙◌, sym, arith}
-use Rattle.std.specs.Prelude.{vec_len, IsPermutation}
+use Rattle.std.proofs.Common.{◌≡◌, ◌<◌, ℕ, ◌+◌, ◌-◌, ◌==◌, ◌&&◌, ◌||◌, All, Bool, not, List, length, get_or, true, false, refl, ap, subst, ◌∙◌, sym, arith}
+use Rattle.std.specs.Prelude.{vec_len, IsPermutation, Option, Some, IfSome}
 use Rattle.srs.specs.declared.piece.Piece.{Piece}
 use Rattle.srs.specs.declared.piece.Piece.TheVariants.{I}
 use Rattle.srs.specs.Piece.{all_pieces}
@@ -13,11 +13,16 @@ use Rattle.number_sets.specs.Rising.{has}
 use Rattle.number_sets.proofs.CallerLemmas.{has-none}
 use Rattle.percent.specs.declared.position.Child.{Child}
 use Rattle.percent.specs.declared.position.Position.{Position}
+use Rattle.percent.specs.declared.game.Game.{Game}
 use Rattle.percent.specs.Children.{IsChild}
 use Rattle.percent.specs.Marks.{ArePlaces}
 use Rattle.percent.specs.GoodHands.{is_good, is_good_after, is_good_at}
-use Rattle.percent.proofs.GoodSteps.{good-ends, answer-kept, answer-known, explore-ends, explore-step, try-ends, try-step, try-starts, ok-map}
+use Rattle.percent.proofs.GoodSteps.{good-ends, answer-kept, answer-known, explore-bad, explore-ends, explore-step, found-good, try-ends, try-step, try-starts, ok-map}
 use Rattle.percent.proofs.answered.+search.Goals as goal
+
+-- what holds of a value that may be there holds of the one that is
+some-holds : {T : Type 0} (o : Option T) (v : T) → o ≡ Some v → (P : T → Type 0) → IfSome o P → P v
+some-holds o v is P holds = subst (λ o. IfSome o P) is holds
 
 pub answered-returns-then-left-eq0-clause-members : goal.answered-returns-then-left-eq0-clause-members
 answered-returns-then-left-eq0-clause-members g t c =
@@ -38,25 +43,27 @@ pub answered-returns-then-is_empty-2-clause-members : goal.answered-returns-then
 answered-returns-then-is_empty-2-clause-members g t c =
     let p = c.args.position.now in
     let good : ℕ → Bool = is_good c.args.kept.now.game (filled p.well) p.rows c.args.left in
-    let none : (vec_len c.in_ok-known.unknown == 0) ≡ true = sym c.is_empty-2.ensures ∙ c.if-is_empty-2.true in
-    let short : length c.in_ok-known.unknown.items ≡ 0 = grind (arith, nat_tests) in
-    let nil = nil_from_length c.in_ok-known.unknown.items short in
-    answer-known c.in_ok-known.known.items c.in_ok-known.unknown.items c.args.hands.now good
-    c.in_ok-known.ensures.members
+    let none : (vec_len c.in-Some.unknown == 0) ≡ true = sym c.is_empty-2.ensures ∙ c.if-is_empty-2.true in
+    let short : length c.in-Some.unknown.items ≡ 0 = grind (arith, nat_tests) in
+    let nil = nil_from_length c.in-Some.unknown.items short in
+    answer-known c.in-Some.known.items c.in-Some.unknown.items c.args.hands.now good
+    (some-holds c.in_ok-known.field-0 (c.in-Some.known, c.in-Some.unknown) c.in-Some.is
+    (λ v. (hand : ℕ) → (has v.0.items hand || (has v.1.items hand && good hand)) ≡ (has c.args.hands.now hand && good hand)) c.in_ok-known.ensures.members)
     (λ hand. ap (λ l. has l hand) nil ∙ has-none hand)
 
 pub answered-returns-then-is_empty-3-clause-members : goal.answered-returns-then-is_empty-3-clause-members
 answered-returns-then-is_empty-3-clause-members g t c = λ hand.
     let p = c.args.position.now in
     let good : ℕ → Bool = is_good c.args.kept.now.game (filled p.well) p.rows c.args.left in
-    let none : (vec_len c.in_ok-known.known == 0) ≡ true = sym c.is_empty-3.ensures ∙ c.if-is_empty-3.true in
-    let short : length c.in_ok-known.known.items ≡ 0 = grind (arith, nat_tests) in
-    let nil = nil_from_length c.in_ok-known.known.items short in
+    let none : (vec_len c.in-Some.known == 0) ≡ true = sym c.is_empty-3.ensures ∙ c.if-is_empty-3.true in
+    let short : length c.in-Some.known.items ≡ 0 = grind (arith, nat_tests) in
+    let nil = nil_from_length c.in-Some.known.items short in
     let whole : c.args.left - 1 + 1 ≡ c.args.left = omega (arith, c.if-left-eq0.false) in
     c.in_ok-found.ensures.members hand
     ∙ (λ i. has (c.as_slice.ensures.value i) hand && is_good c.args.kept.now.game (filled p.well) p.rows (whole i) hand)
-    ∙ ap (λ b. b || (has c.in_ok-known.unknown.items hand && good hand)) (sym (ap (λ l. has l hand) nil ∙ has-none hand))
-    ∙ c.in_ok-known.ensures.members hand
+    ∙ ap (λ b. b || (has c.in-Some.unknown.items hand && good hand)) (sym (ap (λ l. has l hand) nil ∙ has-none hand))
+    ∙ (some-holds c.in_ok-known.field-0 (c.in-Some.known, c.in-Some.unknown) c.in-Some.is
+    (λ v. (hand : ℕ) → (has v.0.items hand || (has v.1.items hand && good hand)) ≡ (has c.args.hands.now hand && good hand)) c.in_ok-known.ensures.members) hand
 
 seven : (order : List Piece) → IsPermutation all_pieces order → length order ≡ 7
 seven order same = length_permutation all_pieces order same
@@ -65,8 +72,8 @@ pub explored-loop-piece-preserved : goal.explored-loop-piece-preserved
 explored-loop-piece-preserved g t c =
     let p = c.args.position.now in
     explore-step c.wanted_first-piece-items.result c.args.kept.now.game c.loop-piece.kept.game c.tried.new.kept.game (filled p.well) p.rows c.args.left c.args.hands.now
-    c.loop-piece.open.items c.as_slice.result.now c.as_slice-in-loop-piece-2.result.now
-    c.in_ok-rests.rests.items c.as_slice-in-loop-piece.result.now c.in_ok-good.good.items c.as_slice-in-loop-piece-3.result.now c.in_ok-open-2.open.items
+    c.loop-piece.open.items c.as_slice.result.now c.loop-piece.open.items
+    c.in_ok-rests.rests.items c.as_slice-in-loop-piece.result.now c.in_ok-good.good.items c.as_slice-in-loop-piece-2.result.now c.in_ok-open-2.open.items
     c.args.steps.now c.loop-piece.steps c.tried.new.steps c.loop-piece.piece-index _
     c.loop-piece.invariant (omega (arith, seven c.wanted_first-piece-items.result c.wanted_first-piece-items.ensures, c.loop-piece-test.true))
     c.as_slice.ensures.value c.in_ok-rests.ensures.members
@@ -74,15 +81,37 @@ explored-loop-piece-preserved g t c =
     (subst (λ (m : Position). (rest : ℕ) → has c.in_ok-good.good.items rest ≡ (has c.as_slice-in-loop-piece.result.now rest
     && is_good_after c.loop-piece.kept.game (filled m.well) m.rows (get_or c.wanted_first-piece-items.result c.loop-piece.piece-index I) c.args.left rest)) c.in_ok-marks.ensures c.in_ok-good.ensures.members)
     c.in_ok-good.ensures.game c.in_ok-good.ensures.counted
-    c.in_ok-open-2.ensures.rises c.as_slice-in-loop-piece-2.ensures.value c.as_slice-in-loop-piece-3.ensures.value c.in_ok-open-2.ensures.members
+    c.in_ok-open-2.ensures.rises refl c.as_slice-in-loop-piece-2.ensures.value c.in_ok-open-2.ensures.members
+
+pub explored-keep-requires-clause-found_true : goal.explored-keep-requires-clause-found_true
+explored-keep-requires-clause-found_true g t c = λ hand there.
+    let p = c.args.position.now in
+    let order = c.wanted_first-piece-items.result in
+    let state = c.loop-piece.invariant in
+    let found_is = explore-ends order c.args.kept.now.game c.loop-piece.kept.game (filled p.well) p.rows c.args.left c.args.hands.now c.loop-piece.open.items c.in_ok-found.found.items c.args.steps.now c.loop-piece.steps c.loop-piece.piece-index
+    c.wanted_first-piece-items.ensures state (omega (arith, seven order c.wanted_first-piece-items.ensures, c.loop-piece-test.false))
+    (λ hand. c.in_ok-found.ensures.members hand ∙ ap (λ l. has c.args.hands.now hand && not (has l hand)) c.as_slice-2.ensures.value) in
+    subst (λ (game : Game). is_good game (filled p.well) p.rows (c.args.left + 1) hand ≡ true) (sym state.same)
+    (found-good c.in_ok-found.found.items c.args.hands.now (is_good c.args.kept.now.game (filled p.well) p.rows (c.args.left + 1)) found_is hand
+    (sym (ap (λ l. has l hand) c.as_slice-3.ensures.value) ∙ there))
+
+pub explored-keep-requires-clause-missed_true : goal.explored-keep-requires-clause-missed_true
+explored-keep-requires-clause-missed_true g t c = λ hand there.
+    let p = c.args.position.now in
+    let order = c.wanted_first-piece-items.result in
+    let state = c.loop-piece.invariant in
+    subst (λ (game : Game). is_good game (filled p.well) p.rows (c.args.left + 1) hand ≡ false) (sym state.same)
+    (explore-bad order c.args.kept.now.game c.loop-piece.kept.game (filled p.well) p.rows c.args.left c.args.hands.now c.loop-piece.open.items c.args.steps.now c.loop-piece.steps c.loop-piece.piece-index
+    c.wanted_first-piece-items.ensures state (omega (arith, seven order c.wanted_first-piece-items.ensures, c.loop-piece-test.false)) hand
+    (sym (ap (λ l. has l hand) c.as_slice-4.ensures.value) ∙ there))
 
 pub explored-returns-clause-members : goal.explored-returns-clause-members
-explored-returns-clause-members g t c =
+explored-returns-clause-members g t c = λ hand.
     let p = c.args.position.now in
-    ok-map c.without.result _ _
-    (λ v h. explore-ends c.wanted_first-piece-items.result c.args.kept.now.game c.loop-piece.kept.game (filled p.well) p.rows c.args.left c.args.hands.now c.loop-piece.open.items v.items c.args.steps.now c.loop-piece.steps c.loop-piece.piece-index
-    c.wanted_first-piece-items.ensures c.loop-piece.invariant (omega (arith, seven c.wanted_first-piece-items.result c.wanted_first-piece-items.ensures, c.loop-piece-test.false)) (λ hand. h hand ∙ ap (λ l. has c.args.hands.now hand && not (has l hand)) c.as_slice-2.ensures.value))
-    c.without.ensures.members
+    let order = c.wanted_first-piece-items.result in
+    explore-ends order c.args.kept.now.game c.loop-piece.kept.game (filled p.well) p.rows c.args.left c.args.hands.now c.loop-piece.open.items c.in_ok-found.found.items c.args.steps.now c.loop-piece.steps c.loop-piece.piece-index
+    c.wanted_first-piece-items.ensures c.loop-piece.invariant (omega (arith, seven order c.wanted_first-piece-items.ensures, c.loop-piece-test.false))
+    (λ hand. c.in_ok-found.ensures.members hand ∙ ap (λ l. has c.args.hands.now hand && not (has l hand)) c.as_slice-2.ensures.value) hand
 
 pub tried-returns-then-is_empty-clause-members : goal.tried-returns-then-is_empty-clause-members
 tried-returns-then-is_empty-clause-members g t c = λ rest.

@@ -7,4 +7,4 @@ use Rattle.percent.proofs.FittingLemmas.{entries-supply}
 use Rattle.percent.proofs.marks.pieces_of.Goals as goal
 
 pub returns : goal.returns
-returns c = subst (λ s. (q : Placement) → IsTrue (is_marked c.pieces.result q) ↔ StandsInTiling (empty_cells c.args.cells.now) s q) (entries-supply c.args.counts.now) c.pieces.ensures
+returns c = subst (λ s. (q : Placement) → IsTrue (is_marked c.pieces_near.result q) ↔ StandsInTiling (empty_cells c.args.cells.now) s q) (entries-supply c.args.counts.now) c.pieces_near.ensures

@@ -10,7 +10,7 @@ use Rattle.percent.proofs.start.good_hands.Goals as goal
 pub returns-then-empties_below-ne0-clause-members : goal.returns-then-empties_below-ne0-clause-members
 returns-then-empties_below-ne0-clause-members g c = λ hand.
     rw c.new.ensures.items
-    (uneven-answer c.args.problem.now c.args.hands.now c.requires.fit (λ e. c.if-empties_below-ne0.true (ap (λ n. n % 4) c.empties_below.ensures ∙ e)) hand)
+    (uneven-answer c.args.problem.now c.args.hands.items c.requires.fit (λ e. c.if-empties_below-ne0.true (ap (λ n. n % 4) c.empties_below.ensures ∙ e)) hand)
 
 pub returns-clause-members : goal.returns-clause-members
 returns-clause-members g c =
@@ -19,7 +19,8 @@ returns-clause-members g c =
     ok-map c.answered.result _ _
     (λ v h hand.
     h hand
-    ∙ answer-kept c.in_ok-fit.fit.items c.as_slice.result.now c.args.hands.now (is_good kept.game (filled p.well) p.rows c.needed-left.result) c.as_slice.ensures.value (c.in_ok-fit.ensures.members kept.game) hand
-    ∙ (λ i. has c.args.hands.now hand
+    ∙ answer-kept c.in_ok-fit.fit.items c.as_slice-2.result.now c.args.hands.items (is_good kept.game (filled p.well) p.rows c.needed-left.result) c.as_slice-2.ensures.value
+    (λ hand. c.in_ok-fit.ensures.members kept.game hand ∙ ap (λ l. has l hand && is_good kept.game (filled p.well) p.rows c.needed-left.result hand) c.as_slice.ensures.value) hand
+    ∙ (λ i. has c.args.hands.items hand
     && is_good ((c.in_ok-kept.ensures ∙ c.game.ensures) i) (filled (c.first_position-position.ensures.well i)) (c.first_position-position.ensures.rows i) (c.needed-left.ensures i) hand))
     c.answered.ensures.members

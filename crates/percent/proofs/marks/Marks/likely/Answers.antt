@@ -1,11 +1,12 @@
 -- A rest is left out where the placement stands in no tiling by its pieces.
 use Rattle.std.proofs.Common.{◌&&◌, ◌<◌, ◌∙◌, length, get_or, ap, subst, sym, arith}
+use Rattle.std.specs.Prelude.{None}
 use Rattle.number_sets.specs.Rising.{IsRising, has}
 use Rattle.well.specs.Well.{filled}
 use Rattle.percent.specs.GoodHands.{is_good}
-use Rattle.percent.specs.Marks.{ArePlaces}
+use Rattle.percent.specs.Marks.{ArePlaces, IsMarkOf}
 use Rattle.percent.proofs.FittingLemmas.{sift-ends, sift-pass, sift-push, sift-starts}
-use Rattle.percent.proofs.MarkLemmas.{bad-stand}
+use Rattle.percent.proofs.MarkLemmas.{bad-stand, mark-there}
 use Rattle.percent.proofs.marks.Marks.likely.Goals as goal
 use Rattle.percent.proofs.marks.Marks.likely.Goals.{then-may_stand+in_ok-push, else-may_stand}
 
@@ -30,11 +31,11 @@ loop-index-preserved c =
           let are : ArePlaces marks.known.items c.args.child.now.placement.piece c.args.left rests c.as_slice-places.result.now =
           subst (λ l. ArePlaces marks.known.items c.args.child.now.placement.piece c.args.left l c.as_slice-places.result.now) (sym c.as_slice-rests.ensures.value)
           (subst (λ l. ArePlaces marks.known.items c.args.child.now.placement.piece c.args.left c.args.asked.now.rests.items l) (sym c.as_slice-places.ensures.value) c.requires.places) in
-          let mark = are.each index within (c.may_stand.ensures.known w.if-may_stand.false) in
+          let mark = mark-there (IsMarkOf marks.known.items c.args.child.now.placement.piece c.args.left (get_or rests index 0)) _ (get_or c.as_slice-places.result.now index None) (are.each index within) (c.may_stand.ensures w.if-may_stand.false) in
           rw w.v-is
           (sift-pass (λ game. is_good game (filled p.well) p.rows c.args.left) rests c.loop-index.v.items index rises c.loop-index.invariant within
-          (λ game. bad-stand game marks.position c.args.child.now c.args.left (get_or rests index 0) mark.counts marks.cells marks.empty c.requires.child
-          mark.enough (c.may_stand.ensures.none w.if-may_stand.false mark.counts mark.there)))
+          (λ game. bad-stand game marks.position c.args.child.now c.args.left (get_or rests index 0) mark.1.counts marks.cells marks.empty c.requires.child
+          mark.1.enough (mark.2 mark.1.counts mark.1.there)))
     ]
 
 pub returns-clause-rises : goal.returns-clause-rises
