@@ -322,10 +322,11 @@ from_zero {Holds} count before now none told holds =
     let all : now - before ≡ now = omega (arith, none) in
     record { floods = now; counted = told; holds = subst Holds all holds }
 
+-- no flood was made
+pub none_made : {Holds : ℕ → Type 0} → Holds 0 → ForFloods 0 Holds
+none_made holds = record { floods = 0; counted = refl; holds = holds }
+
 -- before the words are had, nothing is written, and no flood is made
 pub nothing_written : (task : Task) (bytes : List ℕ) → ForFloods 0 (WritesFront task bytes [])
-nothing_written task bytes = record {
-  floods = 0;
-  counted = refl;
-  holds = record { front = λ output is. (output, refl); first = λ first. refl; faulty = λ fault is. refl; work = inl refl };
-}
+nothing_written task bytes =
+    none_made (record { front = λ output is. (output, refl); first = λ first. refl; faulty = λ fault is. refl; work = inl refl })

@@ -1,20 +1,15 @@
 // The answers of `percent` as bits, called from C.
-ghost use Rattle.std.specs.Prelude.{◌≡◌, ◌≢◌, ◌<◌, ◌≤◌, ◌-◌, ◌⊎◌, ℕ, List, length, take, drop, true, IfOk, IfErr, OnErr, OnOk, MatchOption, None, Ok};
-ghost use Rattle.pc_settings.specs.Request.{IsInRange};
-ghost use Rattle.pc_settings.specs.Views.{percent_view};
-ghost use Rattle.pc_source.specs.Task.{first_fault};
+ghost use Rattle.std.specs.Prelude.{◌≡◌, ◌≢◌, ◌<◌, ◌≤◌, ◌⊎◌, ℕ, List, length, take, drop, true, MatchOption, Ok};
 ghost use Rattle.pc_words.specs.Views.{settings_view};
 ghost use Rattle.pc_words.specs.Words.{texts};
 ghost use Rattle.pc_words.specs.declared.settings.Settings.{Settings};
-ghost use Rattle.pc_percent.specs.PercentTask.{percent_task};
-ghost use Rattle.pc_good_queues.specs.Bits;
-ghost use Rattle.pc_good_queues.specs.GoodQueues.{AreGoodQueues};
-ghost use Rattle.pc_c.specs.Call.{seen};
-ghost use Rattle.pc_c.specs.GoodQueues.{HasBitRoom, IsQueuesStatus, LacksBitRoom, TellsPercentFault, WritesBits};
+ghost use Rattle.pc_c.specs.Asked.{TellsAskedFault};
+ghost use Rattle.pc_c.specs.GoodQueues.{HasBitRoom, IsQueuesStatus, LacksBitRoom, WritesBits};
 ghost use Rattle.pc_c.specs.OtherCommand.{asks_other, is_other, is_percent};
-ghost use Rattle.pc_c.specs.QueuesEnded.{EndsQueues, IsAnswer, RefusesInput};
+ghost use Rattle.pc_c.specs.QueuesEnded.{EndsQueues, IsPercentAnswer};
 ghost use Rattle.pc_c.specs.Words.{SpellsNoWords, SpellsWords};
 
+use crate::answer::{Answer, Answered, answer_of, idle};
 use crate::input::seen_bytes;
 use crate::slots::write_line;
 use crate::status::{DONE, FAULT, NO_MEMORY, NO_ROOM, NO_WORDS, OTHER_COMMAND};
@@ -27,24 +22,6 @@ use reach::Steps;
 use std::alloc::Global;
 use std::marker::Brand;
 use std::sync::ledger::{Blank, Ledger};
-
-/// What the words have for an answer.
-#[derive(Drop)]
-enum Answer {
-    /// The bits are written, and these are the numbers of queues.
-    Written(QueueCounts),
-    /// The words ask for another command.
-    OtherCommand,
-    /// There are no bits, and this is why.
-    Unwritten(NoBits),
-}
-
-/// An answer, and how many floods were made for it, or the greatest value of a u64 if there were more.
-#[derive(Drop)]
-struct Answered {
-    answer: Answer,
-    floods: u64,
-}
 
 /// The status of a call, how many bytes it wrote to each buffer, and the numbers that it tells.
 #[derive(Drop)]
@@ -68,72 +45,34 @@ fn of_percent(settings: Settings<'_>) -> Option<PercentSettings<'_>>
     }
 }
 
-/// Writes the bits of the queues that the settings of `percent` name.
-fn answer_percent<L: Ledger>(
-    alloc: Global,
-    settings: &PercentSettings<'_>,
-    input: &[u8],
-    bits: &mut [u8],
-    steps: &mut Steps<L>,
-) -> Result<QueueCounts, NoBits>
-    requires { IsInRange (percent_view settings.now).common }
-    ensures found { let task = percent_task (percent_view settings.now) in
-        IfOk result (λ counts. AreGoodQueues (percent_view settings.now).common (seen task input.now)
-        (take (Bits.bytes_for counts.queues) bits.new) counts.queues counts.good) }
-    ensures none { let task = percent_task (percent_view settings.now) in
-        OnOk result (first_fault task (seen task input.now) ≡ None) }
-    ensures rest { IfOk result (λ counts.
-        drop (Bits.bytes_for counts.queues) bits.new ≡ drop (Bits.bytes_for counts.queues) bits.old) }
-    ensures refused { IfErr result (λ why. RefusesInput (percent_view settings.now) input.now (length bits.old)
-        (steps.new - steps.old) why) }
-    ensures kept { OnErr result (bits.new ≡ bits.old) }
-    ensures counted { steps.old ≤ steps.new }
-{
-    let bytes = seen_bytes(input, is_of_source(settings.common.field))?;
-    write_good_queues(alloc, settings, bytes, bits, steps)
-}
-
-/// Writes the bits of the queues that the words name.
+/// The answer for the words: the bits of the queues that they ask `percent` about.
 fn answer_words<L: Ledger>(
-    alloc: Global,
-    words: &[String],
-    input: &[u8],
-    bits: &mut [u8],
-    steps: &mut Steps<L>,
-) -> Answer
-    ensures answer { IsAnswer (texts words.now) input.now bits.old bits.new (steps.new - steps.old) result }
-    ensures counted { steps.old ≤ steps.new }
-{
-    let settings = match read_words(words) {
-        Ok(settings) => settings,
-        Err(fault) => return Answer::Unwritten(NoBits::Fault(fault)),
-    };
-    let Some(settings) = of_percent(settings) else {
-        return Answer::OtherCommand;
-    };
-    match answer_percent(alloc, &settings, input, bits, steps) {
-        Ok(counts) => Answer::Written(counts),
-        Err(why) => Answer::Unwritten(why),
-    }
-}
-
-/// The answer for the words, with the number of its floods.
-fn counted_answer<L: Ledger>(
     alloc: Global,
     blank: Blank,
     words: &[String],
     input: &[u8],
     bits: &mut [u8],
-) -> Answered
+) -> Answered<QueueCounts, NoBits>
     requires name { blank.name ≡ L.name }
     requires parts { blank.parts ≡ L.parts }
     requires some { 0 < blank.parts }
-    ensures { IsAnswer (texts words.now) input.now bits.old bits.new result.floods result.answer }
+    ensures { IsPercentAnswer (texts words.now) input.now bits.old bits.new result.floods result.answer }
 {
     let mut steps = Steps::<L>::new(blank);
-    let answer = answer_words(alloc, words, input, bits, &mut steps);
+    let settings = match read_words(words) {
+        Ok(settings) => settings,
+        Err(fault) => return idle(Answer::Unwritten(NoBits::Fault(fault))),
+    };
+    let Some(settings) = of_percent(settings) else {
+        return idle(Answer::OtherCommand);
+    };
+    let bytes = match seen_bytes(input, is_of_source(settings.common.field)) {
+        Ok(bytes) => bytes,
+        Err(fault) => return idle(Answer::Unwritten(NoBits::Fault(fault))),
+    };
+    let written = write_good_queues(alloc, &settings, bytes, bits, &mut steps);
     Answered {
-        answer,
+        answer: answer_of(written),
         floods: steps.count(),
     }
 }
@@ -178,7 +117,7 @@ fn run_queues(
     ensures idle { result.status ≢ 0 → result.status ≢ 5 → result.floods ≡ 0 }
     ensures no_line { result.status ≢ 2 → result.told ≡ 0 }
 {
-    let answered = counted_answer::<Brand>(alloc, Blank::new(1), words, input, bits);
+    let answered = answer_words::<Brand>(alloc, Blank::new(1), words, input, bits);
     match answered.answer {
         Answer::Written(counts) => QueuesEnded {
             written: bytes_for(counts.queues),
@@ -233,7 +172,7 @@ pub extern "C" fn voidosier_good_queues(
     ensures done { (texts : List (List ℕ)) → SpellsWords words.now texts → result ≡ 0
         → WritesBits texts input.now (take bits_length.new bits.new) queues.new good.new }
     ensures faulty { (texts : List (List ℕ)) → SpellsWords words.now texts → result ≡ 2
-        → TellsPercentFault texts input.now (take err_length.new err.new) (length err.old) }
+        → TellsAskedFault is_percent texts input.now (take err_length.new err.new) (length err.old) }
     ensures no_room { (texts : List (List ℕ)) → SpellsWords words.now texts → result ≡ 4
         → LacksBitRoom texts input.now (length bits.old) queues.new }
     ensures no_memory { (texts : List (List ℕ)) → SpellsWords words.now texts → result ≡ 5

@@ -4,9 +4,7 @@ ghost use Rattle.pc_faults.specs.declared.fault.Fault.{Fault};
 ghost use Rattle.pc_source.specs.Task.{most_bytes};
 
 use pc_faults::Fault;
-
-/// The most bytes that are read of the input.
-const MOST_BYTES: usize = 4_194_304;
+use pc_source::MOST_BYTES;
 
 /// The bytes that a command sees of the input, if it reads it. A refusal says that these are too many.
 pub(crate) fn seen_bytes(input: &[u8], reads: bool) -> Result<&[u8], Fault>

@@ -8,6 +8,7 @@ ghost use Rattle.pc_c.specs.Call.{ForFloods, IsStatus, TellsFault, WritesCut, Wr
 ghost use Rattle.pc_c.specs.Ended.{EndedBy};
 ghost use Rattle.pc_c.specs.Words.{SpellsNoWords, SpellsWords};
 
+mod answer;
 mod good_queues;
 mod input;
 mod slots;

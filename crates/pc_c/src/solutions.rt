@@ -1,21 +1,16 @@
 // The solutions that `path` lists as numbers, called from C.
-ghost use Rattle.std.specs.Prelude.{◌≡◌, ◌≢◌, ◌<◌, ◌≤◌, ◌-◌, ◌==◌, ◌⊎◌, ℕ, List, true, None, Ok, IfOk, IfErr, MatchOption, OnOk, OnErr, length, take, drop};
-ghost use Rattle.pc_faults.specs.declared.fault.Fault.{Fault};
-ghost use Rattle.pc_settings.specs.Request.{IsInRange};
-ghost use Rattle.pc_settings.specs.Views.{path_view};
-ghost use Rattle.pc_source.specs.Task.{first_fault};
+ghost use Rattle.std.specs.Prelude.{◌≡◌, ◌≢◌, ◌<◌, ◌≤◌, ◌==◌, ◌⊎◌, ℕ, List, true, Ok, MatchOption, length, take, drop};
 ghost use Rattle.pc_words.specs.Views.{settings_view};
 ghost use Rattle.pc_words.specs.Words.{texts};
 ghost use Rattle.pc_words.specs.declared.settings.Settings.{Settings};
-ghost use Rattle.pc_path.specs.PathTask.{path_task};
-ghost use Rattle.pc_solutions.specs.Written.{WritesSolutions};
-ghost use Rattle.pc_solutions.specs.declared.solutions.Refusal.{Refusal};
-ghost use Rattle.pc_c.specs.Call.{ForFloods, seen};
-ghost use Rattle.pc_c.specs.Solutions.{IsSolutionsStatus, LacksRoom, LacksSequence, TellsPathFault, TellsSolutions};
+ghost use Rattle.pc_c.specs.Asked.{TellsAskedFault};
+ghost use Rattle.pc_c.specs.Call.{ForFloods};
+ghost use Rattle.pc_c.specs.Solutions.{IsSolutionsStatus, LacksRoom, LacksSequence, TellsSolutions};
 ghost use Rattle.pc_c.specs.OtherCommand.{asks_other, is_other, is_path};
-ghost use Rattle.pc_c.specs.SolutionsEnded.{IsAnswer, IsPathRefusal};
+ghost use Rattle.pc_c.specs.SolutionsEnded.{IsPathAnswer};
 ghost use Rattle.pc_c.specs.Words.{SpellsNoWords, SpellsWords};
 
+use crate::answer::{Answer, Answered, answer_of, idle};
 use crate::input::seen_bytes;
 use crate::slots::write_line;
 use crate::status::{DONE, FAULT, NO_MEMORY, NO_ROOM, NO_SEQUENCE, NO_WORDS, OTHER_COMMAND};
@@ -29,24 +24,6 @@ use std::alloc::Global;
 use std::marker::Brand;
 use std::sync::ledger::{Blank, Ledger};
 
-/// What the words have for an answer.
-#[derive(Drop)]
-enum Answer {
-    /// Solutions are written.
-    Written(Written),
-    /// The words ask for another command.
-    OtherCommand,
-    /// No solutions are written, and this is why.
-    Unwritten(Refusal),
-}
-
-/// An answer, and how many floods were made for it, or the greatest value of a u64 if there were more.
-#[derive(Drop)]
-struct Answered {
-    answer: Answer,
-    floods: u64,
-}
-
 /// The settings of `path`, if these are its settings.
 fn of_path(settings: Settings<'_>) -> Option<PathSettings<'_>>
     ensures { MatchOption result (is_other is_path (Ok (settings_view settings.entry)) ≡ true)
@@ -58,81 +35,37 @@ fn of_path(settings: Settings<'_>) -> Option<PathSettings<'_>>
     }
 }
 
-/// Writes the solutions that the settings of `path` name.
-fn answer_path<L: Ledger>(
-    alloc: Global,
-    settings: &PathSettings<'_>,
-    input: &[u8],
-    after: &[u8],
-    placements: &mut [u8],
-    steps: &mut Steps<L>,
-) -> Result<Written, Refusal>
-    requires { IsInRange (path_view settings.now).common }
-    ensures written { let request = path_view settings.now in let bytes = seen (path_task request) input.now in
-        IfOk result (λ written. WritesSolutions request bytes after.now (length placements.old)
-        (take written.size placements.new) written.count written.ended (steps.new - steps.old)) }
-    ensures none { let request = path_view settings.now in let bytes = seen (path_task request) input.now in
-        OnOk result (first_fault (path_task request) bytes ≡ None) }
-    ensures within { IfOk result (λ written. written.size ≤ length placements.new) }
-    ensures rest { IfOk result (λ written. drop written.size placements.new ≡ drop written.size placements.old) }
-    ensures refused { IfErr result
-        (λ refusal. IsPathRefusal (path_view settings.now) input.now after.now (length placements.old) refusal) }
-    ensures quiet { OnErr result (placements.new ≡ placements.old) }
-    ensures idle { OnErr result (steps.new ≡ steps.old) }
-    ensures counted { steps.old ≤ steps.new }
-{
-    match seen_bytes(input, is_of_source(settings.common.field)) {
-        Ok(bytes) => write_solutions(alloc, settings, bytes, after, placements, steps),
-        Err(fault) => Err(Refusal::Input(fault)),
-    }
-}
-
-/// Writes the solutions that the words name.
+/// The answer for the words: the solutions that they ask `path` to list.
 fn answer_words<L: Ledger>(
-    alloc: Global,
-    words: &[String],
-    input: &[u8],
-    after: &[u8],
-    placements: &mut [u8],
-    steps: &mut Steps<L>,
-) -> Answer
-    ensures answer { IsAnswer (texts words.now) input.now after.now placements.old placements.new
-        (steps.new - steps.old) result }
-    ensures counted { steps.old ≤ steps.new }
-{
-    let settings = match read_words(words) {
-        Ok(settings) => settings,
-        Err(fault) => return Answer::Unwritten(Refusal::Input(fault)),
-    };
-    let Some(settings) = of_path(settings) else {
-        return Answer::OtherCommand;
-    };
-    match answer_path(alloc, &settings, input, after, placements, steps) {
-        Ok(written) => Answer::Written(written),
-        Err(refusal) => Answer::Unwritten(refusal),
-    }
-}
-
-/// The answer for the words, with the number of its floods.
-fn counted_answer<L: Ledger>(
     alloc: Global,
     blank: Blank,
     words: &[String],
     input: &[u8],
     after: &[u8],
     placements: &mut [u8],
-) -> Answered
+) -> Answered<Written, Refusal>
     requires name { blank.name ≡ L.name }
     requires parts { blank.parts ≡ L.parts }
     requires some { 0 < blank.parts }
     ensures { ForFloods result.floods
-        (λ floods. IsAnswer (texts words.now) input.now after.now placements.old placements.new floods
+        (λ floods. IsPathAnswer (texts words.now) input.now after.now placements.old placements.new floods
         result.answer) }
 {
     let mut steps = Steps::<L>::new(blank);
-    let answer = answer_words(alloc, words, input, after, placements, &mut steps);
+    let settings = match read_words(words) {
+        Ok(settings) => settings,
+        Err(fault) => return idle(Answer::Unwritten(Refusal::Input(fault))),
+    };
+    let Some(settings) = of_path(settings) else {
+        return idle(Answer::OtherCommand);
+    };
+    let bytes = match seen_bytes(input, is_of_source(settings.common.field)) {
+        Ok(bytes) => bytes,
+        Err(fault) => return idle(Answer::Unwritten(Refusal::Input(fault))),
+    };
+    let written = write_solutions(alloc, &settings, bytes, after, placements, &mut steps);
     Answered {
-        answer,
+        answer: answer_of(written),
         floods: steps.count(),
     }
 }
@@ -181,7 +114,7 @@ pub extern "C" fn voidosier_solutions(
         → TellsSolutions texts input.now after.now (length placements.old)
         (take placements_length.new placements.new) count.new ended.new floods.new }
     ensures faulty { (texts : List (List ℕ)) → SpellsWords words.now texts → result ≡ 2
-        → TellsPathFault texts input.now (take err_length.new err.new) (length err.old) }
+        → TellsAskedFault is_path texts input.now (take err_length.new err.new) (length err.old) }
     ensures no_room { (texts : List (List ℕ)) → SpellsWords words.now texts → result ≡ 4
         → LacksRoom texts input.now after.now (length placements.old) }
     ensures no_sequence { (texts : List (List ℕ)) → SpellsWords words.now texts → result ≡ 8
@@ -210,7 +143,7 @@ pub extern "C" fn voidosier_solutions(
     let Answered {
         answer,
         floods: made,
-    } = counted_answer::<Brand>(alloc, Blank::new(1), &texts, input, after, placements);
+    } = answer_words::<Brand>(alloc, Blank::new(1), &texts, input, after, placements);
     match answer {
         Answer::Written(written) => {
             *placements_length = written.size;

@@ -1,5 +1,5 @@
 -- What a call answers where its field is had, and where it is not.
-use Rattle.std.proofs.Common.{◌≡◌, ◌≢◌, ◌∙◌, ℕ, ◌≤◌, ◌<◌, List, length, count_by, true, None, refl, sym, subst, inl}
+use Rattle.std.proofs.Common.{◌≡◌, ◌≢◌, ◌∙◌, ℕ, ◌≤◌, ◌<◌, List, length, count_by, true, None, refl, sym, subst, inl, inr}
 use Rattle.lane_board.specs.Field.{Field}
 use Rattle.queue_pattern.specs.Pattern.{elements_of}
 use Rattle.queue_pattern.specs.Queues.{queues}
@@ -24,7 +24,8 @@ use Rattle.pc_percent.specs.PercentTask.{asked_task}
 use Rattle.pc_good_queues.specs.Bits.{AreBitsOf, bytes_for}
 use Rattle.pc_good_queues.specs.Flags.{flags_of}
 use Rattle.pc_good_queues.specs.GoodQueues.{AreGoodQueues}
-use Rattle.pc_good_queues.specs.Refusals.{AsksQueues, HasRoom, LacksRoom, Refuses}
+use Rattle.pc_good_queues.specs.declared.answer.NoBits.TheVariants.{NoMemory, NoRoom}
+use Rattle.pc_good_queues.specs.Refusals.{AsksQueues, Refuses}
 use Rattle.pc_good_queues.specs.Told.{refusal}
 
 module _ (request : PercentRequest) (bytes : List ℕ) where
@@ -46,11 +47,11 @@ module _ (request : PercentRequest) (bytes : List ℕ) where
       pub asks : AsksQueues request.common count
       asks = record { elements = elements_of problem.pattern; spelled = sym named.queues; all = all }
 
-      pub lacks : (room : ℕ) → problem_fault request.common F ≡ None → room < bytes_for count → LacksRoom request bytes room count
-      lacks room none short = record { none = had_fault ∙ none; asked = asks; short = short }
+      pub lacks : (room floods : ℕ) → problem_fault request.common F ≡ None → room < bytes_for count → floods ≡ 0 → Refuses request bytes room floods (NoRoom count)
+      lacks room floods none short idle = (had_fault ∙ none, record { asked = asks; short = short }, idle)
 
-      pub has_room : (room : ℕ) → problem_fault request.common F ≡ None → bytes_for count ≤ room → HasRoom request bytes room
-      has_room room none enough = record { none = had_fault ∙ none; count = count; asked = asks; enough = enough }
+      pub has_room : (room floods : ℕ) → problem_fault request.common F ≡ None → bytes_for count ≤ room → Refuses request bytes room floods NoMemory
+      has_room room floods none enough = inr (had_fault ∙ none, record { count = count; asked = asks; enough = enough })
 
       -- the bits are written
       pub found : IsFit problem → (written : List ℕ) (good : ℕ) (answered : Problem) → answered ≡ problem

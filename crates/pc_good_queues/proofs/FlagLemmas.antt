@@ -1,8 +1,9 @@
 -- The flag of a queue says whether it is good.
-use Rattle.std.proofs.Common.{◌≡◌, ◌∙◌, ◌↔◌, ℕ, ◌<◌, ◌≤◌, Bool, true, false, IsTrue, List, [], length, get_or, refl, sym, arith}
+use Rattle.std.proofs.Common.{◌≡◌, ◌∙◌, ◌↔◌, ℕ, ◌<◌, ◌≤◌, Bool, false, IsTrue, List, [], length, get_or, sym, arith}
 use Rattle.std.specs.Prelude.{Some, slice_get}
 use Rattle.std.proofs.lemmas.List.{get_or-map, get_or_past, length-map}
 use Rattle.std.proofs.lemmas.Option.{slice_get-get_or}
+use Rattle.lane_board.proofs.CallerLemmas.{same_from_both}
 use Rattle.srs.specs.declared.piece.Piece.{Piece}
 use Rattle.queue_pattern.specs.Pattern.{elements_of}
 use Rattle.queue_pattern.specs.Queues.{queues}
@@ -12,12 +13,6 @@ use Rattle.percent.specs.Good.{Good}
 use Rattle.percent.specs.GoodHands.{is_good_queue}
 use Rattle.percent.proofs.CallerLemmas.{good-decides}
 use Rattle.pc_good_queues.specs.Flags.{flags_of}
-
-same_tests : (a b : Bool) → (IsTrue a → IsTrue b) → (IsTrue b → IsTrue a) → a ≡ b
-same_tests true true to from = refl
-same_tests false false to from = refl
-same_tests true false to from = sym (to refl)
-same_tests false true to from = from refl
 
 module _ (problem : Problem) where
   pub flags_count : length (flags_of problem) ≡ length (queues (elements_of problem.pattern))
@@ -35,5 +30,5 @@ module _ (problem : Problem) where
       let queue = get_or (queues (elements_of problem.pattern)) n [] in
       let good = told queue (slice_get-get_or (queues (elements_of problem.pattern)) n [] within) in
       let decides = good-decides problem queue fit in
-      same_tests answer (is_good_queue problem queue) (λ yes. decides.1 (good.0 yes)) (λ yes. good.1 (decides.0 yes))
+      same_from_both answer (is_good_queue problem queue) (λ yes. decides.1 (good.0 yes)) (λ yes. good.1 (decides.0 yes))
       ∙ sym (get_or-map (is_good_queue problem) (queues (elements_of problem.pattern)) n [] false within)

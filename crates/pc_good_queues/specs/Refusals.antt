@@ -17,17 +17,15 @@ pub record AsksQueues (request : FieldRequest) (count : ℕ) : Type 0 where
   pub spelled : elements_asked request ≡ Ok elements
   pub all : count ≡ length (queues elements)
 
--- no fault stands, and the bits of so many queues take more bytes than there is room for
-pub record LacksRoom (request : PercentRequest) (bytes : List ℕ) (room count : ℕ) : Type 0 where
-  pub none : percent_fault request bytes ≡ None
-  pub asked : AsksQueues request.common count
+-- the bits of so many queues take more bytes than there is room for
+pub record LacksRoom (request : FieldRequest) (room count : ℕ) : Type 0 where
+  pub asked : AsksQueues request count
   pub short : room < bytes_for count
 
--- no fault stands, and there is room for the bits
-pub record HasRoom (request : PercentRequest) (bytes : List ℕ) (room : ℕ) : Type 0 where
-  pub none : percent_fault request bytes ≡ None
+-- there is room for the bits of all queues
+pub record HasRoom (request : FieldRequest) (room : ℕ) : Type 0 where
   pub count : ℕ
-  pub asked : AsksQueues request.common count
+  pub asked : AsksQueues request count
   pub enough : bytes_for count ≤ room
 
 -- A refusal with its cause, where the source has these bytes, there is so much room, and so many floods were made.
@@ -35,6 +33,8 @@ pub record HasRoom (request : PercentRequest) (bytes : List ℕ) (room : ℕ) : 
 -- room.
 abbrev pub Refuses : PercentRequest → (bytes : List ℕ) → (room floods : ℕ) → NoBits → Type 0
 Refuses request bytes room floods (Fault fault) = (percent_fault request bytes ≡ Some fault) × (floods ≡ 0)
-Refuses request bytes room floods (NoRoom count) = LacksRoom request bytes room count × (floods ≡ 0)
+Refuses request bytes room floods (NoRoom count) =
+    (percent_fault request bytes ≡ None) × LacksRoom request.common room count × (floods ≡ 0)
 Refuses request bytes room floods NoMemory =
-    ((field_needs request.common.field ≢ nothing) × (floods ≡ 0)) ⊎ HasRoom request bytes room
+    ((field_needs request.common.field ≢ nothing) × (floods ≡ 0))
+    ⊎ ((percent_fault request bytes ≡ None) × HasRoom request.common room)

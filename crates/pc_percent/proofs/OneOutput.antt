@@ -1,8 +1,9 @@
 -- What `percent` writes is determined by its request and the bytes of the source.
-use Rattle.std.proofs.Common.{◌≡◌, ◌∙◌, ℕ, List, Bool, true, false, IsTrue, sym, subst, refl}
+use Rattle.std.proofs.Common.{◌≡◌, ◌∙◌, ℕ, List, true, sym, subst}
 use Rattle.srs.specs.declared.piece.Piece.{Piece}
 use Rattle.srs.specs.Rules.{table_of}
 use Rattle.lane_board.specs.Field.{Field}
+use Rattle.lane_board.proofs.CallerLemmas.{same_from_both}
 use Rattle.well.specs.Well.{filled}
 use Rattle.queue_pattern.specs.Pattern.{elements_of}
 use Rattle.queue_pattern.specs.Queues.{queues}
@@ -33,15 +34,9 @@ good_of_same request F one other first second queue good = record {
       (subst (λ p. Permits one.hold queue p (pieces_of good.sequence)) (first.held ∙ sym second.held) good.permitted);
 }
 
-same_tests : (a b : Bool) → (IsTrue a → IsTrue b) → (IsTrue b → IsTrue a) → a ≡ b
-same_tests true true to from = refl
-same_tests false false to from = refl
-same_tests true false to from = sym (to refl)
-same_tests false true to from = from refl
-
 one_answer : (request : PercentRequest) (F : Field) (a b : List ℕ) → IsAnsweredFor request F a → IsAnsweredFor request F b → a ≡ b
 one_answer request F a b first second =
-    let same : (queue : List Piece) → first.is_good queue ≡ second.is_good queue = λ queue. same_tests (first.is_good queue) (second.is_good queue)
+    let same : (queue : List Piece) → first.is_good queue ≡ second.is_good queue = λ queue. same_from_both (first.is_good queue) (second.is_good queue)
     (λ t. (second.decides queue).1 (good_of_same request.common F first.problem second.problem first.named second.named queue ((first.decides queue).0 t)))
     (λ t. (first.decides queue).1 (good_of_same request.common F second.problem first.problem second.named first.named queue ((second.decides queue).0 t))) in
     let elements : elements_of first.problem.pattern ≡ elements_of second.problem.pattern = same_elements request.common F first.problem second.problem first.named second.named in

@@ -10,4 +10,4 @@ mod source;
 pub use field_text::{field, is_of_source};
 pub use page::page_at;
 pub use pages::text_pages;
-pub use source::source_bytes;
+pub use source::{MOST_BYTES, source_bytes};

@@ -12,8 +12,8 @@ use pc_faults::Status;
 use pc_outside::{Source, read_all};
 use std::alloc::Global;
 
-/// The most bytes that are read from the source.
-const MOST_BYTES: usize = 4_194_304;
+/// The most bytes that a command reads from its source. If there are more, that is a fault of the input.
+pub const MOST_BYTES: usize = 4_194_304;
 
 /// The bytes of the source that a run sees, or the status that ends it. If the run reads the source, it reads all bytes
 /// that are left, at most 4,194,304. Otherwise it sees none, and the source is unchanged.

@@ -7,5 +7,5 @@ mod reading;
 mod tests;
 mod writing;
 
-pub use reading::{Sequence, sequence_in};
+pub use reading::sequence_in;
 pub use writing::{numbers_of, write_sequence};

@@ -4,11 +4,8 @@ ghost use Rattle.srs.specs.declared.placement.Placement.{Placement};
 ghost use Rattle.placement_numbers.specs.Numbers.{AreNumbersOf};
 ghost use Rattle.placement_numbers.specs.Reading.{placement_in, rotation_at};
 
-use arrayvec::ArrayVec;
+use problem::Sequence;
 use srs::{Piece, Placement, Rotation};
-
-/// At most 22 placements.
-pub type Sequence = ArrayVec<Placement, 22>;
 
 /// The rotation at this place of the order 0, R, 2, L, if there is one.
 fn rotation_at(place: u8) -> Option<Rotation>

@@ -4,10 +4,7 @@ ghost use Rattle.arrayvec.specs.ArrayVec.{array_vec_len};
 ghost use Rattle.sequence_text.specs.Reading.{may_end, sequence_in, sequence_reading};
 
 use crate::reading::Reading;
-use arrayvec::ArrayVec;
-use srs::Placement;
-
-type Sequence = ArrayVec<Placement, 22>;
+use problem::Sequence;
 
 /// Whether a blank and another placement may follow.
 fn goes_on(now: Reading, left: u8) -> bool

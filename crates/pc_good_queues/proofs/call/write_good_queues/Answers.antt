@@ -1,5 +1,5 @@
 -- Each exit has its cause, and at the last one the bits are written.
-use Rattle.std.proofs.Common.{◌∙◌, Err, length, refl, ap, inr, arith}
+use Rattle.std.proofs.Common.{◌∙◌, Err, length, refl, ap, arith}
 use Rattle.std.proofs.lemmas.Result.{err_from_is_err_and}
 use Rattle.well.specs.Well.{filled}
 use Rattle.percent.specs.Answers.{problem_of}
@@ -20,17 +20,15 @@ returns-in_err-problem-clause-refused g c =
     rw (p.1, p.2) (had_fault (percent_view c.args.settings.now) c.args.bytes.now (filled c.in_ok-well.well) c.in_ok-well.ensures.field ∙ c.in_err-problem.ensures.fault, none_added _ _ refl)
 
 pub returns-then-bits-bytes_for-clause-refused : goal.returns-then-bits-bytes_for-clause-refused
-returns-then-bits-bytes_for-clause-refused g c = (
-  lacks (percent_view c.args.settings.now) c.args.bytes.now (filled c.in_ok-well.well) c.in_ok-well.ensures.field c.in_ok-problem.problem c.in_ok-problem.ensures.problem
-      c.count-queues.result c.count-queues.ensures.number (length c.args.bits.now) c.in_ok-problem.ensures.none (omega (arith, c.if-bits-bytes_for.true, c.bytes_for.ensures)),
-  none_added _ _ refl,
-)
+returns-then-bits-bytes_for-clause-refused g c =
+    lacks (percent_view c.args.settings.now) c.args.bytes.now (filled c.in_ok-well.well) c.in_ok-well.ensures.field c.in_ok-problem.problem c.in_ok-problem.ensures.problem
+    c.count-queues.result c.count-queues.ensures.number (length c.args.bits.now) _ c.in_ok-problem.ensures.none (omega (arith, c.if-bits-bytes_for.true, c.bytes_for.ensures)) (none_added _ _ refl)
 
 pub returns-in_err-answers-clause-refused : goal.returns-in_err-answers-clause-refused
 returns-in_err-answers-clause-refused g c =
     let p = err_from_is_err_and c.from_residual-in_err-answers.result c.from_residual-in_err-answers.ensures.1 in
-    rw (p.1, p.2) (inr (has_room (percent_view c.args.settings.now) c.args.bytes.now (filled c.in_ok-well.well) c.in_ok-well.ensures.field c.in_ok-problem.problem c.in_ok-problem.ensures.problem
-    c.count-queues.result c.count-queues.ensures.number (length c.args.bits.now) c.in_ok-problem.ensures.none (omega (arith, c.if-bits-bytes_for.false, c.bytes_for.ensures))))
+    rw (p.1, p.2) (has_room (percent_view c.args.settings.now) c.args.bytes.now (filled c.in_ok-well.well) c.in_ok-well.ensures.field c.in_ok-problem.problem c.in_ok-problem.ensures.problem
+    c.count-queues.result c.count-queues.ensures.number (length c.args.bits.now) _ c.in_ok-problem.ensures.none (omega (arith, c.if-bits-bytes_for.false, c.bytes_for.ensures)))
 
 pub returns-clause-found : goal.returns-clause-found
 returns-clause-found g c =
