@@ -108,8 +108,8 @@ less_none supply piece none = fun_ext (λ other. elim (cases_Bool (piece_code pi
 ])
 
 -- one piece of a kind, as a word
-pub one_of : (code : ℕ) (piece : Piece) → code ≡ piece_code piece → 1 * 2 ^ (8 * (code - 1)) % 2 ^ 64 ≡ 2 ^ (8 * (piece_code piece - 1))
-one_of code piece is = ap (λ code. 1 * 2 ^ (8 * (code - 1)) % 2 ^ 64) is ∙ one_shl (8 * (piece_code piece - 1)) 64 (omega (arith, code_to_seven piece))
+pub counted_once : (code : ℕ) (piece : Piece) → code ≡ piece_code piece → 1 * 2 ^ (8 * (code - 1)) % 2 ^ 64 ≡ 2 ^ (8 * (piece_code piece - 1))
+counted_once code piece is = ap (λ code. 1 * 2 ^ (8 * (code - 1)) % 2 ^ 64) is ∙ one_shl (8 * (piece_code piece - 1)) 64 (omega (arith, code_to_seven piece))
 
 -- seven entries and a zero
 abbrev pub word_bytes : List ℕ → List ℕ
