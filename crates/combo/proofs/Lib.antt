@@ -7,4 +7,7 @@ mod LongestLemmas
 mod StoreLemmas
 mod TurnLemmas
 mod PlacesLeft
+mod RoomRows
+mod RoomCells
+mod RoomLemmas
 mod Worked

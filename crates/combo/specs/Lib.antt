@@ -1,6 +1,7 @@
 -- What a reader must believe
 pub mod Runs
 pub mod Longest
+pub mod Room
 -- What serves proofs alone
 pub mod First
 pub mod Turns
