@@ -3,7 +3,6 @@ use Rattle.std.proofs.Common.{◌≡◌, ℕ, zero, suc, ◌+◌, ◌-◌, ◌*�
 use Rattle.std.proofs.Math.Path.{fun_ext}
 use Rattle.std.proofs.lemmas.Bool.{cases_lt, cases_eq, and_parts, and_from, cases_Bool, leb-true, le-leb, lt-ltb, le-ltb, ltb-true, eq-eqb, ne_eqb, both_ways}
 use Rattle.lane_board.specs.Lanes.{has_bit}
-use Rattle.lane_board.specs.Words.{cells_of_words}
 use Rattle.lane_board.proofs.CallerLemmas.{same_from_both, has_bit-zero}
 use Rattle.srs.specs.declared.rotation.Rotation.{Rotation}
 use Rattle.srs.specs.Rotation.{rotation_place}
@@ -318,75 +317,3 @@ cut_states numbers S rows lies cut few r x y = same_from_both _ _ there back
         let place = (lies r).inside x y has.0 in
         let column : x < 16 = omega (arith, place.0) in
         and_from _ _ (and_from _ _ (lt-ltb x 16 column) (lt-ltb y 24 place.1)) (at column place.1 ∙ held)
-
--- the word has lost the bits that are given of its rotation
-pub record LosesRows (old : Numbers) (pivots : List ℕ) (w word : ℕ) : Type 0 where
-  pub bits : (k : ℕ) → has_bit word k ≡ (has_bit (get_or old.words w 0) k && not (has_bit (get_or pivots (2 * (w / 6) + w % 6) 0) k))
-  pub nothing : get_or old.words w 0 ≡ 0 → word ≡ 0
-
--- a word has lost the bits of another one
-abbrev pub LosesBits : ℕ → ℕ → ℕ → Type 0
-LosesBits before others word = ((k : ℕ) → has_bit word k ≡ (has_bit before k && not (has_bit others k))) × (before ≡ 0 → word ≡ 0)
-
-loses_here : (old : Numbers) (pivots words : List ℕ) (w at place index word : ℕ) → w ≡ at + 6 * place → at < 2 → index ≡ at + 2 * place → get_or words w 0 ≡ get_or old.words w 0 →
-    LosesBits (get_or words w 0) (get_or pivots index 0) word → LosesRows old pivots w word
-loses_here old pivots words w at place index word is small there was loses =
-    let same : index ≡ 2 * (w / 6) + w % 6 = omega (arith, there) in
-    record {
-      bits = λ k. loses.0 k ∙ (λ i. has_bit (was i) k && not (has_bit (get_or pivots (same i) 0) k));
-      nothing = λ none. loses.1 (was ∙ none);
-    }
-
--- one word of each rotation more has lost its bits
-pub loses_more : (old : Numbers) (pivots words : List ℕ) (at a b d e : ℕ) → length words ≡ 24 → at < 2 →
-    ((w : ℕ) → w < 24 → w % 6 < at → LosesRows old pivots w (get_or words w 0)) → ((w : ℕ) → w < 24 → at ≤ w % 6 → get_or words w 0 ≡ get_or old.words w 0) →
-    LosesBits (get_or words at 0) (get_or pivots at 0) a → LosesBits (get_or words (at + 6) 0) (get_or pivots (at + 2) 0) b → LosesBits (get_or words (at + 12) 0) (get_or pivots (at + 4) 0) d → LosesBits (get_or words (at + 18) 0) (get_or pivots (at + 6) 0) e →
-    (w : ℕ) → w < 24 → w % 6 < at + 1 → LosesRows old pivots w (get_or (four_set words at a b d e) w 0)
-loses_more old pivots words at a b d e size small before later is_a is_b is_d is_e =
-    four_more (LosesRows old pivots) words at a b d e size (omega (arith, small)) before
-    (loses_here old pivots words at at 0 at a (omega arith) small (omega arith) (later at (omega arith) (omega arith)) is_a)
-    (loses_here old pivots words (at + 6) at 1 (at + 2) b (omega arith) small (omega arith) (later (at + 6) (omega arith) (omega arith)) is_b)
-    (loses_here old pivots words (at + 12) at 2 (at + 4) d (omega arith) small (omega arith) (later (at + 12) (omega arith) (omega arith)) is_d)
-    (loses_here old pivots words (at + 18) at 3 (at + 6) e (omega arith) small (omega arith) (later (at + 18) (omega arith) (omega arith)) is_e)
-
--- words of which the lowest two of each rotation have lost these bits
-pub loses_rows : (old new : Numbers) (pivots : List ℕ) → ((w : ℕ) → w < 24 → w % 6 < 2 → LosesRows old pivots w (get_or new.words w 0)) → ((w : ℕ) → w < 24 → 2 ≤ w % 6 → get_or new.words w 0 ≡ get_or old.words w 0) → ((r : Rotation) → rotation_place r < 4)
-    → (r : Rotation) (x y : ℕ) → states_in new r x y ≡ (states_in old r x y && not (cells_of_words pivots (rotation_place r) x y))
-unfolding states_in has_number cells_of_words
-loses_rows old new pivots low high few r x y = elim (cases_Bool (nat_lt x 16 && nat_lt y 24)) [
-  | inl in_reach ↦
-      let sides = and_parts (nat_lt x 16) (nat_lt y 24) in_reach in
-      ap (λ b. b && has new) in_reach ∙ at (ltb-true x 16 sides.0) (ltb-true y 24 sides.1) ∙ ap (λ b. (b && has old) && not cell) (sym in_reach)
-  | inr out ↦ ap (λ b. b && has new) out ∙ ap (λ b. (b && has old) && not cell) (sym out)
-]
-  where
-    n : ℕ
-    n = number_of_state (rotation_place r) y x
-
-    has : Numbers → Bool
-    has numbers = has_bit (get_or numbers.words (n / 64) 0) (n % 64)
-
-    bit : Bool
-    bit = has_bit (get_or pivots (2 * rotation_place r + y / 4) 0) (16 * (y % 4) + x)
-
-    cell : Bool
-    cell = (nat_lt x 16 && nat_lt y 8) && bit
-
-    keep : (a : Bool) → a ≡ (a && not false)
-    keep true = refl
-    keep false = refl
-
-    at : x < 16 → y < 24 → has new ≡ (has old && not cell)
-    at column row =
-        let place = few r in
-        elim (cases_lt y 8) [
-          | inl below ↦
-              let word : 2 * (n / 64 / 6) + n / 64 % 6 ≡ 2 * rotation_place r + y / 4 = omega arith in
-              let k : n % 64 ≡ 16 * (y % 4) + x = omega arith in
-              let both : (nat_lt x 16 && nat_lt y 8) ≡ true = and_from _ _ (lt-ltb x 16 column) (lt-ltb y 8 below) in
-              (low (n / 64) (omega arith) (omega arith)).bits (n % 64)
-              ∙ ap (λ b. has old && not b) ((λ i. has_bit (get_or pivots (word i) 0) (k i)) ∙ ap (λ b. b && bit) (sym both))
-          | inr above ↦
-              let none : (nat_lt x 16 && nat_lt y 8) ≡ false = ap (λ b. b && nat_lt y 8) (lt-ltb x 16 column) ∙ le-ltb y 8 above in
-              ap (λ word. has_bit word (n % 64)) (high (n / 64) (omega arith) (omega arith)) ∙ keep (has old) ∙ ap (λ b. has old && not (b && bit)) (sym none)
-        ]

@@ -15,12 +15,10 @@ pub struct Places {
 }
 
 impl Places {
-    ghost use Rattle.std.specs.Prelude.{◌↔◌, ◌≢◌, ◌==◌, ◌&&◌, not, false, IsTrue, IfSome, Some, None};
+    ghost use Rattle.std.specs.Prelude.{◌↔◌, ◌≢◌, ◌==◌, ◌&&◌, false, IsTrue, IfSome, Some, None};
     ghost use Rattle.std.specs.Option.{option_copied};
     ghost use Rattle.srs.specs.Order.{placement_cmp};
     ghost use Rattle.srs.specs.Piece.{piece_code};
-    ghost use Rattle.srs.specs.Rotation.{rotation_place};
-    ghost use Rattle.lane_board.specs.Words.{cells_of_words};
     ghost use Rattle.lists.specs.Rising.{IsNextAbove};
     ghost use Rattle.well.specs.LockLaws.{is_below};
     ghost use Rattle.reach.specs.Places.{holds, piece_of};
@@ -96,17 +94,6 @@ impl Places {
             None => None,
             Some(number) => Some(state_with(self.piece, number)),
         }
-    }
-
-    /// Leaves out the placements in rows 0 to 7 with these pivots: two words for each rotation, in the order 0, R, 2,
-    /// L, four rows in each word, and sixteen bits for each row.
-    #[inline(always)]
-    pub fn leave_out(&mut self, pivots: &[u64; 8])
-        ensures piece { piece_of self.new ≡ piece_of self.old }
-        ensures held { (q : Placement) → holds self.new q
-            ≡ (holds self.old q && not (cells_of_words pivots.now (rotation_place q.rotation) q.x q.y)) }
-    {
-        self.numbers.leave_out(pivots);
     }
 
     /// The placements among these whose cells all lie below row `rows`.

@@ -6,7 +6,7 @@ ghost use Rattle.srs.specs.declared.rotation.Rotation.{Rotation};
 use crate::pivots::Pivots;
 use crate::scan::number_of;
 use crate::words::{
-    bits_from, bits_without, four_rows, has_bit, in_low_rows, lowest_bit, without_lowest,
+    bits_from, four_rows, has_bit, in_low_rows, lowest_bit, without_lowest,
 };
 use srs::Placement;
 
@@ -50,7 +50,6 @@ fn words_below(rows: [u8; 4]) -> usize
 
 impl Numbers {
     ghost use Rattle.std.specs.Prelude.{not};
-    ghost use Rattle.lane_board.specs.Words.{cells_of_words};
     ghost use Rattle.srs.specs.Rotation.{rotation_place};
     ghost use Rattle.reach.specs.Numbers.{has_number, number_of_state, is_named, states_in, IsNumberFrom, IsWordAmong};
     ghost use Rattle.reach.specs.States.{has_state, states_of};
@@ -180,25 +179,6 @@ impl Numbers {
                 self.in_use = bits_from(self.in_use, at);
                 Some(64 * at + lowest_bit(word))
             }
-        }
-    }
-
-    /// Takes out the numbers of those states that lie in rows 0 to 7 and whose pivots are given: two words for each
-    /// rotation, sixteen bits for each row.
-    #[inline(always)]
-    pub(crate) fn leave_out(&mut self, pivots: &[u64; 8])
-        ensures { (r : Rotation) (x y : ℕ) → states_in self.new r x y
-            ≡ (states_in self.old r x y && not (cells_of_words pivots.now (rotation_place r) x y)) }
-    {
-        for at in 0..2 {
-            let spawn = bits_without(self.words[at], pivots[at]);
-            let right = bits_without(self.words[at + 6], pivots[at + 2]);
-            let reverse = bits_without(self.words[at + 12], pivots[at + 4]);
-            let left = bits_without(self.words[at + 18], pivots[at + 6]);
-            self.words[at] = spawn;
-            self.words[at + 6] = right;
-            self.words[at + 12] = reverse;
-            self.words[at + 18] = left;
         }
     }
 
