@@ -1,7 +1,7 @@
 -- A placement after which a rest is good stands in a tiling by the pieces of the rest and its own.
-use Rattle.std.proofs.Common.{ℕ, suc, ◌≡◌, ◌∙◌, ◌+◌, ◌-◌, ◌<◌, ◌≤◌, true, false, not, ◌==◌, nat_le, List, [], ◌∷◌, ◌++◌, length, get_or, ap, pos, negsuc, int_lt, refl, sym, subst, inl, inr, arith}
-use Rattle.std.specs.List.{list_all, list_any}
-use Rattle.std.proofs.lemmas.Bool.{and_parts, and_from, cases_Bool, cases_lt, or_cases, eqb-true, cond-true, cond-false, both_ways, eq-eqb, false≢true, false_from_ne_true, lt-ltb, leb-true}
+use Rattle.std.proofs.Common.{ℕ, ◌≡◌, ◌∙◌, ◌+◌, ◌-◌, ◌<◌, ◌≤◌, true, false, not, ◌==◌, nat_le, List, [], ◌∷◌, ◌++◌, length, get_or, ap, pos, negsuc, int_lt, refl, sym, subst, inl, inr, arith}
+use Rattle.std.specs.List.{list_all}
+use Rattle.std.proofs.lemmas.Bool.{and_parts, and_from, cases_Bool, cases_lt, cond-true, cond-false, both_ways, eq-eqb, false≢true, false_from_ne_true, lt-ltb, leb-true}
 use Rattle.std.specs.Prelude.{All, Option, Some, None, IfSome, IsSomeAnd}
 use Rattle.std.proofs.lemmas.Option.{slice_get_within, get_or_from_slice_get}
 use Rattle.std.proofs.lemmas.List.{get_or_append_left, get_or_push, length-append}
@@ -34,6 +34,7 @@ use Rattle.percent.specs.Marks.{ArePlaces, HasMarkAt, IsMarkOf, IsTrueMark}
 use Rattle.percent.proofs.HandLemmas.{code-few}
 use Rattle.percent.proofs.FittingLemmas.{low-position}
 use Rattle.percent.proofs.TiledLemmas.{good-tiled}
+use Rattle.percent.proofs.WholeLemmas.{has-at}
 
 blank_cell : (F : Field) (rows : ℕ) (c : Cell) → is_open F c ≡ true → int_lt c.1 (pos rows) ≡ true → has_cell (difference (rows_below rows) F) c ≡ true
 unfolding is_open difference rows_below
@@ -176,19 +177,11 @@ places-end known piece left items rests places i same state all =
 -- where each rest has a place each has a mark
 pub all-marked : (known : List Mark) (piece : Piece) (left : ℕ) (rests : List ℕ) (places : List (Option ℕ)) → ArePlaces known piece left rests places → ((k : ℕ) → k < length places → get_or places k None ≡ None → ⊥)
     → (rest : ℕ) → has rests rest ≡ true → (place : ℕ) × IsMarkOf known piece left rest place
-unfolding has
 all-marked known piece left rests places are some rest here =
     let at = has-at rests rest here in
     subst (λ r. (place : ℕ) × IsMarkOf known piece left r place) at.2
     (there (IsMarkOf known piece left (get_or rests at.0 0)) (get_or places at.0 None) (are.each at.0 at.1) (some at.0 (let size = are.size in omega (arith, size))))
   where
-    has-at : (xs : List ℕ) (number : ℕ) → has xs number ≡ true → (k : ℕ) × (k < length xs) × (get_or xs k 0 ≡ number)
-    has-at [] number there = absurd (false≢true there)
-    has-at (x ∷ xs) number there = elim (or_cases (x == number) (list_any (λ y. y == number) xs) there) [
-      | inl first ↦ (0, omega arith, eqb-true x number first)
-      | inr later ↦ let w = has-at xs number later in (suc w.0, omega (arith, w.1), w.2)
-    ]
-
     there : (P : ℕ → Type 0) (place : Option ℕ) → IfSome place P → (place ≡ None → ⊥) → (known_place : ℕ) × P known_place
     there P None holds some = absurd (some refl)
     there P (Some known_place) holds some = (known_place, holds)
