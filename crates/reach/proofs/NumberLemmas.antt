@@ -1,7 +1,7 @@
 -- The numbers of a set, word by word.
 use Rattle.std.proofs.Common.{◌≡◌, ℕ, zero, suc, ◌+◌, ◌-◌, ◌*◌, ◌/◌, ◌%◌, ◌<◌, ◌≤◌, Bool, true, false, not, ◌&&◌, ◌==◌, nat_lt, nat_le, List, length, length-set, set, get_or, Option, Some, None, refl, sym, ap, subst, ◌∙◌, inl, inr, arith, get_or-set_other, get_or-set_same, ◌≢◌}
 use Rattle.std.proofs.Math.Path.{fun_ext}
-use Rattle.std.proofs.lemmas.Bool.{cases_lt, cases_eq, and_parts, and_from, cases_Bool, leb-true, le-leb, lt-ltb, le-ltb, ltb-true, eq-eqb, ne_eqb, both_ways}
+use Rattle.std.proofs.lemmas.Bool.{cases_lt, cases_eq, and_parts, and_from, leb-true, le-leb, lt-ltb, le-ltb, ltb-true, eq-eqb, ne_eqb, both_ways}
 use Rattle.lane_board.specs.Lanes.{has_bit}
 use Rattle.lane_board.proofs.CallerLemmas.{same_from_both, has_bit-zero}
 use Rattle.srs.specs.declared.rotation.Rotation.{Rotation}

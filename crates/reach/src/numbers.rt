@@ -5,9 +5,7 @@ ghost use Rattle.srs.specs.declared.rotation.Rotation.{Rotation};
 
 use crate::pivots::Pivots;
 use crate::scan::number_of;
-use crate::words::{
-    bits_from, four_rows, has_bit, in_low_rows, lowest_bit, without_lowest,
-};
+use crate::words::{bits_from, four_rows, has_bit, in_low_rows, lowest_bit, without_lowest};
 use srs::Placement;
 
 /// How many words of 64 bits a set has.
