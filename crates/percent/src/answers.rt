@@ -45,12 +45,7 @@ fn all_good(alloc: Global, problem: &Problem, hands: &[u64]) -> Result<Vec<bool>
 
 /// For each queue, by its number, whether it is good: whether its hand is among the good ones. If there are as many good
 /// hands as there are hands in `all`, each is.
-fn judged(
-    alloc: Global,
-    problem: &Problem,
-    all: usize,
-    good: &[u64],
-) -> Result<Vec<bool>, NoMemory>
+fn judged(alloc: Global, problem: &Problem, all: usize, good: &[u64]) -> Result<Vec<bool>, NoMemory>
     requires fit { IsFit problem.now }
     requires whole { length good.now ≡ all →
         HasHandsBefore problem.now good.now (length (queues (elements_of problem.now.pattern))) }
