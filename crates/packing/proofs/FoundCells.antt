@@ -10,11 +10,12 @@ use Rattle.lane_board.proofs.CallerLemmas.{has_bit-and, has_bit-and_not, has_bit
 use Rattle.packing.specs.declared.empties.Empties.{Empties}
 use Rattle.packing.specs.Empties.{empty_cells}
 
--- ten bits, eight apart
+-- the lowest cell of each column
 abbrev lowest_cells : ℕ
 lowest_cells = 4740885567116192841985
 
-abbrev pub spread_cells : ℕ → ℕ
+-- the cells of a row of ten: of seven columns, and of three more
+abbrev spread_cells : ℕ → ℕ
 spread_cells row = bit_or (bit_and (bit_and row 127 * 4432676798593) 282578800148737) (bit_and (row / 2 ^ 7 * 16513) 65793 * 2 ^ 56 % 2 ^ 128)
 
 -- each row is tried
@@ -27,9 +28,6 @@ all_spread row small = agree_below_at is_spread (λ _. true) 1024 row refl small
 
 in_lowest : (row : ℕ) → row < 1024 → bit_and lowest_cells (spread_cells row) ≡ spread_cells row
 in_lowest row small = eqb-true _ _ (and_parts _ _ (all_spread row small)).0
-
-pub spread-small : (row : ℕ) → row < 1024 → spread_cells row < 2 ^ 73
-spread-small row small = omega (arith, in_lowest row small, and_le_l lowest_cells (spread_cells row))
 
 each_column : (row : ℕ) → row < 1024 → (x : ℕ) → x ≤ 9 → has_bit (spread_cells row) (8 * x) ≡ has_bit row x
 each_column row small x column =
@@ -62,6 +60,7 @@ found-start F = record {
   bits = λ a b _ _. has_bit-zero (8 * a + b) ∙ sym (and_left _ _ (le-ltb b 0 (omega arith)));
 }
 
+-- the cells of a row, moved up to their row
 module _ (s : ℕ) (has : ℕ → Bool) (bits : (x y : ℕ) → x ≤ 9 → y < 8 → has_bit s (8 * x + y) ≡ ((y == 0) && has x)) where
   none_there : (x y : ℕ) → x ≤ 9 → y < 8 → 0 < y → has_bit s (8 * x + y) ≡ false
   none_there x y column row above = bits x y column row ∙ and_left _ _ (ne_eqb y 0 (omega arith))
@@ -73,7 +72,7 @@ module _ (s : ℕ) (has : ℕ → Bool) (bits : (x y : ℕ) → x ≤ 9 → y < 
       ∙ ap (has_bit s) {x = 8 * suc a + b - y} {y = 8 * a + (8 + b - y)} (omega arith)
       ∙ none_there a (8 + b - y) (omega arith) (omega arith) (omega arith)
 
-  pub raised-bits : (y a b : ℕ) → y < 8 → a ≤ 9 → b < 8 → has_bit (s * 2 ^ y) (8 * a + b) ≡ ((b == y) && has a)
+  raised-bits : (y a b : ℕ) → y < 8 → a ≤ 9 → b < 8 → has_bit (s * 2 ^ y) (8 * a + b) ≡ ((b == y) && has a)
   raised-bits y a b row column low = elim (cases_lt b y) [
     | inl below ↦ none_below y a b row column below ∙ sym (and_left _ _ (ne_eqb b y (omega arith)))
     | inr from ↦
