@@ -3,6 +3,7 @@ mod SpanBits
 mod ColumnBits
 mod Mirrors
 mod EmptiesLemmas
+mod FoundCells
 mod SupplyLemmas
 mod SupplyWordLemmas
 mod PivotLemmas

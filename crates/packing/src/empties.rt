@@ -1,5 +1,6 @@
 // A set of empty cells.
-ghost use Rattle.std.specs.Prelude.{◌≡◌, ℕ, ◌<◌, ◌^◌};
+ghost use Rattle.std.specs.Prelude.{◌≡◌, ℕ, ◌<◌, ◌≤◌, ◌^◌, ◌+◌, ◌*◌, ◌==◌, ◌&&◌};
+ghost use Rattle.lane_board.specs.Lanes.{has_bit};
 
 use crate::span::Span;
 use well::Well;
@@ -12,10 +13,22 @@ pub struct Empties {
     ghost in_columns: { cells < 2 ^ 80 },
 }
 
+/// The cells of a row of ten, each column's in the lowest row: bit `8 * x` is set exactly if bit `x` of the row is.
+#[inline(always)]
+fn spread(row: u16) -> u128
+    requires { row < 1024 }
+    ensures small { result < 2 ^ 73 }
+    ensures bits { (x y : ℕ) → x ≤ 9 → y < 8
+        → has_bit result (8 * x + y) ≡ ((y == 0) && has_bit row x) }
+{
+    let low = u64::from(row & 127) * 0x0408_1020_4081 & 0x0001_0101_0101_0101;
+    let high = u64::from(row >> 7) * 0x4081 & 0x0001_0101;
+    u128::from(low) | u128::from(high) << 56
+}
+
 impl Empties {
-    ghost use Rattle.std.specs.Prelude.{◌≤◌, ◌-◌, ◌+◌, ◌*◌, ◌&&◌, ◌↔◌, nat_le, not, IsTrue, MatchOption};
+    ghost use Rattle.std.specs.Prelude.{◌-◌, ◌↔◌, nat_le, not, IsTrue, MatchOption};
     ghost use Rattle.lane_board.specs.Field.{empty_field, difference, rows_below};
-    ghost use Rattle.lane_board.specs.Lanes.{has_bit};
     ghost use Rattle.well.specs.Well.{filled};
     ghost use Rattle.prune.specs.Counts.{run_empties};
     ghost use Rattle.packing.specs.Empties.{all_but, empty_cells};
@@ -34,13 +47,11 @@ impl Empties {
         requires { rows ≤ 8 }
         ensures { empty_cells result ≡ difference (rows_below rows) (filled well.now) }
     {
+        let board = well.board();
         let mut cells = 0;
-        for x in 0..10 {
-            for y in 0..rows {
-                if !well.cell(x, y) {
-                    cells |= 1u128 << (8 * x + y);
-                }
-            }
+        for y in 0..rows {
+            let empty = 1023 ^ (1023 & board.row(y));
+            cells |= spread(empty) << y;
         }
         Empties { cells }
     }

@@ -81,21 +81,32 @@ impl Remembered {
         None
     }
 
-    /// The same, with the answer for one more placement.
-    fn with(&self, placement: &Placement, answer: bool) -> Remembered
+    /// Remembers one more answer. If this was about another question, what it was about is forgotten.
+    fn note(&mut self, cells: &Empties, supply: SupplyWord, placement: &Placement, answer: bool)
         requires column { placement.now.x ≤ 9 }
         requires row { placement.now.y ≤ 7 }
-        requires piece { placement.now.piece ≡ self.now.piece }
         requires answer { answer ≡ has_tiling
-            (all_but (without_placement (empty_cells self.now.cells) placement.now)) 8 (supply_of self.now.supply) }
+            (all_but (without_placement (empty_cells cells.now) placement.now)) 8 (supply_of supply) }
     {
-        let mut more = *self;
-        if answer {
-            more.live.add(placement);
-        } else {
-            more.dead.add(placement);
+        if !self.is_about(cells, supply, placement.piece) {
+            *self = Remembered::nothing(cells, supply, placement.piece);
         }
-        more
+        self.add(placement, answer);
+    }
+
+    /// Adds the answer for one more placement.
+    fn add(&mut self, placement: &Placement, answer: bool)
+        requires column { placement.now.x ≤ 9 }
+        requires row { placement.now.y ≤ 7 }
+        requires piece { placement.now.piece ≡ self.old.piece }
+        requires answer { answer ≡ has_tiling
+            (all_but (without_placement (empty_cells self.old.cells) placement.now)) 8 (supply_of self.old.supply) }
+    {
+        if answer {
+            self.live.add(placement);
+        } else {
+            self.dead.add(placement);
+        }
     }
 }
 
@@ -146,9 +157,7 @@ impl PlaceMemory {
         }
         let answer = store.has_tiling_near(&cells.without(placement), placement.x, supply);
         if placement.y < 8 {
-            self.sets[place] = self
-                .known(place, cells, word, placement)
-                .with(placement, answer);
+            self.sets[place].note(cells, word, placement, answer);
         }
         answer
     }
@@ -167,25 +176,5 @@ impl PlaceMemory {
             return known.dead.words();
         }
         [0; 8]
-    }
-
-    /// What is remembered about a question, possibly nothing.
-    fn known(
-        &self,
-        place: usize,
-        cells: &Empties,
-        supply: SupplyWord,
-        placement: &Placement,
-    ) -> Remembered
-        requires { place < 32768 }
-        ensures cells { empty_cells result.cells ≡ empty_cells cells.now }
-        ensures supply { result.supply ≡ supply }
-        ensures piece { result.piece ≡ placement.now.piece }
-    {
-        let known = &self.sets[place];
-        if known.is_about(cells, supply, placement.piece) {
-            return *known;
-        }
-        Remembered::nothing(cells, supply, placement.piece)
     }
 }

@@ -1,23 +1,25 @@
--- One more cell, and one more column.
-use Rattle.std.proofs.Common.{sym, ◌∙◌, arith}
-use Rattle.packing.proofs.EmptiesLemmas.{found-start, found-column, found-filled, found-empty, found-all}
+-- One more row.
+use Rattle.std.proofs.Common.{Bool, not, ◌&&◌, ◌==◌, ap, ◌∙◌, arith}
+use Rattle.lane_board.specs.Field.{Field}
+use Rattle.packing.proofs.FoundCells.{empty-small, empty_bits, found-all, found-next, found-start}
 use Rattle.packing.proofs.empties.Empties.below.Goals as goal
-use Rattle.packing.proofs.empties.Empties.below.Goals.{then-not-cell, else-not-cell}
 
-pub loop-x-init : goal.loop-x-init
-loop-x-init c = found-start _ _
+pub loop-y-init : goal.loop-y-init
+loop-y-init c = found-start _
+
+pub spread-requires : goal.spread-requires
+spread-requires c = empty-small c.row.result
 
 pub loop-y-preserved : goal.loop-y-preserved
-loop-y-preserved c = elim c.if-not-cell.branch [
-  | then-not-cell w ↦ rw w.cells-is (found-empty _ _ _ _ _ (sym c.cell.ensures ∙ w.if-not-cell.true) c.loop-y-test.true c.requires c.loop-x-test.true c.loop-y.invariant)
-  | else-not-cell w ↦ rw w.cells-is (found-filled _ _ _ _ _ (sym c.cell.ensures ∙ w.if-not-cell.false) c.loop-y.invariant)
-]
-
-pub loop-x-preserved : goal.loop-x-preserved
-loop-x-preserved c = found-column _ _ _ _ _ (omega arith) c.loop-y.invariant
+loop-y-preserved c = found-next _ _ _ _ (omega (arith, c.requires, c.loop-y-test.true)) c.spread.ensures.small
+    (λ a b column low. c.spread.ensures.bits a b column low
+    ∙ ap (λ t. (b == 0) && t) (empty_bits c.row.result a column)
+    ∙ ap (λ (has : _ → Bool). (b == 0) && not (has a)) c.row.ensures
+    ∙ ap (λ (F : Field). (b == 0) && not (F a c.loop-y.y)) c.board-board.ensures)
+    c.loop-y.invariant
 
 pub invariant_of-result : goal.invariant_of-result
-invariant_of-result c = record { in_columns = c.loop-x.invariant.small }
+invariant_of-result c = record { in_columns = c.loop-y.invariant.small }
 
 pub returns : goal.returns
-returns c = found-all _ _ c.loop-x.x _ c.requires (omega arith) c.loop-x.invariant
+returns c = found-all _ c.args.rows c.loop-y.y _ c.requires (omega arith) c.loop-y.invariant
