@@ -4,7 +4,7 @@ ghost use Rattle.srs.specs.declared.placement.Placement.{Placement};
 ghost use Rattle.srs.specs.Kick.{Table};
 ghost use Rattle.well.specs.Well.{filled};
 ghost use Rattle.moves.specs.declared.key.DropMode.{DropMode};
-ghost use Rattle.combo.specs.Middle.{has_gaps, has_three, is_middle};
+ghost use Rattle.combo.specs.Middle.{has_empty, has_gaps, has_three, is_gap};
 ghost use Rattle.combo.specs.Room.{HasWalls, open_gaps};
 ghost use Rattle.combo.specs.Runs.{Runs};
 
@@ -69,7 +69,7 @@ fn is_empty_from(well: &Well, x: u8, height: u8) -> bool
 /// Whether the outermost columns end at the height, and rows below it have gaps in columns 3 to 6 alone.
 fn has_walls(well: &Well, height: u8) -> bool
     requires { height ≤ 22 }
-    ensures { IsTrue result → HasWalls (filled well.now) is_middle height 0 9 }
+    ensures { IsTrue result → HasWalls (filled well.now) (is_gap (filled well.now) height) height 0 9 }
 {
     if !all_have_gaps(well, height) {
         return false;
@@ -80,24 +80,41 @@ fn has_walls(well: &Well, height: u8) -> bool
     is_empty_from(well, 9, height)
 }
 
-/// 1 for an empty cell, 0 for a filled one.
-fn empty_cell(well: &Well, x: u8, y: u8) -> u8
+/// Whether a column has an empty cell below the height.
+fn has_empty(well: &Well, x: u8, height: u8) -> bool
     requires column { x ≤ 9 }
-    requires row { y ≤ 22 }
-    ensures { result ≡ (if not (filled well.now x y) then 1 else 0) }
+    requires row { height ≤ 22 }
+    ensures { result ≡ has_empty (filled well.now) x height }
 {
-    if !well.cell(x, y) { 1 } else { 0 }
+    for y in 0..height {
+        if !well.cell(x, y) {
+            return true;
+        }
+    }
+    false
 }
 
-/// How many of columns 3 to 6 are empty in the row at the height.
+/// 1 for a column that has an empty cell below the height and one in the row at it, otherwise 0.
+fn open_gap(well: &Well, x: u8, height: u8) -> u8
+    requires column { x ≤ 9 }
+    requires row { height ≤ 22 }
+    ensures { result ≡ (if has_empty (filled well.now) x height && not (filled well.now x height) then 1 else 0) }
+{
+    if well.cell(x, height) {
+        return 0;
+    }
+    u8::from(has_empty(well, x, height))
+}
+
+/// How many gaps are open in the row at the height.
 fn open_gaps(well: &Well, height: u8) -> u8
     requires { height ≤ 22 }
-    ensures { result ≡ open_gaps (filled well.now) is_middle height }
+    ensures { result ≡ open_gaps (filled well.now) (is_gap (filled well.now) height) height }
 {
-    empty_cell(well, 3, height)
-        + empty_cell(well, 4, height)
-        + empty_cell(well, 5, height)
-        + empty_cell(well, 6, height)
+    open_gap(well, 3, height)
+        + open_gap(well, 4, height)
+        + open_gap(well, 5, height)
+        + open_gap(well, 6, height)
 }
 
 /// No run in the field is longer than this. `None` if its gaps aren't in columns 3 to 6 between such walls.
