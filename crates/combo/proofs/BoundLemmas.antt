@@ -33,9 +33,13 @@ pub permitted_length : (table : Table) (mode : DropMode) (F : Field) (hold : Hol
 permitted_length table mode F hold queue held run member =
     omega (arith, length-map run (λ (placement : Placement). placement.piece), permitted_short hold queue held (map (λ (placement : Placement). placement.piece) run) member.permitted)
 
--- more than the bound of the pieces at hand
-pub above_bound : (table : Table) (mode : DropMode) (F : Field) (hold : Hold) (queue : List Piece) (hand : Hand) (most count : ℕ) → most ≡ min (hand_count queue hand) (cell_count F 23 / 6) → most < count
-    → AreShorter (IsPermittedRun table mode F hold (drop hand.taken queue) hand.held) count
-above_bound table mode F hold queue hand most count is above = record {
-  each = λ run member. omega (arith, is, above, length-drop hand.taken queue, permitted_length table mode F hold (drop hand.taken queue) hand.held run member, runs_take_cells table mode F run member.runs);
-}
+-- so the cells and the pieces at hand bound it
+pub within_cells : (table : Table) (mode : DropMode) (F : Field) (hold : Hold) (queue : List Piece) (hand : Hand) (most : ℕ) (run : List Placement) → most ≡ min (hand_count queue hand) (cell_count F 23 / 6)
+    → IsPermittedRun table mode F hold (drop hand.taken queue) hand.held run → length run ≤ most
+within_cells table mode F hold queue hand most run is member =
+    omega (arith, is, length-drop hand.taken queue, permitted_length table mode F hold (drop hand.taken queue) hand.held run member, runs_take_cells table mode F run member.runs)
+
+-- more than a bound
+pub above_bound : (table : Table) (mode : DropMode) (F : Field) (hold : Hold) (queue : List Piece) (held : Option Piece) (most count : ℕ)
+    → ((run : List Placement) → IsPermittedRun table mode F hold queue held run → length run ≤ most) → most < count → AreShorter (IsPermittedRun table mode F hold queue held) count
+above_bound table mode F hold queue held most count bounds above = record { each = λ run member. omega (arith, bounds run member, above) }

@@ -10,4 +10,5 @@ mod PlacesLeft
 mod RoomRows
 mod RoomCells
 mod RoomLemmas
+mod MiddleLemmas
 mod Worked

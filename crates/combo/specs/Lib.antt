@@ -6,3 +6,4 @@ pub mod Room
 pub mod First
 pub mod Turns
 pub mod Known
+pub mod Middle

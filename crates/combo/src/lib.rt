@@ -5,6 +5,7 @@ mod bound;
 mod hand;
 mod known;
 pub mod laws;
+mod room;
 mod run;
 mod search;
 mod store;

@@ -87,7 +87,8 @@ first_after-returns-clause-none g t c is =
 
 pub first_run-returns-then-most-count-clause-none : goal.first_run-returns-then-most-count-clause-none
 first_run-returns-then-most-count-clause-none g t c is =
-    above_bound (flood_table c.args.play.now.rules) c.args.play.now.drop_mode (filled c.args.well.now) c.args.play.now.hold c.args.queue.now c.args.hand c.most.result c.args.count c.most.ensures c.if-most-count.true
+    above_bound (flood_table c.args.play.now.rules) c.args.play.now.drop_mode (filled c.args.well.now) c.args.play.now.hold (drop c.args.hand.taken c.args.queue.now) c.args.hand.held c.most.result c.args.count
+    (c.most.ensures.each (flood_table c.args.play.now.rules) c.args.play.now.drop_mode c.args.play.now.hold) c.if-most-count.true
 
 pub first_of_turns-returns-in-Some-clause-first : goal.first_of_turns-returns-in-Some-clause-first
 first_of_turns-returns-in-Some-clause-first g t c =
