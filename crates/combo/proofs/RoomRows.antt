@@ -1,12 +1,12 @@
 -- Rows and cells after full rows are removed below a height at and above which none is full.
-use Rattle.std.proofs.Common.{◌≡◌, ℕ, zero, suc, ◌+◌, ◌-◌, ◌*◌, ◌<◌, ◌≤◌, Bool, true, false, not, cond, ◌&&◌, count_by, get_or, List, [], ◌∷◌, length, refl, sym, subst, ap, ◌∙◌, inl, inr, arith}
+use Rattle.std.proofs.Common.{◌≡◌, ℕ, zero, suc, ◌+◌, ◌-◌, ◌*◌, ◌<◌, ◌≤◌, Bool, true, false, cond, count_by, get_or, List, [], ◌∷◌, length, subst, ap, ◌∙◌, inl, inr, arith}
 use Rattle.std.proofs.Math.Path.{fun_ext}
 use Rattle.std.proofs.lemmas.Bool.{cases_Bool, cases_eq, cases_order, false_from_ne_true}
 use Rattle.std.proofs.lemmas.List.Sums.{sum_by-cons}
-use Rattle.lane_board.specs.Field.{Field, with_cell}
+use Rattle.lane_board.specs.Field.{Field}
 use Rattle.lane_board.specs.FullRows.{columns, is_full, full_below, without_full_rows}
 use Rattle.lane_board.specs.CellCount.{row_count, cell_count}
-use Rattle.lane_board.proofs.CallerLemmas.{cell_count-above, cell_count-same, cell_count-with, column_is, full_below-full, full_below-le, full_below-other, left_below, lowered_from, lowered_to, same_from_both, takes_ten_each}
+use Rattle.lane_board.proofs.CallerLemmas.{cell_count-above, cell_count-same, column_is, full_below-full, full_below-other, left_below, lowered_from, lowered_to, same_from_both, takes_ten_each}
 
 -- ---- counts
 

@@ -117,7 +117,8 @@ fn open_gaps(well: &Well, height: u8) -> u8
         + open_gap(well, 6, height)
 }
 
-/// No run in the field is longer than this. `None` if its gaps aren't in columns 3 to 6 between such walls.
+/// No run in the field is longer than this. `None` if the rows below the height of column 0 have other gaps, or the
+/// outermost columns end at other heights.
 pub fn most_between_walls(well: &Well) -> Option<u8>
     ensures { IfSome result (λ most. (table : Table) (mode : DropMode) (run : List Placement)
         → Runs table mode (filled well.now) run → length run ≤ most) }
