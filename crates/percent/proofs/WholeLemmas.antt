@@ -1,5 +1,5 @@
 -- Of two rising lists with as many numbers, one that has only numbers of the other has all of them.
-use Rattle.std.proofs.Common.{ℕ, suc, ◌≡◌, ◌<◌, true, ◌||◌, ◌==◌, List, [], ◌∷◌, length, get_or, refl, inl, inr, ◌∙◌, sym, arith}
+use Rattle.std.proofs.Common.{ℕ, suc, ◌≡◌, ◌<◌, true, ◌==◌, List, [], ◌∷◌, length, get_or, refl, inl, inr, ◌∙◌, sym, arith}
 use Rattle.std.specs.List.{list_any}
 use Rattle.std.proofs.lemmas.Bool.{or_cases, eqb-true, eq-eqb, false≢true}
 use Rattle.number_sets.specs.Rising.{IsRising, has}

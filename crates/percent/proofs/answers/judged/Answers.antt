@@ -1,8 +1,6 @@
 -- Each queue is judged by its hand.
-use Rattle.std.proofs.Common.{◌≡◌, length, rules, subst, arith}
-use Rattle.queue_pattern.specs.Pattern.{elements_of}
-use Rattle.queue_pattern.specs.Queues.{queues}
-use Rattle.percent.specs.GoodHands.{AreAnswers, HasHandsBefore}
+use Rattle.std.proofs.Common.{subst, arith}
+use Rattle.percent.specs.GoodHands.{AreAnswers}
 use Rattle.percent.proofs.AnswerLemmas.{judge-starts, judge-more}
 use Rattle.percent.proofs.answers.judged.Goals as goal
 

@@ -3,7 +3,7 @@ use Rattle.std.proofs.Common.{◌≡◌, ◌∙◌, ◌==◌, ◌&&◌, not, tru
 use Rattle.std.proofs.lemmas.Bool.Decides.{nat_tests}
 use Rattle.std.proofs.lemmas.List.{nil_from_length}
 use Rattle.srs.specs.Piece.{piece_code}
-use Rattle.number_sets.specs.Rising.{IsRising, has}
+use Rattle.number_sets.specs.Rising.{has}
 use Rattle.percent.specs.Hands.{takes}
 use Rattle.percent.proofs.GoodSteps.{ok-map, takes-none}
 use Rattle.percent.proofs.hand.not_leading_to.Goals as goal

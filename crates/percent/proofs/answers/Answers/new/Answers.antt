@@ -1,5 +1,5 @@
 -- The good ones of all hands are those of good queues.
-use Rattle.std.proofs.Common.{◌≡◌, ◌∙◌, List, ℕ, length, refl, subst, sym, ap, arith}
+use Rattle.std.proofs.Common.{List, ℕ, length, refl, subst, sym, ap, arith}
 use Rattle.queue_pattern.specs.Pattern.{elements_of}
 use Rattle.queue_pattern.specs.Queues.{queues}
 use Rattle.well.specs.Well.{filled}
