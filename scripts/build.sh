@@ -4,16 +4,15 @@
 # top of the repository, and has `say` and `fail`, which write to standard error.
 #
 # The crates that the program is made of are proved side by side, and a crate that is proved stays so: an interrupted
-# build goes on where it stopped. Two builds in one copy of the repository wait for each other. RT_JOBS sets how many
-# crates are proved at a time.
-: "${here:?}"
+# build goes on where it stopped. Two builds in one copy of the repository wait for each other.
+# shellcheck source=scripts/jobs.sh
+. "${here:?}/scripts/jobs.sh"
 program=$here/crates/pc_cli/out/pc_cli
 built=$program.built
 log=$here/out/build.log
 begun=$here/out/build.begun
 
-# What one job takes of memory, and the whole build of disk, in MB.
-job_memory=3000
+# What the whole build takes of disk, in MB.
 whole_disk=6000
 
 # The crates that the program is made of, itself included, a line each.
@@ -79,33 +78,6 @@ reason() {
     fi
 }
 
-# The first number of a file, or nothing.
-number_in() { sed -n 's/^\([0-9][0-9]*\).*/\1/p;q' "$1" 2>/dev/null || true; }
-
-# The memory in MB that is free here, under the limit of a control group too. (PC_MEMINFO: what checks/set-up has it read.)
-free_memory() {
-    local free limit used folder=/sys/fs/cgroup
-    free=$(awk '/^(MemAvailable|SwapFree):/ { sum += $2 } END { print int(sum / 1024) }' "${PC_MEMINFO:-/proc/meminfo}")
-    limit=$(number_in $folder/memory.max) used=$(number_in $folder/memory.current)
-    if [ -z "$limit" ]; then
-        limit=$(number_in $folder/memory/memory.limit_in_bytes) used=$(number_in $folder/memory/memory.usage_in_bytes)
-    fi
-    if [ -n "$limit" ] && [ -n "$used" ] && ((${#limit} < 16 && (limit - used) >> 20 < free)); then
-        free=$(((limit - used) >> 20))
-    fi
-    echo "$free"
-}
-
-# The processors that may be used: those of the process, or fewer by the quota of its control group.
-processors() {
-    local count quota period
-    count=$(nproc)
-    if read -r quota period 2>/dev/null </sys/fs/cgroup/cpu.max && [ "$quota" != max ] && ((quota / period < count)); then
-        count=$((quota / period > 0 ? quota / period : 1))
-    fi
-    echo "$count"
-}
-
 # Ends where something is missing without which the build would fail after minutes.
 look_around() {
     local said free left
@@ -114,11 +86,7 @@ look_around() {
     if ! mkdir -p "$here/crates/pc_cli/out" 2>/dev/null || ! : 2>/dev/null >"$begun"; then
         fail "$here cannot be written: the program is built inside the repository"
     fi
-    free=$(free_memory)
-    ((free >= job_memory)) || fail "proving takes $job_memory MB of memory, and $free MB are free"
-    jobs=$(processors)
-    ((jobs * job_memory <= free)) || jobs=$((free / job_memory))
-    [[ ! ${RT_JOBS-} =~ ^[1-9][0-9]?$ ]] || jobs=$RT_JOBS
+    choose_jobs
     # A crate that is proved has taken its share of the disk.
     left=$(whole_left)
     free=$(df -Pm "$here/out" | awk 'NR == 2 { print $4 }')

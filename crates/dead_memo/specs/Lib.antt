@@ -3,6 +3,7 @@
 -- What a reader must believe
 pub mod Question
 pub mod Use
+-- What contracts cite beside these: views of values, and readings and tests, each with its law
+pub mod Memo
 -- What serves proofs alone
 pub mod Keys
-pub mod Memo

@@ -3,5 +3,5 @@ pub mod Escape
 pub mod Unescape
 pub mod Part
 pub mod Faults
--- What serves proofs alone
+-- What contracts cite beside these: views of values, and readings and tests, each with its law
 pub mod Reading

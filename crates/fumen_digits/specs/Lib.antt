@@ -5,5 +5,5 @@ pub mod Number
 pub mod Fault
 pub mod Framing
 pub mod Answers
--- What serves proofs alone
+-- What contracts cite beside these: views of values, and readings and tests, each with its law
 pub mod Reading

@@ -7,5 +7,5 @@ pub mod Record
 pub mod Tail
 pub mod Written
 pub mod Faults
--- What serves proofs alone
+-- What contracts cite beside these: views of values, and readings and tests, each with its law
 pub mod Reading

@@ -3,6 +3,7 @@ pub mod Spells
 pub mod Texts
 pub mod Faults
 pub mod Written
--- What serves proofs alone
+-- What contracts cite beside these: views of values, and readings and tests, each with its law
 pub mod Reading
+-- What serves proofs alone
 pub mod Checking

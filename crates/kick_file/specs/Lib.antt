@@ -2,7 +2,8 @@
 pub mod Form
 pub mod Faults
 pub mod Printed
--- What serves proofs alone
+-- What contracts cite beside these: views of values, and readings and tests, each with its law
 pub mod Reading
-pub mod Reader
 pub mod Printing
+-- What serves proofs alone
+pub mod Reader

@@ -5,5 +5,5 @@ pub mod CellCount
 pub mod RemovalLaws
 pub mod Board
 pub mod Words
--- What serves proofs alone
+-- What contracts cite beside these: views of values, and readings and tests, each with its law
 pub mod Lanes

@@ -8,5 +8,5 @@ pub mod Sink
 pub mod Source
 pub mod Task
 pub mod Work
--- What serves proofs alone.
+-- What contracts cite beside these: views of values, and readings and tests, each with its law.
 pub mod Had

@@ -4,5 +4,5 @@ pub mod Options
 pub mod Request
 pub mod Values
 pub mod Words
--- What serves proofs alone.
+-- What contracts cite beside these: views of values, and readings and tests, each with its law.
 pub mod Views

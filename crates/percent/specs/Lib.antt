@@ -1,9 +1,10 @@
 -- What a reader must believe
 pub mod Good
 pub mod Answers
+-- What contracts cite beside these: views of values, and readings and tests, each with its law
+pub mod GoodHands
 -- What serves proofs alone
 pub mod Hands
-pub mod GoodHands
 pub mod Kept
 pub mod Fitting
 pub mod Children

@@ -1,4 +1,4 @@
 -- What a reader must believe
 pub mod Form
--- What serves proofs alone
+-- What contracts cite beside these: views of values, and readings and tests, each with its law
 pub mod Reading

@@ -5,6 +5,7 @@ pub mod Tiling
 pub mod Counts
 pub mod Walls
 pub mod Laws
--- What serves proofs alone
+-- What contracts cite beside these: views of values, and readings and tests, each with its law
 pub mod OnePart
+-- What serves proofs alone
 pub mod Mirror

@@ -7,5 +7,5 @@ pub mod Canonical
 pub mod Order
 pub mod Kick
 pub mod Rules
--- What serves proofs alone
+-- What contracts cite beside these: views of values, and readings and tests, each with its law
 pub mod Placements
