@@ -11,18 +11,18 @@ use Rattle.fumen_pages.specs.Record.{unchanged, IsRecord}
 use Rattle.fumen_pages.specs.Reading.{record_at}
 use Rattle.fumen_pages.specs.Faults.{RecordStands}
 use Rattle.fumen_pages.proofs.CallerLemmas.{record_from_read, read_from_record, record_fault_from_read, read_from_record_fault}
-use Rattle.fumen_text.specs.declared.position.Position.{Position}
+use Rattle.fumen_text.specs.declared.page_reader.PageReader.{PageReader}
 use Rattle.fumen_text.specs.Spells.{SpellsCells}
 use Rattle.fumen_text.specs.Faults.{CellsStand, IsCellsFault}
-use Rattle.fumen_text.specs.Reading.{position, promise_at, page_cells_at}
+use Rattle.fumen_text.specs.Reading.{reader, promise_at, page_cells_at}
 
-done_position : (x y : Position) → ◌≡◌ {A = Result Position FumenFault} (Ok x) (Ok y) → x ≡ y
-done_position x y e = cc
+done_reader : (x y : PageReader) → ◌≡◌ {A = Result PageReader FumenFault} (Ok x) (Ok y) → x ≡ y
+done_reader x y e = cc
 
 -- the place behind a record, by whether it is the unchanged run
-abbrev promise_by : List ℕ → CellsRead → Bool → Result Position FumenFault
+abbrev promise_by : List ℕ → CellsRead → Bool → Result PageReader FumenFault
 promise_by ds read unchanged =
-    cond unchanged (number_at ds read.place 1 >>= λ after. Ok (position (read.place + 1) read.cells after)) (Ok (position read.place read.cells 0))
+    cond unchanged (number_at ds read.place 1 >>= λ after. Ok (reader (read.place + 1) read.cells after)) (Ok (reader read.place read.cells 0))
 
 -- a record of this kind stands at a place
 record KindStands (d : Dialect) (ds : List ℕ) (place : ℕ) (before : List ℕ) (read : CellsRead) (kind : Bool) : Type 0 where
@@ -36,31 +36,31 @@ kind_stands d ds place before read kind e s =
 
 -- ---- what is read stands there
 
-promise_from_read : (d : Dialect) (ds : List ℕ) (place : ℕ) (before : List ℕ) (read : CellsRead) (at : Position) (kind : Bool) → KindStands d ds place before read kind → promise_by ds read kind ≡ Ok at
+promise_from_read : (d : Dialect) (ds : List ℕ) (place : ℕ) (before : List ℕ) (read : CellsRead) (at : PageReader) (kind : Bool) → KindStands d ds place before read kind → promise_by ds read kind ≡ Ok at
     → CellsStand d ds place before 0 at.place at.cells at.promised
 promise_from_read d ds place before read at true s e =
-    let n = bind_ok (number_at ds read.place 1) (λ after. Ok (position (read.place + 1) read.cells after)) at e in
+    let n = bind_ok (number_at ds read.place 1) (λ after. Ok (reader (read.place + 1) read.cells after)) at e in
     let number = stands_from_read ds read.place read.place 1 n.0 s.stands.within n.1 in
-    subst (λ (x : Position). CellsStand d ds place before 0 x.place x.cells x.promised) (done_position (position (read.place + 1) read.cells n.0) at n.2) (record {
+    subst (λ (x : PageReader). CellsStand d ds place before 0 x.place x.cells x.promised) (done_reader (reader (read.place + 1) read.cells n.0) at n.2) (record {
       text = s.text ++ digits 1 n.0;
       stands = Stands-then ds place s.text read.place (digits 1 n.0) (read.place + 1) s.stands number.stands;
       spells = inr (record { same = s.spells.0; few = omega (arith, number.below); spelled = ap (λ (x : List ℕ). x ++ digits 1 n.0) s.spells.1 });
     })
 promise_from_read d ds place before read at false s e =
-    subst (λ (x : Position). CellsStand d ds place before 0 x.place x.cells x.promised) (done_position (position read.place read.cells 0) at e) (record {
+    subst (λ (x : PageReader). CellsStand d ds place before 0 x.place x.cells x.promised) (done_reader (reader read.place read.cells 0) at e) (record {
       text = s.text;
       stands = s.stands;
       spells = inl (record { none = refl; cuts = s.spells });
     })
 
-pub cells_from_read : (d : Dialect) (ds : List ℕ) (place : ℕ) (before : List ℕ) (promised : ℕ) (at : Position) → place ≤ length ds → AreCells d before → page_cells_at d ds place before promised ≡ Ok at
+pub cells_from_read : (d : Dialect) (ds : List ℕ) (place : ℕ) (before : List ℕ) (promised : ℕ) (at : PageReader) → place ≤ length ds → AreCells d before → page_cells_at d ds place before promised ≡ Ok at
     → CellsStand d ds place before promised at.place at.cells at.promised
 unfolding page_cells_at
 cells_from_read d ds place before zero at le cells e =
     let r = bind_ok (record_at d ds place before) (λ read. promise_at ds read) at e in
     promise_from_read d ds place before r.0 at r.0.unchanged (kind_stands d ds place before r.0 r.0.unchanged refl (record_from_read d ds place before r.0 le cells r.1)) r.2
 cells_from_read d ds place before (suc left) at le cells e =
-    subst (λ (x : Position). CellsStand d ds place before (suc left) x.place x.cells x.promised) (done_position (position place before left) at e) (record {
+    subst (λ (x : PageReader). CellsStand d ds place before (suc left) x.place x.cells x.promised) (done_reader (reader place before left) at e) (record {
       text = [];
       stands = Stands-nil ds place le;
       spells = record { same = refl; fewer = refl; none = refl };
@@ -81,12 +81,12 @@ read_number ds m n j few s =
     (read_from_stands ds m m 1 n number, sym end)
 
 cells_spelled : (d : Dialect) (ds : List ℕ) (place : ℕ) (before : List ℕ) (promised j : ℕ) (cells : List ℕ) (after : ℕ) (text : List ℕ) → AreCells d before → Stands ds place text j → SpellsCells d before promised cells after text
-    → page_cells_at d ds place before promised ≡ Ok (position j cells after)
+    → page_cells_at d ds place before promised ≡ Ok (reader j cells after)
 unfolding page_cells_at
 cells_spelled d ds place before zero j cells after text sound stands (inl recorded) =
     let read : CellsRead = record { cells = cells; place = j; unchanged = false } in
     ok_bind (record_at d ds place before) (λ r. promise_at ds r) read (read_from_record d ds place before read sound (record { text = text; stands = stands; spells = recorded.cuts }))
-    ∙ ap (λ (k : ℕ). Ok (position j cells k)) (sym recorded.none)
+    ∙ ap (λ (k : ℕ). Ok (reader j cells k)) (sym recorded.none)
 cells_spelled d ds place before zero j cells after text sound stands (inr same) =
     let whole = subst (λ (x : List ℕ). Stands ds place x j) same.spelled stands in
     let parts = Stands-parts ds place (unchanged d) (digits 1 after) j whole in
@@ -94,15 +94,15 @@ cells_spelled d ds place before zero j cells after text sound stands (inr same) 
     let read : CellsRead = record { cells = cells; place = m; unchanged = true } in
     let number = read_number ds m after j same.few parts.1 in
     ok_bind (record_at d ds place before) (λ r. promise_at ds r) read (read_from_record d ds place before read sound (record { text = unchanged d; stands = parts.0; spells = (same.same, refl) }))
-    ∙ (ok_bind (number_at ds m 1) (λ n. Ok (position (m + 1) cells n)) after number.0 ∙ ap (λ (k : ℕ). Ok (position k cells after)) number.1)
+    ∙ (ok_bind (number_at ds m 1) (λ n. Ok (reader (m + 1) cells n)) after number.0 ∙ ap (λ (k : ℕ). Ok (reader k cells after)) number.1)
 cells_spelled d ds place before (suc left) j cells after text sound stands promised =
     let here : Stands ds place [] j = subst (λ (x : List ℕ). Stands ds place x j) promised.none stands in
     let end : place ≡ j = omega (arith, here.upto) in
-    ap (λ (k : ℕ). Ok (position k before left)) end
-    ∙ (ap (λ (x : List ℕ). Ok (position j x left)) (sym promised.same) ∙ ap (λ (k : ℕ). Ok (position j cells k)) (sym promised.fewer))
+    ap (λ (k : ℕ). Ok (reader k before left)) end
+    ∙ (ap (λ (x : List ℕ). Ok (reader j x left)) (sym promised.same) ∙ ap (λ (k : ℕ). Ok (reader j cells k)) (sym promised.fewer))
 
 pub read_from_cells : (d : Dialect) (ds : List ℕ) (place : ℕ) (before : List ℕ) (promised j : ℕ) (cells : List ℕ) (after : ℕ) → AreCells d before → CellsStand d ds place before promised j cells after
-    → page_cells_at d ds place before promised ≡ Ok (position j cells after)
+    → page_cells_at d ds place before promised ≡ Ok (reader j cells after)
 read_from_cells d ds place before promised j cells after sound s =
     cells_spelled d ds place before promised j cells after s.text sound s.stands s.spells
 
@@ -111,7 +111,7 @@ read_from_cells d ds place before promised j cells after sound s =
 promise_fault_from_read : (d : Dialect) (ds : List ℕ) (place : ℕ) (before : List ℕ) (read : CellsRead) (f : FumenFault) (kind : Bool) → KindStands d ds place before read kind → promise_by ds read kind ≡ Err f
     → IsCellsFault d ds place before 0 f
 promise_fault_from_read d ds place before read f true s e =
-    elim (bind_err (number_at ds read.place 1) (λ after. Ok (position (read.place + 1) read.cells after)) f e) [
+    elim (bind_err (number_at ds read.place 1) (λ after. Ok (reader (read.place + 1) read.cells after)) f e) [
       | inl bad ↦
           inr (read.place, subst (λ (x : List ℕ). Stands ds place x read.place) s.spells.1 s.stands, number_fault_from_read ds read.place 1 f s.stands.within bad)
       | inr n ↦ absurd (let never = n.2 in cc)
@@ -137,5 +137,5 @@ read_from_cells_fault d ds place before zero f sound (inl bad) =
 read_from_cells_fault d ds place before zero f sound (inr digit) =
     let read : CellsRead = record { cells = before; place = digit.0; unchanged = true } in
     ok_bind (record_at d ds place before) (λ r. promise_at ds r) read (read_from_record d ds place before read sound (record { text = unchanged d; stands = digit.1; spells = (refl, refl) }))
-    ∙ err_bind (number_at ds digit.0 1) (λ n. Ok (position (digit.0 + 1) before n)) f (read_from_number_fault ds digit.0 1 f digit.2)
+    ∙ err_bind (number_at ds digit.0 1) (λ n. Ok (reader (digit.0 + 1) before n)) f (read_from_number_fault ds digit.0 1 f digit.2)
 read_from_cells_fault d ds place before (suc left) f sound fault = absurd fault

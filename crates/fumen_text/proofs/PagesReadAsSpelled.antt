@@ -9,9 +9,9 @@ use Rattle.fumen_pages.specs.declared.page.Page.{Page}
 use Rattle.fumen_pages.specs.Cells.{AreCells}
 use Rattle.fumen_pages.specs.Next.{next}
 use Rattle.fumen_pages.proofs.CallerLemmas.{next_cells_sound}
-use Rattle.fumen_text.specs.declared.position.Position.{Position}
+use Rattle.fumen_text.specs.declared.page_reader.PageReader.{PageReader}
 use Rattle.fumen_text.specs.Faults.{IsDue, IsPageFault, PagesStand, SpellsWhole}
-use Rattle.fumen_text.specs.Reading.{position, is_due, next_page_at, pages_at}
+use Rattle.fumen_text.specs.Reading.{reader, is_due, next_page_at, pages_at}
 use Rattle.fumen_text.proofs.PageReadAsSpelled.{PageStands, step_from_read, read_from_step, step_fault_from_read, read_from_step_fault}
 use Rattle.fumen_text.proofs.WholePages.{due_cases, is_due-due, page_has_digits, whole_none, whole_more, whole_parts, whole_nothing}
 
@@ -31,7 +31,7 @@ one_in_front page pages (Err f) = refl
 
 -- ---- one turn
 
-abbrev pub others_at : Dialect → List ℕ → ℕ → ℕ → Page × Position → Result (List Page) FumenFault
+abbrev pub others_at : Dialect → List ℕ → ℕ → ℕ → Page × PageReader → Result (List Page) FumenFault
 others_at d ds room number step =
     pages_at d ds room (number + 1) step.1.place step.1.cells step.1.promised >>= λ pages. Ok (step.0 ∷ pages)
 
@@ -58,7 +58,7 @@ pub read_page_first : (d : Dialect) (ds : List ℕ) (room number place : ℕ) (b
     → pages_at d ds (suc room) number place before promised ≡ (pages_at d ds room (number + 1) end (next d page) between >>= λ pages. Ok (page ∷ pages))
 read_page_first d ds room number place before promised page end between sound one =
     turn_due d ds room number place before promised (is_due-due ds place promised (inl (page_has_digits d ds place before promised page end between one)))
-    ∙ ok_bind (next_page_at d ds number place before promised) (λ step. others_at d ds room number step) (page, position end (next d page) between) (read_from_step d ds number place before promised page end between sound one)
+    ∙ ok_bind (next_page_at d ds number place before promised) (λ step. others_at d ds room number step) (page, reader end (next d page) between) (read_from_step d ds number place before promised page end between sound one)
 
 pub read_whole : (d : Dialect) (ds : List ℕ) (pages : List Page) (room total number behind place : ℕ) (before : List ℕ) (promised k : ℕ) (cells : List ℕ) (after : ℕ)
     → total ≡ length pages + room → behind ≡ length pages + number → AreCells d before → PagesStand d ds place before promised pages k cells after
@@ -104,13 +104,13 @@ ended d ds room place before promised le past none =
     record { cells = before; stand = stand; few = omega arith }
 
 -- where a page is read, it stands there, and its cells may be left
-record Stepped (d : Dialect) (ds : List ℕ) (place : ℕ) (before : List ℕ) (promised : ℕ) (step : Page × Position) : Type 0 where
+record Stepped (d : Dialect) (ds : List ℕ) (place : ℕ) (before : List ℕ) (promised : ℕ) (step : Page × PageReader) : Type 0 where
   one : PageStands d ds place before promised step.0 step.1.place step.1.promised
   within : step.1.place ≤ length ds
   leaves : step.1.cells ≡ next d step.0
   sound : AreCells d step.1.cells
 
-stepped : (d : Dialect) (ds : List ℕ) (number place : ℕ) (before : List ℕ) (promised : ℕ) (step : Page × Position) → place ≤ length ds → AreCells d before → next_page_at d ds number place before promised ≡ Ok step
+stepped : (d : Dialect) (ds : List ℕ) (number place : ℕ) (before : List ℕ) (promised : ℕ) (step : Page × PageReader) → place ≤ length ds → AreCells d before → next_page_at d ds number place before promised ≡ Ok step
     → Stepped d ds place before promised step
 stepped d ds number place before promised step le sound e =
     let is = step_from_read d ds number place before promised step le sound e in

@@ -13,20 +13,20 @@ use Rattle.fumen_pages.specs.declared.page.Page.{Page}
 use Rattle.fumen_pages.specs.declared.record.CellsRead.{CellsRead}
 use Rattle.fumen_pages.specs.Cells.{AreCells}
 use Rattle.fumen_pages.specs.Reading.{record_at}
-use Rattle.fumen_text.specs.declared.position.Position.{Position}
+use Rattle.fumen_text.specs.declared.page_reader.PageReader.{PageReader}
 use Rattle.fumen_text.specs.Texts.{empty_page}
-use Rattle.fumen_text.specs.Reading.{page_cells_at, is_due, pages_at, position, promise_at, next_page_at}
+use Rattle.fumen_text.specs.Reading.{page_cells_at, is_due, pages_at, reader, promise_at, next_page_at}
 use Rattle.fumen_text.proofs.PagesReadAsSpelled.{from_nothing, others_at, turn_due, turn_ended, turn_full, with_front}
 use Rattle.fumen_text.proofs.TextReadAsSpelled.{empty_sound}
 
 -- ---- the cells of a page
 
-pub cells_promised : (d : Dialect) (ds : List ℕ) (place : ℕ) (before : List ℕ) (promised : ℕ) → 0 < promised → page_cells_at d ds place before promised ≡ Ok (position place before (promised - 1))
+pub cells_promised : (d : Dialect) (ds : List ℕ) (place : ℕ) (before : List ℕ) (promised : ℕ) → 0 < promised → page_cells_at d ds place before promised ≡ Ok (reader place before (promised - 1))
 unfolding page_cells_at
 cells_promised d ds place before zero some = absurd (omega arith)
 cells_promised d ds place before (suc left) some =
     let fewer : left ≡ suc left - 1 = omega arith in
-    ap (λ (k : ℕ). Ok (position place before k)) fewer
+    ap (λ (k : ℕ). Ok (reader place before k)) fewer
 
 pub cells_recorded : (d : Dialect) (ds : List ℕ) (place : ℕ) (before : List ℕ) (promised : ℕ) (read : CellsRead) → promised ≡ 0 → record_at d ds place before ≡ Ok read → promise_at ds read ≡ page_cells_at d ds place before promised
 unfolding page_cells_at
@@ -42,7 +42,7 @@ cells_refused refused.NoMemory d ds place before promised none read = tt
 -- ---- the pages
 
 -- the pages read so far, and what is left completes all
-pub record IsReadSoFar (d : Dialect) (ds : List ℕ) (most : ℕ) (pages : List Page) (at : Position) : Type 0 where
+pub record IsReadSoFar (d : Dialect) (ds : List ℕ) (most : ℕ) (pages : List Page) (at : PageReader) : Type 0 where
   pub within : at.place ≤ length ds
   pub sound : AreCells d at.cells
   pub few : length pages ≤ most
@@ -50,7 +50,7 @@ pub record IsReadSoFar (d : Dialect) (ds : List ℕ) (most : ℕ) (pages : List 
       with_front pages (pages_at d ds (most - length pages) (length pages + 1) at.place at.cells at.promised)
       ≡ pages_at d ds most 1 0 empty_page 0
 
-pub read_starts : (d : Dialect) (ds : List ℕ) (most : ℕ) → IsReadSoFar d ds most [] (position 0 empty_page 0)
+pub read_starts : (d : Dialect) (ds : List ℕ) (most : ℕ) → IsReadSoFar d ds most [] (reader 0 empty_page 0)
 read_starts d ds most =
     let all : most - 0 ≡ most = omega arith in
     record {
@@ -65,7 +65,7 @@ unfolding with_front
 regroup pages page (Ok others) = ap (λ (x : List Page). Ok x) (sym (append_assoc pages (page ∷ []) others))
 regroup pages page (Err f) = refl
 
-pub read_more : (d : Dialect) (ds : List ℕ) (most count : ℕ) (pages : List Page) (at : Position) (step : Page × Position) → is_due ds at.place at.promised ≡ true → count ≡ length pages → count < most
+pub read_more : (d : Dialect) (ds : List ℕ) (most count : ℕ) (pages : List Page) (at : PageReader) (step : Page × PageReader) → is_due ds at.place at.promised ≡ true → count ≡ length pages → count < most
     → next_page_at d ds (count + 1) at.place at.cells at.promised ≡ Ok step → step.1.place ≤ length ds → AreCells d step.1.cells → IsReadSoFar d ds most pages at
     → IsReadSoFar d ds most (pages ++ step.0 ∷ []) step.1
 read_more d ds most count pages at step due counted fewer read_counted within sound s =
@@ -92,7 +92,7 @@ read_more d ds most count pages at step due counted fewer read_counted within so
           ∙ (sym (regroup pages step.0 others) ∙ (ap (λ (r : Result (List Page) FumenFault). with_front pages r) (sym turn) ∙ s.completes));
     }
 
-pub read_stops : (e : Refused FumenFault) (d : Dialect) (ds : List ℕ) (most count : ℕ) (pages : List Page) (at : Position) → is_due ds at.place at.promised ≡ true → count ≡ length pages → count < most
+pub read_stops : (e : Refused FumenFault) (d : Dialect) (ds : List ℕ) (most count : ℕ) (pages : List Page) (at : PageReader) → is_due ds at.place at.promised ≡ true → count ≡ length pages → count < most
     → IsRefusal (λ (f : FumenFault). f) e (next_page_at d ds (count + 1) at.place at.cells at.promised) → IsReadSoFar d ds most pages at
     → IsRefusal (λ (f : FumenFault). f) e (pages_at d ds most 1 0 empty_page 0)
 unfolding with_front
@@ -107,7 +107,7 @@ read_stops (refused.Fault f) d ds most count pages at due counted fewer read_cou
     sym s.completes ∙ ap (λ (r : Result (List Page) FumenFault). with_front pages r) failed
 read_stops refused.NoMemory d ds most count pages at due counted fewer read s = tt
 
-pub read_full : (d : Dialect) (ds : List ℕ) (most count : ℕ) (pages : List Page) (at : Position) → is_due ds at.place at.promised ≡ true → count ≡ length pages → count ≡ most → IsReadSoFar d ds most pages at
+pub read_full : (d : Dialect) (ds : List ℕ) (most count : ℕ) (pages : List Page) (at : PageReader) → is_due ds at.place at.promised ≡ true → count ≡ length pages → count ≡ most → IsReadSoFar d ds most pages at
     → pages_at d ds most 1 0 empty_page 0 ≡ Err TooManyPages
 unfolding with_front
 read_full d ds most count pages at due counted full s =
@@ -117,7 +117,7 @@ read_full d ds most count pages at due counted full s =
     ap (λ (n : ℕ). pages_at d ds n number at.place at.cells at.promised) none ∙ turn_full d ds number at.place at.cells at.promised due in
     sym s.completes ∙ ap (λ (r : Result (List Page) FumenFault). with_front pages r) failed
 
-pub read_ends : (d : Dialect) (ds : List ℕ) (most : ℕ) (pages : List Page) (at : Position) → is_due ds at.place at.promised ≡ false → IsReadSoFar d ds most pages at → pages_at d ds most 1 0 empty_page 0 ≡ Ok pages
+pub read_ends : (d : Dialect) (ds : List ℕ) (most : ℕ) (pages : List Page) (at : PageReader) → is_due ds at.place at.promised ≡ false → IsReadSoFar d ds most pages at → pages_at d ds most 1 0 empty_page 0 ≡ Ok pages
 unfolding with_front
 read_ends d ds most pages at ended s =
     sym s.completes

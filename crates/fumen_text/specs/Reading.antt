@@ -9,29 +9,29 @@ use Rattle.fumen_pages.specs.declared.page.Page.{Page}
 use Rattle.fumen_pages.specs.declared.record.CellsRead.{CellsRead}
 use Rattle.fumen_pages.specs.Next.{next}
 use Rattle.fumen_pages.specs.Reading.{record_at, page_at}
-use Rattle.fumen_text.specs.declared.position.Position.{Position}
+use Rattle.fumen_text.specs.declared.page_reader.PageReader.{PageReader}
 use Rattle.fumen_text.specs.Texts.{empty_page, most_pages}
 
-abbrev pub position : ℕ → List ℕ → ℕ → Position
-position place cells promised = record { place = place; cells = cells; promised = promised }
+abbrev pub reader : ℕ → List ℕ → ℕ → PageReader
+reader place cells promised = record { place = place; cells = cells; promised = promised }
 
 -- behind the record of a page: the digit of the unchanged run says how many pages are promised
-abbrev pub promise_at : List ℕ → CellsRead → Result Position FumenFault
+abbrev pub promise_at : List ℕ → CellsRead → Result PageReader FumenFault
 promise_at ds read =
-    if read.unchanged then (number_at ds read.place 1 >>= λ after. Ok (position (read.place + 1) read.cells after))
-    else Ok (position read.place read.cells 0)
+    if read.unchanged then (number_at ds read.place 1 >>= λ after. Ok (reader (read.place + 1) read.cells after))
+    else Ok (reader read.place read.cells 0)
 
 -- behind the cells of the page at a place: its cells are these, and so many pages are promised behind it
-unfoldable pub page_cells_at : Dialect → List ℕ → ℕ → List ℕ → ℕ → Result Position FumenFault
+unfoldable pub page_cells_at : Dialect → List ℕ → ℕ → List ℕ → ℕ → Result PageReader FumenFault
 page_cells_at d ds place before zero = record_at d ds place before >>= λ read. promise_at ds read
-page_cells_at d ds place before (suc left) = Ok (position place before left)
+page_cells_at d ds place before (suc left) = Ok (reader place before left)
 
 -- the page at a place, counted from 1, and where the reader stands behind it
-unfoldable pub next_page_at : Dialect → List ℕ → ℕ → ℕ → List ℕ → ℕ → Result (Page × Position) FumenFault
+unfoldable pub next_page_at : Dialect → List ℕ → ℕ → ℕ → List ℕ → ℕ → Result (Page × PageReader) FumenFault
 next_page_at d ds number place before promised = do
   at ← page_cells_at d ds place before promised
   page ← page_at d at.cells number ds at.place
-  Ok (page.0, position page.1 (next d page.0) at.promised)
+  Ok (page.0, reader page.1 (next d page.0) at.promised)
 
 -- one more page is due: digits are left, or a page is promised
 abbrev pub is_due : List ℕ → ℕ → ℕ → Bool

@@ -5,7 +5,7 @@ ghost use Rattle.fumen_pages.specs.Cells.{AreCells};
 ghost use Rattle.fumen_pages.specs.Reading.{record_at};
 ghost use Rattle.fumen_text.specs.Reading.{page_cells_at, promise_at};
 
-use crate::position::Position;
+use crate::page_reader::PageReader;
 use fumen_digits::{Dialect, FumenFault, number_at};
 use fumen_pages::{CellsRead, read_cells};
 use pc_outside::Refused;
@@ -15,8 +15,8 @@ use pc_outside::Refused;
 pub(crate) fn cells_at(
     digits: &[u8],
     dialect: Dialect,
-    at: &Position,
-) -> Result<Position, Refused<FumenFault>>
+    at: &PageReader,
+) -> Result<PageReader, Refused<FumenFault>>
     requires place { at.now.place ≤ length digits.now }
     requires cells { AreCells dialect at.now.cells }
     ensures exact { Gives (λ x. x) (λ f. f) result
@@ -25,7 +25,7 @@ pub(crate) fn cells_at(
     ensures sound { IfOk result (λ x. AreCells dialect x.cells) }
 {
     if at.promised > 0 {
-        return Ok(Position {
+        return Ok(PageReader {
             place: at.place,
             cells: at.cells,
             promised: at.promised - 1,
@@ -36,21 +36,21 @@ pub(crate) fn cells_at(
 }
 
 /// Goes behind a record. The digit after the unchanged run says how many pages are promised to be unchanged.
-fn promise_at(digits: &[u8], read: &CellsRead) -> Result<Position, Refused<FumenFault>>
+fn promise_at(digits: &[u8], read: &CellsRead) -> Result<PageReader, Refused<FumenFault>>
     requires { read.now.place ≤ length digits.now }
     ensures exact { Gives (λ x. x) (λ f. f) result (promise_at digits.now read.now) }
     ensures within { IfOk result (λ x. x.place ≤ length digits.now) }
     ensures cells { IfOk result (λ x. x.cells ≡ read.now.cells) }
 {
     if !read.unchanged {
-        return Ok(Position {
+        return Ok(PageReader {
             place: read.place,
             cells: read.cells,
             promised: 0,
         });
     }
     let promised = number_at(digits, read.place, 1)?;
-    Ok(Position {
+    Ok(PageReader {
         place: read.place + 1,
         cells: read.cells,
         promised,

@@ -5,8 +5,8 @@ mod cells;
 mod checks;
 mod encode_fault;
 pub mod laws;
+mod page_reader;
 mod pages;
-mod position;
 mod text;
 mod written;
 

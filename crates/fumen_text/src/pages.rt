@@ -7,7 +7,7 @@ ghost use Rattle.fumen_pages.specs.Reading.{page_at};
 ghost use Rattle.fumen_text.specs.Reading.{is_due, pages_of_digits, next_page_at};
 
 use crate::cells::cells_at;
-use crate::position::Position;
+use crate::page_reader::PageReader;
 use fumen_digits::{Dialect, FumenFault};
 use fumen_pages::{Page, next_cells, read_page};
 use pc_outside::Refused;
@@ -25,7 +25,7 @@ pub(crate) fn read_pages(
     ensures { Gives (λ pages. pages.items) (λ f. f) result (pages_of_digits dialect digits.now) }
 {
     let mut pages = Vec::new(alloc);
-    let mut at = Position {
+    let mut at = PageReader {
         place: 0,
         cells: [0; 240],
         promised: 0,
@@ -43,7 +43,7 @@ pub(crate) fn read_pages(
 }
 
 /// Whether another page is due: digits are left, or a page is promised.
-fn is_due(digits: &[u8], at: &Position) -> bool
+fn is_due(digits: &[u8], at: &PageReader) -> bool
     ensures { result ≡ is_due digits.now at.now.place at.now.promised }
 {
     at.place < digits.len() || at.promised > 0
@@ -55,9 +55,9 @@ fn step_at(
     alloc: Global,
     digits: &[u8],
     dialect: Dialect,
-    at: &Position,
+    at: &PageReader,
     number: u32,
-) -> Result<(Page, Position), Refused<FumenFault>>
+) -> Result<(Page, PageReader), Refused<FumenFault>>
     requires place { at.now.place ≤ length digits.now }
     requires cells { AreCells dialect at.now.cells }
     ensures exact { Gives (λ x. x) (λ f. f) result
@@ -71,7 +71,7 @@ fn step_at(
     let promised = tail.promised;
     Ok((
         page,
-        Position {
+        PageReader {
             place,
             cells,
             promised,

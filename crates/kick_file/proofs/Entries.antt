@@ -13,7 +13,7 @@ use Rattle.srs.specs.Piece.{piece_code, piece_with_letter}
 use Rattle.srs.specs.Rotation.{rotation_letter, rotation_place, rotation_with_letter}
 use Rattle.kick_file.specs.declared.fault.KickFault.TheVariants.{RepeatedEntry}
 use Rattle.kick_file.specs.declared.turned.TurnedPiece.{TurnedPiece}
-use Rattle.kick_file.specs.declared.position.Position.TheVariants.{Division, Letter, Letters, Columns}
+use Rattle.kick_file.specs.declared.parser_state.ParserState.TheVariants.{Division, Letter, Letters, Columns}
 use Rattle.kick_file.specs.Form.{Entry, SpellsEntry, offset_form, offsets_form, is_repeated, table_with_entry}
 use Rattle.kick_file.specs.Reading.{Reading, reading_at, after_byte, read_on, read_after}
 use Rattle.kick_file.proofs.Steps.{at, Passes, one_byte, both}

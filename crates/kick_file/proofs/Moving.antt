@@ -11,26 +11,26 @@ use Rattle.srs.specs.Kick.{Table, table_with, pair_of}
 use Rattle.srs.specs.Piece.{piece_with_letter}
 use Rattle.srs.specs.Rotation.{rotation_letter, rotation_with_letter}
 use Rattle.kick_file.specs.declared.turned.TurnedPiece.{TurnedPiece}
-use Rattle.kick_file.specs.declared.position.Position.{Position}
-use Rattle.kick_file.specs.declared.position.Position.TheVariants.{Beginning, Division, Letter, Letters, Columns, Comma, Rows, Whole}
+use Rattle.kick_file.specs.declared.parser_state.ParserState.{ParserState}
+use Rattle.kick_file.specs.declared.parser_state.ParserState.TheVariants.{Beginning, Division, Letter, Letters, Columns, Comma, Rows, Whole}
 use Rattle.kick_file.specs.Form.{Entry, signed_digit, offset_form, turned_of, table_of_entries}
 use Rattle.kick_file.specs.Faults.{SpellsBefore}
-use Rattle.kick_file.specs.Reading.{is_small_number, number_with_digit, next_position}
+use Rattle.kick_file.specs.Reading.{is_small_number, number_with_digit, next_state}
 use Rattle.kick_file.proofs.GivenLemmas.{not_true}
 use Rattle.kick_file.proofs.Entries.{put_from}
 use Rattle.kick_file.proofs.ReadIsSpelled.{one_more_before, ended_offsets, all_small}
 use Rattle.kick_file.proofs.Standing.{Here, Kept, AfterLetter, AfterLetters, Part, WholePart, finished, sign, number_found, rotation_found, small_offset, part_longer, put_more}
 
 -- what is kept where the text stands now
-unfoldable pub given_then : List TurnedPiece → Position → List TurnedPiece
+unfoldable pub given_then : List TurnedPiece → ParserState → List TurnedPiece
 given_then given (Letters turned start) = given ++ turned ∷ []
 given_then given other = given
 
-unfoldable pub table_then : Table → Position → Table
+unfoldable pub table_then : Table → ParserState → Table
 table_then table (Whole turned test offset) = table_with table turned.piece turned.rotation test (pair_of offset)
 table_then table other = table
 
-pub record Moved (text : List ℕ) (given : List TurnedPiece) (table : Table) (to : Position) : Type 0 where
+pub record Moved (text : List ℕ) (given : List TurnedPiece) (table : Table) (to : ParserState) : Type 0 where
   pub entries : List Entry
   pub here : Here text entries (given_then given to) (table_then table to) to
 
@@ -43,7 +43,7 @@ mapped : {A B : Type 0} (f : A → B) (o : Option A) (b : B) → option_map f o 
 mapped f None b h = absurd (none-some b h)
 mapped f (Some a) b h = record { a = a; is = refl; to = same_Some (f a) b h }
 
-letter_moved : (text : List ℕ) (byte place : ℕ) (entries : List Entry) (given : List TurnedPiece) (table : Table) (to : Position) → SpellsBefore text entries → Kept entries given table
+letter_moved : (text : List ℕ) (byte place : ℕ) (entries : List Entry) (given : List TurnedPiece) (table : Table) (to : ParserState) → SpellsBefore text entries → Kept entries given table
     → place ≡ length text → option_map (λ piece. Letter piece place) (piece_with_letter byte) ≡ Some to → Moved (text ++ byte ∷ []) given table to
 unfolding given_then table_then
 letter_moved text byte place entries given table to spelled kept stands is =
@@ -53,7 +53,7 @@ letter_moved text byte place entries given table to spelled kept stands is =
       here = (record { before = text; letter = byte; spelled = spelled; named = found.is; whole = refl; starts = stands }, kept);
     })
 
-letters_moved : (text : List ℕ) (byte place start : ℕ) (piece : Piece) (entries : List Entry) (given : List TurnedPiece) (table : Table) (to : Position) → AfterLetter text entries piece start
+letters_moved : (text : List ℕ) (byte place start : ℕ) (piece : Piece) (entries : List Entry) (given : List TurnedPiece) (table : Table) (to : ParserState) → AfterLetter text entries piece start
     → Kept entries given table → option_map (λ rotation. Letters (record { piece = piece; rotation = rotation }) start) (rotation_with_letter byte) ≡ Some to
     → Moved (text ++ byte ∷ []) given table to
 unfolding given_then table_then
@@ -77,7 +77,7 @@ letters_moved text byte place start piece entries given table to after kept is =
       );
     })
 
-colon_moved : (text : List ℕ) (byte place start : ℕ) (turned : TurnedPiece) (entries : List Entry) (given : List TurnedPiece) (table : Table) (to : Position) → AfterLetters text entries turned start
+colon_moved : (text : List ℕ) (byte place start : ℕ) (turned : TurnedPiece) (entries : List Entry) (given : List TurnedPiece) (table : Table) (to : ParserState) → AfterLetters text entries turned start
     → given ≡ turned_of entries ++ turned ∷ [] → table ≡ table_of_entries entries → cond (byte == 58) (Some (Columns turned 1 false)) None ≡ Some to
     → Moved (text ++ byte ∷ []) given table to
 unfolding given_then table_then
@@ -113,7 +113,7 @@ signed byte is_negative h =
     let parts = and_parts (byte == 45) (not is_negative) h in
     record { minus_sign = eqb-true byte 45 parts.0; none = not_true is_negative parts.1 }
 
-columns_moved : (text : List ℕ) (byte place : ℕ) (turned : TurnedPiece) (test : ℕ) (is_negative : Bool) (entries : List Entry) (given : List TurnedPiece) (table : Table) (to : Position)
+columns_moved : (text : List ℕ) (byte place : ℕ) (turned : TurnedPiece) (test : ℕ) (is_negative : Bool) (entries : List Entry) (given : List TurnedPiece) (table : Table) (to : ParserState)
     → Part text entries given table turned test (sign is_negative)
     → cond (byte == 45 && not is_negative) (Some (Columns turned test true)) (option_map (λ dx. Comma turned test dx) (number_with_digit is_negative byte)) ≡ Some to
     → Moved (text ++ byte ∷ []) given table to
@@ -137,7 +137,7 @@ columns_moved text byte place turned test is_negative entries given table to her
       })
 ]
 
-comma_moved : (text : List ℕ) (byte place : ℕ) (turned : TurnedPiece) (test : ℕ) (dx : ℤ) (entries : List Entry) (given : List TurnedPiece) (table : Table) (to : Position)
+comma_moved : (text : List ℕ) (byte place : ℕ) (turned : TurnedPiece) (test : ℕ) (dx : ℤ) (entries : List Entry) (given : List TurnedPiece) (table : Table) (to : ParserState)
     → Part text entries given table turned test (signed_digit dx) → is_small_number dx ≡ true → cond (byte == 44) (Some (Rows turned test dx false)) None ≡ Some to
     → Moved (text ++ byte ∷ []) given table to
 unfolding given_then table_then
@@ -152,7 +152,7 @@ comma_moved text byte place turned test dx entries given table to here small nex
       );
     })
 
-rows_moved : (text : List ℕ) (byte place : ℕ) (turned : TurnedPiece) (test : ℕ) (dx : ℤ) (is_negative : Bool) (entries : List Entry) (given : List TurnedPiece) (table : Table) (to : Position)
+rows_moved : (text : List ℕ) (byte place : ℕ) (turned : TurnedPiece) (test : ℕ) (dx : ℤ) (is_negative : Bool) (entries : List Entry) (given : List TurnedPiece) (table : Table) (to : ParserState)
     → Part text entries given table turned test (signed_digit dx ++ 44 ∷ sign is_negative) → is_small_number dx ≡ true
     → cond (byte == 45 && not is_negative) (Some (Rows turned test dx true)) (option_map (λ dy. Whole turned test (record { dx = dx; dy = dy })) (number_with_digit is_negative byte)) ≡ Some to
     → Moved (text ++ byte ∷ []) given table to
@@ -218,7 +218,7 @@ slash_part text turned test cell entries given table here more =
           ∙ sym (put_more (table_of_entries entries) turned 1 part.cells cell);
     }
 
-whole_moved : (text : List ℕ) (byte place : ℕ) (turned : TurnedPiece) (test : ℕ) (offset : Offset) (entries : List Entry) (given : List TurnedPiece) (table : Table) (to : Position)
+whole_moved : (text : List ℕ) (byte place : ℕ) (turned : TurnedPiece) (test : ℕ) (offset : Offset) (entries : List Entry) (given : List TurnedPiece) (table : Table) (to : ParserState)
     → WholePart text entries given table turned test (pair_of offset)
     → cond (nat_lt test 5) (cond (byte == 47) (Some (Columns turned (test + 1) false)) None) (cond (byte == 59) (Some Division) None) ≡ Some to
     → Moved (text ++ byte ∷ []) given table to
@@ -244,8 +244,8 @@ whole_moved text byte place turned test offset entries given table to here next_
       }))
 ]
 
-pub moved : (text : List ℕ) (byte place : ℕ) (entries : List Entry) (given : List TurnedPiece) (table : Table) (position to : Position) → Here text entries given table position
-    → place ≡ length text → next_position position place byte ≡ Some to → Moved (text ++ byte ∷ []) given table to
+pub moved : (text : List ℕ) (byte place : ℕ) (entries : List Entry) (given : List TurnedPiece) (table : Table) (state to : ParserState) → Here text entries given table state
+    → place ≡ length text → next_state state place byte ≡ Some to → Moved (text ++ byte ∷ []) given table to
 moved text byte place entries given table Beginning to here stands is =
     letter_moved text byte place entries given table to (subst (λ es. SpellsBefore text es) (sym here.1) here.0) here.2 stands is
 moved text byte place entries given table Division to here stands is = letter_moved text byte place entries given table to here.0 here.1 stands is

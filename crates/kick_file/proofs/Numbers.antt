@@ -6,8 +6,8 @@ use Rattle.srs.specs.Cells.{Cell, minus}
 use Rattle.srs.specs.Kick.{Table, table_with, is_small_move}
 use Rattle.lists.proofs.CallerLemmas.{and_first, and_second}
 use Rattle.kick_file.specs.declared.turned.TurnedPiece.{TurnedPiece}
-use Rattle.kick_file.specs.declared.position.Position.{Position}
-use Rattle.kick_file.specs.declared.position.Position.TheVariants.{Columns, Comma, Rows, Whole}
+use Rattle.kick_file.specs.declared.parser_state.ParserState.{ParserState}
+use Rattle.kick_file.specs.declared.parser_state.ParserState.TheVariants.{Columns, Comma, Rows, Whole}
 use Rattle.kick_file.specs.Form.{signed_digit, offset_form}
 use Rattle.kick_file.specs.Reading.{is_small_number, after_byte, Reading}
 use Rattle.kick_file.proofs.Steps.{at, Passes, one_byte, both}
@@ -49,8 +49,8 @@ columns_pass given table turned test = each_small P (plain 48 (pos 0) (λ place.
         → Passes (at given table (Columns turned test false)) (45 ∷ byte ∷ []) (at given table (Comma turned test z))
     below byte z is = both _ (45 ∷ []) (at given table (Columns turned test true)) (byte ∷ []) _ (one_byte _ 45 _ (λ place. refl)) (one_byte _ byte _ is)
 
--- the position after a whole offset
-abbrev pub whole : TurnedPiece → ℕ → Cell → Position
+-- the state after a whole offset
+abbrev pub whole : TurnedPiece → ℕ → Cell → ParserState
 whole turned test cell = Whole turned test (record { dx = cell.0; dy = cell.1 })
 
 -- the rows of an offset

@@ -7,13 +7,13 @@ use Rattle.srs.specs.Kick.{Table, srs_table, pair_of}
 use Rattle.kick_file.specs.declared.fault.KickFault.{KickFault}
 use Rattle.kick_file.specs.declared.fault.KickFault.TheVariants.{Unexpected, RepeatedEntry}
 use Rattle.kick_file.specs.declared.turned.TurnedPiece.{TurnedPiece}
-use Rattle.kick_file.specs.declared.position.Position.{Position}
-use Rattle.kick_file.specs.declared.position.Position.TheVariants.{Beginning, Division, Letter, Letters, Columns, Comma, Rows, Whole}
+use Rattle.kick_file.specs.declared.parser_state.ParserState.{ParserState}
+use Rattle.kick_file.specs.declared.parser_state.ParserState.TheVariants.{Beginning, Division, Letter, Letters, Columns, Comma, Rows, Whole}
 use Rattle.kick_file.specs.Form.{Entry, SpellsEntries, is_repeated, are_distinct, turned_of, table_of_entries}
 use Rattle.srs.specs.Rotation.{rotation_letter}
 use Rattle.lists.specs.Forms.{IsFront, IsStopped, LeavesForm}
 use Rattle.kick_file.specs.Faults.{Repeats, SpellsSome, IsUnexpected, IsReadAs}
-use Rattle.kick_file.specs.Reading.{Reading, kick_text, reading_at, after_byte, ended, next_position, read_on, read_after}
+use Rattle.kick_file.specs.Reading.{Reading, kick_text, reading_at, after_byte, ended, next_state, read_on, read_after}
 use Rattle.kick_file.proofs.GivenLemmas.{distinct_more}
 use Rattle.kick_file.proofs.Steps.{at}
 use Rattle.kick_file.proofs.SpelledIsRead.{IsFine, table_read, repeat_read, spelled_fine}
@@ -25,30 +25,30 @@ use Rattle.kick_file.proofs.Moving.{given_then, table_then, moved}
 record At (text : List ℕ) (reading : Reading) : Type 0 where
   entries : List Entry
   distinct : are_distinct reading.given ≡ true
-  here : Here text entries reading.given reading.table reading.position
+  here : Here text entries reading.given reading.table reading.state
   passes : (rest : List ℕ) → kick_text (text ++ rest) ≡ read_on reading (length text) rest
 
 -- what follows a byte that may stand
-data Enters (given : List TurnedPiece) (table : Table) (position to : Position) : Result Reading KickFault → Type 0 where
-  on : are_distinct (given_then given to) ≡ true → Enters given table position to (Ok (at (given_then given to) (table_then table to) to))
-  stood : (turned : TurnedPiece) (start : ℕ) → to ≡ Letters turned start → is_repeated given turned ≡ true → Enters given table position to (Err (RepeatedEntry start))
+data Enters (given : List TurnedPiece) (table : Table) (state to : ParserState) : Result Reading KickFault → Type 0 where
+  on : are_distinct (given_then given to) ≡ true → Enters given table state to (Ok (at (given_then given to) (table_then table to) to))
+  stood : (turned : TurnedPiece) (start : ℕ) → to ≡ Letters turned start → is_repeated given turned ≡ true → Enters given table state to (Err (RepeatedEntry start))
 
-enters : (given : List TurnedPiece) (table : Table) (position to : Position) (place : ℕ) → are_distinct given ≡ true
-    → Enters given table position to (reading_at (at given table position) place (Some to))
+enters : (given : List TurnedPiece) (table : Table) (state to : ParserState) (place : ℕ) → are_distinct given ≡ true
+    → Enters given table state to (reading_at (at given table state) place (Some to))
 unfolding given_then table_then
-enters given table position Beginning place distinct = on distinct
-enters given table position Division place distinct = on distinct
-enters given table position (Letter piece start) place distinct = on distinct
-enters given table position (Letters turned start) place distinct = elim (cases_Bool (is_repeated given turned)) [
-  | inl among ↦ subst (λ b. Enters given table position (Letters turned start) (cond b (Err (RepeatedEntry start)) (Ok (at (given ++ turned ∷ []) table (Letters turned start))))) (sym among)
+enters given table state Beginning place distinct = on distinct
+enters given table state Division place distinct = on distinct
+enters given table state (Letter piece start) place distinct = on distinct
+enters given table state (Letters turned start) place distinct = elim (cases_Bool (is_repeated given turned)) [
+  | inl among ↦ subst (λ b. Enters given table state (Letters turned start) (cond b (Err (RepeatedEntry start)) (Ok (at (given ++ turned ∷ []) table (Letters turned start))))) (sym among)
       (stood turned start refl among)
-  | inr fresh ↦ subst (λ b. Enters given table position (Letters turned start) (cond b (Err (RepeatedEntry start)) (Ok (at (given ++ turned ∷ []) table (Letters turned start))))) (sym fresh)
+  | inr fresh ↦ subst (λ b. Enters given table state (Letters turned start) (cond b (Err (RepeatedEntry start)) (Ok (at (given ++ turned ∷ []) table (Letters turned start))))) (sym fresh)
       (on (distinct_more given turned distinct fresh))
 ]
-enters given table position (Columns turned test is_negative) place distinct = on distinct
-enters given table position (Comma turned test dx) place distinct = on distinct
-enters given table position (Rows turned test dx is_negative) place distinct = on distinct
-enters given table position (Whole turned test offset) place distinct = on distinct
+enters given table state (Columns turned test is_negative) place distinct = on distinct
+enters given table state (Comma turned test dx) place distinct = on distinct
+enters given table state (Rows turned test dx is_negative) place distinct = on distinct
+enters given table state (Whole turned test offset) place distinct = on distinct
 
 -- a text with an unexpected byte repeats nothing, and nothing goes on with that byte
 not_fine : (place : ℕ) (read : Result Table KickFault) → read ≡ Err (Unexpected place) → IsFine read → ⊥
@@ -63,14 +63,14 @@ unexpected text rest reading stands is stops = record {
     rest = rest;
     whole = refl;
     stands = refl;
-    begins = front_here text stands.entries reading.given reading.table reading.position stands.here;
+    begins = front_here text stands.entries reading.given reading.table reading.state stands.here;
     stops = stops;
   };
   first = λ other repeats. let no : Err (Unexpected (length text)) ≡ Err (RepeatedEntry other) = sym is ∙ repeat_read (text ++ rest) other repeats in cc;
 }
 
 -- the text ends
-end_unexpected : (text : List ℕ) (reading : Reading) → At text reading → ended reading.table (length text) reading.position ≡ Err (Unexpected (length text))
+end_unexpected : (text : List ℕ) (reading : Reading) → At text reading → ended reading.table (length text) reading.state ≡ Err (Unexpected (length text))
     → IsReadAs (text ++ []) (Err (Unexpected (length text)))
 unfolding read_on
 end_unexpected text reading stands is =
@@ -95,8 +95,8 @@ whole_end text given table turned test offset stands = elim (cases_Bool (nat_lt 
       })
 ]
 
-at_the_end : (text : List ℕ) (given : List TurnedPiece) (table : Table) (position : Position) → At text (at given table position)
-    → IsReadAs (text ++ []) (ended table (length text) position)
+at_the_end : (text : List ℕ) (given : List TurnedPiece) (table : Table) (state : ParserState) → At text (at given table state)
+    → IsReadAs (text ++ []) (ended table (length text) state)
 at_the_end text given table Beginning stands = record {
   entries = [];
   spelled = append-nil text ∙ stands.here.0;
@@ -112,10 +112,10 @@ at_the_end text given table (Rows turned test dx is_negative) stands = end_unexp
 at_the_end text given table (Whole turned test offset) stands = whole_end text given table turned test offset stands
 
 -- an entry that stood before
-repeats : (text rest : List ℕ) (byte start : ℕ) (turned : TurnedPiece) (given : List TurnedPiece) (table : Table) (position : Position) (entries fresh : List Entry) → are_distinct given ≡ true
-    → Here text entries given table position → Here (text ++ byte ∷ []) fresh (given ++ turned ∷ []) table (Letters turned start) → is_repeated given turned ≡ true
+repeats : (text rest : List ℕ) (byte start : ℕ) (turned : TurnedPiece) (given : List TurnedPiece) (table : Table) (state : ParserState) (entries fresh : List Entry) → are_distinct given ≡ true
+    → Here text entries given table state → Here (text ++ byte ∷ []) fresh (given ++ turned ∷ []) table (Letters turned start) → is_repeated given turned ≡ true
     → Repeats (text ++ byte ∷ rest) start
-repeats text rest byte start turned given table position entries fresh distinct here now among =
+repeats text rest byte start turned given table state entries fresh distinct here now among =
     let same = same_from_push given (turned_of fresh) turned turned now.1 in
     record {
       front = now.0.before;
@@ -133,15 +133,15 @@ repeats text rest byte start turned given table position entries fresh distinct 
 
 -- reading on with these bytes, from wherever a text stands
 abbrev ReadsOn : List ℕ → Type 0
-ReadsOn bytes = (text : List ℕ) (given : List TurnedPiece) (table : Table) (position : Position) → At text (at given table position)
-    → IsReadAs (text ++ bytes) (read_on (at given table position) (length text) bytes)
+ReadsOn bytes = (text : List ℕ) (given : List TurnedPiece) (table : Table) (state : ParserState) → At text (at given table state)
+    → IsReadAs (text ++ bytes) (read_on (at given table state) (length text) bytes)
 
-by_result : (bytes text : List ℕ) (byte : ℕ) (given : List TurnedPiece) (table : Table) (position to : Position) → At text (at given table position) → ReadsOn bytes
-    → next_position position (length text) byte ≡ Some to → (r : Result Reading KickFault) → Enters given table position to r → after_byte (at given table position) (length text) byte ≡ r
+by_result : (bytes text : List ℕ) (byte : ℕ) (given : List TurnedPiece) (table : Table) (state to : ParserState) → At text (at given table state) → ReadsOn bytes
+    → next_state state (length text) byte ≡ Some to → (r : Result Reading KickFault) → Enters given table state to r → after_byte (at given table state) (length text) byte ≡ r
     → IsReadAs (text ++ byte ∷ bytes) (read_after r (λ now. read_on now (length text + 1) bytes))
 unfolding read_on given_then table_then
-by_result bytes text byte given table position to stands later is (Ok now) (on distinct) step_to =
-    let there = moved text byte (length text) stands.entries given table position to stands.here refl is in
+by_result bytes text byte given table state to stands later is (Ok now) (on distinct) step_to =
+    let there = moved text byte (length text) stands.entries given table state to stands.here refl is in
     let longer : length (text ++ byte ∷ []) ≡ length text + 1 = length_push text byte in
     subst (λ t. IsReadAs t (read_on now (length text + 1) bytes)) (append_assoc text (byte ∷ []) bytes)
     (subst (λ n. IsReadAs ((text ++ byte ∷ []) ++ bytes) (read_on now n bytes)) longer
@@ -152,31 +152,31 @@ by_result bytes text byte given table position to stands later is (Ok now) (on d
       passes = λ rest. ap kick_text (append_assoc text (byte ∷ []) rest) ∙ stands.passes (byte ∷ rest)
           ∙ ap (λ r. read_after r (λ next. read_on next (length text + 1) rest)) step_to ∙ ap (λ n. read_on now n rest) (sym longer);
     })))
-by_result bytes text byte given table position to stands later is (Err fault) (stood turned start same among) step_to =
-    let there = moved text byte (length text) stands.entries given table position (Letters turned start) stands.here refl (is ∙ ap Some same) in
-    repeats text bytes byte start turned given table position stands.entries there.entries stands.distinct stands.here there.here among
+by_result bytes text byte given table state to stands later is (Err fault) (stood turned start same among) step_to =
+    let there = moved text byte (length text) stands.entries given table state (Letters turned start) stands.here refl (is ∙ ap Some same) in
+    repeats text bytes byte start turned given table state stands.entries there.entries stands.distinct stands.here there.here among
 
-by_next : (bytes text : List ℕ) (byte : ℕ) (given : List TurnedPiece) (table : Table) (position : Position) → At text (at given table position) → ReadsOn bytes
-    → (o : Option Position) → next_position position (length text) byte ≡ o
-    → IsReadAs (text ++ byte ∷ bytes) (read_after (after_byte (at given table position) (length text) byte) (λ now. read_on now (length text + 1) bytes))
+by_next : (bytes text : List ℕ) (byte : ℕ) (given : List TurnedPiece) (table : Table) (state : ParserState) → At text (at given table state) → ReadsOn bytes
+    → (o : Option ParserState) → next_state state (length text) byte ≡ o
+    → IsReadAs (text ++ byte ∷ bytes) (read_after (after_byte (at given table state) (length text) byte) (λ now. read_on now (length text + 1) bytes))
 unfolding read_on after_byte
-by_next bytes text byte given table position stands later None is =
-    let stops : after_byte (at given table position) (length text) byte ≡ Err (Unexpected (length text)) = ap (reading_at (at given table position) (length text)) is in
+by_next bytes text byte given table state stands later None is =
+    let stops : after_byte (at given table state) (length text) byte ≡ Err (Unexpected (length text)) = ap (reading_at (at given table state) (length text)) is in
     let read : (rest : List ℕ) → kick_text (text ++ byte ∷ rest) ≡ Err (Unexpected (length text)) =
     λ rest. stands.passes (byte ∷ rest) ∙ ap (λ r. read_after r (λ now. read_on now (length text + 1) rest)) stops in
     subst (IsReadAs (text ++ byte ∷ bytes)) (sym (ap (λ r. read_after r (λ now. read_on now (length text + 1) bytes)) stops))
-    (unexpected text (byte ∷ bytes) (at given table position) stands (read bytes)
+    (unexpected text (byte ∷ bytes) (at given table state) stands (read bytes)
     (λ front. not_fine (length text) (kick_text ((text ++ byte ∷ []) ++ front.rest)) (ap kick_text (append_assoc text (byte ∷ []) front.rest) ∙ read front.rest)
     (spelled_fine ((text ++ byte ∷ []) ++ front.rest) front.form.0 front.form.1)))
-by_next bytes text byte given table position stands later (Some to) is =
-    let step_to : after_byte (at given table position) (length text) byte ≡ reading_at (at given table position) (length text) (Some to) = ap (reading_at (at given table position) (length text)) is in
+by_next bytes text byte given table state stands later (Some to) is =
+    let step_to : after_byte (at given table state) (length text) byte ≡ reading_at (at given table state) (length text) (Some to) = ap (reading_at (at given table state) (length text)) is in
     subst (λ r. IsReadAs (text ++ byte ∷ bytes) (read_after r (λ now. read_on now (length text + 1) bytes))) (sym step_to)
-    (by_result bytes text byte given table position to stands later is (reading_at (at given table position) (length text) (Some to)) (enters given table position to (length text) stands.distinct) step_to)
+    (by_result bytes text byte given table state to stands later is (reading_at (at given table state) (length text) (Some to)) (enters given table state to (length text) stands.distinct) step_to)
 
 reads_on : (bytes : List ℕ) → ReadsOn bytes
 unfolding read_on
-reads_on [] text given table position stands = at_the_end text given table position stands
-reads_on (byte ∷ bytes) text given table position stands = by_next bytes text byte given table position stands (reads_on bytes) (next_position position (length text) byte) refl
+reads_on [] text given table state stands = at_the_end text given table state stands
+reads_on (byte ∷ bytes) text given table state stands = by_next bytes text byte given table state stands (reads_on bytes) (next_state state (length text) byte) refl
 
 -- what is read of a text is what it spells, or its fault
 pub read_as : (text : List ℕ) → IsReadAs text (kick_text text)

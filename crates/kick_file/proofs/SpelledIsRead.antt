@@ -10,7 +10,7 @@ use Rattle.srs.proofs.CallerLemmas.{each_state}
 use Rattle.kick_file.specs.declared.fault.KickFault.{KickFault}
 use Rattle.kick_file.specs.declared.fault.KickFault.TheVariants.{Unexpected, RepeatedEntry}
 use Rattle.kick_file.specs.declared.turned.TurnedPiece.{TurnedPiece}
-use Rattle.kick_file.specs.declared.position.Position.TheVariants.{Division}
+use Rattle.kick_file.specs.declared.parser_state.ParserState.TheVariants.{Division}
 use Rattle.kick_file.specs.Form.{Entry, SpellsEntry, SpellsEntries, offsets_form, is_same, is_repeated, are_distinct, turned_of, table_with_entry, table_of_entries}
 use Rattle.kick_file.specs.Faults.{SpellsBefore, SpellsTable, Repeats}
 use Rattle.kick_file.specs.Reading.{beginning, kick_text, read_on, after_byte}

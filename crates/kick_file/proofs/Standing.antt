@@ -15,8 +15,8 @@ use Rattle.srs.specs.Piece.{piece_with_letter}
 use Rattle.srs.specs.Rotation.{all_rotations, rotation_letter, rotation_with_letter}
 use Rattle.lists.proofs.CallerLemmas.{find-Contains, each-contained}
 use Rattle.kick_file.specs.declared.turned.TurnedPiece.{TurnedPiece}
-use Rattle.kick_file.specs.declared.position.Position.{Position}
-use Rattle.kick_file.specs.declared.position.Position.TheVariants.{Beginning, Division, Letter, Letters, Columns, Comma, Rows, Whole}
+use Rattle.kick_file.specs.declared.parser_state.ParserState.{ParserState}
+use Rattle.kick_file.specs.declared.parser_state.ParserState.TheVariants.{Beginning, Division, Letter, Letters, Columns, Comma, Rows, Whole}
 use Rattle.kick_file.specs.Form.{Entry, SpellsEntry, signed_digit, offset_form, offsets_form, turned_of, table_with_entry, table_of_entries}
 use Rattle.lists.specs.Forms.{IsFront}
 use Rattle.kick_file.specs.Faults.{SpellsBefore, SpellsSome}
@@ -99,7 +99,7 @@ pub record WholePart (text : List ℕ) (entries : List Entry) (given : List Turn
   pub is : table ≡ table_with old turned.piece turned.rotation test cell
 
 -- where the text stands
-abbrev pub Here : List ℕ → List Entry → List TurnedPiece → Table → Position → Type 0
+abbrev pub Here : List ℕ → List Entry → List TurnedPiece → Table → ParserState → Type 0
 Here text entries given table Beginning = (text ≡ []) × (entries ≡ []) × Kept entries given table
 Here text entries given table Division = SpellsBefore text entries × Kept entries given table
 Here text entries given table (Letter piece start) = AfterLetter text entries piece start × Kept entries given table
@@ -147,7 +147,7 @@ part_goes_on : (text : List ℕ) (entries : List Entry) (given : List TurnedPiec
 part_goes_on text entries given table turned test part more cell here made small =
     part_front text entries turned here.cells part more cell here.stands (omega (arith, here.number, here.most)) made small
 
-pub front_here : (text : List ℕ) (entries : List Entry) (given : List TurnedPiece) (table : Table) (position : Position) → Here text entries given table position → IsFront SpellsSome text
+pub front_here : (text : List ℕ) (entries : List Entry) (given : List TurnedPiece) (table : Table) (state : ParserState) → Here text entries given table state → IsFront SpellsSome text
 unfolding zeros
 front_here text entries given table Beginning here = record { rest = []; form = ([], append-nil text ∙ here.0) }
 front_here text entries given table Division here =

@@ -5,7 +5,7 @@ use Rattle.srs.specs.declared.rules.Rules.{Rules}
 use Rattle.srs.specs.Kick.{Table}
 use Rattle.kick_file.specs.declared.fault.KickFault.{KickFault}
 use Rattle.kick_file.specs.declared.turned.TurnedPiece.{TurnedPiece}
-use Rattle.kick_file.specs.declared.position.Position.{Position}
+use Rattle.kick_file.specs.declared.parser_state.ParserState.{ParserState}
 use Rattle.kick_file.specs.Reading.{Reading, AnswersTable, kick_text, after_byte, ended, read_on, read_after}
 
 -- the loop of `parse`: the byte at a place is taken, or refused, or there is none
@@ -28,18 +28,18 @@ stops bytes text place reading fault same within so_far is =
     ∙ ap (λ r. read_after r (λ next. read_on next (place + 1) (drop (place + 1) text))) (ap (λ bs. after_byte reading place (get_or bs place 0)) (sym same) ∙ is)
 
 pub ends : (bytes text : List ℕ) (place : ℕ) (reading : Reading) (result : Result Rules KickFault) → bytes ≡ text → place ≡ length bytes
-    → kick_text text ≡ read_on reading place (drop place text) → AnswersTable result (ended reading.table (length bytes) reading.position)
+    → kick_text text ≡ read_on reading place (drop place text) → AnswersTable result (ended reading.table (length bytes) reading.state)
     → AnswersTable result (kick_text text)
 unfolding read_on
 ends bytes text place reading result same at_end so_far gives =
     let far : length text ≤ place = omega (arith, at_end, ap length same) in
-    let is : kick_text text ≡ ended reading.table (length bytes) reading.position =
-    so_far ∙ ap (read_on reading place) (drop_all place text far) ∙ ap (λ n. ended reading.table n reading.position) at_end in
+    let is : kick_text text ≡ ended reading.table (length bytes) reading.state =
+    so_far ∙ ap (read_on reading place) (drop_all place text far) ∙ ap (λ n. ended reading.table n reading.state) at_end in
     subst (AnswersTable result) (sym is) gives
 
 -- what is read of a text and where it stands
-abbrev pub at : List TurnedPiece → Table → Position → Reading
-at given table position = record { given = given; table = table; position = position }
+abbrev pub at : List TurnedPiece → Table → ParserState → Reading
+at given table state = record { given = given; table = table; state = state }
 
 -- whatever follows, reading this text leads from one to the other
 pub record Passes («from» : Reading) (front : List ℕ) (to : Reading) : Type 0 where

@@ -4,4 +4,4 @@ use Rattle.srs.specs.Rules.{table_of}
 use Rattle.kick_file.specs.Reading.{Reading}
 
 abbrev pub reading_of : Reader → Reading
-reading_of reader = record { given = reader.given.items; table = table_of reader.rules; position = reader.position }
+reading_of reader = record { given = reader.given.items; table = table_of reader.rules; state = reader.state }

@@ -10,8 +10,8 @@ use Rattle.srs.specs.Rotation.{rotation_with_letter}
 use Rattle.kick_file.specs.declared.fault.KickFault.{KickFault}
 use Rattle.kick_file.specs.declared.fault.KickFault.TheVariants.{Unexpected, RepeatedEntry}
 use Rattle.kick_file.specs.declared.turned.TurnedPiece.{TurnedPiece}
-use Rattle.kick_file.specs.declared.position.Position.{Position}
-use Rattle.kick_file.specs.declared.position.Position.TheVariants.{Beginning, Division, Letter, Letters, Columns, Comma, Rows, Whole}
+use Rattle.kick_file.specs.declared.parser_state.ParserState.{ParserState}
+use Rattle.kick_file.specs.declared.parser_state.ParserState.TheVariants.{Beginning, Division, Letter, Letters, Columns, Comma, Rows, Whole}
 use Rattle.kick_file.specs.Form.{is_repeated}
 
 -- the numbers that a digit may spell, after `-` or without
@@ -33,20 +33,20 @@ abbrev pub number_with_digit : Bool → ℕ → Option ℤ
 number_with_digit is_negative byte = find (λ n. digit_of n == byte) (numbers is_negative)
 
 -- where the text stands after a byte, if it may stand there
-abbrev pub next_position : Position → ℕ → ℕ → Option Position
-next_position Beginning place byte = option_map (λ piece. Letter piece place) (piece_with_letter byte)
-next_position Division place byte = option_map (λ piece. Letter piece place) (piece_with_letter byte)
-next_position (Letter piece start) place byte =
+abbrev pub next_state : ParserState → ℕ → ℕ → Option ParserState
+next_state Beginning place byte = option_map (λ piece. Letter piece place) (piece_with_letter byte)
+next_state Division place byte = option_map (λ piece. Letter piece place) (piece_with_letter byte)
+next_state (Letter piece start) place byte =
     option_map (λ rotation. Letters (record { piece = piece; rotation = rotation }) start) (rotation_with_letter byte)
-next_position (Letters turned start) place byte = if byte == 58 then Some (Columns turned 1 false) else None
-next_position (Columns turned test is_negative) place byte =
+next_state (Letters turned start) place byte = if byte == 58 then Some (Columns turned 1 false) else None
+next_state (Columns turned test is_negative) place byte =
     if byte == 45 && not is_negative then Some (Columns turned test true)
     else option_map (λ dx. Comma turned test dx) (number_with_digit is_negative byte)
-next_position (Comma turned test dx) place byte = if byte == 44 then Some (Rows turned test dx false) else None
-next_position (Rows turned test dx is_negative) place byte =
+next_state (Comma turned test dx) place byte = if byte == 44 then Some (Rows turned test dx false) else None
+next_state (Rows turned test dx is_negative) place byte =
     if byte == 45 && not is_negative then Some (Rows turned test dx true)
     else option_map (λ dy. Whole turned test (record { dx = dx; dy = dy })) (number_with_digit is_negative byte)
-next_position (Whole turned test offset) place byte =
+next_state (Whole turned test offset) place byte =
     if nat_lt test 5 then (if byte == 47 then Some (Columns turned (test + 1) false) else None)
     else (if byte == 59 then Some Division else None)
 
@@ -54,43 +54,43 @@ next_position (Whole turned test offset) place byte =
 abbrev pub is_within : ℕ → Bool
 is_within test = nat_le 1 test && nat_le test 5
 
-abbrev pub is_sound_position : Position → Bool
-is_sound_position (Columns turned test is_negative) = is_within test
-is_sound_position (Comma turned test dx) = is_within test && is_small_move (dx, pos 0)
-is_sound_position (Rows turned test dx is_negative) = is_within test && is_small_move (dx, pos 0)
-is_sound_position (Whole turned test offset) = is_within test && is_small offset
-is_sound_position other = true
+abbrev pub is_sound_state : ParserState → Bool
+is_sound_state (Columns turned test is_negative) = is_within test
+is_sound_state (Comma turned test dx) = is_within test && is_small_move (dx, pos 0)
+is_sound_state (Rows turned test dx is_negative) = is_within test && is_small_move (dx, pos 0)
+is_sound_state (Whole turned test offset) = is_within test && is_small offset
+is_sound_state other = true
 
 -- what was read so far: the pieces and rotations of entries, the table, and where the text stands
 pub record Reading : Type 0 where
   pub given : List TurnedPiece
   pub table : Table
-  pub position : Position
+  pub state : ParserState
 
 -- before the first byte
 abbrev pub beginning : Reading
-beginning = record { given = []; table = srs_table; position = Beginning }
+beginning = record { given = []; table = srs_table; state = Beginning }
 
 -- what was read after one more byte, if it may stand there
-abbrev pub reading_at : Reading → ℕ → Option Position → Result Reading KickFault
+abbrev pub reading_at : Reading → ℕ → Option ParserState → Result Reading KickFault
 reading_at reading place None = Err (Unexpected place)
 reading_at reading place (Some (Letters turned start)) =
     if is_repeated reading.given turned then Err (RepeatedEntry start)
-    else Ok (record { given = reading.given ++ turned ∷ []; table = reading.table; position = Letters turned start })
+    else Ok (record { given = reading.given ++ turned ∷ []; table = reading.table; state = Letters turned start })
 reading_at reading place (Some (Whole turned test offset)) =
     Ok (record {
       given = reading.given;
       table = table_with reading.table turned.piece turned.rotation test (pair_of offset);
-      position = Whole turned test offset;
+      state = Whole turned test offset;
     })
-reading_at reading place (Some position) =
-    Ok (record { given = reading.given; table = reading.table; position = position })
+reading_at reading place (Some state) =
+    Ok (record { given = reading.given; table = reading.table; state = state })
 
 unfoldable pub after_byte : Reading → ℕ → ℕ → Result Reading KickFault
-after_byte reading place byte = reading_at reading place (next_position reading.position place byte)
+after_byte reading place byte = reading_at reading place (next_state reading.state place byte)
 
 -- the text ends
-abbrev pub ended : Table → ℕ → Position → Result Table KickFault
+abbrev pub ended : Table → ℕ → ParserState → Result Table KickFault
 ended table place Beginning = Ok table
 ended table place (Whole turned test offset) = if nat_lt test 5 then Err (Unexpected place) else Ok table
 ended table place other = Err (Unexpected place)
@@ -102,7 +102,7 @@ read_after (Err fault) rest = Err fault
 
 -- what a text is read as, of which so much was read, and these bytes follow from this place on
 unfoldable pub read_on : Reading → ℕ → List ℕ → Result Table KickFault
-read_on reading place [] = ended reading.table place reading.position
+read_on reading place [] = ended reading.table place reading.state
 read_on reading place (byte ∷ bytes) = read_after (after_byte reading place byte) (λ now. read_on now (place + 1) bytes)
 
 -- what a text is read as

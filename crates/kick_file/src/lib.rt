@@ -3,7 +3,7 @@
 
 mod fault;
 pub mod laws;
-mod position;
+mod parser_state;
 mod printing;
 mod reading;
 #[cfg(test)]

@@ -2,10 +2,10 @@
 ghost use Rattle.std.specs.Prelude.{◌≡◌, IsTrue, Ok, Err, Some};
 ghost use Rattle.srs.specs.Rules.{table_of};
 ghost use Rattle.kick_file.specs.Form.{are_distinct, is_repeated};
-ghost use Rattle.kick_file.specs.Reading.{beginning, after_byte, reading_at, ended, kick_text, MovesOn, AnswersTable, is_sound_position};
+ghost use Rattle.kick_file.specs.Reading.{beginning, after_byte, reading_at, ended, kick_text, MovesOn, AnswersTable, is_sound_state};
 
 use crate::fault::KickFault;
-use crate::position::Position;
+use crate::parser_state::ParserState;
 use crate::turned::TurnedPiece;
 use arrayvec::ArrayVec;
 use srs::Rules;
@@ -16,9 +16,9 @@ use srs::Rules;
 struct Reader {
     given: ArrayVec<TurnedPiece, 28>,
     rules: Rules,
-    position: Position,
+    state: ParserState,
     ghost distinct: { IsTrue (are_distinct given.items) },
-    ghost sound: { IsTrue (is_sound_position position) },
+    ghost sound: { IsTrue (is_sound_state state) },
 }
 
 impl Reader {
@@ -31,7 +31,7 @@ impl Reader {
         Reader {
             given: ArrayVec::new(),
             rules: Rules::srs(),
-            position: Position::Beginning,
+            state: ParserState::Beginning,
         }
     }
 
@@ -47,20 +47,20 @@ impl Reader {
     fn take(&mut self, place: usize, byte: u8) -> Result<(), KickFault>
         ensures { MovesOn result (after_byte (reading_of self.old) place byte) (reading_of self.new) }
     {
-        match self.position.next(place, byte) {
-            Some(position) => self.enter(position),
+        match self.state.next(place, byte) {
+            Some(state) => self.enter(state),
             None => Err(KickFault::Unexpected { place }),
         }
     }
 
-    /// Moves on to this position of the text.
-    fn enter(&mut self, position: Position) -> Result<(), KickFault>
-        requires { IsTrue (is_sound_position position) }
-        ensures { MovesOn result (reading_at (reading_of self.old) 0 (Some position)) (reading_of self.new) }
+    /// Moves on to this state of the text.
+    fn enter(&mut self, state: ParserState) -> Result<(), KickFault>
+        requires { IsTrue (is_sound_state state) }
+        ensures { MovesOn result (reading_at (reading_of self.old) 0 (Some state)) (reading_of self.new) }
     {
-        match position {
-            Position::Letters { turned, start } => return self.begin(turned, start),
-            Position::Whole {
+        match state {
+            ParserState::Letters { turned, start } => return self.begin(turned, start),
+            ParserState::Whole {
                 turned,
                 test,
                 offset,
@@ -69,37 +69,37 @@ impl Reader {
                     .rules
                     .with_offset(turned.piece, turned.rotation, test, offset);
             }
-            Position::Beginning
-            | Position::Division
-            | Position::Letter { .. }
-            | Position::Columns { .. }
-            | Position::Comma { .. }
-            | Position::Rows { .. } => {}
+            ParserState::Beginning
+            | ParserState::Division
+            | ParserState::Letter { .. }
+            | ParserState::Columns { .. }
+            | ParserState::Comma { .. }
+            | ParserState::Rows { .. } => {}
         }
-        self.position = position;
+        self.state = state;
         Ok(())
     }
 
     /// Begins the entry of this piece in this rotation, which starts at the place `start`.
     fn begin(&mut self, turned: TurnedPiece, start: usize) -> Result<(), KickFault>
-        ensures { MovesOn result (reading_at (reading_of self.old) 0 (Some (Position.Letters turned start)))
+        ensures { MovesOn result (reading_at (reading_of self.old) 0 (Some (ParserState.Letters turned start)))
             (reading_of self.new) }
     {
         if self.has(turned) {
             return Err(KickFault::RepeatedEntry { place: start });
         }
         self.given.push(turned);
-        self.position = Position::Letters { turned, start };
+        self.state = ParserState::Letters { turned, start };
         Ok(())
     }
 
     /// The table of a text that ends at this place.
     fn end(&self, place: usize) -> Result<Rules, KickFault>
-        ensures { AnswersTable result (ended (reading_of self.now).table place (reading_of self.now).position) }
+        ensures { AnswersTable result (ended (reading_of self.now).table place (reading_of self.now).state) }
     {
-        match self.position {
-            Position::Beginning => Ok(self.rules),
-            Position::Whole { test: 5, .. } => Ok(self.rules),
+        match self.state {
+            ParserState::Beginning => Ok(self.rules),
+            ParserState::Whole { test: 5, .. } => Ok(self.rules),
             _ => Err(KickFault::Unexpected { place }),
         }
     }

@@ -3,7 +3,7 @@ use Rattle.std.proofs.Common.{arith}
 use Rattle.std.proofs.lemmas.Result.{err_from_is_err_and}
 use Rattle.fumen_digits.specs.declared.fault.FumenFault.{FumenFault}
 use Rattle.fumen_digits.proofs.CallerLemmas.{gives_same}
-use Rattle.fumen_text.specs.declared.position.Position.{Position}
+use Rattle.fumen_text.specs.declared.page_reader.PageReader.{PageReader}
 use Rattle.fumen_text.specs.Reading.{page_cells_at, promise_at}
 use Rattle.fumen_text.proofs.ReadLoop.{cells_promised, cells_recorded, cells_refused}
 use Rattle.fumen_text.proofs.cells.cells_at.Goals as goal
@@ -21,4 +21,4 @@ pub returns-clause-exact : goal.returns-clause-exact
 returns-clause-exact c =
     let ds = c.args.digits.now in
     let at = c.args.at.now in
-    gives_same (λ (x : Position). x) (λ (f : FumenFault). f) c.promise_at.result (promise_at ds c.in_ok-read.read) (page_cells_at c.args.dialect ds at.place at.cells at.promised) (cells_recorded c.args.dialect ds at.place at.cells at.promised c.in_ok-read.read (omega arith) c.in_ok-read.ensures.exact) c.promise_at.ensures.exact
+    gives_same (λ (x : PageReader). x) (λ (f : FumenFault). f) c.promise_at.result (promise_at ds c.in_ok-read.read) (page_cells_at c.args.dialect ds at.place at.cells at.promised) (cells_recorded c.args.dialect ds at.place at.cells at.promised c.in_ok-read.read (omega arith) c.in_ok-read.ensures.exact) c.promise_at.ensures.exact

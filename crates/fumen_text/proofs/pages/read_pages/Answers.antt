@@ -3,13 +3,13 @@ use Rattle.std.proofs.Common.{◌<◌, List, sym, subst, ◌∙◌, arith}
 use Rattle.std.proofs.lemmas.Result.{err_from_is_err_and}
 use Rattle.fumen_pages.specs.declared.page.Page.{Page}
 use Rattle.fumen_text.specs.Texts.{empty_page}
-use Rattle.fumen_text.specs.Reading.{position}
+use Rattle.fumen_text.specs.Reading.{reader}
 use Rattle.fumen_text.proofs.ReadLoop.{IsReadSoFar, read_starts, read_more, read_stops, read_full, read_ends}
 use Rattle.fumen_text.proofs.pages.read_pages.Goals as goal
 
 pub loop-alloc-init : goal.loop-alloc-init
 loop-alloc-init c =
-    subst (λ (xs : List Page). IsReadSoFar c.args.dialect c.args.digits.now 10000 xs (position 0 empty_page 0)) (sym c.new-pages.ensures.items) (read_starts c.args.dialect c.args.digits.now 10000)
+    subst (λ (xs : List Page). IsReadSoFar c.args.dialect c.args.digits.now 10000 xs (reader 0 empty_page 0)) (sym c.new-pages.ensures.items) (read_starts c.args.dialect c.args.digits.now 10000)
 
 pub returns-then-count-eq-MOST_PAGES : goal.returns-then-count-eq-MOST_PAGES
 returns-then-count-eq-MOST_PAGES c =

@@ -1,13 +1,13 @@
 // Where a table text stands between two bytes.
 ghost use Rattle.std.specs.Prelude.{◌≡◌, IsTrue, IfSome};
-ghost use Rattle.kick_file.specs.Reading.{next_position, number_with_digit, is_sound_position};
+ghost use Rattle.kick_file.specs.Reading.{next_state, number_with_digit, is_sound_state};
 
 use crate::turned::TurnedPiece;
 use srs::{Offset, Piece, Rotation};
 
 /// What stands before the next byte of a text. Tests count from 1 to 5.
 #[derive(Clone, Copy, Debug)]
-pub enum Position {
+pub enum ParserState {
     /// Nothing.
     Beginning,
     /// The `;` after an entry.
@@ -65,84 +65,86 @@ fn number(digit: u8, is_negative: bool) -> Option<i8>
     }
 }
 
-impl Position {
+impl ParserState {
     /// Where the text stands after this byte, which is at `place`. `None` exactly if no text of entries goes on like
     /// that.
-    pub fn next(self, place: usize, byte: u8) -> Option<Position>
-        requires { IsTrue (is_sound_position self) }
-        ensures next { result ≡ next_position self place byte }
-        ensures sound { IfSome result (λ position. IsTrue (is_sound_position position)) }
+    pub fn next(self, place: usize, byte: u8) -> Option<ParserState>
+        requires { IsTrue (is_sound_state self) }
+        ensures next { result ≡ next_state self place byte }
+        ensures sound { IfSome result (λ state. IsTrue (is_sound_state state)) }
     {
         match self {
-            Position::Beginning | Position::Division => Some(Position::Letter {
+            ParserState::Beginning | ParserState::Division => Some(ParserState::Letter {
                 piece: Piece::from_letter(byte)?,
                 start: place,
             }),
-            Position::Letter { piece, start } => {
+            ParserState::Letter { piece, start } => {
                 let rotation = Rotation::from_letter(byte)?;
                 let turned = TurnedPiece { piece, rotation };
-                Some(Position::Letters { turned, start })
+                Some(ParserState::Letters { turned, start })
             }
-            Position::Letters { turned, .. } if byte == b':' => Some(Position::Columns {
+            ParserState::Letters { turned, .. } if byte == b':' => Some(ParserState::Columns {
                 turned,
                 test: 1,
                 is_negative: false,
             }),
-            Position::Columns {
+            ParserState::Columns {
                 turned,
                 test,
                 is_negative,
             } => columns(turned, test, is_negative, byte),
-            Position::Comma { turned, test, dx } if byte == b',' => Some(Position::Rows {
+            ParserState::Comma { turned, test, dx } if byte == b',' => Some(ParserState::Rows {
                 turned,
                 test,
                 dx,
                 is_negative: false,
             }),
-            Position::Rows {
+            ParserState::Rows {
                 turned,
                 test,
                 dx,
                 is_negative,
             } => rows(turned, test, dx, is_negative, byte),
-            Position::Whole { turned, test, .. } if test < 5 && byte == b'/' => Some(
-                Position::Columns {
+            ParserState::Whole { turned, test, .. } if test < 5 && byte == b'/' => Some(
+                ParserState::Columns {
                     turned,
                     test: test + 1,
                     is_negative: false,
                 },
             ),
-            Position::Whole { test, .. } if test == 5 && byte == b';' => Some(Position::Division),
+            ParserState::Whole { test, .. } if test == 5 && byte == b';' => Some(
+                ParserState::Division,
+            ),
             _ => None,
         }
     }
 }
 
 /// The columns of an offset, or the `-` before them.
-fn columns(turned: TurnedPiece, test: u8, is_negative: bool, byte: u8) -> Option<Position>
-    requires { IsTrue (is_sound_position (Position.Columns turned test is_negative)) }
-    ensures next { result ≡ next_position (Position.Columns turned test is_negative) 0 byte }
-    ensures sound { IfSome result (λ position. IsTrue (is_sound_position position)) }
+fn columns(turned: TurnedPiece, test: u8, is_negative: bool, byte: u8) -> Option<ParserState>
+    requires { IsTrue (is_sound_state (ParserState.Columns turned test is_negative)) }
+    ensures next { result ≡ next_state (ParserState.Columns turned test is_negative) 0 byte }
+    ensures sound { IfSome result (λ state. IsTrue (is_sound_state state)) }
 {
     if byte == b'-' && !is_negative {
-        return Some(Position::Columns {
+        return Some(ParserState::Columns {
             turned,
             test,
             is_negative: true,
         });
     }
     let dx = number(byte, is_negative)?;
-    Some(Position::Comma { turned, test, dx })
+    Some(ParserState::Comma { turned, test, dx })
 }
 
 /// The rows of an offset, or the `-` before them.
-fn rows(turned: TurnedPiece, test: u8, dx: i8, is_negative: bool, byte: u8) -> Option<Position>
-    requires { IsTrue (is_sound_position (Position.Rows turned test dx is_negative)) }
-    ensures next { result ≡ next_position (Position.Rows turned test dx is_negative) 0 byte }
-    ensures sound { IfSome result (λ position. IsTrue (is_sound_position position)) }
+fn rows(turned: TurnedPiece, test: u8, dx: i8, is_negative: bool, byte: u8) -> Option<ParserState>
+    requires { IsTrue (is_sound_state (ParserState.Rows turned test dx is_negative)) }
+    ensures next { result ≡ next_state (ParserState.Rows turned test dx is_negative) 0 byte }
+    ensures sound { IfSome result (λ state. IsTrue (is_sound_state state)) }
 {
     if byte == b'-' && !is_negative {
-        return Some(Position::Rows {
+        return Some(ParserState::Rows {
             turned,
             test,
             dx,
@@ -150,7 +152,7 @@ fn rows(turned: TurnedPiece, test: u8, dx: i8, is_negative: bool, byte: u8) -> O
         });
     }
     let dy = number(byte, is_negative)?;
-    Some(Position::Whole {
+    Some(ParserState::Whole {
         turned,
         test,
         offset: Offset { dx, dy },
