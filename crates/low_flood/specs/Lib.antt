@@ -1,4 +1,5 @@
--- What serves proofs alone: the flood on lanes. What a reader must believe stands in the crates below.
+-- What a reader must believe: nothing of this crate.
+-- What serves proofs alone: the flood on lanes.
 pub mod SkyBoard
 pub mod LaneTurns
 pub mod LaneFlood

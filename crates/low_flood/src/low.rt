@@ -5,8 +5,8 @@ ghost use Rattle.srs.specs.Kick.{srs_table};
 ghost use Rattle.moves.specs.declared.key.DropMode.{DropMode};
 ghost use Rattle.sky.specs.Sky.{IsClearFrom};
 ghost use Rattle.place_sets.specs.PlaceSets.{ArePlaces};
-ghost use Rattle.low_flood.specs.LanePlaces.{hard_board};
 ghost use Rattle.place_sets.specs.States.{states_of};
+ghost use Rattle.low_flood.specs.LanePlaces.{hard_board};
 
 use crate::hard::hard_places;
 use crate::soft::soft_places;

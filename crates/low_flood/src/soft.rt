@@ -6,9 +6,9 @@ ghost use Rattle.srs.specs.Kick.{srs_table};
 ghost use Rattle.moves.specs.declared.key.DropMode.{DropMode};
 ghost use Rattle.sky.specs.Sky.{IsClearFrom};
 ghost use Rattle.place_sets.specs.PlaceSets.{ArePlaces};
-ghost use Rattle.low_flood.specs.SoftLanes.{free_boards, skies, with_rotation, places_of, rests_in, lacking, soft_board};
-ghost use Rattle.low_flood.specs.SoftLanes.{HaveAllRests, AreSpread, IsTurnedInto, IsRound, IsSoftFlood};
 ghost use Rattle.place_sets.specs.States.{states_of};
+ghost use Rattle.low_flood.specs.SoftLanes.{free_boards, skies, with_rotation, places_of, rests_in, lacking};
+ghost use Rattle.low_flood.specs.SoftLanes.{soft_board, HaveAllRests, AreSpread, IsTurnedInto, IsRound, IsSoftFlood};
 
 use crate::hard::{has_own_cells, lane_pivots};
 use crate::lane_map::{free_lanes, resting_lanes, sky_board};

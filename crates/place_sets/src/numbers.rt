@@ -49,7 +49,8 @@ fn words_below(rows: [u8; 4]) -> usize
 impl Numbers {
     ghost use Rattle.std.specs.Prelude.{not};
     ghost use Rattle.srs.specs.Rotation.{rotation_place};
-    ghost use Rattle.place_sets.specs.Numbers.{has_number, number_of_state, is_named, states_in, IsNumberFrom, IsWordAmong};
+    ghost use Rattle.place_sets.specs.Numbers.{has_number, number_of_state, is_named, states_in};
+    ghost use Rattle.place_sets.specs.Numbers.{IsNumberFrom, IsWordAmong};
     ghost use Rattle.place_sets.specs.States.{has_state, states_of};
 
     /// The numbers of the states.

@@ -9,8 +9,8 @@ ghost use Rattle.sky.specs.Sky.{IsClearFrom};
 ghost use Rattle.sky.specs.Window.{IsWindowPlace};
 ghost use Rattle.place_sets.specs.PlaceSets.{ArePlaces};
 ghost use Rattle.place_sets.specs.Places.{holds, piece_of};
-ghost use Rattle.reach.specs.SameOffsets.{HaveSameOffsets};
 ghost use Rattle.place_sets.specs.States.{states_of};
+ghost use Rattle.reach.specs.SameOffsets.{HaveSameOffsets};
 
 use crate::same_offsets::has_srs_offsets;
 use crate::steps::Steps;

@@ -34,8 +34,8 @@ impl FloodRules {
     ghost use Rattle.well.specs.LockLaws.{is_below};
     ghost use Rattle.well.specs.Well.{filled};
     ghost use Rattle.moves.specs.Place.{IsPlace};
-    ghost use Rattle.reach.specs.FloodRules.{flood_table};
     ghost use Rattle.place_sets.specs.Places.{holds, piece_of};
+    ghost use Rattle.reach.specs.FloodRules.{flood_table};
 
     #[tactic(auto, unfolding(crate::specs::FloodRules::flood_table))]
     /// Prepares these rules.
@@ -111,8 +111,8 @@ impl FloodRules {
     ghost use Rattle.well.specs.LockLaws.{is_below};
     ghost use Rattle.well.specs.Well.{filled};
     ghost use Rattle.moves.specs.Place.{IsPlace};
-    ghost use Rattle.reach.specs.FloodRules.{flood_table};
     ghost use Rattle.place_sets.specs.LowPlaces.{holds, piece_of};
+    ghost use Rattle.reach.specs.FloodRules.{flood_table};
 
     #[tactic(auto, unfolding(crate::specs::FloodRules::flood_table))]
     /// Those of the places that `places` gives whose cells all lie below row `rows`. Counts one flood.

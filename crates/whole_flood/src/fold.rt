@@ -1,8 +1,8 @@
 // Resting states as canonical placements.
 ghost use Rattle.std.specs.Prelude.{◌≡◌, ◌≤◌, pos, ◌-ℤ◌};
 ghost use Rattle.srs.specs.Canonical.{canonical_rotation, canonical_move};
-ghost use Rattle.whole_flood.specs.Folded.{folded_with, folded};
 ghost use Rattle.place_sets.specs.States.{states_of};
+ghost use Rattle.whole_flood.specs.Folded.{folded_with, folded};
 
 use place_sets::Pivots;
 use srs::{Piece, Placement, Rotation, canonical};

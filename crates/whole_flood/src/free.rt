@@ -3,9 +3,9 @@ ghost use Rattle.std.specs.Prelude.{◌≡◌, pos, ◌≤ℤ◌, IsTrue};
 ghost use Rattle.std.specs.List.{list_all};
 ghost use Rattle.lane_board.specs.Board.{field_of};
 ghost use Rattle.srs.specs.Cells.{shape, is_near};
+ghost use Rattle.place_sets.specs.States.{states_of};
 ghost use Rattle.whole_flood.specs.FreePivots.{AreFreePivots};
 ghost use Rattle.whole_flood.specs.Opened.{opened, opened_at, IsFreeMap};
-ghost use Rattle.place_sets.specs.States.{states_of};
 
 use lane_board::LaneBoard;
 use place_sets::Pivots;

@@ -3,8 +3,8 @@ ghost use Rattle.std.specs.Prelude.{◌≡◌};
 ghost use Rattle.lane_board.specs.Board.{field_of};
 ghost use Rattle.srs.specs.Rules.{table_of};
 ghost use Rattle.place_sets.specs.PlaceSets.{ArePlaces};
-ghost use Rattle.whole_flood.specs.Started.{started};
 ghost use Rattle.place_sets.specs.States.{states_of};
+ghost use Rattle.whole_flood.specs.Started.{started};
 
 use crate::flood::flood;
 use crate::fold::folded;
