@@ -20,8 +20,8 @@ use Rattle.well.proofs.CallerLemmas.{free_inside}
 use Rattle.moves.specs.declared.key.DropMode.{DropMode}
 use Rattle.moves.specs.Place.{IsPlace}
 use Rattle.moves.proofs.CallerLemmas.{place-free}
-use Rattle.reach.specs.declared.held.Places.{Places}
-use Rattle.reach.specs.Places.{holds, piece_of}
+use Rattle.place_sets.specs.declared.held.Places.{Places}
+use Rattle.place_sets.specs.Places.{holds, piece_of}
 use Rattle.calling.specs.Counts.{IsPlaceCount}
 
 -- the least is taken out

@@ -4,7 +4,7 @@ ghost use Rattle.srs.specs.declared.placement.Placement.{Placement};
 ghost use Rattle.srs.specs.Rules.{table_of};
 ghost use Rattle.well.specs.Well.{filled};
 ghost use Rattle.moves.specs.Place.{IsPlace};
-ghost use Rattle.reach.specs.Places.{holds, piece_of};
+ghost use Rattle.place_sets.specs.Places.{holds, piece_of};
 ghost use Rattle.calling.specs.Counts.{IsPlaceCount};
 
 use moves::DropMode;

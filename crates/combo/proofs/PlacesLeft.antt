@@ -14,8 +14,8 @@ use Rattle.srs.proofs.CallerLemmas.{placement_cmp-total, placement_cmp-antisymme
 use Rattle.well.proofs.CallerLemmas.{free_inside}
 use Rattle.moves.specs.declared.key.DropMode.{DropMode}
 use Rattle.moves.specs.Place.{IsPlace}
-use Rattle.reach.specs.declared.held.Places.{Places}
-use Rattle.reach.specs.Places.{holds, piece_of}
+use Rattle.place_sets.specs.declared.held.Places.{Places}
+use Rattle.place_sets.specs.Places.{holds, piece_of}
 use Rattle.moves.proofs.CallerLemmas.{place-free}
 
 abbrev pub places_left : Places → Option Placement → List Placement

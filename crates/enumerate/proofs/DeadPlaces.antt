@@ -14,8 +14,8 @@ use Rattle.lists.proofs.CallerLemmas.{filter-false, filter-true}
 use Rattle.lane_board.specs.Words.{cells_of_words}
 use Rattle.well.specs.Well.{filled}
 use Rattle.moves.specs.declared.key.DropMode.{DropMode}
-use Rattle.reach.specs.declared.low_held.LowPlaces.{LowPlaces}
-use Rattle.reach.specs.LowPlaces.{holds, piece_of}
+use Rattle.place_sets.specs.declared.low_held.LowPlaces.{LowPlaces}
+use Rattle.place_sets.specs.LowPlaces.{holds, piece_of}
 use Rattle.prune.specs.Tiling.{supply_in}
 use Rattle.prune.specs.OnePart.{less_one}
 use Rattle.packing.specs.Empties.{all_but, empty_cells, without_placement}

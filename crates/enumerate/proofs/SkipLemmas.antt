@@ -18,8 +18,8 @@ use Rattle.lists.proofs.CallerLemmas.{Contains-cases, Contains-filter, Contains-
 use Rattle.srs.proofs.CallerLemmas.{placement_cmp-total, placements_of-list}
 use Rattle.moves.specs.declared.key.DropMode.{DropMode}
 use Rattle.moves.specs.PlaceTest.{is_place}
-use Rattle.reach.specs.declared.low_held.LowPlaces.{LowPlaces}
-use Rattle.reach.specs.LowPlaces.{holds, piece_of}
+use Rattle.place_sets.specs.declared.low_held.LowPlaces.{LowPlaces}
+use Rattle.place_sets.specs.LowPlaces.{holds, piece_of}
 use Rattle.hold_queue.specs.QueueSet.{queues_in_play}
 use Rattle.enumerate.specs.declared.frame.Frame.{Frame}
 use Rattle.enumerate.specs.declared.turn.Turn.{Turn}

@@ -17,8 +17,8 @@ use Rattle.lists.specs.Rising.{is_above, IsNextAbove, IsLeastAbove, IsRisingList
 use Rattle.lists.proofs.CallerLemmas.{Contains-filter, Contains-from_filter, filter_above-next, filter_above-none, find-next_of, IsNextAbove-unique, some_same}
 use Rattle.well.specs.Well.{filled}
 use Rattle.well.specs.LockLaws.{is_below}
-use Rattle.reach.specs.declared.low_held.LowPlaces.{LowPlaces}
-use Rattle.reach.specs.LowPlaces.{holds, piece_of}
+use Rattle.place_sets.specs.declared.low_held.LowPlaces.{LowPlaces}
+use Rattle.place_sets.specs.LowPlaces.{holds, piece_of}
 use Rattle.hold_queue.specs.QueueSet.{queues_in_play}
 use Rattle.enumerate.specs.Frames.{places_left}
 use Rattle.enumerate.specs.declared.frame.Frame.{Frame}

@@ -18,8 +18,8 @@ use Rattle.well.specs.Lock.{locked, rows_removed}
 use Rattle.moves.specs.declared.key.DropMode.{DropMode}
 use Rattle.moves.specs.Place.{IsPlace}
 use Rattle.moves.specs.PlaceTest.{is_place}
-use Rattle.reach.specs.declared.low_held.LowPlaces.{LowPlaces}
-use Rattle.reach.specs.LowPlaces.{holds, piece_of}
+use Rattle.place_sets.specs.declared.low_held.LowPlaces.{LowPlaces}
+use Rattle.place_sets.specs.LowPlaces.{holds, piece_of}
 use Rattle.hold_queue.specs.QueueSet.{QueuesInPlay, QueuesPermit, queues_in_play, queues_permit}
 use Rattle.moves.proofs.CallerLemmas.{is_place-decides}
 use Rattle.hold_queue.proofs.CallerLemmas.{queues_permit-decides}

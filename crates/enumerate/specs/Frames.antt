@@ -10,8 +10,8 @@ use Rattle.srs.specs.Placements.{placements_of}
 use Rattle.lists.specs.Rising.{is_above}
 use Rattle.well.specs.Well.{filled}
 use Rattle.moves.specs.declared.key.DropMode.{DropMode}
-use Rattle.reach.specs.declared.low_held.LowPlaces.{LowPlaces}
-use Rattle.reach.specs.LowPlaces.{holds, piece_of}
+use Rattle.place_sets.specs.declared.low_held.LowPlaces.{LowPlaces}
+use Rattle.place_sets.specs.LowPlaces.{holds, piece_of}
 use Rattle.hold_queue.specs.QueueSet.{queues_in_play}
 use Rattle.enumerate.specs.declared.frame.Frame.{Frame}
 use Rattle.enumerate.specs.Position.{Position}

@@ -5,7 +5,7 @@ ghost use Rattle.lane_board.specs.Field.{difference, rows_below};
 ghost use Rattle.srs.specs.declared.placement.Placement.{Placement};
 ghost use Rattle.well.specs.Well.{filled};
 ghost use Rattle.well.specs.LockLaws.{LiesBelow, is_below};
-ghost use Rattle.reach.specs.LowPlaces.{holds, piece_of};
+ghost use Rattle.place_sets.specs.LowPlaces.{holds, piece_of};
 ghost use Rattle.hold_queue.specs.QueueSet.{queues_in_play};
 ghost use Rattle.hold_queue.specs.Supply.{supply_of};
 ghost use Rattle.prune.specs.Tiling.{supply_in};

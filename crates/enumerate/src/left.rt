@@ -4,7 +4,7 @@ ghost use Rattle.srs.specs.declared.placement.Placement.{Placement};
 ghost use Rattle.srs.specs.Order.{placement_cmp};
 ghost use Rattle.srs.specs.Placements.{placements_of};
 ghost use Rattle.lists.specs.Rising;
-ghost use Rattle.reach.specs.LowPlaces.{holds, piece_of};
+ghost use Rattle.place_sets.specs.LowPlaces.{holds, piece_of};
 ghost use Rattle.enumerate.specs.Frames.{places_left};
 
 use reach::LowPlaces;

@@ -2,7 +2,7 @@
 ghost use Rattle.std.specs.Prelude.{◌≡◌, ◌↔◌, ℕ, suc, ◌+◌, ◌-◌, ◌<◌, ◌≤◌, true, IsTrue, MatchOption, Some, Contains, [], ◌∷◌, length, take, drop, slice_index_or};
 ghost use Rattle.std.specs.Option.{ForSome};
 ghost use Rattle.reach.specs.FloodRules.{flood_table};
-ghost use Rattle.reach.specs.LowPlaces.{piece_of};
+ghost use Rattle.place_sets.specs.LowPlaces.{piece_of};
 ghost use Rattle.enumerate.specs.Counted.{CountsUp};
 ghost use Rattle.enumerate.specs.Events.{sought};
 ghost use Rattle.enumerate.specs.Frames.{has_room, path_of, places_left, position_of, stacked};

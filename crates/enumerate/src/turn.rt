@@ -9,7 +9,7 @@ ghost use Rattle.lane_board.specs.Field.{difference, rows_below};
 ghost use Rattle.well.specs.Well.{filled};
 ghost use Rattle.moves.specs.declared.key.DropMode.{DropMode};
 ghost use Rattle.reach.specs.FloodRules.{flood_table};
-ghost use Rattle.reach.specs.LowPlaces.{piece_of};
+ghost use Rattle.place_sets.specs.LowPlaces.{piece_of};
 ghost use Rattle.hold_queue.specs.QueueSet.{queues_in_play};
 ghost use Rattle.well.specs.Lock.{locked, rows_removed};
 ghost use Rattle.well.specs.LockLaws.{is_below};

@@ -10,13 +10,13 @@ ghost use Rattle.well.specs.Free.{is_free, is_free_at};
 ghost use Rattle.well.specs.Well.{filled};
 ghost use Rattle.moves.specs.States.{IsPivot};
 ghost use Rattle.moves.specs.Step.{IsShort, first_free, step_of, turned};
-ghost use Rattle.reach.specs.FreePivots.{AreFreePivots};
+ghost use Rattle.whole_flood.specs.FreePivots.{AreFreePivots};
 
 use lane_board::LaneBoard;
 use moves::{Key, step};
-use reach::free_pivots;
 use srs::{Offset, Piece, Placement, Rotation, Rules, kick};
 use well::Well;
+use whole_flood::free_pivots;
 
 /// A well, and for each rotation a board of the pivots at which a piece is free in it.
 #[derive(Drop)]

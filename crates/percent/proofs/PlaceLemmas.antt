@@ -22,8 +22,8 @@ use Rattle.well.specs.Lock.{locked, rows_removed}
 use Rattle.well.specs.LockLaws.{is_below}
 use Rattle.moves.specs.Place.{IsPlace}
 use Rattle.moves.specs.PlaceTest.{is_place}
-use Rattle.reach.specs.declared.held.Places.{Places}
-use Rattle.reach.specs.Places.{holds}
+use Rattle.place_sets.specs.declared.held.Places.{Places}
+use Rattle.place_sets.specs.Places.{holds}
 use Rattle.well.proofs.CallerLemmas.{free_inside}
 use Rattle.moves.proofs.CallerLemmas.{is_place-decides as place-decides, place-free}
 use Rattle.number_sets.specs.Rising.{has}

@@ -15,9 +15,9 @@ use Rattle.moves.specs.Leads.{pressed, spawned, state_after}
 use Rattle.moves.specs.Place.{IsPlace}
 use Rattle.moves.specs.Step.{first_free, kicked, turned, step_of}
 use Rattle.moves.proofs.CallerLemmas.{spawned-free, step_of-free}
-use Rattle.reach.specs.PlaceSets.{ArePlaces}
+use Rattle.place_sets.specs.PlaceSets.{ArePlaces}
 use Rattle.reach.specs.SameOffsets.{HaveSameOffsets}
-use Rattle.reach.specs.States.{States}
+use Rattle.place_sets.specs.States.{States}
 
 pub same_back : (table other : Table) (piece : Piece) → HaveSameOffsets table other piece → HaveSameOffsets other table piece
 same_back table other piece same = record { each = λ rotation test low high. sym (same.each rotation test low high) }

@@ -7,21 +7,20 @@ ghost use Rattle.well.specs.Well.{filled};
 ghost use Rattle.moves.specs.Place.{IsPlace};
 ghost use Rattle.sky.specs.Sky.{IsClearFrom};
 ghost use Rattle.sky.specs.Window.{IsWindowPlace};
-ghost use Rattle.reach.specs.PlaceSets.{ArePlaces};
-ghost use Rattle.reach.specs.Places.{holds, piece_of};
+ghost use Rattle.place_sets.specs.PlaceSets.{ArePlaces};
+ghost use Rattle.place_sets.specs.Places.{holds, piece_of};
+ghost use Rattle.place_sets.specs.States.{states_of};
 ghost use Rattle.reach.specs.SameOffsets.{HaveSameOffsets};
-ghost use Rattle.reach.specs.States.{states_of};
 
-use crate::held::Places;
-use crate::low::{is_clear_from, low_places};
-use crate::pivots::Pivots;
 use crate::same_offsets::has_srs_offsets;
 use crate::steps::Steps;
-use crate::whole::whole_places;
+use low_flood::{is_clear_from, low_places};
 use moves::DropMode;
+use place_sets::{Pivots, Places};
 use srs::{Piece, Rules};
 use std::sync::ledger::Ledger;
 use well::Well;
+use whole_flood::whole_places;
 
 /// The places of a piece: its canonical placements with the cells in which some state comes to rest that allowed keys
 /// lead to from the spawn. There are none if the spawn is not free. Counts one flood.

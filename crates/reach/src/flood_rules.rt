@@ -7,16 +7,15 @@ ghost use Rattle.srs.specs.Rules.{table_of};
 ghost use Rattle.reach.specs.SameOffsets.{HaveSameOffsets};
 
 use crate::find::{pivots_where, places_where};
-use crate::held::Places;
-use crate::low::{is_clear_from, low_places};
-use crate::low_held::LowPlaces;
 use crate::same_offsets::has_srs_offsets;
 use crate::steps::Steps;
-use crate::whole::whole_places;
+use low_flood::{is_clear_from, low_places};
 use moves::DropMode;
+use place_sets::{LowPlaces, Places};
 use srs::{Piece, Rules};
 use std::sync::ledger::Ledger;
 use well::Well;
+use whole_flood::whole_places;
 
 /// Kick rules, and for which pieces they are those of the Super Rotation System. This is tested once for many floods.
 #[derive(Clone, Copy)]
@@ -35,8 +34,8 @@ impl FloodRules {
     ghost use Rattle.well.specs.LockLaws.{is_below};
     ghost use Rattle.well.specs.Well.{filled};
     ghost use Rattle.moves.specs.Place.{IsPlace};
+    ghost use Rattle.place_sets.specs.Places.{holds, piece_of};
     ghost use Rattle.reach.specs.FloodRules.{flood_table};
-    ghost use Rattle.reach.specs.Places.{holds, piece_of};
 
     #[tactic(auto, unfolding(crate::specs::FloodRules::flood_table))]
     /// Prepares these rules.
@@ -112,8 +111,8 @@ impl FloodRules {
     ghost use Rattle.well.specs.LockLaws.{is_below};
     ghost use Rattle.well.specs.Well.{filled};
     ghost use Rattle.moves.specs.Place.{IsPlace};
+    ghost use Rattle.place_sets.specs.LowPlaces.{holds, piece_of};
     ghost use Rattle.reach.specs.FloodRules.{flood_table};
-    ghost use Rattle.reach.specs.LowPlaces.{holds, piece_of};
 
     #[tactic(auto, unfolding(crate::specs::FloodRules::flood_table))]
     /// Those of the places that `places` gives whose cells all lie below row `rows`. Counts one flood.

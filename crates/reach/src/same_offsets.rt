@@ -5,7 +5,7 @@ ghost use Rattle.srs.specs.Kick.{srs_table, offset_in};
 ghost use Rattle.srs.specs.Rules.{table_of};
 ghost use Rattle.reach.specs.SameOffsets.{AgreeIn, HaveSameOffsets};
 
-use crate::lane_kicks::srs_offset;
+use low_flood::srs_offset;
 use srs::{Piece, Rotation, Rules};
 
 /// Whether all offsets of the piece are those of the Super Rotation System.

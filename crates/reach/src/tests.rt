@@ -1,6 +1,6 @@
 // Floods of the empty well, and of a well in which the spawn is not free.
 ghost use Rattle.std.specs.Prelude.{◌≡◌, ◌<◌};
-ghost use Rattle.reach.specs.Places.{piece_of};
+ghost use Rattle.place_sets.specs.Places.{piece_of};
 
 use crate::{Places, Steps, places};
 use moves::DropMode;

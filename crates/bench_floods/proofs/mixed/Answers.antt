@@ -1,5 +1,5 @@
 -- What is held is of the piece.
-use Rattle.reach.proofs.CallerLemmas.{holds-piece}
+use Rattle.place_sets.proofs.CallerLemmas.{holds-piece}
 use Rattle.bench_floods.proofs.mixed.Goals as goal
 
 pub loop-preserved : goal.loop-preserved

@@ -1,7 +1,7 @@
 -- Fewer placements are asked for after each one, and fewer places are left.
 use Rattle.std.proofs.Common.{◌≡◌, ◌≤◌, ◌*◌, ◌+◌, length}
 use Rattle.std.specs.Option.{ForSome}
-use Rattle.reach.specs.Places.{piece_of}
+use Rattle.place_sets.specs.Places.{piece_of}
 use Rattle.reach.specs.FloodRules.{flood_table}
 use Rattle.well.specs.Well.{filled}
 use Rattle.combo.specs.First.{AreShorter, RunsOnUpTo}

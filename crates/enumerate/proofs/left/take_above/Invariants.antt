@@ -2,7 +2,7 @@
 use Rattle.std.proofs.Common.{◌≡◌, length}
 use Rattle.std.specs.Prelude.{IsTrue, Some, None}
 use Rattle.srs.specs.declared.placement.Placement.{Placement}
-use Rattle.reach.specs.LowPlaces.{holds, piece_of}
+use Rattle.place_sets.specs.LowPlaces.{holds, piece_of}
 use Rattle.enumerate.specs.Frames.{places_left}
 use Rattle.enumerate.proofs.left.take_above.Given as goal
 

@@ -2,7 +2,7 @@
 use Rattle.std.proofs.Common.{subst}
 use Rattle.lane_board.specs.Board.{field_of}
 use Rattle.lane_board.specs.Field.{Field}
-use Rattle.reach.specs.FreePivots.{AreFreePivots}
+use Rattle.whole_flood.specs.FreePivots.{AreFreePivots}
 use Rattle.key_path.proofs.free.pivots_in.Goals as goal
 
 pub returns : goal.returns

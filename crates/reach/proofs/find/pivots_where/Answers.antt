@@ -4,8 +4,8 @@ use Rattle.lane_board.specs.Field.{Field}
 use Rattle.srs.specs.Kick.{srs_table}
 use Rattle.srs.specs.Rules.{table_of}
 use Rattle.well.specs.Well.{filled}
-use Rattle.reach.specs.PlaceSets.{ArePlaces}
-use Rattle.reach.specs.States.{states_of}
+use Rattle.place_sets.specs.PlaceSets.{ArePlaces}
+use Rattle.place_sets.specs.States.{states_of}
 use Rattle.reach.proofs.SameOffsets.{places_same}
 use Rattle.reach.proofs.find.pivots_where.Goals as goal
 

@@ -1,8 +1,8 @@
 -- What is held are the places.
 use Rattle.well.specs.Well.{filled}
 use Rattle.srs.specs.Rules.{table_of}
-use Rattle.reach.specs.States.{states_of}
-use Rattle.reach.proofs.ScanLemmas.{places_held}
+use Rattle.place_sets.specs.States.{states_of}
+use Rattle.place_sets.proofs.CallerLemmas.{places_held}
 use Rattle.reach.proofs.find.places_where.Goals as goal
 
 pub returns-clause-held : goal.returns-clause-held

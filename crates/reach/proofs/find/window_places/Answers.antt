@@ -5,9 +5,9 @@ use Rattle.srs.specs.Kick.{srs_table}
 use Rattle.well.specs.Well.{filled}
 use Rattle.sky.specs.Sky.{IsClearFrom}
 use Rattle.sky.proofs.CallerLemmas.{window}
-use Rattle.reach.specs.PlaceSets.{ArePlaces}
-use Rattle.reach.specs.States.{states_of}
-use Rattle.reach.proofs.ScanLemmas.{places_held}
+use Rattle.place_sets.specs.PlaceSets.{ArePlaces}
+use Rattle.place_sets.specs.States.{states_of}
+use Rattle.place_sets.proofs.CallerLemmas.{places_held}
 use Rattle.reach.proofs.find.window_places.Goals as goal
 
 pub low_places-held-requires : goal.low_places-held-requires

@@ -1,5 +1,5 @@
 -- What is held is of the piece.
-use Rattle.reach.proofs.ScanLemmas.{holds-piece}
+use Rattle.place_sets.proofs.CallerLemmas.{holds-piece}
 use Rattle.reach.proofs.tests.count.Goals as goal
 
 pub loop-number-preserved : goal.loop-number-preserved

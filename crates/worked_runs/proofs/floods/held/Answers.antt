@@ -1,5 +1,5 @@
 -- What is held is of the piece.
-use Rattle.reach.proofs.CallerLemmas.{holds-piece}
+use Rattle.place_sets.proofs.CallerLemmas.{holds-piece}
 use Rattle.worked_runs.proofs.floods.held.Goals as goal
 
 pub loop-number-preserved : goal.loop-number-preserved

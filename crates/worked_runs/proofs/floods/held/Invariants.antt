@@ -1,7 +1,7 @@
 -- The last placement is of the piece whose placements are held.
 use Rattle.std.proofs.Common.{◌≡◌}
 use Rattle.std.specs.Prelude.{IfSome}
-use Rattle.reach.specs.Places.{piece_of}
+use Rattle.place_sets.specs.Places.{piece_of}
 use Rattle.worked_runs.proofs.floods.held.Given as goal
 
 abbrev pub invariant-loop-number : goal.invariant-loop-number

@@ -4,7 +4,7 @@ use Rattle.std.specs.Prelude.{true}
 use Rattle.reach.specs.FloodRules.{flood_table}
 use Rattle.lists.proofs.CallerLemmas.{some_same}
 use Rattle.well.specs.Well.{filled}
-use Rattle.reach.specs.LowPlaces.{piece_of}
+use Rattle.place_sets.specs.LowPlaces.{piece_of}
 use Rattle.hold_queue.specs.QueueSet.{queues_in_play}
 use Rattle.enumerate.specs.Frames.{position_of}
 use Rattle.enumerate.specs.Position.{may_play}

@@ -8,7 +8,7 @@ use Rattle.srs.specs.Rotation.{rotation_place}
 use Rattle.lists.proofs.CallerLemmas.{and_first, some_same}
 use Rattle.lane_board.specs.Words.{cells_of_words}
 use Rattle.well.specs.Well.{filled}
-use Rattle.reach.specs.LowPlaces.{holds, piece_of}
+use Rattle.place_sets.specs.LowPlaces.{holds, piece_of}
 use Rattle.hold_queue.specs.QueueSet.{queues_in_play}
 use Rattle.enumerate.specs.Events.{entered, enter, tried_in_turn}
 use Rattle.enumerate.specs.Frames.{events_of, places_left, position_of}

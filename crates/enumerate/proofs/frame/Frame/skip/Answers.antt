@@ -6,7 +6,7 @@ use Rattle.well.specs.Well.{filled}
 use Rattle.well.specs.LockLaws.{is_below}
 use Rattle.moves.specs.PlaceTest.{is_place}
 use Rattle.hold_queue.specs.QueueSet.{queues_in_play}
-use Rattle.reach.specs.LowPlaces.{piece_of}
+use Rattle.place_sets.specs.LowPlaces.{piece_of}
 use Rattle.moves.proofs.CallerLemmas.{is_place-decides}
 use Rattle.enumerate.specs.Frames.{places_left, position_of}
 use Rattle.enumerate.specs.Position.{may_play}

@@ -2,7 +2,7 @@
 use Rattle.std.proofs.Common.{refl}
 use Rattle.srs.proofs.CallerLemmas.{placements_of-list}
 use Rattle.well.specs.Well.{filled}
-use Rattle.reach.specs.LowPlaces.{piece_of}
+use Rattle.place_sets.specs.LowPlaces.{piece_of}
 use Rattle.enumerate.specs.Frames.{places_left}
 use Rattle.enumerate.proofs.PlaceLaws.{lockable-listed}
 use Rattle.enumerate.proofs.Taken.{upcoming-taken}

@@ -4,7 +4,7 @@ use Rattle.std.specs.Prelude.{true}
 use Rattle.lists.proofs.CallerLemmas.{some_same}
 use Rattle.well.specs.Well.{filled}
 use Rattle.well.specs.LockLaws.{is_below}
-use Rattle.reach.specs.LowPlaces.{piece_of}
+use Rattle.place_sets.specs.LowPlaces.{piece_of}
 use Rattle.hold_queue.specs.QueueSet.{queues_in_play}
 use Rattle.enumerate.specs.Position.{may_play}
 use Rattle.enumerate.specs.Standing.{may_lock}

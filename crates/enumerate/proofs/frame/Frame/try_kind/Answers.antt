@@ -4,7 +4,7 @@ use Rattle.std.specs.Prelude.{drop, filter}
 use Rattle.srs.specs.Piece.{all_pieces}
 use Rattle.std.specs.Option.{ForSome}
 use Rattle.reach.specs.FloodRules.{flood_table}
-use Rattle.reach.specs.LowPlaces.{piece_of}
+use Rattle.place_sets.specs.LowPlaces.{piece_of}
 use Rattle.well.specs.LockLaws.{is_below}
 use Rattle.enumerate.specs.Events.{Flood}
 use Rattle.enumerate.specs.Position.{places_at}

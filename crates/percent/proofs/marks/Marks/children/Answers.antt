@@ -9,8 +9,8 @@ use Rattle.srs.specs.declared.placement.Placement.{Placement}
 use Rattle.srs.specs.Order.{placement_cmp}
 use Rattle.lists.specs.Rising.{IsNextAbove}
 use Rattle.well.specs.Well.{filled}
-use Rattle.reach.specs.declared.held.Places.{Places}
-use Rattle.reach.specs.Places.{holds}
+use Rattle.place_sets.specs.declared.held.Places.{Places}
+use Rattle.place_sets.specs.Places.{holds}
 use Rattle.srs.specs.Kick.{Table}
 use Rattle.srs.specs.Rules.{table_of}
 use Rattle.well.specs.LockLaws.{is_below}

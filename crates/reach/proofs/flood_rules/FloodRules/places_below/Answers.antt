@@ -4,9 +4,9 @@ use Rattle.lane_board.specs.Field.{Field}
 use Rattle.srs.specs.Kick.{srs_table}
 use Rattle.well.specs.Well.{filled}
 use Rattle.reach.specs.FloodRules.{flood_table}
-use Rattle.reach.specs.PlaceSets.{ArePlaces}
-use Rattle.reach.specs.States.{states_of}
-use Rattle.reach.proofs.LowPlaceLemmas.{low_places_held}
+use Rattle.place_sets.specs.PlaceSets.{ArePlaces}
+use Rattle.place_sets.specs.States.{states_of}
+use Rattle.place_sets.proofs.CallerLemmas.{low_places_held}
 use Rattle.reach.proofs.SameOffsets.{places_same}
 use Rattle.reach.proofs.flood_rules.FloodRules.places_below.Goals as goal
 

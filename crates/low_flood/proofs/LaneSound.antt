@@ -1,0 +1,268 @@
+-- Boards whose states keys lead to, and what moves and turns lead to from them.
+use Rattle.std.proofs.Common.{◌≡◌, ℕ, zero, suc, ◌+◌, ◌<◌, ◌≤◌, true, pos, ◌+ℤ◌, ◌-ℤ◌, Option, Some, None, [], ◌∷◌, ◌++◌, map, refl, sym, ap, subst, ◌∙◌, inl, inr, arith}
+use Rattle.std.specs.List.{list_all}
+use Rattle.std.proofs.lemmas.Int.{ints}
+use Rattle.std.proofs.lemmas.Bool.{or_cases, cond-true, false≢true}
+use Rattle.lane_board.specs.Field.{Field, empty_field, union, moved_within}
+use Rattle.srs.specs.declared.piece.Piece.{Piece}
+use Rattle.srs.specs.declared.rotation.Rotation.{Rotation}
+use Rattle.srs.specs.declared.placement.Placement.{Placement}
+use Rattle.srs.specs.Canonical.{canonical_rotation, canonical_move}
+use Rattle.srs.specs.Cells.{Cell, minus, moved, shape, pivot_of}
+use Rattle.srs.specs.Kick.{srs_table, kicks_of}
+use Rattle.srs.proofs.CallerLemmas.{canonical_pivot, found_cells}
+use Rattle.well.specs.Free.{is_free_at, is_free}
+use Rattle.well.proofs.CallerLemmas.{free_inside, free_pivot}
+use Rattle.moves.specs.declared.key.Key.{Key}
+use Rattle.moves.specs.declared.key.Key.TheVariants.{Left, Right, Down}
+use Rattle.moves.specs.declared.key.DropMode.TheVariants.{Soft}
+use Rattle.moves.specs.Leads.{state_after}
+use Rattle.moves.specs.Step.{state_at, first_free, shifted, turned, step_of}
+use Rattle.moves.specs.Walk.{led}
+use Rattle.moves.proofs.CallerLemmas.{step_of-free}
+use Rattle.sky.specs.Sky.{IsClearFrom}
+use Rattle.sky.specs.Rests.{IsKeyed}
+use Rattle.sky.specs.Lanes.{lowest, lane}
+use Rattle.sky.proofs.CallerLemmas.{soft_allows, leads-append, near, sky_is_reached}
+use Rattle.place_sets.specs.declared.spreading.Shifts.TheVariants as Shift
+use Rattle.low_flood.specs.LaneFlood.{place_column}
+use Rattle.low_flood.specs.LaneTurns.{arrivals, lane_move}
+use Rattle.low_flood.proofs.LaneTests.{turned_within}
+use Rattle.place_sets.specs.Shifts.{sideways, lower, widened, widened_by, IsSpread}
+use Rattle.low_flood.specs.SkyBoard.{IsLaneMap, sky_board}
+use Rattle.low_flood.proofs.ClassLemmas.{class_lane, sky_same}
+use Rattle.place_sets.proofs.CallerLemmas.{LiesWithin, IsWithin, moved_from, widened-from}
+use Rattle.low_flood.proofs.LaneTurns.{class_place, class_pivot, is_low_move, arrived, Arrived}
+use Rattle.low_flood.proofs.SkyBoards.{sky_board-exact}
+
+-- the state is at a place
+pub record IsAt (t : Placement) (x y : ℕ) : Type 0 where
+  pub column : place_column t ≡ pos x
+  pub at : lane t ≡ pos y
+
+-- each place of the board is free, and keys lead to the state of the rotation that is there
+pub record IsSoundBoard (F : Field) (piece : Piece) (r : Rotation) (free B : Field) : Type 0 where
+  pub within : IsWithin B free
+  pub keyed : (t : Placement) (x y : ℕ) → t.piece ≡ piece → t.rotation ≡ r → IsAt t x y → B x y ≡ true → IsKeyed srs_table F Soft t
+
+-- one key more
+pub one_key : (F : Field) (s t : Placement) (key : Key) → t.piece ≡ s.piece → IsKeyed srs_table F Soft s → step_of srs_table F s key ≡ Some t → IsKeyed srs_table F Soft t
+one_key F s t key kind keyed e = record {
+  keys = keyed.keys ++ (key ∷ []);
+  allowed = λ k d within. soft_allows d;
+  leads_there =
+      ap (λ (p : Piece). state_after srs_table F p (keyed.keys ++ (key ∷ []))) kind
+      ∙ leads-append srs_table F s.piece keyed.keys (key ∷ [])
+      ∙ ap (λ (o : Option Placement). led (step_of srs_table F) o (key ∷ [])) keyed.leads_there ∙ e;
+}
+
+module _ (F : Field) (N : ℕ) (piece : Piece) (r : Rotation) (free : Field) (is : IsLaneMap F piece (canonical_rotation piece r) N free) (lies : LiesWithin free N) where
+  -- the state at a free place
+  pub record StateAt (x y : ℕ) : Type 0 where
+    pub s : Placement
+    pub kind : s.piece ≡ piece
+    pub turn : s.rotation ≡ r
+    pub pivot : class_pivot piece r (pos x) (pos y) ≡ pivot_of s
+    pub at : IsAt s x y
+    pub is_free_there : is_free F s ≡ true
+
+  pub state_at_place : (x y : ℕ) → free x y ≡ true → StateAt x y
+  state_at_place x y filled =
+      let place = lies.inside x y filled in
+      let is_free_here : is_free_at F piece r (class_pivot piece r (pos x) (pos y)) ≡ true = sym (class_place F piece r (pos x) (pos y)) ∙ sym (is.exact x y place.1) ∙ filled in
+      let lies_at = free_pivot F piece r (class_pivot piece r (pos x) (pos y)) is_free_here in
+      let p : pos x -ℤ (canonical_move piece r).0 ≡ pos lies_at.x = ap (λ (c : Cell). c.0) lies_at.is in
+      let q : pos y -ℤ lowest (shape piece r) ≡ pos lies_at.y = ap (λ (c : Cell). c.1) lies_at.is in
+      record {
+        s = record { piece = piece; rotation = r; x = lies_at.x; y = lies_at.y };
+        kind = refl;
+        turn = refl;
+        pivot = lies_at.is;
+        at = record { column = omega (arith, ints); at = omega (arith, ints) };
+        is_free_there = subst (λ (c : Cell). is_free_at F piece r c ≡ true) lies_at.is is_free_here;
+      }
+
+  -- two states of the rotation at one place are one
+  same_state : (s t : Placement) (x y : ℕ) → s.piece ≡ piece → t.piece ≡ piece → s.rotation ≡ r → t.rotation ≡ r → IsAt s x y → IsAt t x y → s ≡ t
+  same_state s t x y k l m n a b =
+      let moves_s : (canonical_move s.piece s.rotation).0 ≡ (canonical_move piece r).0 = λ i. (canonical_move (k i) (m i)).0 in
+      let moves_t : (canonical_move t.piece t.rotation).0 ≡ (canonical_move piece r).0 = λ i. (canonical_move (l i) (n i)).0 in
+      let floors_s : lowest (shape s.piece s.rotation) ≡ lowest (shape piece r) = λ i. lowest (shape (k i) (m i)) in
+      let floors_t : lowest (shape t.piece t.rotation) ≡ lowest (shape piece r) = λ i. lowest (shape (l i) (n i)) in
+      let a_x = a.column in
+      let a_y = a.at in
+      let b_x = b.column in
+      let b_y = b.at in
+      let column : s.x ≡ t.x = omega (arith, ints) in
+      let row : s.y ≡ t.y = omega (arith, ints) in
+      let kind = k ∙ sym l in
+      let turn = m ∙ sym n in
+      λ i. record { piece = kind i; rotation = turn i; x = column i; y = row i }
+
+  -- a state at a free place is free
+  place_free : (t : Placement) (x y : ℕ) → t.piece ≡ piece → t.rotation ≡ r → IsAt t x y → free x y ≡ true → is_free F t ≡ true
+  place_free t x y kind turn at filled =
+      let s = state_at_place x y filled in
+      subst (λ (u : Placement). is_free F u ≡ true) (same_state s.s t x y s.kind kind s.turn turn s.at at) s.is_free_there
+
+  -- and a free state is at a free place
+  pub free_at_place : (t : Placement) (x y : ℕ) → t.piece ≡ piece → t.rotation ≡ r → IsAt t x y → y < N → is_free F t ≡ true → free x y ≡ true
+  free_at_place t x y kind turn at below t_free =
+      let moves : (canonical_move t.piece t.rotation).0 ≡ (canonical_move piece r).0 = λ i. (canonical_move (kind i) (turn i)).0 in
+      let floors : lowest (shape t.piece t.rotation) ≡ lowest (shape piece r) = λ i. lowest (shape (kind i) (turn i)) in
+      let col = at.column in
+      let row = at.at in
+      let to_x : pos x -ℤ (canonical_move piece r).0 ≡ pos t.x = omega (arith, ints) in
+      let to_y : pos y -ℤ lowest (shape piece r) ≡ pos t.y = omega (arith, ints) in
+      let k = sym kind in
+      let m = sym turn in
+      is.exact x y below ∙ class_place F piece r (pos x) (pos y) ∙ (λ i. is_free_at F (k i) (m i) (to_x i, to_y i)) ∙ t_free
+
+  -- a single move between free places
+  shift_there : (s t : Placement) (move : Cell) → s.piece ≡ t.piece → s.rotation ≡ t.rotation → moved (pivot_of s) move ≡ pivot_of t → is_free F t ≡ true → shifted F s move ≡ Some t
+  unfolding shifted first_free
+  shift_there s t move kind turn goes t_free =
+      (λ i. first_free F (kind i) (turn i) (goes i ∷ [])) ∙ cond-true _ (state_at t.piece t.rotation (pivot_of t)) None t_free
+
+  -- a place beside a sound one, that is free, is sound
+  beside_keyed : (B : Field) → IsSoundBoard F piece r free B → (move : Cell) (key : Key) → ((s : Placement) → step_of srs_table F s key ≡ shifted F s move) →
+      (t : Placement) (x y : ℕ) → t.piece ≡ piece → t.rotation ≡ r → IsAt t x y → free x y ≡ true → moved_within B N move.0 move.1 x y ≡ true → IsKeyed srs_table F Soft t
+  unfolding moved
+  beside_keyed B sound move key is_key t x y kind turn at filled beside =
+      let way = moved_from B N move x y beside in
+      let s = state_at_place way.from_x way.from_y (sound.within.has way.from_x way.from_y way.filled) in
+      let keyed = sound.keyed s.s way.from_x way.from_y s.kind s.turn s.at way.filled in
+      let p : pos way.from_x +ℤ move.0 ≡ pos x = ap (λ (c : Cell). c.0) way.there in
+      let q : pos way.from_y +ℤ move.1 ≡ pos y = ap (λ (c : Cell). c.1) way.there in
+      let k = s.kind ∙ sym kind in
+      let m = s.turn ∙ sym turn in
+      let moves : (canonical_move s.s.piece s.s.rotation).0 ≡ (canonical_move t.piece t.rotation).0 = λ i. (canonical_move (k i) (m i)).0 in
+      let floors : lowest (shape s.s.piece s.s.rotation) ≡ lowest (shape t.piece t.rotation) = λ i. lowest (shape (k i) (m i)) in
+      let s_x = s.at.column in
+      let s_y = s.at.at in
+      let t_x = at.column in
+      let t_y = at.at in
+      let column : pos s.s.x +ℤ move.0 ≡ pos t.x = omega (arith, ints) in
+      let row : pos s.s.y +ℤ move.1 ≡ pos t.y = omega (arith, ints) in
+      one_key F s.s t key (sym k) keyed (is_key s.s ∙ shift_there s.s t move k m (λ i. (column i, row i)) (place_free t x y kind turn at filled))
+
+  widened_sound : (B : Field) → IsSoundBoard F piece r free B → IsSoundBoard F piece r free (widened Shift.All N free B)
+  unfolding sideways lower union
+  widened_sound B sound = record {
+    within = record { has = λ x y held. elim (widened-from Shift.All N free B x y held) [ inl old ↦ sound.within.has x y old | inr new ↦ new.0 ] };
+    keyed = λ t x y kind turn at held. elim (widened-from Shift.All N free B x y held) [
+      | inl old ↦ sound.keyed t x y kind turn at old
+      | inr new ↦ elim (or_cases _ (moved_within B N (pos 0) (minus 1) x y) new.1) [
+        | inr down ↦ beside_keyed B sound (pos 0, minus 1) Down (λ s. refl) t x y kind turn at new.0 down
+        | inl side ↦ elim (or_cases (moved_within B N (minus 1) (pos 0) x y) _ side) [
+          | inl left ↦ beside_keyed B sound (minus 1, pos 0) Left (λ s. refl) t x y kind turn at new.0 left
+          | inr right ↦ beside_keyed B sound (pos 1, pos 0) Right (λ s. refl) t x y kind turn at new.0 right
+        ]
+      ]
+    ];
+  }
+
+  pub spread_sound : (S R : Field) → IsSpread Shift.All N free S R → IsSoundBoard F piece r free S → IsSoundBoard F piece r free R
+  unfolding widened_by
+  spread_sound S R spread sound = subst (IsSoundBoard F piece r free) (sym spread.grown) (by_rounds spread.rounds)
+    where
+      by_rounds : (rounds : ℕ) → IsSoundBoard F piece r free (widened_by rounds Shift.All N free S)
+      by_rounds zero = sound
+      by_rounds (suc rounds) = widened_sound (widened_by rounds Shift.All N free S) (by_rounds rounds)
+
+  pub union_sound : (A B : Field) → IsSoundBoard F piece r free A → IsSoundBoard F piece r free B → IsSoundBoard F piece r free (union A B)
+  unfolding union
+  union_sound A B a b = record {
+    within = record { has = λ x y held. elim (or_cases (A x y) (B x y) held) [ inl one ↦ a.within.has x y one | inr two ↦ b.within.has x y two ] };
+    keyed = λ t x y kind turn at held. elim (or_cases (A x y) (B x y) held) [ inl one ↦ a.keyed t x y kind turn at one | inr two ↦ b.keyed t x y kind turn at two ];
+  }
+
+  -- the states under the sky
+  pub sky_sound : (rows : ℕ) → IsClearFrom rows F → rows + 2 ≤ N → N ≤ 16 → IsWithin (sky_board piece (canonical_rotation piece r) N free) free → IsSoundBoard F piece r free (sky_board piece (canonical_rotation piece r) N free)
+  unfolding moved
+  sky_sound rows clear over few within = record { within = within; keyed = keyed }
+    where
+      keyed : (t : Placement) (x y : ℕ) → t.piece ≡ piece → t.rotation ≡ r → IsAt t x y → sky_board piece (canonical_rotation piece r) N free x y ≡ true → IsKeyed srs_table F Soft t
+      keyed t x y kind turn at held =
+          let filled = within.has x y held in
+          let place = lies.inside x y filled in
+          let t_free = place_free t x y kind turn at filled in
+          let pivot = canonical_pivot t (free_inside F t t_free) in
+          let c = canonical_rotation t.piece t.rotation in
+          let q : Placement = record { piece = t.piece; rotation = c; x = pivot.x; y = pivot.y } in
+          let is_c : c ≡ canonical_rotation piece r = λ i. canonical_rotation (kind i) (turn i) in
+          let col = at.column in
+          let row = at.at in
+          let floors = class_lane t.piece t.rotation in
+          let q_x : pos t.x +ℤ (canonical_move t.piece t.rotation).0 ≡ pos pivot.x = ap (λ (c : Cell). c.0) pivot.is in
+          let q_y : pos t.y +ℤ (canonical_move t.piece t.rotation).1 ≡ pos pivot.y = ap (λ (c : Cell). c.1) pivot.is in
+          let column : x ≡ pivot.x = omega (arith, ints) in
+          let at_q : lane q ≡ pos y = omega (arith, ints) in
+          let map_q : IsLaneMap F t.piece c N free = subst (λ (d : Rotation). IsLaneMap F t.piece d N free) (sym is_c) (subst (λ (p : Piece). IsLaneMap F p (canonical_rotation piece r) N free) (sym kind) is) in
+          let fits : rows ≤ N = omega arith in
+          let k = sym kind in
+          let d = sym is_c in
+          let on_board : sky_board t.piece c N free pivot.x y ≡ true = (λ i. sky_board (kind i) (is_c i) N free pivot.x y) ∙ ap (λ (x : ℕ). sky_board piece (canonical_rotation piece r) N free x y) (sym column) ∙ held in
+          let sky_q = (sky_board-exact F rows N clear fits few q y at_q free map_q place.1).0 on_board in
+          let sky_t = sky_same F q t (found_cells q t refl refl (sym pivot.is)) sky_q in
+          let by = near t in
+          let led_to = sky_is_reached F rows t clear (omega arith) sky_t (omega (arith, ints, by.low)) in
+          record { keys = led_to.keys; allowed = λ key d inside. soft_allows d; leads_there = led_to.leads_there }
+
+-- what a turn leads to from a sound board
+module _ (F : Field) (rows N : ℕ) (clear : IsClearFrom rows F) (over : rows + 2 ≤ N) (few : N ≤ 16) (piece : Piece) (from to : Rotation) (free_from free_to : Field)
+    (is_from : IsLaneMap F piece (canonical_rotation piece from) N free_from) (is_to : IsLaneMap F piece (canonical_rotation piece to) N free_to) (lies_from : LiesWithin free_from N) (lies_to : LiesWithin free_to N)
+    (key : Key) (is_key : (s : Placement) → s.rotation ≡ from → step_of srs_table F s key ≡ turned srs_table F s to) (small : list_all (is_low_move piece from to) (kicks_of srs_table piece from to) ≡ true) (S : Field) (sound : IsSoundBoard F piece from free_from S) (lies : LiesWithin S N) where
+  record Turned (a b : ℕ) : Type 0 where
+    t : Placement
+    kind : t.piece ≡ piece
+    turn : t.rotation ≡ to
+    at : IsAt t a b
+    keyed : IsKeyed srs_table F Soft t
+    t_free : is_free F t ≡ true
+
+  turned_there : (a b : ℕ) → Arrived F rows N clear over few piece from to free_to is_to (kicks_of srs_table piece from to) S a b → Turned a b
+  unfolding turned
+  turned_there a b way =
+      let s = state_at_place F N piece from free_from is_from lies_from way.x way.y (sound.within.has way.x way.y way.held) in
+      let keyed = sound.keyed s.s way.x way.y s.kind s.turn s.at way.held in
+      let t : Placement = record { piece = piece; rotation = to; x = way.col; y = way.row } in
+      let goes : turned srs_table F s.s to ≡ Some t = (λ i. first_free F (s.kind i) to (map (moved (back s.pivot i)) (kicks_of srs_table (s.kind i) (s.turn i) to))) ∙ way.turns in
+      let step = is_key s.s s.turn ∙ goes in
+      let there = step_of-free srs_table F s.s key t step in
+      let column = way.column_is in
+      let row = way.lane_is in
+      record {
+        t = t;
+        kind = refl;
+        turn = refl;
+        at = record { column = column; at = row };
+        keyed = one_key F s.s t key (sym s.kind) keyed step;
+        t_free = there.free;
+      }
+    where
+      back : {c d : Cell} → c ≡ d → d ≡ c
+      back e = sym e
+
+  pub arrivals_sound : IsSoundBoard F piece to free_to (arrivals piece from to N free_to S empty_field)
+  unfolding empty_field
+  arrivals_sound = record {
+    within = record {
+      has = λ x y held.
+          let way = reach x y held in
+          let row = way.at.at in
+          free_at_place F N piece to free_to is_to lies_to way.t x y way.kind way.turn way.at (below x y held) way.t_free;
+    };
+    keyed = λ t x y kind turn at held.
+        let way = reach x y held in
+        subst (IsKeyed srs_table F Soft) (same_state F N piece to free_to is_to lies_to way.t t x y way.kind kind way.turn turn way.at at) way.keyed;
+  }
+    where
+      reach : (x y : ℕ) → arrivals piece from to N free_to S empty_field x y ≡ true → Turned x y
+      reach x y held = elim (arrived F rows N clear over few piece from to free_to is_to (kicks_of srs_table piece from to) S empty_field x y small lies held) [
+        | inl none ↦ absurd (false≢true none)
+        | inr way ↦ turned_there x y way
+      ]
+
+      below : (x y : ℕ) → arrivals piece from to N free_to S empty_field x y ≡ true → y < N
+      below x y held = ((turned_within _ N (map (lane_move piece from to) (kicks_of srs_table piece from to)) S empty_field (record { inside = λ x y none. absurd (false≢true none) })).inside x y held).1

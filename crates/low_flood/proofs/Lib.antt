@@ -1,0 +1,12 @@
+-- The lemmas of this crate.
+mod SkyBoards
+mod LaneTurns
+mod LaneClosed
+mod ClassLemmas
+mod LaneMaps
+mod LanePlaceLemmas
+mod LowLemmas
+mod LaneTests
+mod LaneSound
+mod SoftLemmas
+mod SoftPlaces

@@ -1,0 +1,225 @@
+// The places of a soft drop in a low field. `KIND` and `TO` are in no contract. They number the compiled copies, one
+// for each piece and rotation, in which shapes and kicks are constants.
+ghost use Rattle.std.specs.Prelude.{◌≡◌, ◌-◌, ◌≤◌, IsTrue};
+ghost use Rattle.lane_board.specs.Board.{field_of};
+ghost use Rattle.srs.specs.Kick.{srs_table};
+ghost use Rattle.moves.specs.declared.key.DropMode.{DropMode};
+ghost use Rattle.sky.specs.Sky.{IsClearFrom};
+ghost use Rattle.place_sets.specs.PlaceSets.{ArePlaces};
+ghost use Rattle.place_sets.specs.States.{states_of};
+ghost use Rattle.low_flood.specs.SoftLanes.{free_boards, skies, with_rotation, places_of, rests_in, lacking};
+ghost use Rattle.low_flood.specs.SoftLanes.{soft_board, HaveAllRests, AreSpread, IsTurnedInto, IsRound, IsSoftFlood};
+
+use crate::hard::{has_own_cells, lane_pivots};
+use crate::lane_map::{free_lanes, resting_lanes, sky_board};
+use crate::lane_turn::{arrivals, canonical_of};
+use lane_board::LaneBoard;
+use moves::DropMode;
+use place_sets::{Pivots, Shifts, spread};
+use srs::{Piece, Rotation};
+
+/// The canonical placements that have the cells of resting states that keys lead to, if two lanes lie above all cells.
+pub(crate) fn soft_places<const KIND: u8, const N: usize>(
+    filled: &LaneBoard<N>,
+    piece: Piece,
+) -> Pivots<24>
+    requires clear { IsClearFrom (N - 2) (field_of filled.now) }
+    requires few { N ≤ 16 }
+    ensures { ArePlaces srs_table (field_of filled.now) DropMode.Soft piece (states_of result) }
+{
+    let free = free_boards::<KIND, N>(filled, piece);
+    let reached = flood::<KIND, N>(piece, &free);
+    Pivots {
+        spawn: soft_board(piece, Rotation::Spawn, &free, &reached),
+        right: soft_board(piece, Rotation::Right, &free, &reached),
+        reverse: soft_board(piece, Rotation::Reverse, &free, &reached),
+        left: soft_board(piece, Rotation::Left, &free, &reached),
+    }
+}
+
+/// The free places of each rotation, on the board of its canonical rotation.
+fn free_boards<const KIND: u8, const N: usize>(filled: &LaneBoard<N>, piece: Piece) -> Pivots<N>
+    ensures { states_of result ≡ free_boards piece N (field_of filled.now) }
+{
+    Pivots {
+        spawn: free_lanes(filled, piece, canonical_of(piece, Rotation::Spawn)),
+        right: free_lanes(filled, piece, canonical_of(piece, Rotation::Right)),
+        reverse: free_lanes(filled, piece, canonical_of(piece, Rotation::Reverse)),
+        left: free_lanes(filled, piece, canonical_of(piece, Rotation::Left)),
+    }
+}
+
+/// The places that single moves and turns lead to from the sky, or enough of them to have every rest.
+fn flood<const KIND: u8, const N: usize>(piece: Piece, free: &Pivots<N>) -> Pivots<N>
+    ensures { IsSoftFlood piece N (states_of free.now) (states_of result) }
+{
+    let sky = skies::<KIND, N>(piece, free);
+    if has_all_rests::<KIND, N>(piece, free, &sky) {
+        return sky;
+    }
+    let mut reached = spread_all::<KIND, N>(free, &sky);
+    'rounds: loop {
+        if has_all_rests::<KIND, N>(piece, free, &reached) {
+            return reached;
+        }
+        let next = round::<KIND, N>(piece, free, &reached);
+        match next.difference(&reached) {
+            None => return reached,
+            Some(_) => reached = next,
+        }
+    }
+}
+
+/// The places under the open sky, for each rotation.
+fn skies<const KIND: u8, const N: usize>(piece: Piece, free: &Pivots<N>) -> Pivots<N>
+    ensures { states_of result ≡ skies piece N (states_of free.now) }
+{
+    Pivots {
+        spawn: sky_board(piece, canonical_of(piece, Rotation::Spawn), &free.spawn),
+        right: sky_board(piece, canonical_of(piece, Rotation::Right), &free.right),
+        reverse: sky_board(piece, canonical_of(piece, Rotation::Reverse), &free.reverse),
+        left: sky_board(piece, canonical_of(piece, Rotation::Left), &free.left),
+    }
+}
+
+/// The places of each rotation, plus all that single moves lead to from them.
+fn spread_all<const KIND: u8, const N: usize>(free: &Pivots<N>, places: &Pivots<N>) -> Pivots<N>
+    ensures { AreSpread N (states_of free.now) (states_of places.now) (states_of result) }
+{
+    Pivots {
+        spawn: spread(&free.spawn, Shifts::All, &places.spawn),
+        right: spread(&free.right, Shifts::All, &places.right),
+        reverse: spread(&free.reverse, Shifts::All, &places.reverse),
+        left: spread(&free.left, Shifts::All, &places.left),
+    }
+}
+
+/// Turns into each rotation, one after the other.
+fn round<const KIND: u8, const N: usize>(
+    piece: Piece,
+    free: &Pivots<N>,
+    places: &Pivots<N>,
+) -> Pivots<N>
+    ensures { IsRound piece N (states_of free.now) (states_of places.now) (states_of result) }
+{
+    let one = turned_into::<KIND, 0, N>(piece, Rotation::Spawn, free, places);
+    let two = turned_into::<KIND, 1, N>(piece, Rotation::Right, free, &one);
+    let three = turned_into::<KIND, 2, N>(piece, Rotation::Reverse, free, &two);
+    turned_into::<KIND, 3, N>(piece, Rotation::Left, free, &three)
+}
+
+/// The places, plus those that both turns into a rotation lead to, plus all that single moves lead to from there.
+#[inline(always)]
+fn turned_into<const KIND: u8, const TO: u8, const N: usize>(
+    piece: Piece,
+    to: Rotation,
+    free: &Pivots<N>,
+    places: &Pivots<N>,
+) -> Pivots<N>
+    ensures { IsTurnedInto piece N (states_of free.now) to (states_of places.now) (states_of result) }
+{
+    let there = free.board(to);
+    let before = to.anticlockwise();
+    let after = to.clockwise();
+    let clockwise = arrivals::<KIND, TO, true, N>(piece, before, to, there, places.board(before));
+    let anticlockwise = arrivals::<KIND, TO, false, N>(
+        piece,
+        after,
+        to,
+        there,
+        places.board(after),
+    );
+    let wide = places.board(to).or(&clockwise.or(&anticlockwise));
+    places.with(to, &spread(there, Shifts::All, &wide))
+}
+
+/// Whether the places include every resting state.
+fn has_all_rests<const KIND: u8, const N: usize>(
+    piece: Piece,
+    free: &Pivots<N>,
+    places: &Pivots<N>,
+) -> bool
+    ensures { IsTrue result → HaveAllRests piece N (states_of free.now) (states_of places.now) }
+{
+    lacks(piece, Rotation::Spawn, free, places)
+        .or(&lacks(piece, Rotation::Right, free, places))
+        .or(&lacks(piece, Rotation::Reverse, free, places))
+        .or(&lacks(piece, Rotation::Left, free, places))
+        .is_empty()
+}
+
+/// The rests of a canonical rotation that are not among the places.
+#[tactic(auto, unfolding(crate::specs::SoftLanes::lacking))]
+#[inline(always)]
+fn lacks<const N: usize>(
+    piece: Piece,
+    rotation: Rotation,
+    free: &Pivots<N>,
+    places: &Pivots<N>,
+) -> LaneBoard<N>
+    ensures { field_of result ≡ lacking piece N (states_of free.now) (states_of places.now) rotation }
+{
+    if !has_own_cells(piece, rotation) {
+        return LaneBoard::empty();
+    }
+    rests_in(free, rotation).minus(&places_of(piece, places, rotation))
+}
+
+/// All free places of a rotation at which a state rests.
+#[tactic(auto, unfolding(crate::specs::SoftLanes::rests_in))]
+#[inline(always)]
+fn rests_in<const N: usize>(free: &Pivots<N>, rotation: Rotation) -> LaneBoard<N>
+    ensures { field_of result ≡ rests_in N (states_of free.now) rotation }
+{
+    let board = free.board(rotation);
+    resting_lanes(board, board)
+}
+
+/// The places of all rotations that have the given canonical rotation.
+#[tactic(auto, unfolding(crate::specs::SoftLanes::places_of))]
+#[inline(always)]
+fn places_of<const N: usize>(piece: Piece, places: &Pivots<N>, canonical: Rotation) -> LaneBoard<N>
+    ensures { field_of result ≡ places_of piece (states_of places.now) canonical }
+{
+    let none = LaneBoard::empty();
+    let one = with_rotation(piece, places, canonical, Rotation::Spawn, &none);
+    let two = with_rotation(piece, places, canonical, Rotation::Right, &one);
+    let three = with_rotation(piece, places, canonical, Rotation::Reverse, &two);
+    with_rotation(piece, places, canonical, Rotation::Left, &three)
+}
+
+/// The board, plus the places of a rotation if its canonical rotation is the given one.
+#[tactic(auto, unfolding(crate::specs::SoftLanes::with_rotation))]
+#[inline(always)]
+fn with_rotation<const N: usize>(
+    piece: Piece,
+    places: &Pivots<N>,
+    canonical: Rotation,
+    rotation: Rotation,
+    board: &LaneBoard<N>,
+) -> LaneBoard<N>
+    ensures { field_of result ≡ with_rotation piece (states_of places.now) canonical rotation (field_of board.now) }
+{
+    if canonical_of(piece, rotation).place() != canonical.place() {
+        return *board;
+    }
+    board.or(places.board(rotation))
+}
+
+/// The canonical placements in a rotation that rest at one of the places.
+#[tactic(auto, unfolding(crate::specs::SoftLanes::soft_board))]
+#[inline(always)]
+fn soft_board<const N: usize>(
+    piece: Piece,
+    rotation: Rotation,
+    free: &Pivots<N>,
+    places: &Pivots<N>,
+) -> LaneBoard<24>
+    ensures { field_of result ≡ soft_board piece N (states_of free.now) (states_of places.now) rotation }
+{
+    if !has_own_cells(piece, rotation) {
+        return LaneBoard::empty();
+    }
+    let rests = rests_in(free, rotation).and(&places_of(piece, places, rotation));
+    lane_pivots(piece, rotation, &rests)
+}

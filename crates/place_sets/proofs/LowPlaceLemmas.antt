@@ -1,0 +1,301 @@
+-- Placements in low rows, by the words that have their pivots.
+use Rattle.std.proofs.Common.{◌≡◌, ◌≢◌, ◌↔◌, ℕ, zero, suc, ◌+◌, ◌-◌, ◌*◌, ◌/◌, ◌%◌, ◌<◌, ◌≤◌, Bool, true, false, nat_lt, ◌&&◌, not, ◌==◌, Option, Some, None, List, length, set, get_or, get_or-set_other, get_or-set_same, ◌⊎◌, refl, sym, ap, ◌∙◌, inl, inr, arith}
+use Rattle.std.specs.Prelude.{IsTrue}
+use Rattle.std.proofs.lemmas.Bool.{and_parts, and_from, both_ways, cases_Bool, cases_eq, cases_lt, cases_order, eq-eqb, eqb-true, lt-ltb, ltb-true, ne_eqb, not-true, not_from_false}
+use Rattle.lane_board.specs.Lanes.{has_bit}
+use Rattle.lane_board.specs.Words.{cells_of_words}
+use Rattle.lane_board.proofs.CallerLemmas.{has_bit-zero, same_from_both}
+use Rattle.srs.specs.declared.piece.Piece.{Piece}
+use Rattle.srs.specs.declared.rotation.Rotation.{Rotation}
+use Rattle.srs.specs.declared.rotation.Rotation.TheVariants.{Spawn, Right, Reverse, Left}
+use Rattle.srs.specs.declared.placement.Placement.{Placement}
+use Rattle.lane_board.specs.Field.{Field}
+use Rattle.srs.specs.Kick.{Table}
+use Rattle.srs.specs.Order.{placement_cmp}
+use Rattle.srs.specs.Piece.{piece_code}
+use Rattle.srs.specs.Rotation.{rotation_place}
+use Rattle.srs.proofs.CallerLemmas.{piece_code-injective, rotation_place-injective}
+use Rattle.lists.specs.Rising.{IsNextAbove}
+use Rattle.well.specs.LockLaws.{is_below}
+use Rattle.moves.specs.declared.key.DropMode.{DropMode}
+use Rattle.moves.specs.Place.{IsPlace}
+use Rattle.place_sets.specs.PlaceSets.{ArePlaces}
+use Rattle.place_sets.specs.declared.low_held.LowPlaces.{LowPlaces}
+use Rattle.place_sets.specs.LowestBit.{IsLowestBit}
+use Rattle.place_sets.specs.LowPlaces.{holds}
+use Rattle.place_sets.specs.Scan.{state_number}
+use Rattle.place_sets.specs.States.{States, has_state}
+use Rattle.place_sets.specs.Tops.{rows_over_pivot}
+use Rattle.place_sets.proofs.FieldLemmas.{LiesWithin}
+use Rattle.place_sets.proofs.PlaceNumbers.{few_places}
+use Rattle.place_sets.proofs.ScanLemmas.{number_less}
+use Rattle.place_sets.proofs.TakeLemmas.{below_by_pivot}
+
+-- each of eight words
+pub each_word : (P : ℕ → Type 0) → P 0 → P 1 → P 2 → P 3 → P 4 → P 5 → P 6 → P 7 → (w : ℕ) → w < 8 → P w
+each_word P a b c d e f g h zero small = a
+each_word P a b c d e f g h (suc zero) small = b
+each_word P a b c d e f g h (suc (suc zero)) small = c
+each_word P a b c d e f g h (suc (suc (suc zero))) small = d
+each_word P a b c d e f g h (suc (suc (suc (suc zero)))) small = e
+each_word P a b c d e f g h (suc (suc (suc (suc (suc zero))))) small = f
+each_word P a b c d e f g h (suc (suc (suc (suc (suc (suc zero)))))) small = g
+each_word P a b c d e f g h (suc (suc (suc (suc (suc (suc (suc zero))))))) small = h
+each_word P a b c d e f g h (suc (suc (suc (suc (suc (suc (suc (suc w)))))))) small = absurd (omega arith)
+
+-- the word and the bit of a cell
+abbrev pub word_of : ℕ → ℕ → ℕ
+word_of place y = 2 * place + y / 4
+
+abbrev pub bit_of : ℕ → ℕ → ℕ
+bit_of x y = 16 * (y % 4) + x
+
+module _ (words : List ℕ) (place x y : ℕ) where
+  pub cell-parts : cells_of_words words place x y ≡ true → (x < 16) × (y < 8) × (has_bit (get_or words (word_of place y) 0) (bit_of x y) ≡ true)
+  unfolding cells_of_words
+  cell-parts has =
+      let parts = and_parts (nat_lt x 16 && nat_lt y 8) _ has in
+      let sides = and_parts (nat_lt x 16) (nat_lt y 8) parts.0 in
+      (ltb-true x 16 sides.0, ltb-true y 8 sides.1, parts.1)
+
+  pub cell-from : x < 16 → y < 8 → has_bit (get_or words (word_of place y) 0) (bit_of x y) ≡ true → cells_of_words words place x y ≡ true
+  unfolding cells_of_words
+  cell-from column row has = and_from _ _ (and_from _ _ (lt-ltb x 16 column) (lt-ltb y 8 row)) has
+
+module _ (places : LowPlaces) where
+  pub low_holds-parts : (q : Placement) → IsTrue (holds places q) → (q.piece ≡ places.piece) × (cells_of_words places.words (rotation_place q.rotation) q.x q.y ≡ true)
+  unfolding holds
+  low_holds-parts q held =
+      let parts = and_parts (piece_code q.piece == piece_code places.piece) _ held in
+      (piece_code-injective q.piece places.piece (eqb-true _ _ parts.0), parts.1)
+
+  pub low_holds-from : (q : Placement) → q.piece ≡ places.piece → cells_of_words places.words (rotation_place q.rotation) q.x q.y ≡ true → IsTrue (holds places q)
+  unfolding holds
+  low_holds-from q kind held = and_from _ _ (eq-eqb _ _ (ap (λ (p : Piece). piece_code p) kind)) held
+
+-- where all words are empty, nothing is held
+pub low_none : (places : LowPlaces) → ((w : ℕ) → w < 8 → get_or places.words w 0 ≡ 0) → (q : Placement) → IsTrue (holds places q) → ⊥
+low_none places empty q held =
+    let cell = cell-parts places.words (rotation_place q.rotation) q.x q.y (low_holds-parts places q held).1 in
+    both_ways _ (has_bit-zero (bit_of q.x q.y)) (ap (λ n. has_bit n (bit_of q.x q.y)) (sym (empty (word_of (rotation_place q.rotation) q.y) (omega (arith, few_places q.rotation, cell.1)))) ∙ cell.2)
+
+-- the placement of a bit
+pub record IsAt (piece : Piece) (at bit : ℕ) (s : Placement) : Type 0 where
+  pub kind : s.piece ≡ piece
+  pub rotation : rotation_place s.rotation ≡ at / 2
+  pub row : s.y ≡ 4 * (at % 2) + bit / 16
+  pub column : s.x ≡ bit % 16
+
+-- it is the one of its piece with its word and its bit
+pub same_place : (piece : Piece) (at bit : ℕ) (s q : Placement) → bit < 64 → IsAt piece at bit s → q.piece ≡ piece → q.x < 16 → q.y < 8 → word_of (rotation_place q.rotation) q.y ≡ at → bit_of q.x q.y ≡ bit → s ≡ q
+same_place piece at bit s q within is kind narrow low word place =
+    let turn : rotation_place s.rotation ≡ rotation_place q.rotation = omega (arith, is.rotation) in
+    let rotation = rotation_place-injective s.rotation q.rotation turn in
+    let x : s.x ≡ q.x = omega (arith, is.column) in
+    let y : s.y ≡ q.y = omega (arith, is.row) in
+    λ i. record { piece = (is.kind ∙ sym kind) i; rotation = rotation i; x = x i; y = y i }
+
+-- the lowest bit of the first word that has one
+module _ (places : LowPlaces) (at bit : ℕ) (small : at < 8) (within : bit < 64) (before : (w : ℕ) → w < at → get_or places.words w 0 ≡ 0)
+    (lowest : IsLowestBit (get_or places.words at 0) bit) (s : Placement) (is : IsAt places.piece at bit s) where
+  first_held : IsTrue (holds places s)
+  first_held =
+      let word : at ≡ word_of (rotation_place s.rotation) s.y = omega (arith, is.rotation, is.row) in
+      let place : bit ≡ bit_of s.x s.y = omega (arith, is.row, is.column) in
+      low_holds-from places s is.kind
+      (cell-from places.words (rotation_place s.rotation) s.x s.y (omega (arith, is.column)) (omega (arith, is.row))
+      ((λ i. has_bit (get_or places.words (sym word i) 0) (sym place i)) ∙ lowest.has))
+
+  comes_later : (q : Placement) → IsTrue (holds places q) → state_number s ≤ state_number q
+  comes_later q held =
+      let cell = cell-parts places.words (rotation_place q.rotation) q.x q.y (low_holds-parts places q held).1 in
+      let word = word_of (rotation_place q.rotation) q.y in
+      elim (cases_order word at) [
+        | inl same ↦
+            let least = lowest.first (bit_of q.x q.y) (ap (λ w. has_bit (get_or places.words w 0) (bit_of q.x q.y)) (sym same) ∙ cell.2) in
+            omega (arith, same, least, is.rotation, is.row, is.column, cell.0, cell.1)
+        | inr apart ↦ elim apart [
+          | inl under ↦ absurd (both_ways _ (has_bit-zero (bit_of q.x q.y)) (ap (λ n. has_bit n (bit_of q.x q.y)) (sym (before word under)) ∙ cell.2))
+          | inr over ↦ omega (arith, over, is.rotation, is.row, is.column, cell.0, cell.1)
+        ]
+      ]
+
+  pub low_least : IsNextAbove placement_cmp (λ q. IsTrue (holds places q)) None (Some s)
+  low_least = record {
+    member = first_held;
+    above = refl;
+    least = λ q held above less.
+        let parts = low_holds-parts places q held in
+        let cell = cell-parts places.words (rotation_place q.rotation) q.x q.y parts.1 in
+        let fewer = number_less q s record { column = omega (arith, cell.0); row = omega (arith, cell.1) } record { column = omega (arith, is.column); row = omega (arith, is.row) } (parts.0 ∙ sym is.kind) less in
+        omega (arith, fewer, comes_later q held);
+  }
+
+  -- it is taken out
+  module _ (new : LowPlaces) (kind : new.piece ≡ places.piece) (whole : length places.words ≡ 8) (word : ℕ) (changed : new.words ≡ set places.words at word)
+      (bits : (k : ℕ) → k < 64 → has_bit word k ≡ (has_bit (get_or places.words at 0) k && not (k == bit))) where
+    -- what bit a word has
+    bit_in : (w k : ℕ) → k < 64 → has_bit (get_or new.words w 0) k ≡ (has_bit (get_or places.words w 0) k && not ((w == at) && (k == bit)))
+    bit_in w k few = elim (cases_eq w at) [
+      | inl same ↦
+          let inside : at < length places.words = omega (arith, whole, small) in
+          ap (λ (ws : List ℕ). has_bit (get_or ws w 0) k) changed ∙ ap (λ w. has_bit (get_or (set places.words at word) w 0) k) same
+          ∙ ap (λ n. has_bit n k) (get_or-set_same places.words at word 0 inside) ∙ bits k few
+          ∙ (λ i. has_bit (get_or places.words (sym same i) 0) k && not (sym (eq-eqb w at same) i && (k == bit)))
+      | inr other ↦
+          ap (λ (ws : List ℕ). has_bit (get_or ws w 0) k) changed ∙ ap (λ n. has_bit n k) (get_or-set_other places.words at w word 0 other)
+          ∙ all_stay _ ∙ ap (λ b. has_bit (get_or places.words w 0) k && not (b && (k == bit))) (sym (ne_eqb w at other))
+    ]
+      where
+        all_stay : (b : Bool) → b ≡ (b && true)
+        all_stay true = refl
+        all_stay false = refl
+
+    pub low_rest : (q : Placement) → IsTrue (holds new q) ↔ (IsTrue (holds places q) × (Some s ≢ Some q))
+    low_rest q = (there, back)
+      where
+        w : ℕ
+        w = word_of (rotation_place q.rotation) q.y
+
+        k : ℕ
+        k = bit_of q.x q.y
+
+        there : IsTrue (holds new q) → IsTrue (holds places q) × (Some s ≢ Some q)
+        there held =
+            let parts = low_holds-parts new q held in
+            let cell = cell-parts new.words (rotation_place q.rotation) q.x q.y parts.1 in
+            let both = and_parts (has_bit (get_or places.words w 0) k) _ (sym (bit_in w k (omega (arith, cell.0))) ∙ cell.2) in (
+              low_holds-from places q (parts.0 ∙ kind) (cell-from places.words (rotation_place q.rotation) q.x q.y cell.0 cell.1 both.0),
+              λ e.
+                  let word : w ≡ at = ap (λ (o : Option Placement). word_in o) (sym e) ∙ omega (arith, is.rotation, is.row) in
+                  let place : k ≡ bit = ap (λ (o : Option Placement). bit_in_word o) (sym e) ∙ omega (arith, is.row, is.column) in
+                  both_ways _ (not-true _ both.1) (and_from _ _ (eq-eqb w at word) (eq-eqb k bit place)),
+            )
+          where
+            word_in : Option Placement → ℕ
+            word_in None = 0
+            word_in (Some t) = word_of (rotation_place t.rotation) t.y
+
+            bit_in_word : Option Placement → ℕ
+            bit_in_word None = 0
+            bit_in_word (Some t) = bit_of t.x t.y
+
+        back : IsTrue (holds places q) × (Some s ≢ Some q) → IsTrue (holds new q)
+        back (held, apart) =
+            let parts = low_holds-parts places q held in
+            let cell = cell-parts places.words (rotation_place q.rotation) q.x q.y parts.1 in
+            low_holds-from new q (parts.0 ∙ sym kind)
+            (cell-from new.words (rotation_place q.rotation) q.x q.y cell.0 cell.1
+            (bit_in w k (omega (arith, cell.0)) ∙ and_from _ _ cell.2 (other (cases_Bool ((w == at) && (k == bit))))))
+          where
+            other : (((w == at) && (k == bit)) ≡ true) ⊎ (((w == at) && (k == bit)) ≡ false) → not ((w == at) && (k == bit)) ≡ true
+            other (inl same) =
+                let parts = low_holds-parts places q held in
+                let cell = cell-parts places.words (rotation_place q.rotation) q.x q.y parts.1 in
+                let both = and_parts (w == at) (k == bit) same in
+                absurd (apart (ap (λ (t : Placement). Some t) (same_place places.piece at bit s q within is parts.0 cell.0 cell.1 (eqb-true w at both.0) (eqb-true k bit both.1))))
+            other (inr none) = not_from_false _ none
+
+-- words that have lost the bits of others
+pub cells-lost : (old new others : List ℕ) → ((w : ℕ) → w < 8 → (k : ℕ) → has_bit (get_or new w 0) k ≡ (has_bit (get_or old w 0) k && not (has_bit (get_or others w 0) k))) → (place x y : ℕ) → place < 4 →
+    cells_of_words new place x y ≡ (cells_of_words old place x y && not (cells_of_words others place x y))
+unfolding cells_of_words
+cells-lost old new others lost place x y few = elim (cases_Bool (nat_lt x 16 && nat_lt y 8)) [
+  | inl in_reach ↦
+      let row = ltb-true y 8 (and_parts (nat_lt x 16) (nat_lt y 8) in_reach).1 in
+      ap (λ b. b && bit new) in_reach ∙ lost (word_of place y) (omega (arith, few, row)) (bit_of x y) ∙ ap (λ b. (b && bit old) && not (b && bit others)) (sym in_reach)
+  | inr out ↦ ap (λ b. b && bit new) out ∙ ap (λ b. (b && bit old) && not (b && bit others)) (sym out)
+]
+  where
+    bit : List ℕ → Bool
+    bit words = has_bit (get_or words (word_of place y) 0) (bit_of x y)
+
+-- the word has four rows of a rotation from a row on, without those past a limit
+abbrev pub CutFrom : States → Rotation → ℕ → ℕ → ℕ → Type 0
+CutFrom S r row limit word = (k : ℕ) → k < 64 → has_bit word k ≡ (S r (k % 16) (row + k / 16) && nat_lt k (16 * (limit - row)))
+
+-- two words that have the rows of a rotation below a limit
+pub cut_cells : (S : States) (words : List ℕ) (limit : ℕ) (r : Rotation) → LiesWithin (S r) 24 → limit ≤ 8 →
+    CutFrom S r 0 limit (get_or words (2 * rotation_place r) 0) → CutFrom S r 4 limit (get_or words (2 * rotation_place r + 1) 0) → (x y : ℕ) →
+    cells_of_words words (rotation_place r) x y ≡ (S r x y && nat_lt y limit)
+cut_cells S words limit r lies low first second x y = same_from_both _ _ there back
+  where
+    at : x < 16 → y < 8 → has_bit (get_or words (word_of (rotation_place r) y) 0) (bit_of x y) ≡ (S r x y && nat_lt y limit)
+    at column row = elim (cases_lt y 4) [
+      | inl under ↦
+          let word : word_of (rotation_place r) y ≡ 2 * rotation_place r = omega (arith, under) in
+          let p : bit_of x y % 16 ≡ x = omega (arith, column) in
+          let q : 0 + bit_of x y / 16 ≡ y = omega (arith, column, under) in
+          ap (λ w. has_bit (get_or words w 0) (bit_of x y)) word ∙ first (bit_of x y) (omega (arith, column)) ∙ (λ i. S r (p i) (q i) && nat_lt (bit_of x y) (16 * (limit - 0)))
+          ∙ ap (λ b. S r x y && b) (same_from_both (nat_lt (bit_of x y) (16 * (limit - 0))) (nat_lt y limit)
+          (λ is. lt-ltb y limit (omega (arith, ltb-true (bit_of x y) (16 * (limit - 0)) is, under)))
+          (λ is. lt-ltb (bit_of x y) (16 * (limit - 0)) (omega (arith, ltb-true y limit is, column, under))))
+      | inr over ↦
+          let word : word_of (rotation_place r) y ≡ 2 * rotation_place r + 1 = omega (arith, over, row) in
+          let p : bit_of x y % 16 ≡ x = omega (arith, column) in
+          let q : 4 + bit_of x y / 16 ≡ y = omega (arith, column, over, row) in
+          ap (λ w. has_bit (get_or words w 0) (bit_of x y)) word ∙ second (bit_of x y) (omega (arith, column)) ∙ (λ i. S r (p i) (q i) && nat_lt (bit_of x y) (16 * (limit - 4)))
+          ∙ ap (λ b. S r x y && b) (same_from_both (nat_lt (bit_of x y) (16 * (limit - 4))) (nat_lt y limit)
+          (λ is. lt-ltb y limit (omega (arith, ltb-true (bit_of x y) (16 * (limit - 4)) is, over, row)))
+          (λ is. lt-ltb (bit_of x y) (16 * (limit - 4)) (omega (arith, ltb-true y limit is, column, over, row))))
+    ]
+
+    there : cells_of_words words (rotation_place r) x y ≡ true → (S r x y && nat_lt y limit) ≡ true
+    there has = let cell = cell-parts words (rotation_place r) x y has in sym (at cell.0 cell.1) ∙ cell.2
+
+    back : (S r x y && nat_lt y limit) ≡ true → cells_of_words words (rotation_place r) x y ≡ true
+    back has =
+        let parts = and_parts (S r x y) (nat_lt y limit) has in
+        let place = lies.inside x y parts.0 in
+        let column : x < 16 = omega (arith, place.0) in
+        let row : y < 8 = omega (arith, ltb-true y limit parts.1, low) in
+        cell-from words (rotation_place r) x y column row (at column row ∙ has)
+
+-- the states that lie so low
+pub low_filled : (new : LowPlaces) (piece : Piece) (S : States) (rows : ℕ) → new.piece ≡ piece →
+    ((r : Rotation) (x y : ℕ) → cells_of_words new.words (rotation_place r) x y ≡ (S r x y && nat_lt y (rows - rows_over_pivot piece r))) → (q : Placement) →
+    IsTrue (holds new q) ↔ ((q.piece ≡ piece) × (has_state S q ≡ true) × IsTrue (is_below rows q))
+unfolding has_state
+low_filled new piece S rows kind fills q = (there, back)
+  where
+    same : q.piece ≡ piece → nat_lt q.y (rows - rows_over_pivot piece q.rotation) ≡ nat_lt q.y (rows - rows_over_pivot q.piece q.rotation)
+    same k = ap (λ (p : Piece). nat_lt q.y (rows - rows_over_pivot p q.rotation)) (sym k)
+
+    there : IsTrue (holds new q) → (q.piece ≡ piece) × (has_state S q ≡ true) × IsTrue (is_below rows q)
+    there held =
+        let parts = low_holds-parts new q held in
+        let k = parts.0 ∙ kind in
+        let both = and_parts (S q.rotation q.x q.y) _ (sym (fills q.rotation q.x q.y) ∙ parts.1) in
+        (k, both.0, (below_by_pivot rows q).0 (sym (same k) ∙ both.1))
+
+    back : (q.piece ≡ piece) × (has_state S q ≡ true) × IsTrue (is_below rows q) → IsTrue (holds new q)
+    back (k, has, low) =
+        low_holds-from new q (k ∙ sym kind) (fills q.rotation q.x q.y ∙ and_from _ _ has (same k ∙ (below_by_pivot rows q).1 low))
+
+-- eight words that have the states that lie so low
+module _ (new : LowPlaces) (piece : Piece) (S : States) (rows : ℕ) (left : List ℕ) (low : rows ≤ 8) (lies : (r : Rotation) → LiesWithin (S r) 24)
+    (limits : (r : Rotation) → get_or left (rotation_place r) 0 ≡ rows - rows_over_pivot piece r)
+    (a : CutFrom S Spawn 0 (get_or left 0 0) (get_or new.words 0 0)) (b : CutFrom S Spawn 4 (get_or left 0 0) (get_or new.words 1 0))
+    (c : CutFrom S Right 0 (get_or left 1 0) (get_or new.words 2 0)) (d : CutFrom S Right 4 (get_or left 1 0) (get_or new.words 3 0))
+    (e : CutFrom S Reverse 0 (get_or left 2 0) (get_or new.words 4 0)) (f : CutFrom S Reverse 4 (get_or left 2 0) (get_or new.words 5 0))
+    (g : CutFrom S Left 0 (get_or left 3 0) (get_or new.words 6 0)) (h : CutFrom S Left 4 (get_or left 3 0) (get_or new.words 7 0)) where
+  few : (r : Rotation) → get_or left (rotation_place r) 0 ≤ 8
+  few r = omega (arith, limits r, low)
+
+  cells : (r : Rotation) (x y : ℕ) → cells_of_words new.words (rotation_place r) x y ≡ (S r x y && nat_lt y (get_or left (rotation_place r) 0))
+  cells Spawn = cut_cells S new.words (get_or left 0 0) Spawn (lies Spawn) (few Spawn) a b
+  cells Right = cut_cells S new.words (get_or left 1 0) Right (lies Right) (few Right) c d
+  cells Reverse = cut_cells S new.words (get_or left 2 0) Reverse (lies Reverse) (few Reverse) e f
+  cells Left = cut_cells S new.words (get_or left 3 0) Left (lies Left) (few Left) g h
+
+  pub eight_filled : new.piece ≡ piece → (q : Placement) → IsTrue (holds new q) ↔ ((q.piece ≡ piece) × (has_state S q ≡ true) × IsTrue (is_below rows q))
+  eight_filled kind = low_filled new piece S rows kind (λ r x y. cells r x y ∙ ap (λ limit. S r x y && nat_lt y limit) (limits r))
+
+-- the places among the states that lie so low
+pub low_places_held : (table : Table) (F : Field) (mode : DropMode) (piece : Piece) (rows : ℕ) (places : LowPlaces) (S : States) →
+    ((q : Placement) → IsTrue (holds places q) ↔ ((q.piece ≡ piece) × (has_state S q ≡ true) × IsTrue (is_below rows q))) → ArePlaces table F mode piece S →
+    (q : Placement) → IsTrue (holds places q) ↔ ((q.piece ≡ piece) × IsPlace table F mode q × IsTrue (is_below rows q))
+low_places_held table F mode piece rows places S filled are q = (
+  λ held. let parts = (filled q).0 held in (parts.0, (are.exact q parts.0).0 parts.1, parts.2),
+  λ place. (filled q).1 (place.0, (are.exact q place.0).1 place.1, place.2),
+)

@@ -1,0 +1,163 @@
+-- The order of placements is that of their numbers, and a scan begins where the numbers do.
+use Rattle.std.proofs.Common.{◌≡◌, ◌↔◌, ℕ, ◌+◌, ◌<◌, ◌≤◌, true, ◌==◌, ◌&&◌, cond, Option, Some, None, refl, sym, ap, subst, ◌∙◌, inl, inr, ◌⊎◌, arith}
+use Rattle.std.specs.Prelude.{IsTrue, IfSome}
+use Rattle.std.specs.Ordering.{ordering_then, nat_cmp}
+use Rattle.std.specs.declared.cmp.Ordering.{Ordering}
+use Rattle.std.specs.declared.cmp.Ordering.TheVariants.{Less, Equal, Greater}
+use Rattle.std.proofs.lemmas.Bool.{cases_order, cond-true, cond-false, le-ltb, eq-eqb, ne_eqb, eqb-true, and_parts, and_from}
+use Rattle.lane_board.specs.Field.{Field}
+use Rattle.srs.specs.declared.piece.Piece.{Piece}
+use Rattle.srs.specs.declared.placement.Placement.{Placement}
+use Rattle.srs.specs.Piece.{piece_code}
+use Rattle.srs.specs.Rotation.{rotation_place}
+use Rattle.srs.specs.Kick.{Table}
+use Rattle.srs.specs.Order.{placement_cmp}
+use Rattle.moves.specs.declared.key.DropMode.{DropMode}
+use Rattle.moves.specs.Place.{IsPlace}
+use Rattle.lists.specs.Rising.{is_before, IsNextAbove}
+use Rattle.srs.proofs.CallerLemmas.{piece_code-injective}
+use Rattle.lists.proofs.CallerLemmas.{below_is_less, is_before-decides}
+use Rattle.place_sets.specs.declared.held.Places.{Places}
+use Rattle.place_sets.specs.Places.{holds, piece_of}
+use Rattle.place_sets.specs.PlaceSets.{ArePlaces}
+use Rattle.place_sets.specs.Numbers.{states_in}
+use Rattle.place_sets.specs.Scan.{state_number, IsStateFrom}
+use Rattle.place_sets.specs.States.{States, has_state}
+use Rattle.place_sets.proofs.PlaceNumbers.{number-within}
+
+same_is_equal : (m n : ℕ) → m ≡ n → nat_cmp m n ≡ Equal
+same_is_equal m n e = cond-false _ Less (cond (m == n) Equal Greater) (le-ltb m n (omega arith)) ∙ cond-true _ Equal Greater (eq-eqb m n e)
+
+above_is_greater : (m n : ℕ) → n < m → nat_cmp m n ≡ Greater
+above_is_greater m n above = cond-false _ Less (cond (m == n) Equal Greater) (le-ltb m n (omega arith)) ∙ cond-false _ Equal Greater (ne_eqb m n (λ e. omega arith))
+
+-- the first comparison decides, or else the next
+then_less : (m n : ℕ) (o : Ordering) → ordering_then (nat_cmp m n) o ≡ Less → (m < n) ⊎ ((m ≡ n) × (o ≡ Less))
+then_less m n o less = elim (cases_order m n) [
+  | inl same ↦ inr (same, sym (ap (λ (a : Ordering). ordering_then a o) (same_is_equal m n same)) ∙ less)
+  | inr apart ↦ elim apart [
+    | inl below ↦ inl below
+    | inr above ↦ absurd (not_less (sym (ap (λ (a : Ordering). ordering_then a o) (above_is_greater m n above)) ∙ less))
+  ]
+]
+  where
+    not_less : Greater ≡ Less → ⊥
+    not_less e = cc
+
+less_then : (m n : ℕ) (o : Ordering) → (m < n) ⊎ ((m ≡ n) × (o ≡ Less)) → ordering_then (nat_cmp m n) o ≡ Less
+less_then m n o (inl below) = ap (λ (a : Ordering). ordering_then a o) (below_is_less m n below)
+less_then m n o (inr same) = ap (λ (a : Ordering). ordering_then a o) (same_is_equal m n same.0) ∙ same.1
+
+less_is_below : (m n : ℕ) → nat_cmp m n ≡ Less → m < n
+less_is_below m n less = elim (then_less m n Equal (ap (λ (a : Ordering). ordering_then a Equal) less)) [
+  | inl below ↦ below
+  | inr same ↦ absurd (not_less same.1)
+]
+  where
+    not_less : Equal ≡ Less → ⊥
+    not_less e = cc
+
+-- a state whose column and row are bytes
+pub record IsByte (s : Placement) : Type 0 where
+  pub column : s.x < 256
+  pub row : s.y < 256
+
+pub number_less : (s t : Placement) → IsByte s → IsByte t → s.piece ≡ t.piece → placement_cmp s t ≡ Less → state_number s < state_number t
+number_less s t p q kind less = elim (then_less (piece_code s.piece) (piece_code t.piece) _ less) [
+  | inl other ↦ absurd (let same : piece_code s.piece ≡ piece_code t.piece = ap (λ (p : Piece). piece_code p) kind in omega (arith, other, same))
+  | inr one ↦ elim (then_less (rotation_place s.rotation) (rotation_place t.rotation) (ordering_then (nat_cmp s.y t.y) (nat_cmp s.x t.x)) one.1) [
+    | inl turn ↦ omega (arith, p.column, p.row, turn)
+    | inr two ↦ elim (then_less s.y t.y (nat_cmp s.x t.x) two.1) [
+      | inl row ↦ omega (arith, p.column, row, two.0)
+      | inr three ↦ omega (arith, less_is_below s.x t.x three.1, three.0, two.0)
+    ]
+  ]
+]
+
+pub less_number : (s t : Placement) → IsByte s → IsByte t → s.piece ≡ t.piece → state_number s < state_number t → placement_cmp s t ≡ Less
+less_number s t p q kind less =
+    less_then _ _ _ (inr (ap (λ (p : Piece). piece_code p) kind, less_then _ _ _ (by_rotation (cases_order (rotation_place s.rotation) (rotation_place t.rotation)))))
+  where
+    by_column : s.x < t.x → nat_cmp s.x t.x ≡ Less
+    by_column below = below_is_less s.x t.x below
+
+    by_row : rotation_place s.rotation ≡ rotation_place t.rotation → (s.y ≡ t.y) ⊎ ((s.y < t.y) ⊎ (t.y < s.y)) → (s.y < t.y) ⊎ ((s.y ≡ t.y) × (nat_cmp s.x t.x ≡ Less))
+    by_row turn (inl same) = inr (same, by_column (omega (arith, less, turn, same)))
+    by_row turn (inr (inl below)) = inl below
+    by_row turn (inr (inr above)) = absurd (omega (arith, less, turn, above, q.column, p.column))
+
+    by_rotation : (rotation_place s.rotation ≡ rotation_place t.rotation) ⊎ ((rotation_place s.rotation < rotation_place t.rotation) ⊎ (rotation_place t.rotation < rotation_place s.rotation)) →
+        (rotation_place s.rotation < rotation_place t.rotation) ⊎ ((rotation_place s.rotation ≡ rotation_place t.rotation) × (ordering_then (nat_cmp s.y t.y) (nat_cmp s.x t.x) ≡ Less))
+    by_rotation (inl same) = inr (same, less_then s.y t.y _ (by_row same (cases_order s.y t.y)))
+    by_rotation (inr (inl below)) = inl below
+    by_rotation (inr (inr above)) = absurd (omega (arith, less, above, q.column, q.row))
+
+-- what the places hold
+module _ (places : Places) where
+  pub holds-parts : (q : Placement) → IsTrue (holds places q) → (q.piece ≡ places.piece) × (has_state (states_in places.numbers) q ≡ true)
+  unfolding holds
+  holds-parts q held =
+      let parts = and_parts (piece_code q.piece == piece_code places.piece) _ held in
+      (piece_code-injective q.piece places.piece (eqb-true _ _ parts.0), parts.1)
+
+  pub holds-from : (q : Placement) → q.piece ≡ places.piece → has_state (states_in places.numbers) q ≡ true → IsTrue (holds places q)
+  unfolding holds
+  holds-from q kind held = and_from _ _ (eq-eqb _ _ (ap (λ (p : Piece). piece_code p) kind)) held
+
+  held_byte : (q : Placement) → has_state (states_in places.numbers) q ≡ true → IsByte q
+  unfolding has_state
+  held_byte q held = let inside = number-within places.numbers q.rotation q.x q.y held in record { column = omega (arith, inside.0); row = omega (arith, inside.1) }
+
+  -- the least of all
+  pub next_of_all : (result : Option Placement) → IsStateFrom (states_in places.numbers) places.piece 0 result → IsNextAbove placement_cmp (λ q. IsTrue (holds places q)) None result
+  next_of_all None is = record { none = λ q held above. is.none q (omega arith) (holds-parts q held).1 }
+  next_of_all (Some s) is = record {
+    member = holds-from s is.kind is.held;
+    above = refl;
+    least = λ q held above less.
+        let parts = holds-parts q held in
+        let fewer = number_less q s (held_byte q parts.1) (held_byte s is.held) (parts.0 ∙ sym is.kind) less in
+        omega (arith, fewer, is.first q (omega arith) parts.1);
+  }
+
+  after : (bound q : Placement) → IsByte bound → bound.piece ≡ places.piece → q.piece ≡ places.piece → has_state (states_in places.numbers) q ≡ true → IsTrue (is_before placement_cmp bound q) → state_number bound + 1 ≤ state_number q
+  after bound q byte kind kind_q held above = omega (arith, number_less bound q byte (held_byte q held) (kind ∙ sym kind_q) ((is_before-decides placement_cmp bound q).0 above))
+
+  -- the least above a bound
+  pub next_above : (bound : Placement) (result : Option Placement) → IsByte bound → bound.piece ≡ places.piece → IsStateFrom (states_in places.numbers) places.piece (state_number bound + 1) result → IsNextAbove placement_cmp (λ q. IsTrue (holds places q)) (Some bound) result
+  next_above bound None byte kind is = record {
+    none = λ q held above.
+        let parts = holds-parts q held in
+        is.none q (after bound q byte kind parts.0 parts.1 above) parts.1;
+  }
+  next_above bound (Some s) byte kind is = record {
+    member = holds-from s is.kind is.held;
+    above = (is_before-decides placement_cmp bound s).1 (less_number bound s byte (held_byte s is.held) (kind ∙ sym is.kind) (omega (arith, is.after)));
+    least = λ q held above less.
+        let parts = holds-parts q held in
+        let fewer = number_less q s (held_byte q parts.1) (held_byte s is.held) (parts.0 ∙ sym is.kind) less in
+        omega (arith, fewer, is.first q (after bound q byte kind parts.0 parts.1 above) parts.1);
+  }
+
+-- the same, with the bound and the number given by equations
+pub next_of_all_by : (places : Places) (bound result : Option Placement) → bound ≡ None → IsStateFrom (states_in places.numbers) places.piece 0 result → IsNextAbove placement_cmp (λ q. IsTrue (holds places q)) bound result
+next_of_all_by places bound result e is = subst (λ (bound : Option Placement). IsNextAbove placement_cmp (λ q. IsTrue (holds places q)) bound result) (sym e) (next_of_all places result is)
+
+pub next_above_by : (places : Places) (bound : Option Placement) (last : Placement) (n : ℕ) (result : Option Placement) → bound ≡ Some last → IfSome bound (λ q. q.piece ≡ piece_of places) → IsByte last → n ≡ state_number last + 1 → IsStateFrom (states_in places.numbers) places.piece n result → IsNextAbove placement_cmp (λ q. IsTrue (holds places q)) bound result
+unfolding piece_of
+next_above_by places bound last n result e kind byte number is =
+    subst (λ (bound : Option Placement). IsNextAbove placement_cmp (λ q. IsTrue (holds places q)) bound result) (sym e)
+    (next_above places last result byte (subst (λ (bound : Option Placement). IfSome bound (λ q. q.piece ≡ piece_of places)) e kind) (subst (λ n. IsStateFrom (states_in places.numbers) places.piece n result) number is))
+
+-- what is held is of the piece
+pub holds-piece : (places : Places) (q : Placement) → IsTrue (holds places q) → q.piece ≡ piece_of places
+unfolding piece_of
+holds-piece places q held = (holds-parts places q held).0
+
+-- the places of a set that has them
+pub places_held : (table : Table) (F : Field) (mode : DropMode) (piece : Piece) (S : States) (places : Places) → ((q : Placement) → holds places q ≡ (piece_code q.piece == piece_code piece && has_state S q)) →
+    ArePlaces table F mode piece S → (q : Placement) → IsTrue (holds places q) ↔ ((q.piece ≡ piece) × IsPlace table F mode q)
+places_held table F mode piece S places is are q = (
+  λ held. let parts = and_parts (piece_code q.piece == piece_code piece) _ (sym (is q) ∙ held) in let kind = piece_code-injective q.piece piece (eqb-true _ _ parts.0) in (kind, (are.exact q kind).0 parts.1),
+  λ place. is q ∙ and_from _ _ (eq-eqb _ _ (ap (λ (p : Piece). piece_code p) place.0)) ((are.exact q place.0).1 place.1),
+)

@@ -1,0 +1,160 @@
+-- What is held after the least placement is taken, and what lies below a row.
+use Rattle.std.proofs.Common.{◌≡◌, ◌≢◌, ◌↔◌, ℕ, ◌-◌, ◌<◌, Bool, true, false, cond, nat_lt, ◌&&◌, not, ◌==◌, ℤ, pos, negsuc, ◌+ℤ◌, ◌≤ℤ◌, T, Option, Some, None, List, [], ◌∷◌, get_or, ◌⊎◌, refl, sym, ap, subst, ◌∙◌, inl, inr, arith}
+use Rattle.std.specs.Prelude.{IsTrue, int_lt, int_le, ◌<ℤ◌}
+use Rattle.std.specs.Int.Signed.{le_z_yes}
+use Rattle.std.specs.List.{list_all}
+use Rattle.std.specs.Ordering.{int_eq}
+use Rattle.std.specs.Cmp.{signed_Decides}
+use Rattle.std.proofs.lemmas.Int.{ints}
+use Rattle.std.proofs.lemmas.Bool.{and_parts, and_from, lt-ltb, ltb-true, eqb-true, eq-eqb, not-true, not_from_false, both_ways, cases_Bool}
+use Rattle.std.proofs.lemmas.List.Folds.{list_all-map}
+use Rattle.srs.specs.declared.piece.Piece.{Piece}
+use Rattle.srs.specs.declared.rotation.Rotation.{Rotation}
+use Rattle.srs.specs.declared.placement.Placement.{Placement}
+use Rattle.srs.specs.Cells.{Cell, minus, moved, shape, pivot_of}
+use Rattle.srs.specs.SameCells.{is_among}
+use Rattle.srs.specs.Rotation.{rotation_place}
+use Rattle.srs.proofs.CallerLemmas.{is_among-all, list_all-from_is_among, each_state}
+use Rattle.well.specs.LockLaws.{is_below}
+use Rattle.place_sets.specs.declared.held.Places.{Places}
+use Rattle.place_sets.specs.Numbers.{has_number, number_of_state, states_in}
+use Rattle.place_sets.specs.Places.{holds}
+use Rattle.place_sets.specs.States.{States, has_state}
+use Rattle.place_sets.specs.Tops.{rows_over_pivot}
+use Rattle.place_sets.proofs.PlaceNumbers.{few_places, number-within, number-has, has-number, HasNumber, number_is, same_number}
+use Rattle.place_sets.proofs.ScanLemmas.{holds-parts, holds-from}
+
+-- sets of one piece of which one has those of the other's numbers that pass a test
+module _ (old new : Places) (kind : new.piece ≡ old.piece) where
+  pub held_where : (q : Placement) (test : Bool) → (q.x < 16 → q.y < 24 → has_number new.numbers (number_of_state (rotation_place q.rotation) q.y q.x) ≡ (has_number old.numbers (number_of_state (rotation_place q.rotation) q.y q.x) && test)) →
+      IsTrue (holds new q) ↔ (IsTrue (holds old q) × (test ≡ true))
+  unfolding has_state
+  held_where q test same = (there, back)
+    where
+      there : IsTrue (holds new q) → IsTrue (holds old q) × (test ≡ true)
+      there held =
+          let parts = holds-parts new q held in
+          let within = number-within new.numbers q.rotation q.x q.y parts.1 in
+          let both = and_parts (has_number old.numbers (number_of_state (rotation_place q.rotation) q.y q.x)) test (sym (same within.0 within.1) ∙ number-has new.numbers q.rotation q.x q.y parts.1) in
+          (holds-from old q (parts.0 ∙ kind) (has-number old.numbers q.rotation q.x q.y within.0 within.1 both.0), both.1)
+
+      back : IsTrue (holds old q) × (test ≡ true) → IsTrue (holds new q)
+      back (held, passes) =
+          let parts = holds-parts old q held in
+          let within = number-within old.numbers q.rotation q.x q.y parts.1 in
+          holds-from new q (parts.0 ∙ sym kind)
+          (has-number new.numbers q.rotation q.x q.y within.0 within.1 (same within.0 within.1 ∙ and_from _ _ (number-has old.numbers q.rotation q.x q.y parts.1) passes))
+
+  -- one number is taken out
+  pub taken_one : (n : ℕ) (s : Placement) → n < 1536 → HasNumber n s → s.piece ≡ old.piece → ((m : ℕ) → m < 1536 → has_number new.numbers m ≡ (has_number old.numbers m && not (n == m))) → (q : Placement) →
+      IsTrue (holds new q) ↔ (IsTrue (holds old q) × (Some s ≢ Some q))
+  unfolding has_state
+  taken_one n s small at kind_s taken q =
+      let few = few_places q.rotation in
+      let iff = held_where q (not (n == number_of_state (rotation_place q.rotation) q.y q.x)) (λ column row. taken (number_of_state (rotation_place q.rotation) q.y q.x) (omega arith)) in (
+        λ held. let parts = iff.0 held in (parts.0, λ e. both_ways _ (not-true _ parts.1) (eq-eqb n _ (sym (ap (λ (o : Option Placement). n_of o) (sym e) ∙ number_is n s small at)))),
+        λ found. iff.1 (found.0, other found.0 found.1 (cases_Bool (n == number_of_state (rotation_place q.rotation) q.y q.x))),
+      )
+    where
+      n_of : Option Placement → ℕ
+      n_of None = 0
+      n_of (Some t) = number_of_state (rotation_place t.rotation) t.y t.x
+
+      other : IsTrue (holds old q) → (Some s ≢ Some q) → ((n == number_of_state (rotation_place q.rotation) q.y q.x) ≡ true) ⊎ ((n == number_of_state (rotation_place q.rotation) q.y q.x) ≡ false) → not (n == number_of_state (rotation_place q.rotation) q.y q.x) ≡ true
+      other held apart (inl same) =
+          let parts = holds-parts old q held in
+          let within = number-within old.numbers q.rotation q.x q.y parts.1 in
+          absurd (apart (ap (λ (t : Placement). Some t) (same_number n s q at (kind_s ∙ sym parts.0) within.0 within.1 (sym (eqb-true n _ same)))))
+      other held apart (inr none) = not_from_false _ none
+
+  -- nothing is taken out
+  pub taken_none : ((m : ℕ) → m < 1536 → has_number new.numbers m ≡ (has_number old.numbers m && true)) → (q : Placement) → IsTrue (holds new q) ↔ (IsTrue (holds old q) × (None ≢ Some q))
+  taken_none taken q =
+      let few = few_places q.rotation in
+      let iff = held_where q true (λ column row. taken (number_of_state (rotation_place q.rotation) q.y q.x) (omega arith)) in
+      (λ held. ((iff.0 held).0, no_none), λ found. iff.1 (found.0, refl))
+    where
+      no_none : None ≢ Some q
+      no_none e = cc
+
+-- a highest cell
+top_cell : List Cell → Cell
+top_cell [] = (pos 0, minus 9)
+top_cell (c ∷ cs) = cond (int_le (top_cell cs).1 c.1) c (top_cell cs)
+
+has_top : (p : Piece) (r : Rotation) → is_among (shape p r) (top_cell (shape p r)) ≡ true
+unfolding top_cell is_among
+has_top = each_state (λ p r. is_among (shape p r) (top_cell (shape p r))) refl
+
+top_is : (p : Piece) (r : Rotation) → (top_cell (shape p r)).1 ≡ pos (rows_over_pivot p r)
+unfolding top_cell
+top_is p r = (signed_Decides _ _).0 (each_state (λ p r. int_eq (top_cell (shape p r)).1 (pos (rows_over_pivot p r))) refl p r)
+
+is_under_top : Piece → Rotation → Cell → Bool
+is_under_top p r c = int_le c.1 (pos (rows_over_pivot p r))
+
+all_under_top : (p : Piece) (r : Rotation) → list_all (is_under_top p r) (shape p r) ≡ true
+unfolding is_under_top
+all_under_top = each_state (λ p r. list_all (is_under_top p r) (shape p r)) refl
+
+less_yes : (z : ℤ) (n : ℕ) → int_lt z (pos n) ≡ true → z <ℤ pos n
+less_yes (pos y) n is = let less = ltb-true y n is in omega (arith, ints)
+less_yes (negsuc y) n is = omega (arith, ints)
+
+less_is : (z : ℤ) (n : ℕ) → z <ℤ pos n → int_lt z (pos n) ≡ true
+less_is (pos y) n less = lt-ltb y n (omega (arith, ints))
+less_is (negsuc y) n less = refl
+
+-- all cells lie below the row where the pivot does so by as much as the highest cell lies above it
+pub below_by_pivot : (rows : ℕ) (q : Placement) → (nat_lt q.y (rows - rows_over_pivot q.piece q.rotation) ≡ true) ↔ (is_below rows q ≡ true)
+unfolding moved is_under_top
+below_by_pivot rows q = (there, back)
+  where
+    there : nat_lt q.y (rows - rows_over_pivot q.piece q.rotation) ≡ true → is_below rows q ≡ true
+    there is =
+        let less = ltb-true q.y (rows - rows_over_pivot q.piece q.rotation) is in
+        list_all-map (λ (cell : Cell). int_lt cell.1 (pos rows)) (moved (pivot_of q)) (shape q.piece q.rotation)
+        ∙ list_all-from_is_among (λ c. int_lt (moved (pivot_of q) c).1 (pos rows)) (shape q.piece q.rotation) (λ c has.
+        let under : c.1 ≤ℤ pos (rows_over_pivot q.piece q.rotation) = le_z_yes (subst T (sym (is_among-all (is_under_top q.piece q.rotation) (shape q.piece q.rotation) c (all_under_top q.piece q.rotation) has)) tt) in
+        less_is (pos q.y +ℤ c.1) rows (omega (arith, ints)))
+
+    back : is_below rows q ≡ true → nat_lt q.y (rows - rows_over_pivot q.piece q.rotation) ≡ true
+    back is =
+        let top = is_among-all (λ c. int_lt (moved (pivot_of q) c).1 (pos rows)) (shape q.piece q.rotation) (top_cell (shape q.piece q.rotation)) (sym (list_all-map (λ (cell : Cell). int_lt cell.1 (pos rows)) (moved (pivot_of q)) (shape q.piece q.rotation)) ∙ is) (has_top q.piece q.rotation) in
+        let less = less_yes (pos q.y +ℤ (top_cell (shape q.piece q.rotation)).1) rows top in
+        let height = top_is q.piece q.rotation in
+        lt-ltb q.y (rows - rows_over_pivot q.piece q.rotation) (omega (arith, ints))
+
+pub below_held : (old new : Places) (rows : ℕ) (left : List ℕ) → new.piece ≡ old.piece → ((r : Rotation) → get_or left (rotation_place r) 0 ≡ rows - rows_over_pivot old.piece r) →
+    ((place y x : ℕ) → place < 4 → y < 24 → x < 16 → has_number new.numbers (number_of_state place y x) ≡ (has_number old.numbers (number_of_state place y x) && nat_lt y (get_or left place 0))) → (q : Placement) →
+    IsTrue (holds new q) ↔ (IsTrue (holds old q) × IsTrue (is_below rows q))
+below_held old new rows left kind is keeps q =
+    let iff = held_where old new kind q (nat_lt q.y (get_or left (rotation_place q.rotation) 0)) (λ column row. keeps (rotation_place q.rotation) q.y q.x (few_places q.rotation) row column) in
+    let exact = below_by_pivot rows q in (
+      λ held. let parts = iff.0 held in let k = (holds-parts old q parts.0).0 in (parts.0, exact.0 (sym (same k) ∙ parts.1)),
+      λ found. let k = (holds-parts old q found.0).0 in iff.1 (found.0, same k ∙ exact.1 found.1),
+    )
+  where
+    same : q.piece ≡ old.piece → nat_lt q.y (get_or left (rotation_place q.rotation) 0) ≡ nat_lt q.y (rows - rows_over_pivot q.piece q.rotation)
+    same k = ap (nat_lt q.y) (is q.rotation ∙ ap (λ (p : Piece). rows - rows_over_pivot p q.rotation) (sym k))
+
+-- the states that lie so low
+pub filled_below : (new : Places) (piece : Piece) (S : States) (rows : ℕ) (left : List ℕ) → new.piece ≡ piece → ((r : Rotation) → get_or left (rotation_place r) 0 ≡ rows - rows_over_pivot piece r) →
+    ((r : Rotation) (x y : ℕ) → states_in new.numbers r x y ≡ (S r x y && nat_lt y (get_or left (rotation_place r) 0))) → (q : Placement) →
+    IsTrue (holds new q) ↔ ((q.piece ≡ piece) × (has_state S q ≡ true) × IsTrue (is_below rows q))
+unfolding has_state
+filled_below new piece S rows left kind is fills q = (there, back)
+  where
+    same : q.piece ≡ piece → nat_lt q.y (get_or left (rotation_place q.rotation) 0) ≡ nat_lt q.y (rows - rows_over_pivot q.piece q.rotation)
+    same k = ap (nat_lt q.y) (is q.rotation ∙ ap (λ (p : Piece). rows - rows_over_pivot p q.rotation) (sym k))
+
+    there : IsTrue (holds new q) → (q.piece ≡ piece) × (has_state S q ≡ true) × IsTrue (is_below rows q)
+    there held =
+        let parts = holds-parts new q held in
+        let k = parts.0 ∙ kind in
+        let both = and_parts (S q.rotation q.x q.y) _ (sym (fills q.rotation q.x q.y) ∙ parts.1) in
+        (k, both.0, (below_by_pivot rows q).0 (sym (same k) ∙ both.1))
+
+    back : (q.piece ≡ piece) × (has_state S q ≡ true) × IsTrue (is_below rows q) → IsTrue (holds new q)
+    back (k, has, low) =
+        holds-from new q (k ∙ sym kind) (fills q.rotation q.x q.y ∙ and_from _ _ has (same k ∙ (below_by_pivot rows q).1 low))

@@ -1,0 +1,186 @@
+-- The bits of words after shifts and masks.
+use Rattle.std.proofs.Common.{◌≡◌, ℕ, zero, suc, ◌+◌, ◌-◌, ◌*◌, ◌/◌, ◌%◌, ◌^◌, ◌<◌, ◌≤◌, Bool, true, false, not, ◌&&◌, ◌||◌, ◌==◌, nat_le, nat_lt, bit_and, bit_or, w64, refl, sym, ap, ◌∙◌, inl, inr, arith}
+use Rattle.std.specs.Int.{trailing_zeros}
+use Rattle.std.proofs.lemmas.Bool.{cases_lt, cases_eq, cases_Bool, lt-leb, le-leb, lt-ltb, le-ltb, eq-eqb, eqb-true, ne_eqb, both_ways}
+use Rattle.std.proofs.lemmas.Nat.{one_shl}
+use Rattle.std.proofs.lemmas.Nat.Bits.{bit_at-trailing_zeros, bit_at-suc, bit_at_lowest, bit_at_ones, bit_at_ones_above}
+use Rattle.lane_board.specs.Field.{Field}
+use Rattle.lane_board.specs.Lanes.{has_bit}
+use Rattle.lane_board.proofs.CallerLemmas.{true_from_bit, false_from_bit, has_bit-and, has_bit-or, has_bit-low, has_bit-shifted_low, has_bit-shifted_high, has_bit-shifted_right}
+use Rattle.place_sets.specs.FourRows.{IsFourRows}
+use Rattle.place_sets.specs.LowestBit.{IsLowestBit}
+use Rattle.place_sets.proofs.FieldLemmas.{LiesWithin}
+
+pub has_bit-bits_from : (n low k : ℕ) → k < 64 → has_bit (n / 2 ^ low * 2 ^ low % 2 ^ 64) k ≡ (nat_le low k && has_bit n k)
+has_bit-bits_from n low k within =
+    has_bit-low (n / 2 ^ low * 2 ^ low) 64 k within
+    ∙ elim (cases_lt k low) [
+      | inl below ↦ has_bit-shifted_low (n / 2 ^ low) low k below ∙ ap (λ b. b && has_bit n k) (sym (lt-leb low k below))
+      | inr from ↦
+          has_bit-shifted_high (n / 2 ^ low) low k from ∙ has_bit-shifted_right n low (k - low) ∙ ap (has_bit n) {x = low + (k - low)} {y = k} (omega arith)
+          ∙ ap (λ b. b && has_bit n k) (sym (le-leb low k from))
+    ]
+
+pub lowest-is : (n : ℕ) → 0 < n → n < 2 ^ 64 → IsLowestBit n (trailing_zeros w64 n)
+lowest-is n some fits = record { has = true_from_bit n (trailing_zeros w64 n) (bit_at-trailing_zeros w64 n some fits).1; first = first }
+  where
+    first : (k : ℕ) → has_bit n k ≡ true → trailing_zeros w64 n ≤ k
+    first k has = elim (cases_lt k (trailing_zeros w64 n)) [
+      | inl below ↦ absurd (both_ways _ (false_from_bit n k ((bit_at-trailing_zeros w64 n some fits).2 k below)) has)
+      | inr above ↦ above
+    ]
+
+has_bit-suc : (n k : ℕ) → has_bit n (suc k) ≡ has_bit (n / 2) k
+unfolding has_bit
+has_bit-suc n k = ap (λ b. b == 1) (bit_at-suc n k)
+
+true_odd : (n : ℕ) → has_bit n 0 ≡ true → n % 2 ≡ 1
+unfolding has_bit
+true_odd n has = sym (bit_at_lowest n) ∙ eqb-true _ _ has
+
+-- one less clears the lowest bit, and changes none above it
+record IsOneLess (bit n less : ℕ) : Type 0 where
+  cleared : has_bit less bit ≡ false
+  same : (k : ℕ) → bit < k → has_bit less k ≡ has_bit n k
+
+one_less : (bit n : ℕ) → IsLowestBit n bit → IsOneLess bit n (n - 1)
+one_less zero n lowest =
+    let odd : n % 2 ≡ 1 = true_odd n lowest.has in
+    record { cleared = even (n - 1) (omega (arith, odd)); same = same odd }
+  where
+    even : (n : ℕ) → n % 2 ≡ 0 → has_bit n 0 ≡ false
+    even n e = false_from_bit n 0 (bit_at_lowest n ∙ e)
+
+    same : n % 2 ≡ 1 → (k : ℕ) → 0 < k → has_bit (n - 1) k ≡ has_bit n k
+    same odd zero above = absurd (omega (arith, above))
+    same odd (suc k) above = has_bit-suc (n - 1) k ∙ ap (λ m. has_bit m k) {x = (n - 1) / 2} {y = n / 2} (omega (arith, odd)) ∙ sym (has_bit-suc n k)
+one_less (suc bit) n lowest =
+    let half = one_less bit (n / 2) halved in
+    record {
+      cleared = has_bit-suc (n - 1) bit ∙ ap (λ m. has_bit m bit) less ∙ half.cleared;
+      same = same half;
+    }
+  where
+    halved : IsLowestBit (n / 2) bit
+    halved = record { has = sym (has_bit-suc n bit) ∙ lowest.has; first = λ k has. let next = lowest.first (suc k) (has_bit-suc n k ∙ has) in omega (arith, next) }
+
+    is_even : n % 2 ≡ 0
+    is_even = elim (cases_eq (n % 2) 0) [
+      | inl e ↦ e
+      | inr other ↦ absurd (let next = lowest.first 0 (true_from_bit n 0 (bit_at_lowest n ∙ omega (arith, other))) in omega (arith, next))
+    ]
+
+    less : (n - 1) / 2 ≡ n / 2 - 1
+    less = omega (arith, is_even)
+
+    same : IsOneLess bit (n / 2) (n / 2 - 1) → (k : ℕ) → suc bit < k → has_bit (n - 1) k ≡ has_bit n k
+    same half zero above = absurd (omega (arith, above))
+    same half (suc k) above = has_bit-suc (n - 1) k ∙ ap (λ m. has_bit m k) less ∙ half.same k (omega (arith, above)) ∙ sym (has_bit-suc n k)
+
+pub has_bit-without : (n bit k : ℕ) → IsLowestBit n bit → has_bit (bit_and n (n - 1)) k ≡ (has_bit n k && not (k == bit))
+has_bit-without n bit k lowest = has_bit-and n (n - 1) k ∙ elim (cases_eq k bit) [
+  | inl same ↦
+      ap (λ b. has_bit n k && b) (ap (has_bit (n - 1)) same ∙ (one_less bit n lowest).cleared)
+      ∙ ap (λ b. has_bit n k && not b) (sym (eq-eqb k bit same))
+  | inr other ↦ elim (cases_lt k bit) [
+    | inl below ↦
+        let none : has_bit n k ≡ false = none_below below in
+        ap (λ b. b && has_bit (n - 1) k) none ∙ ap (λ b. b && not (k == bit)) (sym none)
+    | inr above ↦
+        ap (λ b. has_bit n k && b) ((one_less bit n lowest).same k (omega (arith, other, above)))
+        ∙ twice (has_bit n k) ∙ sym (and_all (has_bit n k)) ∙ ap (λ b. has_bit n k && not b) (sym (ne_eqb k bit other))
+  ]
+]
+  where
+    none_below : k < bit → has_bit n k ≡ false
+    none_below below = elim (cases_Bool (has_bit n k)) [
+      | inl has ↦ absurd (let least = lowest.first k has in omega (arith, least, below))
+      | inr none ↦ none
+    ]
+
+    twice : (b : Bool) → (b && b) ≡ b
+    twice true = refl
+    twice false = refl
+
+    and_all : (b : Bool) → (b && true) ≡ b
+    and_all true = refl
+    and_all false = refl
+
+-- the lowest bits, so many of them
+pub has_bit-mask : (n count k : ℕ) → count < 64 → has_bit (bit_and n (1 * 2 ^ count % 2 ^ 64 - 1)) k ≡ (has_bit n k && nat_lt k count)
+has_bit-mask n count k few =
+    ap (λ m. has_bit (bit_and n (m - 1)) k) (one_shl count 64 few)
+    ∙ has_bit-and n (2 ^ count - 1) k
+    ∙ ap (λ b. has_bit n k && b) (elim (cases_lt k count) [
+      | inl below ↦ true_from_bit _ k (bit_at_ones count k below) ∙ sym (lt-ltb k count below)
+      | inr above ↦ false_from_bit _ k (bit_at_ones_above count k above) ∙ sym (le-ltb k count above)
+    ])
+
+-- a row moved up
+has_bit-raised : (n at k : ℕ) → k < 64 → has_bit (n * 2 ^ at % 2 ^ 64) k ≡ (nat_le at k && has_bit n (k - at))
+has_bit-raised n at k within =
+    has_bit-low (n * 2 ^ at) 64 k within
+    ∙ elim (cases_lt k at) [
+      | inl below ↦ has_bit-shifted_low n at k below ∙ ap (λ b. b && has_bit n (k - at)) (sym (lt-leb at k below))
+      | inr from ↦ has_bit-shifted_high n at k from ∙ ap (λ b. b && has_bit n (k - at)) (sym (le-leb at k from))
+    ]
+
+module _ (F : Field) (N y a b c d : ℕ) (lies : LiesWithin F N)
+    (is_a : has_bit a ≡ (λ x. F x y)) (is_b : has_bit b ≡ (λ x. F x (y + 1))) (is_c : has_bit c ≡ (λ x. F x (y + 2))) (is_d : has_bit d ≡ (λ x. F x (y + 3))) where
+  abbrev pub word : ℕ
+  word = bit_or (bit_or (bit_or a (b * 2 ^ 16 % 2 ^ 64)) (c * 2 ^ 32 % 2 ^ 64)) (d * 2 ^ 48 % 2 ^ 64)
+
+  parts : (k : ℕ) → k < 64 → has_bit word k ≡ (((F k y || (nat_le 16 k && F (k - 16) (y + 1))) || (nat_le 32 k && F (k - 32) (y + 2))) || (nat_le 48 k && F (k - 48) (y + 3)))
+  parts k within =
+      let p = ap (λ (t : ℕ → Bool). t k) is_a in
+      let q = has_bit-raised b 16 k within ∙ ap (λ (t : ℕ → Bool). nat_le 16 k && t (k - 16)) is_b in
+      let r = has_bit-raised c 32 k within ∙ ap (λ (t : ℕ → Bool). nat_le 32 k && t (k - 32)) is_c in
+      let s = has_bit-raised d 48 k within ∙ ap (λ (t : ℕ → Bool). nat_le 48 k && t (k - 48)) is_d in
+      has_bit-or (bit_or (bit_or a (b * 2 ^ 16 % 2 ^ 64)) (c * 2 ^ 32 % 2 ^ 64)) (d * 2 ^ 48 % 2 ^ 64) k
+      ∙ ap (λ t. t || has_bit (d * 2 ^ 48 % 2 ^ 64) k) (has_bit-or (bit_or a (b * 2 ^ 16 % 2 ^ 64)) (c * 2 ^ 32 % 2 ^ 64) k ∙ ap (λ t. t || has_bit (c * 2 ^ 32 % 2 ^ 64) k) (has_bit-or a (b * 2 ^ 16 % 2 ^ 64) k))
+      ∙ (λ i. ((p i || q i) || r i) || s i)
+
+  -- a cell of the rows, seen from its row
+  none_past : (x z : ℕ) → 10 ≤ x → F x z ≡ false
+  none_past x z past = elim (cases_Bool (F x z)) [
+    | inl filled ↦ absurd (let place = lies.inside x z filled in omega (arith, place.0))
+    | inr none ↦ none
+  ]
+
+  or_end : (t : Bool) → (t || false) ≡ t
+  or_end true = refl
+  or_end false = refl
+
+  pub four_rows-is : IsFourRows F y word
+  four_rows-is = record { bits = bits }
+    where
+      at_row : (k j : ℕ) → 16 * j ≤ k → k < 16 * j + 16 → F (k - 16 * j) (y + j) ≡ F (k % 16) (y + k / 16)
+      at_row k j low high =
+          let p : k - 16 * j ≡ k % 16 = omega arith in
+          let q : y + j ≡ y + k / 16 = omega arith in
+          λ i. F (p i) (q i)
+
+      bits : (k : ℕ) → k < 64 → has_bit word k ≡ F (k % 16) (y + k / 16)
+      bits k within = parts k within ∙ by_row
+        where
+          by_row : (((F k y || (nat_le 16 k && F (k - 16) (y + 1))) || (nat_le 32 k && F (k - 32) (y + 2))) || (nat_le 48 k && F (k - 48) (y + 3))) ≡ F (k % 16) (y + k / 16)
+          by_row = elim (cases_lt k 16) [
+            | inl one ↦
+                let p : k ≡ k % 16 = omega arith in
+                let q : y ≡ y + k / 16 = omega arith in
+                (λ i. ((F k y || (lt-leb 16 k one i && F (k - 16) (y + 1))) || (lt-leb 32 k (omega arith) i && F (k - 32) (y + 2))) || (lt-leb 48 k (omega arith) i && F (k - 48) (y + 3)))
+                ∙ (or_end _ ∙ or_end _ ∙ or_end _) ∙ (λ i. F (p i) (q i))
+            | inr past_one ↦ elim (cases_lt k 32) [
+              | inl two ↦
+                  (λ i. ((none_past k y (omega arith) i || (le-leb 16 k past_one i && F (k - 16) (y + 1))) || (lt-leb 32 k two i && F (k - 32) (y + 2))) || (lt-leb 48 k (omega arith) i && F (k - 48) (y + 3)))
+                  ∙ (or_end _ ∙ or_end _) ∙ at_row k 1 past_one (omega arith)
+              | inr past_two ↦ elim (cases_lt k 48) [
+                | inl three ↦
+                    (λ i. ((none_past k y (omega arith) i || (le-leb 16 k past_one i && none_past (k - 16) (y + 1) (omega arith) i)) || (le-leb 32 k past_two i && F (k - 32) (y + 2))) || (lt-leb 48 k three i && F (k - 48) (y + 3)))
+                    ∙ or_end _ ∙ at_row k 2 past_two (omega arith)
+                | inr past_three ↦
+                    (λ i. ((none_past k y (omega arith) i || (le-leb 16 k past_one i && none_past (k - 16) (y + 1) (omega arith) i)) || (le-leb 32 k past_two i && none_past (k - 32) (y + 2) (omega arith) i)) || (le-leb 48 k past_three i && F (k - 48) (y + 3)))
+                    ∙ at_row k 3 past_three (omega arith)
+              ]
+            ]
+          ]

@@ -1,0 +1,36 @@
+-- The first word in use has the least number, and loses that bit.
+use Rattle.std.proofs.Common.{◌≡◌, Bool, true, false, ◌==◌, ◌&&◌, not, get_or, set, refl, ap, ◌∙◌}
+use Rattle.std.proofs.lemmas.Bool.{both_ways}
+use Rattle.lane_board.specs.Lanes.{has_bit}
+use Rattle.lane_board.proofs.CallerLemmas.{has_bit-zero}
+use Rattle.place_sets.specs.Numbers.{has_number}
+use Rattle.place_sets.proofs.NumberLemmas.{without_number}
+use Rattle.place_sets.proofs.WordsInUse.{empty_unless, first_in_use, no_number_in_use}
+use Rattle.place_sets.proofs.numbers.Numbers.take_first.Goals as goal
+
+pub returns-in-None-clause-first : goal.returns-in-None-clause-first
+returns-in-None-clause-first c = no_number_in_use c.args.self.now c.in-None.ensures
+
+pub returns-in-Some-clause-first : goal.returns-in-Some-clause-first
+returns-in-Some-clause-first c =
+    first_in_use c.args.self.now c.in-Some.at c.lowest_bit.result _ c.in-Some.ensures (ap (λ w. get_or c.args.self.now.words w 0) c.from.ensures) c.lowest_bit.ensures.below c.lowest_bit.ensures.lowest
+
+pub returns-in-Some-clause-rest : goal.returns-in-Some-clause-rest
+returns-in-Some-clause-rest c =
+    without_number c.args.self.now _ c.in-Some.at c.lowest_bit.result c.without_lowest.result c.args.self.now.size c.in-Some.ensures.small c.lowest_bit.ensures.below
+    (ap (λ at. set c.args.self.now.words at c.without_lowest.result) c.from-in-Some.ensures)
+    (λ k within. c.without_lowest.ensures.bits c.lowest_bit.result k c.lowest_bit.ensures.lowest within ∙ ap (λ w. has_bit (get_or c.args.self.now.words w 0) k && not (k == c.lowest_bit.result)) c.from.ensures)
+
+pub invariant_of-self-clause-few : goal.invariant_of-self-clause-few
+invariant_of-self-clause-few c = λ w small has. absurd (both_ways _ (has_bit-zero w) has)
+
+pub invariant_of-self-clause-none_else : goal.invariant_of-self-clause-none_else
+invariant_of-self-clause-none_else c = λ w small none. empty_unless c.args.self.now w small (c.in-None.ensures.none w small)
+
+all_stay : (b : Bool) → b ≡ (b && true)
+all_stay true = refl
+all_stay false = refl
+
+pub returns-in-None-clause-rest : goal.returns-in-None-clause-rest
+unfolding has_number
+returns-in-None-clause-rest c = λ n small. all_stay _

@@ -1,0 +1,28 @@
+-- One round more, and fewer pivots are missing after it.
+use Rattle.std.proofs.Common.{suc, refl, sym, ap, ◌∙◌}
+use Rattle.std.proofs.lemmas.Bool.{both_ways}
+use Rattle.lane_board.specs.Board.{field_of}
+use Rattle.lane_board.proofs.CallerLemmas.{field_of-within}
+use Rattle.place_sets.specs.Shifts.{widened, widened_by}
+use Rattle.place_sets.proofs.SpreadLemmas.{widened-fewer}
+use Rattle.place_sets.proofs.spreading.spread.Goals as goal
+
+pub rounds-init : goal.rounds-init
+unfolding widened_by
+rounds-init g c = (0, refl)
+
+pub rounds-preserved : goal.rounds-preserved
+unfolding widened_by
+rounds-preserved g c = (suc c.rounds.invariant.0, c.widened-wider.ensures ∙ ap (widened c.args.shifts g.row.N (field_of c.args.free.now)) c.rounds.invariant.1)
+
+pub rounds-smaller : goal.rounds-smaller
+rounds-smaller g c =
+    widened-fewer c.args.shifts g.row.N (field_of c.args.free.now) (field_of c.rounds.reached) (field_of c.widened-wider.result) c.widened-wider.ensures
+    (record { inside = field_of-within c.widened-wider.result }) (λ same. both_ways _ c.if-equal.false (c.equal.ensures.1 same))
+
+pub returns-then-equal : goal.returns-then-equal
+returns-then-equal g c = record {
+  rounds = c.rounds.invariant.0;
+  grown = c.rounds.invariant.1;
+  still = sym c.widened-wider.ensures ∙ c.equal.ensures.0 c.if-equal.true;
+}

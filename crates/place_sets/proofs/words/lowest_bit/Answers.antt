@@ -1,0 +1,6 @@
+-- The zeros below the lowest bit are its place.
+use Rattle.place_sets.proofs.WordLemmas.{lowest-is}
+use Rattle.place_sets.proofs.words.lowest_bit.Goals as goal
+
+pub returns-clause-lowest : goal.returns-clause-lowest
+returns-clause-lowest c = lowest-is c.args.word c.requires c.ranges.word.fits

@@ -1,0 +1,138 @@
+// The placements that a flood found in low rows.
+ghost use Rattle.std.specs.Prelude.{◌≡◌, ℕ, ◌*◌, ◌+◌, ◌-◌, ◌/◌, ◌%◌, ◌<◌, ◌≤◌, ◌&&◌, nat_lt};
+ghost use Rattle.lane_board.specs.Board.{field_of};
+ghost use Rattle.lane_board.specs.Lanes.{has_bit};
+ghost use Rattle.srs.specs.Rotation.{rotation_place};
+
+use crate::pivots::Pivots;
+use crate::scan::rotation_at;
+use crate::tops::rows_left;
+use crate::words::{bits_without, four_rows, in_low_rows, lowest_bit, without_lowest};
+use lane_board::LaneBoard;
+use srs::{Piece, Placement};
+
+/// Canonical placements of one piece with the pivot in rows 0 to 7.
+#[derive(Clone, Copy)]
+pub struct LowPlaces {
+    piece: Piece,
+    /// Their pivots: two words for each rotation, in the order 0, R, 2, L; four rows in each word, and sixteen bits for
+    /// each row.
+    words: [u64; 8],
+}
+
+/// Four rows of a board from this row on, without those at or above row `rows`.
+#[inline(always)]
+fn rows_under(board: &LaneBoard<24>, row: u8, rows: u8) -> u64
+    requires { row + 4 ≤ 24 }
+    ensures { (k : ℕ) → k < 64 → has_bit result k
+        ≡ (field_of board.now (k % 16) (row + k / 16) && nat_lt k (16 * (rows - row))) }
+{
+    if rows <= row {
+        return 0;
+    }
+    in_low_rows(four_rows(board, row), rows - row)
+}
+
+/// The placement whose pivot has this bit of this word.
+#[inline(always)]
+fn placement_at(piece: Piece, word: usize, bit: u16) -> Placement
+    requires word { word < 8 }
+    requires bit { bit < 64 }
+    ensures piece { result.piece ≡ piece }
+    ensures rotation { rotation_place result.rotation ≡ word / 2 }
+    ensures row { result.y ≡ 4 * (word % 2) + bit / 16 }
+    ensures column { result.x ≡ bit % 16 }
+{
+    Placement {
+        piece,
+        rotation: rotation_at((word / 2) as u8),
+        x: (bit % 16) as u8,
+        y: (4 * (word % 2)) as u8 + (bit / 16) as u8,
+    }
+}
+
+impl LowPlaces {
+    ghost use Rattle.std.specs.Prelude.{◌↔◌, ◌≢◌, not, IsTrue, MatchOption, None, Some, slice_index};
+    ghost use Rattle.srs.specs.Order.{placement_cmp};
+    ghost use Rattle.lane_board.specs.Words.{cells_of_words};
+    ghost use Rattle.lists.specs.Rising.{IsNextAbove};
+    ghost use Rattle.well.specs.LockLaws.{is_below};
+    ghost use Rattle.place_sets.specs.LowPlaces.{holds, piece_of};
+    ghost use Rattle.place_sets.specs.States.{has_state, states_of};
+
+    /// The placements of a piece with these pivots whose cells all lie below row `rows`.
+    #[inline(always)]
+    pub fn of_states(piece: Piece, states: &Pivots<24>, rows: u8) -> LowPlaces
+        requires { rows ≤ 8 }
+        ensures piece { piece_of result ≡ piece }
+        ensures held { (q : Placement) → IsTrue (holds result q)
+            ↔ ((q.piece ≡ piece) × IsTrue (has_state (states_of states.now) q) × IsTrue (is_below rows q)) }
+    {
+        let left = rows_left(piece, rows);
+        LowPlaces {
+            piece,
+            words: [
+                rows_under(&states.spawn, 0, left[0]),
+                rows_under(&states.spawn, 4, left[0]),
+                rows_under(&states.right, 0, left[1]),
+                rows_under(&states.right, 4, left[1]),
+                rows_under(&states.reverse, 0, left[2]),
+                rows_under(&states.reverse, 4, left[2]),
+                rows_under(&states.left, 0, left[3]),
+                rows_under(&states.left, 4, left[3]),
+            ],
+        }
+    }
+
+    /// The index of the first word with a bit. `None` exactly if there is none.
+    #[inline(always)]
+    fn first_word(&self) -> Option<usize>
+        ensures { MatchOption result ((w : ℕ) → w < 8 → slice_index self.now.words w ≡ 0)
+            (λ at. (at < 8) × (0 < slice_index self.now.words at)
+            × ((w : ℕ) → w < at → slice_index self.now.words w ≡ 0)) }
+    {
+        for at in 0..8 {
+            if self.words[at] != 0 {
+                return Some(at);
+            }
+        }
+        None
+    }
+
+    /// Removes the least placement and returns it. `None` exactly if there is none.
+    #[inline(always)]
+    pub fn take_least(&mut self) -> Option<Placement>
+        ensures piece { piece_of self.new ≡ piece_of self.old }
+        ensures least { IsNextAbove placement_cmp (λ q. IsTrue (holds self.old q)) None result }
+        ensures rest { (q : Placement) → IsTrue (holds self.new q) ↔ (IsTrue (holds self.old q) × (result ≢ Some q)) }
+    {
+        match self.first_word() {
+            None => None,
+            Some(at) => {
+                let word = self.words[at];
+                self.words[at] = without_lowest(word);
+                Some(placement_at(self.piece, at, lowest_bit(word)))
+            }
+        }
+    }
+
+    /// Leaves out the placements with these pivots: two words for each rotation, in the order 0, R, 2, L, four rows in
+    /// each word, and sixteen bits for each row.
+    #[inline(always)]
+    pub fn leave_out(&mut self, pivots: &[u64; 8])
+        ensures piece { piece_of self.new ≡ piece_of self.old }
+        ensures held { (q : Placement) → holds self.new q
+            ≡ (holds self.old q && not (cells_of_words pivots.now (rotation_place q.rotation) q.x q.y)) }
+    {
+        self.words = [
+            bits_without(self.words[0], pivots[0]),
+            bits_without(self.words[1], pivots[1]),
+            bits_without(self.words[2], pivots[2]),
+            bits_without(self.words[3], pivots[3]),
+            bits_without(self.words[4], pivots[4]),
+            bits_without(self.words[5], pivots[5]),
+            bits_without(self.words[6], pivots[6]),
+            bits_without(self.words[7], pivots[7]),
+        ];
+    }
+}

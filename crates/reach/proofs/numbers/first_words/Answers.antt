@@ -1,6 +1,0 @@
--- Each count and each bit is tried.
-use Rattle.reach.proofs.WordsInUse.{first_words-bits}
-use Rattle.reach.proofs.numbers.first_words.Goals as goal
-
-pub returns : goal.returns
-returns c = λ w within. first_words-bits c.args.count w c.requires within

@@ -1,6 +1,0 @@
--- Down and up again.
-use Rattle.reach.proofs.WordLemmas.{has_bit-bits_from}
-use Rattle.reach.proofs.words.bits_from.Goals as goal
-
-pub returns : goal.returns
-returns c = has_bit-bits_from c.args.word c.args.low

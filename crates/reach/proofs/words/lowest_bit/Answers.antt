@@ -1,6 +1,0 @@
--- The zeros below the lowest bit are its place.
-use Rattle.reach.proofs.WordLemmas.{lowest-is}
-use Rattle.reach.proofs.words.lowest_bit.Goals as goal
-
-pub returns-clause-lowest : goal.returns-clause-lowest
-returns-clause-lowest c = lowest-is c.args.word c.requires c.ranges.word.fits

@@ -1,0 +1,15 @@
+-- The lemmas of this crate.
+mod ReachedLemmas
+mod TurnLemmas
+mod SpreadReached
+mod SettleLemmas
+mod FloodLemmas
+mod KickLemmas
+mod RestLemmas
+mod OffsetLemmas
+mod OpenedLemmas
+mod StartLemmas
+mod FourLemmas
+mod KeyLemmas
+mod FoldLemmas
+mod PlaceLemmas

@@ -1,0 +1,115 @@
+-- A piece is free exactly at the pivots from which each offset leads to an open cell.
+use Rattle.std.proofs.Common.{◌≡◌, ℕ, ◌<◌, true, not, pos, negsuc, List, [], ◌∷◌, map, refl, sym, ap, subst, ◌∙◌, arith}
+use Rattle.std.specs.Prelude.{neg_ℤ}
+use Rattle.std.specs.List.{list_all}
+use Rattle.std.proofs.lemmas.Bool.{and_parts, and_from, lt-ltb, ltb-true, leb-true, le-leb, false≢true, false_from_ne_true}
+use Rattle.lane_board.specs.Field.{Field, has_cell, difference, intersection, rows_below}
+use Rattle.lane_board.proofs.CallerLemmas.{same_from_both}
+use Rattle.srs.specs.declared.piece.Piece.{Piece}
+use Rattle.srs.specs.declared.rotation.Rotation.{Rotation}
+use Rattle.srs.specs.declared.rotation.Rotation.TheVariants.{Spawn, Right, Reverse, Left}
+use Rattle.srs.specs.Cells.{Cell, moved, shape, in_well}
+use Rattle.srs.proofs.CallerLemmas.{LiesAt}
+use Rattle.well.specs.Free.{is_open, is_free_at}
+use Rattle.well.proofs.CallerLemmas.{free_pivot, free_pivot_open}
+use Rattle.place_sets.specs.States.{States, has_pivot}
+use Rattle.whole_flood.specs.FreePivots.{AreFreePivots}
+use Rattle.whole_flood.specs.Opened.{opened, opened_at, IsFreeMap}
+use Rattle.place_sets.proofs.CallerLemmas.{moved_from, moved_to, moved_back, moved_forth, same_column, same_row, PivotAt}
+
+module _ (F : Field) where
+  -- the open cells of the well
+  abbrev pub blank : Field
+  blank = difference (rows_below 23) F
+
+  open_from_blank : (x y : ℕ) → blank x y ≡ true → is_open F (pos x, pos y) ≡ true
+  unfolding difference rows_below is_open
+  open_from_blank x y filled =
+      let parts = and_parts (rows_below 23 x y) (not (F x y)) filled in
+      let sides = and_parts _ _ parts.0 in
+      let column : x < 10 = ltb-true x 10 sides.0 in
+      let row : y < 23 = ltb-true y 23 sides.1 in
+      and_from _ _ (and_from _ _ (le-leb x 9 (omega arith)) (le-leb y 22 (omega arith))) parts.1
+
+  blank_inside : (x y : ℕ) → blank x y ≡ true → (x < 10) × (y < 24)
+  unfolding difference rows_below
+  blank_inside x y filled =
+      let sides = and_parts _ _ (and_parts (rows_below 23 x y) (not (F x y)) filled).0 in
+      let row : y < 23 = ltb-true y 23 sides.1 in
+      (ltb-true x 10 sides.0, omega arith)
+
+  blank_from_open : (cell : Cell) → is_open F cell ≡ true → PivotAt blank cell
+  unfolding difference rows_below is_open
+  blank_from_open (pos x, pos y) opens =
+      let parts = and_parts (in_well (pos x, pos y)) (not (F x y)) opens in
+      let sides = and_parts _ _ parts.0 in
+      let column = leb-true x 9 sides.0 in
+      let row = leb-true y 22 sides.1 in
+      record { x = x; y = y; is = refl; filled = and_from _ _ (and_from _ _ (lt-ltb x 10 (omega arith)) (lt-ltb y 23 (omega arith))) parts.1 }
+  blank_from_open (pos x, negsuc y) opens = absurd (false≢true opens)
+  blank_from_open (negsuc x, pos y) opens = absurd (false≢true opens)
+  blank_from_open (negsuc x, negsuc y) opens = absurd (false≢true opens)
+
+  all_open : (N : ℕ) (offsets : List Cell) (S : Field) (x y : ℕ) → opened_at blank N offsets S x y ≡ true → (S x y ≡ true) × (list_all (is_open F) (map (moved (pos x, pos y)) offsets) ≡ true)
+  unfolding opened_at opened intersection
+  all_open N [] S x y held = (held, refl)
+  all_open N (offset ∷ offsets) S x y held =
+      let later = all_open N offsets (opened blank N offset S) x y held in
+      let parts = and_parts (S x y) _ later.0 in
+      let way = moved_from blank N (neg_ℤ offset.0, neg_ℤ offset.1) x y parts.1 in
+      let there = moved_forth way.from_x way.from_y x y offset way.there in
+      (parts.0, and_from _ _ (subst (λ c. is_open F c ≡ true) (sym there) (open_from_blank way.from_x way.from_y way.filled)) later.1)
+
+  opens_all : (N : ℕ) (offsets : List Cell) (S : Field) (x y : ℕ) → S x y ≡ true → x < 10 → y < N → list_all (is_open F) (map (moved (pos x, pos y)) offsets) ≡ true → opened_at blank N offsets S x y ≡ true
+  unfolding opened_at opened intersection
+  opens_all N [] S x y held column row all = held
+  opens_all N (offset ∷ offsets) S x y held column row all =
+      let parts = and_parts (is_open F (moved (pos x, pos y) offset)) _ all in
+      let at = blank_from_open (moved (pos x, pos y) offset) parts.0 in
+      opens_all N offsets (opened blank N offset S) x y
+      (and_from _ _ held (moved_to blank N (neg_ℤ offset.0, neg_ℤ offset.1) at.x at.y x y at.filled (moved_back x y at.x at.y offset at.is) column row))
+      column row parts.1
+
+  free_exact : (piece : Piece) (r : Rotation) (G : Field) → G ≡ opened_at blank 24 (shape piece r) blank → (pivot : Cell) → is_free_at F piece r pivot ≡ has_cell G pivot.0 pivot.1
+  unfolding has_cell is_free_at
+  free_exact piece r G e (pos x, pos y) = same_from_both _ _ there back
+    where
+      back : G x y ≡ true → list_all (is_open F) (map (moved (pos x, pos y)) (shape piece r)) ≡ true
+      back held = (all_open 24 (shape piece r) blank x y (sym (ap (λ (G : Field). G x y) e) ∙ held)).1
+
+      there : is_free_at F piece r (pos x, pos y) ≡ true → G x y ≡ true
+      there free_here =
+          let at = blank_from_open (pos x, pos y) (free_pivot_open F piece r (pos x, pos y) free_here) in
+          let filled = subst (λ x. blank x at.y ≡ true) (sym (same_column x y at.x at.y at.is)) at.filled in
+          let here = subst (λ y. blank x y ≡ true) (sym (same_row x y at.x at.y at.is)) filled in
+          let inside = blank_inside x y here in
+          ap (λ (G : Field). G x y) e ∙ opens_all 24 (shape piece r) blank x y here inside.0 inside.1 free_here
+  free_exact piece r G e (pos x, negsuc y) = false_from_ne_true _ (λ free_here. not_there (free_pivot F piece r (pos x, negsuc y) free_here))
+    where
+      not_there : LiesAt (pos x, negsuc y) → ⊥
+      not_there lies = let e : negsuc y ≡ pos lies.y = ap (λ (c : Cell). c.1) lies.is in cc
+  free_exact piece r G e (negsuc x, pos y) = false_from_ne_true _ (λ free_here. not_there (free_pivot F piece r (negsuc x, pos y) free_here))
+    where
+      not_there : LiesAt (negsuc x, pos y) → ⊥
+      not_there lies = let e : negsuc x ≡ pos lies.x = ap (λ (c : Cell). c.0) lies.is in cc
+  free_exact piece r G e (negsuc x, negsuc y) = false_from_ne_true _ (λ free_here. not_there (free_pivot F piece r (negsuc x, negsuc y) free_here))
+    where
+      not_there : LiesAt (negsuc x, negsuc y) → ⊥
+      not_there lies = let e : negsuc x ≡ pos lies.x = ap (λ (c : Cell). c.0) lies.is in cc
+
+-- a board made so holds the free pivots
+pub free_pivots-exact : (F B : Field) (piece : Piece) (r : Rotation) (G : Field) → B ≡ difference (rows_below 23) F → G ≡ opened_at B 24 (shape piece r) B → AreFreePivots F piece r G
+free_pivots-exact F B piece r G is made =
+    record { exact = free_exact F piece r G (made ∙ ap (λ (B : Field). opened_at B 24 (shape piece r) B) is) }
+
+-- four such boards hold the free states
+pub free_map : (F : Field) (piece : Piece) (free : States) →
+    AreFreePivots F piece Spawn (free Spawn) → AreFreePivots F piece Right (free Right) → AreFreePivots F piece Reverse (free Reverse) → AreFreePivots F piece Left (free Left) → IsFreeMap F piece free
+unfolding has_pivot
+free_map F piece free a b c d = record { exact = λ r. (each r).exact }
+  where
+    each : (r : Rotation) → AreFreePivots F piece r (free r)
+    each Spawn = a
+    each Right = b
+    each Reverse = c
+    each Left = d

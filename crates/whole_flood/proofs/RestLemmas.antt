@@ -1,0 +1,153 @@
+-- Where states come to rest, rotation by rotation.
+use Rattle.std.proofs.Common.{◌≡◌, ℕ, zero, suc, ◌≤◌, true, false, pos, ◌+ℤ◌, refl, sym, ap, subst, ◌∙◌, inl, inr, arith}
+use Rattle.std.proofs.lemmas.Bool.{cases_Bool, cases_lt, and_parts, and_from, not-true, not_from_false, cond-true, cond-false, both_ways, false_from_ne_true}
+use Rattle.std.proofs.lemmas.Int.{ints}
+use Rattle.lane_board.specs.Field.{Field, difference}
+use Rattle.srs.specs.declared.piece.Piece.{Piece}
+use Rattle.srs.specs.declared.rotation.Rotation.{Rotation}
+use Rattle.srs.specs.declared.rotation.Rotation.TheVariants.{Spawn, Right, Reverse, Left}
+use Rattle.srs.specs.declared.placement.Placement.{Placement}
+use Rattle.srs.specs.Cells.{Cell, minus, moved}
+use Rattle.well.specs.Free.{is_free_at}
+use Rattle.moves.specs.Rest.{rest_from}
+use Rattle.place_sets.specs.declared.spreading.Shifts.TheVariants as Shift
+use Rattle.place_sets.specs.Shifts.{lower, widened_by}
+use Rattle.place_sets.specs.States.{States}
+use Rattle.whole_flood.specs.Rested.{IsRested, AreRested}
+use Rattle.place_sets.proofs.CallerLemmas.{LiesWithin, IsWithin, moved_from, moved_to, spread-has, still-has, widened-from, state_of}
+
+pub rested_each : (N : ℕ) (free S R : States) → IsRested N (free Spawn) (S Spawn) (R Spawn) → IsRested N (free Right) (S Right) (R Right) → IsRested N (free Reverse) (S Reverse) (R Reverse) → IsRested N (free Left) (S Left) (R Left) → AreRested N free S R
+rested_each N free S R a b c d = record { each = each }
+  where
+    each : (r : Rotation) → IsRested N (free r) (S r) (R r)
+    each Spawn = a
+    each Right = b
+    each Reverse = c
+    each Left = d
+
+-- moved by one row up or down
+row_below : (a b x y : ℕ) → moved (pos a, pos b) (pos 0, minus 1) ≡ (pos x, pos y) → (a ≡ x) × (b ≡ suc y)
+unfolding moved
+row_below a b x y there =
+    let p : pos a +ℤ pos 0 ≡ pos x = ap (λ (c : Cell). c.0) there in
+    let q : pos b +ℤ minus 1 ≡ pos y = ap (λ (c : Cell). c.1) there in
+    (omega (arith, ints), omega (arith, ints))
+
+to_row_below : (x y : ℕ) → moved (pos x, pos (suc y)) (pos 0, minus 1) ≡ (pos x, pos y)
+unfolding moved
+to_row_below x y =
+    let p : pos x +ℤ pos 0 ≡ pos x = omega (arith, ints) in
+    let q : pos (suc y) +ℤ minus 1 ≡ pos y = omega (arith, ints) in
+    λ i. (p i, q i)
+
+row_above : (a b x y : ℕ) → moved (pos a, pos b) (pos 0, pos 1) ≡ (pos x, pos y) → (a ≡ x) × (suc b ≡ y)
+unfolding moved
+row_above a b x y there =
+    let p : pos a +ℤ pos 0 ≡ pos x = ap (λ (c : Cell). c.0) there in
+    let q : pos b +ℤ pos 1 ≡ pos y = ap (λ (c : Cell). c.1) there in
+    (omega (arith, ints), omega (arith, ints))
+
+to_row_above : (x y : ℕ) → moved (pos x, pos y) (pos 0, pos 1) ≡ (pos x, pos (suc y))
+unfolding moved
+to_row_above x y =
+    let p : pos x +ℤ pos 0 ≡ pos x = omega (arith, ints) in
+    let q : pos y +ℤ pos 1 ≡ pos (suc y) = omega (arith, ints) in
+    λ i. (p i, q i)
+
+-- a pivot of the set from which a fall through free pivots leads to a cell
+pub record FallsTo (free S : Field) (x y : ℕ) : Type 0 where
+  pub from : ℕ
+  pub above : y ≤ from
+  pub starts : S x from ≡ true
+  pub through : (k : ℕ) → y ≤ k → k ≤ from → free x k ≡ true
+
+module _ (N : ℕ) (free S : Field) (within : IsWithin S free) where
+  one_down : (x y : ℕ) → free x y ≡ true → FallsTo free S x (suc y) → FallsTo free S x y
+  one_down x y is_free way = record {
+    from = way.from;
+    above = omega arith;
+    starts = way.starts;
+    through = λ k low high. elim (cases_lt y k) [
+      | inl more ↦ way.through k (omega arith) high
+      | inr none ↦ let same : y ≡ k = omega arith in subst (λ k. free x k ≡ true) same is_free
+    ];
+  }
+
+  falls_by_rounds : (rounds : ℕ) (x y : ℕ) → widened_by rounds Shift.Down N free S x y ≡ true → FallsTo free S x y
+  unfolding widened_by lower
+  falls_by_rounds zero x y held = record {
+    from = y;
+    above = omega arith;
+    starts = held;
+    through = λ k low high. let same : y ≡ k = omega arith in subst (λ k. free x k ≡ true) same (within.has x y held);
+  }
+  falls_by_rounds (suc rounds) x y held = elim (widened-from Shift.Down N free (widened_by rounds Shift.Down N free S) x y held) [
+    | inl old ↦ falls_by_rounds rounds x y old
+    | inr new ↦
+        let way = moved_from (widened_by rounds Shift.Down N free S) N (pos 0, minus 1) x y new.1 in
+        let at = row_below way.from_x way.from_y x y way.there in
+        one_down x y new.0 (falls_by_rounds rounds x (suc y) (subst (λ y. widened_by rounds Shift.Down N free S x y ≡ true) at.1 (subst (λ x. widened_by rounds Shift.Down N free S x way.from_y ≡ true) at.0 way.filled)))
+  ]
+
+  -- a resting pivot is one to which a pivot falls, with no free one below
+  pub rested_from : (R : Field) (x y : ℕ) → LiesWithin free N → IsRested N free S R → R x y ≡ true → FallsTo free S x y × ((below : ℕ) → y ≡ suc below → free x below ≡ false)
+  unfolding difference
+  rested_from R x y lies is held =
+      let parts = and_parts (is.fallen x y) _ (sym (ap (λ (G : Field). G x y) is.rests) ∙ held) in
+      let fallen = subst (λ (G : Field). G x y ≡ true) is.falls.grown parts.0 in
+      let way = falls_by_rounds is.falls.rounds x y fallen in (
+        way,
+        λ below e. false_from_ne_true _ (λ open_below.
+            let here = lies.inside x y (way.through y (omega arith) way.above) in
+            both_ways _ (not-true _ parts.1) (moved_to free N (pos 0, pos 1) x below x y open_below (to_row_above x below ∙ ap (λ (y : ℕ). (pos x, pos y)) (sym e)) here.0 here.1)),
+      )
+
+  module _ (R : Field) (lies : LiesWithin free N) (is : IsRested N free S R) (F : Field) (piece : Piece) (r : Rotation) (exact : (x y : ℕ) → is_free_at F piece r (pos x, pos y) ≡ free x y) where
+    -- from a pivot to which others fall on, the rest is a resting pivot
+    pub record RestsThere (x : ℕ) (rest : Placement) : Type 0 where
+      pub kind : rest.piece ≡ piece
+      pub turn : rest.rotation ≡ r
+      pub column : rest.x ≡ x
+      pub held : R x rest.y ≡ true
+      pub is_free : free x rest.y ≡ true
+
+    stays_there : (x y : ℕ) → is.fallen x y ≡ true → ((below : ℕ) → y ≡ suc below → free x below ≡ false) → R x y ≡ true
+    unfolding difference
+    stays_there x y fallen blocked = ap (λ (G : Field). G x y) is.rests ∙ and_from _ _ fallen (not_from_false _ (false_from_ne_true _ (λ lifted.
+        let way = moved_from free N (pos 0, pos 1) x y lifted in
+        let at = row_above way.from_x way.from_y x y way.there in
+        both_ways _ (blocked way.from_y (sym at.1)) (subst (λ x. free x way.from_y ≡ true) at.0 way.filled))))
+
+    rests_there : (x y : ℕ) → is.fallen x y ≡ true → free x y ≡ true → RestsThere x (rest_from F piece r x y)
+    unfolding rest_from lower
+    rests_there x zero fallen is_free = record { kind = refl; turn = refl; column = refl; held = stays_there x 0 fallen (λ below e. absurd (omega arith)); is_free = is_free }
+    rests_there x (suc y) fallen is_free = elim (cases_Bool (free x y)) [
+      | inl lower_free ↦
+          let inside = lies.inside x y lower_free in
+          let further = still-has Shift.Down N free S is.fallen is.falls x y lower_free (moved_to is.fallen N (pos 0, minus 1) x (suc y) x y fallen (to_row_below x y) inside.0 inside.1) in
+          subst (RestsThere x) (sym (cond-true _ (rest_from F piece r x y) (state_of piece r x (suc y)) (exact x y ∙ lower_free))) (rests_there x y further lower_free)
+      | inr blocked ↦
+          subst (RestsThere x) (sym (cond-false _ (rest_from F piece r x y) (state_of piece r x (suc y)) (exact x y ∙ blocked)))
+          (record { kind = refl; turn = refl; column = refl; held = stays_there x (suc y) fallen (λ below e. let same : y ≡ below = omega arith in subst (λ y. free x y ≡ false) same blocked); is_free = is_free })
+    ]
+
+    pub rest_held : (x y : ℕ) → S x y ≡ true → RestsThere x (rest_from F piece r x y)
+    rest_held x y held = rests_there x y ((spread-has Shift.Down N free S is.fallen is.falls).has x y held) (within.has x y held)
+
+    -- the rest of a state that falls to a resting pivot
+    rest_reaches : (x from y : ℕ) → y ≤ from → ((k : ℕ) → y ≤ k → k ≤ from → free x k ≡ true) → ((below : ℕ) → y ≡ suc below → free x below ≡ false) → rest_from F piece r x from ≡ state_of piece r x y
+    unfolding rest_from
+    rest_reaches x zero y above through blocked = let same : 0 ≡ y = omega arith in ap (state_of piece r x) same
+    rest_reaches x (suc from) y above through blocked = elim (cases_lt from y) [
+      | inl top ↦
+          let same : y ≡ suc from = omega arith in
+          cond-false _ (rest_from F piece r x from) (state_of piece r x (suc from)) (exact x from ∙ blocked from same) ∙ ap (state_of piece r x) (sym same)
+      | inr further ↦
+          cond-true _ (rest_from F piece r x from) (state_of piece r x (suc from)) (exact x from ∙ through from further (omega arith))
+          ∙ rest_reaches x from y further (λ k low high. through k low (omega arith)) blocked
+    ]
+
+    pub held_rest : (x y : ℕ) → R x y ≡ true → (from : ℕ) × (S x from ≡ true) × (rest_from F piece r x from ≡ state_of piece r x y)
+    held_rest x y held =
+        let parts = rested_from R x y lies is held in
+        (parts.0.from, parts.0.starts, rest_reaches x parts.0.from y parts.0.above parts.0.through parts.1)

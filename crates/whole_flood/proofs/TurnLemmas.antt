@@ -1,0 +1,119 @@
+-- A set of pivots that turns goes where each of its pivots turns to.
+use Rattle.std.proofs.Common.{◌≡◌, ℕ, true, false, ◌&&◌, pos, Some, List, [], ◌∷◌, map, sym, ap, subst, ◌∙◌, inl, inr, ◌⊎◌}
+use Rattle.std.specs.Prelude.{neg_ℤ}
+use Rattle.std.proofs.lemmas.Bool.{cases_Bool, and_parts, and_from, or_cases, or_left, or_right, not-true, not_from_false, cond-true, cond-false, both_ways, false_from_ne_true}
+use Rattle.lane_board.specs.Field.{Field, intersection, union, difference, moved_within}
+use Rattle.srs.specs.declared.piece.Piece.{Piece}
+use Rattle.srs.specs.declared.rotation.Rotation.{Rotation}
+use Rattle.srs.specs.declared.placement.Placement.{Placement}
+use Rattle.srs.specs.Cells.{Cell, moved}
+use Rattle.moves.specs.Step.{state_at}
+use Rattle.moves.proofs.CallerLemmas.{some_same, not_some}
+use Rattle.place_sets.specs.States.{States, has_pivot}
+use Rattle.whole_flood.specs.Flood.{first_in}
+use Rattle.whole_flood.specs.Kicks.{kicked_to, left_by, turned_from}
+use Rattle.place_sets.proofs.CallerLemmas.{LiesWithin, moved_from, moved_to, moved_back, moved_forth, state_of, PivotAt, pivot_at, has_pivot-at}
+
+module _ (free : States) (N : ℕ) (piece : Piece) (to : Rotation) (lies : LiesWithin (free to) N) where
+  -- a pivot of the set that the tests take to a cell
+  pub record Arrives (S : Field) (moves : List Cell) (x y : ℕ) : Type 0 where
+    pub from_x : ℕ
+    pub from_y : ℕ
+    pub filled : S from_x from_y ≡ true
+    pub first : first_in free piece to (map (moved (pos from_x, pos from_y)) moves) ≡ Some (state_of piece to x y)
+
+  -- a pivot that a test takes nowhere is left
+  taken_away : (move : Cell) (S : Field) (x y : ℕ) → LiesWithin S N → S x y ≡ true → has_pivot free to (moved (pos x, pos y) move) ≡ true → moved_within (kicked_to (free to) N move S) N (neg_ℤ move.0) (neg_ℤ move.1) x y ≡ true
+  unfolding kicked_to intersection
+  taken_away move S x y within filled has =
+      let at : PivotAt (free to) (moved (pos x, pos y) move) = pivot_at free to _ has in
+      let there = lies.inside at.x at.y at.filled in
+      let here = within.inside x y filled in
+      moved_to (kicked_to (free to) N move S) N (neg_ℤ move.0, neg_ℤ move.1) at.x at.y x y
+      (and_from _ _ at.filled (moved_to S N move x y at.x at.y filled at.is there.0 there.1))
+      (moved_back x y at.x at.y move at.is) here.0 here.1
+
+  taken_back : (move : Cell) (S : Field) (x y : ℕ) → moved_within (kicked_to (free to) N move S) N (neg_ℤ move.0) (neg_ℤ move.1) x y ≡ true → has_pivot free to (moved (pos x, pos y) move) ≡ true
+  unfolding kicked_to intersection
+  taken_back move S x y back =
+      let way = moved_from (kicked_to (free to) N move S) N (neg_ℤ move.0, neg_ℤ move.1) x y back in
+      let hit = and_parts (free to way.from_x way.from_y) _ way.filled in
+      has_pivot-at free to _ way.from_x way.from_y (moved_forth way.from_x way.from_y x y move way.there) hit.0
+
+  left_within : (move : Cell) (S : Field) → LiesWithin S N → LiesWithin (left_by N move (kicked_to (free to) N move S) S) N
+  unfolding left_by difference
+  left_within move S within = record { inside = λ x y filled. within.inside x y (and_parts (S x y) _ filled).0 }
+
+  -- what is left was not taken
+  left_not_taken : (move : Cell) (S : Field) (x y : ℕ) → LiesWithin S N → left_by N move (kicked_to (free to) N move S) S x y ≡ true → (S x y ≡ true) × (has_pivot free to (moved (pos x, pos y) move) ≡ false)
+  unfolding left_by difference
+  left_not_taken move S x y within left =
+      let parts = and_parts (S x y) _ left in
+      (parts.0, false_from_ne_true _ (λ has. both_ways _ (not-true _ parts.1) (taken_away move S x y within parts.0 has)))
+
+  -- what was not taken is left
+  not_taken_left : (move : Cell) (S : Field) (x y : ℕ) → S x y ≡ true → has_pivot free to (moved (pos x, pos y) move) ≡ false → left_by N move (kicked_to (free to) N move S) S x y ≡ true
+  unfolding left_by difference
+  not_taken_left move S x y filled none =
+      and_from _ _ filled (not_from_false _ (false_from_ne_true _ (λ back. both_ways _ none (taken_back move S x y back))))
+
+  -- each pivot that the set turns to is one that a pivot turns to
+  pub arrives : (moves : List Cell) (S before : Field) (x y : ℕ) → LiesWithin S N → turned_from (free to) N moves S before x y ≡ true → (before x y ≡ true) ⊎ Arrives S moves x y
+  unfolding turned_from kicked_to intersection first_in union
+  arrives [] S before x y within held = inl held
+  arrives (move ∷ moves) S before x y within held = elim (arrives moves (left_by N move (kicked_to (free to) N move S) S) (union before (kicked_to (free to) N move S)) x y (left_within move S within) held) [
+    | inl now ↦ here now
+    | inr later ↦ inr (passed later)
+  ]
+    where
+      landed : kicked_to (free to) N move S x y ≡ true → Arrives S (move ∷ moves) x y
+      landed hit =
+          let parts = and_parts (free to x y) _ hit in
+          let way = moved_from S N move x y parts.1 in
+          record {
+            from_x = way.from_x;
+            from_y = way.from_y;
+            filled = way.filled;
+            first = cond-true _ (state_at piece to (moved (pos way.from_x, pos way.from_y) move)) _ (has_pivot-at free to _ x y way.there parts.0) ∙ ap (state_at piece to) way.there;
+          }
+
+      here : union before (kicked_to (free to) N move S) x y ≡ true → (before x y ≡ true) ⊎ Arrives S (move ∷ moves) x y
+      here now = elim (or_cases (before x y) (kicked_to (free to) N move S x y) now) [
+        | inl old ↦ inl old
+        | inr hit ↦ inr (landed hit)
+      ]
+
+      passed : Arrives (left_by N move (kicked_to (free to) N move S) S) moves x y → Arrives S (move ∷ moves) x y
+      passed way =
+          let parts = left_not_taken move S way.from_x way.from_y within way.filled in
+          record {
+            from_x = way.from_x;
+            from_y = way.from_y;
+            filled = parts.0;
+            first = cond-false _ (state_at piece to (moved (pos way.from_x, pos way.from_y) move)) _ parts.1 ∙ way.first;
+          }
+
+  -- what was reached before stays
+  pub turned_keeps : (moves : List Cell) (S before : Field) (x y : ℕ) → before x y ≡ true → turned_from (free to) N moves S before x y ≡ true
+  unfolding turned_from union
+  turned_keeps [] S before x y held = held
+  turned_keeps (move ∷ moves) S before x y held =
+      turned_keeps moves (left_by N move (kicked_to (free to) N move S) S) (union before (kicked_to (free to) N move S)) x y (or_left _ _ held)
+
+  -- the set turns to each pivot that one of its pivots turns to
+  pub reaches : (moves : List Cell) (S before : Field) (a b : ℕ) (t : Placement) → LiesWithin S N → S a b ≡ true → first_in free piece to (map (moved (pos a, pos b)) moves) ≡ Some t → turned_from (free to) N moves S before t.x t.y ≡ true
+  unfolding turned_from first_in union kicked_to intersection
+  reaches [] S before a b t within filled e = absurd (not_some e)
+  reaches (move ∷ moves) S before a b t within filled e = elim (cases_Bool (has_pivot free to (moved (pos a, pos b) move))) [
+    | inl has ↦ turned_keeps moves (left_by N move (kicked_to (free to) N move S) S) (union before (kicked_to (free to) N move S)) t.x t.y
+        (or_right _ _ (lands (pivot_at free to _ has) (sym (cond-true _ (state_at piece to (moved (pos a, pos b) move)) (first_in free piece to (map (moved (pos a, pos b)) moves)) has) ∙ e)))
+    | inr none ↦ reaches moves (left_by N move (kicked_to (free to) N move S) S) (union before (kicked_to (free to) N move S)) a b t (left_within move S within) (not_taken_left move S a b filled none)
+        (sym (cond-false _ (state_at piece to (moved (pos a, pos b) move)) (first_in free piece to (map (moved (pos a, pos b)) moves)) none) ∙ e)
+  ]
+    where
+      lands : PivotAt (free to) (moved (pos a, pos b) move) → state_at piece to (moved (pos a, pos b) move) ≡ Some t → kicked_to (free to) N move S t.x t.y ≡ true
+      lands at f =
+          let same : state_of piece to at.x at.y ≡ t = some_same (sym (ap (state_at piece to) at.is) ∙ f) in
+          let there = lies.inside at.x at.y at.filled in
+          subst (λ (t : Placement). (free to t.x t.y && moved_within S N move.0 move.1 t.x t.y) ≡ true) same
+          (and_from _ _ at.filled (moved_to S N move a b at.x at.y filled at.is there.0 there.1))

@@ -1,0 +1,60 @@
+// Resting states as canonical placements.
+ghost use Rattle.std.specs.Prelude.{◌≡◌, ◌≤◌, pos, ◌-ℤ◌};
+ghost use Rattle.srs.specs.Canonical.{canonical_rotation, canonical_move};
+ghost use Rattle.place_sets.specs.States.{states_of};
+ghost use Rattle.whole_flood.specs.Folded.{folded_with, folded};
+
+use place_sets::Pivots;
+use srs::{Piece, Placement, Rotation, canonical};
+
+/// The canonical placements that have the cells of these states.
+#[tactic(auto, unfolding(crate::specs::Folded::folded))]
+pub(crate) fn folded<const N: usize>(piece: Piece, states: &Pivots<N>) -> Pivots<N>
+    ensures { states_of result ≡ folded piece N (states_of states.now) }
+{
+    let none = Pivots::empty();
+    let first = folded_with(piece, states, Rotation::Spawn, &none);
+    let second = folded_with(piece, states, Rotation::Right, &first);
+    let third = folded_with(piece, states, Rotation::Reverse, &second);
+    folded_with(piece, states, Rotation::Left, &third)
+}
+
+#[tactic(auto, unfolding(crate::specs::Folded::folded_with))]
+/// The placements, plus those with the cells of the states in one rotation.
+fn folded_with<const N: usize>(
+    piece: Piece,
+    states: &Pivots<N>,
+    rotation: Rotation,
+    held: &Pivots<N>,
+) -> Pivots<N>
+    ensures { states_of result ≡ folded_with piece N (states_of states.now) rotation (states_of held.now) }
+{
+    let (to, (dx, dy)) = canonical_change(piece, rotation);
+    let moved = states.board(rotation).moved(dx, dy);
+    held.with(to, &held.board(to).or(&moved))
+}
+
+/// The earliest rotation in which the piece can have the cells of this one, and how far its pivot moves for that.
+fn canonical_change(piece: Piece, rotation: Rotation) -> (Rotation, (i8, i8))
+    ensures rotation { result.0 ≡ canonical_rotation piece rotation }
+    ensures pivot { result.1 ≡ canonical_move piece rotation }
+{
+    let earliest = canonical(&Placement {
+        piece,
+        rotation,
+        x: 4,
+        y: 4,
+    });
+    (
+        earliest.rotation,
+        (less_four(earliest.x), less_four(earliest.y)),
+    )
+}
+
+/// The number minus four.
+fn less_four(number: u8) -> i8
+    requires { number ≤ 8 }
+    ensures { result ≡ pos number -ℤ pos 4 }
+{
+    number as i8 - 4
+}

@@ -1,0 +1,68 @@
+// The free states of a piece in a field.
+ghost use Rattle.std.specs.Prelude.{◌≡◌, pos, ◌≤ℤ◌, IsTrue};
+ghost use Rattle.std.specs.List.{list_all};
+ghost use Rattle.lane_board.specs.Board.{field_of};
+ghost use Rattle.srs.specs.Cells.{shape, is_near};
+ghost use Rattle.place_sets.specs.States.{states_of};
+ghost use Rattle.whole_flood.specs.FreePivots.{AreFreePivots};
+ghost use Rattle.whole_flood.specs.Opened.{opened, opened_at, IsFreeMap};
+
+use lane_board::LaneBoard;
+use place_sets::Pivots;
+use srs::{Piece, Placement, Rotation, cells};
+
+/// The states of a piece whose cells all lie in the well and are not filled.
+pub(crate) fn free_states(filled: &LaneBoard<24>, piece: Piece) -> Pivots<24>
+    ensures { IsFreeMap (field_of filled.now) piece (states_of result) }
+{
+    Pivots {
+        spawn: free_pivots(filled, piece, Rotation::Spawn),
+        right: free_pivots(filled, piece, Rotation::Right),
+        reverse: free_pivots(filled, piece, Rotation::Reverse),
+        left: free_pivots(filled, piece, Rotation::Left),
+    }
+}
+
+/// The pivots at which a piece in a rotation is free: its cells all lie in the well and are not filled. The board's
+/// columns and rows are those of the pivots.
+pub fn free_pivots(filled: &LaneBoard<24>, piece: Piece, rotation: Rotation) -> LaneBoard<24>
+    ensures { AreFreePivots (field_of filled.now) piece rotation (field_of result) }
+{
+    let blank = LaneBoard::rows_below(23).minus(filled);
+    blank_pivots(&blank, piece, rotation)
+}
+
+#[tactic(auto, unfolding(crate::specs::Opened::opened_at))]
+/// The pivots at which all cells of the piece are blank.
+fn blank_pivots(blank: &LaneBoard<24>, piece: Piece, rotation: Rotation) -> LaneBoard<24>
+    ensures { field_of result ≡ opened_at (field_of blank.now) 24 (shape piece rotation) (field_of blank.now) }
+{
+    let [a, b, c, d] = offsets(piece, rotation);
+    let first = opened(blank, a, blank);
+    let second = opened(blank, b, &first);
+    let third = opened(blank, c, &second);
+    opened(blank, d, &third)
+}
+
+/// The offsets of the four cells of a piece from its pivot, which are its cells if the pivot is in column 0 and row 0.
+fn offsets(piece: Piece, rotation: Rotation) -> [(i8, i8); 4]
+    ensures shape { result ≡ shape piece rotation }
+    ensures near { IsTrue (list_all is_near result) }
+{
+    cells(&Placement {
+        piece,
+        rotation,
+        x: 0,
+        y: 0,
+    })
+}
+
+/// The pivots among these with a blank cell at the offset.
+#[tactic(auto, unfolding(crate::specs::Opened::opened))]
+#[inline(always)]
+fn opened(blank: &LaneBoard<24>, offset: (i8, i8), pivots: &LaneBoard<24>) -> LaneBoard<24>
+    requires { IsTrue (is_near offset) }
+    ensures { field_of result ≡ opened (field_of blank.now) 24 offset (field_of pivots.now) }
+{
+    pivots.and(&blank.moved(0 - offset.0, 0 - offset.1))
+}

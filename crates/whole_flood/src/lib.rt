@@ -1,0 +1,12 @@
+// The flood of the whole field of 24 rows, for any field and any table of offsets.
+#![tactic(auto)]
+
+mod flood;
+mod fold;
+mod free;
+mod rest;
+mod turn;
+mod whole;
+
+pub use free::free_pivots;
+pub use whole::whole_places;
