@@ -1,9 +1,8 @@
 -- The first of the runs of so many placements.
-use Rattle.std.proofs.Common.{◌≡◌, ◌≢◌, ℕ, ◌-◌, ◌≤◌, ◌<◌, false, List, [], ◌∷◌, length, refl, ap, sym, subst, ◌∙◌, arith, Option, Some, None, inl, inr, ◌⊎◌, ◌↔◌}
+use Rattle.std.proofs.Common.{◌≡◌, ◌≢◌, ℕ, ◌-◌, ◌≤◌, ◌<◌, false, List, [], ◌∷◌, length, map, refl, ap, sym, subst, ◌∙◌, arith, Option, Some, None, inl, inr, ◌⊎◌}
 use Rattle.std.specs.Ordering.{is_lt, ordering_then, ordering_reverse, nat_cmp}
 use Rattle.std.specs.declared.cmp.Ordering.{Ordering}
 use Rattle.std.specs.declared.cmp.Ordering.TheVariants.{Less, Equal, Greater}
-use Rattle.std.specs.Option.{option_map}
 use Rattle.std.specs.Prelude.{IfSome}
 use Rattle.arrayvec.specs.ArrayVec.{ArrayVec}
 use Rattle.std.proofs.lemmas.Bool.{cases_Bool, false≢true}
@@ -20,18 +19,20 @@ use Rattle.srs.proofs.CallerLemmas.{placement_cmp-total, sequence_cmp-first, seq
 use Rattle.well.specs.Lock.{locked, rows_removed}
 use Rattle.moves.specs.declared.key.DropMode.{DropMode}
 use Rattle.moves.specs.Place.{IsPlace}
+use Rattle.hold_queue.specs.declared.hand.Hand.{Hand}
+use Rattle.hold_queue.specs.declared.hand.Taken.{Taken}
 use Rattle.hold_queue.specs.declared.hold.Hold.{Hold}
-use Rattle.hold_queue.specs.Permits.{Permits, Way}
-use Rattle.combo.specs.declared.hand.Turn.{Turn}
+use Rattle.hold_queue.specs.AtHand.{Take, Takes, at_hand}
+use Rattle.hold_queue.specs.Hand.{AreAllTakes, AreInOrder, Leaves, pieces_at}
+use Rattle.hold_queue.proofs.CallerLemmas.{permits-of_takes, takes-of_permits}
 use Rattle.combo.specs.Longest.{IsPermittedRun, IsLongest}
-use Rattle.combo.specs.First.{IsFirst, AreShorter, RunsOn, RunsOnIf, RunsOnUpTo}
-use Rattle.combo.specs.Turns.{Next, AreInOrder, AreWays, next_of}
+use Rattle.combo.specs.First.{IsFirst, IsTakenRun, AreShorter, RunsOn, RunsOnIf, RunsOnUpTo}
 
 -- ---- one placement after the other
 
--- the members of a turn's places
-abbrev IsAt : Table → DropMode → Field → Next → Placement → Type 0
-IsAt table mode F next q = (q.piece ≡ next.piece) × IsPlace table F mode q
+-- the places of a taken piece
+abbrev IsAt : Table → DropMode → Field → Taken → Placement → Type 0
+IsAt table mode F taken q = (q.piece ≡ taken.piece) × IsPlace table F mode q
 
 -- up to the next placement there are those up to the bound, and itself
 up_to_next : (IsMember : Placement → Type 0) (bound : Option Placement) (q p : Placement) → IsLeastAbove placement_cmp IsMember bound q → IsMember p
@@ -46,44 +47,44 @@ up_to_next IsMember bound q p next member up_to = elim (cases_Bool (is_above pla
     by Equal is least = inr (placement_cmp-antisymmetric p q is)
     by Greater is least = absurd (false≢true (sym up_to ∙ ap is_lt (placement_cmp-total.antisymm q p ∙ ap ordering_reverse is)))
 
-module _ (table : Table) (mode : DropMode) (hold : Hold) (F : Field) (next : Next) (count : ℕ) (some : 0 < count) where
+module _ (table : Table) (mode : DropMode) (hold : Hold) (F : Field) (queue : List Piece) (taken : Taken) (count : ℕ) (some : 0 < count) where
   -- before the first placement
-  pub begins : AreShorter (RunsOnUpTo table mode hold F next None) count
+  pub begins : AreShorter (RunsOnUpTo table mode hold F queue taken None) count
   begins = record { each = each }
     where
-      each : (run : List Placement) → RunsOnUpTo table mode hold F next None run → length run < count
+      each : (run : List Placement) → RunsOnUpTo table mode hold F queue taken None run → length run < count
       each [] member = some
       each (q ∷ rest) member = absurd (false≢true (sym member.1))
 
   -- a placement after which no run is long enough
-  pub goes_on : (bound : Option Placement) (q : Placement) → AreShorter (RunsOnUpTo table mode hold F next bound) count → IsLeastAbove placement_cmp (IsAt table mode F next) bound q
-      → AreShorter (IsPermittedRun table mode (locked F q) hold next.queue next.held) (count - 1) → AreShorter (RunsOnUpTo table mode hold F next (Some q)) count
+  pub goes_on : (bound : Option Placement) (q : Placement) → AreShorter (RunsOnUpTo table mode hold F queue taken bound) count → IsLeastAbove placement_cmp (IsAt table mode F taken) bound q
+      → AreShorter (IsTakenRun table mode (locked F q) hold (pieces_at queue taken.rest)) (count - 1) → AreShorter (RunsOnUpTo table mode hold F queue taken (Some q)) count
   goes_on bound q so_far least rest = record { each = each }
     where
-      each : (run : List Placement) → RunsOnUpTo table mode hold F next (Some q) run → length run < count
+      each : (run : List Placement) → RunsOnUpTo table mode hold F queue taken (Some q) run → length run < count
       each [] member = some
-      each (p ∷ run) member = elim (up_to_next (IsAt table mode F next) bound q p least (member.0.0, member.0.1) member.1) [
+      each (p ∷ run) member = elim (up_to_next (IsAt table mode F taken) bound q p least (member.0.0, member.0.1) member.1) [
         | inl below ↦ so_far.each (p ∷ run) (member.0, below)
-        | inr same ↦ omega (arith, some, rest.each run (subst (λ x. IsPermittedRun table mode (locked F x) hold next.queue next.held run) same member.0.3))
+        | inr same ↦ omega (arith, some, rest.each run (subst (λ x. IsTakenRun table mode (locked F x) hold (pieces_at queue taken.rest) run) same member.0.3))
       ]
 
   -- one that removes no row
-  pub passes : (bound : Option Placement) (q : Placement) → AreShorter (RunsOnUpTo table mode hold F next bound) count → IsLeastAbove placement_cmp (IsAt table mode F next) bound q
-      → rows_removed F q ≡ 0 → AreShorter (RunsOnUpTo table mode hold F next (Some q)) count
+  pub passes : (bound : Option Placement) (q : Placement) → AreShorter (RunsOnUpTo table mode hold F queue taken bound) count → IsLeastAbove placement_cmp (IsAt table mode F taken) bound q
+      → rows_removed F q ≡ 0 → AreShorter (RunsOnUpTo table mode hold F queue taken (Some q)) count
   passes bound q so_far least none = record { each = each }
     where
-      each : (run : List Placement) → RunsOnUpTo table mode hold F next (Some q) run → length run < count
+      each : (run : List Placement) → RunsOnUpTo table mode hold F queue taken (Some q) run → length run < count
       each [] member = some
-      each (p ∷ run) member = elim (up_to_next (IsAt table mode F next) bound q p least (member.0.0, member.0.1) member.1) [
+      each (p ∷ run) member = elim (up_to_next (IsAt table mode F taken) bound q p least (member.0.0, member.0.1) member.1) [
         | inl below ↦ so_far.each (p ∷ run) (member.0, below)
         | inr same ↦ absurd (omega (arith, member.0.2, ap (rows_removed F) same, none))
       ]
 
   -- after the last placement
-  pub ends : (bound : Option Placement) → AreShorter (RunsOnUpTo table mode hold F next bound) count → NoneAbove placement_cmp (IsAt table mode F next) bound → AreShorter (RunsOn table mode hold F next) count
+  pub ends : (bound : Option Placement) → AreShorter (RunsOnUpTo table mode hold F queue taken bound) count → NoneAbove placement_cmp (IsAt table mode F taken) bound → AreShorter (RunsOn table mode hold F queue taken) count
   ends bound so_far none = record { each = each }
     where
-      each : (run : List Placement) → RunsOn table mode hold F next run → length run < count
+      each : (run : List Placement) → RunsOn table mode hold F queue taken run → length run < count
       each [] member = some
       each (p ∷ run) member = elim (cases_Bool (is_above placement_cmp bound p)) [
         | inl above ↦ absurd (none.none p (member.0, member.1) above)
@@ -91,68 +92,68 @@ module _ (table : Table) (mode : DropMode) (hold : Hold) (F : Field) (next : Nex
       ]
 
   -- a placement that begins a run which is long enough
-  pub found : (bound : Option Placement) (q : Placement) (rest run : List Placement) → AreShorter (RunsOnUpTo table mode hold F next bound) count → IsLeastAbove placement_cmp (IsAt table mode F next) bound q
-      → 1 ≤ rows_removed F q → IsFirst (IsPermittedRun table mode (locked F q) hold next.queue next.held) (count - 1) rest → run ≡ q ∷ rest → IsFirst (RunsOn table mode hold F next) count run
-  found bound q rest run so_far least removes rest_first is = subst (IsFirst (RunsOn table mode hold F next) count) (sym is) (record {
+  pub found : (bound : Option Placement) (q : Placement) (rest run : List Placement) → AreShorter (RunsOnUpTo table mode hold F queue taken bound) count → IsLeastAbove placement_cmp (IsAt table mode F taken) bound q
+      → 1 ≤ rows_removed F q → IsFirst (IsTakenRun table mode (locked F q) hold (pieces_at queue taken.rest)) (count - 1) rest → run ≡ q ∷ rest → IsFirst (RunsOn table mode hold F queue taken) count run
+  found bound q rest run so_far least removes rest_first is = subst (IsFirst (RunsOn table mode hold F queue taken) count) (sym is) (record {
     member = (least.member.0, least.member.1, removes, rest_first.member);
     long = omega (arith, some, rest_first.long);
     first = first;
   })
     where
-      by : (p : Placement) (other : List Placement) → RunsOn table mode hold F next (p ∷ other) → length other ≡ count - 1 → placement_cmp p q ≢ Less → (o : Ordering) → placement_cmp p q ≡ o
+      by : (p : Placement) (other : List Placement) → RunsOn table mode hold F queue taken (p ∷ other) → length other ≡ count - 1 → placement_cmp p q ≢ Less → (o : Ordering) → placement_cmp p q ≡ o
           → sequence_cmp (p ∷ other) (q ∷ rest) ≢ Less
       by p other member long least_q Less order less = least_q order
       by p other member long least_q Equal order less =
           let same : p ≡ q = placement_cmp-antisymmetric p q order in
-          rest_first.first other (subst (λ x. IsPermittedRun table mode (locked F x) hold next.queue next.held other) same member.3) long
+          rest_first.first other (subst (λ x. IsTakenRun table mode (locked F x) hold (pieces_at queue taken.rest) other) same member.3) long
           (sym (ap (λ o. ordering_then o (sequence_cmp other rest)) order) ∙ less)
       by p other member long least_q Greater order less = let greater : ordering_then Greater (sequence_cmp other rest) ≡ Less = sym (ap (λ o. ordering_then o (sequence_cmp other rest)) order) ∙ less in cc
 
-      first : (other : List Placement) → RunsOn table mode hold F next other → length other ≡ count → sequence_cmp other (q ∷ rest) ≢ Less
+      first : (other : List Placement) → RunsOn table mode hold F queue taken other → length other ≡ count → sequence_cmp other (q ∷ rest) ≢ Less
       first [] member long = absurd (omega (arith, some, long))
       first (p ∷ other) member long = elim (cases_Bool (is_above placement_cmp bound p)) [
         | inl above ↦ by p other member (omega (arith, long)) (least.least p (member.0, member.1) above) (placement_cmp p q) refl
         | inr below ↦ absurd (omega (arith, long, so_far.each (p ∷ other) (member, below)))
       ]
 
--- no turn, no run
-pub no_turn : (table : Table) (mode : DropMode) (hold : Hold) (F : Field) (turn : Option Next) (count : ℕ) → 0 < count → turn ≡ None → AreShorter (RunsOnIf table mode hold F turn) count
-no_turn table mode hold F None count some is = record { each = λ run member. omega (arith, some, ap length member) }
-no_turn table mode hold F (Some next) count some is = cc
+-- no piece, no run
+pub none_taken : (table : Table) (mode : DropMode) (hold : Hold) (F : Field) (queue : List Piece) (taken : Option Taken) (count : ℕ) → 0 < count → taken ≡ None → AreShorter (RunsOnIf table mode hold F queue taken) count
+none_taken table mode hold F queue None count some is = record { each = λ run member. omega (arith, some, ap length member) }
+none_taken table mode hold F queue (Some taken) count some is = cc
 
--- ---- two turns
+-- ---- two taken pieces
 
--- a permitted run begins with one of the two turns
-divided : (table : Table) (mode : DropMode) (hold : Hold) (F : Field) (queue : List Piece) (held : Option Piece) (one other : Option Next) → AreWays hold queue held one other
-    → (q : Placement) (run : List Placement) → IsPermittedRun table mode F hold queue held (q ∷ run) → RunsOnIf table mode hold F one (q ∷ run) ⊎ RunsOnIf table mode hold F other (q ∷ run)
-divided table mode hold F queue held one other ways q run member = elim ((ways.each next).1 way) [
-  | inl is ↦ inl (subst (λ turn. RunsOnIf table mode hold F turn (q ∷ run)) (sym is) on)
-  | inr is ↦ inr (subst (λ turn. RunsOnIf table mode hold F turn (q ∷ run)) (sym is) on)
-]
-  where
-    next : Next
-    next = record { piece = q.piece; queue = member.permitted.0; held = member.permitted.1 }
+runs_on : (table : Table) (mode : DropMode) (hold : Hold) (F : Field) (queue : List Piece) (taken : Option Taken) (q : Placement) (run : List Placement) (left : List Piece) → Leaves queue taken q.piece left
+    → IsPlace table F mode q → 1 ≤ rows_removed F q → IsTakenRun table mode (locked F q) hold left run → RunsOnIf table mode hold F queue taken (q ∷ run)
+runs_on table mode hold F queue None q run left leaves place removes rest = absurd leaves
+runs_on table mode hold F queue (Some taken) q run left leaves place removes rest =
+    (sym leaves.0, place, removes, subst (λ l. IsTakenRun table mode (locked F q) hold l run) (sym leaves.1) rest)
 
-    way : Way hold queue held q.piece member.permitted.0 member.permitted.1
-    way = member.permitted.2
+-- a run begins with one of the two
+divided : (table : Table) (mode : DropMode) (hold : Hold) (F : Field) (queue : List Piece) (hand : Hand) (one other : Option Taken) → AreAllTakes hold queue hand one other
+    → (q : Placement) (run : List Placement) → IsTakenRun table mode F hold (pieces_at queue hand) (q ∷ run) → RunsOnIf table mode hold F queue one (q ∷ run) ⊎ RunsOnIf table mode hold F queue other (q ∷ run)
+divided table mode hold F queue hand one other ways q run member =
+    let rest : IsTakenRun table mode (locked F q) hold member.taken.0 run = record { runs = member.runs.2; taken = member.taken.2 } in
+    elim ((ways.each q.piece member.taken.0).1 member.taken.1) [
+      | inl leaves ↦ inl (runs_on table mode hold F queue one q run member.taken.0 leaves member.runs.0 member.runs.1 rest)
+      | inr leaves ↦ inr (runs_on table mode hold F queue other q run member.taken.0 leaves member.runs.0 member.runs.1 rest)
+    ]
 
-    on : RunsOn table mode hold F next (q ∷ run)
-    on = (refl, member.runs.0, member.runs.1, record { runs = member.runs.2; permitted = member.permitted.3 })
-
--- and such a run is permitted
-on_permitted : (table : Table) (mode : DropMode) (hold : Hold) (F : Field) (queue : List Piece) (held : Option Piece) (turn : Option Next)
-    → ((next : Next) → turn ≡ Some next → Way hold queue held next.piece next.queue next.held) → (run : List Placement) → RunsOnIf table mode hold F turn run → IsPermittedRun table mode F hold queue held run
-on_permitted table mode hold F queue held turn way [] on = record { runs = tt; permitted = tt }
-on_permitted table mode hold F queue held None way (q ∷ run) on = cc
-on_permitted table mode hold F queue held (Some next) way (q ∷ run) on = record {
+-- and what begins so is a run
+on_taken : (table : Table) (mode : DropMode) (hold : Hold) (F : Field) (queue : List Piece) (hand : Hand) (taken : Option Taken)
+    → ((piece : Piece) (rest : List Piece) → Leaves queue taken piece rest → Take hold (pieces_at queue hand) piece rest) → (run : List Placement) → RunsOnIf table mode hold F queue taken run
+    → IsTakenRun table mode F hold (pieces_at queue hand) run
+on_taken table mode hold F queue hand taken way [] on = record { runs = tt; taken = tt }
+on_taken table mode hold F queue hand None way (q ∷ run) on = cc
+on_taken table mode hold F queue hand (Some taken) way (q ∷ run) on = record {
   runs = (on.1, on.2, on.3.runs);
-  permitted = (next.queue, next.held, subst (λ piece. Way hold queue held piece next.queue next.held) (sym on.0) (way next refl), on.3.permitted);
+  taken = (pieces_at queue taken.rest, way q.piece (pieces_at queue taken.rest) (sym on.0, refl), on.3.taken);
 }
 
--- the least placement of a turn has its piece
-plays : (table : Table) (mode : DropMode) (hold : Hold) (F : Field) (queue : List Piece) (turn : Turn) (q : Placement) (run : List Placement)
-    → RunsOnIf table mode hold F (Some (next_of queue turn)) (q ∷ run) → piece_code q.piece ≡ piece_code turn.piece
-plays table mode hold F queue turn q run on = ap piece_code on.0
+-- the first placement has the taken piece
+plays : (table : Table) (mode : DropMode) (hold : Hold) (F : Field) (queue : List Piece) (taken : Taken) (q : Placement) (run : List Placement)
+    → RunsOnIf table mode hold F queue (Some taken) (q ∷ run) → piece_code q.piece ≡ piece_code taken.piece
+plays table mode hold F queue taken q run on = ap piece_code on.0
 
 -- a run that begins with a lesser piece comes before
 before : (q p : Placement) (run other : List Placement) → piece_code q.piece < piece_code p.piece → sequence_cmp (p ∷ other) (q ∷ run) ≢ Less
@@ -162,24 +163,24 @@ before q p run other kind less =
     let greater : sequence_cmp (p ∷ other) (q ∷ run) ≡ Greater = sequence_cmp-total.antisymm (p ∷ other) (q ∷ run) ∙ ap ordering_reverse (sequence_cmp-first q p run other first) in
     let apart : Less ≡ Greater = sym less ∙ greater in cc
 
-module _ (table : Table) (mode : DropMode) (hold : Hold) (F : Field) (queue left : List Piece) (held : Option Piece) (one other : Option Turn) (count : ℕ) (some : 0 < count)
-    (ways : AreWays hold left held (option_map (next_of queue) one) (option_map (next_of queue) other)) where
-  abbrev BeginsWith : Option Turn → List Placement → Type 0
-  BeginsWith turn run = RunsOnIf table mode hold F (option_map (next_of queue) turn) run
+module _ (table : Table) (mode : DropMode) (hold : Hold) (F : Field) (queue : List Piece) (hand : Hand) (one other : Option Taken) (count : ℕ) (some : 0 < count)
+    (ways : AreAllTakes hold queue hand one other) where
+  abbrev BeginsWith : Option Taken → List Placement → Type 0
+  BeginsWith taken run = RunsOnIf table mode hold F queue taken run
 
   abbrev IsMember : List Placement → Type 0
-  IsMember run = IsPermittedRun table mode F hold left held run
+  IsMember run = IsTakenRun table mode F hold (pieces_at queue hand) run
 
   of_one : (run : List Placement) → BeginsWith one run → IsMember run
-  of_one run on = on_permitted table mode hold F left held (option_map (next_of queue) one) (λ next is. (ways.each next).0 (inl is)) run on
+  of_one run on = on_taken table mode hold F queue hand one (λ piece rest leaves. (ways.each piece rest).0 (inl leaves)) run on
 
   of_other : (run : List Placement) → BeginsWith other run → IsMember run
-  of_other run on = on_permitted table mode hold F left held (option_map (next_of queue) other) (λ next is. (ways.each next).0 (inr is)) run on
+  of_other run on = on_taken table mode hold F queue hand other (λ piece rest leaves. (ways.each piece rest).0 (inr leaves)) run on
 
-  pub first_of_one : (run : List Placement) → AreInOrder one other → IsFirst (RunsOnIf table mode hold F (option_map (next_of queue) one)) count run → IsFirst (IsPermittedRun table mode F hold left held) count run
+  pub first_of_one : (run : List Placement) → AreInOrder one other → IsFirst (RunsOnIf table mode hold F queue one) count run → IsFirst (IsTakenRun table mode F hold (pieces_at queue hand)) count run
   first_of_one run order so_far = record { member = of_one run so_far.member; long = so_far.long; first = first }
     where
-      later : (one other : Option Turn) → AreInOrder one other → (run : List Placement) → length run ≡ count → BeginsWith one run → (p : Placement) (rest : List Placement) → BeginsWith other (p ∷ rest)
+      later : (one other : Option Taken) → AreInOrder one other → (run : List Placement) → length run ≡ count → BeginsWith one run → (p : Placement) (rest : List Placement) → BeginsWith other (p ∷ rest)
           → sequence_cmp (p ∷ rest) run ≢ Less
       later one None order run long on p rest is less = cc
       later None (Some second) order [] long on p rest is less = absurd (omega (arith, some, long))
@@ -190,65 +191,66 @@ module _ (table : Table) (mode : DropMode) (hold : Hold) (F : Field) (queue left
 
       first : (r : List Placement) → IsMember r → length r ≡ count → sequence_cmp r run ≢ Less
       first [] member long = absurd (omega (arith, some, long))
-      first (p ∷ rest) member long = elim (divided table mode hold F left held _ _ ways p rest member) [
+      first (p ∷ rest) member long = elim (divided table mode hold F queue hand _ _ ways p rest member) [
         | inl on ↦ so_far.first (p ∷ rest) on long
         | inr on ↦ later one other order run so_far.long so_far.member p rest on
       ]
 
-  first_of_other : (run : List Placement) → AreShorter (RunsOnIf table mode hold F (option_map (next_of queue) one)) count → IsFirst (RunsOnIf table mode hold F (option_map (next_of queue) other)) count run
-      → IsFirst (IsPermittedRun table mode F hold left held) count run
+  first_of_other : (run : List Placement) → AreShorter (RunsOnIf table mode hold F queue one) count → IsFirst (RunsOnIf table mode hold F queue other) count run
+      → IsFirst (IsTakenRun table mode F hold (pieces_at queue hand)) count run
   first_of_other run short so_far = record { member = of_other run so_far.member; long = so_far.long; first = first }
     where
       first : (r : List Placement) → IsMember r → length r ≡ count → sequence_cmp r run ≢ Less
       first [] member long = absurd (omega (arith, some, long))
-      first (p ∷ rest) member long = elim (divided table mode hold F left held _ _ ways p rest member) [
+      first (p ∷ rest) member long = elim (divided table mode hold F queue hand _ _ ways p rest member) [
         | inl on ↦ absurd (omega (arith, long, short.each (p ∷ rest) on))
         | inr on ↦ so_far.first (p ∷ rest) on long
       ]
 
   -- or of the other one
-  pub first_of_either : (result : Option (ArrayVec Placement)) → AreShorter (RunsOnIf table mode hold F (option_map (next_of queue) one)) count
-      → IfSome result (λ run. IsFirst (RunsOnIf table mode hold F (option_map (next_of queue) other)) count run.items)
-      → IfSome result (λ run. IsFirst (IsPermittedRun table mode F hold left held) count run.items)
+  pub first_of_either : (result : Option (ArrayVec Placement)) → AreShorter (RunsOnIf table mode hold F queue one) count
+      → IfSome result (λ run. IsFirst (RunsOnIf table mode hold F queue other) count run.items)
+      → IfSome result (λ run. IsFirst (IsTakenRun table mode F hold (pieces_at queue hand)) count run.items)
   first_of_either None short so_far = tt
   first_of_either (Some run) short so_far = first_of_other run.items short so_far
 
-  pub none_of_both : AreShorter (RunsOnIf table mode hold F (option_map (next_of queue) one)) count → AreShorter (RunsOnIf table mode hold F (option_map (next_of queue) other)) count
-      → AreShorter (IsPermittedRun table mode F hold left held) count
+  pub none_of_both : AreShorter (RunsOnIf table mode hold F queue one) count → AreShorter (RunsOnIf table mode hold F queue other) count
+      → AreShorter (IsTakenRun table mode F hold (pieces_at queue hand)) count
   none_of_both first second = record { each = each }
     where
       each : (r : List Placement) → IsMember r → length r < count
       each [] member = some
-      each (p ∷ rest) member = elim (divided table mode hold F left held _ _ ways p rest member) [
+      each (p ∷ rest) member = elim (divided table mode hold F queue hand _ _ ways p rest member) [
         | inl on ↦ first.each (p ∷ rest) on
         | inr on ↦ second.each (p ∷ rest) on
       ]
 
--- ---- the runs that are permitted
+-- ---- the runs of the pieces at hand
 
 -- the run of no placement
-pub empty_first : (table : Table) (mode : DropMode) (F : Field) (hold : Hold) (queue : List Piece) (held : Option Piece) (count : ℕ) (run : List Placement) → count ≡ 0 → run ≡ []
-    → IsFirst (IsPermittedRun table mode F hold queue held) count run
-empty_first table mode F hold queue held count run none is = subst (IsFirst (IsPermittedRun table mode F hold queue held) count) (sym is) (record {
-  member = record { runs = tt; permitted = tt };
+pub empty_first : (table : Table) (mode : DropMode) (F : Field) (hold : Hold) (hand : List Piece) (count : ℕ) (run : List Placement) → count ≡ 0 → run ≡ []
+    → IsFirst (IsTakenRun table mode F hold hand) count run
+empty_first table mode F hold hand count run none is = subst (IsFirst (IsTakenRun table mode F hold hand) count) (sym is) (record {
+  member = record { runs = tt; taken = tt };
   long = sym none;
   first = first;
 })
   where
-    first : (other : List Placement) → IsPermittedRun table mode F hold queue held other → length other ≡ count → sequence_cmp other [] ≢ Less
+    first : (other : List Placement) → IsTakenRun table mode F hold hand other → length other ≡ count → sequence_cmp other [] ≢ Less
     first [] member long less = cc
     first (p ∷ other) member long less = absurd (omega (arith, long, none))
 
--- what is at hand may be seen in another way
-module _ (table : Table) (mode : DropMode) (F : Field) (hold : Hold) (queue after : List Piece) (held holds : Option Piece) (same : (pieces : List Piece) → Permits hold after holds pieces ↔ Permits hold queue held pieces) where
-  -- the first of the longest runs
-  pub is_longest : (count : ℕ) (run : List Placement) → 1 ≤ count → IsFirst (IsPermittedRun table mode F hold after holds) (count - 1) run → AreShorter (IsPermittedRun table mode F hold after holds) count
-      → IsLongest table mode F hold queue held run
-  is_longest count run some first short = record {
-    permitted = record { runs = first.member.runs; permitted = (same _).0 first.member.permitted };
-    longest = λ other member. omega (arith, some, first.long, short.each other (seen other member));
-    least = λ other member long. first.first other (seen other member) (omega (arith, long, first.long));
-  }
-    where
-      seen : (other : List Placement) → IsPermittedRun table mode F hold queue held other → IsPermittedRun table mode F hold after holds other
-      seen other member = record { runs = member.runs; permitted = (same _).1 member.permitted }
+abbrev pieces : List Placement → List Piece
+pieces run = map (λ placement. placement.piece) run
+
+-- the first of the longest runs
+pub is_longest : (table : Table) (mode : DropMode) (F : Field) (hold : Hold) (queue : List Piece) (held : Option Piece) (hand : List Piece) (count : ℕ) (run : List Placement) → hand ≡ at_hand hold held queue → 1 ≤ count
+    → IsFirst (IsTakenRun table mode F hold hand) (count - 1) run → AreShorter (IsTakenRun table mode F hold hand) count → IsLongest table mode F hold queue held run
+is_longest table mode F hold queue held hand count run is some first short = record {
+  permitted = record { runs = first.member.runs; permitted = permits-of_takes hold queue held (pieces run) (subst (λ l. Takes hold l (pieces run)) is first.member.taken) };
+  longest = λ other member. omega (arith, some, first.long, short.each other (seen other member));
+  least = λ other member long. first.first other (seen other member) (omega (arith, long, first.long));
+}
+  where
+    seen : (other : List Placement) → IsPermittedRun table mode F hold queue held other → IsTakenRun table mode F hold hand other
+    seen other member = record { runs = member.runs; taken = subst (λ l. Takes hold l (pieces other)) (sym is) (takes-of_permits hold queue held (pieces other) member.permitted) }

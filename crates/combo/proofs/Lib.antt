@@ -5,7 +5,6 @@ pub mod CallerLemmas
 mod LongestExists
 mod LongestLemmas
 mod StoreLemmas
-mod TurnLemmas
 mod PlacesLeft
 mod RoomRows
 mod RoomCells

@@ -1,5 +1,5 @@
 -- There is a longest run: the best of all permitted runs, of which there are finitely many.
-use Rattle.std.proofs.Common.{◌≡◌, ◌≢◌, ◌∙◌, ◌⊎◌, ℕ, zero, suc, ◌+◌, ◌≤◌, Bool, true, cond, ◌&&◌, nat_le, le-leb, leb-true, List, [], ◌∷◌, length, map, Option, refl, sym, ap, subst, inl, inr, arith}
+use Rattle.std.proofs.Common.{◌≡◌, ◌≢◌, ◌∙◌, ◌⊎◌, ℕ, zero, suc, ◌≤◌, Bool, true, cond, ◌&&◌, nat_le, le-leb, leb-true, List, [], ◌∷◌, length, map, Option, refl, sym, ap, subst, inl, inr, arith}
 use Rattle.std.specs.Prelude.{Contains, filter}
 use Rattle.std.specs.List.{flat_map}
 use Rattle.std.specs.Cmp.{tied_itself}
@@ -8,6 +8,7 @@ use Rattle.std.specs.FinMap.{slice_cmp-IsAntisymmetric}
 use Rattle.std.specs.declared.cmp.Ordering.{Ordering}
 use Rattle.std.specs.declared.cmp.Ordering.TheVariants.{Less, Equal, Greater}
 use Rattle.std.proofs.lemmas.Bool.{and_from, and_parts, cases_Bool, cases_order}
+use Rattle.std.proofs.lemmas.List.{length-map}
 use Rattle.lane_board.specs.Field.{Field}
 use Rattle.lists.proofs.CallerLemmas.{Contains-cases, Contains-filter, Contains-flat_map, Contains-from_filter, Contains-from_flat_map, Contains-from_map, Contains-here, Contains-map, Contains-none, Contains-there}
 use Rattle.srs.specs.declared.piece.Piece.{Piece}
@@ -25,12 +26,11 @@ use Rattle.moves.specs.Place.{IsPlace}
 use Rattle.moves.specs.PlaceTest.{is_place}
 use Rattle.moves.proofs.CallerLemmas.{is_place-decides, place-free}
 use Rattle.hold_queue.specs.declared.hold.Hold.{Hold}
+use Rattle.hold_queue.specs.AtHand.{at_hand}
 use Rattle.hold_queue.specs.Permits.{permits}
-use Rattle.hold_queue.proofs.CallerLemmas.{permits-decides}
+use Rattle.hold_queue.proofs.CallerLemmas.{permits-decides, takes-length, takes-of_permits}
 use Rattle.combo.specs.Longest.{IsLongest, IsPermittedRun}
 use Rattle.combo.specs.Runs.{Runs}
-use Rattle.combo.specs.Turns.{held_piece_count}
-use Rattle.combo.proofs.BoundLemmas.{permitted_length}
 
 -- ---- the best of a list
 
@@ -205,7 +205,7 @@ module _ (table : Table) (mode : DropMode) where
     is_permitted run = permits hold queue held (map (λ (placement : Placement). placement.piece) run)
 
     most : ℕ
-    most = length queue + held_piece_count held
+    most = length (at_hand hold held queue)
 
     all_permitted : List (List Placement)
     all_permitted = filter is_permitted (runs_within most F)
@@ -216,11 +216,16 @@ module _ (table : Table) (mode : DropMode) where
         let both = Contains-from_filter is_permitted (runs_within most F) run among in
         record { runs = are_runs most F run both.0; permitted = (permits-decides hold queue held (map (λ (placement : Placement). placement.piece) run)).0 both.1 }
 
+    within : (run : List Placement) → IsPermittedRun table mode F hold queue held run → length run ≤ most
+    unfolding most
+    within run member =
+        omega (arith, length-map run (λ (placement : Placement). placement.piece), takes-length hold (at_hand hold held queue) _ (takes-of_permits hold queue held _ member.permitted))
+
     permitted-there : (run : List Placement) → IsPermittedRun table mode F hold queue held run → Contains all_permitted run
     unfolding all_permitted is_permitted most
     permitted-there run member =
         Contains-filter is_permitted (runs_within most F) run
-        (has_runs most F run (permitted_length table mode F hold queue held run member) member.runs)
+        (has_runs most F run (within run member) member.runs)
         ((permits-decides hold queue held (map (λ (placement : Placement). placement.piece) run)).1 member.permitted)
 
     longest_of : (list : List (List Placement)) → ((run : List Placement) → Contains list run → IsPermittedRun table mode F hold queue held run)

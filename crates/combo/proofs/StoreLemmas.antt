@@ -1,28 +1,28 @@
 -- What a store says is true.
-use Rattle.std.proofs.Common.{◌≡◌, ◌≤◌, ℕ, List, drop, subst, arith, Option, Some}
+use Rattle.std.proofs.Common.{◌≡◌, ◌≤◌, ℕ, List, subst, arith, Option, Some}
 use Rattle.std.specs.Prelude.{Bool, IfSome, IsTrue}
 use Rattle.lane_board.specs.Field.{Field}
 use Rattle.srs.specs.declared.piece.Piece.{Piece}
 use Rattle.srs.specs.Kick.{Table}
 use Rattle.well.specs.Well.{filled}
 use Rattle.moves.specs.declared.key.DropMode.{DropMode}
+use Rattle.hold_queue.specs.declared.hand.Hand.{Hand}
 use Rattle.hold_queue.specs.declared.hold.Hold.{Hold}
-use Rattle.combo.specs.declared.hand.Hand.{Hand}
-use Rattle.combo.specs.declared.known.Known.{Known}
-use Rattle.combo.specs.Longest.{IsPermittedRun}
-use Rattle.combo.specs.First.{AreShorter}
-use Rattle.combo.specs.Known.{SaysShorter, IsKnown}
+use Rattle.hold_queue.specs.Hand.{pieces_at}
+use Rattle.combo.specs.declared.searched.SearchedPosition.{SearchedPosition}
+use Rattle.combo.specs.First.{AreShorter, IsTakenRun}
+use Rattle.combo.specs.Searched.{SaysShorter, HasShorterRuns}
 
 -- what an entry says
-pub said_shorter : (table : Table) (mode : DropMode) (hold : Hold) (queue : List Piece) (entry : Option Known) (F : Field) (hand : Hand) (count : ℕ)
-    → IfSome entry (IsKnown table mode hold queue) → SaysShorter entry F hand count → AreShorter (IsPermittedRun table mode F hold (drop hand.taken queue) hand.held) count
+pub said_shorter : (table : Table) (mode : DropMode) (hold : Hold) (queue : List Piece) (entry : Option SearchedPosition) (F : Field) (hand : Hand) (count : ℕ)
+    → IfSome entry (HasShorterRuns table mode hold queue) → SaysShorter entry F hand count → AreShorter (IsTakenRun table mode F hold (pieces_at queue hand)) count
 said_shorter table mode hold queue entry F hand count true says =
-    let known : IsKnown table mode hold queue says.known = subst (λ e. IfSome e (IsKnown table mode hold queue)) says.there true in
-    let here = subst (λ G. AreShorter (IsPermittedRun table mode G hold (drop says.known.hand.taken queue) says.known.hand.held) says.known.count) says.field known in
-    let with_hand = subst (λ (h : Hand). AreShorter (IsPermittedRun table mode F hold (drop h.taken queue) h.held) says.known.count) says.at_hand here in
+    let shorter : HasShorterRuns table mode hold queue says.position = subst (λ e. IfSome e (HasShorterRuns table mode hold queue)) says.there true in
+    let here = subst (λ G. AreShorter (IsTakenRun table mode G hold (pieces_at queue says.position.hand)) says.position.count) says.field shorter in
+    let with_hand = subst (λ (h : Hand). AreShorter (IsTakenRun table mode F hold (pieces_at queue h)) says.position.count) says.at_hand here in
     record { each = λ run member. omega (arith, says.short, with_hand.each run member) }
 
 -- an entry that is asked
-pub says_shorter : (result : Bool) (entry : Option Known) (known : Known) (F : Field) (hand : Hand) (count : ℕ) → entry ≡ Some known
-    → (IsTrue result → filled known.well ≡ F) → (IsTrue result → known.hand ≡ hand) → (IsTrue result → known.count ≤ count) → IsTrue result → SaysShorter entry F hand count
-says_shorter result entry known F hand count is field at_hand short true = record { known = known; there = is; field = field true; at_hand = at_hand true; short = short true }
+pub says_shorter : (result : Bool) (entry : Option SearchedPosition) (position : SearchedPosition) (F : Field) (hand : Hand) (count : ℕ) → entry ≡ Some position
+    → (IsTrue result → filled position.well ≡ F) → (IsTrue result → position.hand ≡ hand) → (IsTrue result → position.count ≤ count) → IsTrue result → SaysShorter entry F hand count
+says_shorter result entry position F hand count is field at_hand short true = record { position = position; there = is; field = field true; at_hand = at_hand true; short = short true }

@@ -4,6 +4,5 @@ pub mod Longest
 pub mod Room
 -- What serves proofs alone
 pub mod First
-pub mod Turns
-pub mod Known
+pub mod Searched
 pub mod Middle

@@ -2,12 +2,11 @@
 #![tactic(auto)]
 
 mod bound;
-mod hand;
-mod known;
 pub mod laws;
 mod room;
 mod run;
 mod search;
+mod searched;
 mod store;
 #[cfg(test)]
 mod tests;

@@ -1,22 +1,20 @@
 // The search for the first run of a given length.
-ghost use Rattle.std.specs.Prelude.{◌≡◌, ◌+◌, ◌-◌, ◌≤◌, ◌<◌, drop, length, IsTrue, IfSome, None};
-ghost use Rattle.std.specs.Option.{option_map};
+ghost use Rattle.std.specs.Prelude.{◌≡◌, ◌+◌, ◌-◌, ◌≤◌, ◌<◌, length, IsTrue, IfSome, None};
 ghost use Rattle.srs.specs.Rules.{table_of};
 ghost use Rattle.reach.specs.FloodRules.{flood_table};
 ghost use Rattle.well.specs.Free.{is_free};
 ghost use Rattle.well.specs.Lock.{locked, rows_removed};
 ghost use Rattle.well.specs.Well.{filled};
-ghost use Rattle.combo.specs.First.{IsFirst, AreShorter, RunsOnIf};
-ghost use Rattle.combo.specs.Known.{AreKnown};
-ghost use Rattle.combo.specs.Longest.{IsLongest, IsPermittedRun};
-ghost use Rattle.combo.specs.Turns.{KeepsHold, next_of};
+ghost use Rattle.hold_queue.specs.Hand.{pieces_at};
+ghost use Rattle.combo.specs.First.{IsFirst, IsTakenRun, AreShorter, RunsOnIf};
+ghost use Rattle.combo.specs.Searched.{HaveShorterRuns};
+ghost use Rattle.combo.specs.Longest.{IsLongest};
 
 use crate::bound::most;
-use crate::hand::{Hand, Turn, turns};
-use crate::known::Known;
 use crate::run::{Run, with_first};
+use crate::searched::SearchedPosition;
 use crate::store::{PLACES, is_said, place_of};
-use hold_queue::Hold;
+use hold_queue::{Hand, Hold, Taken};
 use moves::DropMode;
 use queue_pattern::Queue;
 use reach::{FloodRules, Steps};
@@ -37,23 +35,23 @@ struct Play {
 #[cycle(runs)]
 fn first_run<L: Ledger>(
     play: &Play,
-    queue: &[Piece],
+    queue: &Queue,
     well: &Well,
     hand: Hand,
     count: u8,
-    store: &mut [Option<Known>],
+    store: &mut [Option<SearchedPosition>],
     steps: &mut Steps<L>,
 ) -> Option<Run>
-    requires short { length queue.now ≤ 22 }
-    requires keeps { KeepsHold play.now.hold queue.now hand }
     requires some { 0 < length store.old }
-    requires known { AreKnown (flood_table play.now.rules) play.now.drop_mode play.now.hold queue.now store.old }
-    ensures first { IfSome result (λ run. IsFirst (IsPermittedRun (flood_table play.now.rules) play.now.drop_mode
-        (filled well.now) play.now.hold (drop hand.taken queue.now) hand.held) count run.items) }
-    ensures none { result ≡ None → AreShorter (IsPermittedRun (flood_table play.now.rules) play.now.drop_mode
-        (filled well.now) play.now.hold (drop hand.taken queue.now) hand.held) count }
+    requires known { HaveShorterRuns (flood_table play.now.rules) play.now.drop_mode play.now.hold
+        queue.now.items store.old }
+    ensures first { IfSome result (λ run. IsFirst (IsTakenRun (flood_table play.now.rules) play.now.drop_mode
+        (filled well.now) play.now.hold (pieces_at queue.now.items hand)) count run.items) }
+    ensures none { result ≡ None → AreShorter (IsTakenRun (flood_table play.now.rules) play.now.drop_mode
+        (filled well.now) play.now.hold (pieces_at queue.now.items hand)) count }
     ensures few { IfSome result (λ _. count ≤ 23) }
-    ensures known { AreKnown (flood_table play.now.rules) play.now.drop_mode play.now.hold queue.now store.new }
+    ensures known { HaveShorterRuns (flood_table play.now.rules) play.now.drop_mode play.now.hold
+        queue.now.items store.new }
     ensures counted { steps.old ≤ steps.new }
 {
     if count == 0 {
@@ -66,9 +64,9 @@ fn first_run<L: Ledger>(
     if is_said(&store[place], well, hand, count) {
         return None;
     }
-    let found = first_of_turns(play, queue, well, hand, count, store, steps);
+    let found = first_of_takes(play, queue, well, hand, count, store, steps);
     if found.is_none() {
-        store[place] = Some(Known {
+        store[place] = Some(SearchedPosition {
             well: *well,
             hand,
             count,
@@ -77,67 +75,67 @@ fn first_run<L: Ledger>(
     found
 }
 
-/// The first of the runs of `count` placements that begin with one of the turns.
+/// The first of the runs of `count` placements that begin with a piece at hand.
 #[cycle(runs)]
-fn first_of_turns<L: Ledger>(
+fn first_of_takes<L: Ledger>(
     play: &Play,
-    queue: &[Piece],
+    queue: &Queue,
     well: &Well,
     hand: Hand,
     count: u8,
-    store: &mut [Option<Known>],
+    store: &mut [Option<SearchedPosition>],
     steps: &mut Steps<L>,
 ) -> Option<Run>
-    requires short { length queue.now ≤ 22 }
-    requires keeps { KeepsHold play.now.hold queue.now hand }
     requires placements { 0 < count }
     requires few { count ≤ 23 }
     requires some { 0 < length store.old }
-    requires known { AreKnown (flood_table play.now.rules) play.now.drop_mode play.now.hold queue.now store.old }
-    ensures first { IfSome result (λ run. IsFirst (IsPermittedRun (flood_table play.now.rules) play.now.drop_mode
-        (filled well.now) play.now.hold (drop hand.taken queue.now) hand.held) count run.items) }
-    ensures none { result ≡ None → AreShorter (IsPermittedRun (flood_table play.now.rules) play.now.drop_mode
-        (filled well.now) play.now.hold (drop hand.taken queue.now) hand.held) count }
-    ensures known { AreKnown (flood_table play.now.rules) play.now.drop_mode play.now.hold queue.now store.new }
+    requires known { HaveShorterRuns (flood_table play.now.rules) play.now.drop_mode play.now.hold
+        queue.now.items store.old }
+    ensures first { IfSome result (λ run. IsFirst (IsTakenRun (flood_table play.now.rules) play.now.drop_mode
+        (filled well.now) play.now.hold (pieces_at queue.now.items hand)) count run.items) }
+    ensures none { result ≡ None → AreShorter (IsTakenRun (flood_table play.now.rules) play.now.drop_mode
+        (filled well.now) play.now.hold (pieces_at queue.now.items hand)) count }
+    ensures known { HaveShorterRuns (flood_table play.now.rules) play.now.drop_mode play.now.hold
+        queue.now.items store.new }
     ensures counted { steps.old ≤ steps.new }
 {
-    let (turn, other) = turns(queue, play.hold, hand);
-    if let Some(run) = first_after(play, queue, well, turn, count, store, steps) {
+    let (one, other) = hand.takes(queue, play.hold);
+    if let Some(run) = first_after(play, queue, well, one, count, store, steps) {
         return Some(run);
     }
     first_after(play, queue, well, other, count, store, steps)
 }
 
-/// The first of the runs of `count` placements that begin with a turn, if there is one.
+/// The first of the runs of `count` placements that begin with a taken piece, if there is one.
 #[cycle(runs)]
 fn first_after<L: Ledger>(
     play: &Play,
-    queue: &[Piece],
+    queue: &Queue,
     well: &Well,
-    turn: Option<Turn>,
+    taken: Option<Taken>,
     count: u8,
-    store: &mut [Option<Known>],
+    store: &mut [Option<SearchedPosition>],
     steps: &mut Steps<L>,
 ) -> Option<Run>
-    requires short { length queue.now ≤ 22 }
-    requires keeps { IfSome turn (λ turn. KeepsHold play.now.hold queue.now turn.hand) }
     requires placements { 0 < count }
     requires few { count ≤ 23 }
     requires some { 0 < length store.old }
-    requires known { AreKnown (flood_table play.now.rules) play.now.drop_mode play.now.hold queue.now store.old }
+    requires known { HaveShorterRuns (flood_table play.now.rules) play.now.drop_mode play.now.hold
+        queue.now.items store.old }
     ensures first { IfSome result (λ run. IsFirst (RunsOnIf (flood_table play.now.rules) play.now.drop_mode
-        play.now.hold (filled well.now) (option_map (next_of queue.now) turn)) count run.items) }
+        play.now.hold (filled well.now) queue.now.items taken) count run.items) }
     ensures none { result ≡ None → AreShorter (RunsOnIf (flood_table play.now.rules) play.now.drop_mode
-        play.now.hold (filled well.now) (option_map (next_of queue.now) turn)) count }
-    ensures known { AreKnown (flood_table play.now.rules) play.now.drop_mode play.now.hold queue.now store.new }
+        play.now.hold (filled well.now) queue.now.items taken) count }
+    ensures known { HaveShorterRuns (flood_table play.now.rules) play.now.drop_mode play.now.hold
+        queue.now.items store.new }
     ensures counted { steps.old ≤ steps.new }
 {
-    let turn = turn?;
-    let places = play.rules.places(well, turn.piece, play.drop_mode, steps);
+    let taken = taken?;
+    let places = play.rules.places(well, taken.piece, play.drop_mode, steps);
     let mut entered = None;
     while let Some(placement) = places.next_after(entered.as_ref()) {
         if let Some(next) = cleared(well, &placement) {
-            if let Some(rest) = first_run(play, queue, &next, turn.hand, count - 1, store, steps) {
+            if let Some(rest) = first_run(play, queue, &next, taken.rest, count - 1, store, steps) {
                 return Some(with_first(placement, &rest));
             }
         }
@@ -182,8 +180,7 @@ pub fn longest<L: Ledger>(
         drop_mode,
         hold,
     };
-    let queue = queue.as_slice();
-    let hand = Hand::start(queue, hold, held);
+    let hand = Hand::start(hold, held);
     let mut store = [None; PLACES];
     let mut longest = Run::new();
     let mut count = 1;

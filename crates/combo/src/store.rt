@@ -1,22 +1,22 @@
-// A store of fixed size for what is known. A later entry evicts an earlier one at its index.
+// A store of fixed size for searched positions. A later entry evicts an earlier one at its index.
 ghost use Rattle.std.specs.Prelude.{◌<◌, IsTrue};
 ghost use Rattle.well.specs.Well.{filled};
-ghost use Rattle.combo.specs.Known.{SaysShorter};
+ghost use Rattle.combo.specs.Searched.{SaysShorter};
 
-use crate::hand::Hand;
-use crate::known::Known;
+use crate::searched::SearchedPosition;
+use hold_queue::Hand;
 use well::Well;
 
 /// How many entries the store has: about 100 KB of the stack.
 pub const PLACES: usize = 2048;
 
 /// Whether an entry says that this field and these pieces at hand permit no run of `count` placements.
-pub fn is_said(entry: &Option<Known>, well: &Well, hand: Hand, count: u8) -> bool
+pub fn is_said(entry: &Option<SearchedPosition>, well: &Well, hand: Hand, count: u8) -> bool
     ensures { IsTrue result → SaysShorter entry.now (filled well.now) hand count }
 {
     match entry {
         None => false,
-        Some(known) => known.says(well, hand, count),
+        Some(position) => position.says(well, hand, count),
     }
 }
 
@@ -30,7 +30,7 @@ pub fn place_of(well: &Well, hand: Hand, count: usize) -> usize
         Some(piece) => piece.code(),
     };
     let board = well.board();
-    let mut mixed = u64::from(hand.taken).wrapping_mul(8) ^ u64::from(held);
+    let mut mixed = u64::from(hand.drawn).wrapping_mul(8) ^ u64::from(held);
     for y in 0..23 {
         mixed = (mixed ^ u64::from(board.row(y))).wrapping_mul(0x9e37_79b9_7f4a_7c15);
         mixed ^= mixed >> 29;

@@ -12,7 +12,7 @@ use Rattle.srs.specs.declared.piece.Piece.{Piece}
 use Rattle.srs.specs.Piece.{piece_code}
 use Rattle.srs.proofs.CallerLemmas.{piece_code-injective}
 use Rattle.queue_pattern.specs.Order.{queue_cmp}
-use Rattle.cover.specs.Look.{HasSameFront}
+use Rattle.hold_queue.specs.Hand.{HasSameFront}
 use Rattle.cover.specs.Fronts.{ShareFront}
 
 -- what it means that the first difference is less

@@ -1,5 +1,6 @@
 -- Lists of kinds that are the same, and a list that is kept.
 use Rattle.std.proofs.Common.{◌≡◌, ◌⊎◌, Bool, true, false, ◌||◌, ◌==◌, List, [], ◌∷◌, ◌++◌, Contains, map, if◌then◌else◌, refl, sym, ap, subst, ◌∙◌, inl, inr}
+use Rattle.std.specs.Cmp.Derive.{one_truth}
 use Rattle.std.specs.List.{list_any}
 use Rattle.std.proofs.lemmas.Bool.{and_parts, and_from, both_ways, eqb-true, eq-eqb, or_left, or_right}
 use Rattle.std.proofs.lemmas.List.Folds.{list_any-append}
@@ -52,12 +53,6 @@ has_kinds-pushed lists last kinds = list_any-append (same_kinds kinds) lists (la
     or_none true = refl
     or_none false = refl
 
--- two tests that pass alike are equal
-pub both_pass : (a b : Bool) → (a ≡ true → b ≡ true) → (b ≡ true → a ≡ true) → a ≡ b
-both_pass true b to from = sym (to refl)
-both_pass false true to from = cc (from refl)
-both_pass false false to from = refl
-
 -- equal vectors of pieces are those with the same kinds
 abbrev pub equal_kinds : ArrayVec Piece → ArrayVec Piece → Bool
 equal_kinds kinds others = pointwise eq-value.it kinds.items others.items
@@ -65,7 +60,7 @@ equal_kinds kinds others = pointwise eq-value.it kinds.items others.items
 equal-is_same : (kinds others : List Piece) → pointwise eq-value.it kinds others ≡ same_kinds kinds others
 equal-is_same kinds others =
     let decides = pointwise_decides equal-decides kinds others in
-    both_pass _ _
+    one_truth _ _
     (λ equal. subst (λ l. same_kinds kinds l ≡ true) (decides.0 equal) (same_kinds-itself kinds))
     (λ same. decides.1 (same_kinds-true kinds others same))
 

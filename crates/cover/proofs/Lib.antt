@@ -5,7 +5,6 @@ mod NodeLemmas
 mod GrownLemmas
 mod WayLemmas
 mod TreeFacts
-mod HandLemmas
 mod LookLemmas
 mod FrontLemmas
 mod KindLemmas

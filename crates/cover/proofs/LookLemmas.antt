@@ -1,15 +1,17 @@
 -- A list is taken by its first piece, which is the first or the second at hand.
-use Rattle.std.proofs.Common.{◌≡◌, ◌⊎◌, ℕ, ◌+◌, ◌<◌, ◌≤◌, true, false, nat_lt, List, [], ◌∷◌, refl, sym, ap, subst, ◌∙◌, inl, inr, arith, length, max}
+use Rattle.std.proofs.Common.{◌≡◌, ◌⊎◌, ℕ, zero, suc, ◌+◌, ◌<◌, ◌≤◌, true, false, nat_lt, List, [], ◌∷◌, refl, sym, ap, subst, ◌∙◌, inl, inr, arith, length, max, take}
 use Rattle.std.proofs.lemmas.Bool.{and_parts, and_from, lt-ltb, ltb-true}
 use Rattle.srs.specs.declared.piece.Piece.{Piece}
+use Rattle.hold_queue.specs.declared.hand.Hand.{Hand}
+use Rattle.hold_queue.specs.declared.hand.Taken.{Taken}
 use Rattle.hold_queue.specs.declared.hold.Hold.{Hold}
 use Rattle.hold_queue.specs.declared.hold.Hold.TheVariants.{Allowed, Avoided}
-use Rattle.hold_queue.specs.AtHand.{Take, take_first, take_second, Takes}
-use Rattle.cover.specs.declared.hand.Hand.{Hand}
+use Rattle.hold_queue.specs.AtHand.{Take, Takes}
+use Rattle.hold_queue.specs.Hand.{HasSameFront, IsFirst, IsSecond, IsTakenBy, pieces_at}
+use Rattle.hold_queue.proofs.CallerLemmas.{same-itself, same-shorter, take-cases, take-of_first, take-of_second}
 use Rattle.cover.specs.declared.node.Node.{Node}
 use Rattle.cover.specs.Nodes.{child, has_end, spells}
-use Rattle.cover.specs.Look.{pieces_at, HasSameFront, HasNoneAtHand, IsFirstOf, Misses, MissesBelow, TakesBelow, TakesOne}
-use Rattle.cover.proofs.HandLemmas.{same-shorter, same-itself}
+use Rattle.cover.specs.Look.{Misses, MissesBelow, TakesBelow, TakesOne}
 
 pub takes-here : (nodes : List Node) (hold : Hold) (at : ℕ) (pieces : List Piece) → has_end nodes at ≡ true → TakesOne nodes hold at pieces
 unfolding spells
@@ -28,123 +30,118 @@ here-spells : (nodes : List Node) (at : ℕ) → spells nodes at [] ≡ true →
 unfolding spells
 here-spells nodes at spelled = spelled
 
-takes-first : (nodes : List Node) (hold : Hold) (at : ℕ) (first : Piece) (rest : List Piece) → TakesBelow nodes hold at first rest → TakesOne nodes hold at (first ∷ rest)
-takes-first nodes hold at first rest below = record {
-  kinds = first ∷ below.below.kinds;
-  spelled = spells-below nodes at first below.below.kinds below.some below.below.spelled;
-  taken = (rest, take_first, below.below.taken);
+takes-one : (nodes : List Node) (hold : Hold) (at : ℕ) (piece : Piece) (pieces rest : List Piece) → Take hold pieces piece rest → TakesBelow nodes hold at piece rest → TakesOne nodes hold at pieces
+takes-one nodes hold at piece pieces rest taken below = record {
+  kinds = piece ∷ below.below.kinds;
+  spelled = spells-below nodes at piece below.below.kinds below.some below.below.spelled;
+  taken = (rest, taken, below.below.taken);
 }
-
-takes-second : (nodes : List Node) (at : ℕ) (first second : Piece) (after : List Piece) → TakesBelow nodes Allowed at second (first ∷ after) → TakesOne nodes Allowed at (first ∷ second ∷ after)
-takes-second nodes at first second after below = record {
-  kinds = second ∷ below.below.kinds;
-  spelled = spells-below nodes at second below.below.kinds below.some below.below.spelled;
-  taken = (first ∷ after, take_second, below.below.taken);
-}
-
--- what is taken is the first piece, or the second
-abbrev IsSecond : Hold → Piece → List Piece → Piece → List Piece → Type 0
-IsSecond hold first rest piece left = (after : List Piece) × (hold ≡ Allowed) × (rest ≡ piece ∷ after) × (left ≡ first ∷ after)
-
-take-cases : (hold : Hold) (first : Piece) (rest : List Piece) (piece : Piece) (left : List Piece) → Take hold (first ∷ rest) piece left
-    → ((piece ≡ first) × (left ≡ rest)) ⊎ IsSecond hold first rest piece left
-take-cases hold first rest piece left take_first = inl (refl, refl)
-take-cases Allowed first (second ∷ after) piece left take_second = inr (after, refl, refl, refl)
-
-take-nothing : (hold : Hold) (piece : Piece) (left : List Piece) → Take hold [] piece left → ⊥
-take-nothing hold piece left taken = elim taken [ ]
 
 -- how a list is taken, by its first piece
-abbrev Begins : List Node → Hold → ℕ → Piece → List Piece → Type 0
-Begins nodes hold at first rest =
-    TakesBelow nodes hold at first rest
-    ⊎ ((piece : Piece) × (after : List Piece) × (hold ≡ Allowed) × (rest ≡ piece ∷ after) × TakesBelow nodes hold at piece (first ∷ after))
+abbrev Begins : List Node → Hold → ℕ → List Piece → Type 0
+Begins nodes hold at pieces =
+    ((piece : Piece) × (rest : List Piece) × IsFirst pieces piece rest × TakesBelow nodes hold at piece rest)
+    ⊎ ((piece : Piece) × (rest : List Piece) × (hold ≡ Allowed) × IsSecond pieces piece rest × TakesBelow nodes hold at piece rest)
 
-taken-begins : (nodes : List Node) (hold : Hold) (at : ℕ) (first : Piece) (rest kinds : List Piece) → has_end nodes at ≡ false → spells nodes at kinds ≡ true → Takes hold (first ∷ rest) kinds
-    → Begins nodes hold at first rest
-taken-begins nodes hold at first rest [] open_end spelled taken = let ended = here-spells nodes at spelled in cc
-taken-begins nodes hold at first rest (kind ∷ kinds) open_end spelled taken =
-    let below = below-spells nodes at kind kinds spelled in
-    elim (take-cases hold first rest kind taken.0 taken.1) [
-      | inl is ↦ inl (subst (λ k. TakesBelow nodes hold at k rest) is.0 (record { some = below.0; below = record { kinds = kinds; spelled = below.1; taken = subst (λ l. Takes hold l kinds) is.1 taken.2 } }))
-      | inr is ↦ inr (kind, is.0, is.1, is.2, record { some = below.0; below = record { kinds = kinds; spelled = below.1; taken = subst (λ l. Takes hold l kinds) is.3 taken.2 } })
+taken-begins : (nodes : List Node) (hold : Hold) (at : ℕ) (pieces kinds : List Piece) → has_end nodes at ≡ false → spells nodes at kinds ≡ true → Takes hold pieces kinds → Begins nodes hold at pieces
+taken-begins nodes hold at pieces [] open_end spelled taken = let ended = here-spells nodes at spelled in cc
+taken-begins nodes hold at pieces (kind ∷ kinds) open_end spelled taken =
+    let split = below-spells nodes at kind kinds spelled in
+    let below : TakesBelow nodes hold at kind taken.0 = record { some = split.0; below = record { kinds = kinds; spelled = split.1; taken = taken.2 } } in
+    elim (take-cases hold pieces kind taken.0 taken.1) [
+      | inl first ↦ inl (kind, taken.0, first, below)
+      | inr second ↦ inr (kind, taken.0, second.0, second.1, below)
     ]
 
-takes-begins : (nodes : List Node) (hold : Hold) (at : ℕ) (first : Piece) (pieces rest : List Piece) → has_end nodes at ≡ false → pieces ≡ first ∷ rest → TakesOne nodes hold at pieces
-    → Begins nodes hold at first rest
-takes-begins nodes hold at first pieces rest open_end is one =
-    taken-begins nodes hold at first rest one.kinds open_end one.spelled (subst (λ l. Takes hold l one.kinds) is one.taken)
+-- ---- where the queue is another one that begins with the same pieces
 
-takes-nothing : (nodes : List Node) (hold : Hold) (at : ℕ) (kinds : List Piece) → has_end nodes at ≡ false → spells nodes at kinds ≡ true → Takes hold [] kinds → ⊥
-takes-nothing nodes hold at [] open_end spelled taken = let ended = here-spells nodes at spelled in cc
-takes-nothing nodes hold at (kind ∷ kinds) open_end spelled taken = take-nothing hold kind taken.0 taken.1
+-- a queue of which all is seen, and more, is the same
+whole-front : (n : ℕ) (queue other : List Piece) → length queue < n → take n other ≡ take n queue → queue ≡ other
+whole-front zero queue other within same = absurd (omega arith)
+whole-front (suc n) [] [] within same = refl
+whole-front (suc n) [] (y ∷ other) within same = cc
+whole-front (suc n) (x ∷ queue) [] within same = cc
+whole-front (suc n) (x ∷ queue) (y ∷ other) within same =
+    let first : x ≡ y = cc in
+    let rest : take n other ≡ take n queue = cc in
+    ap (λ p. p ∷ queue) first ∙ ap (λ l. y ∷ l) (whole-front n queue other (omega arith) rest)
 
-module _ (nodes : List Node) (hold : Hold) (at : ℕ) (queue : List Piece) (hand : Hand) where
-  pub misses-none : hand.place ≤ length queue → has_end nodes at ≡ false → HasNoneAtHand queue hand → Misses nodes hold at queue hand (hand.place + 1)
-  misses-none within open_end none = record {
-    later = omega arith;
-    few = omega (arith, within);
-    none = λ other same one.
-        takes-nothing nodes hold at one.kinds open_end one.spelled (subst (λ l. Takes hold l one.kinds) (none.each other same) one.taken);
+module _ (nodes : List Node) (hold : Hold) (at : ℕ) (queue : List Piece) (hand : Hand) (within : hand.drawn ≤ length queue) (open_end : has_end nodes at ≡ false) where
+  -- all of the queue is seen
+  misses-whole : (seen : ℕ) → seen ≡ length queue + 1 → (TakesOne nodes hold at (pieces_at queue hand) → ⊥) → Misses nodes hold at queue hand seen
+  misses-whole seen all none = record {
+    later = omega (arith, within, all);
+    few = omega (arith, all);
+    none = λ other front one.
+        none (subst (λ l. TakesOne nodes hold at (pieces_at l hand)) (sym (whole-front seen queue other (omega (arith, all)) front.same)) one);
   }
 
-  pub found-first : (first : Piece) (rest : Hand) → IsFirstOf queue hand first rest → TakesBelow nodes hold at first (pieces_at queue rest) → TakesOne nodes hold at (pieces_at queue hand)
-  found-first first rest is below =
-      subst (TakesOne nodes hold at) (sym (is.each queue (same-itself rest.place queue))) (takes-first nodes hold at first (pieces_at queue rest) below)
+  pub misses-none : (seen : ℕ) → seen ≡ length queue + 1 → pieces_at queue hand ≡ [] → Misses nodes hold at queue hand seen
+  misses-none seen all none = misses-whole seen all (λ one. elim (taken-begins nodes hold at (pieces_at queue hand) one.kinds open_end one.spelled one.taken) [
+    | inl first ↦ let both : [] ≡ first.0 ∷ first.1 = sym none ∙ first.2 in cc
+    | inr second ↦ let both : [] ≡ second.3.0 ∷ second.0 ∷ second.3.1 = sym none ∙ second.3.2 in cc
+  ])
 
-  pub misses-avoided : (first : Piece) (rest : Hand) (seen : ℕ) → hold ≡ Avoided → has_end nodes at ≡ false → IsFirstOf queue hand first rest
-      → MissesBelow nodes hold at first queue rest seen → Misses nodes hold at queue hand seen
-  misses-avoided first rest seen avoided open_end is missed = record {
-    later = omega (arith, is.later, missed.later);
-    few = missed.few;
-    none = λ other same one.
-        elim (takes-begins nodes hold at first (pieces_at other hand) (pieces_at other rest) open_end (is.each other (same-shorter rest.place seen queue other missed.later same)) one) [
-          | inl below ↦ missed.none other same below
-          | inr second ↦ let both : Avoided ≡ Allowed = sym avoided ∙ second.2 in cc
+  module _ (first : Taken) (is : IsTakenBy IsFirst queue hand first) where
+    pub found-first : TakesBelow nodes hold at first.piece (pieces_at queue first.rest) → TakesOne nodes hold at (pieces_at queue hand)
+    found-first below =
+        takes-one nodes hold at first.piece (pieces_at queue hand) (pieces_at queue first.rest)
+        (take-of_first hold (pieces_at queue hand) first.piece (pieces_at queue first.rest) (is.each queue (same-itself first.rest.drawn queue))) below
+
+    -- not by the first piece
+    not-first : (other : List Piece) (piece : Piece) (rest : List Piece) → HasSameFront first.rest.drawn queue other → (TakesBelow nodes hold at first.piece (pieces_at other first.rest) → ⊥)
+        → IsFirst (pieces_at other hand) piece rest → TakesBelow nodes hold at piece rest → ⊥
+    not-first other piece rest front none found below =
+        let same : piece ∷ rest ≡ first.piece ∷ pieces_at other first.rest = sym found ∙ is.each other front in
+        let kind : piece ≡ first.piece = cc in
+        let others : rest ≡ pieces_at other first.rest = cc in
+        none (subst (TakesBelow nodes hold at first.piece) others (subst (λ p. TakesBelow nodes hold at p rest) kind below))
+
+    module _ (seen : ℕ) (missed : MissesBelow nodes hold at first.piece queue first.rest seen) where
+      pub misses-avoided : hold ≡ Avoided → Misses nodes hold at queue hand seen
+      misses-avoided avoided = record {
+        later = omega (arith, is.later, missed.later);
+        few = missed.few;
+        none = λ other front one. elim (taken-begins nodes hold at (pieces_at other hand) one.kinds open_end one.spelled one.taken) [
+          | inl found ↦ not-first other found.0 found.1 (same-shorter first.rest.drawn seen queue other missed.later front) (missed.none other front) found.2 found.3
+          | inr found ↦ let both : Avoided ≡ Allowed = sym avoided ∙ found.2 in cc
         ];
-  }
+      }
 
-  pub misses-one : (first : Piece) (rest : Hand) (seen all : ℕ) → has_end nodes at ≡ false → IsFirstOf queue hand first rest
-      → MissesBelow nodes hold at first queue rest seen → HasNoneAtHand queue rest → all ≡ max seen (rest.place + 1) → Misses nodes hold at queue hand all
-  misses-one first rest seen all open_end is missed none most = record {
-    later = omega (arith, is.later, missed.later, most);
-    few = omega (arith, missed.few, most, is.within);
-    none = λ other same one.
-        elim (takes-begins nodes hold at first (pieces_at other hand) (pieces_at other rest) open_end (is.each other (same-shorter rest.place all queue other (omega (arith, missed.later, most)) same)) one) [
-          | inl below ↦ missed.none other (same-shorter seen all queue other (omega (arith, most)) same) below
-          | inr second ↦
-              let empty : pieces_at other rest ≡ [] = none.each other (same-shorter (rest.place + 1) all queue other (omega (arith, most)) same) in
-              let full = second.3 in
-              let both : [] ≡ second.0 ∷ second.1 = sym empty ∙ full in cc
-        ];
-  }
+      pub misses-one : (all : ℕ) → all ≡ length queue + 1 → length (pieces_at queue hand) ≤ 1 → Misses nodes hold at queue hand all
+      misses-one all whole few = misses-whole all whole (λ one. elim (taken-begins nodes hold at (pieces_at queue hand) one.kinds open_end one.spelled one.taken) [
+        | inl found ↦ not-first queue found.0 found.1 (same-itself first.rest.drawn queue) (missed.none queue (same-itself seen queue)) found.2 found.3
+        | inr found ↦ omega (arith, few, ap length found.3.2)
+      ])
 
-module _ (nodes : List Node) (at : ℕ) (queue : List Piece) (hand rest after left : Hand) (first second : Piece) (is : IsFirstOf queue hand first rest) (then : IsFirstOf queue rest second after)
-    (kept : (other : List Piece) → pieces_at other left ≡ first ∷ pieces_at other after) where
-  pub found-second : TakesBelow nodes Allowed at second (pieces_at queue left) → TakesOne nodes Allowed at (pieces_at queue hand)
-  found-second below =
-      let whole : pieces_at queue hand ≡ first ∷ second ∷ pieces_at queue after =
-      is.each queue (same-itself rest.place queue) ∙ ap (λ l. first ∷ l) (then.each queue (same-itself after.place queue)) in
-      subst (TakesOne nodes Allowed at) (sym whole)
-      (takes-second nodes at first second (pieces_at queue after) (subst (TakesBelow nodes Allowed at second) (kept queue) below))
+      module _ (second : Taken) (next : IsTakenBy IsSecond queue hand second) where
+        pub found-second : hold ≡ Allowed → TakesBelow nodes hold at second.piece (pieces_at queue second.rest) → TakesOne nodes hold at (pieces_at queue hand)
+        found-second allowed below =
+            takes-one nodes hold at second.piece (pieces_at queue hand) (pieces_at queue second.rest)
+            (take-of_second hold (pieces_at queue hand) second.piece (pieces_at queue second.rest) allowed (next.each queue (same-itself second.rest.drawn queue))) below
 
-  pub misses-two : (seen next all : ℕ) → has_end nodes at ≡ false → left.place ≡ after.place
-      → MissesBelow nodes Allowed at first queue rest seen → MissesBelow nodes Allowed at second queue left next → all ≡ max seen next → Misses nodes Allowed at queue hand all
-  misses-two seen next all open_end same_place missed also most = record {
-    later = omega (arith, is.later, missed.later, most);
-    few = omega (arith, missed.few, also.few, most);
-    none = λ other same one.
-        let before : HasSameFront rest.place queue other = same-shorter rest.place all queue other (omega (arith, missed.later, most)) same in
-        let beyond : HasSameFront after.place queue other = same-shorter after.place all queue other (omega (arith, also.later, same_place, most)) same in
-        elim (takes-begins nodes Allowed at first (pieces_at other hand) (pieces_at other rest) open_end (is.each other before) one) [
-          | inl below ↦ missed.none other (same-shorter seen all queue other (omega (arith, most)) same) below
-          | inr taken ↦
-              let two : taken.0 ∷ taken.1 ≡ second ∷ pieces_at other after = sym taken.3 ∙ then.each other beyond in
-              let kind : taken.0 ≡ second = cc in
-              let later : taken.1 ≡ pieces_at other after = cc in
-              let ways = subst (λ l. TakesBelow nodes Allowed at taken.0 (first ∷ l)) later taken.4 in
-              let there = subst (λ k. TakesBelow nodes Allowed at k (first ∷ pieces_at other after)) kind ways in
-              also.none other (same-shorter next all queue other (omega (arith, most)) same)
-              (subst (TakesBelow nodes Allowed at second) (sym (kept other)) there)
-        ];
-  }
+        -- not by the second piece
+        not-second : (other : List Piece) (piece : Piece) (rest : List Piece) → HasSameFront second.rest.drawn queue other → (TakesBelow nodes hold at second.piece (pieces_at other second.rest) → ⊥)
+            → IsSecond (pieces_at other hand) piece rest → TakesBelow nodes hold at piece rest → ⊥
+        not-second other piece rest front none found below =
+            let is : IsSecond (pieces_at other hand) second.piece (pieces_at other second.rest) = next.each other front in
+            let same : found.0 ∷ piece ∷ found.1 ≡ is.0 ∷ second.piece ∷ is.1 = sym found.2 ∙ is.2 in
+            let kind : piece ≡ second.piece = cc in
+            let before : found.0 ≡ is.0 = cc in
+            let later : found.1 ≡ is.1 = cc in
+            let others : rest ≡ pieces_at other second.rest = found.3 ∙ ap (λ p. p ∷ found.1) before ∙ ap (λ l. is.0 ∷ l) later ∙ sym is.3 in
+            none (subst (TakesBelow nodes hold at second.piece) others (subst (λ p. TakesBelow nodes hold at p rest) kind below))
+
+        pub misses-two : (also all : ℕ) → MissesBelow nodes hold at second.piece queue second.rest also → all ≡ max seen also → Misses nodes hold at queue hand all
+        misses-two also all missed_too most = record {
+          later = omega (arith, is.later, missed.later, most);
+          few = omega (arith, missed.few, missed_too.few, most);
+          none = λ other front one. elim (taken-begins nodes hold at (pieces_at other hand) one.kinds open_end one.spelled one.taken) [
+            | inl found ↦
+                not-first other found.0 found.1 (same-shorter first.rest.drawn all queue other (omega (arith, missed.later, most)) front)
+                (missed.none other (same-shorter seen all queue other (omega (arith, most)) front)) found.2 found.3
+            | inr found ↦
+                not-second other found.0 found.1 (same-shorter second.rest.drawn all queue other (omega (arith, missed_too.later, most)) front)
+                (missed_too.none other (same-shorter also all queue other (omega (arith, most)) front)) found.3 found.4
+          ];
+        }

@@ -5,15 +5,16 @@ use Rattle.std.proofs.lemmas.Option.{slice_get_within}
 use Rattle.srs.specs.declared.piece.Piece.{Piece}
 use Rattle.queue_pattern.specs.Pattern.{elements_of}
 use Rattle.queue_pattern.specs.Queues.{queues}
+use Rattle.hold_queue.specs.declared.hand.Hand.{Hand}
 use Rattle.hold_queue.specs.AtHand.{at_hand, Takes}
+use Rattle.hold_queue.specs.Hand.{pieces_at}
 use Rattle.hold_queue.proofs.CallerLemmas.{permits-of_takes, takes-of_permits}
 use Rattle.problem.specs.declared.problem.Problem.{Problem}
-use Rattle.cover.specs.declared.hand.Hand.{Hand}
 use Rattle.cover.specs.declared.node.Node.{Node}
 use Rattle.cover.specs.Covered.{IsLeastFrom, IsPermitted}
 use Rattle.cover.specs.Fronts.{ShareFront}
 use Rattle.cover.specs.Lists.{has_kinds}
-use Rattle.cover.specs.Look.{pieces_at, Misses, TakesOne}
+use Rattle.cover.specs.Look.{Misses, TakesOne}
 use Rattle.cover.specs.Nodes.{spells}
 use Rattle.cover.proofs.KindLemmas.{has_kinds-contained, has_kinds-from}
 

@@ -1,5 +1,5 @@
 -- Lists that lead to nodes, and a list that ends at one node more.
-use Rattle.std.proofs.Common.{◌≡◌, ◌⊎◌, ℕ, ◌<◌, Bool, true, false, ◌&&◌, ◌||◌, ◌==◌, nat_lt, List, [], ◌∷◌, ◌++◌, length, reverse, refl, sym, ap, subst, ◌∙◌, inl, inr, arith, append_assoc, append-nil}
+use Rattle.std.proofs.Common.{◌≡◌, ◌⊎◌, ℕ, ◌<◌, true, ◌&&◌, ◌==◌, nat_lt, List, [], ◌∷◌, ◌++◌, length, reverse, refl, sym, ap, subst, ◌∙◌, inl, inr, arith, append_assoc, append-nil}
 use Rattle.std.proofs.lemmas.Bool.{ltb-true, lt-ltb, eqb-true, and_parts, and_from, eq-eqb, or_cases, or_left, or_right}
 use Rattle.std.proofs.lemmas.List.{reverse-append, reverse-reverse}
 use Rattle.srs.specs.declared.piece.Piece.{Piece}

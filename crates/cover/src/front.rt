@@ -2,7 +2,7 @@
 ghost use Rattle.std.specs.Prelude.{◌≡◌, ℕ, ◌<◌, ◌≤◌, IsTrue, length, take, Some, slice_get};
 ghost use Rattle.queue_pattern.specs.Pattern.{elements_of};
 ghost use Rattle.queue_pattern.specs.Queues.{queues};
-ghost use Rattle.cover.specs.Look.{HasSameFront};
+ghost use Rattle.hold_queue.specs.Hand.{HasSameFront};
 ghost use Rattle.cover.specs.Fronts.{ShareFront};
 
 use queue_pattern::laws::queues_rise;

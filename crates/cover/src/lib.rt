@@ -2,7 +2,6 @@
 #![tactic(auto)]
 
 mod front;
-mod hand;
 mod kinds;
 pub mod laws;
 mod look;

@@ -8,12 +8,11 @@ ghost use Rattle.cover.specs.Nodes.{spells};
 ghost use Rattle.cover.specs.Tree.{nodes_of};
 
 use crate::front::end_of_front;
-use crate::hand::Hand;
 use crate::kinds::{Kinds, kinds_of};
 use crate::look::{Look, look_at};
 use crate::play::plays;
 use crate::tree::Tree;
-use hold_queue::Hold;
+use hold_queue::Hand;
 use indexmap::IndexSet;
 use pc_outside::NoMemory;
 use problem::{Problem, Sequence};
@@ -106,7 +105,7 @@ impl CoverSet {
         let mut number = from;
         while number < pattern.count() {
             let queue = pattern.queue(number);
-            match look_at(&self.tree, hold, 0, queue.as_slice(), hand) {
+            match look_at(&self.tree, hold, 0, &queue, hand) {
                 Look::Found => return Some(number),
                 Look::Missed(seen) => number = end_of_front(pattern, number, &queue, seen),
             }

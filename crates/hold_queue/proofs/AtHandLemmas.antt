@@ -1,11 +1,13 @@
 -- What a queue permits is what is taken from the pieces at hand.
-use Rattle.std.proofs.Common.{◌≡◌, ◌↔◌, Bool, true, false, List, [], ◌∷◌, Option, Some, None, refl, subst}
+use Rattle.std.proofs.Common.{◌≡◌, ◌⊎◌, ◌↔◌, ◌+◌, ◌≤◌, List, [], ◌∷◌, length, Option, Some, None, refl, sym, subst, inl, inr, arith}
+use Rattle.std.specs.Cmp.Derive.{one_truth}
 use Rattle.srs.specs.declared.piece.Piece.{Piece}
 use Rattle.hold_queue.specs.declared.hold.Hold.{Hold}
 use Rattle.hold_queue.specs.declared.hold.Hold.TheVariants.{Allowed, Avoided}
 use Rattle.hold_queue.specs.Permits.{Way, plain, exchange, first_hold, last, Permits, permits}
 use Rattle.hold_queue.proofs.PermitsTest.{permits-decides}
 use Rattle.hold_queue.specs.AtHand.{at_hand, Take, take_first, take_second, Takes}
+use Rattle.hold_queue.specs.Hand.{IsFirst, IsSecond}
 
 -- each way takes one of the pieces at hand, and leaves those at hand of what it leaves
 take-of_plain : (hold : Hold) (piece : Piece) (queue : List Piece) (held : Option Piece) → Take hold (at_hand hold held (piece ∷ queue)) piece (at_hand hold held queue)
@@ -49,16 +51,39 @@ permits-of_takes hold queue held (piece ∷ pieces) taken =
 pub permits-is_takes : (hold : Hold) (queue : List Piece) (held : Option Piece) (pieces : List Piece) → Permits hold queue held pieces ↔ Takes hold (at_hand hold held queue) pieces
 permits-is_takes hold queue held pieces = (takes-of_permits hold queue held pieces, permits-of_takes hold queue held pieces)
 
-same_answers : (a b : Bool) → (a ≡ true → b ≡ true) → (b ≡ true → a ≡ true) → a ≡ b
-same_answers true b to from = cc (to refl)
-same_answers false true to from = cc (from refl)
-same_answers false false to from = refl
-
 -- a held piece is like a first piece of the queue
 pub permits-held : (piece : Piece) (queue pieces : List Piece) → permits Allowed (piece ∷ queue) None pieces ≡ permits Allowed queue (Some piece) pieces
 permits-held piece queue pieces =
     let front = permits-decides Allowed (piece ∷ queue) None pieces in
     let held = permits-decides Allowed queue (Some piece) pieces in
-    same_answers _ _
+    one_truth _ _
     (λ h. held.1 (permits-of_takes Allowed queue (Some piece) pieces (takes-of_permits Allowed (piece ∷ queue) None pieces (front.0 h))))
     (λ h. front.1 (permits-of_takes Allowed (piece ∷ queue) None pieces (takes-of_permits Allowed queue (Some piece) pieces (held.0 h))))
+
+-- ---- the first piece or the second
+
+pub take-nothing : (hold : Hold) (piece : Piece) (rest : List Piece) → Take hold [] piece rest → ⊥
+take-nothing hold piece rest taken = elim taken [ ]
+
+pub take-cases : (hold : Hold) (pieces : List Piece) (piece : Piece) (rest : List Piece) → Take hold pieces piece rest → IsFirst pieces piece rest ⊎ ((hold ≡ Allowed) × IsSecond pieces piece rest)
+take-cases hold [] piece rest taken = elim taken [ ]
+take-cases hold (first ∷ pieces) piece rest take_first = inl refl
+take-cases Allowed (first ∷ second ∷ later) piece rest take_second = inr (refl, (first, later, refl, refl))
+
+pub take-of_first : (hold : Hold) (pieces : List Piece) (piece : Piece) (rest : List Piece) → IsFirst pieces piece rest → Take hold pieces piece rest
+take-of_first hold pieces piece rest first = subst (λ l. Take hold l piece rest) (sym first) take_first
+
+pub take-of_second : (hold : Hold) (pieces : List Piece) (piece : Piece) (rest : List Piece) → hold ≡ Allowed → IsSecond pieces piece rest → Take hold pieces piece rest
+take-of_second hold pieces piece rest allowed second =
+    let here : Take Allowed (second.0 ∷ piece ∷ second.1) piece (second.0 ∷ second.1) = take_second in
+    subst (λ h. Take h pieces piece rest) (sym allowed)
+    (subst (λ l. Take Allowed pieces piece l) (sym second.3) (subst (λ l. Take Allowed l piece (second.0 ∷ second.1)) (sym second.2) here))
+
+-- no more pieces are taken than are at hand
+take-length : {hold : Hold} {pieces : List Piece} {piece : Piece} {rest : List Piece} → Take hold pieces piece rest → length pieces ≡ length rest + 1
+take-length take_first = omega arith
+take-length take_second = omega arith
+
+pub takes-length : (hold : Hold) (hand pieces : List Piece) → Takes hold hand pieces → length pieces ≤ length hand
+takes-length hold hand [] taken = omega arith
+takes-length hold hand (piece ∷ pieces) taken = omega (arith, take-length taken.1, takes-length hold taken.0 pieces taken.2)

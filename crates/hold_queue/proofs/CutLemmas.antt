@@ -4,6 +4,7 @@ use Rattle.srs.specs.declared.piece.Piece.{Piece}
 use Rattle.hold_queue.specs.declared.hold.Hold.{Hold}
 use Rattle.hold_queue.specs.declared.hold.Hold.TheVariants.{Allowed, Avoided}
 use Rattle.hold_queue.specs.AtHand.{Take, take_first, take_second, Takes, taken_from}
+use Rattle.hold_queue.proofs.AtHandLemmas.{take-nothing}
 
 -- taking where the later pieces are cut off
 take-cut : (hold : Hold) (m : ℕ) (hand : List Piece) (piece : Piece) (rest : List Piece) → taken_from hold 1 ≤ suc m
@@ -37,9 +38,6 @@ take-whole Allowed (suc m) [] piece front taken = elim taken [ ]
 take-whole Allowed (suc m) (first ∷ []) piece front take_first = ([], take_first, refl)
 take-whole Allowed (suc m) (first ∷ second ∷ hand) piece front take_first = (second ∷ hand, take_first, refl)
 take-whole Allowed (suc m) (first ∷ second ∷ hand) piece front take_second = (first ∷ hand, take_second, refl)
-
-take-nothing : (hold : Hold) (piece : Piece) (rest : List Piece) → Take hold [] piece rest → ⊥
-take-nothing hold piece rest taken = elim taken [ ]
 
 takes-whole : (hold : Hold) (m : ℕ) (hand pieces : List Piece) → Takes hold (take m hand) pieces → Takes hold hand pieces
 takes-whole hold m hand [] taken = tt

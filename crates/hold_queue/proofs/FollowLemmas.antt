@@ -1,5 +1,6 @@
 -- The states stand for the played pieces: at the start, and after one more.
-use Rattle.std.proofs.Common.{◌≡◌, ℕ, ◌+◌, ◌*◌, ◌<◌, ◌≤◌, Bool, true, false, not, ◌&&◌, ◌||◌, ◌==◌, Option, Some, None, List, [], ◌∷◌, ◌++◌, length, length-append, append_assoc, Contains, set, refl, ap, ◌∙◌, sym, subst, inl, inr, arith, nat_le, leb-true}
+use Rattle.std.proofs.Common.{◌≡◌, ℕ, ◌+◌, ◌*◌, ◌<◌, ◌≤◌, Bool, true, not, ◌&&◌, ◌||◌, ◌==◌, Option, Some, None, List, [], ◌∷◌, ◌++◌, length, length-append, append_assoc, Contains, set, refl, ap, ◌∙◌, sym, subst, inl, inr, arith, nat_le, leb-true}
+use Rattle.std.specs.Cmp.Derive.{one_truth}
 use Rattle.std.specs.List.{list_any, list_all}
 use Rattle.std.proofs.lemmas.Bool.{agree_below_at, and_parts, and_from, eqb-true, or_cases, or_left, or_right}
 use Rattle.std.proofs.lemmas.List.Folds.{list_any_at}
@@ -16,12 +17,6 @@ use Rattle.hold_queue.proofs.DrawLemmas.{any_below-from, any_below-to}
 use Rattle.hold_queue.proofs.DrawnRests.{Contains-piece}
 use Rattle.hold_queue.proofs.PermitsTest.{some_permits-decides}
 use Rattle.hold_queue.proofs.RestLemmas.{rests-start}
-
--- tests that hold at the same time are equal
-pub same_tests : {a b : Bool} → (a ≡ true → b ≡ true) → (b ≡ true → a ≡ true) → a ≡ b
-same_tests {a = true} {b = b} on back = sym (on refl)
-same_tests {a = false} {b = true} on back = back refl
-same_tests {a = false} {b = false} on back = refl
 
 list_any-from : {X : Type 0} (test : X → Bool) (xs : List X) → list_any test xs ≡ true → (x : X) × (test x ≡ true)
 list_any-from test [] h = cc
@@ -73,7 +68,7 @@ pub states_permit-next : (elements : List Element) (hold : Hold) (start : Option
     → ((held : Option Piece) → IsNextFamily elements hold start states played piece held (family_at next held))
     → (pieces : List Piece) → states_permit elements hold start states played (piece ∷ pieces) ≡ states_permit elements hold start next (played + 1) pieces
 states_permit-next elements hold start states next played piece steps pieces =
-    same_tests
+    one_truth _ _
     (λ before. let is = states_permit-from elements hold start states played (piece ∷ pieces) before in
     states_permit-to elements hold start next (played + 1) pieces (record {
       held = is.permitted.1;
@@ -171,7 +166,7 @@ first-there (Some piece) = each_piece (λ p. has_set (family_at (first_states (S
 
 pub follows-start : (elements : List Element) (hold : Hold) (start : Option Piece) → 0 < length (queues elements) → AreStatesAfter elements hold start (first_states start) []
 follows-start elements hold start some = record {
-  permits_same = λ pieces. same_tests
+  permits_same = λ pieces. one_truth _ _
       (λ h. let is = (some_permits-decides hold (queues elements) start pieces).0 h in
       states_permit-to elements hold start (first_states start) 0 pieces (record {
         held = start;

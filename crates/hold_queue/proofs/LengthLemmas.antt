@@ -1,14 +1,17 @@
 -- How many pieces a queue permits: its own, and one that is held.
-use Rattle.std.proofs.Common.{◌≡◌, ℕ, zero, suc, ◌+◌, ◌≤◌, Option, List, [], ◌∷◌, ◌++◌, length, length-append, map, Contains, ap, ◌∙◌, sym, arith, inl, inr}
+use Rattle.std.proofs.Common.{◌≡◌, ℕ, zero, suc, ◌+◌, ◌≤◌, Option, Some, None, List, [], ◌∷◌, ◌++◌, length, length-append, map, Contains, ap, ◌∙◌, sym, arith, inl, inr}
 use Rattle.std.proofs.lemmas.List.Sums.{sum_by-cons}
 use Rattle.srs.specs.declared.piece.Piece.{Piece}
 use Rattle.lists.proofs.CallerLemmas.{Contains-none, Contains-cases, Contains-from_flat_map, Contains-from_map}
 use Rattle.queue_pattern.specs.declared.element.Element.{Element}
 use Rattle.queue_pattern.specs.Queues.{pieces_in, others, choices, queues, queue_len}
 use Rattle.hold_queue.specs.declared.hold.Hold.{Hold}
-use Rattle.hold_queue.specs.Permits.{Way, plain, exchange, first_hold, last, Permits}
+use Rattle.hold_queue.specs.declared.hold.Hold.TheVariants.{Allowed, Avoided}
+use Rattle.hold_queue.specs.AtHand.{at_hand}
+use Rattle.hold_queue.specs.Permits.{Permits}
 use Rattle.hold_queue.specs.QueueSet.{QueuesInPlay, QueuesPermit}
 use Rattle.hold_queue.specs.States.{count_held}
+use Rattle.hold_queue.proofs.AtHandLemmas.{takes-length, takes-of_permits}
 
 choice-length : (n : ℕ) (pieces choice : List Piece) → Contains (choices pieces n) choice → length choice ≡ n
 unfolding choices
@@ -39,17 +42,14 @@ queue-length (e ∷ elements) queue among =
       sum_by-cons (λ (x : Element). x.chosen) e elements,
     )
 
-way-length : {hold : Hold} {queue : List Piece} {held : Option Piece} {piece : Piece} {rest : List Piece} {after : Option Piece}
-    → Way hold queue held piece rest after → length rest + count_held after + 1 ≤ length queue + count_held held
-way-length plain = omega arith
-way-length exchange = omega arith
-way-length first_hold = omega arith
-way-length last = omega arith
+at_hand-length : (hold : Hold) (held : Option Piece) (queue : List Piece) → length (at_hand hold held queue) ≤ length queue + count_held held
+at_hand-length Avoided held queue = omega arith
+at_hand-length Allowed None queue = omega arith
+at_hand-length Allowed (Some piece) queue = omega arith
 
 pub permits-length : (hold : Hold) (pieces queue : List Piece) (held : Option Piece) → Permits hold queue held pieces → length pieces ≤ length queue + count_held held
-permits-length hold [] queue held permitted = omega arith
-permits-length hold (piece ∷ pieces) queue held permitted =
-    omega (arith, way-length permitted.2, permits-length hold pieces permitted.0 permitted.1 permitted.3)
+permits-length hold pieces queue held permitted =
+    omega (arith, at_hand-length hold held queue, takes-length hold (at_hand hold held queue) pieces (takes-of_permits hold queue held pieces permitted))
 
 pub line-length : (line : QueuesInPlay) (pieces : List Piece) → QueuesPermit line pieces → length pieces ≤ queue_len line.elements + count_held line.held
 line-length line pieces permitted = omega (arith, permits-length line.hold pieces permitted.0 line.held permitted.2, queue-length line.elements permitted.0 permitted.1)

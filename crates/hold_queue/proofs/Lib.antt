@@ -12,6 +12,7 @@ mod HoldingLemmas
 mod LengthLemmas
 mod SupplyLemmas
 mod AtHandLemmas
+mod HandLemmas
 mod CutLemmas
 mod SinglesLemmas
 pub mod CallerLemmas

@@ -2,6 +2,7 @@
 #![tactic(auto)]
 
 mod family;
+mod hand;
 mod hold;
 pub mod laws;
 mod set;
@@ -9,5 +10,6 @@ mod supply;
 #[cfg(test)]
 mod tests;
 
+pub use hand::{Hand, Taken};
 pub use hold::Hold;
 pub use set::QueueSet;

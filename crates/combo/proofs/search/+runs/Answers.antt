@@ -1,13 +1,11 @@
--- One placement after the other, and the two turns.
-use Rattle.std.proofs.Common.{◌≡◌, ◌≤◌, ◌-◌, sym, subst, arith, refl, drop}
-use Rattle.std.specs.Option.{option_map}
+-- One placement after the other, and the two pieces that may be taken.
+use Rattle.std.proofs.Common.{◌≡◌, ◌≤◌, ◌-◌, sym, subst, arith, refl}
 use Rattle.reach.specs.FloodRules.{flood_table}
 use Rattle.well.specs.Well.{filled}
 use Rattle.well.specs.Lock.{rows_removed}
 use Rattle.moves.proofs.CallerLemmas.{place-free}
-use Rattle.combo.specs.First.{IsFirst, AreShorter, RunsOnIf}
-use Rattle.combo.specs.Longest.{IsPermittedRun}
-use Rattle.combo.specs.Turns.{next_of}
+use Rattle.hold_queue.specs.Hand.{pieces_at}
+use Rattle.combo.specs.First.{IsFirst, IsTakenRun, AreShorter, RunsOnIf}
 use Rattle.combo.proofs.BoundLemmas.{above_bound}
 use Rattle.combo.proofs.FirstLemmas.{ends, first_of_either, first_of_one, found, goes_on, none_of_both, passes}
 use Rattle.combo.proofs.PlacesLeft.{fewer_left, held_inside, kind_kept, least_held, least_place, none_place}
@@ -24,19 +22,19 @@ first_after-returns-in-Some-first_run-clause-first g t c =
     let mode = c.args.play.now.drop_mode in
     let hold = c.args.play.now.hold in
     let F = filled c.args.well.now in
-    let turn = c.in_ok-turn.turn in
-    let next = next_of c.args.queue.now turn in
+    let queue = c.args.queue.now.items in
+    let taken = c.in_ok-taken.taken in
     let q = c.in-Some.placement in
-    let least = least_place c.places-places.result table F mode turn.piece _ c.loop-placement.entered q c.places-places.ensures.held c.as_ref.ensures.value c.in-Some.ensures in
-    let rest = subst (λ G. IsFirst (IsPermittedRun table mode G hold next.queue next.held) (c.args.count - 1) c.in-Some-first_run.rest.items) c.in-Some-cleared.ensures.left c.in-Some-first_run.ensures.first in
+    let least = least_place c.places-places.result table F mode taken.piece _ c.loop-placement.entered q c.places-places.ensures.held c.as_ref.ensures.value c.in-Some.ensures in
+    let rest = subst (λ G. IsFirst (IsTakenRun table mode G hold (pieces_at queue taken.rest)) (c.args.count - 1) c.in-Some-first_run.rest.items) c.in-Some-cleared.ensures.left c.in-Some-first_run.ensures.first in
     let some : 1 ≤ rows_removed F q = c.in-Some-cleared.ensures.removes in
-    subst (λ turn. IsFirst (RunsOnIf table mode hold F (option_map (next_of c.args.queue.now) turn)) c.args.count c.with_first.result.items) (sym c.in_ok-turn.was)
-    (found table mode hold F next c.args.count c.requires.placements c.loop-placement.entered q c.in-Some-first_run.rest.items c.with_first.result.items c.loop-placement.invariant.0 least some rest c.with_first.ensures)
+    subst (λ taken. IsFirst (RunsOnIf table mode hold F queue taken) c.args.count c.with_first.result.items) (sym c.in_ok-taken.was)
+    (found table mode hold F queue taken c.args.count c.requires.placements c.loop-placement.entered q c.in-Some-first_run.rest.items c.with_first.result.items c.loop-placement.invariant.0 least some rest c.with_first.ensures)
 
 pub first_after-loop-placement-smaller-in_default-first_run : goal.first_after-loop-placement-smaller-in_default-first_run
 first_after-loop-placement-smaller-in_default-first_run g t c =
     fewer_left c.places-places.result c.loop-placement.entered c.in-Some.placement
-    (held_inside c.places-places.result (flood_table c.args.play.now.rules) (filled c.args.well.now) c.args.play.now.drop_mode c.in_ok-turn.turn.piece c.places-places.ensures.piece c.places-places.ensures.held)
+    (held_inside c.places-places.result (flood_table c.args.play.now.rules) (filled c.args.well.now) c.args.play.now.drop_mode c.in_ok-taken.taken.piece c.places-places.ensures.piece c.places-places.ensures.held)
     (least_held c.places-places.result _ c.loop-placement.entered c.in-Some.placement c.as_ref.ensures.value c.in-Some.ensures)
 
 pub first_after-loop-placement-preserved-in_default-first_run : goal.first_after-loop-placement-preserved-in_default-first_run
@@ -45,13 +43,13 @@ first_after-loop-placement-preserved-in_default-first_run g t c =
     let mode = c.args.play.now.drop_mode in
     let hold = c.args.play.now.hold in
     let F = filled c.args.well.now in
-    let turn = c.in_ok-turn.turn in
-    let next = next_of c.args.queue.now turn in
+    let queue = c.args.queue.now.items in
+    let taken = c.in_ok-taken.taken in
     let q = c.in-Some.placement in
-    let least = least_place c.places-places.result table F mode turn.piece _ c.loop-placement.entered q c.places-places.ensures.held c.as_ref.ensures.value c.in-Some.ensures in
-    let kind = kind_kept q turn.piece least.member.0 in
-    let rest = subst (λ G. AreShorter (IsPermittedRun table mode G hold next.queue next.held) (c.args.count - 1)) c.in-Some-cleared.ensures.left (c.in_default-first_run.ensures.none refl) in (
-      goes_on table mode hold F next c.args.count c.requires.placements c.loop-placement.entered q c.loop-placement.invariant.0 least rest,
+    let least = least_place c.places-places.result table F mode taken.piece _ c.loop-placement.entered q c.places-places.ensures.held c.as_ref.ensures.value c.in-Some.ensures in
+    let kind = kind_kept q taken.piece least.member.0 in
+    let rest = subst (λ G. AreShorter (IsTakenRun table mode G hold (pieces_at queue taken.rest)) (c.args.count - 1)) c.in-Some-cleared.ensures.left (c.in_default-first_run.ensures.none refl) in (
+      goes_on table mode hold F queue taken c.args.count c.requires.placements c.loop-placement.entered q c.loop-placement.invariant.0 least rest,
       kind,
       c.places-places.ensures.piece,
       c.in_default-first_run.ensures.known,
@@ -61,7 +59,7 @@ first_after-loop-placement-preserved-in_default-first_run g t c =
 pub first_after-loop-placement-smaller : goal.first_after-loop-placement-smaller
 first_after-loop-placement-smaller g t c =
     fewer_left c.places-places.result c.loop-placement.entered c.in-Some.placement
-    (held_inside c.places-places.result (flood_table c.args.play.now.rules) (filled c.args.well.now) c.args.play.now.drop_mode c.in_ok-turn.turn.piece c.places-places.ensures.piece c.places-places.ensures.held)
+    (held_inside c.places-places.result (flood_table c.args.play.now.rules) (filled c.args.well.now) c.args.play.now.drop_mode c.in_ok-taken.taken.piece c.places-places.ensures.piece c.places-places.ensures.held)
     (least_held c.places-places.result _ c.loop-placement.entered c.in-Some.placement c.as_ref.ensures.value c.in-Some.ensures)
 
 pub first_after-loop-placement-preserved : goal.first_after-loop-placement-preserved
@@ -70,37 +68,37 @@ first_after-loop-placement-preserved g t c =
     let mode = c.args.play.now.drop_mode in
     let hold = c.args.play.now.hold in
     let F = filled c.args.well.now in
-    let turn = c.in_ok-turn.turn in
-    let next = next_of c.args.queue.now turn in
+    let queue = c.args.queue.now.items in
+    let taken = c.in_ok-taken.taken in
     let q = c.in-Some.placement in
-    let least = least_place c.places-places.result table F mode turn.piece _ c.loop-placement.entered q c.places-places.ensures.held c.as_ref.ensures.value c.in-Some.ensures in
-    let kind = kind_kept q turn.piece least.member.0 in
+    let least = least_place c.places-places.result table F mode taken.piece _ c.loop-placement.entered q c.places-places.ensures.held c.as_ref.ensures.value c.in-Some.ensures in
+    let kind = kind_kept q taken.piece least.member.0 in
     let none : rows_removed F q ≡ 0 = c.in_default-cleared.ensures.none refl in
-    (passes table mode hold F next c.args.count c.requires.placements c.loop-placement.entered q c.loop-placement.invariant.0 least none, kind, c.places-places.ensures.piece, c.loop-placement.invariant.3, c.loop-placement.invariant.4)
+    (passes table mode hold F queue taken c.args.count c.requires.placements c.loop-placement.entered q c.loop-placement.invariant.0 least none, kind, c.places-places.ensures.piece, c.loop-placement.invariant.3, c.loop-placement.invariant.4)
 
 pub first_after-returns-clause-none : goal.first_after-returns-clause-none
 first_after-returns-clause-none g t c is =
-    subst (λ turn. AreShorter (RunsOnIf (flood_table c.args.play.now.rules) c.args.play.now.drop_mode c.args.play.now.hold (filled c.args.well.now) (option_map (next_of c.args.queue.now) turn)) c.args.count) (sym c.in_ok-turn.was)
-    (ends (flood_table c.args.play.now.rules) c.args.play.now.drop_mode c.args.play.now.hold (filled c.args.well.now) (next_of c.args.queue.now c.in_ok-turn.turn) c.args.count c.requires.placements c.loop-placement.entered
+    subst (λ taken. AreShorter (RunsOnIf (flood_table c.args.play.now.rules) c.args.play.now.drop_mode c.args.play.now.hold (filled c.args.well.now) c.args.queue.now.items taken) c.args.count) (sym c.in_ok-taken.was)
+    (ends (flood_table c.args.play.now.rules) c.args.play.now.drop_mode c.args.play.now.hold (filled c.args.well.now) c.args.queue.now.items c.in_ok-taken.taken c.args.count c.requires.placements c.loop-placement.entered
     c.loop-placement.invariant.0
-    (none_place c.places-places.result (flood_table c.args.play.now.rules) (filled c.args.well.now) c.args.play.now.drop_mode c.in_ok-turn.turn.piece _ c.loop-placement.entered c.places-places.ensures.held c.as_ref.ensures.value c.in_default.ensures))
+    (none_place c.places-places.result (flood_table c.args.play.now.rules) (filled c.args.well.now) c.args.play.now.drop_mode c.in_ok-taken.taken.piece _ c.loop-placement.entered c.places-places.ensures.held c.as_ref.ensures.value c.in_default.ensures))
 
 pub first_run-returns-then-most-count-clause-none : goal.first_run-returns-then-most-count-clause-none
 first_run-returns-then-most-count-clause-none g t c is =
-    above_bound (flood_table c.args.play.now.rules) c.args.play.now.drop_mode (filled c.args.well.now) c.args.play.now.hold (drop c.args.hand.taken c.args.queue.now) c.args.hand.held c.most.result c.args.count
+    above_bound (flood_table c.args.play.now.rules) c.args.play.now.drop_mode (filled c.args.well.now) c.args.play.now.hold (pieces_at c.args.queue.now.items c.args.hand) c.most.result c.args.count
     (c.most.ensures.each (flood_table c.args.play.now.rules) c.args.play.now.drop_mode c.args.play.now.hold) c.if-most-count.true
 
-pub first_of_turns-returns-in-Some-clause-first : goal.first_of_turns-returns-in-Some-clause-first
-first_of_turns-returns-in-Some-clause-first g t c =
-    first_of_one (flood_table c.args.play.now.rules) c.args.play.now.drop_mode c.args.play.now.hold (filled c.args.well.now) c.args.queue.now (drop c.args.hand.taken c.args.queue.now) c.args.hand.held
-    c.turns-turn.result.0 c.turns-turn.result.1 c.args.count c.requires.placements c.turns-turn.ensures.ways c.in-Some.run'.items c.turns-turn.ensures.order c.in-Some.ensures.first
+pub first_of_takes-returns-in-Some-clause-first : goal.first_of_takes-returns-in-Some-clause-first
+first_of_takes-returns-in-Some-clause-first g t c =
+    first_of_one (flood_table c.args.play.now.rules) c.args.play.now.drop_mode c.args.play.now.hold (filled c.args.well.now) c.args.queue.now.items c.args.hand
+    c.takes-one.result.0 c.takes-one.result.1 c.args.count c.requires.placements c.takes-one.ensures.all c.in-Some.run'.items c.takes-one.ensures.order c.in-Some.ensures.first
 
-pub first_of_turns-returns-clause-first : goal.first_of_turns-returns-clause-first
-first_of_turns-returns-clause-first g t c =
-    first_of_either (flood_table c.args.play.now.rules) c.args.play.now.drop_mode c.args.play.now.hold (filled c.args.well.now) c.args.queue.now (drop c.args.hand.taken c.args.queue.now) c.args.hand.held
-    c.turns-turn.result.0 c.turns-turn.result.1 c.args.count c.requires.placements c.turns-turn.ensures.ways c.first_after-2.result (c.in_default.ensures.none refl) c.first_after-2.ensures.first
+pub first_of_takes-returns-clause-first : goal.first_of_takes-returns-clause-first
+first_of_takes-returns-clause-first g t c =
+    first_of_either (flood_table c.args.play.now.rules) c.args.play.now.drop_mode c.args.play.now.hold (filled c.args.well.now) c.args.queue.now.items c.args.hand
+    c.takes-one.result.0 c.takes-one.result.1 c.args.count c.requires.placements c.takes-one.ensures.all c.first_after-2.result (c.in_default.ensures.none refl) c.first_after-2.ensures.first
 
-pub first_of_turns-returns-clause-none : goal.first_of_turns-returns-clause-none
-first_of_turns-returns-clause-none g t c is =
-    none_of_both (flood_table c.args.play.now.rules) c.args.play.now.drop_mode c.args.play.now.hold (filled c.args.well.now) c.args.queue.now (drop c.args.hand.taken c.args.queue.now) c.args.hand.held
-    c.turns-turn.result.0 c.turns-turn.result.1 c.args.count c.requires.placements c.turns-turn.ensures.ways (c.in_default.ensures.none refl) (c.first_after-2.ensures.none is)
+pub first_of_takes-returns-clause-none : goal.first_of_takes-returns-clause-none
+first_of_takes-returns-clause-none g t c is =
+    none_of_both (flood_table c.args.play.now.rules) c.args.play.now.drop_mode c.args.play.now.hold (filled c.args.well.now) c.args.queue.now.items c.args.hand
+    c.takes-one.result.0 c.takes-one.result.1 c.args.count c.requires.placements c.takes-one.ensures.all (c.in_default.ensures.none refl) (c.first_after-2.ensures.none is)

@@ -5,4 +5,4 @@ use Rattle.combo.proofs.store.is_said.Goals as goal
 
 pub returns-in-Some : goal.returns-in-Some
 returns-in-Some c =
-    says_shorter c.says.result c.args.entry.now c.in-Some.known (filled c.args.well.now) c.args.hand c.args.count c.in-Some.is c.says.ensures.well c.says.ensures.hand c.says.ensures.count
+    says_shorter c.says.result c.args.entry.now c.in-Some.position (filled c.args.well.now) c.args.hand c.args.count c.in-Some.is c.says.ensures.well c.says.ensures.hand c.says.ensures.count

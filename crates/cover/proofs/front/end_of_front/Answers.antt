@@ -2,7 +2,7 @@
 use Rattle.std.proofs.Common.{◌+◌, ◌<◌, ◌≤◌, subst, arith}
 use Rattle.queue_pattern.specs.Pattern.{elements_of}
 use Rattle.queue_pattern.specs.Queues.{queues}
-use Rattle.cover.specs.Look.{HasSameFront}
+use Rattle.hold_queue.specs.Hand.{HasSameFront}
 use Rattle.cover.proofs.FrontLemmas.{alike-goes_on}
 use Rattle.cover.proofs.front.end_of_front.Goals as goal
 

@@ -1,7 +1,6 @@
 -- A queue permits a kept list, or those that begin like it permit none.
-use Rattle.std.proofs.Common.{subst, arith}
+use Rattle.std.proofs.Common.{arith}
 use Rattle.cover.specs.Kept.{lists_of, kept_problem}
-use Rattle.cover.specs.Look.{pieces_at, Misses, TakesOne}
 use Rattle.cover.specs.Tree.{nodes_of}
 use Rattle.cover.proofs.NextLemmas.{next-found, next-passed, none-at-all}
 use Rattle.cover.proofs.TreeFacts.{branches-of}
@@ -15,9 +14,8 @@ unfolding kept_problem lists_of
 returns-in-Found c =
     let set = c.args.self.now in
     let nodes = nodes_of set.tree in
-    let one : TakesOne nodes set.problem.hold 0 (pieces_at c.as_slice.result.now c.start-hand.result) = c.in-Found.ensures in
     next-found set.problem (lists_of set) nodes c.start-hand.result set.listed c.start-hand.ensures.at c.args.from c.loop-number.number c.queue-queue.result.items c.loop-number.invariant c.queue-queue.ensures
-    (subst (λ l. TakesOne nodes set.problem.hold 0 (pieces_at l c.start-hand.result)) c.as_slice.ensures.value one)
+    c.in-Found.ensures
 
 pub loop-number-smaller : goal.loop-number-smaller
 unfolding kept_problem
@@ -28,9 +26,8 @@ unfolding kept_problem lists_of
 loop-number-preserved c =
     let set = c.args.self.now in
     let nodes = nodes_of set.tree in
-    let missed : Misses nodes set.problem.hold 0 c.as_slice.result.now c.start-hand.result c.in-Missed.seen = c.in-Missed.ensures in
     next-passed set.problem (lists_of set) nodes c.start-hand.result set.listed c.start-hand.ensures.at c.args.from c.loop-number.number c.end_of_front-number.result c.in-Missed.seen c.queue-queue.result.items
-    c.loop-number.invariant (subst (λ l. Misses nodes set.problem.hold 0 l c.start-hand.result c.in-Missed.seen) c.as_slice.ensures.value missed)
+    c.loop-number.invariant c.in-Missed.ensures
     c.end_of_front-number.ensures.same c.end_of_front-number.ensures.after c.end_of_front-number.ensures.within
 
 pub returns : goal.returns

@@ -1,19 +1,19 @@
-// What is known of a field and the pieces at hand.
+// Positions that were searched: a field and the pieces at hand.
 ghost use Rattle.std.specs.Prelude.{◌≡◌, ◌≤◌, IsTrue};
 ghost use Rattle.well.specs.Well.{filled};
 
-use crate::hand::Hand;
+use hold_queue::Hand;
 use well::Well;
 
 /// A field and pieces at hand that permit no run of `count` placements or more.
 #[derive(Clone, Copy)]
-pub struct Known {
+pub struct SearchedPosition {
     pub(crate) well: Well,
     pub(crate) hand: Hand,
     pub(crate) count: u8,
 }
 
-impl Known {
+impl SearchedPosition {
     /// Whether this says that this field and these pieces at hand permit no run of `count` placements.
     pub fn says(&self, well: &Well, hand: Hand, count: u8) -> bool
         ensures well { IsTrue result → filled self.now.well ≡ filled well.now }

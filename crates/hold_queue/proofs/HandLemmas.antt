@@ -1,0 +1,233 @@
+-- What is taken from a hand, also where the queue is another one that begins with the same pieces.
+use Rattle.std.proofs.Common.{◌≡◌, ◌⊎◌, ℕ, zero, suc, ◌+◌, ◌-◌, ◌<◌, ◌≤◌, List, [], ◌∷◌, ◌++◌, length, take, drop, Option, Some, None, slice_get, refl, sym, ap, subst, ◌∙◌, inl, inr, arith}
+use Rattle.std.specs.Option.{option_to_list}
+use Rattle.std.proofs.Math.ListN.{drop_of_length-le}
+use Rattle.std.proofs.lemmas.List.{length-drop}
+use Rattle.srs.specs.declared.piece.Piece.{Piece}
+use Rattle.srs.specs.Piece.{piece_code}
+use Rattle.srs.proofs.CallerLemmas.{piece_code-injective}
+use Rattle.hold_queue.specs.declared.hand.Hand.{Hand}
+use Rattle.hold_queue.specs.declared.hand.Taken.{Taken}
+use Rattle.hold_queue.specs.declared.hold.Hold.{Hold}
+use Rattle.hold_queue.specs.declared.hold.Hold.TheVariants.{Allowed, Avoided}
+use Rattle.hold_queue.specs.AtHand.{at_hand, Take}
+use Rattle.hold_queue.specs.Hand.{AreAllTakes, HasSameFront, IsFirst, IsFirstAtHand, IsSecond, IsSecondAtHand, IsTakenBy, Leaves, pieces_at}
+use Rattle.hold_queue.proofs.AtHandLemmas.{take-cases, take-nothing, take-of_first, take-of_second}
+
+-- ---- queues that begin with the same pieces
+
+front-shorter : (m n : ℕ) (xs ys : List Piece) → m ≤ n → take n ys ≡ take n xs → take m ys ≡ take m xs
+front-shorter zero n xs ys within same = refl
+front-shorter (suc m) zero xs ys within same = absurd (omega arith)
+front-shorter (suc m) (suc n) [] [] within same = refl
+front-shorter (suc m) (suc n) [] (y ∷ ys) within same = cc
+front-shorter (suc m) (suc n) (x ∷ xs) [] within same = cc
+front-shorter (suc m) (suc n) (x ∷ xs) (y ∷ ys) within same =
+    let first : y ≡ x = cc in
+    let rest : take n ys ≡ take n xs = cc in
+    ap (λ z. z ∷ take m ys) first ∙ ap (λ zs. x ∷ zs) (front-shorter m n xs ys (omega arith) rest)
+
+pub same-shorter : (m n : ℕ) (queue other : List Piece) → m ≤ n → HasSameFront n queue other → HasSameFront m queue other
+same-shorter m n queue other within same = record { same = front-shorter m n queue other within same.same }
+
+pub same-itself : (n : ℕ) (queue : List Piece) → HasSameFront n queue queue
+same-itself n queue = record { same = refl }
+
+-- the piece after a front
+next-piece : (drawn : ℕ) (queue other : List Piece) (piece : Piece) → take (suc drawn) other ≡ take (suc drawn) queue
+    → slice_get queue drawn ≡ Some piece → drop drawn other ≡ piece ∷ drop (suc drawn) other
+next-piece drawn [] other piece same there = cc
+next-piece zero (x ∷ queue) [] piece same there = cc
+next-piece zero (x ∷ queue) (y ∷ other) piece same there =
+    let is : x ≡ piece = cc in
+    let first : y ≡ x = cc in
+    ap (λ z. z ∷ other) (first ∙ is)
+next-piece (suc drawn) (x ∷ queue) [] piece same there = cc
+next-piece (suc drawn) (x ∷ queue) (y ∷ other) piece same there =
+    let rest : take (suc drawn) other ≡ take (suc drawn) queue = cc in
+    next-piece drawn queue other piece rest there
+
+-- ---- a hand
+
+pub start-avoided : (queue : List Piece) (held : Option Piece) → pieces_at queue (record { held = None; drawn = 0 }) ≡ at_hand Avoided held queue
+unfolding pieces_at
+start-avoided queue held = refl
+
+pub start-allowed : (queue : List Piece) (held : Option Piece) → pieces_at queue (record { held = held; drawn = 0 }) ≡ at_hand Allowed held queue
+unfolding pieces_at
+start-allowed queue None = refl
+start-allowed queue (Some piece) = refl
+
+pub count-none : (queue : List Piece) (hand : Hand) → hand.held ≡ None → length (pieces_at queue hand) ≡ length queue - hand.drawn
+unfolding pieces_at
+count-none queue hand none = ap (λ k. length (option_to_list k ++ drop hand.drawn queue)) none ∙ length-drop hand.drawn queue
+
+pub count-some : (queue : List Piece) (hand : Hand) (piece : Piece) → hand.held ≡ Some piece → length (pieces_at queue hand) ≡ length queue - hand.drawn + 1
+unfolding pieces_at
+count-some queue hand piece held = ap (λ k. length (option_to_list k ++ drop hand.drawn queue)) held ∙ omega (arith, length-drop hand.drawn queue)
+
+abbrev left : Piece → Option Piece → ℕ → Taken
+left piece held drawn = record { piece = piece; rest = record { held = held; drawn = drawn } }
+
+pub held-first : (queue : List Piece) (hand : Hand) (piece : Piece) → hand.held ≡ Some piece → IsTakenBy IsFirst queue hand (left piece None hand.drawn)
+unfolding pieces_at
+held-first queue hand piece held = record {
+  later = omega arith;
+  within = λ within. within;
+  each = λ other front. ap (λ k. option_to_list k ++ drop hand.drawn other) held;
+}
+
+pub drawn-first : (queue : List Piece) (hand : Hand) (piece : Piece) → hand.held ≡ None → hand.drawn < length queue → slice_get queue hand.drawn ≡ Some piece → IsTakenBy IsFirst queue hand (left piece None (hand.drawn + 1))
+unfolding pieces_at
+drawn-first queue hand piece none within there = record {
+  later = omega arith;
+  within = λ _. omega (arith, within);
+  each = λ other front.
+      let is : hand.drawn + 1 ≡ suc hand.drawn = omega arith in
+      let same : take (suc hand.drawn) other ≡ take (suc hand.drawn) queue = subst (λ n. take n other ≡ take n queue) is front.same in
+      ap (λ k. option_to_list k ++ drop hand.drawn other) none
+      ∙ next-piece hand.drawn queue other piece same there
+      ∙ ap (λ n. piece ∷ drop n other) (sym is);
+}
+
+pub none-first : (queue : List Piece) (hand : Hand) → hand.held ≡ None → length queue ≤ hand.drawn → pieces_at queue hand ≡ []
+unfolding pieces_at
+none-first queue hand none used_up = ap (λ k. option_to_list k ++ drop hand.drawn queue) none ∙ drop_of_length-le queue used_up
+
+pub then-second : (queue : List Piece) (hand : Hand) (first second : Taken) → IsTakenBy IsFirst queue hand first → IsTakenBy IsFirst queue first.rest second → second.rest.held ≡ None
+    → IsTakenBy IsSecond queue hand (left second.piece (Some first.piece) second.rest.drawn)
+unfolding pieces_at
+then-second queue hand first second one two none = record {
+  later = omega (arith, one.later, two.later);
+  within = λ within. two.within (one.within within);
+  each = λ other front. (
+    first.piece,
+    drop second.rest.drawn other,
+    one.each other (same-shorter first.rest.drawn second.rest.drawn queue other two.later front)
+        ∙ ap (λ l. first.piece ∷ l) (two.each other front ∙ ap (λ k. second.piece ∷ (option_to_list k ++ drop second.rest.drawn other)) none),
+    refl,
+  );
+}
+
+pub first-held : (queue : List Piece) (hand : Hand) (first : Taken) → IsTakenBy IsFirst queue hand first → first.rest.held ≡ None
+    → pieces_at queue (record { held = Some first.piece; drawn = first.rest.drawn }) ≡ pieces_at queue hand
+unfolding pieces_at
+first-held queue hand first is none =
+    sym (is.each queue (same-itself first.rest.drawn queue) ∙ ap (λ k. first.piece ∷ (option_to_list k ++ drop first.rest.drawn queue)) none)
+
+-- ---- all ways to take a piece
+
+leaves-first : (queue pieces : List Piece) (taken : Taken) (piece : Piece) (rest : List Piece) → IsFirst pieces taken.piece (pieces_at queue taken.rest) → IsFirst pieces piece rest → Leaves queue (Some taken) piece rest
+leaves-first queue pieces taken piece rest is found =
+    let same : taken.piece ∷ pieces_at queue taken.rest ≡ piece ∷ rest = sym is ∙ found in
+    let kind : taken.piece ≡ piece = cc in
+    let others : pieces_at queue taken.rest ≡ rest = cc in
+    (kind, others)
+
+first-leaves : (hold : Hold) (queue pieces : List Piece) (taken : Taken) (piece : Piece) (rest : List Piece) → IsFirst pieces taken.piece (pieces_at queue taken.rest) → Leaves queue (Some taken) piece rest
+    → Take hold pieces piece rest
+first-leaves hold queue pieces taken piece rest is leaves =
+    take-of_first hold pieces piece rest (is ∙ ap (λ p. p ∷ pieces_at queue taken.rest) leaves.0 ∙ ap (λ l. piece ∷ l) leaves.1)
+
+leaves-second : (queue pieces : List Piece) (taken : Taken) (piece : Piece) (rest : List Piece) → IsSecond pieces taken.piece (pieces_at queue taken.rest) → IsSecond pieces piece rest → Leaves queue (Some taken) piece rest
+leaves-second queue pieces taken piece rest is found =
+    let same : is.0 ∷ taken.piece ∷ is.1 ≡ found.0 ∷ piece ∷ found.1 = sym is.2 ∙ found.2 in
+    let first : is.0 ≡ found.0 = cc in
+    let kind : taken.piece ≡ piece = cc in
+    let later : is.1 ≡ found.1 = cc in
+    (kind, is.3 ∙ ap (λ p. p ∷ is.1) first ∙ ap (λ l. found.0 ∷ l) later ∙ sym found.3)
+
+second-leaves : (hold : Hold) (queue pieces : List Piece) (taken : Taken) (piece : Piece) (rest : List Piece) → hold ≡ Allowed → IsSecond pieces taken.piece (pieces_at queue taken.rest)
+    → Leaves queue (Some taken) piece rest → Take hold pieces piece rest
+second-leaves hold queue pieces taken piece rest allowed is leaves =
+    subst (λ l. Take hold pieces piece l) leaves.1
+    (subst (λ p. Take hold pieces p (pieces_at queue taken.rest)) leaves.0 (take-of_second hold pieces taken.piece (pieces_at queue taken.rest) allowed is))
+
+-- the first piece alone
+pub one-way : (hold : Hold) (queue : List Piece) (hand : Hand) (first : Option Taken) → IsFirstAtHand queue hand first → (hold ≡ Avoided) ⊎ (length (pieces_at queue hand) ≤ 1)
+    → AreAllTakes hold queue hand first None
+one-way hold queue hand None none alone = record {
+  each = λ piece rest. (
+    λ leaves. absurd (elim leaves [ inl one ↦ one | inr other ↦ other ]),
+    λ taken. absurd (take-nothing hold piece rest (subst (λ l. Take hold l piece rest) none taken)),
+  );
+}
+one-way hold queue hand (Some first) is alone = record { each = λ piece rest. (to piece rest, from piece rest) }
+  where
+    here : IsFirst (pieces_at queue hand) first.piece (pieces_at queue first.rest)
+    here = is.each queue (same-itself first.rest.drawn queue)
+
+    to : (piece : Piece) (rest : List Piece) → Leaves queue (Some first) piece rest ⊎ Leaves queue None piece rest → Take hold (pieces_at queue hand) piece rest
+    to piece rest (inl leaves) = first-leaves hold queue (pieces_at queue hand) first piece rest here leaves
+    to piece rest (inr leaves) = absurd leaves
+
+    none-second : (piece : Piece) (rest : List Piece) → hold ≡ Allowed → IsSecond (pieces_at queue hand) piece rest → ⊥
+    none-second piece rest allowed second = elim alone [
+      | inl avoided ↦ let both : Avoided ≡ Allowed = sym avoided ∙ allowed in cc
+      | inr few ↦ omega (arith, few, ap length second.2)
+    ]
+
+    from : (piece : Piece) (rest : List Piece) → Take hold (pieces_at queue hand) piece rest → Leaves queue (Some first) piece rest ⊎ Leaves queue None piece rest
+    from piece rest taken = elim (take-cases hold (pieces_at queue hand) piece rest taken) [
+      | inl found ↦ inl (leaves-first queue (pieces_at queue hand) first piece rest here found)
+      | inr found ↦ absurd (none-second piece rest found.0 found.1)
+    ]
+
+-- the first and the second, where the hand that the first one leaves may be another with the same pieces
+module _ (hold : Hold) (queue : List Piece) (hand : Hand) (first second : Option Taken) (one other : Taken) (rest : Hand) (allowed : hold ≡ Allowed)
+    (is_first : IsFirstAtHand queue hand first) (is_second : IsSecondAtHand queue hand second) (one_is : first ≡ Some one) (other_is : second ≡ Some other)
+    (same : pieces_at queue rest ≡ pieces_at queue one.rest) where
+  abbrev moved : Taken
+  moved = record { piece = one.piece; rest = rest }
+
+  here : IsFirst (pieces_at queue hand) one.piece (pieces_at queue rest)
+  here =
+      let is : IsTakenBy IsFirst queue hand one = subst (IsFirstAtHand queue hand) one_is is_first in
+      is.each queue (same-itself one.rest.drawn queue) ∙ ap (λ l. one.piece ∷ l) (sym same)
+
+  next : IsSecond (pieces_at queue hand) other.piece (pieces_at queue other.rest)
+  next =
+      let is : IsTakenBy IsSecond queue hand other = subst (IsSecondAtHand queue hand) other_is is_second in
+      is.each queue (same-itself other.rest.drawn queue)
+
+  either : (piece : Piece) (after : List Piece) → Leaves queue (Some moved) piece after ⊎ Leaves queue (Some other) piece after → Take hold (pieces_at queue hand) piece after
+  either piece after (inl leaves) = first-leaves hold queue (pieces_at queue hand) moved piece after here leaves
+  either piece after (inr leaves) = second-leaves hold queue (pieces_at queue hand) other piece after allowed next leaves
+
+  by : (piece : Piece) (after : List Piece) → Take hold (pieces_at queue hand) piece after → Leaves queue (Some moved) piece after ⊎ Leaves queue (Some other) piece after
+  by piece after taken = elim (take-cases hold (pieces_at queue hand) piece after taken) [
+    | inl found ↦ inl (leaves-first queue (pieces_at queue hand) moved piece after here found)
+    | inr found ↦ inr (leaves-second queue (pieces_at queue hand) other piece after next found.1)
+  ]
+
+  pub two-ways : AreAllTakes hold queue hand (Some moved) (Some other)
+  two-ways = record { each = λ piece after. (either piece after, by piece after) }
+
+  pub in-other-order : AreAllTakes hold queue hand (Some other) (Some moved)
+  in-other-order = record {
+    each = λ piece after. (
+      λ leaves. either piece after (elim leaves [ inl it ↦ inr it | inr it ↦ inl it ]),
+      λ taken. elim (by piece after taken) [ inl it ↦ inr it | inr it ↦ inl it ],
+    );
+  }
+
+  -- two that are the same piece are one
+  pub same-way : (code other_code : ℕ) → code ≡ piece_code one.piece → other_code ≡ piece_code other.piece → code ≡ other_code → AreAllTakes hold queue hand (Some moved) None
+  same-way code other_code code_is other_code_is alike = record { each = λ piece after. (to piece after, from piece after) }
+    where
+      kind : one.piece ≡ other.piece
+      kind = piece_code-injective one.piece other.piece (sym code_is ∙ alike ∙ other_code_is)
+
+      to : (piece : Piece) (after : List Piece) → Leaves queue (Some moved) piece after ⊎ Leaves queue None piece after → Take hold (pieces_at queue hand) piece after
+      to piece after (inl leaves) = first-leaves hold queue (pieces_at queue hand) moved piece after here leaves
+      to piece after (inr leaves) = absurd leaves
+
+      from : (piece : Piece) (after : List Piece) → Take hold (pieces_at queue hand) piece after → Leaves queue (Some moved) piece after ⊎ Leaves queue None piece after
+      from piece after taken = elim (by piece after taken) [
+        | inl leaves ↦ inl leaves
+        | inr leaves ↦
+            let whole : one.piece ∷ pieces_at queue rest ≡ next.0 ∷ other.piece ∷ next.1 = sym here ∙ next.2 in
+            let first : one.piece ≡ next.0 = cc in
+            let left : pieces_at queue rest ≡ other.piece ∷ next.1 = cc in
+            inl (kind ∙ leaves.0, left ∙ ap (λ p. p ∷ next.1) (sym kind ∙ first) ∙ sym next.3 ∙ leaves.1)
+      ]
