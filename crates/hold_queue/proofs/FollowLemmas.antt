@@ -12,7 +12,8 @@ use Rattle.queue_pattern.specs.Queues.{queues}
 use Rattle.hold_queue.specs.declared.hold.Hold.{Hold}
 use Rattle.hold_queue.specs.Family.{has_set, any_below}
 use Rattle.hold_queue.specs.Permits.{Permits, some_permits}
-use Rattle.hold_queue.specs.States.{rests, count_held, held_code, drawn_by, family_at, any_held, states_permit, IsRemainder, IsNextFamily, AreStatesAfter}
+use Rattle.hold_queue.specs.States.{rests, held_code, drawn_by, family_at, any_held, states_permit, IsRemainder, IsNextFamily, AreStatesAfter}
+use Rattle.hold_queue.specs.AtHand.{count_held}
 use Rattle.hold_queue.proofs.DrawLemmas.{any_below-from, any_below-to}
 use Rattle.hold_queue.proofs.DrawnRests.{Contains-piece}
 use Rattle.hold_queue.proofs.PermitsTest.{some_permits-decides}

@@ -10,7 +10,7 @@ use Rattle.hold_queue.specs.declared.hold.Hold.TheVariants.{Allowed, Avoided}
 use Rattle.hold_queue.specs.AtHand.{at_hand}
 use Rattle.hold_queue.specs.Permits.{Permits}
 use Rattle.hold_queue.specs.QueueSet.{QueuesInPlay, QueuesPermit}
-use Rattle.hold_queue.specs.States.{count_held}
+use Rattle.hold_queue.specs.AtHand.{count_held}
 use Rattle.hold_queue.proofs.AtHandLemmas.{takes-length, takes-of_permits}
 
 choice-length : (n : ℕ) (pieces choice : List Piece) → Contains (choices pieces n) choice → length choice ≡ n

@@ -11,7 +11,8 @@ use Rattle.hold_queue.specs.declared.hold.Hold.{Hold}
 use Rattle.hold_queue.specs.declared.hold.Hold.TheVariants.{Allowed, Avoided}
 use Rattle.hold_queue.specs.Family.{has_set, IsDrawn}
 use Rattle.hold_queue.specs.Permits.{Way, plain, exchange, first_hold, last}
-use Rattle.hold_queue.specs.States.{in_progress, rests, count_held, drawn_by, family_at, IsRemainder, IsRoomy, CameBy, IsNextFamily, FollowsHeld, IsHeldFamily}
+use Rattle.hold_queue.specs.States.{in_progress, rests, drawn_by, family_at, IsRemainder, IsRoomy, CameBy, IsNextFamily, FollowsHeld, IsHeldFamily}
+use Rattle.hold_queue.specs.AtHand.{count_held}
 use Rattle.hold_queue.proofs.RestLemmas.{stands, rests-done}
 use Rattle.hold_queue.proofs.DrawnRests.{moves-back, rest-on, rest-back, roomy-on, begins-none}
 

@@ -11,6 +11,11 @@ at_hand Avoided held queue = queue
 at_hand Allowed None queue = queue
 at_hand Allowed (Some held) queue = held ∷ queue
 
+-- how many pieces are held
+abbrev pub count_held : Option Piece → ℕ
+count_held None = 0
+count_held (Some piece) = 1
+
 -- a piece that is taken from the pieces at hand, and those that are left
 pub data Take : Hold → List Piece → Piece → List Piece → Type 0 where
   take_first : {hold : Hold} {piece : Piece} {rest : List Piece} → Take hold (piece ∷ rest) piece rest

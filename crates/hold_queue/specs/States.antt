@@ -11,6 +11,7 @@ use Rattle.hold_queue.specs.declared.hold.Hold.TheVariants.{Allowed}
 use Rattle.hold_queue.specs.declared.family.Family.{Family}
 use Rattle.hold_queue.specs.declared.family.Draw.{Draw}
 use Rattle.hold_queue.specs.Family.{has_set, any_below}
+use Rattle.hold_queue.specs.AtHand.{count_held}
 use Rattle.hold_queue.specs.Permits.{Way, some_permits}
 
 -- what the next piece is drawn from, after so many drawn pieces
@@ -30,10 +31,6 @@ rests [] drawn drawn_set = [] ∷ []
 rests (element ∷ elements) drawn drawn_set =
     if nat_lt drawn element.chosen then tails (undrawn element.set drawn_set) (element.chosen - drawn) elements
     else rests elements (drawn - element.chosen) drawn_set
-
-abbrev pub count_held : Option Piece → ℕ
-count_held None = 0
-count_held (Some piece) = 1
 
 -- how many pieces are drawn from the queue after so many are played: each was played, or is held and was not at the
 -- start

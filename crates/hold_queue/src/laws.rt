@@ -7,7 +7,7 @@ ghost use Rattle.hold_queue.specs.declared.hold.Hold.TheVariants.{Allowed};
 ghost use Rattle.hold_queue.specs.AtHand.{at_hand, Takes, taken_from};
 ghost use Rattle.hold_queue.specs.Permits.{Permits, permits};
 ghost use Rattle.hold_queue.specs.QueueSet.{QueuesInPlay, QueuesPermit, queues_permit, singles};
-ghost use Rattle.hold_queue.specs.States.{count_held};
+ghost use Rattle.hold_queue.specs.AtHand.{count_held};
 ghost use Rattle.hold_queue.specs.Supply.{supply_of};
 ghost use Rattle.queue_pattern.specs.Queues.{queue_len, queues};
 

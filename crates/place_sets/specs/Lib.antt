@@ -1,11 +1,12 @@
 -- What a reader must believe: which placements the places hold.
 pub mod Places
 pub mod LowPlaces
--- What serves proofs alone: sets of states as boards, their numbers, and how they spread.
+-- What contracts cite beside these: sets of states as boards, how they spread, and which sets are the places.
 pub mod States
 pub mod Shifts
-pub mod Scan
 pub mod PlaceSets
+-- What serves proofs alone: numbers of states, and bits.
+pub mod Scan
 pub mod Numbers
 pub mod FourRows
 pub mod LowestBit
