@@ -45,7 +45,8 @@ IsUpTo bound [] = Unit {0}
 IsUpTo bound (placement ∷ rest) = is_above placement_cmp bound placement ≡ false
 
 -- a run that goes on so, with a first placement that is not above a bound
-abbrev pub RunsOnUpTo : Table → DropMode → Hold → Field → List Piece → Taken → Option Placement → List Placement → Type 0
+abbrev pub RunsOnUpTo : Table → DropMode → Hold → Field → List Piece → Taken → Option Placement
+    → List Placement → Type 0
 RunsOnUpTo table mode hold F queue taken bound run = RunsOn table mode hold F queue taken run × IsUpTo bound run
 
 -- the runs that begin with a taken piece, if there is one

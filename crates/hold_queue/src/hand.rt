@@ -70,7 +70,8 @@ impl Hand {
         })
     }
 
-    /// The second piece at hand, and the other pieces: the first one is held. `None` exactly if there are fewer than two.
+    /// The second piece at hand, and the other pieces: the first one is held. `None` exactly if there are fewer than
+    /// two.
     pub fn second(self, queue: &Queue) -> Option<Taken>
         ensures { IsSecondAtHand queue.now.items self result }
     {
@@ -100,7 +101,8 @@ impl Hand {
     }
 
     /// All ways to take a piece: the first one or, where hold is allowed, the second. The lesser piece comes first; two
-    /// that are the same piece are one. Hands with the same pieces that are left after it are equal.
+    /// that are the same piece are one.
+    // Equal pieces are left as equal hands, so that what is kept of a hand is found again.
     pub fn takes(self, queue: &Queue, hold: Hold) -> (Option<Taken>, Option<Taken>)
         ensures order { AreInOrder result.0 result.1 }
         ensures all { AreAllTakes hold queue.now.items self result.0 result.1 }

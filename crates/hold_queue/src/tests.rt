@@ -1,7 +1,7 @@
-// Which pieces may be played next, and how many of each kind are left.
+// Which pieces may be played next, how many of each kind are left, and what is taken from a hand.
 ghost use Rattle.std.specs.Prelude.{◌≡◌};
 
-use crate::{Hold, QueueSet};
+use crate::{Hand, Hold, QueueSet, Taken};
 use queue_pattern::{Pattern, Queue};
 use srs::Piece;
 use std::process::Abort;
@@ -28,11 +28,23 @@ fn may_play_next(set: &QueueSet) -> [bool; 7] {
     ]
 }
 
-#[test]
-fn two_pieces_are_played_in_either_order(rt: HostRuntime) {
+fn t_then_i() -> Queue {
     let mut queue = Queue::new();
     queue.push(Piece::T);
     queue.push(Piece::I);
+    queue
+}
+
+fn piece_of(taken: Option<Taken>) -> Option<Piece> {
+    match taken {
+        Some(taken) => Some(taken.piece),
+        None => None,
+    }
+}
+
+#[test]
+fn two_pieces_are_played_in_either_order(rt: HostRuntime) {
+    let queue = t_then_i();
     let start = QueueSet::start_one(&queue, Hold::Allowed, None);
     let after_i = played(&rt, start, &[Piece::I]);
     assert_eq!(rt;
@@ -85,4 +97,20 @@ fn played_pieces_are_taken_from_the_supply(rt: HostRuntime) -> Result<(), Fail> 
     let after_two = played(&rt, start, &[Piece::T, Piece::T]);
     assert_eq!(rt; after_two.supply(3), [1, 0, 0, 0, 2, 0, 0]);
     Ok(())
+}
+
+#[test]
+fn the_first_piece_or_the_second_is_taken(rt: HostRuntime) {
+    let queue = t_then_i();
+    let hand = Hand::start(Hold::Allowed, Some(Piece::S));
+    assert_eq!(rt; hand.count(&queue), 3);
+    assert_eq!(rt; piece_of(hand.second(&queue)), Some(Piece::T));
+    let (one, other) = hand.takes(&queue, Hold::Allowed);
+    assert_eq!(rt; piece_of(one), Some(Piece::T));
+    assert_eq!(rt; piece_of(other), Some(Piece::S));
+    let avoided = Hand::start(Hold::Avoided, Some(Piece::S));
+    assert_eq!(rt; avoided.count(&queue), 2);
+    let (one, other) = avoided.takes(&queue, Hold::Avoided);
+    assert_eq!(rt; piece_of(one), Some(Piece::T));
+    assert_eq!(rt; piece_of(other), None);
 }

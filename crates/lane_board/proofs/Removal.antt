@@ -1,7 +1,7 @@
 -- Which cells are left after full rows are removed.
 use Rattle.std.proofs.Common.{◌≡◌, ◌≢◌, ℕ, zero, suc, ◌+◌, ◌-◌, ◌<◌, ◌≤◌, true, false, not, cond, ◌&&◌, ◌==◌, ◌⊎◌, inl, inr, refl, ap, ◌∙◌, subst, arith}
 use Rattle.std.proofs.Math.Path.{fun_ext}
-use Rattle.std.proofs.lemmas.Bool.{and_parts, and_from, or_cases, or_left, or_right, not-true, not_from_false, eqb-true, eq-eqb, cases_Bool, cases_eq, ne_eqb, false≢true, and_left, and_right}
+use Rattle.std.proofs.lemmas.Bool.{and_parts, and_from, or_cases, or_left, or_right, not-true, not_from_false, eqb-true, eq-eqb, cases_Bool, cases_eq, cases_order, ne_eqb, false≢true, and_left, and_right}
 use Rattle.lane_board.specs.Field.{Field}
 use Rattle.lane_board.specs.FullRows.{is_full, full_below, without_full_rows}
 use Rattle.lane_board.specs.RemovalLaws.{IsLowered, LowersEachCell}
@@ -111,3 +111,37 @@ without_full_rows-none F n below none = fun_ext (λ x. fun_ext (λ y. same_from_
     let was = lowered_from F n x y left in
     ap (F x) (omega (arith, was.lowered, none_full_below F was.row none)) ∙ was.filled
     )))
+
+-- ---- how the number of full rows below a row rises
+
+-- among so many more rows there are at most so many more full ones
+full_steps : (F : Field) (n more : ℕ) → full_below F (n + more) ≤ full_below F n + more
+full_steps F n zero = let size : n + 0 ≡ n = omega arith in omega (arith, ap (full_below F) size)
+full_steps F n (suc more) = let size : n + suc more ≡ suc (n + more) = omega arith in elim (cases_Bool (is_full F (n + more))) [
+  | inl full ↦ omega (arith, ap (full_below F) size, full_below-full F (n + more) full, full_steps F n more)
+  | inr other ↦ omega (arith, ap (full_below F) size, full_below-other F (n + more) other, full_steps F n more)
+]
+
+pub full_rises : (F : Field) (a b : ℕ) → a ≤ b → full_below F b + a ≤ full_below F a + b
+full_rises F a b below = let size : a + (b - a) ≡ b = omega arith in omega (arith, ap (full_below F) size, full_steps F a (b - a))
+
+-- a row that isn't full stays below the rows that were above it
+pub lowered_rises : (F : Field) (a b : ℕ) → is_full F a ≡ false → a < b → a + full_below F b < b + full_below F a
+lowered_rises F a b stays below = omega (arith, full_rises F (suc a) b (omega arith), full_below-other F a stays)
+
+-- so two of them are lowered to one row only where they are the same
+pub one_row : (F : Field) (y a b : ℕ) → is_full F a ≡ false → is_full F b ≡ false → y + full_below F a ≡ a → y + full_below F b ≡ b → a ≡ b
+one_row F y a b stays_a stays_b from_a from_b = elim (cases_order a b) [
+  | inl same ↦ same
+  | inr apart ↦ elim apart [
+    | inl below ↦ absurd (omega (arith, from_a, from_b, lowered_rises F a b stays_a below))
+    | inr above ↦ absurd (omega (arith, from_a, from_b, lowered_rises F b a stays_b above))
+  ]
+]
+
+-- no row from a height on is full, so no more go
+pub full_above : (F : Field) (height more : ℕ) → ((y : ℕ) → height ≤ y → is_full F y ≡ false) → full_below F (height + more) ≡ full_below F height
+full_above F height zero none = ap (full_below F) (omega arith)
+full_above F height (suc more) none =
+    let size : height + suc more ≡ suc (height + more) = omega arith in
+    ap (full_below F) size ∙ full_below-other F (height + more) (none (height + more) (omega arith)) ∙ full_above F height more none

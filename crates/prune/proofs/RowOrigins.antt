@@ -4,36 +4,9 @@ use Rattle.std.specs.Prelude.{◌↔◌}
 use Rattle.std.proofs.lemmas.Bool.{cases_Bool, cases_eq, cases_order, cond-true, cond-false, false_from_ne_true, false≢true, eq-eqb, ne_eqb}
 use Rattle.lane_board.specs.Field.{Field}
 use Rattle.lane_board.specs.FullRows.{is_full, full_below, without_full_rows}
-use Rattle.lane_board.proofs.CallerLemmas.{full_below-full, full_below-other, full_below-le, full_below-empty, lowered_from, lowered_to, not_full_from_cell}
+use Rattle.lane_board.proofs.CallerLemmas.{full_above, full_below-full, full_below-other, full_below-le, lowered_from, lowered_rises, lowered_to, not_full_from_cell, one_row}
 use Rattle.prune.specs.Tiling.{Supply, Tiling}
 use Rattle.prune.proofs.RowMaps.{Before, SendsRows, tiling_to}
-
--- among so many more rows there are at most so many more full ones
-full_steps : (G : Field) (m more : ℕ) → full_below G (m + more) ≤ full_below G m + more
-full_steps G m zero = omega (arith, ap (full_below G) (the_same m))
-  where
-    the_same : (m : ℕ) → m + 0 ≡ m
-    the_same m = omega arith
-full_steps G m (suc more) = let size : m + suc more ≡ suc (m + more) = omega arith in elim (cases_Bool (is_full G (m + more))) [
-  | inl full ↦ omega (arith, ap (full_below G) size, full_below-full G (m + more) full, full_steps G m more)
-  | inr other ↦ omega (arith, ap (full_below G) size, full_below-other G (m + more) other, full_steps G m more)
-]
-
--- a row that isn't full stays below the rows that were above it
-lowered_rises : (G : Field) (a b : ℕ) → is_full G a ≡ false → a < b → a + full_below G b < b + full_below G a
-lowered_rises G a b stays below =
-    let size : suc a + (b - suc a) ≡ b = omega arith in
-    omega (arith, ap (full_below G) size, full_steps G (suc a) (b - suc a), full_below-other G a stays)
-
--- so two of them are lowered to one row only where they are the same
-one_row : (G : Field) (y a b : ℕ) → is_full G a ≡ false → is_full G b ≡ false → y + full_below G a ≡ a → y + full_below G b ≡ b → a ≡ b
-one_row G y a b stays_a stays_b from_a from_b = elim (cases_order a b) [
-  | inl same ↦ same
-  | inr apart ↦ elim apart [
-    | inl below ↦ absurd (omega (arith, lowered_rises G a b stays_a below))
-    | inr above ↦ absurd (omega (arith, lowered_rises G b a stays_b above))
-  ]
-]
 
 -- the row of G that is lowered to row y, among the rows below n
 unfoldable origin : Field → ℕ → ℕ → ℕ
@@ -67,19 +40,12 @@ origin_is G (suc n) y within = elim (cases_Bool (is_full G n)) [
     moved : {a b : ℕ} → a ≡ b → IsOrigin G (suc n) y a → IsOrigin G (suc n) y b
     moved same is = rw (← same) is
 
--- no full row stands where no cell stands
-full_above : (G : Field) (height more : ℕ) → ((x y : ℕ) → height ≤ y → G x y ≡ false) → full_below G (height + more) ≡ full_below G height
-full_above G height zero none = ap (full_below G) (omega arith)
-full_above G height (suc more) none =
-    let size : height + suc more ≡ suc (height + more) = omega arith in
-    ap (full_below G) size ∙ full_below-empty G (height + more) (λ x. none x (height + more) (omega arith)) ∙ full_above G height more none
-
 module _ (G : Field) (height : ℕ) (within : height ≤ 23) (none : (x y : ℕ) → height ≤ y → G x y ≡ false) where
   abbrev left : ℕ
   left = height - full_below G 23
 
   full_same : full_below G 23 ≡ full_below G height
-  full_same = let size : 23 ≡ height + (23 - height) = omega arith in ap (full_below G) size ∙ full_above G height (23 - height) none
+  full_same = let size : 23 ≡ height + (23 - height) = omega arith in ap (full_below G) size ∙ full_above G height (23 - height) (λ y above. not_full_from_cell G 0 y (omega arith) (none 0 y above))
 
   origin_in : (y : ℕ) → y < left → IsOrigin G height y (origin G height y)
   origin_in y below = origin_is G height y (omega (arith, full_same))
