@@ -4,12 +4,13 @@ use Rattle.std.specs.Cmp.{unsigned_Decides}
 use Rattle.std.specs.Cmp.Lexicographic.{pointwise, pointwise_decides}
 use Rattle.std.proofs.lemmas.Bool.{and_parts, and_from}
 use Rattle.lane_board.specs.Field.{Field}
+use Rattle.well.specs.CellBits.{cells_in_bits}
+use Rattle.well.proofs.CallerLemmas.{same_from_cells}
 use Rattle.prune.specs.Tiling.{Tiling, supply_in}
 use Rattle.prune.proofs.CallerLemmas.{tiling-intersection}
 use Rattle.dead_memo.specs.Question.{Question, question, HasNoTiling}
-use Rattle.dead_memo.specs.Keys.{cells_in_bits, question_of}
+use Rattle.dead_memo.specs.Keys.{question_of}
 use Rattle.dead_memo.specs.declared.key.Key.{Key}
-use Rattle.dead_memo.proofs.PackedBits.{same_from_cells}
 
 -- the derived test of equality
 abbrev pub same_key : Key → Key → Bool

@@ -1,14 +1,9 @@
 -- How keys are seen: as questions.
-use Rattle.std.specs.Prelude.{ℕ, ◌+◌, ◌*◌, ◌&&◌, nat_lt, List, map, All}
-use Rattle.lane_board.specs.Field.{Field}
-use Rattle.lane_board.specs.Lanes.{has_bit}
+use Rattle.std.specs.Prelude.{List, map, All}
 use Rattle.lru.specs.LruCache.{LruCache}
+use Rattle.well.specs.CellBits.{cells_in_bits}
 use Rattle.dead_memo.specs.Question.{Question, HasNoTiling}
 use Rattle.dead_memo.specs.declared.key.Key.{Key}
-
--- the cells of a number: bit 10 y + x is the cell in column x and row y
-unfoldable pub cells_in_bits : ℕ → Field
-cells_in_bits n x y = nat_lt x 10 && has_bit n (10 * y + x)
 
 -- the question of a key
 unfoldable pub question_of : Key → Question

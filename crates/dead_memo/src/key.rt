@@ -2,10 +2,9 @@
 ghost use Rattle.std.specs.Prelude.{◌≡◌, ◌≤◌};
 ghost use Rattle.well.specs.Well.{filled};
 ghost use Rattle.dead_memo.specs.Question.{question};
-ghost use Rattle.dead_memo.specs.Keys.{cells_in_bits, question_of};
-ghost use Rattle.lane_board.specs.Field.{intersection, rows_below};
+ghost use Rattle.dead_memo.specs.Keys.{question_of};
 
-use well::Well;
+use well::{Well, cells_below};
 
 /// The cells of the rows that are left, ten bits for each row from the lowest up; the number of rows left; and the
 /// supply.
@@ -28,17 +27,4 @@ impl Key {
             supply: *supply,
         }
     }
-}
-
-/// The cells of the rows below `rows_left`: bit `10 * y + x` stands for the cell in column x and row y.
-pub fn cells_below(well: &Well, rows_left: u8) -> u128
-    requires { rows_left ≤ 8 }
-    ensures { cells_in_bits result ≡ intersection (filled well.now) (rows_below rows_left) }
-{
-    let board = well.board();
-    let mut cells = 0;
-    for y in (0..rows_left).rev() {
-        cells = cells * 1024 + u128::from(board.row(y));
-    }
-    cells
 }

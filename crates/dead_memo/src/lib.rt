@@ -6,5 +6,4 @@ mod memo;
 #[cfg(test)]
 mod tests;
 
-pub use key::cells_below;
 pub use memo::DeadMemo;

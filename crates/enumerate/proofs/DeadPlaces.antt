@@ -18,9 +18,9 @@ use Rattle.place_sets.specs.declared.low_held.LowPlaces.{LowPlaces}
 use Rattle.place_sets.specs.LowPlaces.{holds, piece_of}
 use Rattle.prune.specs.Tiling.{supply_in}
 use Rattle.prune.specs.OnePart.{less_one}
-use Rattle.packing.specs.Empties.{all_but, empty_cells, without_placement}
-use Rattle.packing.specs.HasTiling.{has_tiling}
-use Rattle.packing.proofs.CallerLemmas.{tiling_decided}
+use Rattle.empty_cells.specs.Empties.{all_but, empty_cells, without_placement}
+use Rattle.empty_cells.specs.HasTiling.{has_tiling}
+use Rattle.empty_cells.proofs.CallerLemmas.{tiling_decided}
 use Rattle.enumerate.specs.declared.frame.Frame.{Frame}
 use Rattle.enumerate.specs.Events.{Event, entered, enter}
 use Rattle.enumerate.specs.Frames.{position_of, places_left}

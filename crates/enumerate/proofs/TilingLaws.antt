@@ -26,9 +26,9 @@ use Rattle.prune.specs.Tiling.{Supply, Tiling, supply_in}
 use Rattle.prune.specs.OnePart.{less_one}
 use Rattle.prune.specs.Laws.{ClearsRows, kinds_placed}
 use Rattle.prune.proofs.CallerLemmas.{cleared_is_tiled, full_rows_may_stand, more_pieces}
-use Rattle.packing.specs.Empties.{all_but, without_placement}
-use Rattle.packing.specs.HasTiling.{has_tiling}
-use Rattle.packing.proofs.CallerLemmas.{left_by_placement, tiling_below, tiling_decided}
+use Rattle.empty_cells.specs.Empties.{all_but, without_placement}
+use Rattle.empty_cells.specs.HasTiling.{has_tiling}
+use Rattle.empty_cells.proofs.CallerLemmas.{left_by_placement, tiling_below, tiling_decided}
 use Rattle.problem.specs.Plays.{Plays}
 use Rattle.problem.specs.Solution.{pieces_of}
 use Rattle.enumerate.specs.declared.frame.Frame.{Frame}

@@ -13,7 +13,7 @@ use Rattle.moves.specs.PlaceTest.{is_place}
 use Rattle.queue_pattern.specs.Pattern.{elements_of}
 use Rattle.hold_queue.specs.QueueSet.{QueuesInPlay, queues_permit, singles}
 use Rattle.hold_queue.specs.Supply.{supply_of}
-use Rattle.packing.specs.HasTiling.{has_tiling}
+use Rattle.empty_cells.specs.HasTiling.{has_tiling}
 use Rattle.problem.specs.declared.problem.Problem.{Problem}
 
 pub record Position : Type 0 where

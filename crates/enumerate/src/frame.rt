@@ -9,14 +9,14 @@ ghost use Rattle.place_sets.specs.LowPlaces.{holds, piece_of};
 ghost use Rattle.hold_queue.specs.QueueSet.{queues_in_play};
 ghost use Rattle.hold_queue.specs.Supply.{supply_of};
 ghost use Rattle.prune.specs.Tiling.{supply_in};
-ghost use Rattle.packing.specs.Empties.{empty_cells};
+ghost use Rattle.empty_cells.specs.Empties.{empty_cells};
 ghost use Rattle.enumerate.specs.Position.{may_play};
 ghost use Rattle.enumerate.specs.Standing.{may_lock};
 ghost use Rattle.enumerate.specs.AfterKind.{IsAfterKind};
 
 use crate::after_kind::AfterKind;
 use crate::line::Line;
-use packing::Empties;
+use empty_cells::Empties;
 use reach::LowPlaces;
 use srs::Placement;
 use well::Well;

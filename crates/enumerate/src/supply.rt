@@ -4,7 +4,7 @@ ghost use Rattle.srs.specs.declared.piece.Piece.{Piece};
 ghost use Rattle.prune.specs.Tiling.{supply_in};
 ghost use Rattle.prune.specs.OnePart.{less_one};
 
-use packing::without_one;
+use empty_cells::without_one;
 use srs::Piece;
 
 /// The supply after a piece is played: one fewer of its kind, and of each kind at most `left`.

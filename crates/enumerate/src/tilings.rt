@@ -5,13 +5,14 @@ ghost use Rattle.srs.specs.declared.placement.Placement.{Placement};
 ghost use Rattle.srs.specs.Rotation.{rotation_place};
 ghost use Rattle.well.specs.Well.{filled};
 ghost use Rattle.prune.specs.Tiling.{supply_in, Tiling};
-ghost use Rattle.packing.specs.Empties.{all_but, empty_cells, without_placement};
-ghost use Rattle.packing.specs.HasTiling.{has_tiling};
+ghost use Rattle.empty_cells.specs.Empties.{all_but, empty_cells, without_placement};
+ghost use Rattle.empty_cells.specs.HasTiling.{has_tiling};
 ghost use Rattle.dead_memo.specs.Memo.{kept};
 ghost use Rattle.enumerate.specs.Settled.{IsSettled};
 
 use dead_memo::DeadMemo;
-use packing::{Empties, PlaceMemory, TilingStore};
+use empty_cells::Empties;
+use packing::{PlaceMemory, TilingStore};
 use pc_outside::NoMemory;
 use prune::cheap_no;
 use srs::{Piece, Placement};

@@ -5,3 +5,4 @@ mod MergeSteps
 mod WithoutSteps
 mod SearchLemmas
 mod SetSteps
+mod WholeLemmas

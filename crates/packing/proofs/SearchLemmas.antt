@@ -3,30 +3,14 @@ use Rattle.std.proofs.Common.{◌≡◌, ℕ, ◌+◌, bit_and, ◌<◌, ◌≤�
 use Rattle.std.proofs.lemmas.Bool.{and_parts, and_from, both_ways, cases_eq, eq-eqb, eqb-true, le-leb, le-ltb, leb-true, ne_eqb}
 use Rattle.lane_board.proofs.CallerLemmas.{has_bit-and, has_bit-zero}
 use Rattle.lane_board.specs.Lanes.{has_bit}
-use Rattle.packing.proofs.StackLemmas.{IsSmall, some_in_span}
-use Rattle.packing.proofs.FillLemmas.{stacked_first, fills_stacked}
+use Rattle.empty_cells.proofs.CallerLemmas.{IsSmall, some_in_span, stacked_first, fills_stacked}
 use Rattle.lane_board.specs.Field.{Field}
 use Rattle.srs.specs.declared.piece.Piece.{Piece}
 use Rattle.srs.specs.declared.piece.Piece.TheVariants.{I, L, O, Z, T, J, S}
 use Rattle.prune.specs.Tiling.{Supply}
-use Rattle.prune.specs.OnePart.{less_one}
-use Rattle.packing.specs.declared.span.Span.{Span}
-use Rattle.packing.specs.Spans.{forms_of, has_first, has_span, without_span, IsFirst}
-use Rattle.packing.specs.Stacks.{MayTake, StacksOver, StacksPiece, Stacks, TakesPiece, is_allowed, CanFill}
-
--- how many pieces there are
-abbrev pub total : Supply → ℕ
-total supply = supply I + supply L + supply O + supply Z + supply T + supply J + supply S
-
-pub total-less_one : (supply : Supply) (piece : Piece) → 0 < supply piece → total (less_one supply piece) + 1 ≡ total supply
-unfolding less_one
-total-less_one supply I some = omega arith
-total-less_one supply L some = omega arith
-total-less_one supply O some = omega arith
-total-less_one supply Z some = omega arith
-total-less_one supply T some = omega arith
-total-less_one supply J some = omega arith
-total-less_one supply S some = omega arith
+use Rattle.empty_cells.specs.declared.span.Span.{Span}
+use Rattle.empty_cells.specs.Spans.{forms_of, has_first, has_span, without_span, IsFirst}
+use Rattle.empty_cells.specs.Stacks.{MayTake, StacksOver, StacksPiece, Stacks, TakesPiece, is_allowed, CanFill}
 
 -- spans can't be stacked with the lowest one in this row
 pub record FailsIn (supply : Supply) (E : Field) (x y floor : ℕ) (span : Span) (spans : List Span) (row : ℕ) : Type 0 where
@@ -51,10 +35,6 @@ some_takes supply E x y small first no_i no_l no_o no_z no_t no_j filling =
     last T takes = absurd (no_t takes)
     last J takes = absurd (no_j takes)
     last S takes = takes
-
--- with one piece of this kind fewer
-pub fewer : (supply left : Supply) (piece : Piece) → left ≡ less_one supply piece → 0 < supply piece → total left + 1 ≡ total supply
-fewer supply left piece is some = ap (λ (s : Supply). total s + 1) is ∙ total-less_one supply piece some
 
 -- with no spans there is nothing to stack
 pub stacks_none : (supply : Supply) (E : Field) (x y floor : ℕ) (spans : List Span) (b : Bool) → length spans ≡ 0 → ((b ≡ true → CanFill 8 supply E) × (CanFill 8 supply E → b ≡ true)) →

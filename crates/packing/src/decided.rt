@@ -1,11 +1,10 @@
 // Decided questions: a set of cells and a supply, with the answer.
-ghost use Rattle.std.specs.Prelude.{◌≡◌, ◌<◌};
-ghost use Rattle.packing.specs.Empties.{all_but, empty_cells};
-ghost use Rattle.packing.specs.HasTiling.{has_tiling};
-ghost use Rattle.packing.specs.SupplyWords.{supply_of};
+ghost use Rattle.std.specs.Prelude.{◌≡◌};
+ghost use Rattle.empty_cells.specs.Empties.{all_but, empty_cells};
+ghost use Rattle.empty_cells.specs.HasTiling.{has_tiling};
+ghost use Rattle.empty_cells.specs.SupplyWords.{supply_of};
 
-use crate::empties::Empties;
-use crate::supply::SupplyWord;
+use empty_cells::{Empties, SupplyWord};
 
 /// The answer whether a set of cells has a tiling by a supply. It is always a true one.
 #[derive(Clone, Copy)]
@@ -46,15 +45,4 @@ impl Decided {
         }
         None
     }
-}
-
-/// The index of a question in a store of this size.
-pub(crate) fn place_of(cells: &Empties, supply: SupplyWord, count: usize) -> usize
-    requires { 0 < count }
-    ensures { result < count }
-{
-    let counts = supply.counts;
-    let mixed = (cells.mixed() ^ counts.rotate_left(29)).wrapping_mul(0x9e37_79b9_7f4a_7c15);
-    let hash = (mixed ^ mixed >> 32 ^ counts).wrapping_mul(0xd6e8_feb8_6659_fd93);
-    (hash >> 32) as usize & (count - 1)
 }

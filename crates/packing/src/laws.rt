@@ -2,7 +2,7 @@
 ghost use Rattle.std.specs.Prelude.{◌≡◌, ℕ, true, ◌↔◌};
 ghost use Rattle.lane_board.specs.Field.{Field};
 ghost use Rattle.prune.specs.Tiling.{Supply, Tiling};
-ghost use Rattle.packing.specs.HasTiling.{has_tiling};
+ghost use Rattle.empty_cells.specs.HasTiling.{has_tiling};
 
 /// A test decides whether a tiling exists.
 pub fn tilings_are_decided()

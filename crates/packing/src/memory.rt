@@ -4,16 +4,13 @@ ghost use Rattle.lane_board.specs.Words.{cells_of_words};
 ghost use Rattle.srs.specs.declared.placement.Placement.{Placement};
 ghost use Rattle.srs.specs.Rotation.{rotation_place};
 ghost use Rattle.prune.specs.Tiling.{supply_in, Tiling};
-ghost use Rattle.packing.specs.Empties.{all_but, empty_cells, without_placement};
-ghost use Rattle.packing.specs.HasTiling.{has_tiling};
-ghost use Rattle.packing.specs.Pivots.{has_pivot};
-ghost use Rattle.packing.specs.SupplyWords.{supply_of};
+ghost use Rattle.empty_cells.specs.Empties.{all_but, empty_cells, without_placement};
+ghost use Rattle.empty_cells.specs.HasTiling.{has_tiling};
+ghost use Rattle.empty_cells.specs.Pivots.{has_pivot};
+ghost use Rattle.empty_cells.specs.SupplyWords.{supply_of};
 
-use crate::decided;
-use crate::empties::Empties;
-use crate::pivots::Pivots;
 use crate::store::TilingStore;
-use crate::supply::SupplyWord;
+use empty_cells::{Empties, Pivots, SupplyWord};
 use pc_outside::NoMemory;
 use srs::{Piece, Placement};
 use std::alloc::Global;
@@ -117,7 +114,7 @@ fn place_of(cells: &Empties, supply: SupplyWord, piece: Piece, count: usize) -> 
     requires { 0 < count }
     ensures { result < count }
 {
-    (decided::place_of(cells, supply, count) ^ 4679 * piece.code() as usize) & (count - 1)
+    (empty_cells::place_of(cells, supply, count) ^ 4679 * piece.code() as usize) & (count - 1)
 }
 
 /// Remembers which placements leave a tiling, by the cells, the supply and the piece. A later set evicts an earlier

@@ -1,12 +1,11 @@
 // A store of decided questions.
 ghost use Rattle.std.specs.Prelude.{◌↔◌, IsTrue};
 ghost use Rattle.prune.specs.Tiling.{supply_in, Tiling};
-ghost use Rattle.packing.specs.Empties.{all_but, empty_cells};
+ghost use Rattle.empty_cells.specs.Empties.{all_but, empty_cells};
 
 use crate::decided::Decided;
-use crate::empties::Empties;
-use crate::mirror::mirrored_supply;
-use crate::supply::SupplyWord;
+use crate::search::decide;
+use empty_cells::{Empties, SupplyWord, mirrored_supply};
 use pc_outside::NoMemory;
 use std::alloc::Global;
 
@@ -43,9 +42,9 @@ impl TilingStore {
             return false;
         }
         if !cells.lies_right(column) {
-            return cells.decide(SupplyWord::new(supply), &mut self.decided);
+            return decide(cells, SupplyWord::new(supply), &mut self.decided);
         }
         let mirrored = SupplyWord::new(&mirrored_supply(supply));
-        cells.mirrored().decide(mirrored, &mut self.decided)
+        decide(&cells.mirrored(), mirrored, &mut self.decided)
     }
 }

@@ -3,7 +3,8 @@ ghost use Rattle.std.specs.Prelude.{◌↔◌, ◌≤◌, IsTrue};
 ghost use Rattle.well.specs.Well.{filled};
 ghost use Rattle.prune.specs.Tiling.{supply_in, Tiling};
 
-use crate::empties::Empties;
+use crate::search::has_tiling;
+use empty_cells::Empties;
 use well::Well;
 
 /// Whether the empty cells of the rows below `rows_left` are the disjoint union of generalized pieces, with at most as
@@ -12,5 +13,5 @@ pub fn tiles(well: &Well, rows_left: u8, supply: &[u8; 7]) -> bool
     requires { rows_left ≤ 8 }
     ensures { IsTrue result ↔ Tiling (filled well.now) rows_left (supply_in supply.now) }
 {
-    Empties::below(well, rows_left).has_tiling(supply)
+    has_tiling(&Empties::below(well, rows_left), supply)
 }

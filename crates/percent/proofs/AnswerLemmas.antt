@@ -12,13 +12,12 @@ use Rattle.well.specs.Well.{filled}
 use Rattle.queue_pattern.specs.Pattern.{elements_of}
 use Rattle.queue_pattern.specs.Queues.{queues}
 use Rattle.number_sets.specs.Rising.{IsRising, has}
-use Rattle.number_sets.proofs.CallerLemmas.{has-none, has-push, has-there}
+use Rattle.number_sets.proofs.CallerLemmas.{has-none, has-push, has-there, whole-list}
 use Rattle.problem.specs.declared.problem.Problem.{Problem}
 use Rattle.problem.specs.Problem.{IsFit, empties_of, needed_of}
 use Rattle.percent.specs.Hands.{hand_of}
 use Rattle.percent.specs.GoodHands.{AreAnswers, game_of, hand_at, HasGoodHands, HasHandsBefore, is_good, is_good_queue}
 use Rattle.percent.proofs.TestLemmas.{or_first, or_second}
-use Rattle.percent.proofs.WholeLemmas.{whole-list}
 use Rattle.percent.proofs.GoodLemmas.{good-decides, uneven-none}
 
 -- the hand of a queue that was read

@@ -13,9 +13,9 @@ use Rattle.srs.specs.Piece.{piece_code}
 use Rattle.well.specs.Well.{filled}
 use Rattle.prune.specs.Tiling.{Supply, Tiling, supply_in}
 use Rattle.prune.proofs.CallerLemmas.{more_pieces}
-use Rattle.packing.specs.declared.empties.Empties.{Empties}
-use Rattle.packing.specs.Empties.{all_but, empty_cells}
-use Rattle.packing.proofs.CallerLemmas.{tiling_below}
+use Rattle.empty_cells.specs.declared.empties.Empties.{Empties}
+use Rattle.empty_cells.specs.Empties.{all_but, empty_cells}
+use Rattle.empty_cells.proofs.CallerLemmas.{tiling_below}
 use Rattle.number_sets.specs.Rising.{IsRising, AllBelow, has}
 use Rattle.number_sets.proofs.CallerLemmas.{has-none, has-push, has-more, has-all, rising-none, rising-push, below-push, below-more}
 use Rattle.problem.proofs.CallerLemmas.{IsLow}

@@ -10,7 +10,7 @@ use Rattle.well.specs.Well.{filled}
 use Rattle.well.proofs.CallerLemmas.{filled-within}
 use Rattle.number_sets.specs.Rising.{IsRising, has}
 use Rattle.number_sets.proofs.CallerLemmas.{has-none, rising-none}
-use Rattle.dead_memo.specs.Keys.{cells_in_bits}
+use Rattle.well.specs.CellBits.{cells_in_bits}
 use Rattle.percent.specs.declared.game.Game.{Game}
 use Rattle.percent.specs.declared.position.Position.{Position}
 use Rattle.percent.specs.declared.kept.Slot.{Slot}

@@ -5,7 +5,6 @@ mod HandLemmas
 mod GoodLemmas
 mod NumberSteps
 mod RestSteps
-mod WholeLemmas
 mod KeptLemmas
 mod MarkLemmas
 mod PlaceLemmas

@@ -19,10 +19,10 @@ use Rattle.well.specs.LockLaws.{is_below}
 use Rattle.prune.specs.Tiling.{Supply, Tiling}
 use Rattle.prune.specs.OnePart.{less_one}
 use Rattle.prune.proofs.CallerLemmas.{full_rows_may_stand, more_pieces}
-use Rattle.packing.specs.declared.empties.Empties.{Empties}
-use Rattle.packing.specs.Empties.{all_but, empty_cells, without_placement}
-use Rattle.packing.specs.TiledPieces.{StandsInTiling, has_cell, is_marked}
-use Rattle.packing.proofs.CallerLemmas.{left_by_placement, tiling_below}
+use Rattle.empty_cells.specs.declared.empties.Empties.{Empties}
+use Rattle.empty_cells.specs.Empties.{all_but, empty_cells, without_placement, has_cell}
+use Rattle.tiled_pieces.specs.TiledPieces.{StandsInTiling, is_marked}
+use Rattle.empty_cells.proofs.CallerLemmas.{left_by_placement, tiling_below}
 use Rattle.percent.specs.declared.game.Game.{Game}
 use Rattle.percent.specs.declared.marks.Mark.{Mark}
 use Rattle.percent.specs.declared.position.Child.{Child}
@@ -34,7 +34,7 @@ use Rattle.percent.specs.Marks.{ArePlaces, HasMarkAt, IsMarkOf, IsTrueMark}
 use Rattle.percent.proofs.HandLemmas.{code-few}
 use Rattle.percent.proofs.FittingLemmas.{low-position}
 use Rattle.percent.proofs.TiledLemmas.{good-tiled}
-use Rattle.percent.proofs.WholeLemmas.{has-at}
+use Rattle.number_sets.proofs.CallerLemmas.{has-at}
 
 blank_cell : (F : Field) (rows : ℕ) (c : Cell) → is_open F c ≡ true → int_lt c.1 (pos rows) ≡ true → has_cell (difference (rows_below rows) F) c ≡ true
 unfolding is_open difference rows_below

@@ -3,8 +3,8 @@ use Rattle.std.specs.Prelude.{◌≡◌, ℕ, zero, suc, ◌+◌, ◌/◌, ◌%�
 use Rattle.srs.specs.declared.piece.Piece.{Piece}
 use Rattle.srs.specs.Piece.{piece_code}
 use Rattle.prune.specs.Tiling.{Supply, Tiling}
-use Rattle.packing.specs.declared.empties.Empties.{Empties}
-use Rattle.packing.specs.Empties.{all_but, empty_cells}
+use Rattle.empty_cells.specs.declared.empties.Empties.{Empties}
+use Rattle.empty_cells.specs.Empties.{all_but, empty_cells}
 use Rattle.percent.specs.declared.fitting.Verdict.{Verdict}
 
 -- how many of the first so many pieces of a hand have a code

@@ -2,7 +2,7 @@
 use Rattle.std.specs.Prelude.{◌≡◌, ℕ, ◌+◌, true, false, Contains, List, length, sum_by}
 use Rattle.lane_board.specs.Field.{Field}
 use Rattle.number_sets.specs.Rising.{IsRising, has}
-use Rattle.dead_memo.specs.Keys.{cells_in_bits}
+use Rattle.well.specs.CellBits.{cells_in_bits}
 use Rattle.percent.specs.declared.game.Game.{Game}
 use Rattle.percent.specs.declared.kept.Slot.{Slot}
 use Rattle.percent.specs.GoodHands.{is_good}

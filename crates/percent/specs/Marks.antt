@@ -2,9 +2,9 @@
 use Rattle.std.specs.Prelude.{◌≡◌, ℕ, ◌+◌, ◌<◌, ◌≤◌, true, List, Option, Some, None, IfSome, length, slice_get, slice_index, slice_index_or}
 use Rattle.srs.specs.declared.piece.Piece.{Piece}
 use Rattle.srs.specs.declared.placement.Placement.{Placement}
-use Rattle.packing.specs.declared.empties.Empties.{Empties}
-use Rattle.packing.specs.Empties.{empty_cells}
-use Rattle.packing.specs.TiledPieces.{StandsInTiling, is_marked}
+use Rattle.empty_cells.specs.declared.empties.Empties.{Empties}
+use Rattle.empty_cells.specs.Empties.{empty_cells}
+use Rattle.tiled_pieces.specs.TiledPieces.{StandsInTiling, is_marked}
 use Rattle.percent.specs.declared.marks.Mark.{Mark}
 use Rattle.percent.specs.Fitting.{codes_with, supply_by}
 

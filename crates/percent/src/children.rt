@@ -3,7 +3,7 @@ ghost use Rattle.std.specs.Prelude.{◌≡◌, ◌≤◌, ◌+◌, ℕ, IsTrue, 
 ghost use Rattle.srs.specs.Rules.{table_of};
 ghost use Rattle.well.specs.Well.{filled};
 ghost use Rattle.reach.specs.FloodRules.{flood_table};
-ghost use Rattle.packing.specs.TiledPieces.{is_marked};
+ghost use Rattle.tiled_pieces.specs.TiledPieces.{is_marked};
 ghost use Rattle.number_sets.specs.Rising.{has};
 ghost use Rattle.percent.specs.Children.{IsChild};
 ghost use Rattle.percent.specs.GoodHands.{is_good_after, is_good_at};

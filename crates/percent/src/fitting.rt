@@ -1,6 +1,6 @@
 // Leaving out hands whose pieces can't fill the empty cells, before anything is played.
 ghost use Rattle.std.specs.Prelude.{◌≡◌, ◌↔◌, ℕ, ◌≤◌, ◌<◌, ◌&&◌, IsTrue, true, false, IfOk, All, slice_index};
-ghost use Rattle.packing.specs.Empties.{all_but, empty_cells};
+ghost use Rattle.empty_cells.specs.Empties.{all_but, empty_cells};
 ghost use Rattle.well.specs.Well.{filled};
 ghost use Rattle.prune.specs.Tiling.{Tiling};
 ghost use Rattle.number_sets.specs.Rising.{IsRising, has};
@@ -9,7 +9,8 @@ ghost use Rattle.percent.specs.Fitting.{codes_in, supply_by, IsTrueVerdict};
 ghost use Rattle.percent.specs.GoodHands.{is_good};
 
 use crate::position::Position;
-use packing::{Empties, TilingStore};
+use empty_cells::Empties;
+use packing::TilingStore;
 use pc_outside::NoMemory;
 use prune::cheap_no;
 use std::alloc::Global;

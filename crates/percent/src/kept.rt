@@ -6,12 +6,13 @@ ghost use Rattle.percent.specs.Kept.{answers_in, answers_of, IsTrueSlot, Keeps};
 
 use crate::game::Game;
 use crate::position::Position;
-use dead_memo::cells_below;
 use number_sets::{merged, without};
-use packing::{PieceStore, TilingStore};
+use packing::TilingStore;
 use pc_outside::NoMemory;
 use reach::FloodRules;
 use std::alloc::Global;
+use tiled_pieces::PieceStore;
+use well::cells_below;
 
 /// The hands that are known to be good at a position, and those that are known not to be.
 #[derive(Drop)]
@@ -73,7 +74,7 @@ pub struct Kept {
 impl Kept {
     ghost use Rattle.std.specs.Prelude.{◌↔◌, ℕ, ◌+◌, ◌&&◌, ◌||◌, true, false, Contains, IfOk, IfSome, IsTrue, set};
     ghost use Rattle.number_sets.specs.Rising.{IsRising, has};
-    ghost use Rattle.dead_memo.specs.Keys.{cells_in_bits};
+    ghost use Rattle.well.specs.CellBits.{cells_in_bits};
     ghost use Rattle.well.specs.Well.{filled};
     ghost use Rattle.percent.specs.GoodHands.{is_good};
 

@@ -4,8 +4,8 @@ ghost use Rattle.std.specs.Prelude.{◌≡◌, ◌↔◌, ◌≤◌, ◌<◌, �
 ghost use Rattle.lane_board.specs.Field.{difference, rows_below};
 ghost use Rattle.srs.specs.declared.placement.Placement.{Placement};
 ghost use Rattle.well.specs.Well.{filled};
-ghost use Rattle.packing.specs.Empties.{empty_cells};
-ghost use Rattle.packing.specs.TiledPieces.{is_marked, StandsInTiling};
+ghost use Rattle.empty_cells.specs.Empties.{empty_cells};
+ghost use Rattle.tiled_pieces.specs.TiledPieces.{is_marked, StandsInTiling};
 ghost use Rattle.number_sets.specs.Rising.{IsRising, has};
 ghost use Rattle.percent.specs.declared.game.Game.{Game};
 ghost use Rattle.percent.specs.Children.{IsChild};
@@ -15,10 +15,12 @@ ghost use Rattle.percent.specs.Marks.{ArePlaces, HasMarkAt, IsMarkOf, IsTrueMark
 
 use crate::fitting::{Counts, counts_of, fitting};
 use crate::position::{Child, Position};
-use packing::{Empties, PieceStore, TiledPieces, TilingStore};
+use empty_cells::Empties;
+use packing::TilingStore;
 use pc_outside::NoMemory;
 use srs::{Piece, Placement};
 use std::alloc::Global;
+use tiled_pieces::{PieceStore, TiledPieces};
 
 /// The pieces of all tilings by pieces with these counts.
 #[derive(Clone, Copy)]

@@ -1,8 +1,9 @@
--- Lemmas on free placements, locking, counts and rows text.
+-- Lemmas on free placements, locking, counts, rows of bits and rows text.
 mod FreeLemmas
 mod WellFields
 mod LockLemmas
 mod CountLemmas
+mod PackedBits
 mod RowsLemmas
 mod RowsTexts
 mod FirstFault

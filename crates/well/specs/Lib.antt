@@ -8,3 +8,4 @@ pub mod Counts
 pub mod Well
 -- What serves proofs alone
 pub mod RowsReading
+pub mod CellBits

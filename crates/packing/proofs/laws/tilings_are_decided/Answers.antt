@@ -1,5 +1,5 @@
 -- By the number of pieces left.
-use Rattle.packing.proofs.HasTilingLemmas.{tiling_decided}
+use Rattle.empty_cells.proofs.CallerLemmas.{tiling_decided}
 use Rattle.packing.proofs.laws.tilings_are_decided.Goals as goal
 
 pub returns : goal.returns

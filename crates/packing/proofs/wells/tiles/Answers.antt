@@ -3,8 +3,8 @@ use Rattle.std.proofs.Common.{◌↔◌, IsTrue, subst}
 use Rattle.lane_board.specs.Field.{Field}
 use Rattle.well.specs.Well.{filled}
 use Rattle.prune.specs.Tiling.{supply_in, Tiling}
-use Rattle.packing.specs.Empties.{all_but}
-use Rattle.packing.proofs.SameTilings.{tiling_below}
+use Rattle.empty_cells.specs.Empties.{all_but}
+use Rattle.empty_cells.proofs.CallerLemmas.{tiling_below}
 use Rattle.packing.proofs.wells.tiles.Goals as goal
 
 pub returns : goal.returns

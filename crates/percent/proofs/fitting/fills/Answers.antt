@@ -1,7 +1,7 @@
 -- The entries behind the first are the supply.
 use Rattle.std.proofs.Common.{◌↔◌, IsTrue, subst}
 use Rattle.prune.specs.Tiling.{Tiling}
-use Rattle.packing.specs.Empties.{all_but, empty_cells}
+use Rattle.empty_cells.specs.Empties.{all_but, empty_cells}
 use Rattle.percent.proofs.FittingLemmas.{entries-supply}
 use Rattle.percent.proofs.fitting.fills.Goals as goal
 

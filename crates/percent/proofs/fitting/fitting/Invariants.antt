@@ -1,7 +1,7 @@
 use Rattle.std.proofs.Common.{◌≡◌}
 use Rattle.lane_board.specs.Field.{difference, rows_below}
 use Rattle.well.specs.Well.{filled}
-use Rattle.packing.specs.Empties.{empty_cells}
+use Rattle.empty_cells.specs.Empties.{empty_cells}
 use Rattle.percent.specs.GoodHands.{is_good}
 use Rattle.percent.proofs.FittingLemmas.{Sifting}
 use Rattle.percent.proofs.fitting.fitting.Given as goal

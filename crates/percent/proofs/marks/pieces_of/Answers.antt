@@ -1,8 +1,8 @@
 -- The entries behind the first are the supply.
 use Rattle.std.proofs.Common.{◌↔◌, IsTrue, subst}
 use Rattle.srs.specs.declared.placement.Placement.{Placement}
-use Rattle.packing.specs.Empties.{empty_cells}
-use Rattle.packing.specs.TiledPieces.{StandsInTiling, is_marked}
+use Rattle.empty_cells.specs.Empties.{empty_cells}
+use Rattle.tiled_pieces.specs.TiledPieces.{StandsInTiling, is_marked}
 use Rattle.percent.proofs.FittingLemmas.{entries-supply}
 use Rattle.percent.proofs.marks.pieces_of.Goals as goal
 

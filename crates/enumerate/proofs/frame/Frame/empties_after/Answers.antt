@@ -3,8 +3,8 @@ use Rattle.std.proofs.Common.{◌≡◌, sym, ap, ◌∙◌, arith}
 use Rattle.lane_board.specs.Field.{difference, rows_below}
 use Rattle.well.specs.Well.{filled}
 use Rattle.well.proofs.CallerLemmas.{free_pivot_inside}
-use Rattle.packing.specs.Empties.{without_placement}
-use Rattle.packing.proofs.CallerLemmas.{left_by_placement}
+use Rattle.empty_cells.specs.Empties.{without_placement}
+use Rattle.empty_cells.proofs.CallerLemmas.{left_by_placement}
 use Rattle.enumerate.proofs.KeptRows.{kept-empties}
 use Rattle.enumerate.proofs.PlaceLaws.{lockable-free}
 use Rattle.enumerate.proofs.frame.Frame.empties_after.Goals as goal

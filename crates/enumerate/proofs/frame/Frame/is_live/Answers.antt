@@ -3,7 +3,7 @@ use Rattle.std.proofs.Common.{◌≡◌, suc, ◌+◌, ap, ◌∙◌, arith}
 use Rattle.well.specs.Well.{filled}
 use Rattle.hold_queue.specs.QueueSet.{queues_in_play}
 use Rattle.hold_queue.specs.Supply.{supply_of}
-use Rattle.packing.specs.HasTiling.{has_tiling}
+use Rattle.empty_cells.specs.HasTiling.{has_tiling}
 use Rattle.enumerate.specs.Frames.{position_of}
 use Rattle.enumerate.specs.Position.{can_be_tiled, is_live}
 use Rattle.enumerate.proofs.frame.Frame.is_live.Goals as goal

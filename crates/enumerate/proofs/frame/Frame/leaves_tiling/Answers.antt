@@ -4,8 +4,8 @@ use Rattle.well.specs.Well.{filled}
 use Rattle.well.specs.Lock.{locked}
 use Rattle.well.proofs.CallerLemmas.{free_pivot_inside}
 use Rattle.prune.specs.Tiling.{supply_in}
-use Rattle.packing.specs.Empties.{empty_cells, without_placement}
-use Rattle.packing.specs.HasTiling.{has_tiling}
+use Rattle.empty_cells.specs.Empties.{empty_cells, without_placement}
+use Rattle.empty_cells.specs.HasTiling.{has_tiling}
 use Rattle.enumerate.proofs.PlaceLaws.{lockable-free}
 use Rattle.enumerate.proofs.TilingLaws.{left-tiled}
 use Rattle.enumerate.proofs.frame.Frame.leaves_tiling.Goals as goal

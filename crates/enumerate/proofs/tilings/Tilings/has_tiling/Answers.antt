@@ -3,8 +3,8 @@ use Rattle.std.proofs.Common.{refl, sym, subst, ◌∙◌}
 use Rattle.std.proofs.lemmas.Bool.{false_from_ne_true, false≢true}
 use Rattle.well.specs.Well.{filled}
 use Rattle.prune.specs.Tiling.{supply_in, Tiling}
-use Rattle.packing.specs.Empties.{all_but}
-use Rattle.packing.proofs.CallerLemmas.{tiling_decided, tiling_below}
+use Rattle.empty_cells.specs.Empties.{all_but}
+use Rattle.empty_cells.proofs.CallerLemmas.{tiling_decided, tiling_below}
 use Rattle.enumerate.specs.Settled.{by_counts, by_memory}
 use Rattle.enumerate.proofs.Noted.{kept-used}
 use Rattle.enumerate.proofs.tilings.Tilings.has_tiling.Goals as goal

@@ -1,5 +1,5 @@
 -- The test is true where there is a tiling.
-use Rattle.packing.proofs.CallerLemmas.{right-from_answer}
+use Rattle.empty_cells.proofs.CallerLemmas.{right-from_answer}
 use Rattle.enumerate.proofs.tilings.Tilings.leaves_tiling.Goals as goal
 
 pub returns : goal.returns

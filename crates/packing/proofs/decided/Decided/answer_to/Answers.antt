@@ -2,10 +2,10 @@
 use Rattle.std.proofs.Common.{◌≡◌, ◌↔◌, true, subst}
 use Rattle.lane_board.specs.Field.{Field}
 use Rattle.prune.specs.Tiling.{Tiling}
-use Rattle.packing.specs.declared.supply.SupplyWord.{SupplyWord}
-use Rattle.packing.specs.Empties.{all_but, empty_cells}
-use Rattle.packing.specs.SupplyWords.{supply_of}
-use Rattle.packing.proofs.HasTilingLemmas.{right-from_answer}
+use Rattle.empty_cells.specs.declared.supply.SupplyWord.{SupplyWord}
+use Rattle.empty_cells.specs.Empties.{all_but, empty_cells}
+use Rattle.empty_cells.specs.SupplyWords.{supply_of}
+use Rattle.empty_cells.proofs.CallerLemmas.{right-from_answer}
 use Rattle.packing.proofs.decided.Decided.answer_to.Goals as goal
 
 pub returns-then-is_equal-2 : goal.returns-then-is_equal-2

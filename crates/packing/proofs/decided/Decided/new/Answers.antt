@@ -1,5 +1,5 @@
 -- A right answer is that of the test.
-use Rattle.packing.proofs.HasTilingLemmas.{answer-from_right}
+use Rattle.empty_cells.proofs.CallerLemmas.{answer-from_right}
 use Rattle.packing.proofs.decided.Decided.new.Goals as goal
 
 pub invariant_of-result : goal.invariant_of-result

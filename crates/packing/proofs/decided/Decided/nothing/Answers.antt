@@ -1,7 +1,7 @@
 -- No piece is needed where there is no cell.
 use Rattle.std.proofs.Common.{refl, ap}
 use Rattle.lane_board.specs.Field.{Field, empty_field}
-use Rattle.packing.proofs.FillLemmas.{fills_nothing}
+use Rattle.empty_cells.proofs.CallerLemmas.{fills_nothing}
 use Rattle.packing.proofs.decided.Decided.nothing.Goals as goal
 
 pub new-requires-2 : goal.new-requires-2

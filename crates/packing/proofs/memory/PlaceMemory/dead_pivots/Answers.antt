@@ -4,11 +4,11 @@ use Rattle.std.proofs.lemmas.Bool.{both_ways}
 use Rattle.lane_board.specs.Field.{Field}
 use Rattle.srs.specs.Rotation.{rotation_place}
 use Rattle.prune.specs.Tiling.{Supply, supply_in}
-use Rattle.packing.specs.declared.supply.SupplyWord.{SupplyWord}
-use Rattle.packing.specs.Empties.{all_but, empty_cells, without_placement}
-use Rattle.packing.specs.HasTiling.{has_tiling}
-use Rattle.packing.specs.SupplyWords.{supply_of}
-use Rattle.packing.proofs.PivotLemmas.{no_pivot, no_words}
+use Rattle.empty_cells.specs.declared.supply.SupplyWord.{SupplyWord}
+use Rattle.empty_cells.specs.Empties.{all_but, empty_cells, without_placement}
+use Rattle.empty_cells.specs.HasTiling.{has_tiling}
+use Rattle.empty_cells.specs.SupplyWords.{supply_of}
+use Rattle.empty_cells.proofs.CallerLemmas.{no_pivot, no_words}
 use Rattle.packing.proofs.memory.PlaceMemory.dead_pivots.Goals as goal
 
 pub returns : goal.returns

@@ -2,9 +2,9 @@
 use Rattle.std.proofs.Common.{◌≡◌, ◌↔◌, true, sym, ap, subst, ◌∙◌}
 use Rattle.lane_board.specs.Field.{Field}
 use Rattle.prune.specs.Tiling.{Supply, supply_in, Tiling}
-use Rattle.packing.specs.Empties.{all_but, empty_cells, without_placement}
-use Rattle.packing.specs.HasTiling.{has_tiling}
-use Rattle.packing.proofs.HasTilingLemmas.{answer-from_right}
+use Rattle.empty_cells.specs.Empties.{all_but, empty_cells, without_placement}
+use Rattle.empty_cells.specs.HasTiling.{has_tiling}
+use Rattle.empty_cells.proofs.CallerLemmas.{answer-from_right}
 use Rattle.packing.proofs.memory.PlaceMemory.leaves_tiling.Goals as goal
 
 pub note-requires-clause-answer : goal.note-requires-clause-answer

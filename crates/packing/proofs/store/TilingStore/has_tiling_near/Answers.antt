@@ -2,8 +2,8 @@
 use Rattle.std.proofs.Common.{◌≡◌, ◌↔◌, true, refl, subst, ◌∙◌}
 use Rattle.std.proofs.lemmas.Bool.{false≢true}
 use Rattle.prune.specs.Tiling.{Supply, Tiling, supply_in}
-use Rattle.packing.specs.Empties.{all_but, empty_cells}
-use Rattle.packing.proofs.Mirrors.{both_tiled}
+use Rattle.empty_cells.specs.Empties.{all_but, empty_cells}
+use Rattle.empty_cells.proofs.CallerLemmas.{both_tiled}
 use Rattle.packing.proofs.store.TilingStore.has_tiling_near.Goals as goal
 
 pub returns-then-has_uneven_part : goal.returns-then-has_uneven_part

@@ -3,7 +3,7 @@ use Rattle.std.proofs.Common.{◌≡◌, ℕ, ◌<◌, length, get_or, ap, subst
 use Rattle.std.proofs.lemmas.List.Elements.{All-get_or}
 use Rattle.number_sets.specs.Rising.{IsRising, has}
 use Rattle.number_sets.proofs.CallerLemmas.{has-none}
-use Rattle.dead_memo.specs.Keys.{cells_in_bits}
+use Rattle.well.specs.CellBits.{cells_in_bits}
 use Rattle.percent.specs.declared.kept.Kept.{Kept}
 use Rattle.percent.specs.declared.kept.Slot.{Slot}
 use Rattle.percent.specs.Kept.{IsTrueSlot}

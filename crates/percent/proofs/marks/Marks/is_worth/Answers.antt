@@ -2,7 +2,7 @@
 use Rattle.std.proofs.Common.{◌≡◌, All, List, false, get_or, sym, ap, subst, ◌∙◌, inl, inr, arith}
 use Rattle.std.proofs.lemmas.Bool.{cases_lt}
 use Rattle.std.proofs.lemmas.List.{get_or_default}
-use Rattle.packing.specs.TiledPieces.{is_marked}
+use Rattle.tiled_pieces.specs.TiledPieces.{is_marked}
 use Rattle.percent.specs.declared.marks.Mark.{Mark}
 use Rattle.percent.proofs.marks.Marks.is_worth.Goals as goal
 

@@ -1,6 +1,6 @@
 -- The marks before this one don't have it.
 use Rattle.std.proofs.Common.{◌≡◌, ◌<◌, ℕ, false, get_or}
-use Rattle.packing.specs.TiledPieces.{is_marked}
+use Rattle.tiled_pieces.specs.TiledPieces.{is_marked}
 use Rattle.percent.specs.declared.marks.Mark.{Mark}
 use Rattle.percent.proofs.marks.Marks.is_worth.Given as goal
 

@@ -1,0 +1,89 @@
+-- The cells that the bits of a set stand for.
+use Rattle.std.proofs.Common.{◌≡◌, ℕ, ◌+◌, ◌*◌, ◌/◌, ◌%◌, ◌<◌, Bool, true, false, not, ◌&&◌, ◌==◌, nat_lt, pos, negsuc, refl, ap, ◌∙◌, sym, inl, inr, arith}
+use Rattle.std.proofs.Math.Path.{fun_ext}
+use Rattle.std.specs.Int.{bit_at}
+use Rattle.std.proofs.lemmas.Bool.{both_ways, false≢true, cases_lt, and_left, and_right, and_from, and_parts, le-ltb, lt-ltb, ltb-true}
+use Rattle.std.proofs.lemmas.Nat.Bits.{bit_at_above}
+use Rattle.lane_board.specs.Field.{Field}
+use Rattle.lane_board.specs.Lanes.{has_bit}
+use Rattle.lane_board.proofs.CallerLemmas.{has_bit-zero, has_bit-past, same_from_columns}
+use Rattle.srs.specs.Cells.{Cell}
+use Rattle.empty_cells.specs.declared.empties.Empties.{Empties}
+use Rattle.empty_cells.specs.Empties.{empty_cells, has_cell}
+use Rattle.empty_cells.specs.Spans.{HasNoCell, IsFirst}
+use Rattle.empty_cells.proofs.StackLemmas.{IsSmall}
+
+pub none_in_zero : (e : Empties) → e.cells ≡ 0 → HasNoCell (empty_cells e)
+unfolding empty_cells
+none_in_zero e zero = record { none = λ x y. and_right (nat_lt y 8) _ (ap (λ n. has_bit n (8 * x + y)) zero ∙ has_bit-zero (8 * x + y)) }
+
+no_bit : (n x y : ℕ) → (y < 8 → bit_at n (8 * x + y) ≡ 0) → (nat_lt y 8 && has_bit n (8 * x + y)) ≡ false
+unfolding has_bit
+no_bit n x y none = elim (cases_lt y 8) [
+  | inl low ↦ and_right (nat_lt y 8) _ (ap (λ b. b == 1) (none low))
+  | inr high ↦ and_left (nat_lt y 8) _ (le-ltb y 8 high)
+]
+
+-- the lowest bit is the lowest cell of the leftmost column
+pub first_from_lowest : (e : Empties) (t : ℕ) → bit_at e.cells t ≡ 1 → ((i : ℕ) → i < t → bit_at e.cells i ≡ 0) → IsFirst (empty_cells e) (t / 8) (t % 8)
+unfolding empty_cells has_bit
+first_from_lowest e t set lower = record {
+  filled = and_from _ _ (lt-ltb (t % 8) 8 (omega arith)) (ap (λ k. bit_at e.cells k == 1) {y = t} (omega arith) ∙ ap (λ b. b == 1) set);
+  column = omega (arith, within);
+  row = omega arith;
+  leftmost = λ a b left. no_bit e.cells a b (λ low. lower (8 * a + b) (omega arith));
+  lowest = λ b below. no_bit e.cells (t / 8) b (λ low. lower (8 * (t / 8) + b) (omega arith));
+}
+  where
+    within : t < 80
+    within = elim (cases_lt t 80) [
+      | inl low ↦ low
+      | inr high ↦ absurd (omega (arith, bit_at_above e.cells 80 t e.in_columns high, set))
+    ]
+
+-- the cells lie in columns 0 to 9 and rows 0 to 7
+pub cells_small : (e : Empties) → IsSmall 8 (empty_cells e)
+unfolding empty_cells
+cells_small e = record {
+  column = λ a b here. elim (cases_lt a 10) [
+    | inl near ↦ near
+    | inr far ↦ absurd (both_ways _ (has_bit-past e.cells 80 (8 * a + b) e.in_columns (omega arith)) (and_parts (nat_lt b 8) _ here).1)
+  ];
+  row = λ a b here. ltb-true b 8 (and_parts (nat_lt b 8) _ here).0;
+}
+
+-- what is taken beside the columns and rows makes no difference
+pub same_left : (e : Empties) (x y : ℕ) (q r : Bool) → (x < 10 → y < 8 → q ≡ r) → (empty_cells e x y && not q) ≡ (empty_cells e x y && not r)
+same_left e x y q r same = where_filled (empty_cells e x y) (λ has. same ((cells_small e).column x y has) ((cells_small e).row x y has))
+  where
+    where_filled : (p : Bool) → (p ≡ true → q ≡ r) → (p && not q) ≡ (p && not r)
+    where_filled true same = ap not (same refl)
+    where_filled false same = refl
+
+-- sets with the same cells have the same bits
+pub same_bits : (e f : Empties) → empty_cells e ≡ empty_cells f → e.cells ≡ f.cells
+unfolding empty_cells
+same_bits e f same = same_from_columns e.cells f.cells each
+  where
+    of_cell : (n k : ℕ) → (nat_lt (k % 8) 8 && has_bit n (8 * (k / 8) + k % 8)) ≡ has_bit n k
+    of_cell n k = ap (λ t. t && has_bit n (8 * (k / 8) + k % 8)) (lt-ltb (k % 8) 8 (omega arith)) ∙ ap (has_bit n) {x = 8 * (k / 8) + k % 8} {y = k} (omega arith)
+
+    each : (k : ℕ) → has_bit e.cells k ≡ has_bit f.cells k
+    each k = sym (of_cell e.cells k) ∙ ap (λ (E : Field). E (k / 8) (k % 8)) same ∙ of_cell f.cells k
+
+pub from_bits : (e f : Empties) → e.cells ≡ f.cells → empty_cells e ≡ empty_cells f
+unfolding empty_cells
+from_bits e f same = fun_ext (λ x. fun_ext (λ y. ap (λ n. nat_lt y 8 && has_bit n (8 * x + y)) same))
+
+-- a cell of the set
+pub record CellOf (E : Field) (c : Cell) : Type 0 where
+  pub x : ℕ
+  pub y : ℕ
+  pub is : c ≡ (pos x, pos y)
+  pub has : E x y ≡ true
+
+pub cell_of : (E : Field) (c : Cell) → has_cell E c ≡ true → CellOf E c
+cell_of E (pos x, pos y) here = record { x = x; y = y; is = refl; has = here }
+cell_of E (pos x, negsuc y) here = absurd (false≢true here)
+cell_of E (negsuc x, pos y) here = absurd (false≢true here)
+cell_of E (negsuc x, negsuc y) here = absurd (false≢true here)

@@ -1,0 +1,275 @@
+-- Cells can be filled exactly where there are none, or some piece of the supply stacks over one of them and the rest can be filled.
+use Rattle.std.proofs.Common.{◌≡◌, ℕ, suc, ◌+◌, ◌<◌, ◌≤◌, Bool, true, false, not, cond, ◌&&◌, ◌||◌, ◌==◌, nat_lt, ℤ, pos, negsuc, ◌+ℤ◌, ◌-ℤ◌, List, [], ◌∷◌, length, map, refl, sym, ap, subst, ◌∙◌, inl, inr, arith}
+use Rattle.std.proofs.Math.Path.{fun_ext}
+use Rattle.std.specs.List.{list_all}
+use Rattle.std.proofs.lemmas.Bool.{cases_Bool, cases_lt, both_ways, and_from, or_cases, or_left, or_right, cond-true, cond-false, eqb-true, lt-ltb, false≢true}
+use Rattle.std.proofs.lemmas.List.Elements.{All-nil}
+use Rattle.std.proofs.lemmas.Int.{ints}
+use Rattle.lane_board.specs.Field.{Field, rows_below}
+use Rattle.srs.specs.declared.piece.Piece.{Piece}
+use Rattle.srs.specs.declared.rotation.Rotation.{Rotation}
+use Rattle.srs.specs.Piece.{piece_code}
+use Rattle.srs.specs.Cells.{Cell, shape}
+use Rattle.srs.specs.SameCells.{cell_eq, is_among}
+use Rattle.srs.proofs.CallerLemmas.{cell_eq-decides, is_among-all, has_cell-head, list_all-from_is_among, piece_code-injective}
+use Rattle.prune.specs.Tiling.{Part, IsGeneralized, sent, is_empty_below, covers, Tiling, Supply}
+use Rattle.prune.specs.Laws.{with_one}
+use Rattle.prune.specs.OnePart.{with_cells, less_one}
+use Rattle.prune.proofs.CallerLemmas.{with_part, TakenPart, taken_part}
+use Rattle.empty_cells.specs.declared.span.Span.{Span}
+use Rattle.empty_cells.specs.Empties.{all_but}
+use Rattle.empty_cells.specs.Spans.{HasNoCell, IsFirst}
+use Rattle.empty_cells.specs.Stacks.{is_allowed, CanFill, Stacks, StacksOver, StacksPiece, in_stack, without_stack}
+use Rattle.empty_cells.proofs.StackLemmas.{Rises, IsWithin, IsSmall, Follows, Chosen}
+use Rattle.empty_cells.proofs.ChosenLemmas.{chosen, stacked, follows-first}
+use Rattle.empty_cells.proofs.FormLemmas.{leftmost, lowest, form_at, form, distance, place_in, rotation_at, Matches, sent_column, same_cells, left_cell, left_in_stack, stack_right_of, level_within, level_up, row_up, cell_at_level, row_by_level, form_within, form_of_place}
+
+not_not : (p : Bool) → not (not p) ≡ p
+not_not true = refl
+not_not false = refl
+
+-- which cells are empty where all but those of a set are filled
+pub empty_is : (height : ℕ) (E : Field) (a b : ℕ) → IsSmall height E → is_empty_below (all_but E) height (pos a, pos b) ≡ E a b
+unfolding is_empty_below all_but rows_below
+empty_is height E a b small = ap (λ t. (nat_lt a 10 && nat_lt b height) && t) (not_not (E a b)) ∙ inside (E a b) (nat_lt a 10 && nat_lt b height) (λ here. and_from _ _ (lt-ltb a 10 (small.column a b here)) (lt-ltb b height (small.row a b here)))
+  where
+    inside : (p q : Bool) → (p ≡ true → q ≡ true) → (q && p) ≡ p
+    inside true q one = ap (λ t. t && true) (one refl)
+    inside false true one = refl
+    inside false false one = refl
+
+negative_column : (height : ℕ) (E : Field) (n b : ℕ) → is_empty_below (all_but E) height (negsuc n, pos b) ≡ false
+unfolding is_empty_below
+negative_column height E n b = refl
+
+-- where there is no cell, no part is needed
+pub fills_nothing : (height : ℕ) (E : Field) (supply : Supply) → HasNoCell E → CanFill height supply E
+unfolding covers is_empty_below all_but
+fills_nothing height E supply none = record {
+  parts = [];
+  generalized = All-nil IsGeneralized;
+  covered = covered;
+  supplied = λ piece. omega arith;
+}
+  where
+    covered : (cell : Cell) → covers [] cell ≡ cond (is_empty_below (all_but E) height cell) 1 0
+    covered (pos x, pos y) = sym (cond-false (rows_below height x y && not (not (E x y))) 1 0 (nothing (rows_below height x y)))
+      where
+        nothing : (p : Bool) → (p && not (not (E x y))) ≡ false
+        nothing true = not_not (E x y) ∙ none.none x y
+        nothing false = refl
+    covered (pos x, negsuc y) = refl
+    covered (negsuc x, pos y) = refl
+    covered (negsuc x, negsuc y) = refl
+
+-- a cell of sent cells comes from one of them
+pub sent_from : (f : Cell → Cell) (cells : List Cell) (d : Cell) → is_among (map f cells) d ≡ true → (c : Cell) × (is_among cells c ≡ true) × (f c ≡ d)
+unfolding is_among
+sent_from f [] d has = absurd (false≢true has)
+sent_from f (c ∷ cells) d has = elim (or_cases (cell_eq (f c) d) _ has) [
+  | inl here ↦ (c, has_cell-head c cells, (cell_eq-decides (f c) d).0 here)
+  | inr later ↦ let found = sent_from f cells d later in (found.0, or_right (cell_eq c found.0) _ found.1, found.2)
+]
+
+pub sent_has : (f : Cell → Cell) (cells : List Cell) (c : Cell) → is_among cells c ≡ true → is_among (map f cells) (f c) ≡ true
+unfolding is_among
+sent_has f [] c has = absurd (false≢true has)
+sent_has f (d ∷ cells) c has = elim (or_cases (cell_eq d c) _ has) [
+  | inl here ↦ or_left (cell_eq (f d) (f c)) _ ((cell_eq-decides (f d) (f c)).1 (ap f ((cell_eq-decides d c).0 here)))
+  | inr later ↦ or_right (cell_eq (f d) (f c)) _ (sent_has f cells c later)
+]
+
+-- what is left where the cells of spans are filled
+pub left_by : (E : Field) (cells : List Cell) (x : ℕ) (rows : ℕ → ℕ) (spans : List Span) → ((a b : ℕ) → is_among cells (pos a, pos b) ≡ in_stack x rows spans a b) →
+    with_cells (all_but E) cells ≡ all_but (without_stack E x rows spans)
+unfolding with_cells all_but without_stack
+left_by E cells x rows spans same = fun_ext (λ a. fun_ext (λ b. ap (λ t. not (E a b) || t) (same a b) ∙ less (E a b) (in_stack x rows spans a b)))
+  where
+    less : (p q : Bool) → (not p || q) ≡ not (p && not q)
+    less true true = refl
+    less true false = refl
+    less false q = refl
+
+pub one_back : (supply : Supply) (piece : Piece) → 0 < supply piece → with_one (less_one supply piece) piece ≡ supply
+unfolding with_one less_one
+one_back supply piece some = fun_ext (λ other. elim (cases_Bool (piece_code piece == piece_code other)) [
+  | inl same ↦
+      let count : 0 < supply other = subst (λ p. 0 < supply p) (piece_code-injective piece other (eqb-true _ _ same)) some in
+      cond-true _ _ _ same ∙ ap suc (cond-true _ _ _ same) ∙ omega arith
+  | inr different ↦ cond-false _ _ _ different ∙ cond-false _ _ _ different
+])
+
+sent_at : (piece : Piece) (rotation : Rotation) (move : ℤ) (row : ℤ → ℕ) (x : ℕ) → leftmost piece rotation +ℤ move ≡ pos x → (c : Cell) → is_among (shape piece rotation) c ≡ true →
+    sent move row c ≡ (pos (x + (place_in piece rotation c).0), pos (row c.1))
+unfolding sent
+sent_at piece rotation move row x moved c has = λ i. (sent_column piece rotation move x moved c has i, pos (row c.1))
+
+negative_at : (piece : Piece) (rotation : Rotation) (move : ℤ) (row : ℤ → ℕ) (n : ℕ) (c : Cell) → c.0 +ℤ move ≡ negsuc n → sent move row c ≡ (negsuc n, pos (row c.1))
+unfolding sent
+negative_at piece rotation move row n c moved = λ i. (moved i, pos (row c.1))
+
+-- a piece whose spans are stacked in the set, and a filling of what it leaves
+pub fills_chosen : (height : ℕ) (E : Field) (supply : Supply) (piece : Piece) (rotation : Rotation) (x floor : ℕ) → IsSmall height E → 0 < supply piece → Chosen (CanFill height (less_one supply piece)) E x floor (form piece rotation) → CanFill height supply E
+fills_chosen height E supply piece rotation x floor small some choice =
+    subst (λ (s : Supply). CanFill height s E) (one_back supply piece some)
+    (with_part (all_but E) height part (less_one supply piece) generalized empty
+    (subst (λ (F : Field). Tiling F height (less_one supply piece)) (sym (left_by E part.cells x choice.rows (form piece rotation) (same_cells piece rotation move row x choice.rows matches))) choice.rest))
+  where
+    move : ℤ
+    move = pos x -ℤ leftmost piece rotation
+
+    row : ℤ → ℕ
+    row z = choice.rows (distance (z -ℤ lowest piece rotation))
+
+    part : Part
+    part = record { piece = piece; cells = map (sent move row) (shape piece rotation) }
+
+    matches : Matches piece rotation move row x choice.rows
+    matches = record { column = omega (arith, ints); row_at = λ c has. refl }
+
+    generalized : IsGeneralized part
+    generalized = record {
+      rotation = rotation;
+      move = move;
+      row = row;
+      rising = λ c d has_c has_d up. choice.rises.rising _ _ (level_up piece rotation c d has_c has_d up) (level_within piece rotation d has_d);
+      cells = refl;
+    }
+
+    empty : list_all (is_empty_below (all_but E) height) part.cells ≡ true
+    empty = list_all-from_is_among (is_empty_below (all_but E) height) part.cells (λ d has. each d (sent_from (sent move row) (shape piece rotation) d has) has)
+      where
+        each : (d : Cell) → ((c : Cell) × (is_among (shape piece rotation) c ≡ true) × (sent move row c ≡ d)) → is_among part.cells d ≡ true → is_empty_below (all_but E) height d ≡ true
+        each d found has =
+            let a = x + (place_in piece rotation found.0).0 in
+            let b = row found.0.1 in
+            let at : d ≡ (pos a, pos b) = sym found.2 ∙ sent_at piece rotation move row x matches.column found.0 found.1 in
+            let in_set = choice.within.inside a b (sym (same_cells piece rotation move row x choice.rows matches a b) ∙ subst (λ (e : Cell). is_among part.cells e ≡ true) at has) in
+            subst (λ (e : Cell). is_empty_below (all_but E) height e ≡ true) (sym at) (empty_is height E a b small ∙ in_set)
+
+-- a generalized piece within a set, by its spans
+pub record StackOf (E : Field) (part : Part) : Type 0 where
+  pub rotation : Rotation
+  pub x : ℕ
+  pub rows : ℕ → ℕ
+  pub rises : Rises rows (length (form part.piece rotation))
+  pub within : IsWithin E x rows (form part.piece rotation)
+  pub same : (a b : ℕ) → is_among part.cells (pos a, pos b) ≡ in_stack x rows (form part.piece rotation) a b
+
+pub stack_of : (height : ℕ) (E : Field) (part : Part) → IsSmall height E → IsGeneralized part → list_all (is_empty_below (all_but E) height) part.cells ≡ true → StackOf E part
+stack_of height E part small g inside = at_column (leftmost part.piece g.rotation +ℤ g.move) refl
+  where
+    rows : ℕ → ℕ
+    rows k = g.row (lowest part.piece g.rotation +ℤ pos k)
+
+    sent_cells : List Cell
+    sent_cells = map (sent g.move g.row) (shape part.piece g.rotation)
+
+    empty : (d : Cell) → is_among sent_cells d ≡ true → is_empty_below (all_but E) height d ≡ true
+    empty d has = is_among-all (is_empty_below (all_but E) height) part.cells d inside (subst (λ (cells : List Cell). is_among cells d ≡ true) (sym g.cells) has)
+
+    at_column : (z : ℤ) → leftmost part.piece g.rotation +ℤ g.move ≡ z → StackOf E part
+    at_column (pos x) moved = record {
+      rotation = g.rotation;
+      x = x;
+      rows = rows;
+      rises = record { rising = rising };
+      within = record { inside = λ a b in_spans. sym (empty_is height E a b small) ∙ empty (pos a, pos b) (same a b ∙ in_spans) };
+      same = λ a b. ap (λ (cells : List Cell). is_among cells (pos a, pos b)) g.cells ∙ same a b;
+    }
+      where
+        matches : Matches part.piece g.rotation g.move g.row x rows
+        matches = record { column = moved; row_at = λ c has. ap g.row (sym (row_by_level part.piece g.rotation c has)) }
+
+        same : (a b : ℕ) → is_among sent_cells (pos a, pos b) ≡ in_stack x rows (form part.piece g.rotation) a b
+        same = same_cells part.piece g.rotation g.move g.row x rows matches
+
+        rising : (j k : ℕ) → j < k → k < length (form part.piece g.rotation) → rows j < rows k
+        rising j k less below =
+            let c = cell_at_level part.piece g.rotation j (omega arith) in
+            let d = cell_at_level part.piece g.rotation k below in
+            let up = g.rising c.0 d.0 c.1 d.1 (row_up part.piece g.rotation c.0 d.0 c.1 d.1 (omega (arith, c.2, d.2))) in
+            omega (arith, up, matches.row_at c.0 c.1 ∙ ap rows c.2, matches.row_at d.0 d.1 ∙ ap rows d.2)
+    at_column (negsuc n) moved =
+        let c = left_cell part.piece g.rotation in
+        absurd (both_ways _ (negative_column height E n (g.row c.0.1))
+        (subst (λ (d : Cell). is_empty_below (all_but E) height d ≡ true) (negative_at part.piece g.rotation g.move g.row n c.0 (ap (λ z. z +ℤ g.move) c.2 ∙ moved))
+        (empty (sent g.move g.row c.0) (sent_has (sent g.move g.row) (shape part.piece g.rotation) c.0 c.1))))
+
+-- a piece of the supply that has a cell of a set that is filled, by its spans
+pub record FilledBy (height : ℕ) (E : Field) (supply : Supply) (x0 y0 : ℕ) : Type 0 where
+  pub piece : Piece
+  pub rotation : Rotation
+  pub x : ℕ
+  pub rows : ℕ → ℕ
+  pub some : 0 < supply piece
+  pub rises : Rises rows (length (form piece rotation))
+  pub within : IsWithin E x rows (form piece rotation)
+  pub has : in_stack x rows (form piece rotation) x0 y0 ≡ true
+  pub rest : CanFill height (less_one supply piece) (without_stack E x rows (form piece rotation))
+
+pub filled_by : (height : ℕ) (E : Field) (supply : Supply) (x0 y0 : ℕ) → IsSmall height E → E x0 y0 ≡ true → CanFill height supply E → FilledBy height E supply x0 y0
+filled_by height E supply x0 y0 small here filling = by_part (taken_part (all_but E) height supply (pos x0, pos y0) (empty_is height E x0 y0 small ∙ here) filling)
+  where
+    by_part : TakenPart (all_but E) height supply (pos x0, pos y0) → FilledBy height E supply x0 y0
+    by_part t =
+        let s = stack_of height E t.part small t.generalized t.empty in
+        record {
+          piece = t.part.piece;
+          rotation = s.rotation;
+          x = s.x;
+          rows = s.rows;
+          some = t.some;
+          rises = s.rises;
+          within = s.within;
+          has = sym (s.same x0 y0) ∙ t.has;
+          rest = subst (λ (F : Field). Tiling F height (less_one supply t.part.piece)) (left_by E t.part.cells s.x s.rows (form t.part.piece s.rotation) s.same) t.rest;
+        }
+
+-- spans of a piece that have the first cell of a set are stacked over it
+pub over_first : (E : Field) (x y : ℕ) (piece : Piece) (rotation : Rotation) (left : ℕ) (rows : ℕ → ℕ) (Fact : Field → Type 0) → IsFirst E x y → Rises rows (length (form piece rotation)) →
+    IsWithin E left rows (form piece rotation) → in_stack left rows (form piece rotation) x y ≡ true → Fact (without_stack E left rows (form piece rotation)) → Stacks (is_allowed y) Fact E x 0 (form piece rotation)
+over_first E x y piece rotation left rows Fact first rises within has fact =
+    subst (λ k. Stacks (is_allowed y) Fact E k 0 spans) same_column
+    (stacked (is_allowed y) Fact E left 0 rows spans rises (λ k below. omega arith) within follows fact)
+  where
+    spans : List Span
+    spans = form piece rotation
+
+    same_column : left ≡ x
+    same_column =
+        let there = left_in_stack piece rotation left rows in
+        let upper : left ≤ x = stack_right_of left rows spans x y has in
+        elim (cases_lt left x) [
+          | inl less ↦ absurd (both_ways (E left there.0) (first.leftmost left there.0 less) (within.inside left there.0 there.1))
+          | inr other ↦ omega arith
+        ]
+
+    follows : Follows (is_allowed y) 0 rows spans
+    follows = follows-first E left y 0 rows spans (λ b below. ap (λ k. E k b) same_column ∙ first.lowest b below) rises (λ k below. omega arith) within
+        (subst (λ k. in_stack left rows spans k y ≡ true) (sym same_column) has)
+
+-- the lowest cell of the leftmost column is covered by spans that begin in that column
+pub record StackedFirst (E : Field) (supply : Supply) (x y : ℕ) : Type 0 where
+  pub piece : Piece
+  pub some : 0 < supply piece
+  pub stacks : StacksPiece (less_one supply piece) E x y piece
+
+pub stacked_first : (E : Field) (supply : Supply) (x y : ℕ) → IsSmall 8 E → IsFirst E x y → CanFill 8 supply E → StackedFirst E supply x y
+stacked_first E supply x y small first filling =
+    let by = filled_by 8 E supply x y small first.filled filling in
+    record {
+      piece = by.piece;
+      some = by.some;
+      stacks = record {
+        place = form_at by.piece by.rotation;
+        known = form_within by.piece by.rotation;
+        stacks = over_first E x y by.piece by.rotation by.x by.rows (CanFill 8 (less_one supply by.piece)) first by.rises by.within by.has by.rest;
+      };
+    }
+
+-- and where the spans of a piece stack so, the set can be filled
+pub fills_stacked : (E : Field) (supply : Supply) (piece : Piece) (x y : ℕ) → IsSmall 8 E → 0 < supply piece → StacksPiece (less_one supply piece) E x y piece → CanFill 8 supply E
+fills_stacked E supply piece x y small some s =
+    fills_chosen 8 E supply piece (rotation_at s.place) x 0 small some
+    (chosen (is_allowed y) (CanFill 8 (less_one supply piece)) E x 0 (form piece (rotation_at s.place)) (subst (λ spans. StacksOver (less_one supply piece) E x y 0 spans) (sym (form_of_place piece s.place s.known)) s.stacks))

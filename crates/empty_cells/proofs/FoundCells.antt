@@ -1,0 +1,144 @@
+-- The empty cells of a well, found row by row: the ten cells of a row are set eight bits apart.
+use Rattle.std.proofs.Common.{◌≡◌, ℕ, zero, suc, ◌+◌, ◌-◌, ◌*◌, ◌/◌, ◌%◌, ◌^◌, ◌<◌, ◌≤◌, Bool, true, false, not, ◌&&◌, ◌||◌, ◌==◌, nat_lt, bit_and, bit_or, bit_xor, refl, ap, ap₂, ◌∙◌, sym, inl, inr, arith}
+use Rattle.std.proofs.Math.Path.{fun_ext}
+use Rattle.std.proofs.lemmas.Bool.{agree_below, agree_below_at, and_left, and_right, and_parts, cases_eq, cases_lt, eq-eqb, eqb-true, le-ltb, lt-ltb, ne_eqb}
+use Rattle.std.proofs.lemmas.Bool.Decides.{nat_tests}
+use Rattle.std.proofs.lemmas.Nat.{and_le_l, mul-le, or_lt, pow_below, xor_lt}
+use Rattle.lane_board.specs.Field.{Field, rows_below, difference}
+use Rattle.lane_board.specs.Lanes.{has_bit}
+use Rattle.lane_board.proofs.CallerLemmas.{has_bit-and, has_bit-and_not, has_bit-or, has_bit-past, has_bit-shifted_high, has_bit-shifted_low, has_bit-zero}
+use Rattle.empty_cells.specs.declared.empties.Empties.{Empties}
+use Rattle.empty_cells.specs.Empties.{empty_cells}
+
+-- the lowest cell of each column
+abbrev lowest_cells : ℕ
+lowest_cells = 4740885567116192841985
+
+-- the cells of a row of ten: of seven columns, and of three more
+abbrev spread_cells : ℕ → ℕ
+spread_cells row = bit_or (bit_and (bit_and row 127 * 4432676798593) 282578800148737) (bit_and (row / 2 ^ 7 * 16513) 65793 * 2 ^ 56 % 2 ^ 128)
+
+-- each row is tried
+abbrev is_spread : ℕ → Bool
+is_spread row = (bit_and lowest_cells (spread_cells row) == spread_cells row) && agree_below (λ x. has_bit (spread_cells row) (8 * x)) (has_bit row) 10
+
+all_spread : (row : ℕ) → row < 1024 → is_spread row ≡ true
+unfolding has_bit
+all_spread row small = agree_below_at is_spread (λ _. true) 1024 row refl small
+
+in_lowest : (row : ℕ) → row < 1024 → bit_and lowest_cells (spread_cells row) ≡ spread_cells row
+in_lowest row small = eqb-true _ _ (and_parts _ _ (all_spread row small)).0
+
+each_column : (row : ℕ) → row < 1024 → (x : ℕ) → x ≤ 9 → has_bit (spread_cells row) (8 * x) ≡ has_bit row x
+each_column row small x column =
+    agree_below_at (λ k. has_bit (spread_cells row) (8 * k)) (has_bit row) 10 x (and_parts (bit_and lowest_cells (spread_cells row) == spread_cells row) _ (all_spread row small)).1 (omega arith)
+
+lowest_bit : (x y : ℕ) → x ≤ 9 → y < 8 → has_bit lowest_cells (8 * x + y) ≡ (y == 0)
+unfolding has_bit
+lowest_bit x y column row =
+    agree_below_at (has_bit lowest_cells) (λ k. k % 8 == 0) 80 (8 * x + y) refl (omega arith)
+    ∙ ap (λ k. k == 0) {x = (8 * x + y) % 8} {y = y} (omega arith)
+
+pub spread-bits : (row : ℕ) → row < 1024 → (x y : ℕ) → x ≤ 9 → y < 8 → has_bit (spread_cells row) (8 * x + y) ≡ ((y == 0) && has_bit row x)
+spread-bits row small x y column low =
+    ap (λ n. has_bit n (8 * x + y)) (sym (in_lowest row small))
+    ∙ has_bit-and lowest_cells (spread_cells row) (8 * x + y)
+    ∙ ap (λ b. b && has_bit (spread_cells row) (8 * x + y)) (lowest_bit x y column low)
+    ∙ elim (cases_eq y 0) [
+      | inl zero_row ↦ ap (λ b. (y == 0) && b) (ap (has_bit (spread_cells row)) {x = 8 * x + y} {y = 8 * x} (omega arith) ∙ each_column row small x column)
+      | inr other ↦ and_left _ _ (ne_eqb y 0 other) ∙ sym (and_left _ _ (ne_eqb y 0 other))
+    ]
+
+-- the empty cells of the rows before this one
+pub record IsFound (F : Field) (cells y : ℕ) : Type 0 where
+  pub small : cells < 2 ^ 80
+  pub bits : (a b : ℕ) → a ≤ 9 → b < 8 → has_bit cells (8 * a + b) ≡ (nat_lt b y && not (F a b))
+
+pub found-start : (F : Field) → IsFound F 0 0
+found-start F = record {
+  small = omega arith;
+  bits = λ a b _ _. has_bit-zero (8 * a + b) ∙ sym (and_left _ _ (le-ltb b 0 (omega arith)));
+}
+
+-- the cells of a row, moved up to their row
+module _ (s : ℕ) (has : ℕ → Bool) (bits : (x y : ℕ) → x ≤ 9 → y < 8 → has_bit s (8 * x + y) ≡ ((y == 0) && has x)) where
+  none_there : (x y : ℕ) → x ≤ 9 → y < 8 → 0 < y → has_bit s (8 * x + y) ≡ false
+  none_there x y column row above = bits x y column row ∙ and_left _ _ (ne_eqb y 0 (omega arith))
+
+  none_below : (y a b : ℕ) → y < 8 → a ≤ 9 → b < y → has_bit (s * 2 ^ y) (8 * a + b) ≡ false
+  none_below y zero b row column below = has_bit-shifted_low s y (8 * 0 + b) (omega arith)
+  none_below y (suc a) b row column below =
+      has_bit-shifted_high s y (8 * suc a + b) (omega arith)
+      ∙ ap (has_bit s) {x = 8 * suc a + b - y} {y = 8 * a + (8 + b - y)} (omega arith)
+      ∙ none_there a (8 + b - y) (omega arith) (omega arith) (omega arith)
+
+  raised-bits : (y a b : ℕ) → y < 8 → a ≤ 9 → b < 8 → has_bit (s * 2 ^ y) (8 * a + b) ≡ ((b == y) && has a)
+  raised-bits y a b row column low = elim (cases_lt b y) [
+    | inl below ↦ none_below y a b row column below ∙ sym (and_left _ _ (ne_eqb b y (omega arith)))
+    | inr from ↦
+        has_bit-shifted_high s y (8 * a + b) (omega arith)
+        ∙ ap (has_bit s) {x = 8 * a + b - y} {y = 8 * a + (b - y)} (omega arith)
+        ∙ bits a (b - y) column (omega arith)
+        ∙ ap (λ t. t && has a) (same_row from)
+  ]
+    where
+      same_row : y ≤ b → (b - y == 0) ≡ (b == y)
+      same_row from = elim (cases_eq b y) [
+        | inl same ↦ eq-eqb (b - y) 0 (omega arith) ∙ sym (eq-eqb b y same)
+        | inr other ↦ ne_eqb (b - y) 0 (λ e. other (omega arith)) ∙ sym (ne_eqb b y other)
+      ]
+
+one_more : (b y : ℕ) (p : Bool) → ((nat_lt b y && p) || ((b == y) && p)) ≡ (nat_lt b (y + 1) && p)
+one_more b y true = grind (arith, nat_tests)
+one_more b y false = grind (arith, nat_tests)
+
+pub found-next : (F : Field) (cells s y : ℕ) → y < 8 → s < 2 ^ 73 →
+    ((a b : ℕ) → a ≤ 9 → b < 8 → has_bit s (8 * a + b) ≡ ((b == 0) && not (F a y))) →
+    IsFound F cells y → IsFound F (bit_or cells (s * 2 ^ y % 2 ^ 128)) (y + 1)
+found-next F cells s y row small bits found = record {
+  small = or_lt 80 cells _ found.small (omega (arith, whole, raised_small));
+  bits = λ a b column low.
+      has_bit-or cells _ (8 * a + b)
+      ∙ ap₂ ◌||◌ (found.bits a b column low) (ap (λ n. has_bit n (8 * a + b)) whole ∙ raised-bits s (λ x. not (F x y)) bits y a b row column low ∙ in_row a b)
+      ∙ one_more b y (not (F a b));
+}
+  where
+    seven : 2 ^ y ≤ 2 ^ 7
+    seven = elim (cases_lt y 7) [
+      | inl less ↦ omega (arith, pow_below y 7 less)
+      | inr last ↦ omega (arith, ap (λ k. 2 ^ k) {x = y} {y = 7} (omega arith))
+    ]
+
+    raised_small : s * 2 ^ y < 2 ^ 80
+    raised_small = omega (arith, small, mul-le s (2 ^ y) s (2 ^ 7) (omega arith) seven)
+
+    whole : s * 2 ^ y % 2 ^ 128 ≡ s * 2 ^ y
+    whole = omega (arith, raised_small)
+
+    in_row : (a b : ℕ) → ((b == y) && not (F a y)) ≡ ((b == y) && not (F a b))
+    in_row a b = elim (cases_eq b y) [
+      | inl same ↦ ap (λ r. (b == y) && not (F a r)) (sym same)
+      | inr other ↦ and_left _ _ (ne_eqb b y other) ∙ sym (and_left _ _ (ne_eqb b y other))
+    ]
+
+-- the bits of a row that is empty where the well's is filled
+pub empty_bits : (row x : ℕ) → x ≤ 9 → has_bit (bit_xor 1023 (bit_and 1023 row)) x ≡ not (has_bit row x)
+unfolding has_bit
+empty_bits row x column = has_bit-and_not 1023 row x ∙ ap (λ b. b && not (has_bit row x)) all_ten
+  where
+    all_ten : has_bit 1023 x ≡ true
+    all_ten = agree_below_at (has_bit 1023) (λ _. true) 10 x refl (omega arith)
+
+pub empty-small : (row : ℕ) → bit_xor 1023 (bit_and 1023 row) < 1024
+empty-small row = xor_lt 10 1023 (bit_and 1023 row) (omega arith) (omega (arith, and_le_l 1023 row))
+
+-- when the rows are over, all empty cells are found
+pub found-all : (F : Field) (rows y : ℕ) (e : Empties) → rows ≤ 8 → y ≡ rows → IsFound F e.cells y → empty_cells e ≡ difference (rows_below rows) F
+unfolding empty_cells difference rows_below
+found-all F rows y e few last found = fun_ext (λ a. fun_ext (λ b. elim (cases_lt a 10) [
+  | inl near ↦ elim (cases_lt b 8) [
+    | inl low ↦ ap₂ ◌&&◌ (lt-ltb b 8 low) (found.bits a b (omega arith) low ∙ ap (λ k. nat_lt b k && not (F a b)) last) ∙ ap (λ t. (t && nat_lt b rows) && not (F a b)) (sym (lt-ltb a 10 near))
+    | inr high ↦ and_left _ _ (le-ltb b 8 high) ∙ sym (and_left _ _ (and_right _ _ (le-ltb b rows (omega arith))))
+  ]
+  | inr far ↦ and_right _ _ (has_bit-past e.cells 80 (8 * a + b) e.in_columns (omega arith)) ∙ sym (and_left _ _ (and_left _ _ (le-ltb a 10 far)))
+]))

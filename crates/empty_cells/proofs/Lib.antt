@@ -1,0 +1,20 @@
+-- The lemmas of this crate.
+mod SpanBits
+mod ColumnBits
+mod Mirrors
+mod EmptiesLemmas
+mod FoundCells
+mod SupplyLemmas
+mod SupplyWordLemmas
+mod PivotLemmas
+mod PivotMirrors
+mod StackLemmas
+mod ChosenLemmas
+mod FormLemmas
+mod FillLemmas
+mod MovedTilings
+mod ShiftedLemmas
+mod PlacedBits
+mod SameTilings
+mod HasTilingLemmas
+pub mod CallerLemmas

@@ -1,0 +1,121 @@
+-- Pivots: each placement of a piece has a bit of its own.
+use Rattle.std.proofs.Common.{◌≡◌, ◌≢◌, ℕ, ◌+◌, ◌*◌, ◌/◌, ◌-◌, ◌%◌, ◌^◌, ◌<◌, ◌≤◌, Bool, true, false, ◌&&◌, ◌||◌, ◌==◌, nat_lt, bit_or, List, length, replicate, set, get_or, refl, sym, ap, ap₂, ◌∙◌, inl, inr, arith}
+use Rattle.std.proofs.lemmas.Bool.{both_ways, cases_eq, cases_lt, and_parts, and_from, or_cases, or_left, or_right, eq-eqb, eqb-true, lt-ltb, ltb-true, ne_eqb}
+use Rattle.std.proofs.lemmas.List.{get_or-replicate, get_or-set_same, get_or-set_other, get_or_past}
+use Rattle.lane_board.specs.Lanes.{has_bit}
+use Rattle.lane_board.specs.Words.{cells_of_words}
+use Rattle.lane_board.proofs.CallerLemmas.{has_bit-low, has_bit-or, has_bit-past, has_bit-shifted_high, has_bit-shifted_low, has_bit-zero}
+use Rattle.srs.specs.declared.placement.Placement.{Placement}
+use Rattle.srs.specs.declared.rotation.Rotation.{Rotation}
+use Rattle.srs.specs.declared.rotation.Rotation.TheVariants.{Spawn, Right, Reverse, Left}
+use Rattle.srs.specs.Rotation.{rotation_place}
+use Rattle.srs.proofs.CallerLemmas.{rotation_place-injective}
+use Rattle.empty_cells.specs.declared.pivots.Pivots.{Pivots}
+use Rattle.empty_cells.specs.Pivots.{has_pivot}
+
+pub place_small : (rotation : Rotation) → rotation_place rotation ≤ 3
+place_small Spawn = omega arith
+place_small Right = omega arith
+place_small Reverse = omega arith
+place_small Left = omega arith
+
+-- the word of a placement, and the place of its bit there
+abbrev pub word_of : Placement → ℕ
+word_of q = 2 * rotation_place q.rotation + q.y / 4
+
+abbrev pub bit_of : Placement → ℕ
+bit_of q = 16 * (q.y % 4) + q.x
+
+abbrev pub bits_at : List ℕ → Placement → ℕ
+bits_at words q = get_or words (word_of q) 0
+
+-- a word with one bit
+lowest : has_bit 1 0 ≡ true
+unfolding has_bit
+lowest = refl
+
+one_bit : (bit k : ℕ) → k < 64 → has_bit (1 * 2 ^ bit % 2 ^ 64) k ≡ (bit == k)
+one_bit bit k within = has_bit-low (1 * 2 ^ bit) 64 k within ∙ elim (cases_lt k bit) [
+  | inl under ↦ has_bit-shifted_low 1 bit k under ∙ sym (ne_eqb bit k (λ e. omega arith))
+  | inr from ↦ has_bit-shifted_high 1 bit k from ∙ elim (cases_eq bit k) [
+    | inl same ↦ ap (has_bit 1) {x = k - bit} {y = 0} (omega arith) ∙ lowest ∙ sym (eq-eqb bit k same)
+    | inr apart ↦ has_bit-past 1 1 (k - bit) (omega arith) (omega arith) ∙ sym (ne_eqb bit k apart)
+  ]
+]
+
+-- one bit more in the word of a placement
+abbrev pub with_bit : List ℕ → ℕ → ℕ → List ℕ
+with_bit words word bit = set words word (bit_or (get_or words word 0) (1 * 2 ^ bit % 2 ^ 64))
+
+module _ (p : Pivots) (whole : length p.rotations ≡ 8) (q : Placement) (column : q.x ≤ 9) (row : q.y ≤ 7)
+    (word bit : ℕ) (is_word : word ≡ word_of q) (is_bit : bit ≡ bit_of q) where
+  abbrev pub after : Pivots
+  after = record { rotations = with_bit p.rotations word bit }
+
+  within : word < length p.rotations
+  within = omega (arith, whole, is_word, place_small q.rotation)
+
+  in_reach : (r : Placement) → (nat_lt r.x 16 && nat_lt r.y 8) ≡ true → (r.x < 16) × (r.y < 8)
+  in_reach r is = let sides = and_parts (nat_lt r.x 16) (nat_lt r.y 8) is in (ltb-true r.x 16 sides.0, ltb-true r.y 8 sides.1)
+
+  bits_here : (r : Placement) → word_of r ≡ word → r.x < 16 → r.y < 8 →
+      has_bit (bits_at (with_bit p.rotations word bit) r) (bit_of r) ≡ (has_bit (bits_at p.rotations r) (bit_of r) || (bit == bit_of r))
+  bits_here r same narrow low =
+      ap (λ k. has_bit (get_or (with_bit p.rotations word bit) k 0) (bit_of r)) same
+      ∙ ap (λ n. has_bit n (bit_of r)) (get_or-set_same p.rotations word _ 0 within)
+      ∙ has_bit-or (get_or p.rotations word 0) _ (bit_of r)
+      ∙ ap₂ ◌||◌ (ap (λ k. has_bit (get_or p.rotations k 0) (bit_of r)) (sym same)) (one_bit bit (bit_of r) (omega arith))
+
+  bits_there : (r : Placement) → word_of r ≢ word → bits_at (with_bit p.rotations word bit) r ≡ bits_at p.rotations r
+  bits_there r other = get_or-set_other p.rotations word (word_of r) _ 0 other
+
+  pub has_added : has_pivot after q ≡ true
+  unfolding has_pivot cells_of_words
+  has_added = and_from _ _ (and_from _ _ (lt-ltb q.x 16 (omega arith)) (lt-ltb q.y 8 (omega arith)))
+      (bits_here q (sym is_word) (omega arith) (omega arith) ∙ or_right (has_bit (bits_at p.rotations q) (bit_of q)) _ (eq-eqb bit (bit_of q) is_bit))
+
+  pub keeps_added : (r : Placement) → has_pivot p r ≡ true → has_pivot after r ≡ true
+  unfolding has_pivot cells_of_words
+  keeps_added r has =
+      let parts = and_parts (nat_lt r.x 16 && nat_lt r.y 8) (has_bit (bits_at p.rotations r) (bit_of r)) has in
+      let reach = in_reach r parts.0 in
+      and_from _ _ parts.0 (elim (cases_eq (word_of r) word) [
+        | inl same ↦ bits_here r same reach.0 reach.1 ∙ or_left _ _ parts.1
+        | inr other ↦ ap (λ n. has_bit n (bit_of r)) (bits_there r other) ∙ parts.1
+      ])
+
+  pub only_added : (r : Placement) → r.piece ≡ q.piece → has_pivot after r ≡ true → has_pivot p r ≡ false → r ≡ q
+  unfolding has_pivot cells_of_words
+  only_added r piece has none =
+      let parts = and_parts (nat_lt r.x 16 && nat_lt r.y 8) (has_bit (bits_at (with_bit p.rotations word bit) r) (bit_of r)) has in
+      let reach = in_reach r parts.0 in
+      elim (cases_eq (word_of r) word) [
+        | inl same ↦ elim (or_cases (has_bit (bits_at p.rotations r) (bit_of r)) _ (sym (bits_here r same reach.0 reach.1) ∙ parts.1)) [
+          | inl old ↦ absurd (both_ways _ none (and_from _ _ parts.0 old))
+          | inr new ↦
+              let there : word_of r ≡ word_of q = same ∙ is_word in
+              let at : bit_of q ≡ bit_of r = sym is_bit ∙ eqb-true bit (bit_of r) new in
+              let x : r.x ≡ q.x = omega (arith, at, reach.0) in
+              let y : r.y ≡ q.y = omega (arith, at, there, reach.0, reach.1) in
+              let place : rotation_place r.rotation ≡ rotation_place q.rotation = omega (arith, there, reach.1) in
+              let rotation : r.rotation ≡ q.rotation = rotation_place-injective r.rotation q.rotation place in
+              λ i. record { piece = piece i; rotation = rotation i; x = x i; y = y i }
+        ]
+        | inr other ↦ absurd (both_ways _ none (and_from _ _ parts.0 (sym (ap (λ n. has_bit n (bit_of r)) (bits_there r other)) ∙ parts.1)))
+      ]
+
+-- no word of these has a bit
+pub no_words : (k : ℕ) → get_or {A = ℕ} (replicate 8 0) k 0 ≡ 0
+no_words k = elim (cases_lt k 8) [
+  | inl within ↦ get_or-replicate 8 k 0 0 within
+  | inr past ↦ get_or_past {X = ℕ} (replicate 8 0) k 0 past
+]
+
+-- words without a bit have no placement
+pub no_pivot : (words : List ℕ) (rotation : Rotation) (x y : ℕ) → get_or words (2 * rotation_place rotation + y / 4) 0 ≡ 0 → cells_of_words words (rotation_place rotation) x y ≡ false
+unfolding cells_of_words
+no_pivot words rotation x y none = and_none (nat_lt x 16 && nat_lt y 8) (ap (λ n. has_bit n (16 * (y % 4) + x)) none ∙ has_bit-zero (16 * (y % 4) + x))
+  where
+    and_none : {b : Bool} (a : Bool) → b ≡ false → (a && b) ≡ false
+    and_none true e = e
+    and_none false e = refl

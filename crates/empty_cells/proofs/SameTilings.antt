@@ -1,0 +1,43 @@
+-- A tiling of the empty cells below some rows is one of the set of these cells.
+use Rattle.std.proofs.Common.{◌≡◌, ℕ, ◌≤◌, Bool, true, false, not, ◌&&◌, ◌||◌, nat_lt, ◌↔◌, pos, negsuc, refl, sym, arith}
+use Rattle.std.proofs.Math.Path.{fun_ext}
+use Rattle.std.proofs.lemmas.Bool.{false≢true, and_right, lt-ltb, ltb-true}
+use Rattle.lane_board.specs.Field.{Field, rows_below, difference}
+use Rattle.srs.specs.Cells.{Cell, cells_of}
+use Rattle.prune.specs.Tiling.{is_empty_below, Tiling, Supply}
+use Rattle.prune.proofs.CallerLemmas.{same_tiling}
+use Rattle.srs.specs.declared.placement.Placement.{Placement}
+use Rattle.srs.specs.SameCells.{is_among}
+use Rattle.well.specs.Lock.{together}
+use Rattle.empty_cells.specs.Empties.{all_but, without_placement}
+
+empties_same : (F : Field) (rows height : ℕ) → rows ≤ height → (cell : Cell) → is_empty_below (all_but (difference (rows_below rows) F)) height cell ≡ is_empty_below F rows cell
+unfolding is_empty_below all_but difference rows_below
+empties_same F rows height few (pos x, pos y) = inside (nat_lt x 10) (nat_lt y height) (nat_lt y rows) (F x y) (λ low. lt-ltb y height (omega (arith, ltb-true y rows low)))
+  where
+    inside : (a b c d : Bool) → (c ≡ true → b ≡ true) → ((a && b) && not (not ((a && c) && not d))) ≡ ((a && c) && not d)
+    inside false b c d low = refl
+    inside true b false d low = and_right b false refl
+    inside true false true d low = absurd (false≢true (low refl))
+    inside true true true true low = refl
+    inside true true true false low = refl
+empties_same F rows height few (pos x, negsuc y) = refl
+empties_same F rows height few (negsuc x, pos y) = refl
+empties_same F rows height few (negsuc x, negsuc y) = refl
+
+-- the empty cells of rows 0 to rows - 1, as a set
+pub tiling_below : (F : Field) (rows height : ℕ) (supply : Supply) → rows ≤ height → Tiling (all_but (difference (rows_below rows) F)) height supply ↔ Tiling F rows supply
+tiling_below F rows height supply few = (
+  same_tiling _ _ _ _ supply (empties_same F rows height few),
+  same_tiling _ _ _ _ supply (λ cell. sym (empties_same F rows height few cell)),
+)
+
+-- what a placement leaves of the empty cells
+pub left_by_placement : (F : Field) (rows : ℕ) (q : Placement) → without_placement (difference (rows_below rows) F) q ≡ difference (rows_below rows) (together F q)
+unfolding without_placement difference together
+left_by_placement F rows q = fun_ext (λ x. fun_ext (λ y. apart (rows_below rows x y) (F x y) (is_among (cells_of q) (pos x, pos y))))
+  where
+    apart : (p q r : Bool) → ((p && not q) && not r) ≡ (p && not (q || r))
+    apart true true r = refl
+    apart true false r = refl
+    apart false q r = refl

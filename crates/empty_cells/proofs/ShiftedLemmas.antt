@@ -1,0 +1,99 @@
+-- A set whose columns are counted from one of them, beside the same with its columns counted from 0.
+use Rattle.std.proofs.Common.{◌≡◌, ◌↔◌, ℕ, ◌+◌, ◌-◌, ◌<◌, ◌≤◌, true, false, not, ◌&&◌, ◌||◌, ◌==◌, nat_le, List, [], ◌∷◌, refl, sym, ap, ap₂, subst, ◌∙◌, inl, inr, arith}
+use Rattle.std.proofs.Math.Path.{fun_ext}
+use Rattle.std.specs.List.{list_all, list_any}
+use Rattle.std.proofs.lemmas.Bool.{and_left, and_right, and_parts, cases_lt, le-leb, leb-true, eq-eqb, eqb-true, false_from_ne_true}
+use Rattle.lane_board.specs.Field.{Field}
+use Rattle.lane_board.proofs.CallerLemmas.{same_from_both}
+use Rattle.prune.specs.Tiling.{Supply, Tiling}
+use Rattle.empty_cells.specs.declared.shifted.Shifted.{Shifted}
+use Rattle.empty_cells.specs.declared.span.Span.{Span}
+use Rattle.empty_cells.specs.Empties.{all_but, empty_cells}
+use Rattle.empty_cells.specs.ShiftedCells.{shifted_cells, to_column}
+use Rattle.empty_cells.specs.Spans.{columns_of, from_column, has_span, without_span, HasNoCell, IsFirst}
+use Rattle.empty_cells.proofs.EmptiesLemmas.{cells_small}
+use Rattle.empty_cells.proofs.MovedTilings.{both_moved}
+use Rattle.empty_cells.proofs.StackLemmas.{IsSmall}
+
+-- no column before the first one
+pub none_before : (x : ℕ) (E : Field) (a b : ℕ) → a < x → to_column x E a b ≡ false
+unfolding to_column
+none_before x E a b before = and_left _ _ (false_from_ne_true _ (λ (le : nat_le x a ≡ true). omega (arith, before, leb-true x a le)))
+
+-- from it on, the columns of the other set
+pub from_there : (x : ℕ) (E : Field) (a b : ℕ) → x ≤ a → to_column x E a b ≡ E (a - x) b
+unfolding to_column
+from_there x E a b from = ap (λ t. t && E (a - x) b) (le-leb x a from)
+
+-- the columns counted from it again
+pub back_from : (x : ℕ) (E : Field) → from_column x (to_column x E) ≡ E
+unfolding from_column
+back_from x E = fun_ext (λ a. fun_ext (λ b. from_there x E (x + a) b (omega arith) ∙ ap (λ k. E k b) {x = x + a - x} {y = a} (omega arith)))
+
+pub span_there : (x : ℕ) (E : Field) (span : Span) (y : ℕ) → has_span E 0 span y ≡ has_span (to_column x E) x span y
+unfolding has_span
+span_there x E span y = each (columns_of span)
+  where
+    each : (columns : List ℕ) → list_all (λ c. E (0 + c) y) columns ≡ list_all (λ c. to_column x E (x + c) y) columns
+    each [] = refl
+    each (c ∷ columns) = ap₂ ◌&&◌ (ap (λ k. E k y) {x = 0 + c} {y = x + c - x} (omega arith) ∙ sym (from_there x E (x + c) y (omega arith))) (each columns)
+
+pub without_there : (x : ℕ) (E : Field) (span : Span) (y : ℕ) → to_column x (without_span E 0 span y) ≡ without_span (to_column x E) x span y
+unfolding without_span
+without_there x E span y = fun_ext (λ a. fun_ext (λ b. elim (cases_lt a x) [
+  | inl before ↦ none_before x (λ a b. E a b && not (list_any (λ c. 0 + c == a) (columns_of span) && y == b)) a b before ∙ sym (and_left _ _ (none_before x E a b before))
+  | inr from ↦ from_there x (λ a b. E a b && not (list_any (λ c. 0 + c == a) (columns_of span) && y == b)) a b from
+      ∙ ap₂ (λ p q. p && not (q && y == b)) (sym (from_there x E a b from)) (each a from (columns_of span))
+]))
+  where
+    each : (a : ℕ) → x ≤ a → (columns : List ℕ) → list_any (λ c. 0 + c == a - x) columns ≡ list_any (λ c. x + c == a) columns
+    each a from [] = refl
+    each a from (c ∷ columns) = ap₂ ◌||◌
+        (same_from_both (0 + c == a - x) (x + c == a)
+        (λ e. let eq : 0 + c ≡ a - x = eqb-true _ _ e in eq-eqb _ _ (omega (arith, from)))
+        (λ e. let eq : x + c ≡ a = eqb-true _ _ e in eq-eqb _ _ (omega arith)))
+        (each a from columns)
+
+-- the first cell
+pub first_there : (x : ℕ) (E : Field) (d y : ℕ) → ((a b : ℕ) → E a b ≡ true → x + a ≤ 9) → IsFirst E d y → IsFirst (to_column x E) (x + d) y
+first_there x E d y within first = record {
+  filled = at d y ∙ first.filled;
+  column = within d y first.filled;
+  row = first.row;
+  leftmost = λ a b left. elim (cases_lt a x) [
+    | inl before ↦ none_before x E a b before
+    | inr from ↦ from_there x E a b from ∙ first.leftmost (a - x) b (omega (arith, left, from))
+  ];
+  lowest = λ b below. at d b ∙ first.lowest b below;
+}
+  where
+    at : (a b : ℕ) → to_column x E (x + a) b ≡ E a b
+    at a b = from_there x E (x + a) b (omega arith) ∙ ap (λ k. E k b) {x = x + a - x} {y = a} (omega arith)
+
+pub none_there : (x : ℕ) (E : Field) → HasNoCell E → HasNoCell (to_column x E)
+unfolding to_column
+none_there x E none = record { none = λ a b. and_right (nat_le x a) _ (none.none (a - x) b) }
+
+-- no column before that cell is lost
+pub counted_from : (x : ℕ) (E : Field) (d y : ℕ) → IsFirst E d y → to_column (x + d) (from_column d E) ≡ to_column x E
+unfolding from_column
+counted_from x E d y first = fun_ext (λ a. fun_ext (λ b. elim (cases_lt a (x + d)) [
+  | inl before ↦ none_before (x + d) (λ a b. E (d + a) b) a b before ∙ sym (elim (cases_lt a x) [
+    | inl outside ↦ none_before x E a b outside
+    | inr from ↦ from_there x E a b from ∙ first.leftmost (a - x) b (omega (arith, before, from))
+  ])
+  | inr from ↦ from_there (x + d) (λ a b. E (d + a) b) a b from ∙ ap (λ k. E k b) {x = d + (a - (x + d))} {y = a - x} (omega (arith, from)) ∙ sym (from_there x E a b (omega (arith, from)))
+]))
+
+-- the cells lie in columns 0 to 9 and rows 0 to 7
+pub shifted_small : (s : Shifted) → IsSmall 8 (shifted_cells s)
+unfolding to_column
+shifted_small s = record {
+  column = λ a b here. let parts = and_parts (nat_le s.x a) _ here in omega (arith, leb-true s.x a parts.0, s.within (a - s.x) b parts.1);
+  row = λ a b here. (cells_small s.cells).row (a - s.x) b (and_parts (nat_le s.x a) _ here).1;
+}
+
+-- both have a tiling, or none has
+pub tiled_there : (s : Shifted) (supply : Supply) → Tiling (all_but (empty_cells s.cells)) 8 supply ↔ Tiling (all_but (shifted_cells s)) 8 supply
+tiled_there s supply = subst (λ (E : Field). Tiling (all_but E) 8 supply ↔ Tiling (all_but (shifted_cells s)) 8 supply) (back_from s.x (empty_cells s.cells))
+    (both_moved (shifted_cells s) s.x (shifted_small s) (λ a b before. none_before s.x (empty_cells s.cells) a b before) supply)

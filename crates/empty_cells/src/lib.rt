@@ -1,0 +1,22 @@
+// Sets of empty cells, and how the rows of pieces take cells from them. What a search for tilings stands on.
+#![tactic(auto)]
+
+mod columns;
+mod empties;
+mod mirror;
+mod pivots;
+mod place;
+mod placed;
+mod rows;
+mod shifted;
+mod span;
+mod supply;
+
+pub use empties::Empties;
+pub use mirror::mirrored_supply;
+pub use pivots::Pivots;
+pub use place::place_of;
+pub use rows::{allowed, has_row, lowest_row, without_row};
+pub use shifted::Shifted;
+pub use span::Span;
+pub use supply::{SupplyWord, without_one};

@@ -1,0 +1,8 @@
+-- The lemmas of this crate.
+mod MarkLemmas
+mod FirstCells
+mod MirroredPieces
+mod WalkLemmas
+mod WalkSteps
+mod WalkRows
+mod WalkGains
