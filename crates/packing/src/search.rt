@@ -78,6 +78,9 @@ impl Empties {
         if known.is_empty() || self.is_few() {
             return self.covers(y, supply, known);
         }
+        if self.has_uneven_start() {
+            return false;
+        }
         if self.has_wrong_parity(supply) {
             return false;
         }
