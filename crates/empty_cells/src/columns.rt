@@ -33,7 +33,7 @@ impl Empties {
     /// Whether a number of cells before a wall is not a multiple of four, with the wall behind one of the first four
     /// columns. Then there is no tiling. A piece that takes cells of column 0 makes no other wall.
     #[inline(always)]
-    pub(crate) fn has_uneven_start(&self) -> bool
+    pub fn has_uneven_start(&self) -> bool
         ensures { IsTrue result → (supply : Supply)
             → Tiling (all_but (empty_cells self.now)) 8 supply → ⊥ }
     {

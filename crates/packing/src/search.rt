@@ -73,6 +73,9 @@ fn recall(cells: &Empties, y: u8, supply: SupplyWord, known: &mut [Decided]) -> 
     if known.is_empty() || cells.is_few() {
         return covers(cells, y, supply, known);
     }
+    if cells.has_uneven_start() {
+        return false;
+    }
     if cells.has_wrong_parity(supply) {
         return false;
     }
