@@ -1,10 +1,11 @@
 -- What a reader must believe
 pub mod Empties
--- What serves proofs alone
+-- What contracts cite beside these: views of values, and readings and tests, each with its law
 pub mod Pivots
 pub mod SupplyWords
 pub mod Spans
 pub mod ShiftedCells
-pub mod ShapeBits
 pub mod Stacks
 pub mod HasTiling
+-- What serves proofs alone
+pub mod ShapeBits

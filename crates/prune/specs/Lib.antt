@@ -7,5 +7,4 @@ pub mod Walls
 pub mod Laws
 -- What contracts cite beside these: views of values, and readings and tests, each with its law
 pub mod OnePart
--- What serves proofs alone
 pub mod Mirror

@@ -6,6 +6,7 @@ pub mod Rows
 pub mod RowsFaults
 pub mod Counts
 pub mod Well
+-- What contracts cite beside these: views of values, and readings and tests, each with its law
+pub mod CellBits
 -- What serves proofs alone
 pub mod RowsReading
-pub mod CellBits
