@@ -1,5 +1,4 @@
 -- No word so far.
-use Rattle.key_path.specs.Known.{KeepsNone}
 use Rattle.std.proofs.Common.{◌≡◌, None, All}
 use Rattle.key_path.proofs.known.Known.new.Given as goal
 
