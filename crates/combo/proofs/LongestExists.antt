@@ -12,7 +12,6 @@ use Rattle.std.proofs.lemmas.List.{length-map}
 use Rattle.lane_board.specs.Field.{Field}
 use Rattle.lists.proofs.CallerLemmas.{Contains-cases, Contains-filter, Contains-flat_map, Contains-from_filter, Contains-from_flat_map, Contains-from_map, Contains-here, Contains-map, Contains-none, Contains-there}
 use Rattle.srs.specs.declared.piece.Piece.{Piece}
-use Rattle.srs.specs.declared.piece.Piece.TheVariants.{I, L, O, Z, T, J, S}
 use Rattle.srs.specs.declared.placement.Placement.{Placement}
 use Rattle.srs.specs.Kick.{Table}
 use Rattle.srs.specs.Order.{sequence_cmp}
@@ -28,7 +27,7 @@ use Rattle.moves.proofs.CallerLemmas.{is_place-decides, place-free}
 use Rattle.hold_queue.specs.declared.hold.Hold.{Hold}
 use Rattle.hold_queue.specs.AtHand.{at_hand}
 use Rattle.hold_queue.specs.Permits.{permits}
-use Rattle.hold_queue.proofs.CallerLemmas.{permits-decides, takes-length, takes-of_permits}
+use Rattle.hold_queue.proofs.CallerLemmas.{Contains-piece, permits-decides, takes-length, takes-of_permits}
 use Rattle.combo.specs.Longest.{IsLongest, IsPermittedRun}
 use Rattle.combo.specs.Runs.{Runs}
 
@@ -131,15 +130,6 @@ the_best one (two ∷ list) =
 
 -- ---- all runs of at most so many placements
 
-in_all_pieces : (piece : Piece) → Contains all_pieces piece
-in_all_pieces I = (0, omega arith, refl)
-in_all_pieces L = (1, omega arith, refl)
-in_all_pieces O = (2, omega arith, refl)
-in_all_pieces Z = (3, omega arith, refl)
-in_all_pieces T = (4, omega arith, refl)
-in_all_pieces J = (5, omega arith, refl)
-in_all_pieces S = (6, omega arith, refl)
-
 module _ (table : Table) (mode : DropMode) where
   steps_on : Field → Placement → Bool
   steps_on F q = is_place table F mode q && nat_le 1 (rows_removed F q)
@@ -184,7 +174,7 @@ module _ (table : Table) (mode : DropMode) where
   among_all : (F : Field) (q : Placement) → IsPlace table F mode q → Contains all_placements q
   unfolding all_placements
   among_all F q place =
-      Contains-flat_map placements_of all_pieces q.piece q (in_all_pieces q.piece)
+      Contains-flat_map placements_of all_pieces q.piece q (Contains-piece q.piece)
       (((placements_of-list q.piece).members q).1 (record { kind = refl; canonical = place.canonical; inside = free_inside F q (place-free table F mode q place) }))
 
   has_runs : (k : ℕ) (F : Field) (run : List Placement) → length run ≤ k → Runs table mode F run → Contains (runs_within k F) run

@@ -7,7 +7,7 @@ use Rattle.std.proofs.lemmas.Bool.{cases_Bool, false_from_ne_true, false≢true,
 use Rattle.lane_board.specs.Field.{Field, with_cell}
 use Rattle.lane_board.specs.FullRows.{columns, is_full, full_below, without_full_rows}
 use Rattle.lane_board.specs.CellCount.{cell_count}
-use Rattle.lane_board.proofs.CallerLemmas.{cell_count-le, cell_count-with, cell_from_full, full_below-le, full_below-other, lowered_from, lowered_to, same_from_both, takes_ten_each}
+use Rattle.lane_board.proofs.CallerLemmas.{cell_count-le, cell_count-with, cell_from_full, full_above, full_below-le, full_below-other, lowered_from, lowered_to, same_from_both, takes_ten_each}
 use Rattle.srs.specs.declared.placement.Placement.{Placement}
 use Rattle.srs.specs.Kick.{Table}
 use Rattle.srs.specs.Cells.{cells_of}
@@ -22,7 +22,7 @@ use Rattle.moves.proofs.CallerLemmas.{place-free}
 use Rattle.combo.specs.Room.{HasWalls, open_gaps}
 use Rattle.combo.specs.Runs.{Runs}
 use Rattle.combo.proofs.RoomCells.{Has, Crossing, crosses_height, high_or_none, within_three, within_two}
-use Rattle.combo.proofs.RoomRows.{cell_count-more, cells_left, columns_le, columns_less, comes_from, comes_from_above, full_above, same_above, same_row}
+use Rattle.combo.proofs.RoomRows.{cell_count-more, cells_left, columns_le, columns_less, comes_from, comes_from_above, same_above, same_row}
 
 -- ---- rows
 

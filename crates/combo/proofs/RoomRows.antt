@@ -1,12 +1,12 @@
 -- Rows and cells after full rows are removed below a height at and above which none is full.
-use Rattle.std.proofs.Common.{◌≡◌, ℕ, zero, suc, ◌+◌, ◌-◌, ◌*◌, ◌<◌, ◌≤◌, Bool, true, false, cond, count_by, get_or, List, [], ◌∷◌, length, subst, ap, ◌∙◌, inl, inr, arith}
+use Rattle.std.proofs.Common.{◌≡◌, ℕ, zero, suc, ◌+◌, ◌*◌, ◌<◌, ◌≤◌, Bool, true, false, cond, count_by, get_or, List, [], ◌∷◌, length, subst, ap, ◌∙◌, inl, inr, arith}
 use Rattle.std.proofs.Math.Path.{fun_ext}
 use Rattle.std.proofs.lemmas.Bool.{cases_Bool, cases_eq, cases_order, false_from_ne_true}
 use Rattle.std.proofs.lemmas.List.Sums.{sum_by-cons}
 use Rattle.lane_board.specs.Field.{Field}
 use Rattle.lane_board.specs.FullRows.{columns, is_full, full_below, without_full_rows}
 use Rattle.lane_board.specs.CellCount.{row_count, cell_count}
-use Rattle.lane_board.proofs.CallerLemmas.{cell_count-above, cell_count-same, column_is, full_below-full, full_below-other, left_below, lowered_from, lowered_to, same_from_both, takes_ten_each}
+use Rattle.lane_board.proofs.CallerLemmas.{cell_count-above, cell_count-same, column_is, full_below-full, full_below-other, full_rises, left_below, lowered_from, lowered_rises, lowered_to, one_row, same_from_both, takes_ten_each}
 
 -- ---- counts
 
@@ -38,28 +38,6 @@ same_above F G height (suc more) same =
     omega (arith, ap (cell_count F) size, ap (cell_count G) size, row, same_above F G height more same)
 
 -- ---- rows
-
--- among so many more rows there are at most so many more full ones
-full_steps : (G : Field) (m more : ℕ) → full_below G (m + more) ≤ full_below G m + more
-full_steps G m zero = let size : m + 0 ≡ m = omega arith in omega (arith, ap (full_below G) size)
-full_steps G m (suc more) = let size : m + suc more ≡ suc (m + more) = omega arith in elim (cases_Bool (is_full G (m + more))) [
-  | inl full ↦ omega (arith, ap (full_below G) size, full_below-full G (m + more) full, full_steps G m more)
-  | inr other ↦ omega (arith, ap (full_below G) size, full_below-other G (m + more) other, full_steps G m more)
-]
-
-full_rises : (G : Field) (a b : ℕ) → a ≤ b → full_below G b + a ≤ full_below G a + b
-full_rises G a b below = let size : a + (b - a) ≡ b = omega arith in omega (arith, ap (full_below G) size, full_steps G a (b - a))
-
--- a row that isn't full stays below the rows that were above it
-lowered_rises : (G : Field) (a b : ℕ) → is_full G a ≡ false → a < b → a + full_below G b < b + full_below G a
-lowered_rises G a b stays below = omega (arith, full_rises G (suc a) b (omega arith), full_below-other G a stays)
-
--- no row from the height on is full, so no more go
-pub full_above : (G : Field) (height more : ℕ) → ((y : ℕ) → height ≤ y → is_full G y ≡ false) → full_below G (height + more) ≡ full_below G height
-full_above G height zero none = ap (full_below G) (omega arith)
-full_above G height (suc more) none =
-    let size : height + suc more ≡ suc (height + more) = omega arith in
-    ap (full_below G) size ∙ full_below-other G (height + more) (none (height + more) (omega arith)) ∙ full_above G height more none
 
 -- a row that is left below the new height comes from one below the height
 comes_from_below : (G : Field) (height row y : ℕ) → y + full_below G height < height → y + full_below G row ≡ row → row < height
@@ -115,15 +93,6 @@ same_row G height y x within from = same_from_both _ _ (λ filled.
     let was = lowered_from G 23 x y filled in
     subst (λ row. G x row ≡ true) (one_row G y was.row from.row was.stays from.stays was.lowered from.lowered) was.filled
     ) (λ filled. lowered_to G 23 x y (record { row = from.row; below = omega (arith, from.below, within); filled = filled; stays = from.stays; lowered = from.lowered }))
-  where
-    one_row : (G : Field) (y a b : ℕ) → is_full G a ≡ false → is_full G b ≡ false → y + full_below G a ≡ a → y + full_below G b ≡ b → a ≡ b
-    one_row G y a b stays_a stays_b from_a from_b = elim (cases_order a b) [
-      | inl same ↦ same
-      | inr apart ↦ elim apart [
-        | inl below ↦ absurd (omega (arith, from_a, from_b, lowered_rises G a b stays_a below))
-        | inr above ↦ absurd (omega (arith, from_a, from_b, lowered_rises G b a stays_b above))
-      ]
-    ]
 
 -- a row that is left at or above the new height comes from one at or above the height
 pub comes_from_above : (G : Field) (height row y : ℕ) → height ≤ y + full_below G height → is_full G row ≡ false → y + full_below G row ≡ row → height ≤ row

@@ -1,6 +1,6 @@
 -- A tree has the kept lists after one more is kept.
 use Rattle.std.proofs.Common.{◌≡◌, ℕ, true, List, reverse, sym, subst, ◌∙◌, inl, inr}
-use Rattle.std.specs.Cmp.Derive.{one_truth}
+use Rattle.lane_board.proofs.CallerLemmas.{same_from_both}
 use Rattle.srs.specs.declared.piece.Piece.{Piece}
 use Rattle.cover.specs.declared.node.Node.{Node}
 use Rattle.cover.specs.Covered.{Keeps}
@@ -19,7 +19,7 @@ grown-of old new lists tree grows of = record { each = λ kinds. grows.spelled 0
 pub kept-of : (old new : List Node) (lists kept : List (List Piece)) (kinds : List Piece) (node : ℕ) → IsTree old → LeadsTo old (reverse kinds) node → Ends old new node → Keeps lists kept kinds
     → IsTreeOf old lists → IsTreeOf new kept
 kept-of old new lists kept kinds node tree leads ends keeps of = record {
-  each = λ other. one_truth _ _
+  each = λ other. same_from_both _ _
       (λ spelled. elim (spells-only old new kinds node tree leads ends other spelled) [
         | inl before ↦ has-old lists kept kinds other keeps (sym (of.each other) ∙ before)
         | inr is ↦ subst (λ k. has_kinds kept k ≡ true) (sym is) (has-item lists kept kinds keeps)

@@ -1,6 +1,5 @@
 -- Lists of kinds that are the same, and a list that is kept.
 use Rattle.std.proofs.Common.{◌≡◌, ◌⊎◌, Bool, true, false, ◌||◌, ◌==◌, List, [], ◌∷◌, ◌++◌, Contains, map, if◌then◌else◌, refl, sym, ap, subst, ◌∙◌, inl, inr}
-use Rattle.std.specs.Cmp.Derive.{one_truth}
 use Rattle.std.specs.List.{list_any}
 use Rattle.std.proofs.lemmas.Bool.{and_parts, and_from, both_ways, eqb-true, eq-eqb, or_left, or_right}
 use Rattle.std.proofs.lemmas.List.Folds.{list_any-append}
@@ -9,6 +8,7 @@ use Rattle.std.proofs.lemmas.List.{map-append}
 use Rattle.arrayvec.specs.ArrayVec.{ArrayVec}
 use Rattle.indexmap.specs.IndexSet.{insert_key}
 use Rattle.indexmap.proofs.CallerLemmas.{Contains-list_any}
+use Rattle.lane_board.proofs.CallerLemmas.{same_from_both}
 use Rattle.srs.specs.declared.piece.Piece.{Piece}
 use Rattle.srs.specs.Piece.{piece_code}
 use Rattle.srs.proofs.CallerLemmas.{piece_code-injective}
@@ -60,7 +60,7 @@ equal_kinds kinds others = pointwise eq-value.it kinds.items others.items
 equal-is_same : (kinds others : List Piece) → pointwise eq-value.it kinds others ≡ same_kinds kinds others
 equal-is_same kinds others =
     let decides = pointwise_decides equal-decides kinds others in
-    one_truth _ _
+    same_from_both _ _
     (λ equal. subst (λ l. same_kinds kinds l ≡ true) (decides.0 equal) (same_kinds-itself kinds))
     (λ same. decides.1 (same_kinds-true kinds others same))
 

@@ -4,14 +4,9 @@ use Rattle.std.proofs.lemmas.Bool.{cases_Bool, cases_lt, le-ltb}
 use Rattle.std.proofs.Math.Path.{fun_ext}
 use Rattle.lane_board.specs.Field.{Field, difference, rows_below}
 use Rattle.lane_board.specs.FullRows.{is_full, full_below, without_full_rows}
-use Rattle.lane_board.proofs.CallerLemmas.{full_below-full, full_below-other, lowered_from, lowered_to}
+use Rattle.lane_board.proofs.CallerLemmas.{full_below-full, full_below-other, lowered_from, lowered_to, same_from_both}
 use Rattle.srs.specs.declared.placement.Placement.{Placement}
 use Rattle.well.specs.Lock.{locked, rows_removed, together}
-
-same-answer : (a b : Bool) → (a ≡ true → b ≡ true) → (b ≡ true → a ≡ true) → a ≡ b
-same-answer true b on back = sym (on refl)
-same-answer false true on back = back refl
-same-answer false false on back = refl
 
 module _ (G : Field) (none : full_below G 23 ≡ 0) where
   rises : (n : ℕ) → full_below G n ≤ full_below G (suc n)
@@ -35,7 +30,7 @@ module _ (G : Field) (none : full_below G 23 ≡ 0) where
   ]
 
   all-stay : (x y : ℕ) → y < 23 → without_full_rows G 23 x y ≡ G x y
-  all-stay x y below = same-answer (without_full_rows G 23 x y) (G x y)
+  all-stay x y below = same_from_both (without_full_rows G 23 x y) (G x y)
       (λ left.
       let was = lowered_from G 23 x y left in
       let row : was.row ≡ y = omega (arith, was.lowered, none-below (23 - was.row) was.row (omega (arith, was.below))) in
