@@ -32,11 +32,9 @@ impl Frame {
         requires { IsTrue (may_play (queues_in_play self.now.line.queues) piece) }
         ensures { queues_in_play result.queues ≡ line_after (queues_in_play self.now.line.queues) piece }
     {
-        if let Some(after) = self.after_kind {
-            if let Some(line) = after.line {
-                if after.kind.code() == piece.code() {
-                    return line;
-                }
+        if let Some(kind) = self.next_kind {
+            if kind.code() == piece.code() {
+                return self.next_line;
             }
         }
         self.line.after(piece)
@@ -44,9 +42,9 @@ impl Frame {
 
     /// Whether the line after a piece of this kind is kept.
     fn keeps_line(&self, piece: Piece) -> bool {
-        match self.after_kind {
+        match self.next_kind {
             None => false,
-            Some(after) => after.line.is_some() && after.kind.code() == piece.code(),
+            Some(kind) => kind.code() == piece.code(),
         }
     }
 
@@ -61,11 +59,10 @@ impl Frame {
         self.after_kind = Some(AfterKind {
             kind: piece,
             supply: supply_after(&self.supply, piece, self.left),
-            line: None,
         });
     }
 
-    /// Keeps the line after a piece of this kind too, if a placement is to come after it.
+    /// Keeps the line after a piece of this kind, if a placement is to come after it.
     pub fn keep_line(&mut self, piece: Piece)
         requires { IsTrue (may_play (queues_in_play self.old.line.queues) piece) }
         ensures same { SamePosition self.old self.new }
@@ -74,10 +71,7 @@ impl Frame {
         if self.left == 0 || self.keeps_line(piece) {
             return;
         }
-        self.after_kind = Some(AfterKind {
-            kind: piece,
-            supply: self.supply_after(piece),
-            line: Some(self.line.after(piece)),
-        });
+        self.next_line = self.line.after(piece);
+        self.next_kind = Some(piece);
     }
 }

@@ -10,7 +10,7 @@ ghost use Rattle.hold_queue.specs.QueueSet.{queues_in_play};
 ghost use Rattle.hold_queue.specs.Supply.{supply_of};
 ghost use Rattle.prune.specs.Tiling.{supply_in};
 ghost use Rattle.empty_cells.specs.Empties.{empty_cells};
-ghost use Rattle.enumerate.specs.Position.{may_play};
+ghost use Rattle.enumerate.specs.Position.{line_after, may_play};
 ghost use Rattle.enumerate.specs.Standing.{may_lock};
 ghost use Rattle.enumerate.specs.AfterKind.{IsAfterKind};
 
@@ -18,7 +18,7 @@ use crate::after_kind::AfterKind;
 use crate::line::Line;
 use empty_cells::Empties;
 use reach::LowPlaces;
-use srs::Placement;
+use srs::{Piece, Placement};
 use well::Well;
 
 /// A position, how many kinds were tried there, and the places of the last of them with the one that was entered last.
@@ -34,8 +34,11 @@ pub struct Frame {
     pub supply: [u8; 7],
     /// How many placements come after the next one.
     pub left: u8,
-    /// What may still be played after a piece of the kind that was flooded last, if it is known.
+    /// How many pieces may still be played after one of the kind that was flooded last, if that is known.
     pub after_kind: Option<AfterKind>,
+    /// The kind after which `next_line` is the line, if a place of some kind was entered.
+    pub next_kind: Option<Piece>,
+    pub next_line: Line,
     /// How many kinds were tried.
     pub tried: u8,
     pub places: Option<LowPlaces>,
@@ -45,7 +48,9 @@ pub struct Frame {
     ghost bounded: { LiesBelow (filled well) rows },
     ghost emptied: { empty_cells empties ≡ difference (rows_below rows) (filled well) },
     ghost supplied: { supply_in supply ≡ supply_of (queues_in_play line.queues) (left + 1) },
-    ghost followed: { ForSome after_kind (IsAfterKind (queues_in_play line.queues) supply left) },
+    ghost followed: { ForSome after_kind (IsAfterKind supply left) },
+    ghost lined: { ForSome next_kind (λ kind. queues_in_play next_line.queues
+        ≡ line_after (queues_in_play line.queues) kind) },
     ghost lockable: { ForSome places (λ p. (q : Placement) → IsTrue (holds p q) →
         IsTrue (may_lock (filled well) (piece_of p) q)) },
     ghost held_below: { ForSome places (λ p. (q : Placement) → IsTrue (holds p q) → IsTrue (is_below rows q)) },

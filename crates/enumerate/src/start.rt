@@ -75,14 +75,17 @@ fn first_frame(problem: &Problem, queue: &Option<Queue>) -> Frame
         Some(queue) => QueueSet::start_one(queue, problem.hold, problem.held),
     };
     let left = needed(problem).saturating_sub(1);
+    let line = Line::of(queues);
     Frame {
         well: problem.well,
         rows: problem.height,
         empties: Empties::below(&problem.well, problem.height),
-        line: Line::of(queues),
+        line,
         supply: queues.supply(left + 1),
         left,
         after_kind: None,
+        next_kind: None,
+        next_line: line,
         tried: 0,
         places: None,
         entered: None,

@@ -170,6 +170,7 @@ impl Frame {
         child.line = self.line_after(placement.piece);
         child.supply = supply;
         child.after_kind = None;
+        child.next_kind = None;
         child.left = self.left - 1;
         child.tried = 0;
         child.places = None;

@@ -17,13 +17,13 @@ invariant_of-result-clause-bounded c = record { none = (filled-low c.args.proble
 
 pub invariant_of-result-clause-supplied : goal.invariant_of-result-clause-supplied
 invariant_of-result-clause-supplied c = ap supply_in c.supply.ensures ∙ supplies-read (queues_in_play c.match-queue.queues) (c.saturating_sub-left.result + 1)
-    ∙ ap (λ set. supply_of (queues_in_play set) (c.saturating_sub-left.result + 1)) (sym c.of.ensures)
+    ∙ ap (λ set. supply_of (queues_in_play set) (c.saturating_sub-left.result + 1)) (sym c.of-line.ensures)
 
 pub returns-clause-position : goal.returns-clause-position
 unfolding position_of
 returns-clause-position c =
     first-position c.args.problem.now (items_of c.args.queue.now) _
-    (ap queues_in_play c.of.ensures ∙ elim c.match-queue.branch [
+    (ap queues_in_play c.of-line.ensures ∙ elim c.match-queue.branch [
       | in-None w ↦ ap queues_in_play w.queues-is ∙ w.start-queues.ensures ∙ sym (ap (λ q. line_at c.args.problem.now (items_of q)) w.in-None.is)
       | in-Some w ↦ ap queues_in_play w.queues-is ∙ w.start_one-queues.ensures ∙ sym (ap (λ q. line_at c.args.problem.now (items_of q)) w.in-Some.is)
     ])

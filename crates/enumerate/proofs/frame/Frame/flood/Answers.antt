@@ -19,6 +19,7 @@ invariant_of-self g c = record {
   bounded = c.args.self.now.bounded;
   emptied = c.args.self.now.emptied;
   followed = c.args.self.now.followed;
+  lined = c.args.self.now.lined;
   supplied = c.args.self.now.supplied;
   lockable = λ x is. subst (λ p. Lockable (filled c.args.self.now.well) p) (some_same is)
       (flooded-lockable (flood_table c.args.rules.now) (filled c.args.self.now.well) c.args.drop_mode c.args.piece c.places_below.result c.places_below.ensures.piece c.args.self.now.rows c.places_below.ensures.held);

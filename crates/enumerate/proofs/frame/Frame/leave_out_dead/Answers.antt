@@ -31,6 +31,7 @@ invariant_of-self c =
       bounded = frame.bounded;
       emptied = frame.emptied;
       followed = frame.followed;
+      lined = frame.lined;
       supplied = frame.supplied;
       lockable = λ x is. subst (λ p. Lockable (filled frame.well) p) (some_same is)
           (λ q held. subst (λ p. may_lock (filled frame.well) p q ≡ true) (sym c.leave_out.ensures.piece) (frame.lockable places c.in-Some.is q (was q held)));

@@ -33,6 +33,7 @@ invariant_of-self-2 g c = record {
   bounded = c.flood.new.self.bounded;
   emptied = c.flood.new.self.emptied;
   followed = c.flood.new.self.followed;
+  lined = c.flood.new.self.lined;
   supplied = c.flood.new.self.supplied;
   lockable = c.flood.new.self.lockable;
   held_below = c.flood.new.self.held_below;

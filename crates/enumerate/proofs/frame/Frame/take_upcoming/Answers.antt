@@ -1,6 +1,7 @@
 -- The next held placement is the first of those that are left.
-use Rattle.std.proofs.Common.{refl}
+use Rattle.std.proofs.Common.{refl, sym, ap, ◌∙◌}
 use Rattle.srs.proofs.CallerLemmas.{placements_of-list}
+use Rattle.lists.proofs.CallerLemmas.{some_same}
 use Rattle.well.specs.Well.{filled}
 use Rattle.place_sets.specs.LowPlaces.{piece_of}
 use Rattle.enumerate.specs.Frames.{places_left}
@@ -19,3 +20,10 @@ returns-in-None-clause-next c = (rw c.in-None.is refl, rw c.in-None.is refl)
 pub returns-in-Some-clause-next : goal.returns-in-Some-clause-next
 returns-in-Some-clause-next c =
     upcoming-taken c.args.self.now c.in-Some.places c.take_above.new.places c.in-Some.is c.take_above.ensures.piece c.take_above.result c.take_above.ensures.next
+
+pub invariant_of-self-in-Some-clause-lined : goal.invariant_of-self-in-Some-clause-lined
+invariant_of-self-in-Some-clause-lined c = c.args.self.now.lined
+
+pub invariant_of-self-in-Some-clause-same_piece : goal.invariant_of-self-in-Some-clause-same_piece
+invariant_of-self-in-Some-clause-same_piece c = λ x is q entered.
+    c.args.self.now.same_piece c.in-Some.places c.in-Some.is q entered ∙ sym c.take_above.ensures.piece ∙ ap piece_of (some_same is)

@@ -21,6 +21,7 @@ invariant_of-self c = record {
   bounded = c.take_upcoming.new.self.bounded;
   emptied = c.take_upcoming.new.self.emptied;
   followed = c.take_upcoming.new.self.followed;
+  lined = c.take_upcoming.new.self.lined;
   supplied = c.take_upcoming.new.self.supplied;
   lockable = c.take_upcoming.new.self.lockable;
   held_below = c.take_upcoming.new.self.held_below;
