@@ -87,15 +87,16 @@ fn all_counts(
 }
 
 impl Marks {
-    /// Nothing is known yet about the empty cells of a position.
-    fn new(alloc: Global, position: &Position) -> Marks
-        ensures { result.position ≡ position.now }
+    /// Nothing is known yet about the empty cells of a position. There is room for this many marks.
+    fn new(alloc: Global, position: &Position, room: usize) -> Result<Marks, NoMemory>
+        ensures { IfOk result (λ marks. marks.position ≡ position.now) }
     {
-        Marks {
+        let known = Vec::with_capacity(alloc, room)?;
+        Ok(Marks {
             position: *position,
             cells: Empties::below(&position.well, position.rows),
-            known: Vec::new(alloc),
-        }
+            known,
+        })
     }
 
     /// Whether nothing is known.
@@ -256,8 +257,9 @@ pub fn marks_of(
     requires { left ≤ 20 }
     ensures { IfOk result (λ marks. marks.position ≡ position.now) }
 {
-    let mut marks = Marks::new(alloc, position);
-    for counts in &all_counts(alloc, hands, left + 2, most_counts(position.rows, left))? {
+    let all = all_counts(alloc, hands, left + 2, most_counts(position.rows, left))?;
+    let mut marks = Marks::new(alloc, position, all.len())?;
+    for counts in &all {
         marks.find(store, *counts)?;
     }
     Ok(marks)
