@@ -204,10 +204,10 @@ prove() {
 
 build() {
     look_around
-    local sum signal minutes=$((64 / jobs > 17 ? 64 / jobs : 17))
+    local sum signal minutes=$((32 / jobs > 8 ? 32 / jobs : 8))
     start=$SECONDS
     say "$1: proving and building it, $jobs at a time"
-    say "from nothing this takes about $minutes minutes; when it is stopped, the next ./pc goes on from there"
+    say "from nothing this takes $minutes to $((2 * minutes)) minutes; when it is stopped, the next ./pc goes on from there"
     sum=$(sum_of_sources)
     : >"$log"
     for signal in INT TERM HUP; do
