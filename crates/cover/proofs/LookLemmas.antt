@@ -7,7 +7,7 @@ use Rattle.hold_queue.specs.declared.hand.Taken.{Taken}
 use Rattle.hold_queue.specs.declared.hold.Hold.{Hold}
 use Rattle.hold_queue.specs.declared.hold.Hold.TheVariants.{Allowed, Avoided}
 use Rattle.hold_queue.specs.AtHand.{Take, Takes}
-use Rattle.hold_queue.specs.Hand.{HasSameFront, IsFirst, IsSecond, IsTakenBy, pieces_at}
+use Rattle.hold_queue.specs.Hand.{HasSameFront, TakesFirst, TakesSecond, IsTakenBy, pieces_at}
 use Rattle.hold_queue.proofs.CallerLemmas.{same-itself, same-shorter, take-cases, take-of_first, take-of_second}
 use Rattle.cover.specs.declared.node.Node.{Node}
 use Rattle.cover.specs.Nodes.{child, has_end, spells}
@@ -40,8 +40,8 @@ takes-one nodes hold at piece pieces rest taken below = record {
 -- how a list is taken, by its first piece
 abbrev Begins : List Node → Hold → ℕ → List Piece → Type 0
 Begins nodes hold at pieces =
-    ((piece : Piece) × (rest : List Piece) × IsFirst pieces piece rest × TakesBelow nodes hold at piece rest)
-    ⊎ ((piece : Piece) × (rest : List Piece) × (hold ≡ Allowed) × IsSecond pieces piece rest × TakesBelow nodes hold at piece rest)
+    ((piece : Piece) × (rest : List Piece) × TakesFirst pieces piece rest × TakesBelow nodes hold at piece rest)
+    ⊎ ((piece : Piece) × (rest : List Piece) × (hold ≡ Allowed) × TakesSecond pieces piece rest × TakesBelow nodes hold at piece rest)
 
 taken-begins : (nodes : List Node) (hold : Hold) (at : ℕ) (pieces kinds : List Piece) → has_end nodes at ≡ false → spells nodes at kinds ≡ true → Takes hold pieces kinds → Begins nodes hold at pieces
 taken-begins nodes hold at pieces [] open_end spelled taken = let ended = here-spells nodes at spelled in cc
@@ -82,7 +82,7 @@ module _ (nodes : List Node) (hold : Hold) (at : ℕ) (queue : List Piece) (hand
     | inr second ↦ let both : [] ≡ second.3.0 ∷ second.0 ∷ second.3.1 = sym none ∙ second.3.2 in cc
   ])
 
-  module _ (first : Taken) (is : IsTakenBy IsFirst queue hand first) where
+  module _ (first : Taken) (is : IsTakenBy TakesFirst queue hand first) where
     pub found-first : TakesBelow nodes hold at first.piece (pieces_at queue first.rest) → TakesOne nodes hold at (pieces_at queue hand)
     found-first below =
         takes-one nodes hold at first.piece (pieces_at queue hand) (pieces_at queue first.rest)
@@ -90,7 +90,7 @@ module _ (nodes : List Node) (hold : Hold) (at : ℕ) (queue : List Piece) (hand
 
     -- not by the first piece
     not-first : (other : List Piece) (piece : Piece) (rest : List Piece) → HasSameFront first.rest.drawn queue other → (TakesBelow nodes hold at first.piece (pieces_at other first.rest) → ⊥)
-        → IsFirst (pieces_at other hand) piece rest → TakesBelow nodes hold at piece rest → ⊥
+        → TakesFirst (pieces_at other hand) piece rest → TakesBelow nodes hold at piece rest → ⊥
     not-first other piece rest front none found below =
         let same : piece ∷ rest ≡ first.piece ∷ pieces_at other first.rest = sym found ∙ is.each other front in
         let kind : piece ≡ first.piece = cc in
@@ -114,7 +114,7 @@ module _ (nodes : List Node) (hold : Hold) (at : ℕ) (queue : List Piece) (hand
         | inr found ↦ omega (arith, few, ap length found.3.2)
       ])
 
-      module _ (second : Taken) (next : IsTakenBy IsSecond queue hand second) where
+      module _ (second : Taken) (next : IsTakenBy TakesSecond queue hand second) where
         pub found-second : hold ≡ Allowed → TakesBelow nodes hold at second.piece (pieces_at queue second.rest) → TakesOne nodes hold at (pieces_at queue hand)
         found-second allowed below =
             takes-one nodes hold at second.piece (pieces_at queue hand) (pieces_at queue second.rest)
@@ -122,9 +122,9 @@ module _ (nodes : List Node) (hold : Hold) (at : ℕ) (queue : List Piece) (hand
 
         -- not by the second piece
         not-second : (other : List Piece) (piece : Piece) (rest : List Piece) → HasSameFront second.rest.drawn queue other → (TakesBelow nodes hold at second.piece (pieces_at other second.rest) → ⊥)
-            → IsSecond (pieces_at other hand) piece rest → TakesBelow nodes hold at piece rest → ⊥
+            → TakesSecond (pieces_at other hand) piece rest → TakesBelow nodes hold at piece rest → ⊥
         not-second other piece rest front none found below =
-            let is : IsSecond (pieces_at other hand) second.piece (pieces_at other second.rest) = next.each other front in
+            let is : TakesSecond (pieces_at other hand) second.piece (pieces_at other second.rest) = next.each other front in
             let same : found.0 ∷ piece ∷ found.1 ≡ is.0 ∷ second.piece ∷ is.1 = sym found.2 ∙ is.2 in
             let kind : piece ≡ second.piece = cc in
             let before : found.0 ≡ is.0 = cc in

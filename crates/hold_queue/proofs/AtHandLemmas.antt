@@ -7,7 +7,7 @@ use Rattle.hold_queue.specs.declared.hold.Hold.TheVariants.{Allowed, Avoided}
 use Rattle.hold_queue.specs.Permits.{Way, plain, exchange, first_hold, last, Permits, permits}
 use Rattle.hold_queue.proofs.PermitsTest.{permits-decides}
 use Rattle.hold_queue.specs.AtHand.{at_hand, Take, take_first, take_second, Takes}
-use Rattle.hold_queue.specs.Hand.{IsFirst, IsSecond}
+use Rattle.hold_queue.specs.Hand.{TakesFirst, TakesSecond}
 
 -- each way takes one of the pieces at hand, and leaves those at hand of what it leaves
 take-of_plain : (hold : Hold) (piece : Piece) (queue : List Piece) (held : Option Piece) → Take hold (at_hand hold held (piece ∷ queue)) piece (at_hand hold held queue)
@@ -65,15 +65,15 @@ permits-held piece queue pieces =
 pub take-nothing : (hold : Hold) (piece : Piece) (rest : List Piece) → Take hold [] piece rest → ⊥
 take-nothing hold piece rest taken = elim taken [ ]
 
-pub take-cases : (hold : Hold) (pieces : List Piece) (piece : Piece) (rest : List Piece) → Take hold pieces piece rest → IsFirst pieces piece rest ⊎ ((hold ≡ Allowed) × IsSecond pieces piece rest)
+pub take-cases : (hold : Hold) (pieces : List Piece) (piece : Piece) (rest : List Piece) → Take hold pieces piece rest → TakesFirst pieces piece rest ⊎ ((hold ≡ Allowed) × TakesSecond pieces piece rest)
 take-cases hold [] piece rest taken = elim taken [ ]
 take-cases hold (first ∷ pieces) piece rest take_first = inl refl
 take-cases Allowed (first ∷ second ∷ later) piece rest take_second = inr (refl, (first, later, refl, refl))
 
-pub take-of_first : (hold : Hold) (pieces : List Piece) (piece : Piece) (rest : List Piece) → IsFirst pieces piece rest → Take hold pieces piece rest
+pub take-of_first : (hold : Hold) (pieces : List Piece) (piece : Piece) (rest : List Piece) → TakesFirst pieces piece rest → Take hold pieces piece rest
 take-of_first hold pieces piece rest first = subst (λ l. Take hold l piece rest) (sym first) take_first
 
-pub take-of_second : (hold : Hold) (pieces : List Piece) (piece : Piece) (rest : List Piece) → hold ≡ Allowed → IsSecond pieces piece rest → Take hold pieces piece rest
+pub take-of_second : (hold : Hold) (pieces : List Piece) (piece : Piece) (rest : List Piece) → hold ≡ Allowed → TakesSecond pieces piece rest → Take hold pieces piece rest
 take-of_second hold pieces piece rest allowed second =
     let here : Take Allowed (second.0 ∷ piece ∷ second.1) piece (second.0 ∷ second.1) = take_second in
     subst (λ h. Take h pieces piece rest) (sym allowed)

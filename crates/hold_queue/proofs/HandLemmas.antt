@@ -11,7 +11,7 @@ use Rattle.hold_queue.specs.declared.hand.Taken.{Taken}
 use Rattle.hold_queue.specs.declared.hold.Hold.{Hold}
 use Rattle.hold_queue.specs.declared.hold.Hold.TheVariants.{Allowed, Avoided}
 use Rattle.hold_queue.specs.AtHand.{at_hand, Take}
-use Rattle.hold_queue.specs.Hand.{AreAllTakes, HasSameFront, IsFirst, IsFirstAtHand, IsSecond, IsSecondAtHand, IsTakenBy, Leaves, pieces_at}
+use Rattle.hold_queue.specs.Hand.{AreAllTakes, HasSameFront, TakesFirst, IsFirstAtHand, TakesSecond, IsSecondAtHand, IsTakenBy, Leaves, pieces_at}
 use Rattle.hold_queue.proofs.AtHandLemmas.{take-cases, take-nothing, take-of_first, take-of_second}
 
 -- ---- queues that begin with the same pieces
@@ -69,7 +69,7 @@ count-some queue hand piece held = ap (λ k. length (option_to_list k ++ drop ha
 abbrev left : Piece → Option Piece → ℕ → Taken
 left piece held drawn = record { piece = piece; rest = record { held = held; drawn = drawn } }
 
-pub held-first : (queue : List Piece) (hand : Hand) (piece : Piece) → hand.held ≡ Some piece → IsTakenBy IsFirst queue hand (left piece None hand.drawn)
+pub held-first : (queue : List Piece) (hand : Hand) (piece : Piece) → hand.held ≡ Some piece → IsTakenBy TakesFirst queue hand (left piece None hand.drawn)
 unfolding pieces_at
 held-first queue hand piece held = record {
   later = omega arith;
@@ -77,7 +77,7 @@ held-first queue hand piece held = record {
   each = λ other front. ap (λ k. option_to_list k ++ drop hand.drawn other) held;
 }
 
-pub drawn-first : (queue : List Piece) (hand : Hand) (piece : Piece) → hand.held ≡ None → hand.drawn < length queue → slice_get queue hand.drawn ≡ Some piece → IsTakenBy IsFirst queue hand (left piece None (hand.drawn + 1))
+pub drawn-first : (queue : List Piece) (hand : Hand) (piece : Piece) → hand.held ≡ None → hand.drawn < length queue → slice_get queue hand.drawn ≡ Some piece → IsTakenBy TakesFirst queue hand (left piece None (hand.drawn + 1))
 unfolding pieces_at
 drawn-first queue hand piece none within there = record {
   later = omega arith;
@@ -94,8 +94,8 @@ pub none-first : (queue : List Piece) (hand : Hand) → hand.held ≡ None → l
 unfolding pieces_at
 none-first queue hand none used_up = ap (λ k. option_to_list k ++ drop hand.drawn queue) none ∙ drop_of_length-le queue used_up
 
-pub then-second : (queue : List Piece) (hand : Hand) (first second : Taken) → IsTakenBy IsFirst queue hand first → IsTakenBy IsFirst queue first.rest second → second.rest.held ≡ None
-    → IsTakenBy IsSecond queue hand (left second.piece (Some first.piece) second.rest.drawn)
+pub then-second : (queue : List Piece) (hand : Hand) (first second : Taken) → IsTakenBy TakesFirst queue hand first → IsTakenBy TakesFirst queue first.rest second → second.rest.held ≡ None
+    → IsTakenBy TakesSecond queue hand (left second.piece (Some first.piece) second.rest.drawn)
 unfolding pieces_at
 then-second queue hand first second one two none = record {
   later = omega (arith, one.later, two.later);
@@ -109,7 +109,7 @@ then-second queue hand first second one two none = record {
   );
 }
 
-pub first-held : (queue : List Piece) (hand : Hand) (first : Taken) → IsTakenBy IsFirst queue hand first → first.rest.held ≡ None
+pub first-held : (queue : List Piece) (hand : Hand) (first : Taken) → IsTakenBy TakesFirst queue hand first → first.rest.held ≡ None
     → pieces_at queue (record { held = Some first.piece; drawn = first.rest.drawn }) ≡ pieces_at queue hand
 unfolding pieces_at
 first-held queue hand first is none =
@@ -117,19 +117,19 @@ first-held queue hand first is none =
 
 -- ---- all ways to take a piece
 
-leaves-first : (queue pieces : List Piece) (taken : Taken) (piece : Piece) (rest : List Piece) → IsFirst pieces taken.piece (pieces_at queue taken.rest) → IsFirst pieces piece rest → Leaves queue (Some taken) piece rest
+leaves-first : (queue pieces : List Piece) (taken : Taken) (piece : Piece) (rest : List Piece) → TakesFirst pieces taken.piece (pieces_at queue taken.rest) → TakesFirst pieces piece rest → Leaves queue (Some taken) piece rest
 leaves-first queue pieces taken piece rest is found =
     let same : taken.piece ∷ pieces_at queue taken.rest ≡ piece ∷ rest = sym is ∙ found in
     let kind : taken.piece ≡ piece = cc in
     let others : pieces_at queue taken.rest ≡ rest = cc in
     (kind, others)
 
-first-leaves : (hold : Hold) (queue pieces : List Piece) (taken : Taken) (piece : Piece) (rest : List Piece) → IsFirst pieces taken.piece (pieces_at queue taken.rest) → Leaves queue (Some taken) piece rest
+first-leaves : (hold : Hold) (queue pieces : List Piece) (taken : Taken) (piece : Piece) (rest : List Piece) → TakesFirst pieces taken.piece (pieces_at queue taken.rest) → Leaves queue (Some taken) piece rest
     → Take hold pieces piece rest
 first-leaves hold queue pieces taken piece rest is leaves =
     take-of_first hold pieces piece rest (is ∙ ap (λ p. p ∷ pieces_at queue taken.rest) leaves.0 ∙ ap (λ l. piece ∷ l) leaves.1)
 
-leaves-second : (queue pieces : List Piece) (taken : Taken) (piece : Piece) (rest : List Piece) → IsSecond pieces taken.piece (pieces_at queue taken.rest) → IsSecond pieces piece rest → Leaves queue (Some taken) piece rest
+leaves-second : (queue pieces : List Piece) (taken : Taken) (piece : Piece) (rest : List Piece) → TakesSecond pieces taken.piece (pieces_at queue taken.rest) → TakesSecond pieces piece rest → Leaves queue (Some taken) piece rest
 leaves-second queue pieces taken piece rest is found =
     let same : is.0 ∷ taken.piece ∷ is.1 ≡ found.0 ∷ piece ∷ found.1 = sym is.2 ∙ found.2 in
     let first : is.0 ≡ found.0 = cc in
@@ -137,7 +137,7 @@ leaves-second queue pieces taken piece rest is found =
     let later : is.1 ≡ found.1 = cc in
     (kind, is.3 ∙ ap (λ p. p ∷ is.1) first ∙ ap (λ l. found.0 ∷ l) later ∙ sym found.3)
 
-second-leaves : (hold : Hold) (queue pieces : List Piece) (taken : Taken) (piece : Piece) (rest : List Piece) → hold ≡ Allowed → IsSecond pieces taken.piece (pieces_at queue taken.rest)
+second-leaves : (hold : Hold) (queue pieces : List Piece) (taken : Taken) (piece : Piece) (rest : List Piece) → hold ≡ Allowed → TakesSecond pieces taken.piece (pieces_at queue taken.rest)
     → Leaves queue (Some taken) piece rest → Take hold pieces piece rest
 second-leaves hold queue pieces taken piece rest allowed is leaves =
     subst (λ l. Take hold pieces piece l) leaves.1
@@ -154,14 +154,14 @@ one-way hold queue hand None none alone = record {
 }
 one-way hold queue hand (Some first) is alone = record { each = λ piece rest. (to piece rest, from piece rest) }
   where
-    here : IsFirst (pieces_at queue hand) first.piece (pieces_at queue first.rest)
+    here : TakesFirst (pieces_at queue hand) first.piece (pieces_at queue first.rest)
     here = is.each queue (same-itself first.rest.drawn queue)
 
     to : (piece : Piece) (rest : List Piece) → Leaves queue (Some first) piece rest ⊎ Leaves queue None piece rest → Take hold (pieces_at queue hand) piece rest
     to piece rest (inl leaves) = first-leaves hold queue (pieces_at queue hand) first piece rest here leaves
     to piece rest (inr leaves) = absurd leaves
 
-    none-second : (piece : Piece) (rest : List Piece) → hold ≡ Allowed → IsSecond (pieces_at queue hand) piece rest → ⊥
+    none-second : (piece : Piece) (rest : List Piece) → hold ≡ Allowed → TakesSecond (pieces_at queue hand) piece rest → ⊥
     none-second piece rest allowed second = elim alone [
       | inl avoided ↦ let both : Avoided ≡ Allowed = sym avoided ∙ allowed in cc
       | inr few ↦ omega (arith, few, ap length second.2)
@@ -180,14 +180,14 @@ module _ (hold : Hold) (queue : List Piece) (hand : Hand) (first second : Option
   abbrev moved : Taken
   moved = record { piece = one.piece; rest = rest }
 
-  here : IsFirst (pieces_at queue hand) one.piece (pieces_at queue rest)
+  here : TakesFirst (pieces_at queue hand) one.piece (pieces_at queue rest)
   here =
-      let is : IsTakenBy IsFirst queue hand one = subst (IsFirstAtHand queue hand) one_is is_first in
+      let is : IsTakenBy TakesFirst queue hand one = subst (IsFirstAtHand queue hand) one_is is_first in
       is.each queue (same-itself one.rest.drawn queue) ∙ ap (λ l. one.piece ∷ l) (sym same)
 
-  next : IsSecond (pieces_at queue hand) other.piece (pieces_at queue other.rest)
+  next : TakesSecond (pieces_at queue hand) other.piece (pieces_at queue other.rest)
   next =
-      let is : IsTakenBy IsSecond queue hand other = subst (IsSecondAtHand queue hand) other_is is_second in
+      let is : IsTakenBy TakesSecond queue hand other = subst (IsSecondAtHand queue hand) other_is is_second in
       is.each queue (same-itself other.rest.drawn queue)
 
   either : (piece : Piece) (after : List Piece) → Leaves queue (Some moved) piece after ⊎ Leaves queue (Some other) piece after → Take hold (pieces_at queue hand) piece after

@@ -13,11 +13,11 @@ unfoldable pub pieces_at : List Piece → Hand → List Piece
 pieces_at queue hand = option_to_list hand.held ++ drop hand.drawn queue
 
 -- the first of some pieces, or the second, and the others
-abbrev pub IsFirst : List Piece → Piece → List Piece → Type 0
-IsFirst pieces piece rest = pieces ≡ piece ∷ rest
+abbrev pub TakesFirst : List Piece → Piece → List Piece → Type 0
+TakesFirst pieces piece rest = pieces ≡ piece ∷ rest
 
-abbrev pub IsSecond : List Piece → Piece → List Piece → Type 0
-IsSecond pieces piece rest =
+abbrev pub TakesSecond : List Piece → Piece → List Piece → Type 0
+TakesSecond pieces piece rest =
     (first : Piece) × (later : List Piece) × (pieces ≡ first ∷ piece ∷ later) × (rest ≡ first ∷ later)
 
 -- two queues have the same first so many pieces
@@ -34,11 +34,11 @@ pub record IsTakenBy (By : List Piece → Piece → List Piece → Type 0) (queu
 
 abbrev pub IsFirstAtHand : List Piece → Hand → Option Taken → Type 0
 IsFirstAtHand queue hand None = pieces_at queue hand ≡ []
-IsFirstAtHand queue hand (Some taken) = IsTakenBy IsFirst queue hand taken
+IsFirstAtHand queue hand (Some taken) = IsTakenBy TakesFirst queue hand taken
 
 abbrev pub IsSecondAtHand : List Piece → Hand → Option Taken → Type 0
 IsSecondAtHand queue hand None = length (pieces_at queue hand) ≤ 1
-IsSecondAtHand queue hand (Some taken) = IsTakenBy IsSecond queue hand taken
+IsSecondAtHand queue hand (Some taken) = IsTakenBy TakesSecond queue hand taken
 
 -- this piece is taken, and these are left
 abbrev pub Leaves : List Piece → Option Taken → Piece → List Piece → Type 0
