@@ -19,6 +19,9 @@ use srs::{Piece, Placement};
 use std::alloc::Global;
 use well::Well;
 
+/// How many questions with their answers a search keeps.
+const DECIDED: usize = 16384;
+
 /// How many questions without a tiling a search keeps.
 const DEAD: usize = 65_536;
 
@@ -40,7 +43,7 @@ impl Tilings {
     pub fn new(alloc: Global) -> Result<Tilings, NoMemory>
         ensures { IfOk result (λ tilings. kept tilings.dead ≡ []) }
     {
-        let decided = TilingStore::new(alloc)?;
+        let decided = TilingStore::with_places(alloc, DECIDED)?;
         let left = PlaceMemory::new(alloc)?;
         let dead = DeadMemo::new(alloc, DEAD)?;
         Ok(Tilings {

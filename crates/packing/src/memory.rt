@@ -16,7 +16,7 @@ use srs::{Piece, Placement};
 use std::alloc::Global;
 
 /// How many sets are remembered.
-const PLACES: usize = 8192;
+const PLACES: usize = 4096;
 
 /// Which placements of a piece leave a tiling of a set of cells by a supply, as far as that was asked.
 #[derive(Clone, Copy)]
@@ -108,13 +108,13 @@ impl Remembered {
 }
 
 /// The index at which a memory of this size keeps a question about a piece. For the same cells and the same supply the
-/// seven kinds have different indices: the first seven multiples of 1170 differ, and each is less than 8,192.
+/// seven kinds have different indices: the first seven multiples of 583 differ, and each is less than 4,096.
 #[inline(always)]
 fn place_of(cells: &Empties, supply: SupplyWord, piece: Piece, count: usize) -> usize
     requires { 0 < count }
     ensures { result < count }
 {
-    (empty_cells::place_of(cells, supply, count) ^ 1170 * piece.code() as usize) & (count - 1)
+    (empty_cells::place_of(cells, supply, count) ^ 583 * piece.code() as usize) & (count - 1)
 }
 
 /// Remembers which placements leave a tiling, by the cells, the supply and the piece. A later set evicts an earlier
@@ -122,7 +122,7 @@ fn place_of(cells: &Empties, supply: SupplyWord, piece: Piece, count: usize) -> 
 #[derive(Drop)]
 pub struct PlaceMemory {
     sets: Vec<Remembered>,
-    ghost room: { length sets.items ≡ 8192 },
+    ghost room: { length sets.items ≡ 4096 },
 }
 
 impl PlaceMemory {

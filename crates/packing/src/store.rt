@@ -9,7 +9,7 @@ use empty_cells::{Empties, SupplyWord, mirrored_supply};
 use pc_outside::NoMemory;
 use std::alloc::Global;
 
-/// How many questions a store keeps.
+/// How many questions a store keeps, if its size is not given.
 const PLACES: usize = 32768;
 
 /// Keeps the answers to questions that it was asked, each in one place. A later one evicts an earlier one.
@@ -21,7 +21,12 @@ pub struct TilingStore {
 impl TilingStore {
     /// An empty store. `NoMemory` if there is not enough memory.
     pub fn new(alloc: Global) -> Result<TilingStore, NoMemory> {
-        let decided = vec![in alloc; Decided::nothing(); PLACES]?;
+        TilingStore::with_places(alloc, PLACES)
+    }
+
+    /// An empty store that keeps this many questions, best a power of two. `NoMemory` if there is not enough memory.
+    pub fn with_places(alloc: Global, places: usize) -> Result<TilingStore, NoMemory> {
+        let decided = vec![in alloc; Decided::nothing(); places]?;
         Ok(TilingStore { decided })
     }
 
