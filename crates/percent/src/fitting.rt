@@ -89,12 +89,12 @@ fn place_of(counts: &Counts) -> usize
 }
 
 impl Verdicts {
-    /// Nothing has been found about these cells yet.
-    fn new(cells: Empties, near: u8) -> Verdicts
+    /// All that is known about these cells is that pieces with these counts may fill them.
+    fn new(cells: Empties, near: u8, counts: Counts) -> Verdicts
         ensures { result.cells ≡ cells }
     {
         let verdict = Verdict {
-            counts: [0; 8],
+            counts,
             may_fit: true,
         };
         Verdicts {
@@ -141,10 +141,11 @@ pub fn fitting(
     let cells = Empties::below(&position.well, position.rows);
     let pieces = left + 1;
     let near = position.near;
-    if !fills(tilings, &cells, near, &greatest_counts(hands, pieces)) {
+    let greatest = greatest_counts(hands, pieces);
+    if !fills(tilings, &cells, near, &greatest) {
         return Ok(v);
     }
-    let mut verdicts = Verdicts::new(cells, near);
+    let mut verdicts = Verdicts::new(cells, near, greatest);
     for hand in hands {
         if verdicts.may_fit(tilings, counts_of(*hand, pieces)) {
             v.push(*hand)?;

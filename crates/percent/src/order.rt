@@ -7,20 +7,24 @@ use srs::Piece;
 use std::cmp::Reverse;
 use well::Well;
 
-/// How rough the surface of a well is below row `rows`: the sum of the differences of neighbouring heights, plus four
-/// for each hole. Nothing relies on it except which position is tried first.
+/// How rough a well is below row `rows`: how often neighbouring cells of a row differ, with both sides of the field
+/// counted as filled, plus four for each empty cell right below a filled one. Nothing relies on it except which position
+/// is tried first.
 pub fn roughness(well: &Well, rows: u8) -> u32
     requires { rows ≤ 8 }
 {
     let board = well.board();
-    let mut covered = 0;
+    let mut above = 0;
     let mut sum = 0u32;
     for y in (0..rows).rev() {
         let row = board.row(y);
-        covered |= row;
-        let steps = ((covered ^ covered >> 1) & 511).count_ones();
-        let holes = (covered & !row).count_ones();
-        sum = sum.wrapping_add(steps).wrapping_add(holes.wrapping_mul(4));
+        let with_sides = row << 1 | 0x801;
+        let changes = ((with_sides ^ with_sides >> 1) & 0x7ff).count_ones();
+        let covered = (above & !row).count_ones();
+        sum = sum
+            .wrapping_add(changes)
+            .wrapping_add(covered.wrapping_mul(4));
+        above = row;
     }
     sum
 }

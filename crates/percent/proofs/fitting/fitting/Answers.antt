@@ -32,8 +32,8 @@ pub returns-then-not-fills-clause-members : goal.returns-then-not-fills-clause-m
 returns-then-not-fills-clause-members c = λ game.
     let p = c.args.position.now in
     none-kept c.new-v.result.items c.args.hands.now (is_good game (filled p.well) p.rows c.args.left)
-    (λ hand there. unfit game p c.below-cells.result c.greatest_counts.result c.args.left hand (c.args.left + 1) refl c.below-cells.ensures
-    (c.greatest_counts.ensures hand there) (λ tiled. false≢true (sym c.if-not-fills.true ∙ c.fills.ensures.1 tiled)))
+    (λ hand there. unfit game p c.below-cells.result c.greatest_counts-greatest.result c.args.left hand (c.args.left + 1) refl c.below-cells.ensures
+    (c.greatest_counts-greatest.ensures hand there) (λ tiled. false≢true (sym c.if-not-fills.true ∙ c.fills.ensures.1 tiled)))
     c.new-v.ensures.items
 
 pub loop-hand-preserved : goal.loop-hand-preserved
