@@ -51,7 +51,7 @@ fn first_position(problem: &Problem) -> Position
 fn room_for(hands: usize) -> usize
     ensures { 0 < result }
 {
-    hands.saturating_mul(4).clamp(8192, 262_144)
+    hands.saturating_mul(64).clamp(8192, 262_144)
 }
 
 /// Those of the hands that are good. If the number of empty cells below the height is not a multiple of four, there are
