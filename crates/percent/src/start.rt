@@ -47,11 +47,12 @@ fn first_position(problem: &Problem) -> Position
     }
 }
 
-/// For how many positions answers are kept, given how many hands are asked about.
-fn room_for(hands: usize) -> usize
+/// For how many positions answers are kept, given how many hands are asked about and how many placements are to come.
+fn room_for(hands: usize, left: u8) -> usize
     ensures { 0 < result }
 {
-    hands.saturating_mul(4).clamp(8192, 262_144)
+    let for_each = if left > 10 { 64 } else { 4 };
+    hands.saturating_mul(for_each).clamp(8192, 262_144)
 }
 
 /// Those of the hands that are good. If the number of empty cells below the height is not a multiple of four, there are
@@ -72,9 +73,9 @@ pub fn good_hands<L: Ledger>(
     if problem.well.empties_below(problem.height) % 4 != 0 {
         return Ok(Vec::new(alloc));
     }
-    let mut kept = Kept::new(alloc, game(problem), room_for(hands.len()))?;
-    let position = first_position(problem);
     let left = needed(problem);
+    let mut kept = Kept::new(alloc, game(problem), room_for(hands.len(), left))?;
+    let position = first_position(problem);
     let fit = fitting(alloc, &mut kept.tilings, &position, left, hands.as_slice())?;
     drop(hands);
     answered(alloc, &mut kept, &position, left, fit.as_slice(), steps)
