@@ -105,19 +105,33 @@ impl ParserState {
                 dx,
                 is_negative,
             } => rows(turned, test, dx, is_negative, byte),
-            ParserState::Whole { turned, test, .. } if test < 5 && byte == b'/' => Some(
-                ParserState::Columns {
-                    turned,
-                    test: test + 1,
-                    is_negative: false,
-                },
-            ),
-            ParserState::Whole { test, .. } if test == 5 && byte == b';' => Some(
-                ParserState::Division,
-            ),
+            ParserState::Whole {
+                turned,
+                test,
+                offset,
+            } => after_offset(turned, test, offset, byte),
             _ => None,
         }
     }
+}
+
+/// What stands behind the offset of a test: the `/` before the next one, or the `;` after the last.
+fn after_offset(turned: TurnedPiece, test: u8, offset: Offset, byte: u8) -> Option<ParserState>
+    requires { IsTrue (is_sound_state (ParserState.Whole turned test offset)) }
+    ensures next { result ≡ next_state (ParserState.Whole turned test offset) 0 byte }
+    ensures sound { IfSome result (λ state. IsTrue (is_sound_state state)) }
+{
+    if test < 5 && byte == b'/' {
+        return Some(ParserState::Columns {
+            turned,
+            test: test + 1,
+            is_negative: false,
+        });
+    }
+    if test == 5 && byte == b';' {
+        return Some(ParserState::Division);
+    }
+    None
 }
 
 /// The columns of an offset, or the `-` before them.
