@@ -1,11 +1,9 @@
--- One entry of a supply is one less.
-use Rattle.std.proofs.Common.{◌≡◌, ℕ, ◌+◌, ◌-◌, ◌<◌, ◌≤◌, List, length, get_or, set, refl, ap, ◌∙◌, sym, inl, inr, arith, get_or-set_same, get_or-set_other}
-use Rattle.std.proofs.Math.Path.{fun_ext}
-use Rattle.std.proofs.lemmas.Bool.{cases_eq, eq-eqb, ne_eqb, cond-true, cond-false}
+-- How many pieces a supply has, in all and after one is taken.
+use Rattle.std.proofs.Common.{◌≡◌, ℕ, ◌+◌, ◌-◌, ◌<◌, ◌≤◌, get_or, refl, ap, ◌∙◌, arith}
 use Rattle.srs.specs.declared.piece.Piece.{Piece}
 use Rattle.srs.specs.declared.piece.Piece.TheVariants.{I, L, O, Z, T, J, S}
 use Rattle.srs.specs.Piece.{all_pieces, piece_code}
-use Rattle.prune.specs.Tiling.{Supply, supply_in}
+use Rattle.prune.specs.Tiling.{Supply}
 use Rattle.prune.specs.OnePart.{less_one}
 
 pub code_from_one : (piece : Piece) → 1 ≤ piece_code piece
@@ -34,19 +32,6 @@ piece_in_all Z = refl
 piece_in_all T = refl
 piece_in_all J = refl
 piece_in_all S = refl
-
-pub one_less : (entries : List ℕ) (piece : Piece) → length entries ≡ 7 → supply_in (set entries (piece_code piece - 1) (get_or entries (piece_code piece - 1) 0 - 1)) ≡ less_one (supply_in entries) piece
-unfolding supply_in less_one
-one_less entries piece seven = fun_ext (λ other. elim (cases_eq (piece_code other) (piece_code piece)) [
-  | inl same ↦
-      ap (λ k. get_or (set entries (piece_code piece - 1) (get_or entries (piece_code piece - 1) 0 - 1)) (k - 1) 0) same
-      ∙ get_or-set_same entries (piece_code piece - 1) _ 0 (omega (arith, code_from_one piece, code_to_seven piece))
-      ∙ ap (λ k. get_or entries (k - 1) 0 - 1) (sym same)
-      ∙ sym (cond-true _ _ _ (eq-eqb _ _ (sym same)))
-  | inr different ↦
-      get_or-set_other entries (piece_code piece - 1) (piece_code other - 1) _ 0 (λ e. different (omega (arith, e, code_from_one piece, code_from_one other)))
-      ∙ sym (cond-false _ _ _ (ne_eqb _ _ (λ e. different (sym e))))
-])
 
 -- how many pieces there are
 abbrev pub total : Supply → ℕ

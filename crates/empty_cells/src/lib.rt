@@ -19,4 +19,4 @@ pub use place::place_of;
 pub use rows::{allowed, has_row, lowest_row, without_row};
 pub use shifted::Shifted;
 pub use span::Span;
-pub use supply::{SupplyWord, without_one};
+pub use supply::SupplyWord;

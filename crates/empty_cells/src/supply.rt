@@ -5,17 +5,6 @@ ghost use Rattle.prune.specs.Tiling.{supply_in};
 
 use srs::Piece;
 
-/// The supply with one piece of this kind fewer, if it has one.
-#[inline(always)]
-pub fn without_one(supply: &[u8; 7], piece: Piece) -> [u8; 7]
-    ensures { supply_in result ≡ less_one (supply_in supply.now) piece }
-{
-    let mut fewer = *supply;
-    let place = piece.code() as usize - 1;
-    fewer[place] = fewer[place].saturating_sub(1);
-    fewer
-}
-
 /// A supply in one word.
 #[derive(Clone, Copy)]
 pub struct SupplyWord {

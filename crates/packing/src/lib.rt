@@ -9,7 +9,7 @@ mod search;
 mod store;
 mod wells;
 
-pub use empty_cells::{Empties, without_one};
+pub use empty_cells::Empties;
 pub use memory::PlaceMemory;
 pub use search::has_tiling;
 pub use store::TilingStore;
