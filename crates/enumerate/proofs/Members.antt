@@ -13,9 +13,9 @@ use Rattle.hold_queue.specs.QueueSet.{QueuesPermit}
 use Rattle.problem.specs.Plays.{Plays}
 use Rattle.well.specs.LockLaws.{is_below}
 use Rattle.problem.specs.Solution.{pieces_of}
-use Rattle.hold_queue.proofs.CallerLemmas.{queues_permit-decides}
+use Rattle.hold_queue.proofs.CallerLemmas.{Contains-piece, queues_permit-decides}
 use Rattle.enumerate.specs.Position.{Position, after_of, can_be_tiled, may_play, is_live}
-use Rattle.problem.proofs.CallerLemmas.{IsLow, in_all_pieces, locked-low}
+use Rattle.problem.proofs.CallerLemmas.{IsLow, locked-low}
 use Rattle.enumerate.proofs.PermitLaws.{line_permits-front}
 use Rattle.enumerate.proofs.PlaceLaws.{lockable-listed, place-lockable}
 use Rattle.moves.proofs.CallerLemmas.{is_place-decides, place-free}
@@ -99,7 +99,7 @@ complete (suc left) n (q ∷ s) low solved =
     let permitted : QueuesPermit n.line ((n.line.played ++ q.piece ∷ []) ++ pieces_of s) = subst (QueuesPermit n.line) (sym (append_assoc n.line.played (q.piece ∷ []) (pieces_of s))) solved.permitted in
     let rest : IsSolved left (after_of n q) s = record { long = omega (arith, solved.long); plays = solved.plays.2; permitted = permitted } in
     subst (λ b. Contains (if b then flat_map (of_kind (sols left) n) all_pieces else []) (q ∷ s)) (sym (live-where_solved left n (q ∷ s) low solved))
-    (Contains-flat_map (of_kind (sols left) n) all_pieces q.piece (q ∷ s) (in_all_pieces q.piece)
+    (Contains-flat_map (of_kind (sols left) n) all_pieces q.piece (q ∷ s) (Contains-piece q.piece)
     (to_kind (sols left) n q (q ∷ s)
     (permits-may_play n q.piece (line_permits-front n.line (n.line.played ++ q.piece ∷ []) (pieces_of s) permitted))
     (lockable-listed n.field q.piece q (place-lockable n.table n.field n.mode q.piece q refl place))

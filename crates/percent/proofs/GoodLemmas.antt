@@ -19,12 +19,12 @@ use Rattle.moves.specs.PlaceTest.{is_place}
 use Rattle.hold_queue.specs.declared.hold.Hold.{Hold}
 use Rattle.hold_queue.specs.declared.hold.Hold.TheVariants.{Allowed, Avoided}
 use Rattle.hold_queue.specs.AtHand.{at_hand, Take, Takes, taken_from}
-use Rattle.hold_queue.proofs.CallerLemmas.{permits-of_takes, takes-of_permits, takes-is_cut}
+use Rattle.hold_queue.proofs.CallerLemmas.{Contains-piece, permits-of_takes, takes-of_permits, takes-is_cut}
 use Rattle.problem.specs.declared.problem.Problem.{Problem}
 use Rattle.problem.specs.Plays.{Plays}
 use Rattle.problem.specs.Problem.{IsFit, empties_of, needed_of}
 use Rattle.problem.specs.Solution.{pieces_of}
-use Rattle.problem.proofs.CallerLemmas.{IsLow, filled-low, locked-low, long-needed, needed-exact, in_all_pieces}
+use Rattle.problem.proofs.CallerLemmas.{IsLow, filled-low, locked-low, long-needed, needed-exact}
 use Rattle.well.proofs.CallerLemmas.{free_inside}
 use Rattle.moves.proofs.CallerLemmas.{is_place-decides as place-decides, place-free}
 use Rattle.percent.specs.declared.game.Game.{Game}
@@ -63,7 +63,7 @@ good-played game F rows hand (q ∷ s) plays taken =
     (place-listed game F q place) (and_from _ _ plays.1 rest) in
     any_passes (λ piece. takes game.hold (piece_code piece)
     (λ rest. list_any (λ q. is_below rows q && is_good game (locked F q) (rows - rows_removed F q) (length s) rest) (reached_places game F piece)) (number_of hand))
-    all_pieces q.piece (in_all_pieces q.piece)
+    all_pieces q.piece (Contains-piece q.piece)
     (takes-from game.hold hand q.piece taken.0 (λ rest. list_any (λ q. is_below rows q && is_good game (locked F q) (rows - rows_removed F q) (length s) rest) (reached_places game F q.piece)) taken.1 after)
 
 pub played-good : (game : Game) (F : Field) (rows left : ℕ) (hand : List Piece) → IsLow F rows → is_good game F rows left (number_of hand) ≡ true → Played game F rows left hand

@@ -1,4 +1,4 @@
 -- Lemmas that the crates above cite.
-pub use Rattle.problem.proofs.Game.{IsLow, filled-low, in_all_pieces, locked-low}
+pub use Rattle.problem.proofs.Game.{IsLow, filled-low, locked-low}
 pub use Rattle.problem.proofs.ListLaws.{next-first, next-none}
 pub use Rattle.problem.proofs.NeededCount.{long-needed, needed-exact, needed-few}

@@ -7,8 +7,6 @@ use Rattle.lane_board.specs.Field.{Field}
 use Rattle.lane_board.specs.FullRows.{columns}
 use Rattle.lane_board.specs.CellCount.{cell_count}
 use Rattle.srs.specs.declared.piece.Piece.{Piece}
-use Rattle.srs.specs.declared.piece.Piece.TheVariants.{I, L, O, Z, T, J, S}
-use Rattle.srs.specs.Piece.{all_pieces}
 use Rattle.srs.specs.declared.placement.Placement.{Placement}
 use Rattle.lists.proofs.CallerLemmas.{Contains-cases, Contains-none, Contains-range, find-false, find-true}
 use Rattle.well.specs.declared.well.Well.{Well}
@@ -23,15 +21,6 @@ use Rattle.well.proofs.CallerLemmas.{adds_four_cells, removes_below, stays_below
 pub record IsLow (F : Field) (rows : ℕ) : Type 0 where
   pub none : (x y : ℕ) → rows ≤ y → F x y ≡ false
   pub within : rows ≤ 23
-
-pub in_all_pieces : (piece : Piece) → Contains all_pieces piece
-in_all_pieces I = (0, omega arith, refl)
-in_all_pieces L = (1, omega arith, refl)
-in_all_pieces O = (2, omega arith, refl)
-in_all_pieces Z = (3, omega arith, refl)
-in_all_pieces T = (4, omega arith, refl)
-in_all_pieces J = (5, omega arith, refl)
-in_all_pieces S = (6, omega arith, refl)
 
 -- ---- where the lowest row with a cell is not found
 

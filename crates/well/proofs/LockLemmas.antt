@@ -9,7 +9,7 @@ use Rattle.std.proofs.lemmas.Int.{ints}
 use Rattle.lane_board.specs.Field.{Field, with_cell}
 use Rattle.lane_board.specs.FullRows.{full_below, without_full_rows}
 use Rattle.lane_board.specs.CellCount.{cell_count}
-use Rattle.lane_board.proofs.CallerLemmas.{takes_ten_each, or_none, cell_count-with, left_below, without_full_rows-empty, full_below-empty, full_below-le}
+use Rattle.lane_board.proofs.CallerLemmas.{takes_ten_each, or_none, cell_count-with, left_below, without_full_rows-empty, full_above, full_below-le, not_full_from_cell}
 use Rattle.srs.specs.declared.piece.Piece.{Piece}
 use Rattle.srs.specs.declared.rotation.Rotation.{Rotation}
 use Rattle.srs.specs.declared.placement.Placement.{Placement}
@@ -163,12 +163,6 @@ removal_above G height (suc k) none =
     let size : height + suc k ≡ suc (height + k) = omega arith in
     ap (without_full_rows G) size ∙ without_full_rows-empty G (height + k) (λ x. none x (height + k) (omega arith)) ∙ removal_above G height k none
 
-full_above : (G : Field) (height k : ℕ) → ((x y : ℕ) → height ≤ y → G x y ≡ false) → full_below G (height + k) ≡ full_below G height
-full_above G height zero none = ap (full_below G) (omega arith)
-full_above G height (suc k) none =
-    let size : height + suc k ≡ suc (height + k) = omega arith in
-    ap (full_below G) size ∙ full_below-empty G (height + k) (λ x. none x (height + k) (omega arith)) ∙ full_above G height k none
-
 -- a cell of the placement is not in row `height` or above
 below_cell : (q : Placement) (height x y : ℕ) → is_below height q ≡ true → height ≤ y → is_among (cells_of q) (pos x, pos y) ≡ false
 below_cell q height x y below above =
@@ -179,7 +173,7 @@ unfolding together
 together_below F q height below placed x y above = or_from _ _ (below.none x y above) (below_cell q height x y placed above)
 
 full_below_height : (G : Field) (height : ℕ) → height ≤ 23 → ((x y : ℕ) → height ≤ y → G x y ≡ false) → full_below G 23 ≡ full_below G height
-full_below_height G height within none = let size : 23 ≡ height + (23 - height) = omega arith in ap (full_below G) size ∙ full_above G height (23 - height) none
+full_below_height G height within none = let size : 23 ≡ height + (23 - height) = omega arith in ap (full_below G) size ∙ full_above G height (23 - height) (λ y above. not_full_from_cell G 0 y (omega arith) (none 0 y above))
 
 pub stays_below : StaysBelow
 unfolding locked rows_removed
