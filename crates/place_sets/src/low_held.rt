@@ -38,10 +38,7 @@ fn rows_under(board: &LaneBoard<24>, row: u8, rows: u8) -> u64
     ensures { (k : ℕ) → k < 64 → has_bit result k
         ≡ (field_of board.now (k % 16) (row + k / 16) && nat_lt k (16 * (rows - row))) }
 {
-    if rows <= row {
-        return 0;
-    }
-    in_low_rows(four_rows(board, row), rows - row)
+    in_low_rows(four_rows(board, row), rows.saturating_sub(row))
 }
 
 /// The placement whose pivot has this bit of this word.
