@@ -36,6 +36,22 @@ impl SupplyWord {
         (self.counts >> (8 * (piece.code() - 1)) & 255) as u8
     }
 
+    /// Its entries, in the order of piece codes.
+    #[inline(always)]
+    pub fn entries(self) -> [u8; 7]
+        ensures { supply_in result ≡ supply_of self }
+    {
+        [
+            self.count_of(Piece::I),
+            self.count_of(Piece::L),
+            self.count_of(Piece::O),
+            self.count_of(Piece::Z),
+            self.count_of(Piece::T),
+            self.count_of(Piece::J),
+            self.count_of(Piece::S),
+        ]
+    }
+
     /// How many pieces it has in all.
     #[inline(always)]
     pub(crate) fn pieces(self) -> u16

@@ -3,7 +3,6 @@ ghost use Rattle.std.specs.Prelude.{◌≡◌, ◌↔◌, ◌≤◌, ◌<◌, Is
 ghost use Rattle.lane_board.specs.Words.{cells_of_words};
 ghost use Rattle.srs.specs.declared.placement.Placement.{Placement};
 ghost use Rattle.srs.specs.Rotation.{rotation_place};
-ghost use Rattle.prune.specs.Tiling.{supply_in, Tiling};
 ghost use Rattle.empty_cells.specs.Empties.{all_but, empty_cells, without_placement};
 ghost use Rattle.empty_cells.specs.HasTiling.{has_tiling};
 ghost use Rattle.empty_cells.specs.Pivots.{has_pivot};
@@ -18,14 +17,15 @@ use std::alloc::Global;
 /// How many sets are remembered.
 const PLACES: usize = 4096;
 
-/// Which placements of a piece leave a tiling of a set of cells by a supply, as far as that was asked.
+/// Which placements of a piece leave a tiling of a set of cells by a supply, as far as that was asked. Those that leave
+/// none are asked for with each flood, so they stand beside the question.
 #[derive(Clone, Copy)]
 struct Remembered {
     cells: Empties,
     supply: SupplyWord,
     piece: Piece,
-    live: Pivots,
     dead: Pivots,
+    live: Pivots,
     ghost live_is_true: { (q : Placement) → q.piece ≡ piece → has_pivot live q ≡ true
         → has_tiling (all_but (without_placement (empty_cells cells) q)) 8 (supply_of supply) ≡ true },
     ghost dead_is_true: { (q : Placement) → q.piece ≡ piece → has_pivot dead q ≡ true
@@ -43,8 +43,8 @@ impl Remembered {
             cells: *cells,
             supply,
             piece,
-            live: Pivots::none(),
             dead: Pivots::none(),
+            live: Pivots::none(),
         }
     }
 
@@ -139,22 +139,21 @@ impl PlaceMemory {
         &mut self,
         cells: &Empties,
         placement: &Placement,
-        supply: &[u8; 7],
+        supply: SupplyWord,
         store: &mut TilingStore,
     ) -> bool
         requires column { placement.now.x ≤ 9 }
         requires row { placement.now.y ≤ 31 }
         ensures { result ≡ has_tiling (all_but (without_placement (empty_cells cells.now) placement.now)) 8
-            (supply_in supply.now) }
+            (supply_of supply) }
     {
-        let word = SupplyWord::new(supply);
-        let place = place_of(cells, word, placement.piece, self.sets.len());
-        if let Some(answer) = self.sets[place].answer_to(cells, word, placement) {
+        let place = place_of(cells, supply, placement.piece, self.sets.len());
+        if let Some(answer) = self.sets[place].answer_to(cells, supply, placement) {
             return answer;
         }
         let answer = store.has_tiling_near(&cells.without(placement), placement.x, supply);
         if placement.y < 8 {
-            self.sets[place].note(cells, word, placement, answer);
+            self.sets[place].note(cells, supply, placement, answer);
         }
         answer
     }
@@ -162,14 +161,13 @@ impl PlaceMemory {
     /// The placements of a piece that are remembered to leave no tiling, by their pivots in rows 0 to 7: two words for
     /// each rotation, in the order 0, R, 2, L, four rows in each word, and sixteen bits for each row.
     #[inline(always)]
-    pub fn dead_pivots(&self, cells: &Empties, supply: &[u8; 7], piece: Piece) -> [u64; 8]
+    pub fn dead_pivots(&self, cells: &Empties, supply: SupplyWord, piece: Piece) -> [u64; 8]
         ensures { (q : Placement) → q.piece ≡ piece
             → cells_of_words result (rotation_place q.rotation) q.x q.y ≡ true
-            → has_tiling (all_but (without_placement (empty_cells cells.now) q)) 8 (supply_in supply.now) ≡ false }
+            → has_tiling (all_but (without_placement (empty_cells cells.now) q)) 8 (supply_of supply) ≡ false }
     {
-        let word = SupplyWord::new(supply);
-        let known = &self.sets[place_of(cells, word, piece, self.sets.len())];
-        if known.is_about(cells, word, piece) {
+        let known = &self.sets[place_of(cells, supply, piece, self.sets.len())];
+        if known.is_about(cells, supply, piece) {
             return known.dead.words();
         }
         [0; 8]

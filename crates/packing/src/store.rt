@@ -2,6 +2,7 @@
 ghost use Rattle.std.specs.Prelude.{◌↔◌, IsTrue};
 ghost use Rattle.prune.specs.Tiling.{supply_in, Tiling};
 ghost use Rattle.empty_cells.specs.Empties.{all_but, empty_cells};
+ghost use Rattle.empty_cells.specs.SupplyWords.{supply_of};
 
 use crate::decided::Decided;
 use crate::search::decide;
@@ -36,20 +37,20 @@ impl TilingStore {
     pub fn has_tiling(&mut self, cells: &Empties, supply: &[u8; 7]) -> bool
         ensures { IsTrue result ↔ Tiling (all_but (empty_cells cells.now)) 8 (supply_in supply.now) }
     {
-        self.has_tiling_near(cells, 0, supply)
+        self.has_tiling_near(cells, 0, SupplyWord::new(supply))
     }
 
     /// The same, by a search that begins at the side nearer to a column.
-    pub fn has_tiling_near(&mut self, cells: &Empties, column: u8, supply: &[u8; 7]) -> bool
-        ensures { IsTrue result ↔ Tiling (all_but (empty_cells cells.now)) 8 (supply_in supply.now) }
+    pub fn has_tiling_near(&mut self, cells: &Empties, column: u8, supply: SupplyWord) -> bool
+        ensures { IsTrue result ↔ Tiling (all_but (empty_cells cells.now)) 8 (supply_of supply) }
     {
         if cells.has_uneven_part() {
             return false;
         }
         if !cells.lies_right(column) {
-            return decide(cells, SupplyWord::new(supply), &mut self.decided);
+            return decide(cells, supply, &mut self.decided);
         }
-        let mirrored = SupplyWord::new(&mirrored_supply(supply));
+        let mirrored = SupplyWord::new(&mirrored_supply(&supply.entries()));
         decide(&cells.mirrored(), mirrored, &mut self.decided)
     }
 }

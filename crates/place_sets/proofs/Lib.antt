@@ -10,4 +10,5 @@ mod WordsInUse
 mod PlaceNumbers
 mod TakeLemmas
 mod LowPlaceLemmas
+mod PieceIndex
 pub mod CallerLemmas

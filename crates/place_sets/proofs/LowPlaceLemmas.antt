@@ -22,7 +22,7 @@ use Rattle.moves.specs.Place.{IsPlace}
 use Rattle.place_sets.specs.PlaceSets.{ArePlaces}
 use Rattle.place_sets.specs.declared.low_held.LowPlaces.{LowPlaces}
 use Rattle.place_sets.specs.LowestBit.{IsLowestBit}
-use Rattle.place_sets.specs.LowPlaces.{holds}
+use Rattle.place_sets.specs.LowPlaces.{holds, piece_of}
 use Rattle.place_sets.specs.Scan.{state_number}
 use Rattle.place_sets.specs.States.{States, has_state}
 use Rattle.place_sets.specs.Tops.{rows_over_pivot}
@@ -63,13 +63,13 @@ module _ (words : List ℕ) (place x y : ℕ) where
   cell-from column row has = and_from _ _ (and_from _ _ (lt-ltb x 16 column) (lt-ltb y 8 row)) has
 
 module _ (places : LowPlaces) where
-  pub low_holds-parts : (q : Placement) → IsTrue (holds places q) → (q.piece ≡ places.piece) × (cells_of_words places.words (rotation_place q.rotation) q.x q.y ≡ true)
+  pub low_holds-parts : (q : Placement) → IsTrue (holds places q) → (q.piece ≡ piece_of places) × (cells_of_words places.words (rotation_place q.rotation) q.x q.y ≡ true)
   unfolding holds
   low_holds-parts q held =
-      let parts = and_parts (piece_code q.piece == piece_code places.piece) _ held in
-      (piece_code-injective q.piece places.piece (eqb-true _ _ parts.0), parts.1)
+      let parts = and_parts (piece_code q.piece == piece_code (piece_of places)) _ held in
+      (piece_code-injective q.piece (piece_of places) (eqb-true _ _ parts.0), parts.1)
 
-  pub low_holds-from : (q : Placement) → q.piece ≡ places.piece → cells_of_words places.words (rotation_place q.rotation) q.x q.y ≡ true → IsTrue (holds places q)
+  pub low_holds-from : (q : Placement) → q.piece ≡ piece_of places → cells_of_words places.words (rotation_place q.rotation) q.x q.y ≡ true → IsTrue (holds places q)
   unfolding holds
   low_holds-from q kind held = and_from _ _ (eq-eqb _ _ (ap (λ (p : Piece). piece_code p) kind)) held
 
@@ -97,7 +97,7 @@ same_place piece at bit s q within is kind narrow low word place =
 
 -- the lowest bit of the first word that has one
 module _ (places : LowPlaces) (at bit : ℕ) (small : at < 8) (within : bit < 64) (before : (w : ℕ) → w < at → get_or places.words w 0 ≡ 0)
-    (lowest : IsLowestBit (get_or places.words at 0) bit) (s : Placement) (is : IsAt places.piece at bit s) where
+    (lowest : IsLowestBit (get_or places.words at 0) bit) (s : Placement) (is : IsAt (piece_of places) at bit s) where
   first_held : IsTrue (holds places s)
   first_held =
       let word : at ≡ word_of (rotation_place s.rotation) s.y = omega (arith, is.rotation, is.row) in
@@ -132,7 +132,7 @@ module _ (places : LowPlaces) (at bit : ℕ) (small : at < 8) (within : bit < 64
   }
 
   -- it is taken out
-  module _ (new : LowPlaces) (kind : new.piece ≡ places.piece) (whole : length places.words ≡ 8) (word : ℕ) (changed : new.words ≡ set places.words at word)
+  module _ (new : LowPlaces) (kind : piece_of new ≡ piece_of places) (whole : length places.words ≡ 8) (word : ℕ) (changed : new.words ≡ set places.words at word)
       (bits : (k : ℕ) → k < 64 → has_bit word k ≡ (has_bit (get_or places.words at 0) k && not (k == bit))) where
     -- what bit a word has
     bit_in : (w k : ℕ) → k < 64 → has_bit (get_or new.words w 0) k ≡ (has_bit (get_or places.words w 0) k && not ((w == at) && (k == bit)))
@@ -193,7 +193,7 @@ module _ (places : LowPlaces) (at bit : ℕ) (small : at < 8) (within : bit < 64
                 let parts = low_holds-parts places q held in
                 let cell = cell-parts places.words (rotation_place q.rotation) q.x q.y parts.1 in
                 let both = and_parts (w == at) (k == bit) same in
-                absurd (apart (ap (λ (t : Placement). Some t) (same_place places.piece at bit s q within is parts.0 cell.0 cell.1 (eqb-true w at both.0) (eqb-true k bit both.1))))
+                absurd (apart (ap (λ (t : Placement). Some t) (same_place (piece_of places) at bit s q within is parts.0 cell.0 cell.1 (eqb-true w at both.0) (eqb-true k bit both.1))))
             other (inr none) = not_from_false _ none
 
 -- words that have lost the bits of others
@@ -252,7 +252,7 @@ cut_cells S words limit r lies low first second x y = same_from_both _ _ there b
         cell-from words (rotation_place r) x y column row (at column row ∙ has)
 
 -- the states that lie so low
-pub low_filled : (new : LowPlaces) (piece : Piece) (S : States) (rows : ℕ) → new.piece ≡ piece →
+pub low_filled : (new : LowPlaces) (piece : Piece) (S : States) (rows : ℕ) → piece_of new ≡ piece →
     ((r : Rotation) (x y : ℕ) → cells_of_words new.words (rotation_place r) x y ≡ (S r x y && nat_lt y (rows - rows_over_pivot piece r))) → (q : Placement) →
     IsTrue (holds new q) ↔ ((q.piece ≡ piece) × (has_state S q ≡ true) × IsTrue (is_below rows q))
 unfolding has_state
@@ -288,7 +288,7 @@ module _ (new : LowPlaces) (piece : Piece) (S : States) (rows : ℕ) (left : Lis
   cells Reverse = cut_cells S new.words (get_or left 2 0) Reverse (lies Reverse) (few Reverse) e f
   cells Left = cut_cells S new.words (get_or left 3 0) Left (lies Left) (few Left) g h
 
-  pub eight_filled : new.piece ≡ piece → (q : Placement) → IsTrue (holds new q) ↔ ((q.piece ≡ piece) × (has_state S q ≡ true) × IsTrue (is_below rows q))
+  pub eight_filled : piece_of new ≡ piece → (q : Placement) → IsTrue (holds new q) ↔ ((q.piece ≡ piece) × (has_state S q ≡ true) × IsTrue (is_below rows q))
   eight_filled kind = low_filled new piece S rows kind (λ r x y. cells r x y ∙ ap (λ limit. S r x y && nat_lt y limit) (limits r))
 
 -- the places among the states that lie so low

@@ -107,10 +107,9 @@ has_bit-without n bit k lowest = has_bit-and n (n - 1) k ∙ elim (cases_eq k bi
     and_all false = refl
 
 -- the lowest bits, so many of them
-pub has_bit-mask : (n count k : ℕ) → count < 64 → has_bit (bit_and n (1 * 2 ^ count % 2 ^ 64 - 1)) k ≡ (has_bit n k && nat_lt k count)
-has_bit-mask n count k few =
-    ap (λ m. has_bit (bit_and n (m - 1)) k) (one_shl count 64 few)
-    ∙ has_bit-and n (2 ^ count - 1) k
+pub has_bit-ones : (n count k : ℕ) → has_bit (bit_and n (2 ^ count - 1)) k ≡ (has_bit n k && nat_lt k count)
+has_bit-ones n count k =
+    has_bit-and n (2 ^ count - 1) k
     ∙ ap (λ b. has_bit n k && b) (elim (cases_lt k count) [
       | inl below ↦ true_from_bit _ k (bit_at_ones count k below) ∙ sym (lt-ltb k count below)
       | inr above ↦ false_from_bit _ k (bit_at_ones_above count k above) ∙ sym (le-ltb k count above)

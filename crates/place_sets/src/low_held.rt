@@ -2,6 +2,7 @@
 ghost use Rattle.std.specs.Prelude.{◌≡◌, ℕ, ◌*◌, ◌+◌, ◌-◌, ◌/◌, ◌%◌, ◌<◌, ◌≤◌, ◌&&◌, nat_lt};
 ghost use Rattle.lane_board.specs.Board.{field_of};
 ghost use Rattle.lane_board.specs.Lanes.{has_bit};
+ghost use Rattle.srs.specs.Piece.{piece_code};
 ghost use Rattle.srs.specs.Rotation.{rotation_place};
 
 use crate::pivots::Pivots;
@@ -14,10 +15,20 @@ use srs::{Piece, Placement};
 /// Canonical placements of one piece with the pivot in rows 0 to 7.
 #[derive(Clone, Copy)]
 pub struct LowPlaces {
-    piece: Piece,
+    /// The index of their piece in the order of codes. It takes a whole word, so that all parts of the set are words.
+    kind: u64,
     /// Their pivots: two words for each rotation, in the order 0, R, 2, L; four rows in each word, and sixteen bits for
     /// each row.
     words: [u64; 8],
+    ghost seven: { kind < 7 },
+}
+
+/// The index of a piece in the order of codes.
+#[inline(always)]
+fn kind_of(piece: Piece) -> u64
+    ensures { result ≡ piece_code piece - 1 }
+{
+    u64::from(piece.code() - 1)
 }
 
 /// Four rows of a board from this row on, without those at or above row `rows`.
@@ -27,10 +38,7 @@ fn rows_under(board: &LaneBoard<24>, row: u8, rows: u8) -> u64
     ensures { (k : ℕ) → k < 64 → has_bit result k
         ≡ (field_of board.now (k % 16) (row + k / 16) && nat_lt k (16 * (rows - row))) }
 {
-    if rows <= row {
-        return 0;
-    }
-    in_low_rows(four_rows(board, row), rows - row)
+    in_low_rows(four_rows(board, row), rows.saturating_sub(row))
 }
 
 /// The placement whose pivot has this bit of this word.
@@ -60,6 +68,15 @@ impl LowPlaces {
     ghost use Rattle.place_sets.specs.LowPlaces.{holds, piece_of};
     ghost use Rattle.place_sets.specs.States.{has_state, states_of};
 
+    /// Their piece.
+    #[tactic(auto, unfolding(crate::specs::LowPlaces::piece_of))]
+    #[inline(always)]
+    fn piece(&self) -> Piece
+        ensures { result ≡ piece_of self.now }
+    {
+        Piece::ALL[self.kind as usize]
+    }
+
     /// The placements of a piece with these pivots whose cells all lie below row `rows`.
     #[inline(always)]
     pub fn of_states(piece: Piece, states: &Pivots<24>, rows: u8) -> LowPlaces
@@ -70,7 +87,7 @@ impl LowPlaces {
     {
         let left = rows_left(piece, rows);
         LowPlaces {
-            piece,
+            kind: kind_of(piece),
             words: [
                 rows_under(&states.spawn, 0, left[0]),
                 rows_under(&states.spawn, 4, left[0]),
@@ -111,7 +128,7 @@ impl LowPlaces {
             Some(at) => {
                 let word = self.words[at];
                 self.words[at] = without_lowest(word);
-                Some(placement_at(self.piece, at, lowest_bit(word)))
+                Some(placement_at(self.piece(), at, lowest_bit(word)))
             }
         }
     }

@@ -68,13 +68,14 @@ pub(crate) fn bits_without(word: u64, others: u64) -> u64
     word ^ (word & others)
 }
 
-/// The bits of the first `rows` of the four rows of a word.
+/// All bits of the first rows of a word, for no row up to all four.
+const LOW_ROWS: [u64; 5] = [0, 0xffff, 0xffff_ffff, 0xffff_ffff_ffff, u64::MAX];
+
+/// The bits of the first `rows` of the four rows of a word. How many rows there are differs from word to word, so there
+/// is no branch.
 #[inline(always)]
 pub(crate) fn in_low_rows(word: u64, rows: u8) -> u64
     ensures { (k : ℕ) → k < 64 → has_bit result k ≡ (has_bit word k && nat_lt k (16 * rows)) }
 {
-    if rows >= 4 {
-        return word;
-    }
-    word & ((1 << (16 * rows)) - 1)
+    word & LOW_ROWS[usize::from(rows.min(4))]
 }

@@ -17,12 +17,12 @@ unfolding piece_of
 returns-clause-piece c = refl
 
 pub returns-clause-held : goal.returns-clause-held
-unfolding holds
+unfolding holds piece_of
 returns-clause-held c = λ q.
-    ap (λ b. (piece_code q.piece == piece_code c.args.self.now.piece) && b)
+    ap (λ b. (piece_code q.piece == piece_code (piece_of c.args.self.now)) && b)
     (cells-lost c.args.self.now.words _ c.args.pivots.now
     (each_word (λ w. (k : ℕ) → _ ≡ (has_bit (get_or c.args.self.now.words w 0) k && not (has_bit (get_or c.args.pivots.now w 0) k)))
     c.bits_without.ensures.bits c.bits_without-2.ensures.bits c.bits_without-3.ensures.bits c.bits_without-4.ensures.bits
     c.bits_without-5.ensures.bits c.bits_without-6.ensures.bits c.bits_without-7.ensures.bits c.bits_without-8.ensures.bits)
     (rotation_place q.rotation) q.x q.y (few_places q.rotation))
-    ∙ and_joined (piece_code q.piece == piece_code c.args.self.now.piece) _ _
+    ∙ and_joined (piece_code q.piece == piece_code (piece_of c.args.self.now)) _ _

@@ -1,5 +1,5 @@
 -- The lowest bit of the first word that has one is taken out.
-use Rattle.std.proofs.Common.{refl, arith}
+use Rattle.std.proofs.Common.{refl, ◌∙◌, arith}
 use Rattle.place_sets.specs.LowPlaces.{piece_of}
 use Rattle.place_sets.proofs.LowPlaceLemmas.{low_least, low_none, low_rest}
 use Rattle.place_sets.proofs.low_held.LowPlaces.take_least.Goals as goal
@@ -19,13 +19,15 @@ unfolding piece_of
 returns-in-Some-clause-piece c = refl
 
 pub returns-in-Some-clause-least : goal.returns-in-Some-clause-least
+unfolding piece_of
 returns-in-Some-clause-least c =
     low_least c.args.self.now c.in-Some.at c.lowest_bit.result c.in-Some.ensures.0 c.lowest_bit.ensures.below c.in-Some.ensures.2 c.lowest_bit.ensures.lowest c.placement_at.result
-    (record { kind = c.placement_at.ensures.piece; rotation = c.placement_at.ensures.rotation; row = c.placement_at.ensures.row; column = c.placement_at.ensures.column })
+    (record { kind = c.placement_at.ensures.piece ∙ c.piece.ensures; rotation = c.placement_at.ensures.rotation; row = c.placement_at.ensures.row; column = c.placement_at.ensures.column })
 
 pub returns-in-Some-clause-rest : goal.returns-in-Some-clause-rest
+unfolding piece_of
 returns-in-Some-clause-rest c =
     low_rest c.args.self.now c.in-Some.at c.lowest_bit.result c.in-Some.ensures.0 c.lowest_bit.ensures.below c.in-Some.ensures.2 c.lowest_bit.ensures.lowest c.placement_at.result
-    (record { kind = c.placement_at.ensures.piece; rotation = c.placement_at.ensures.rotation; row = c.placement_at.ensures.row; column = c.placement_at.ensures.column })
+    (record { kind = c.placement_at.ensures.piece ∙ c.piece.ensures; rotation = c.placement_at.ensures.rotation; row = c.placement_at.ensures.row; column = c.placement_at.ensures.column })
     _ refl (omega arith) c.without_lowest.result refl
     (λ k within. c.without_lowest.ensures.bits c.lowest_bit.result k c.lowest_bit.ensures.lowest within)
