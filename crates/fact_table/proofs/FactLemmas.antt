@@ -1,5 +1,5 @@
 -- What holds of all entries.
-use Rattle.std.proofs.Common.{◌≡◌, ℕ, List, Option, None, Some, length, replicate, get_or, sym, subst, inl, inr}
+use Rattle.std.proofs.Common.{ℕ, List, Option, None, Some, length, replicate, sym, subst, inl, inr}
 use Rattle.std.specs.Prelude.{IfSome}
 use Rattle.std.proofs.lemmas.Bool.{cases_lt}
 use Rattle.std.proofs.lemmas.List.{get_or_past}
