@@ -15,7 +15,7 @@ mod supply;
 pub use empties::Empties;
 pub use mirror::mirrored_supply;
 pub use pivots::Pivots;
-pub use place::place_of;
+pub use place::{hash_of, place_of};
 pub use rows::{allowed, has_row, lowest_row, without_row};
 pub use shifted::Shifted;
 pub use span::Span;

@@ -1,10 +1,12 @@
 // Decided questions: a set of cells and a supply, with the answer.
-ghost use Rattle.std.specs.Prelude.{◌≡◌};
+ghost use Rattle.std.specs.Prelude.{◌≡◌, ◌↔◌, IsTrue, IfSome};
+ghost use Rattle.prune.specs.Tiling.{Tiling};
 ghost use Rattle.empty_cells.specs.Empties.{all_but, empty_cells};
 ghost use Rattle.empty_cells.specs.HasTiling.{has_tiling};
 ghost use Rattle.empty_cells.specs.SupplyWords.{supply_of};
 
 use empty_cells::{Empties, SupplyWord};
+use fact_table::FactTable;
 
 /// The answer whether a set of cells has a tiling by a supply. It is always a true one.
 #[derive(Clone, Copy)]
@@ -16,9 +18,6 @@ pub(crate) struct Decided {
 }
 
 impl Decided {
-    ghost use Rattle.std.specs.Prelude.{◌↔◌, IsTrue, IfSome};
-    ghost use Rattle.prune.specs.Tiling.{Tiling};
-
     /// A question with its answer.
     pub(crate) fn new(cells: Empties, supply: SupplyWord, answer: bool) -> Decided
         requires { IsTrue answer ↔ Tiling (all_but (empty_cells cells)) 8 (supply_of supply) }
@@ -28,11 +27,6 @@ impl Decided {
             supply,
             answer,
         }
-    }
-
-    /// The empty set, which needs no pieces.
-    pub(crate) fn nothing() -> Decided {
-        Decided::new(Empties::empty(), SupplyWord::new(&[0; 7]), true)
     }
 
     /// The answer, if it is the one to this question.
@@ -45,4 +39,18 @@ impl Decided {
         }
         None
     }
+}
+
+/// The answer to a question with this hash, if it is kept.
+#[inline(always)]
+pub(crate) fn recalled(
+    cells: &Empties,
+    supply: SupplyWord,
+    hash: u64,
+    known: &FactTable<Decided>,
+) -> Option<bool>
+    ensures { IfSome result
+        (λ answer. IsTrue answer ↔ Tiling (all_but (empty_cells cells.now)) 8 (supply_of supply)) }
+{
+    known.entry(hash)?.answer_to(cells, supply)
 }

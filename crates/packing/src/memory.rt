@@ -9,7 +9,8 @@ ghost use Rattle.empty_cells.specs.Pivots.{has_pivot};
 ghost use Rattle.empty_cells.specs.SupplyWords.{supply_of};
 
 use crate::store::TilingStore;
-use empty_cells::{Empties, Pivots, SupplyWord};
+use empty_cells::{Empties, Pivots, SupplyWord, hash_of};
+use fact_table::FactTable;
 use pc_outside::NoMemory;
 use srs::{Piece, Placement};
 use std::alloc::Global;
@@ -60,15 +61,13 @@ impl Remembered {
             && self.piece.code() == piece.code()
     }
 
-    /// Whether a placement leaves a tiling, if that was asked before.
+    /// Whether a placement of the piece leaves a tiling, if that was asked before.
     #[inline(always)]
-    fn answer_to(&self, cells: &Empties, supply: SupplyWord, placement: &Placement) -> Option<bool>
+    fn answer_to(&self, placement: &Placement) -> Option<bool>
+        requires { placement.now.piece ≡ self.now.piece }
         ensures { IfSome result (λ answer. answer ≡ has_tiling
-            (all_but (without_placement (empty_cells cells.now) placement.now)) 8 (supply_of supply)) }
+            (all_but (without_placement (empty_cells self.now.cells) placement.now)) 8 (supply_of self.now.supply)) }
     {
-        if !self.is_about(cells, supply, placement.piece) {
-            return None;
-        }
         if self.live.has(placement) {
             return Some(true);
         }
@@ -76,19 +75,6 @@ impl Remembered {
             return Some(false);
         }
         None
-    }
-
-    /// Remembers one more answer. If this was about another question, what it was about is forgotten.
-    fn note(&mut self, cells: &Empties, supply: SupplyWord, placement: &Placement, answer: bool)
-        requires column { placement.now.x ≤ 9 }
-        requires row { placement.now.y ≤ 7 }
-        requires answer { answer ≡ has_tiling
-            (all_but (without_placement (empty_cells cells.now) placement.now)) 8 (supply_of supply) }
-    {
-        if !self.is_about(cells, supply, placement.piece) {
-            *self = Remembered::nothing(cells, supply, placement.piece);
-        }
-        self.add(placement, answer);
     }
 
     /// Adds the answer for one more placement.
@@ -107,30 +93,65 @@ impl Remembered {
     }
 }
 
-/// The index at which a memory of this size keeps a question about a piece. For the same cells and the same supply the
-/// seven kinds have different indices: the first seven multiples of 583 differ, and each is less than 4,096.
+/// The hash of a question about a piece. For the same cells and the same supply the seven kinds have different places:
+/// the first seven multiples of 583 differ, and each is less than 4,096.
 #[inline(always)]
-fn place_of(cells: &Empties, supply: SupplyWord, piece: Piece, count: usize) -> usize
-    requires { 0 < count }
-    ensures { result < count }
-{
-    (empty_cells::place_of(cells, supply, count) ^ 583 * piece.code() as usize) & (count - 1)
+fn hash_for(cells: &Empties, supply: SupplyWord, piece: Piece) -> u64 {
+    hash_of(cells, supply) ^ 583 * u64::from(piece.code())
 }
 
 /// Remembers which placements leave a tiling, by the cells, the supply and the piece. A later set evicts an earlier
 /// one.
 #[derive(Drop)]
 pub struct PlaceMemory {
-    sets: Vec<Remembered>,
-    ghost room: { length sets.items ≡ 4096 },
+    sets: FactTable<Remembered>,
 }
 
 impl PlaceMemory {
     /// An empty memory. `NoMemory` if there is not enough memory.
     pub fn new(alloc: Global) -> Result<PlaceMemory, NoMemory> {
-        let nothing = Remembered::nothing(&Empties::empty(), SupplyWord::new(&[0; 7]), Piece::I);
-        let sets = vec![in alloc; nothing; PLACES]?;
+        let sets = FactTable::new(alloc, PLACES)?;
         Ok(PlaceMemory { sets })
+    }
+
+    /// What is remembered about these cells, this supply and this piece.
+    #[inline(always)]
+    fn about(&self, cells: &Empties, supply: SupplyWord, piece: Piece) -> Option<&Remembered>
+        ensures cells { IfSome result (λ known. empty_cells known.now.cells ≡ empty_cells cells.now) }
+        ensures supply { IfSome result (λ known. known.now.supply ≡ supply) }
+        ensures piece { IfSome result (λ known. known.now.piece ≡ piece) }
+    {
+        let known = self.sets.entry(hash_for(cells, supply, piece))?;
+        if known.is_about(cells, supply, piece) {
+            return Some(known);
+        }
+        None
+    }
+
+    /// Whether a placement leaves a tiling, if that was asked before.
+    #[inline(always)]
+    fn answer_to(&self, cells: &Empties, supply: SupplyWord, placement: &Placement) -> Option<bool>
+        ensures { IfSome result (λ answer. answer ≡ has_tiling
+            (all_but (without_placement (empty_cells cells.now) placement.now)) 8 (supply_of supply)) }
+    {
+        self.about(cells, supply, placement.piece)?
+            .answer_to(placement)
+    }
+
+    /// Remembers one more answer.
+    fn note(&mut self, cells: &Empties, supply: SupplyWord, placement: &Placement, answer: bool)
+        requires column { placement.now.x ≤ 9 }
+        requires row { placement.now.y ≤ 7 }
+        requires answer { answer ≡ has_tiling
+            (all_but (without_placement (empty_cells cells.now) placement.now)) 8 (supply_of supply) }
+    {
+        let mut known = match self.about(cells, supply, placement.piece) {
+            Some(known) => *known,
+            None => Remembered::nothing(cells, supply, placement.piece),
+        };
+        known.add(placement, answer);
+        self.sets
+            .put(hash_for(cells, supply, placement.piece), known);
     }
 
     /// Whether the cells without those of a placement have a tiling by the supply. A question that was not asked before
@@ -147,13 +168,12 @@ impl PlaceMemory {
         ensures { result ≡ has_tiling (all_but (without_placement (empty_cells cells.now) placement.now)) 8
             (supply_of supply) }
     {
-        let place = place_of(cells, supply, placement.piece, self.sets.len());
-        if let Some(answer) = self.sets[place].answer_to(cells, supply, placement) {
+        if let Some(answer) = self.answer_to(cells, supply, placement) {
             return answer;
         }
         let answer = store.has_tiling_near(&cells.without(placement), placement.x, supply);
         if placement.y < 8 {
-            self.sets[place].note(cells, supply, placement, answer);
+            self.note(cells, supply, placement, answer);
         }
         answer
     }
@@ -166,10 +186,9 @@ impl PlaceMemory {
             → cells_of_words result (rotation_place q.rotation) q.x q.y ≡ true
             → has_tiling (all_but (without_placement (empty_cells cells.now) q)) 8 (supply_of supply) ≡ false }
     {
-        let known = &self.sets[place_of(cells, supply, piece, self.sets.len())];
-        if known.is_about(cells, supply, piece) {
-            return known.dead.words();
+        match self.about(cells, supply, piece) {
+            Some(known) => known.dead.words(),
+            None => [0; 8],
         }
-        [0; 8]
     }
 }

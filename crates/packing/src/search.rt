@@ -7,9 +7,10 @@ ghost use Rattle.empty_cells.specs.Spans.{has_first, IsFirst};
 ghost use Rattle.empty_cells.specs.Stacks.{StacksOver, StacksPiece, TakesPiece};
 ghost use Rattle.empty_cells.specs.SupplyWords.{supply_of};
 
-use crate::decided::Decided;
+use crate::decided::{Decided, recalled};
 use Span::{AllFour, First, FirstThree, FirstTwo, Second, SecondTwo, Third};
-use empty_cells::{Empties, Span, SupplyWord, allowed, has_row, lowest_row, place_of, without_row};
+use empty_cells::{Empties, Span, SupplyWord, allowed, has_row, hash_of, lowest_row, without_row};
+use fact_table::FactTable;
 use srs::Piece;
 
 // Whether the lowest span can take an allowed row so that the rest holds of the cells that are left.
@@ -49,12 +50,16 @@ pub fn has_tiling(cells: &Empties, supply: &[u8; 7]) -> bool
     if cells.has_uneven_part() {
         return false;
     }
-    decide(cells, SupplyWord::new(supply), &mut [])
+    decide(
+        cells,
+        SupplyWord::new(supply),
+        &mut FactTable::without_room(),
+    )
 }
 
 /// The same. It uses the answers in `known`, and adds its own.
 #[cycle(search)]
-pub(crate) fn decide(cells: &Empties, supply: SupplyWord, known: &mut [Decided]) -> bool
+pub(crate) fn decide(cells: &Empties, supply: SupplyWord, known: &mut FactTable<Decided>) -> bool
     ensures { IsTrue result ↔ Tiling (all_but (empty_cells cells.now)) 8 (supply_of supply) }
 {
     let Some((x, y)) = cells.first() else {
@@ -66,11 +71,11 @@ pub(crate) fn decide(cells: &Empties, supply: SupplyWord, known: &mut [Decided])
 /// The same for a set that has cells in column 0; `y` is the row of the lowest of them.
 #[cycle(search)]
 #[inline(always)]
-fn recall(cells: &Empties, y: u8, supply: SupplyWord, known: &mut [Decided]) -> bool
+fn recall(cells: &Empties, y: u8, supply: SupplyWord, known: &mut FactTable<Decided>) -> bool
     requires { IsFirst (empty_cells cells.now) 0 y }
     ensures { IsTrue result ↔ Tiling (all_but (empty_cells cells.now)) 8 (supply_of supply) }
 {
-    if known.is_empty() || cells.is_few() {
+    if known.is_without_room() || cells.is_few() {
         return covers(cells, y, supply, known);
     }
     if cells.has_uneven_start() {
@@ -79,18 +84,18 @@ fn recall(cells: &Empties, y: u8, supply: SupplyWord, known: &mut [Decided]) -> 
     if cells.has_wrong_parity(supply) {
         return false;
     }
-    let place = place_of(cells, supply, known.len());
-    if let Some(answer) = known[place].answer_to(cells, supply) {
+    let hash = hash_of(cells, supply);
+    if let Some(answer) = recalled(cells, supply, hash, known) {
         return answer;
     }
     let answer = covers(cells, y, supply, known);
-    known[place] = Decided::new(*cells, supply, answer);
+    known.put(hash, Decided::new(*cells, supply, answer));
     answer
 }
 
 /// Whether some piece of the supply can cover the first cell so that the others fill what is left.
 #[cycle(search)]
-fn covers(cells: &Empties, y: u8, supply: SupplyWord, known: &mut [Decided]) -> bool
+fn covers(cells: &Empties, y: u8, supply: SupplyWord, known: &mut FactTable<Decided>) -> bool
     requires { IsFirst (empty_cells cells.now) 0 y }
     ensures { IsTrue result ↔ Tiling (all_but (empty_cells cells.now)) 8 (supply_of supply) }
 {
@@ -108,7 +113,13 @@ fn covers(cells: &Empties, y: u8, supply: SupplyWord, known: &mut [Decided]) -> 
 /// Whether the supply has a piece of this kind that can cover the first cell so that the others fill what is left.
 #[cycle(search)]
 #[inline(always)]
-fn takes(cells: &Empties, y: u8, piece: Piece, supply: SupplyWord, known: &mut [Decided]) -> bool
+fn takes(
+    cells: &Empties,
+    y: u8,
+    piece: Piece,
+    supply: SupplyWord,
+    known: &mut FactTable<Decided>,
+) -> bool
     requires { y ≤ 7 }
     ensures { IsTrue result
         ↔ TakesPiece (supply_of supply) (empty_cells cells.now) 0 y piece }
@@ -128,7 +139,7 @@ fn stacks_piece(
     y: u8,
     piece: Piece,
     supply: SupplyWord,
-    known: &mut [Decided],
+    known: &mut FactTable<Decided>,
 ) -> bool
     requires { y ≤ 7 }
     ensures { IsTrue result
@@ -147,7 +158,7 @@ fn stacks_piece(
 
 /// Whether an I can cover the first cell so that the supply fills what is left.
 #[cycle(search)]
-fn stacks_i(cells: &Empties, y: u8, supply: SupplyWord, known: &mut [Decided]) -> bool
+fn stacks_i(cells: &Empties, y: u8, supply: SupplyWord, known: &mut FactTable<Decided>) -> bool
     requires { y ≤ 7 }
     ensures { IsTrue result
         ↔ StacksPiece (supply_of supply) (empty_cells cells.now) 0 y I }
@@ -158,7 +169,7 @@ fn stacks_i(cells: &Empties, y: u8, supply: SupplyWord, known: &mut [Decided]) -
 
 /// Whether an L can cover the first cell so that the supply fills what is left.
 #[cycle(search)]
-fn stacks_l(cells: &Empties, y: u8, supply: SupplyWord, known: &mut [Decided]) -> bool
+fn stacks_l(cells: &Empties, y: u8, supply: SupplyWord, known: &mut FactTable<Decided>) -> bool
     requires { y ≤ 7 }
     ensures { IsTrue result
         ↔ StacksPiece (supply_of supply) (empty_cells cells.now) 0 y L }
@@ -173,7 +184,7 @@ fn stacks_l(cells: &Empties, y: u8, supply: SupplyWord, known: &mut [Decided]) -
 
 /// Whether an O can cover the first cell so that the supply fills what is left.
 #[cycle(search)]
-fn stacks_o(cells: &Empties, y: u8, supply: SupplyWord, known: &mut [Decided]) -> bool
+fn stacks_o(cells: &Empties, y: u8, supply: SupplyWord, known: &mut FactTable<Decided>) -> bool
     requires { y ≤ 7 }
     ensures { IsTrue result
         ↔ StacksPiece (supply_of supply) (empty_cells cells.now) 0 y O }
@@ -183,7 +194,7 @@ fn stacks_o(cells: &Empties, y: u8, supply: SupplyWord, known: &mut [Decided]) -
 
 /// Whether a Z can cover the first cell so that the supply fills what is left.
 #[cycle(search)]
-fn stacks_z(cells: &Empties, y: u8, supply: SupplyWord, known: &mut [Decided]) -> bool
+fn stacks_z(cells: &Empties, y: u8, supply: SupplyWord, known: &mut FactTable<Decided>) -> bool
     requires { y ≤ 7 }
     ensures { IsTrue result
         ↔ StacksPiece (supply_of supply) (empty_cells cells.now) 0 y Z }
@@ -194,7 +205,7 @@ fn stacks_z(cells: &Empties, y: u8, supply: SupplyWord, known: &mut [Decided]) -
 
 /// Whether a T can cover the first cell so that the supply fills what is left.
 #[cycle(search)]
-fn stacks_t(cells: &Empties, y: u8, supply: SupplyWord, known: &mut [Decided]) -> bool
+fn stacks_t(cells: &Empties, y: u8, supply: SupplyWord, known: &mut FactTable<Decided>) -> bool
     requires { y ≤ 7 }
     ensures { IsTrue result
         ↔ StacksPiece (supply_of supply) (empty_cells cells.now) 0 y T }
@@ -209,7 +220,7 @@ fn stacks_t(cells: &Empties, y: u8, supply: SupplyWord, known: &mut [Decided]) -
 
 /// Whether a J can cover the first cell so that the supply fills what is left.
 #[cycle(search)]
-fn stacks_j(cells: &Empties, y: u8, supply: SupplyWord, known: &mut [Decided]) -> bool
+fn stacks_j(cells: &Empties, y: u8, supply: SupplyWord, known: &mut FactTable<Decided>) -> bool
     requires { y ≤ 7 }
     ensures { IsTrue result
         ↔ StacksPiece (supply_of supply) (empty_cells cells.now) 0 y J }
@@ -224,7 +235,7 @@ fn stacks_j(cells: &Empties, y: u8, supply: SupplyWord, known: &mut [Decided]) -
 
 /// Whether an S can cover the first cell so that the supply fills what is left.
 #[cycle(search)]
-fn stacks_s(cells: &Empties, y: u8, supply: SupplyWord, known: &mut [Decided]) -> bool
+fn stacks_s(cells: &Empties, y: u8, supply: SupplyWord, known: &mut FactTable<Decided>) -> bool
     requires { y ≤ 7 }
     ensures { IsTrue result
         ↔ StacksPiece (supply_of supply) (empty_cells cells.now) 0 y S }
@@ -242,7 +253,7 @@ fn stacks_one(
     floor: u8,
     a: Span,
     supply: SupplyWord,
-    known: &mut [Decided],
+    known: &mut FactTable<Decided>,
 ) -> bool
     requires row { y ≤ 7 }
     requires start { floor ≤ 8 }
@@ -262,7 +273,7 @@ fn stacks_two(
     a: Span,
     b: Span,
     supply: SupplyWord,
-    known: &mut [Decided],
+    known: &mut FactTable<Decided>,
 ) -> bool
     requires row { y ≤ 7 }
     requires start { floor ≤ 8 }
@@ -283,7 +294,7 @@ fn stacks_three(
     b: Span,
     c: Span,
     supply: SupplyWord,
-    known: &mut [Decided],
+    known: &mut FactTable<Decided>,
 ) -> bool
     requires row { y ≤ 7 }
     requires start { floor ≤ 8 }
@@ -297,7 +308,13 @@ fn stacks_three(
 /// left.
 #[cycle(search)]
 #[inline(always)]
-fn first_one(cells: &Empties, y: u8, a: Span, supply: SupplyWord, known: &mut [Decided]) -> bool
+fn first_one(
+    cells: &Empties,
+    y: u8,
+    a: Span,
+    supply: SupplyWord,
+    known: &mut FactTable<Decided>,
+) -> bool
     requires row { y ≤ 7 }
     requires first { has_first a ≡ true }
     ensures { IsTrue result
@@ -319,7 +336,7 @@ fn first_two(
     a: Span,
     b: Span,
     supply: SupplyWord,
-    known: &mut [Decided],
+    known: &mut FactTable<Decided>,
 ) -> bool
     requires row { y ≤ 7 }
     requires first { has_first a ≡ true }
@@ -343,7 +360,7 @@ fn first_three(
     b: Span,
     c: Span,
     supply: SupplyWord,
-    known: &mut [Decided],
+    known: &mut FactTable<Decided>,
 ) -> bool
     requires row { y ≤ 7 }
     requires first { has_first a ≡ true }
@@ -368,7 +385,7 @@ fn first_four(
     c: Span,
     d: Span,
     supply: SupplyWord,
-    known: &mut [Decided],
+    known: &mut FactTable<Decided>,
 ) -> bool
     requires row { y ≤ 7 }
     requires first { has_first a ≡ true }

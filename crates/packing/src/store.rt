@@ -7,6 +7,7 @@ ghost use Rattle.empty_cells.specs.SupplyWords.{supply_of};
 use crate::decided::Decided;
 use crate::search::decide;
 use empty_cells::{Empties, SupplyWord, mirrored_supply};
+use fact_table::FactTable;
 use pc_outside::NoMemory;
 use std::alloc::Global;
 
@@ -16,7 +17,7 @@ const PLACES: usize = 32768;
 /// Keeps the answers to questions that it was asked, each in one place. A later one evicts an earlier one.
 #[derive(Drop)]
 pub struct TilingStore {
-    decided: Vec<Decided>,
+    decided: FactTable<Decided>,
 }
 
 impl TilingStore {
@@ -27,7 +28,7 @@ impl TilingStore {
 
     /// An empty store that keeps this many questions, best a power of two. `NoMemory` if there is not enough memory.
     pub fn with_places(alloc: Global, places: usize) -> Result<TilingStore, NoMemory> {
-        let decided = vec![in alloc; Decided::nothing(); places]?;
+        let decided = FactTable::new(alloc, places)?;
         Ok(TilingStore { decided })
     }
 

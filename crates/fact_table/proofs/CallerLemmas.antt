@@ -1,0 +1,2 @@
+-- Lemmas that the crates above cite.
+pub use Rattle.fact_table.proofs.FactLemmas.{facts-entry, facts-none, facts-put}

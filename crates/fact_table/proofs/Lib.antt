@@ -1,0 +1,4 @@
+-- The lemmas of this crate.
+mod FactLemmas
+mod PlaceLemmas
+pub mod CallerLemmas

@@ -1,0 +1,8 @@
+// Tables of remembered answers. Which answers are true is the matter of those who keep them.
+#![tactic(auto)]
+
+mod table;
+#[cfg(test)]
+mod tests;
+
+pub use table::FactTable;
