@@ -6,3 +6,4 @@ mod WalkLemmas
 mod WalkSteps
 mod WalkRows
 mod WalkGains
+mod ListedLemmas
