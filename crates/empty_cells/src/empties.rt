@@ -159,6 +159,14 @@ impl Empties {
         }
     }
 
+    /// The set without the cells of another one.
+    #[inline(always)]
+    pub fn without_cells(&self, taken: &Empties) -> Empties
+        ensures { empty_cells result ≡ difference (empty_cells self.now) (empty_cells taken.now) }
+    {
+        self.without_bits(taken.cells)
+    }
+
     /// The set without the cells of a span in a row.
     #[inline(always)]
     pub fn without_span(&self, x: u8, span: Span, y: u8) -> Empties
