@@ -7,3 +7,5 @@ mod WalkSteps
 mod WalkRows
 mod WalkGains
 mod ListedLemmas
+mod ListLaws
+pub mod CallerLemmas
