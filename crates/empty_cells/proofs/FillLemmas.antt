@@ -17,9 +17,10 @@ use Rattle.prune.specs.Laws.{with_one}
 use Rattle.prune.specs.OnePart.{with_cells, less_one}
 use Rattle.prune.proofs.CallerLemmas.{with_part, TakenPart, taken_part}
 use Rattle.empty_cells.specs.declared.span.Span.{Span}
-use Rattle.empty_cells.specs.Empties.{all_but}
+use Rattle.empty_cells.specs.Empties.{all_but, has_cell}
 use Rattle.empty_cells.specs.Spans.{HasNoCell, IsFirst}
 use Rattle.empty_cells.specs.Stacks.{is_allowed, CanFill, Stacks, StacksOver, StacksPiece, in_stack, without_stack}
+use Rattle.empty_cells.proofs.EmptiesLemmas.{CellOf, cell_of}
 use Rattle.empty_cells.proofs.StackLemmas.{Rises, IsWithin, IsSmall, Follows, Chosen}
 use Rattle.empty_cells.proofs.ChosenLemmas.{chosen, stacked, follows-first}
 use Rattle.empty_cells.proofs.FormLemmas.{leftmost, lowest, form_at, form, distance, place_in, rotation_at, Matches, sent_column, same_cells, left_cell, left_in_stack, stack_right_of, level_within, level_up, row_up, cell_at_level, row_by_level, form_within, form_of_place}
@@ -108,44 +109,68 @@ negative_at : (piece : Piece) (rotation : Rotation) (move : ℤ) (row : ℤ → 
 unfolding sent
 negative_at piece rotation move row n c moved = λ i. (moved i, pos (row c.1))
 
--- a piece whose spans are stacked in the set, and a filling of what it leaves
-pub fills_chosen : (height : ℕ) (E : Field) (supply : Supply) (piece : Piece) (rotation : Rotation) (x floor : ℕ) → IsSmall height E → 0 < supply piece → Chosen (CanFill height (less_one supply piece)) E x floor (form piece rotation) → CanFill height supply E
-fills_chosen height E supply piece rotation x floor small some choice =
-    subst (λ (s : Supply). CanFill height s E) (one_back supply piece some)
-    (with_part (all_but E) height part (less_one supply piece) generalized empty
-    (subst (λ (F : Field). Tiling F height (less_one supply piece)) (sym (left_by E part.cells x choice.rows (form piece rotation) (same_cells piece rotation move row x choice.rows matches))) choice.rest))
+-- stacked spans of a piece, as a part
+pub record PartOf (piece : Piece) (rotation : Rotation) (x : ℕ) (rows : ℕ → ℕ) : Type 0 where
+  pub part : Part
+  pub kind : part.piece ≡ piece
+  pub generalized : IsGeneralized part
+  pub same : (a b : ℕ) → is_among part.cells (pos a, pos b) ≡ in_stack x rows (form piece rotation) a b
+  pub inside : (E : Field) → IsWithin E x rows (form piece rotation) → list_all (has_cell E) part.cells ≡ true
+
+pub part_of : (piece : Piece) (rotation : Rotation) (x : ℕ) (rows : ℕ → ℕ) → Rises rows (length (form piece rotation)) → PartOf piece rotation x rows
+part_of piece rotation x rows rises = record {
+  part = part;
+  kind = refl;
+  generalized = record {
+    rotation = rotation;
+    move = move;
+    row = row;
+    rising = λ c d has_c has_d up. rises.rising _ _ (level_up piece rotation c d has_c has_d up) (level_within piece rotation d has_d);
+    cells = refl;
+  };
+  same = same;
+  inside = inside;
+}
   where
     move : ℤ
     move = pos x -ℤ leftmost piece rotation
 
     row : ℤ → ℕ
-    row z = choice.rows (distance (z -ℤ lowest piece rotation))
+    row z = rows (distance (z -ℤ lowest piece rotation))
 
     part : Part
     part = record { piece = piece; cells = map (sent move row) (shape piece rotation) }
 
-    matches : Matches piece rotation move row x choice.rows
+    matches : Matches piece rotation move row x rows
     matches = record { column = omega (arith, ints); row_at = λ c has. refl }
 
-    generalized : IsGeneralized part
-    generalized = record {
-      rotation = rotation;
-      move = move;
-      row = row;
-      rising = λ c d has_c has_d up. choice.rises.rising _ _ (level_up piece rotation c d has_c has_d up) (level_within piece rotation d has_d);
-      cells = refl;
-    }
+    same : (a b : ℕ) → is_among part.cells (pos a, pos b) ≡ in_stack x rows (form piece rotation) a b
+    same = same_cells piece rotation move row x rows matches
 
-    empty : list_all (is_empty_below (all_but E) height) part.cells ≡ true
-    empty = list_all-from_is_among (is_empty_below (all_but E) height) part.cells (λ d has. each d (sent_from (sent move row) (shape piece rotation) d has) has)
+    inside : (E : Field) → IsWithin E x rows (form piece rotation) → list_all (has_cell E) part.cells ≡ true
+    inside E within = list_all-from_is_among (has_cell E) part.cells (λ d has. each d (sent_from (sent move row) (shape piece rotation) d has) has)
       where
-        each : (d : Cell) → ((c : Cell) × (is_among (shape piece rotation) c ≡ true) × (sent move row c ≡ d)) → is_among part.cells d ≡ true → is_empty_below (all_but E) height d ≡ true
+        each : (d : Cell) → ((c : Cell) × (is_among (shape piece rotation) c ≡ true) × (sent move row c ≡ d)) → is_among part.cells d ≡ true → has_cell E d ≡ true
         each d found has =
             let a = x + (place_in piece rotation found.0).0 in
             let b = row found.0.1 in
             let at : d ≡ (pos a, pos b) = sym found.2 ∙ sent_at piece rotation move row x matches.column found.0 found.1 in
-            let in_set = choice.within.inside a b (sym (same_cells piece rotation move row x choice.rows matches a b) ∙ subst (λ (e : Cell). is_among part.cells e ≡ true) at has) in
-            subst (λ (e : Cell). is_empty_below (all_but E) height e ≡ true) (sym at) (empty_is height E a b small ∙ in_set)
+            subst (λ (e : Cell). has_cell E e ≡ true) (sym at) (within.inside a b (sym (same a b) ∙ subst (λ (e : Cell). is_among part.cells e ≡ true) at has))
+
+-- cells of a set are empty where all others are filled
+pub empty_within : (height : ℕ) (E : Field) (cells : List Cell) → IsSmall height E → list_all (has_cell E) cells ≡ true → list_all (is_empty_below (all_but E) height) cells ≡ true
+empty_within height E cells small inside = list_all-from_is_among (is_empty_below (all_but E) height) cells (λ c has. each c (cell_of E c (is_among-all (has_cell E) cells c inside has)))
+  where
+    each : (c : Cell) → CellOf E c → is_empty_below (all_but E) height c ≡ true
+    each c at = subst (λ c. is_empty_below (all_but E) height c ≡ true) (sym at.is) (empty_is height E at.x at.y small ∙ at.has)
+
+-- a piece whose spans are stacked in the set, and a filling of what it leaves
+pub fills_chosen : (height : ℕ) (E : Field) (supply : Supply) (piece : Piece) (rotation : Rotation) (x floor : ℕ) → IsSmall height E → 0 < supply piece → Chosen (CanFill height (less_one supply piece)) E x floor (form piece rotation) → CanFill height supply E
+fills_chosen height E supply piece rotation x floor small some choice =
+    let by = part_of piece rotation x choice.rows choice.rises in
+    subst (λ (s : Supply). CanFill height s E) (ap (λ p. with_one (less_one supply piece) p) by.kind ∙ one_back supply piece some)
+    (with_part (all_but E) height by.part (less_one supply piece) by.generalized (empty_within height E by.part.cells small (by.inside E choice.within))
+    (subst (λ (F : Field). Tiling F height (less_one supply piece)) (sym (left_by E by.part.cells x choice.rows (form piece rotation) by.same)) choice.rest))
 
 -- a generalized piece within a set, by its spans
 pub record StackOf (E : Field) (part : Part) : Type 0 where
@@ -211,7 +236,7 @@ pub record FilledBy (height : ℕ) (E : Field) (supply : Supply) (x0 y0 : ℕ) :
 pub filled_by : (height : ℕ) (E : Field) (supply : Supply) (x0 y0 : ℕ) → IsSmall height E → E x0 y0 ≡ true → CanFill height supply E → FilledBy height E supply x0 y0
 filled_by height E supply x0 y0 small here filling = by_part (taken_part (all_but E) height supply (pos x0, pos y0) (empty_is height E x0 y0 small ∙ here) filling)
   where
-    by_part : TakenPart (all_but E) height supply (pos x0, pos y0) → FilledBy height E supply x0 y0
+    by_part : {parts : List Part} → TakenPart (all_but E) height supply (pos x0, pos y0) parts → FilledBy height E supply x0 y0
     by_part t =
         let s = stack_of height E t.part small t.generalized t.empty in
         record {

@@ -1,5 +1,5 @@
 -- A tiling with one part more or fewer, and the test of rows that rise.
-use Rattle.std.proofs.Common.{◌≡◌, ℕ, suc, ◌+◌, ◌-◌, ◌<◌, ◌≤◌, Bool, true, false, not, cond, ◌&&◌, ◌||◌, ◌==◌, List, [], ◌∷◌, ℤ, pos, negsuc, nat_lt, refl, sym, ap, ◌∙◌, inl, inr, arith}
+use Rattle.std.proofs.Common.{◌≡◌, ℕ, suc, ◌+◌, ◌-◌, ◌<◌, ◌≤◌, Bool, true, false, not, cond, ◌&&◌, ◌||◌, ◌==◌, List, [], ◌∷◌, length, ℤ, pos, negsuc, nat_lt, refl, sym, ap, ◌∙◌, inl, inr, arith}
 use Rattle.std.specs.Prelude.{◌↔◌, All, int_lt}
 use Rattle.std.specs.List.{list_all}
 use Rattle.std.proofs.lemmas.Bool.{cases_Bool, cond-true, cond-false, true_from_ne_false, and_right, false≢true, ltb-true, eq-eqb, not_from_true}
@@ -9,13 +9,13 @@ use Rattle.srs.specs.declared.piece.Piece.{Piece}
 use Rattle.srs.specs.Piece.{piece_code}
 use Rattle.srs.specs.Cells.{Cell}
 use Rattle.srs.specs.SameCells.{is_among}
-use Rattle.srs.proofs.CallerLemmas.{is_among-all, list_all-from_is_among}
+use Rattle.srs.proofs.CallerLemmas.{has_cell-head, is_among-all, list_all-from_is_among}
 use Rattle.lane_board.specs.Field.{Field, intersection, rows_below}
 use Rattle.prune.specs.Tiling.{Part, IsGeneralized, is_empty_below, covers, parts_of, Tiling, Supply}
 use Rattle.prune.specs.Laws.{with_one}
 use Rattle.prune.specs.OnePart.{with_cells, less_one}
 use Rattle.prune.proofs.CellCounts.{count_in, count_in-some, count_in-none}
-use Rattle.prune.proofs.PartLemmas.{covers-cons, part_once}
+use Rattle.prune.proofs.PartLemmas.{covers-cons, part_length, part_once}
 
 -- what is empty once some cells are filled
 pub is_empty-with_cells : (F : Field) (cells : List Cell) (rows : ℕ) (cell : Cell) → is_empty_below (with_cells F cells) rows cell ≡ (is_empty_below F rows cell && not (is_among cells cell))
@@ -39,14 +39,21 @@ pub parts_of-cons : (part : Part) (parts : List Part) (piece : Piece) → parts_
 parts_of-cons part parts piece = sum_by-cons (λ part. cond (piece_code part.piece == piece_code piece) 1 0) part parts
 
 -- a generalized piece on empty cells and a tiling of what it leaves are a tiling with one more piece
-pub with_part : (F : Field) (rows : ℕ) (part : Part) (supply : Supply) → IsGeneralized part → list_all (is_empty_below F rows) part.cells ≡ true →
-    Tiling (with_cells F part.cells) rows supply → Tiling F rows (with_one supply part.piece)
+pub record WithPart (F : Field) (rows : ℕ) (supply : Supply) (part : Part) (parts : List Part) : Type 0 where
+  pub tiling : Tiling F rows (with_one supply part.piece)
+  pub parts_are : tiling.parts ≡ part ∷ parts
+
+pub one_part_more : (F : Field) (rows : ℕ) (part : Part) (supply : Supply) → IsGeneralized part → list_all (is_empty_below F rows) part.cells ≡ true →
+    (t : Tiling (with_cells F part.cells) rows supply) → WithPart F rows supply part t.parts
 unfolding with_one
-with_part F rows part supply is empty t = record {
-  parts = part ∷ t.parts;
-  generalized = All-cons IsGeneralized part t.parts is t.generalized;
-  covered = λ cell. covers-cons part t.parts cell ∙ covered cell (t.covered cell ∙ ap (λ b. cond b 1 0) (is_empty-with_cells F part.cells rows cell));
-  supplied = λ piece. supplied piece (t.supplied piece);
+one_part_more F rows part supply is empty t = record {
+  tiling = record {
+    parts = part ∷ t.parts;
+    generalized = All-cons IsGeneralized part t.parts is t.generalized;
+    covered = λ cell. covers-cons part t.parts cell ∙ covered cell (t.covered cell ∙ ap (λ b. cond b 1 0) (is_empty-with_cells F part.cells rows cell));
+    supplied = λ piece. supplied piece (t.supplied piece);
+  };
+  parts_are = refl;
 }
   where
     covered : (cell : Cell) → covers t.parts cell ≡ cond (is_empty_below F rows cell && not (is_among part.cells cell)) 1 0 → count_in part.cells cell + covers t.parts cell ≡ cond (is_empty_below F rows cell) 1 0
@@ -65,14 +72,33 @@ with_part F rows part supply is empty t = record {
       | inr other ↦ omega (arith, parts_of-cons part t.parts piece, cond-false {A = ℕ} _ 1 0 other, cond-false {A = ℕ} _ (suc (supply piece)) (supply piece) other, enough)
     ]
 
+pub with_part : (F : Field) (rows : ℕ) (part : Part) (supply : Supply) → IsGeneralized part → list_all (is_empty_below F rows) part.cells ≡ true →
+    Tiling (with_cells F part.cells) rows supply → Tiling F rows (with_one supply part.piece)
+with_part F rows part supply is empty t = (one_part_more F rows part supply is empty t).tiling
+
+-- where no cell is empty there is no part
+pub no_parts : (F : Field) (rows : ℕ) (supply : Supply) → ((cell : Cell) → is_empty_below F rows cell ≡ false) → (t : Tiling F rows supply) → t.parts ≡ []
+no_parts F rows supply full t = none t.parts t.generalized (λ cell. t.covered cell ∙ cond-false {A = ℕ} _ 1 0 (full cell))
+  where
+    some_cell : (cells : List Cell) → length cells ≡ 4 → (cell : Cell) × (is_among cells cell ≡ true)
+    some_cell [] four = absurd (omega (arith, four))
+    some_cell (cell ∷ cells) four = (cell, has_cell-head cell cells)
+
+    none : (parts : List Part) → All IsGeneralized parts → ((cell : Cell) → covers parts cell ≡ 0) → parts ≡ []
+    none [] generalized uncovered = refl
+    none (part ∷ parts) generalized uncovered =
+        let cell = some_cell part.cells (part_length part (All-head IsGeneralized part parts generalized)) in
+        absurd (omega (arith, uncovered cell.0, covers-cons part parts cell.0, count_in-some part.cells cell.0 cell.1))
+
 -- a part that has the cell, and the other parts
-record Split (parts : List Part) (cell : Cell) : Type 0 where
+record Split (parts : List Part) (cell : Cell) : Type 1 where
   pub part : Part
   pub rest : List Part
   pub has : is_among part.cells cell ≡ true
   pub generalized : All IsGeneralized parts → IsGeneralized part × All IsGeneralized rest
   pub covered : (c : Cell) → covers parts c ≡ count_in part.cells c + covers rest c
   pub counted : (piece : Piece) → parts_of parts piece ≡ cond (piece_code part.piece == piece_code piece) 1 0 + parts_of rest piece
+  pub others : (P : Part → Type 0) → P part → All P rest → All P parts
 
 split : (parts : List Part) (cell : Cell) → 1 ≤ covers parts cell → Split parts cell
 unfolding covers
@@ -85,6 +111,7 @@ split (part ∷ parts) cell some = elim (cases_Bool (is_among part.cells cell)) 
     generalized = λ all. (All-head IsGeneralized part parts all, All-tail IsGeneralized part parts all);
     covered = λ c. covers-cons part parts c;
     counted = λ piece. parts_of-cons part parts piece;
+    others = λ P here all. All-cons P part parts here all;
   }
   | inr none ↦
       let old = split parts cell (omega (arith, some, covers-cons part parts cell, count_in-none part.cells cell none)) in
@@ -95,24 +122,26 @@ split (part ∷ parts) cell some = elim (cases_Bool (is_among part.cells cell)) 
         generalized = λ all. let below = old.generalized (All-tail IsGeneralized part parts all) in (below.0, All-cons IsGeneralized part old.rest (All-head IsGeneralized part parts all) below.1);
         covered = λ c. omega (arith, covers-cons part parts c, covers-cons part old.rest c, old.covered c);
         counted = λ piece. omega (arith, parts_of-cons part parts piece, parts_of-cons part old.rest piece, old.counted piece);
+        others = λ P here all. All-cons P part parts (All-head P part old.rest all) (old.others P here (All-tail P part old.rest all));
       }
 ]
 
 -- the part of a tiling that has a cell, and the tiling that is left without it
-pub record TakenPart (F : Field) (rows : ℕ) (supply : Supply) (cell : Cell) : Type 0 where
+pub record TakenPart (F : Field) (rows : ℕ) (supply : Supply) (cell : Cell) (parts : List Part) : Type 1 where
   pub part : Part
   pub generalized : IsGeneralized part
   pub has : is_among part.cells cell ≡ true
   pub empty : list_all (is_empty_below F rows) part.cells ≡ true
   pub some : 1 ≤ supply part.piece
   pub rest : Tiling (with_cells F part.cells) rows (less_one supply part.piece)
+  pub others : (P : Part → Type 0) → P part → All P rest.parts → All P parts
 
 -- each empty cell stands in a part, and without it there is a tiling of what it leaves with one piece fewer
-pub taken_part : (F : Field) (rows : ℕ) (supply : Supply) (cell : Cell) → is_empty_below F rows cell ≡ true → Tiling F rows supply → TakenPart F rows supply cell
+pub taken_part : (F : Field) (rows : ℕ) (supply : Supply) (cell : Cell) → is_empty_below F rows cell ≡ true → (t : Tiling F rows supply) → TakenPart F rows supply cell t.parts
 unfolding less_one
 taken_part F rows supply cell here t = taken (split t.parts cell (omega (arith, t.covered cell, cond-true {A = ℕ} _ 1 0 here)))
   where
-    taken : Split t.parts cell → TakenPart F rows supply cell
+    taken : Split t.parts cell → TakenPart F rows supply cell t.parts
     taken s = record {
       part = s.part;
       generalized = (s.generalized t.generalized).0;
@@ -125,6 +154,7 @@ taken_part F rows supply cell here t = taken (split t.parts cell (omega (arith, 
         covered = λ c. covered c ∙ ap (λ b. cond b 1 0) (sym (is_empty-with_cells F s.part.cells rows c));
         supplied = λ piece. supplied piece (t.supplied piece);
       };
+      others = s.others;
     }
       where
         empty : (c : Cell) → is_among s.part.cells c ≡ true → is_empty_below F rows c ≡ true

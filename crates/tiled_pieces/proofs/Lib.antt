@@ -6,3 +6,6 @@ mod WalkLemmas
 mod WalkSteps
 mod WalkRows
 mod WalkGains
+mod ListedLemmas
+mod ListLaws
+pub mod CallerLemmas

@@ -2,12 +2,18 @@
 #![tactic(auto)]
 
 mod cover;
+mod list;
+mod listed;
+mod lister;
 mod pieces;
 mod placed;
 mod walk;
 mod walked;
 mod whole;
 
+pub use list::TilingList;
+pub use listed::ListedTiling;
+pub use lister::Lister;
 pub use pieces::TiledPieces;
 pub use walk::PieceStore;
 

@@ -1,0 +1,2 @@
+-- Lemmas that the crates above cite.
+pub use Rattle.tiled_pieces.proofs.ListLaws.{LiesIn, left_by_part, part_listed, rest_listed}

@@ -1,0 +1,74 @@
+-- What a list of all tilings says of one piece: it is in some of them where the others fill the rest, and those that have it are all tilings of the rest.
+use Rattle.std.proofs.Common.{◌≡◌, ◌↔◌, ℕ, ◌<◌, Bool, true, false, not, cond, ◌&&◌, ◌||◌, List, ◌∷◌, pos, refl, sym, subst, ◌∙◌, arith}
+use Rattle.std.proofs.Math.Path.{fun_ext}
+use Rattle.std.specs.List.{Contains, list_all}
+use Rattle.std.proofs.lemmas.List.Elements.{All-head, All-tail}
+use Rattle.lane_board.specs.Field.{Field, difference}
+use Rattle.srs.specs.Cells.{Cell}
+use Rattle.srs.specs.SameCells.{is_among}
+use Rattle.prune.specs.Tiling.{IsGeneralized, Part, Supply, Tiling, covers, is_empty_below}
+use Rattle.prune.specs.Laws.{with_one}
+use Rattle.prune.specs.OnePart.{less_one, with_cells}
+use Rattle.prune.proofs.CallerLemmas.{WithPart, one_part_more}
+use Rattle.empty_cells.specs.Empties.{all_but, has_cell}
+use Rattle.empty_cells.proofs.CallerLemmas.{IsSmall, empty_within, one_back}
+use Rattle.tiled_pieces.specs.declared.listed.ListedTiling.{ListedTiling}
+use Rattle.tiled_pieces.specs.TilingLists.{HasParts, HasPiece, ListsAll, SomeHas, laid_part}
+
+-- a piece of the supply that lies within a set of cells
+pub record LiesIn (E : Field) (supply : Supply) (part : Part) : Type 0 where
+  pub small : IsSmall 8 E
+  pub generalized : IsGeneralized part
+  pub some : 0 < supply part.piece
+  pub inside : list_all (has_cell E) part.cells ≡ true
+
+-- the cells that it leaves
+abbrev pub left_by_part : Field → Part → Field
+left_by_part E part = difference E (laid_part part).cells
+
+less : (p q : Bool) → (not p || q) ≡ not (p && not q)
+less true true = refl
+less true false = refl
+less false q = refl
+
+left_is : (E : Field) (part : Part) → all_but (left_by_part E part) ≡ with_cells (all_but E) part.cells
+unfolding all_but difference with_cells
+left_is E part = sym (fun_ext (λ a. fun_ext (λ b. less (E a b) (is_among part.cells (pos a, pos b)))))
+
+-- a listed tiling has the piece and all parts of a tiling of the rest
+have_both : (E : Field) (supply : Supply) (list : List ListedTiling) (part : Part) → LiesIn E supply part → ListsAll E supply list → (t : Tiling (all_but (left_by_part E part)) 8 (less_one supply part.piece)) → HasParts list (part ∷ t.parts)
+have_both E supply list part lies lists t = from (one_part_more (all_but E) 8 part (less_one supply part.piece) lies.generalized (empty_within 8 E part.cells lies.small lies.inside) rest)
+  where
+    rest : Tiling (with_cells (all_but E) part.cells) 8 (less_one supply part.piece)
+    rest = record {
+      parts = t.parts;
+      generalized = t.generalized;
+      covered = subst (λ (F : Field). (cell : Cell) → covers t.parts cell ≡ cond (is_empty_below F 8 cell) 1 0) (left_is E part) t.covered;
+      supplied = t.supplied;
+    }
+
+    all : ListsAll E (with_one (less_one supply part.piece) part.piece) list
+    all = subst (λ (s : Supply). ListsAll E s list) (sym (one_back supply part.piece lies.some)) lists
+
+    from : WithPart (all_but E) 8 (less_one supply part.piece) part t.parts → HasParts list (part ∷ t.parts)
+    from more = subst (HasParts list) more.parts_are (all.all more.tiling)
+
+-- where the others of the supply fill the rest, the piece is in some listed tiling
+pub part_listed : (E : Field) (supply : Supply) (list : List ListedTiling) (part : Part) → LiesIn E supply part → ListsAll E supply list → Tiling (all_but (left_by_part E part)) 8 (less_one supply part.piece) → SomeHas list (laid_part part)
+part_listed E supply list part lies lists t =
+    let both = have_both E supply list part lies lists t in
+    record { tiling = both.tiling; listed = both.listed; has = All-head (λ p. HasPiece both.tiling (laid_part p)) part t.parts both.all }
+
+-- a list of the tilings that have it lists all tilings of the rest
+pub rest_listed : (E : Field) (supply : Supply) (list kept : List ListedTiling) (part : Part) → LiesIn E supply part → ListsAll E supply list → ((tiling : ListedTiling) → Contains list tiling → HasPiece tiling (laid_part part) → Contains kept tiling) →
+    ListsAll (left_by_part E part) (less_one supply part.piece) kept
+rest_listed E supply list kept part lies lists keeps = record { all = each }
+  where
+    each : (t : Tiling (all_but (left_by_part E part)) 8 (less_one supply part.piece)) → HasParts kept t.parts
+    each t =
+        let both = have_both E supply list part lies lists t in
+        record {
+          tiling = both.tiling;
+          listed = keeps both.tiling both.listed (All-head (λ p. HasPiece both.tiling (laid_part p)) part t.parts both.all);
+          all = All-tail (λ p. HasPiece both.tiling (laid_part p)) part t.parts both.all;
+        }

@@ -1,0 +1,59 @@
+-- Listed tilings: which pieces they have, and when all tilings of a set of cells are listed, and nothing else.
+use Rattle.std.specs.Prelude.{◌≡◌, ◌⊎◌, ℕ, ◌<◌, pos, List, All, map, slice_index_or}
+use Rattle.std.specs.List.{Contains}
+use Rattle.lane_board.specs.Field.{Field, empty_field}
+use Rattle.srs.specs.declared.piece.Piece.{Piece}
+use Rattle.srs.specs.declared.piece.Piece.TheVariants.{I}
+use Rattle.srs.specs.SameCells.{is_among}
+use Rattle.prune.specs.Tiling.{Part, Supply, Tiling}
+use Rattle.empty_cells.specs.Empties.{all_but, empty_cells}
+use Rattle.empty_cells.specs.Spans.{HasNoCell}
+use Rattle.tiled_pieces.specs.declared.listed.ListedTiling.{ListedTiling}
+
+-- a piece that is laid: its kind, and the cells that it covers
+pub record LaidPiece : Type 0 where
+  pub piece : Piece
+  pub cells : Field
+
+-- a part of a tiling, as a piece that is laid
+abbrev pub laid_part : Part → LaidPiece
+laid_part part = record { piece = part.piece; cells = λ x y. is_among part.cells (pos x, pos y) }
+
+-- the piece at a place of a listed tiling
+unfoldable pub laid_at : ListedTiling → ℕ → LaidPiece
+laid_at tiling place = record {
+  piece = slice_index_or tiling.kinds place I;
+  cells = slice_index_or (map empty_cells tiling.cells) place empty_field;
+}
+
+-- a listed tiling has a piece at one of its eight places
+pub record HasPiece (tiling : ListedTiling) (laid : LaidPiece) : Type 0 where
+  pub place : ℕ
+  pub known : place < 8
+  pub there : laid_at tiling place ≡ laid
+
+-- some listed tiling has a piece
+pub record SomeHas (list : List ListedTiling) (laid : LaidPiece) : Type 0 where
+  pub tiling : ListedTiling
+  pub listed : Contains list tiling
+  pub has : HasPiece tiling laid
+
+-- a listed tiling has all parts of a tiling
+pub record HasParts (list : List ListedTiling) (parts : List Part) : Type 0 where
+  pub tiling : ListedTiling
+  pub listed : Contains list tiling
+  pub all : All (λ part. HasPiece tiling (laid_part part)) parts
+
+-- each tiling of a set of cells by a supply is listed
+pub record ListsAll (E : Field) (supply : Supply) (list : List ListedTiling) : Type 0 where
+  pub all : (t : Tiling (all_but E) 8 supply) → HasParts list t.parts
+
+-- the pieces of a listed tiling are parts of a tiling of a set of cells; its further places have no cell
+pub record IsListed (E : Field) (supply : Supply) (tiling : ListedTiling) : Type 0 where
+  pub whole : Tiling (all_but E) 8 supply
+  pub each : (place : ℕ) → place < 8 → HasNoCell (laid_at tiling place).cells
+      ⊎ Contains (map laid_part whole.parts) (laid_at tiling place)
+
+-- nothing but tilings of a set of cells by a supply is listed
+pub record ListsOnly (E : Field) (supply : Supply) (list : List ListedTiling) : Type 0 where
+  pub only : (tiling : ListedTiling) → Contains list tiling → IsListed E supply tiling
