@@ -1,6 +1,6 @@
 -- What a reader must believe
 pub mod Empties
--- What contracts cite beside these: views of values, and readings and tests, each with its law
+-- What contracts cite beside these: views of values, parts, readings and tests
 pub mod Pivots
 pub mod SupplyWords
 pub mod Spans

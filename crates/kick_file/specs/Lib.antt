@@ -2,7 +2,7 @@
 pub mod Form
 pub mod Faults
 pub mod Printed
--- What contracts cite beside these: views of values, and readings and tests, each with its law
+-- What contracts cite beside these: views of values, parts, readings and tests
 pub mod Reading
 pub mod Printing
 -- What serves proofs alone

@@ -5,5 +5,5 @@ pub mod CellCount
 pub mod RemovalLaws
 pub mod Board
 pub mod Words
--- What contracts cite beside these: views of values, and readings and tests, each with its law
+-- What contracts cite beside these: views of values, parts, readings and tests
 pub mod Lanes

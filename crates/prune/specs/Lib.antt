@@ -5,6 +5,6 @@ pub mod Tiling
 pub mod Counts
 pub mod Walls
 pub mod Laws
--- What contracts cite beside these: views of values, and readings and tests, each with its law
+-- What contracts cite beside these: views of values, parts, readings and tests
 pub mod OnePart
 pub mod Mirror
