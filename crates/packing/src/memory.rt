@@ -171,7 +171,7 @@ impl PlaceMemory {
         if let Some(answer) = self.answer_to(cells, supply, placement) {
             return answer;
         }
-        let answer = store.has_tiling_near(&cells.without(placement), placement.x, supply);
+        let answer = store.has_tiling_by(&cells.without(placement), placement.x, supply);
         if placement.y < 8 {
             self.note(cells, supply, placement, answer);
         }

@@ -38,11 +38,18 @@ impl TilingStore {
     pub fn has_tiling(&mut self, cells: &Empties, supply: &[u8; 7]) -> bool
         ensures { IsTrue result ↔ Tiling (all_but (empty_cells cells.now)) 8 (supply_in supply.now) }
     {
-        self.has_tiling_near(cells, 0, SupplyWord::new(supply))
+        self.has_tiling_near(cells, 0, supply)
     }
 
     /// The same, by a search that begins at the side nearer to a column.
-    pub fn has_tiling_near(&mut self, cells: &Empties, column: u8, supply: SupplyWord) -> bool
+    pub fn has_tiling_near(&mut self, cells: &Empties, column: u8, supply: &[u8; 7]) -> bool
+        ensures { IsTrue result ↔ Tiling (all_but (empty_cells cells.now)) 8 (supply_in supply.now) }
+    {
+        self.has_tiling_by(cells, column, SupplyWord::new(supply))
+    }
+
+    /// The same for a supply in one word.
+    pub(crate) fn has_tiling_by(&mut self, cells: &Empties, column: u8, supply: SupplyWord) -> bool
         ensures { IsTrue result ↔ Tiling (all_but (empty_cells cells.now)) 8 (supply_of supply) }
     {
         if cells.has_uneven_part() {

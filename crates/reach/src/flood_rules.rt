@@ -9,6 +9,7 @@ ghost use Rattle.reach.specs.SameOffsets.{HaveSameOffsets};
 use crate::find::{pivots_where, places_where};
 use crate::same_offsets::has_srs_offsets;
 use crate::steps::Steps;
+use lane_board::LaneBoard;
 use low_flood::{is_clear_from, low_places};
 use moves::DropMode;
 use place_sets::{LowPlaces, Places};
@@ -108,6 +109,7 @@ impl FloodRules {
 impl FloodRules {
     ghost use Rattle.std.specs.Prelude.{◌+◌, ◌≤◌};
     ghost use Rattle.srs.specs.declared.placement.Placement.{Placement};
+    ghost use Rattle.lane_board.specs.Board.{field_of};
     ghost use Rattle.well.specs.LockLaws.{is_below};
     ghost use Rattle.well.specs.Well.{filled};
     ghost use Rattle.moves.specs.Place.{IsPlace};
@@ -136,10 +138,25 @@ impl FloodRules {
         if srs && is_clear_from(&filled, 8) {
             return LowPlaces::of_states(piece, &low_places(&filled, piece, drop_mode), rows);
         }
-        LowPlaces::of_states(
-            piece,
-            &whole_places(&filled, &self.rules, piece, drop_mode),
-            rows,
-        )
+        self.whole_places_below(&filled, piece, drop_mode, rows)
+    }
+
+    #[tactic(auto, unfolding(crate::specs::FloodRules::flood_table))]
+    /// The same by a flood of all rows. It is not inlined, so that floods of few rows need not clear its memory.
+    #[inline(never)]
+    fn whole_places_below(
+        &self,
+        filled: &LaneBoard<24>,
+        piece: Piece,
+        drop_mode: DropMode,
+        rows: u8,
+    ) -> LowPlaces
+        requires { rows ≤ 8 }
+        ensures piece { piece_of result ≡ piece }
+        ensures held { (q : Placement) → (IsTrue (holds result q)) ↔ ((q.piece ≡ piece)
+            × IsPlace (flood_table self.now) (field_of filled.now) drop_mode q × IsTrue (is_below rows q)) }
+    {
+        let states = whole_places(filled, &self.rules, piece, drop_mode);
+        LowPlaces::of_states(piece, &states, rows)
     }
 }

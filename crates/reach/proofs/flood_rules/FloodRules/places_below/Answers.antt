@@ -1,9 +1,14 @@
 -- What is held are the places that lie so low.
-use Rattle.std.proofs.Common.{subst}
+use Rattle.std.proofs.Common.{◌≡◌, ◌↔◌, subst}
+use Rattle.std.specs.Prelude.{IsTrue}
 use Rattle.lane_board.specs.Field.{Field}
+use Rattle.srs.specs.declared.placement.Placement.{Placement}
 use Rattle.srs.specs.Kick.{srs_table}
+use Rattle.well.specs.LockLaws.{is_below}
 use Rattle.well.specs.Well.{filled}
+use Rattle.moves.specs.Place.{IsPlace}
 use Rattle.reach.specs.FloodRules.{flood_table}
+use Rattle.place_sets.specs.LowPlaces.{holds}
 use Rattle.place_sets.specs.PlaceSets.{ArePlaces}
 use Rattle.place_sets.specs.States.{states_of}
 use Rattle.place_sets.proofs.CallerLemmas.{low_places_held}
@@ -19,9 +24,7 @@ returns-then-is_clear_from-clause-held g c =
     (subst (λ (F : Field). ArePlaces srs_table F c.args.drop_mode c.args.piece S) c.board-filled.ensures c.low_places.ensures))
 
 pub returns-clause-held : goal.returns-clause-held
-unfolding flood_table
 returns-clause-held g c =
-    let table = flood_table c.args.self.now in
-    let S = states_of c.whole_places.result in
-    low_places_held table (filled c.args.well.now) c.args.drop_mode c.args.piece c.args.rows c.of_states-2.result S c.of_states-2.ensures.held
-    (subst (λ (F : Field). ArePlaces table F c.args.drop_mode c.args.piece S) c.board-filled.ensures c.whole_places.ensures)
+    subst (λ (F : Field). (q : Placement) → IsTrue (holds c.whole_places_below.result q)
+    ↔ ((q.piece ≡ c.args.piece) × IsPlace (flood_table c.args.self.now) F c.args.drop_mode q × IsTrue (is_below c.args.rows q)))
+    c.board-filled.ensures c.whole_places_below.ensures.held
