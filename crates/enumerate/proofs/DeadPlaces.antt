@@ -1,8 +1,8 @@
 -- Places that leave no tiling have nothing to do, so they may be left out.
-use Rattle.std.proofs.Common.{◌≡◌, ℕ, ◌+◌, ◌-◌, ◌≤◌, Bool, true, false, not, ◌&&◌, List, [], ◌∷◌, ◌++◌, refl, sym, ap, ◌∙◌, inl, inr, arith}
+use Rattle.std.proofs.Common.{◌≡◌, ℕ, ◌+◌, ◌-◌, ◌*◌, ◌/◌, ◌≤◌, get_or, Bool, true, false, not, ◌&&◌, List, [], ◌∷◌, ◌++◌, refl, sym, ap, subst, ◌∙◌, inl, inr, arith}
 use Rattle.std.specs.Prelude.{Some, filter, if◌then◌else◌, min}
 use Rattle.std.specs.List.{flat_map}
-use Rattle.std.proofs.lemmas.Bool.{cases_Bool}
+use Rattle.std.proofs.lemmas.Bool.{both_ways, cases_Bool}
 use Rattle.srs.specs.declared.piece.Piece.{Piece}
 use Rattle.srs.specs.declared.placement.Placement.{Placement}
 use Rattle.srs.specs.Kick.{Table}
@@ -12,22 +12,27 @@ use Rattle.srs.specs.Rotation.{rotation_place}
 use Rattle.lists.specs.Rising.{is_above}
 use Rattle.lists.proofs.CallerLemmas.{filter-false, filter-true}
 use Rattle.lane_board.specs.Words.{cells_of_words}
+use Rattle.well.specs.LockLaws.{is_below}
 use Rattle.well.specs.Well.{filled}
+use Rattle.well.specs.declared.well.Well.{Well}
 use Rattle.moves.specs.declared.key.DropMode.{DropMode}
 use Rattle.place_sets.specs.declared.low_held.LowPlaces.{LowPlaces}
 use Rattle.place_sets.specs.LowPlaces.{holds, piece_of}
-use Rattle.prune.specs.Tiling.{supply_in}
 use Rattle.prune.specs.OnePart.{less_one}
 use Rattle.empty_cells.specs.Empties.{all_but, empty_cells, without_placement}
 use Rattle.empty_cells.specs.HasTiling.{has_tiling}
-use Rattle.empty_cells.proofs.CallerLemmas.{tiling_decided}
+use Rattle.empty_cells.specs.SupplyWords.{supply_of}
+use Rattle.empty_cells.specs.declared.supply.SupplyWord.{SupplyWord}
+use Rattle.empty_cells.proofs.CallerLemmas.{no_pivot, tiling_decided}
 use Rattle.enumerate.specs.declared.frame.Frame.{Frame}
 use Rattle.enumerate.specs.Events.{Event, entered, enter}
 use Rattle.enumerate.specs.Frames.{position_of, places_left}
+use Rattle.enumerate.specs.Standing.{may_lock}
+use Rattle.enumerate.specs.Turns.{AreDead, SamePosition}
 use Rattle.enumerate.proofs.Choices.{if_false, if_true}
 use Rattle.enumerate.proofs.PlaceLaws.{lockable-free, lockable-piece}
 use Rattle.enumerate.proofs.TilingLaws.{left-tiled, live-after}
-use Rattle.enumerate.proofs.TurnLemmas.{enters-dead}
+use Rattle.enumerate.proofs.TurnLemmas.{enters-dead, same-position}
 
 module _ (f : Placement → List Event) (a b : Placement → Bool) (same : (q : Placement) → (if a q then f q else []) ≡ (if b q then f q else [])) where
   first : (c : Placement → Bool) (q : Placement) (qs : List Placement) → flat_map f (filter c (q ∷ qs)) ≡ (if c q then f q else []) ++ flat_map f (filter c qs)
@@ -46,25 +51,44 @@ without_dead true false above events none = refl
 without_dead true true true events none = sym (none refl refl)
 without_dead true true false events none = refl
 
-module _ (frame : Frame) (places : LowPlaces) (is : frame.places ≡ Some places) (piece : Piece) (kind : piece_of places ≡ piece) (some : 1 ≤ frame.left)
-    (supply : List ℕ) (moves : (other : Piece) → supply_in supply other ≡ min frame.left (less_one (supply_in frame.supply) piece other))
-    (words : List ℕ) (dead : (q : Placement) → q.piece ≡ piece → cells_of_words words (rotation_place q.rotation) q.x q.y ≡ true → has_tiling (all_but (without_placement (empty_cells frame.empties) q)) 8 (supply_in supply) ≡ false) where
+-- what leaves no tiling has nothing to do
+pub dead_found : (frame : Frame) (piece : Piece) → 1 ≤ frame.left → (supply : SupplyWord) → ((other : Piece) → supply_of supply other ≡ min frame.left (less_one (supply_of frame.supply) piece other)) →
+    (words : List ℕ) → ((q : Placement) → q.piece ≡ piece → cells_of_words words (rotation_place q.rotation) q.x q.y ≡ true → has_tiling (all_but (without_placement (empty_cells frame.empties) q)) 8 (supply_of supply) ≡ false) →
+    AreDead frame piece words
+dead_found frame piece some supply moves words none = record {
+  dead = λ q of_kind lockable below is.
+      let free = lockable-free (filled frame.well) piece q lockable in
+      let E = without_placement (empty_cells frame.empties) q in
+      let less : frame.left - 1 + 1 ≡ frame.left = omega (arith, some) in
+      let told = left-tiled (filled frame.well) E frame.rows q (supply_of supply) (has_tiling (all_but E) 8 (supply_of supply)) frame.low frame.bounded free below
+      (ap (λ E. without_placement E q) frame.emptied) (tiling_decided (all_but E) 8 (supply_of supply)) in
+      enters-dead frame q below (frame.left - 1) less (λ table mode.
+      live-after table mode frame q (supply_of supply) (λ other. moves other ∙ ap (λ (p : Piece). min frame.left (less_one (supply_of frame.supply) p other)) (sym of_kind)) (frame.left - 1) less
+      ∙ sym told ∙ none q of_kind is);
+}
+
+-- no pivots, no placements
+pub dead_none : (frame : Frame) (piece : Piece) (words : List ℕ) → ((k : ℕ) → get_or words k 0 ≡ 0) → AreDead frame piece words
+dead_none frame piece words none = record { dead = λ q _ _ _ is. absurd (both_ways _ (no_pivot words q.rotation q.x q.y (none (2 * rotation_place q.rotation + q.y / 4))) is) }
+
+-- the same at another frame of the position
+pub dead_stays : (old new : Frame) → SamePosition old new → (piece : Piece) (words : List ℕ) → AreDead old piece words → AreDead new piece words
+dead_stays old new same piece words are = record {
+  dead = λ q of_kind lockable below is.
+      let before = are.dead q of_kind (subst (λ (w : Well). may_lock (filled w) piece q ≡ true) same.well lockable) (subst (λ rows. is_below rows q ≡ true) same.rows below) is in
+      record {
+        same = λ table mode prefix. (λ i. entered (enter (same.left i)) prefix (same-position table mode old new same i) q) ∙ before.same table mode prefix;
+      };
+}
+
+module _ (frame : Frame) (places : LowPlaces) (is : frame.places ≡ Some places) (words : List ℕ) (are : AreDead frame (piece_of places) words) where
   abbrev is_dead : Placement → Bool
   is_dead q = cells_of_words words (rotation_place q.rotation) q.x q.y
 
   nothing : (table : Table) (mode : DropMode) (prefix : List Placement) (q : Placement) → holds places q ≡ true → is_dead q ≡ true → entered (enter frame.left) prefix (position_of table mode frame) q ≡ []
   nothing table mode prefix q held none =
       let lockable = frame.lockable places is q held in
-      let of_kind : q.piece ≡ piece = lockable-piece (filled frame.well) (piece_of places) q lockable ∙ kind in
-      let free = lockable-free (filled frame.well) (piece_of places) q lockable in
-      let below = frame.held_below places is q held in
-      let E = without_placement (empty_cells frame.empties) q in
-      let less : frame.left - 1 + 1 ≡ frame.left = omega (arith, some) in
-      let told = left-tiled (filled frame.well) E frame.rows q (supply_in supply) (has_tiling (all_but E) 8 (supply_in supply)) frame.low frame.bounded free below
-      (ap (λ E. without_placement E q) frame.emptied) (tiling_decided (all_but E) 8 (supply_in supply)) in
-      (enters-dead frame q below (frame.left - 1) less (λ table mode.
-      live-after table mode frame q (supply_in supply) (λ other. moves other ∙ ap (λ (p : Piece). min frame.left (less_one (supply_in frame.supply) p other)) (sym of_kind)) (frame.left - 1) less
-      ∙ sym told ∙ dead q of_kind none)).same table mode prefix
+      (are.dead q (lockable-piece (filled frame.well) (piece_of places) q lockable) lockable (frame.held_below places is q held) none).same table mode prefix
 
   pub left-out : (kept : LowPlaces) → piece_of kept ≡ piece_of places → ((q : Placement) → holds kept q ≡ (holds places q && not (is_dead q))) → (table : Table) (mode : DropMode) (prefix : List Placement) →
       flat_map (entered (enter frame.left) prefix (position_of table mode frame)) (places_left (Some kept) frame.entered) ≡ flat_map (entered (enter frame.left) prefix (position_of table mode frame)) (places_left (Some places) frame.entered)

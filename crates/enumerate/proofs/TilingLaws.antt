@@ -26,6 +26,7 @@ use Rattle.prune.specs.Tiling.{Supply, Tiling, supply_in}
 use Rattle.prune.specs.OnePart.{less_one}
 use Rattle.prune.specs.Laws.{ClearsRows, kinds_placed}
 use Rattle.prune.proofs.CallerLemmas.{cleared_is_tiled, full_rows_may_stand, more_pieces}
+use Rattle.empty_cells.specs.SupplyWords
 use Rattle.empty_cells.specs.Empties.{all_but, without_placement}
 use Rattle.empty_cells.specs.HasTiling.{has_tiling}
 use Rattle.empty_cells.proofs.CallerLemmas.{left_by_placement, tiling_below, tiling_decided}
@@ -121,14 +122,14 @@ pub supply-moves : (line : QueuesInPlay) (piece : Piece) (left : ℕ) (before af
 supply-moves line piece left before after is moves = fun_ext (λ other. moves other ∙ ap (λ (s : Supply). min left (less_one s piece other)) is ∙ supply-next line piece left other)
 
 -- so whether a placement leads to a live position is told by what it leaves
-pub live-after : (table : Table) (mode : DropMode) (frame : Frame) (q : Placement) (supply : Supply) → ((other : Piece) → supply other ≡ min frame.left (less_one (supply_in frame.supply) q.piece other)) →
+pub live-after : (table : Table) (mode : DropMode) (frame : Frame) (q : Placement) (supply : Supply) → ((other : Piece) → supply other ≡ min frame.left (less_one (SupplyWords.supply_of frame.supply) q.piece other)) →
     (left : ℕ) → left + 1 ≡ frame.left → is_live left (after_of (position_of table mode frame) q) ≡ has_tiling (locked (filled frame.well) q) (frame.rows - rows_removed (filled frame.well) q) supply
 unfolding is_live can_be_tiled after_of position_of
 live-after table mode frame q supply moves left less =
     let line = queues_in_play frame.line.queues in
     let next : suc left ≡ frame.left = omega arith in
     ap (has_tiling (locked (filled frame.well) q) (frame.rows - rows_removed (filled frame.well) q))
-    (ap (supply_of (record line { played = line.played ++ q.piece ∷ [] })) next ∙ sym (supply-moves line q.piece frame.left (supply_in frame.supply) supply frame.supplied moves))
+    (ap (supply_of (record line { played = line.played ++ q.piece ∷ [] })) next ∙ sym (supply-moves line q.piece frame.left (SupplyWords.supply_of frame.supply) supply frame.supplied moves))
 
 -- what is left lies below the rows left
 pub locked-below : (frame : Frame) (q : Placement) (well : Well) (rows : ℕ) → is_below frame.rows q ≡ true → is_free (filled frame.well) q ≡ true →

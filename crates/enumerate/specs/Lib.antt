@@ -7,7 +7,7 @@ pub mod ViewOf
 -- What serves proofs alone
 pub mod Settled
 pub mod Events
-pub mod AfterKind
+pub mod SupplyAfter
 pub mod Standing
 pub mod Frames
 pub mod Turns

@@ -1,12 +1,17 @@
 -- What a turn at a frame does to the events that are still to come.
 use Rattle.std.specs.Prelude.{◌≡◌, ℕ, ◌+◌, true, Option, Some, None, List, [], ◌∷◌, ◌++◌}
+use Rattle.srs.specs.declared.piece.Piece.{Piece}
 use Rattle.srs.specs.declared.placement.Placement.{Placement}
 use Rattle.srs.specs.Kick.{Table}
+use Rattle.srs.specs.Rotation.{rotation_place}
+use Rattle.lane_board.specs.Words.{cells_of_words}
 use Rattle.moves.specs.declared.key.DropMode.{DropMode}
 use Rattle.enumerate.specs.declared.frame.Frame.{Frame}
 use Rattle.enumerate.specs.declared.turn.Turn.{Turn}
 use Rattle.enumerate.specs.declared.turn.Turn.TheVariants.{Passed, Flooded, Entered, Full, Over}
 use Rattle.well.specs.LockLaws.{is_below}
+use Rattle.well.specs.Well.{filled}
+use Rattle.enumerate.specs.Standing.{may_lock}
 use Rattle.enumerate.specs.Position.{after_of, is_live}
 use Rattle.enumerate.specs.Events.{Event, Tick, Flood, Found, entered, enter}
 use Rattle.enumerate.specs.Frames.{position_of, entered_placement, events_of}
@@ -29,6 +34,11 @@ pub record EntersAs (frame : Frame) (q : Placement)
     (events : Table → DropMode → List Placement → List Event) : Type 0 where
   pub same : (table : Table) (mode : DropMode) (prefix : List Placement) →
       entered (enter frame.left) prefix (position_of table mode frame) q ≡ events table mode (prefix ++ q ∷ [])
+
+-- nothing is to be done at placements of a piece with these pivots
+pub record AreDead (frame : Frame) (piece : Piece) (pivots : List ℕ) : Type 0 where
+  pub dead : (q : Placement) → q.piece ≡ piece → may_lock (filled frame.well) piece q ≡ true → is_below frame.rows q ≡ true →
+      cells_of_words pivots (rotation_place q.rotation) q.x q.y ≡ true → EntersAs frame q (λ table mode prefix. [])
 
 -- the frame after a placement, at which nothing was tried
 pub record IsChild (frame : Frame) (q : Placement) (child : Frame) : Type 0 where

@@ -2,29 +2,29 @@
 ghost use Rattle.std.specs.Prelude.{◌≡◌, ◌+◌, IsTrue, min};
 ghost use Rattle.srs.specs.declared.piece.Piece.{Piece};
 ghost use Rattle.hold_queue.specs.QueueSet.{queues_in_play};
-ghost use Rattle.prune.specs.Tiling.{supply_in};
 ghost use Rattle.prune.specs.OnePart.{less_one};
+ghost use Rattle.empty_cells.specs.SupplyWords.{supply_of};
 ghost use Rattle.enumerate.specs.Position.{line_after, may_play};
 ghost use Rattle.enumerate.specs.Turns.{SamePlaces, SamePosition};
 
-use crate::after_kind::AfterKind;
 use crate::frame::Frame;
 use crate::line::Line;
 use crate::supply::supply_after;
+use empty_cells::SupplyWord;
 use srs::Piece;
 
 impl Frame {
     /// How many pieces of each kind may still be played after a piece of this kind.
-    pub fn supply_after(&self, piece: Piece) -> [u8; 7]
+    pub fn supply_after(&self, piece: Piece) -> SupplyWord
         ensures { (other : Piece)
-            → supply_in result other ≡ min self.now.left (less_one (supply_in self.now.supply) piece other) }
+            → supply_of result other ≡ min self.now.left (less_one (supply_of self.now.supply) piece other) }
     {
-        if let Some(after) = self.after_kind {
-            if after.kind.code() == piece.code() {
-                return after.supply;
+        if let Some(kind) = self.after_kind {
+            if kind.code() == piece.code() {
+                return self.after_supply;
             }
         }
-        supply_after(&self.supply, piece, self.left)
+        supply_after(self.supply, piece, self.left)
     }
 
     /// The line after a piece of this kind.
@@ -56,10 +56,8 @@ impl Frame {
         if self.left == 0 {
             return;
         }
-        self.after_kind = Some(AfterKind {
-            kind: piece,
-            supply: supply_after(&self.supply, piece, self.left),
-        });
+        self.after_supply = supply_after(self.supply, piece, self.left);
+        self.after_kind = Some(piece);
     }
 
     /// Keeps the line after a piece of this kind, if a placement is to come after it.

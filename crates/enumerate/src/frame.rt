@@ -8,15 +8,14 @@ ghost use Rattle.well.specs.LockLaws.{LiesBelow, is_below};
 ghost use Rattle.place_sets.specs.LowPlaces.{holds, piece_of};
 ghost use Rattle.hold_queue.specs.QueueSet.{queues_in_play};
 ghost use Rattle.hold_queue.specs.Supply.{supply_of};
-ghost use Rattle.prune.specs.Tiling.{supply_in};
 ghost use Rattle.empty_cells.specs.Empties.{empty_cells};
+ghost use Rattle.empty_cells.specs.SupplyWords;
 ghost use Rattle.enumerate.specs.Position.{line_after, may_play};
 ghost use Rattle.enumerate.specs.Standing.{may_lock};
-ghost use Rattle.enumerate.specs.AfterKind.{IsAfterKind};
+ghost use Rattle.enumerate.specs.SupplyAfter.{IsSupplyAfter};
 
-use crate::after_kind::AfterKind;
 use crate::line::Line;
-use empty_cells::Empties;
+use empty_cells::{Empties, SupplyWord};
 use reach::LowPlaces;
 use srs::{Piece, Placement};
 use well::Well;
@@ -30,12 +29,13 @@ pub struct Frame {
     /// The empty cells of the rows that are left.
     pub empties: Empties,
     pub line: Line,
-    /// How many pieces of each kind may still be played, in the order of codes.
-    pub supply: [u8; 7],
+    /// How many pieces of each kind may still be played.
+    pub supply: SupplyWord,
     /// How many placements come after the next one.
     pub left: u8,
-    /// How many pieces may still be played after one of the kind that was flooded last, if that is known.
-    pub after_kind: Option<AfterKind>,
+    /// The kind after which `after_supply` is the supply, if some kind was tried.
+    pub after_kind: Option<Piece>,
+    pub after_supply: SupplyWord,
     /// The kind after which `next_line` is the line, if a place of some kind was entered.
     pub next_kind: Option<Piece>,
     pub next_line: Line,
@@ -47,8 +47,8 @@ pub struct Frame {
     ghost few: { left ≤ 19 },
     ghost bounded: { LiesBelow (filled well) rows },
     ghost emptied: { empty_cells empties ≡ difference (rows_below rows) (filled well) },
-    ghost supplied: { supply_in supply ≡ supply_of (queues_in_play line.queues) (left + 1) },
-    ghost followed: { ForSome after_kind (IsAfterKind supply left) },
+    ghost supplied: { SupplyWords.supply_of supply ≡ supply_of (queues_in_play line.queues) (left + 1) },
+    ghost followed: { ForSome after_kind (λ kind. IsSupplyAfter supply left kind after_supply) },
     ghost lined: { ForSome next_kind (λ kind. queues_in_play next_line.queues
         ≡ line_after (queues_in_play line.queues) kind) },
     ghost lockable: { ForSome places (λ p. (q : Placement) → IsTrue (holds p q) →

@@ -2,7 +2,6 @@
 #![tactic(auto)]
 
 mod advance;
-mod after_kind;
 mod following;
 mod frame;
 pub mod laws;

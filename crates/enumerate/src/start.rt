@@ -32,7 +32,7 @@ use crate::notes::Notes;
 use crate::search::Search;
 use crate::seek::seek;
 use crate::tilings::Tilings;
-use empty_cells::Empties;
+use empty_cells::{Empties, SupplyWord};
 use hold_queue::QueueSet;
 use pc_outside::NoMemory;
 use problem::{Problem, Sequence, needed};
@@ -76,14 +76,16 @@ fn first_frame(problem: &Problem, queue: &Option<Queue>) -> Frame
     };
     let left = needed(problem).saturating_sub(1);
     let line = Line::of(queues);
+    let supply = SupplyWord::new(&queues.supply(left + 1));
     Frame {
         well: problem.well,
         rows: problem.height,
         empties: Empties::below(&problem.well, problem.height),
         line,
-        supply: queues.supply(left + 1),
+        supply,
         left,
         after_kind: None,
+        after_supply: supply,
         next_kind: None,
         next_line: line,
         tried: 0,

@@ -7,11 +7,12 @@ ghost use Rattle.well.specs.Well.{filled};
 ghost use Rattle.prune.specs.Tiling.{supply_in, Tiling};
 ghost use Rattle.empty_cells.specs.Empties.{all_but, empty_cells, without_placement};
 ghost use Rattle.empty_cells.specs.HasTiling.{has_tiling};
+ghost use Rattle.empty_cells.specs.SupplyWords.{supply_of};
 ghost use Rattle.dead_memo.specs.Memo.{kept};
 ghost use Rattle.enumerate.specs.Settled.{IsSettled};
 
 use dead_memo::DeadMemo;
-use empty_cells::Empties;
+use empty_cells::{Empties, SupplyWord};
 use packing::{PlaceMemory, TilingStore};
 use pc_outside::NoMemory;
 use prune::cheap_no;
@@ -95,12 +96,12 @@ impl Tilings {
         &mut self,
         cells: &Empties,
         placement: &Placement,
-        supply: &[u8; 7],
+        supply: SupplyWord,
     ) -> bool
         requires column { placement.now.x ≤ 9 }
         requires row { placement.now.y ≤ 31 }
         ensures { IsTrue result ↔ Tiling (all_but (without_placement (empty_cells cells.now) placement.now)) 8
-            (supply_in supply.now) }
+            (supply_of supply) }
     {
         self.left
             .leaves_tiling(cells, placement, supply, &mut self.decided)
@@ -109,10 +110,10 @@ impl Tilings {
     /// The placements of a piece that are known to leave no tiling of a set of cells by the supply, by their pivots in
     /// rows 0 to 7: two words for each rotation, four rows in each word, and sixteen bits for each row.
     #[inline(always)]
-    pub fn dead_pivots(&self, cells: &Empties, supply: &[u8; 7], piece: Piece) -> [u64; 8]
+    pub fn dead_pivots(&self, cells: &Empties, supply: SupplyWord, piece: Piece) -> [u64; 8]
         ensures { (q : Placement) → q.piece ≡ piece
             → cells_of_words result (rotation_place q.rotation) q.x q.y ≡ true
-            → has_tiling (all_but (without_placement (empty_cells cells.now) q)) 8 (supply_in supply.now) ≡ false }
+            → has_tiling (all_but (without_placement (empty_cells cells.now) q)) 8 (supply_of supply) ≡ false }
     {
         self.left.dead_pivots(cells, supply, piece)
     }

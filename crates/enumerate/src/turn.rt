@@ -13,22 +13,22 @@ ghost use Rattle.place_sets.specs.LowPlaces.{piece_of};
 ghost use Rattle.hold_queue.specs.QueueSet.{queues_in_play};
 ghost use Rattle.well.specs.Lock.{locked, rows_removed};
 ghost use Rattle.well.specs.LockLaws.{is_below};
-ghost use Rattle.prune.specs.Tiling.{supply_in};
 ghost use Rattle.prune.specs.OnePart.{less_one};
 ghost use Rattle.empty_cells.specs.Empties.{empty_cells};
 ghost use Rattle.empty_cells.specs.HasTiling.{has_tiling};
+ghost use Rattle.empty_cells.specs.SupplyWords.{supply_of};
 ghost use Rattle.enumerate.specs.Position.{may_play, is_live, places_at};
 ghost use Rattle.enumerate.specs.Standing.{may_lock};
 ghost use Rattle.enumerate.specs.Counted.{CountsUp};
 ghost use Rattle.enumerate.specs.Frames.{events_of, position_of, places_left};
-ghost use Rattle.enumerate.specs.Turns.{Enters, EntersAs, GoesOn, LeadsOn, Turns, SamePosition};
+ghost use Rattle.enumerate.specs.Turns.{AreDead, Enters, EntersAs, GoesOn, LeadsOn, Turns, SamePosition};
 ghost use Rattle.enumerate.specs.declared.frame.Frame.{Frame};
 
 use crate::frame::Frame;
 use crate::left::take_above;
 use crate::notes::Notes;
 use crate::tilings::Tilings;
-use empty_cells::Empties;
+use empty_cells::{Empties, SupplyWord};
 use moves::DropMode;
 use reach::{FloodRules, Steps};
 use srs::{Piece, Placement};
@@ -72,21 +72,25 @@ impl Frame {
         ensures { (table : Table) (mode : DropMode)
             → result ≡ is_live self.now.left (position_of table mode self.now) }
     {
-        tilings.has_tiling(&self.well, self.rows, &self.supply)
+        tilings.has_tiling(&self.well, self.rows, &self.supply.entries())
     }
 
     /// Whether what a placement leaves has a tiling by this many pieces of each kind.
-    fn leaves_tiling(&self, placement: &Placement, supply: &[u8; 7], tilings: &mut Tilings) -> bool
+    fn leaves_tiling(&self, placement: &Placement, supply: SupplyWord, tilings: &mut Tilings) -> bool
         requires lockable { IsTrue (may_lock (filled self.now.well) placement.now.piece placement.now) }
         requires below { IsTrue (is_below self.now.rows placement.now) }
         ensures { result ≡ has_tiling (locked (filled self.now.well) placement.now)
-            (self.now.rows - rows_removed (filled self.now.well) placement.now) (supply_in supply.now) }
+            (self.now.rows - rows_removed (filled self.now.well) placement.now) (supply_of supply) }
     {
         if self.left < MANY {
             return tilings.leaves_tiling(&self.empties, placement, supply);
         }
         let (well, removed) = self.well.lock(placement);
-        tilings.has_tiling(&well, self.rows.saturating_sub(removed), supply)
+        tilings.has_tiling(
+            &well,
+            self.rows.saturating_sub(removed),
+            &supply.entries(),
+        )
     }
 
     /// Removes the next placement to be entered and returns it.
@@ -149,7 +153,7 @@ impl Frame {
             return true;
         }
         let supply = self.supply_after(placement.piece);
-        self.leaves_tiling(placement, &supply, tilings)
+        self.leaves_tiling(placement, supply, tilings)
     }
 
     /// Makes `child` the frame after a placement that leaves a tiling.
@@ -216,6 +220,7 @@ impl Frame {
     }
 
     /// Floods a kind that may be played.
+    #[inline(always)]
     pub fn flood<L: Ledger>(
         &mut self,
         piece: Piece,
@@ -234,26 +239,34 @@ impl Frame {
         ensures counted { steps.new ≡ steps.old + 1 }
         ensures noted { CountsUp floods.old floods.new steps.old steps.new }
     {
-        self.places = Some(rules.places_below(&self.well, piece, drop_mode, self.rows, steps));
-        self.entered = None;
         *floods = floods.saturating_add(1);
+        self.entered = None;
+        self.places = Some(rules.places_below(&self.well, piece, drop_mode, self.rows, steps));
     }
 
-    /// Leaves out those of the places of a piece that are known to leave no tiling, at which there is nothing to do.
-    fn leave_out_dead(&mut self, piece: Piece, tilings: &Tilings)
-        requires { ForSome self.old.places (λ p. piece_of p ≡ piece) }
+    /// The pivots of placements of a piece that are known to leave no tiling, at which there is nothing to do: two words
+    /// for each rotation, four rows in each word, and sixteen bits for each row.
+    #[inline(always)]
+    fn dead_pivots(&self, piece: Piece, tilings: &Tilings) -> [u64; 8]
+        ensures { AreDead self.now piece result }
+    {
+        if self.left == 0 || MANY <= self.left {
+            return [0; 8];
+        }
+        tilings.dead_pivots(&self.empties, self.supply_after(piece), piece)
+    }
+
+    /// Leaves out the places with these pivots, at which there is nothing to do.
+    #[inline(always)]
+    fn leave_out(&mut self, dead: &[u64; 8])
+        requires { ForSome self.old.places (λ p. AreDead self.old (piece_of p) dead.now) }
         ensures goes { (table : Table) (mode : DropMode) (prefix : List Placement) →
             events_of table mode prefix self.new ≡ events_of table mode prefix self.old }
         ensures same { SamePosition self.old self.new }
         ensures tried { self.new.tried ≡ self.old.tried }
     {
-        if self.left == 0 || MANY <= self.left {
-            return;
-        }
-        let supply = self.supply_after(piece);
-        let dead = tilings.dead_pivots(&self.empties, &supply, piece);
         if let Some(places) = &mut self.places {
-            places.leave_out(&dead);
+            places.leave_out(dead);
         }
     }
 
@@ -296,9 +309,11 @@ impl Frame {
             Some(piece) => piece,
         };
         self.tried += 1;
-        self.flood(piece, rules, drop_mode, &mut notes.floods, steps);
         self.keep_supply(piece);
-        self.leave_out_dead(piece, &notes.tilings);
+        // Asked for before the flood: while that runs, what is remembered comes from memory.
+        let dead = self.dead_pivots(piece, &notes.tilings);
+        self.flood(piece, rules, drop_mode, &mut notes.floods, steps);
+        self.leave_out(&dead);
         Turn::Flooded
     }
 

@@ -16,7 +16,7 @@ pub invariant_of-result-clause-bounded : goal.invariant_of-result-clause-bounded
 invariant_of-result-clause-bounded c = record { none = (filled-low c.args.problem.now.well c.args.problem.now.height (omega (arith, c.requires.low)) c.requires.below).none }
 
 pub invariant_of-result-clause-supplied : goal.invariant_of-result-clause-supplied
-invariant_of-result-clause-supplied c = ap supply_in c.supply.ensures ∙ supplies-read (queues_in_play c.match-queue.queues) (c.saturating_sub-left.result + 1)
+invariant_of-result-clause-supplied c = c.new-supply.ensures ∙ ap supply_in c.supply.ensures ∙ supplies-read (queues_in_play c.match-queue.queues) (c.saturating_sub-left.result + 1)
     ∙ ap (λ set. supply_of (queues_in_play set) (c.saturating_sub-left.result + 1)) (sym c.of-line.ensures)
 
 pub returns-clause-position : goal.returns-clause-position

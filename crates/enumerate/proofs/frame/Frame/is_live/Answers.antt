@@ -13,4 +13,4 @@ unfolding is_live can_be_tiled position_of
 returns c = λ table mode.
     let next : c.args.self.now.left + 1 ≡ suc c.args.self.now.left = omega arith in
     c.has_tiling.ensures.answer
-    ∙ ap (has_tiling (filled c.args.self.now.well) c.args.self.now.rows) (c.args.self.now.supplied ∙ ap (supply_of (queues_in_play c.args.self.now.line.queues)) next)
+    ∙ ap (has_tiling (filled c.args.self.now.well) c.args.self.now.rows) (c.entries.ensures ∙ c.args.self.now.supplied ∙ ap (supply_of (queues_in_play c.args.self.now.line.queues)) next)

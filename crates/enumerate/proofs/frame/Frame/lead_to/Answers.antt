@@ -5,7 +5,7 @@ use Rattle.well.specs.Well.{filled}
 use Rattle.moves.specs.declared.key.DropMode.{DropMode}
 use Rattle.hold_queue.specs.QueueSet.{queues_in_play}
 use Rattle.hold_queue.specs.Supply.{supply_of}
-use Rattle.prune.specs.Tiling.{supply_in}
+use Rattle.empty_cells.specs.SupplyWords
 use Rattle.enumerate.specs.Frames.{position_of}
 use Rattle.enumerate.specs.Position.{after_of, is_live}
 use Rattle.enumerate.proofs.PlaceLaws.{lockable-free}
@@ -25,7 +25,7 @@ pub invariant_of-child-clause-supplied : goal.invariant_of-child-clause-supplied
 invariant_of-child-clause-supplied c =
     let frame = c.args.self.now in
     let left : frame.left ≡ frame.left - 1 + 1 = omega (arith, c.requires.some) in
-    supply-moves (queues_in_play frame.line.queues) c.args.placement.now.piece frame.left (supply_in frame.supply) (supply_in c.supply_after-supply.result) frame.supplied c.supply_after-supply.ensures
+    supply-moves (queues_in_play frame.line.queues) c.args.placement.now.piece frame.left (SupplyWords.supply_of frame.supply) (SupplyWords.supply_of c.supply_after-supply.result) frame.supplied c.supply_after-supply.ensures
     ∙ (λ i. supply_of (sym c.line_after-child.ensures i) (left i))
 
 pub returns : goal.returns

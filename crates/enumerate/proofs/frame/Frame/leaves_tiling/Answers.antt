@@ -3,9 +3,9 @@ use Rattle.std.proofs.Common.{ap, ◌-◌, ◌∙◌, arith}
 use Rattle.well.specs.Well.{filled}
 use Rattle.well.specs.Lock.{locked}
 use Rattle.well.proofs.CallerLemmas.{free_pivot_inside}
-use Rattle.prune.specs.Tiling.{supply_in}
 use Rattle.empty_cells.specs.Empties.{empty_cells, without_placement}
 use Rattle.empty_cells.specs.HasTiling.{has_tiling}
+use Rattle.empty_cells.specs.SupplyWords.{supply_of}
 use Rattle.enumerate.proofs.PlaceLaws.{lockable-free}
 use Rattle.enumerate.proofs.TilingLaws.{left-tiled}
 use Rattle.enumerate.proofs.frame.Frame.leaves_tiling.Goals as goal
@@ -27,7 +27,7 @@ pub returns-then-self-lt-MANY : goal.returns-then-self-lt-MANY
 returns-then-self-lt-MANY c =
     let frame = c.args.self.now in
     let q = c.args.placement.now in
-    left-tiled (filled frame.well) (without_placement (empty_cells frame.empties) q) frame.rows q (supply_in c.args.supply.now) c.leaves_tiling.result frame.low frame.bounded (lockable-free (filled frame.well) q.piece q c.requires.lockable) c.requires.below
+    left-tiled (filled frame.well) (without_placement (empty_cells frame.empties) q) frame.rows q (supply_of c.args.supply) c.leaves_tiling.result frame.low frame.bounded (lockable-free (filled frame.well) q.piece q c.requires.lockable) c.requires.below
     (ap (λ E. without_placement E q) frame.emptied) c.leaves_tiling.ensures
 
 pub returns : goal.returns
@@ -35,5 +35,6 @@ returns c =
     let frame = c.args.self.now in
     let q = c.args.placement.now in
     c.has_tiling.ensures.answer
-    ∙ ap (λ F. has_tiling F c.saturating_sub.result (supply_in c.args.supply.now)) c.lock-removed.ensures.field
-    ∙ ap (λ rows. has_tiling (locked (filled frame.well) q) rows (supply_in c.args.supply.now)) (c.saturating_sub.ensures ∙ ap (λ k. frame.rows - k) c.lock-removed.ensures.removed)
+    ∙ ap (has_tiling (filled c.lock-removed.result.0) c.saturating_sub.result) c.entries.ensures
+    ∙ ap (λ F. has_tiling F c.saturating_sub.result (supply_of c.args.supply)) c.lock-removed.ensures.field
+    ∙ ap (λ rows. has_tiling (locked (filled frame.well) q) rows (supply_of c.args.supply)) (c.saturating_sub.ensures ∙ ap (λ k. frame.rows - k) c.lock-removed.ensures.removed)

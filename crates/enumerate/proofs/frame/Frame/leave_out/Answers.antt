@@ -1,6 +1,6 @@
 -- What is left out has nothing to do.
 use Rattle.srs.specs.declared.placement.Placement.{Placement}
-use Rattle.std.proofs.Common.{◌≡◌, true, ◌++◌, not, sym, ap, subst, ◌∙◌, arith}
+use Rattle.std.proofs.Common.{◌≡◌, true, ◌++◌, not, sym, ap, subst, ◌∙◌}
 use Rattle.std.specs.Prelude.{drop}
 use Rattle.std.specs.List.{flat_map}
 use Rattle.srs.specs.Piece.{all_pieces}
@@ -16,7 +16,7 @@ use Rattle.enumerate.specs.Position.{may_play}
 use Rattle.enumerate.specs.Standing.{may_lock}
 use Rattle.enumerate.proofs.DeadPlaces.{left-out}
 use Rattle.enumerate.proofs.TurnLemmas.{HeldBelow, Lockable}
-use Rattle.enumerate.proofs.frame.Frame.leave_out_dead.Goals as goal
+use Rattle.enumerate.proofs.frame.Frame.leave_out.Goals as goal
 
 pub invariant_of-self : goal.invariant_of-self
 invariant_of-self c =
@@ -24,7 +24,7 @@ invariant_of-self c =
     let places = c.in-Some.places in
     let kept = c.leave_out.new.self in
     let was : (q : Placement) → holds kept q ≡ true → holds places q ≡ true =
-    λ q is. and_first (holds places q) (not (cells_of_words c.dead_pivots-dead.result (rotation_place q.rotation) q.x q.y)) (sym (c.leave_out.ensures.held q) ∙ is) in
+    λ q is. and_first (holds places q) (not (cells_of_words c.args.dead.now (rotation_place q.rotation) q.x q.y)) (sym (c.leave_out.ensures.held q) ∙ is) in
     record {
       low = frame.low;
       few = frame.few;
@@ -46,6 +46,5 @@ unfolding events_of position_of
 returns-in-Some-clause-goes c = λ table mode prefix.
     let frame = c.args.self.now in
     ap (λ l. l ++ tried_in_turn (enter frame.left) prefix (position_of table mode frame) (drop frame.tried all_pieces))
-    (left-out frame c.in-Some.places c.in-Some.is c.args.piece (c.requires c.in-Some.places c.in-Some.is) (omega arith) c.supply_after-supply.result c.supply_after-supply.ensures
-    c.dead_pivots-dead.result c.dead_pivots-dead.ensures c.leave_out.new.self c.leave_out.ensures.piece c.leave_out.ensures.held table mode prefix
+    (left-out frame c.in-Some.places c.in-Some.is c.args.dead.now (c.requires c.in-Some.places c.in-Some.is) c.leave_out.new.self c.leave_out.ensures.piece c.leave_out.ensures.held table mode prefix
     ∙ ap (λ p. flat_map (entered (enter frame.left) prefix (position_of table mode frame)) (places_left p frame.entered)) (sym c.in-Some.is))
