@@ -1,5 +1,5 @@
 // The search for the first run of a given length.
-ghost use Rattle.std.specs.Prelude.{◌≡◌, ◌+◌, ◌-◌, ◌≤◌, ◌<◌, length, IsTrue, IfSome, None};
+ghost use Rattle.std.specs.Prelude.{◌≡◌, ◌+◌, ◌-◌, ◌≤◌, ◌<◌, IsTrue, IfSome, None};
 ghost use Rattle.srs.specs.Rules.{table_of};
 ghost use Rattle.reach.specs.FloodRules.{flood_table};
 ghost use Rattle.well.specs.Free.{is_free};
@@ -13,14 +13,19 @@ ghost use Rattle.combo.specs.Longest.{IsLongest};
 use crate::bound::most;
 use crate::run::{Run, with_first};
 use crate::searched::SearchedPosition;
-use crate::store::{PLACES, is_said, place_of};
+use crate::store::{hash_of, is_said};
+use fact_table::FactTable;
 use hold_queue::{Hand, Hold, Taken};
 use moves::DropMode;
 use queue_pattern::Queue;
 use reach::{FloodRules, Steps};
 use srs::{Piece, Placement, Rules};
+use std::alloc::Global;
 use std::sync::ledger::Ledger;
 use well::Well;
+
+/// How many positions are kept.
+const ROOM: usize = 2048;
 
 /// The rules of play.
 #[derive(Clone, Copy)]
@@ -39,10 +44,9 @@ fn first_run<L: Ledger>(
     well: &Well,
     hand: Hand,
     count: u8,
-    store: &mut [Option<SearchedPosition>],
+    store: &mut FactTable<Option<SearchedPosition>>,
     steps: &mut Steps<L>,
 ) -> Option<Run>
-    requires some { 0 < length store.old }
     requires known { HaveShorterRuns (flood_table play.now.rules) play.now.drop_mode play.now.hold
         queue.now.items store.old }
     ensures first { IfSome result (λ run. IsFirst (IsTakenRun (flood_table play.now.rules) play.now.drop_mode
@@ -60,17 +64,20 @@ fn first_run<L: Ledger>(
     if most(queue, well, hand) < count {
         return None;
     }
-    let place = place_of(well, hand, store.len());
-    if is_said(&store[place], well, hand, count) {
-        return None;
+    let hash = hash_of(well, hand);
+    if let Some(entry) = store.entry(hash) {
+        if is_said(entry, well, hand, count) {
+            return None;
+        }
     }
     let found = first_of_takes(play, queue, well, hand, count, store, steps);
     if found.is_none() {
-        store[place] = Some(SearchedPosition {
+        let searched = SearchedPosition {
             well: *well,
             hand,
             count,
-        });
+        };
+        store.put(hash, Some(searched));
     }
     found
 }
@@ -83,12 +90,11 @@ fn first_of_takes<L: Ledger>(
     well: &Well,
     hand: Hand,
     count: u8,
-    store: &mut [Option<SearchedPosition>],
+    store: &mut FactTable<Option<SearchedPosition>>,
     steps: &mut Steps<L>,
 ) -> Option<Run>
     requires placements { 0 < count }
     requires few { count ≤ 23 }
-    requires some { 0 < length store.old }
     requires known { HaveShorterRuns (flood_table play.now.rules) play.now.drop_mode play.now.hold
         queue.now.items store.old }
     ensures first { IfSome result (λ run. IsFirst (IsTakenRun (flood_table play.now.rules) play.now.drop_mode
@@ -114,12 +120,11 @@ fn first_after<L: Ledger>(
     well: &Well,
     taken: Option<Taken>,
     count: u8,
-    store: &mut [Option<SearchedPosition>],
+    store: &mut FactTable<Option<SearchedPosition>>,
     steps: &mut Steps<L>,
 ) -> Option<Run>
     requires placements { 0 < count }
     requires few { count ≤ 23 }
-    requires some { 0 < length store.old }
     requires known { HaveShorterRuns (flood_table play.now.rules) play.now.drop_mode play.now.hold
         queue.now.items store.old }
     ensures first { IfSome result (λ run. IsFirst (RunsOnIf (flood_table play.now.rules) play.now.drop_mode
@@ -159,10 +164,9 @@ fn cleared(well: &Well, placement: &Placement) -> Option<Well>
 }
 
 /// The longest run that the queue and the held piece permit, in which each placement removes a row. Ties go to the
-/// first in order. Counts each flood.
-// What is kept lies on this stack, not on that of callers into which this would be inlined.
-#[inline(never)]
+/// first in order. Counts each flood. If there is not enough memory, fields that were searched are searched again.
 pub fn longest<L: Ledger>(
+    alloc: Global,
     well: &Well,
     rules: &Rules,
     drop_mode: DropMode,
@@ -181,7 +185,7 @@ pub fn longest<L: Ledger>(
         hold,
     };
     let hand = Hand::start(hold, held);
-    let mut store = [None; PLACES];
+    let mut store = FactTable::within_memory(alloc, ROOM);
     let mut longest = Run::new();
     let mut count = 1;
     while let Some(run) = first_run(&play, queue, well, hand, count, &mut store, steps) {

@@ -1,14 +1,11 @@
-// A store of fixed size for searched positions. A later entry evicts an earlier one at its index.
-ghost use Rattle.std.specs.Prelude.{◌<◌, IsTrue};
+// What a table of searched positions says.
+ghost use Rattle.std.specs.Prelude.{IsTrue};
 ghost use Rattle.well.specs.Well.{filled};
 ghost use Rattle.combo.specs.Searched.{SaysShorter};
 
 use crate::searched::SearchedPosition;
 use hold_queue::Hand;
 use well::Well;
-
-/// How many entries the store has: about 100 KB of the stack.
-pub const PLACES: usize = 2048;
 
 /// Whether an entry says that this field and these pieces at hand permit no run of `count` placements.
 pub fn is_said(entry: &Option<SearchedPosition>, well: &Well, hand: Hand, count: u8) -> bool
@@ -20,11 +17,8 @@ pub fn is_said(entry: &Option<SearchedPosition>, well: &Well, hand: Hand, count:
     }
 }
 
-/// The index for a field and the pieces at hand in a store of this size.
-pub fn place_of(well: &Well, hand: Hand, count: usize) -> usize
-    requires { 0 < count }
-    ensures { result < count }
-{
+/// A number that differs for most fields and pieces at hand.
+pub fn hash_of(well: &Well, hand: Hand) -> u64 {
     let held = match hand.held {
         None => 0,
         Some(piece) => piece.code(),
@@ -35,5 +29,5 @@ pub fn place_of(well: &Well, hand: Hand, count: usize) -> usize
         mixed = (mixed ^ u64::from(board.row(y))).wrapping_mul(0x9e37_79b9_7f4a_7c15);
         mixed ^= mixed >> 29;
     }
-    (mixed >> 32) as usize % count
+    mixed >> 32
 }

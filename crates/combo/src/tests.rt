@@ -8,6 +8,7 @@ use moves::DropMode;
 use queue_pattern::Queue;
 use reach::Steps;
 use srs::{Piece, Placement, Rotation, Rules};
+use std::alloc::Global;
 use std::marker::Brand;
 use std::sync::ledger::{Blank, Ledger};
 use std::test::Fail;
@@ -32,13 +33,14 @@ fn queue_of(first: Piece, second: Piece) -> Queue {
     queue
 }
 
-fn longest_of<L: Ledger>(blank: Blank, well: &Well, queue: &Queue) -> Run
+fn longest_of<L: Ledger>(alloc: Global, blank: Blank, well: &Well, queue: &Queue) -> Run
     requires name { blank.name ≡ L.name }
     requires parts { blank.parts ≡ L.parts }
     requires some { 0 < blank.parts }
 {
     let mut steps = Steps::<L>::new(blank);
     longest(
+        alloc,
         well,
         &Rules::srs(),
         DropMode::Soft,
@@ -55,7 +57,7 @@ fn a_straight_piece_clears_twice(rt: HostRuntime) -> Result<(), Fail> {
     assert!(rt; rows.is_ok());
     if let Ok(well) = rows {
         let queue = queue_of(Piece::I, Piece::I);
-        let run = longest_of::<Brand>(Blank::new(1), &well, &queue);
+        let run = longest_of::<Brand>(rt.alloc(), Blank::new(1), &well, &queue);
         let flat = Placement {
             piece: Piece::I,
             rotation: Rotation::Spawn,
@@ -81,7 +83,7 @@ fn a_straight_piece_takes_all_room(rt: HostRuntime) -> Result<(), Fail> {
     assert!(rt; rows.is_ok());
     if let Ok(well) = rows {
         let queue = queue_of(Piece::I, Piece::I);
-        let run = longest_of::<Brand>(Blank::new(1), &well, &queue);
+        let run = longest_of::<Brand>(rt.alloc(), Blank::new(1), &well, &queue);
         assert_eq!(rt; run.as_slice().len(), 1);
     }
     Ok(())

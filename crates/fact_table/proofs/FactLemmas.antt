@@ -1,22 +1,21 @@
 -- What holds of all entries.
-use Rattle.std.proofs.Common.{ℕ, List, Option, None, Some, length, replicate, sym, subst, inl, inr}
-use Rattle.std.specs.Prelude.{IfSome}
-use Rattle.std.proofs.lemmas.Bool.{cases_lt}
-use Rattle.std.proofs.lemmas.List.{get_or_past}
-use Rattle.std.proofs.lemmas.List.Elements.{All-get_or, All-replicate, All-set}
-use Rattle.fact_table.specs.Entries.{AreFacts, entry_at, place_in, with_entry}
+use Rattle.std.proofs.Common.{ℕ, List, length, sym, subst, inl, inr}
+use Rattle.std.specs.Prelude.{All, IfSome, slice_get}
+use Rattle.std.proofs.lemmas.List.Elements.{All-get_or, All-set}
+use Rattle.std.proofs.lemmas.Option.{slice_get_cases}
+use Rattle.fact_table.specs.Entries.{place_in, with_entry}
 
--- it holds of all where there is no entry
-pub facts-none : {Entry : Type 0} (Holds : Entry → Type 0) (room : ℕ) → AreFacts Holds (replicate room None)
-facts-none Holds room = All-replicate (λ entry. IfSome entry Holds) room None tt
+-- where each entry says nothing, it holds of all if it holds of those that say nothing
+pub facts-none : {E : Type 0} (Blank Holds : E → Type 0) (entries : List E) → ((entry : E) → Blank entry → Holds entry) → All Blank entries → All Holds entries
+facts-none Blank Holds entries none blanks = λ k d within. none _ (blanks k d within)
 
 -- it holds of all after one of which it holds is put
-pub facts-put : {Entry : Type 0} (Holds : Entry → Type 0) (places : List (Option Entry)) (hash : ℕ) (entry : Entry) → Holds entry → AreFacts Holds places → AreFacts Holds (with_entry places hash entry)
-facts-put Holds places hash entry holds facts = All-set (λ entry. IfSome entry Holds) places (place_in (length places) hash) (Some entry) holds facts
+pub facts-put : {E : Type 0} (Holds : E → Type 0) (entries : List E) (hash : ℕ) (entry : E) → Holds entry → All Holds entries → All Holds (with_entry entries hash entry)
+facts-put Holds entries hash entry holds facts = All-set Holds entries (place_in (length entries) hash) entry holds facts
 
 -- it holds of the entry at a place
-pub facts-entry : {Entry : Type 0} (Holds : Entry → Type 0) (places : List (Option Entry)) (hash : ℕ) → AreFacts Holds places → IfSome (entry_at places hash) Holds
-facts-entry Holds places hash facts = elim (cases_lt (place_in (length places) hash) (length places)) [
-  | inl within ↦ All-get_or (λ entry. IfSome entry Holds) places (place_in (length places) hash) None within facts
-  | inr beyond ↦ subst (λ entry. IfSome entry Holds) (sym (get_or_past places (place_in (length places) hash) None beyond)) tt
+pub facts-entry : {E : Type 0} (Holds : E → Type 0) (entries : List E) (hash : ℕ) → All Holds entries → IfSome (slice_get entries (place_in (length entries) hash)) Holds
+facts-entry Holds entries hash facts = elim (slice_get_cases entries (place_in (length entries) hash)).1 [
+  | inl there ↦ subst (λ o. IfSome o Holds) (sym there.2) (subst Holds there.3 (All-get_or Holds entries (place_in (length entries) hash) there.0 there.1 facts))
+  | inr past ↦ subst (λ o. IfSome o Holds) (sym past.1) tt
 ]

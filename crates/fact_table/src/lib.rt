@@ -5,4 +5,4 @@ mod table;
 #[cfg(test)]
 mod tests;
 
-pub use table::FactTable;
+pub use table::{Entry, FactTable};

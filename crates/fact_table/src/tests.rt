@@ -3,21 +3,21 @@ use crate::FactTable;
 
 #[test]
 fn keeps_the_last_entry_at_a_place(rt: HostRuntime) {
-    let mut table = FactTable::new(rt.alloc(), 4).unwrap();
-    assert!(rt; table.entry(6).is_none());
-    table.put(6, 'a');
-    table.put(7, 'b');
-    table.put(2, 'c');
-    assert!(rt; table.entry(6) == Some(&'c'));
-    assert!(rt; table.entry(7) == Some(&'b'));
-    table.forget();
-    assert!(rt; table.entry(7).is_none());
+    let mut table = FactTable::within_memory(rt.alloc(), 4);
+    table.put(6, Some('a'));
+    table.put(7, Some('b'));
+    table.put(2, Some('c'));
+    assert!(rt; table.entry(6) == Some(&Some('c')));
+    assert!(rt; table.entry(7) == Some(&Some('b')));
+    assert!(rt; table.entry(5) == Some(&None));
+    table.forget(rt.alloc());
+    assert!(rt; table.entry(7) == Some(&None));
 }
 
 #[test]
 fn keeps_nothing_without_room(rt: HostRuntime) {
     let mut table = FactTable::without_room();
-    table.put(6, 'a');
+    table.put(6, Some('a'));
     assert!(rt; table.is_without_room());
     assert!(rt; table.entry(6).is_none());
 }

@@ -16,7 +16,7 @@ pub record AsksFor (found : Found) (F : Field) (mode : DropMode) (target : Place
 
 -- no word is kept
 abbrev pub KeepsNone : Known → Type 0
-KeepsNone known = All (λ place. place ≡ None) known.places.items
+KeepsNone known = All (λ word. word ≡ None) known.words
 
 -- a finder that keeps no word
 abbrev pub HasFoundNone : Finder → Type 0

@@ -6,6 +6,7 @@ ghost use Rattle.key_path.specs.LeastKeyWord.{least_key_word};
 
 use crate::finder::KeyWord;
 use arrayvec::ArrayVec;
+use fact_table::FactTable;
 use moves::{DropMode, Key};
 use pc_outside::NoMemory;
 use srs::Placement;
@@ -13,7 +14,7 @@ use std::alloc::Global;
 use well::Well;
 
 /// The most words that are kept.
-const PLACES: usize = 8192;
+const ROOM: usize = 8192;
 
 /// A kept word. It has at most 40 keys.
 type ShortWord = ArrayVec<Key, 40>;
@@ -67,8 +68,8 @@ fn is_same_well(well: &Well, other: &Well) -> bool
     well.board().equal(&other.board())
 }
 
-/// The index at which the answer to this question is kept.
-fn place_of(well: &Well, target: &Placement) -> usize {
+/// A number that differs for most questions.
+fn hash_of(well: &Well, target: &Placement) -> u64 {
     let board = well.board();
     let [piece, rotation] = [target.piece.code(), target.rotation.place()];
     let mut mixed = u64::from(u32::from_le_bytes([piece, rotation, target.x, target.y]));
@@ -76,14 +77,14 @@ fn place_of(well: &Well, target: &Placement) -> usize {
         mixed = (mixed ^ u64::from(board.row(y))).wrapping_mul(0x9e37_79b9_7f4a_7c15);
     }
     mixed = (mixed ^ mixed >> 32).wrapping_mul(0xd6e8_feb8_6659_fd93);
-    (mixed >> 32) as usize % PLACES
+    mixed >> 32
 }
 
-/// Key words that were found. Each has one place, and a later word evicts an earlier one. Eviction costs time, never
-/// correctness: every kept word is a true one.
+/// Key words that were found. A later one may evict an earlier one. That costs time, never correctness: every kept word
+/// is a true one.
 #[derive(Drop)]
 pub(crate) struct Known {
-    places: Vec<Option<Found>>,
+    words: FactTable<Option<Found>>,
 }
 
 impl Known {
@@ -94,11 +95,8 @@ impl Known {
     pub(crate) fn new(alloc: Global) -> Result<Known, NoMemory>
         ensures { IfOk result KeepsNone }
     {
-        let mut places = Vec::with_capacity(alloc, PLACES)?;
-        for _ in 0..PLACES {
-            places.push(None)?;
-        }
-        Ok(Known { places })
+        let words = FactTable::new(alloc, ROOM)?;
+        Ok(Known { words })
     }
 
     /// The least key word of a placement in a well, if it is kept.
@@ -111,13 +109,13 @@ impl Known {
         ensures { IfSome result (λ word.
             least_key_word srs_table (filled well.now) drop_mode target.now ≡ Some word.items) }
     {
-        match self.places.get(place_of(well, target)) {
+        match self.words.entry(hash_of(well, target)) {
             Some(Some(found)) if found.is_for(well, target, drop_mode) => Some(found.key_word()),
             _ => None,
         }
     }
 
-    /// Keeps the least key word of a placement in a well, in place of the word before it.
+    /// Keeps the least key word of a placement in a well.
     pub(crate) fn keep(
         &mut self,
         well: &Well,
@@ -130,14 +128,13 @@ impl Known {
         let Some(word) = short_word(word) else {
             return;
         };
-        if let Some(place) = self.places.get_mut(place_of(well, target)) {
-            *place = Some(Found {
-                well: *well,
-                target: *target,
-                drop_mode,
-                word,
-            });
-        }
+        let found = Found {
+            well: *well,
+            target: *target,
+            drop_mode,
+            word,
+        };
+        self.words.put(hash_of(well, target), Some(found));
     }
 }
 

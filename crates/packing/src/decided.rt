@@ -1,12 +1,13 @@
 // Decided questions: a set of cells and a supply, with the answer.
-ghost use Rattle.std.specs.Prelude.{◌≡◌, ◌↔◌, IsTrue, IfSome};
+ghost use Rattle.std.specs.Prelude.{◌≡◌, ◌↔◌, IsTrue, IfSome, ⊤};
 ghost use Rattle.prune.specs.Tiling.{Tiling};
 ghost use Rattle.empty_cells.specs.Empties.{all_but, empty_cells};
 ghost use Rattle.empty_cells.specs.HasTiling.{has_tiling};
 ghost use Rattle.empty_cells.specs.SupplyWords.{supply_of};
 
 use empty_cells::{Empties, SupplyWord};
-use fact_table::FactTable;
+use fact_table::{Entry, FactTable};
+use std::alloc::Global;
 
 /// The answer whether a set of cells has a tiling by a supply. It is always a true one.
 #[derive(Clone, Copy)]
@@ -38,6 +39,15 @@ impl Decided {
             return Some(self.answer);
         }
         None
+    }
+}
+
+impl Entry for Decided {
+    ghost says_nothing = { λ _. ⊤ };
+
+    // (the empty set, which needs no pieces)
+    fn nothing(_alloc: Global) -> Decided {
+        Decided::new(Empties::empty(), SupplyWord::new(&[0; 7]), true)
     }
 }
 

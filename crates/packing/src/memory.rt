@@ -1,5 +1,5 @@
 // A memory of which placements leave a tiling.
-ghost use Rattle.std.specs.Prelude.{◌≡◌, ◌↔◌, ◌≤◌, ◌<◌, IsTrue, IfSome, IfOk, true, false, length};
+ghost use Rattle.std.specs.Prelude.{◌≡◌, ◌↔◌, ◌≤◌, IsTrue, IfSome, true, false, ⊤};
 ghost use Rattle.lane_board.specs.Words.{cells_of_words};
 ghost use Rattle.srs.specs.declared.placement.Placement.{Placement};
 ghost use Rattle.srs.specs.Rotation.{rotation_place};
@@ -10,7 +10,7 @@ ghost use Rattle.empty_cells.specs.SupplyWords.{supply_of};
 
 use crate::store::TilingStore;
 use empty_cells::{Empties, Pivots, SupplyWord, hash_of};
-use fact_table::FactTable;
+use fact_table::{Entry, FactTable};
 use pc_outside::NoMemory;
 use srs::{Piece, Placement};
 use std::alloc::Global;
@@ -35,7 +35,7 @@ struct Remembered {
 
 impl Remembered {
     /// A memory in which nothing was asked yet.
-    fn nothing(cells: &Empties, supply: SupplyWord, piece: Piece) -> Remembered
+    fn of(cells: &Empties, supply: SupplyWord, piece: Piece) -> Remembered
         ensures cells { result.cells ≡ cells.now }
         ensures supply { result.supply ≡ supply }
         ensures piece { result.piece ≡ piece }
@@ -93,6 +93,14 @@ impl Remembered {
     }
 }
 
+impl Entry for Remembered {
+    ghost says_nothing = { λ _. ⊤ };
+
+    fn nothing(_alloc: Global) -> Remembered {
+        Remembered::of(&Empties::empty(), SupplyWord::new(&[0; 7]), Piece::I)
+    }
+}
+
 /// The hash of a question about a piece. For the same cells and the same supply the seven kinds have different places:
 /// the first seven multiples of 583 differ, and each is less than 4,096.
 #[inline(always)]
@@ -147,7 +155,7 @@ impl PlaceMemory {
     {
         let mut known = match self.about(cells, supply, placement.piece) {
             Some(known) => *known,
-            None => Remembered::nothing(cells, supply, placement.piece),
+            None => Remembered::of(cells, supply, placement.piece),
         };
         known.add(placement, answer);
         self.sets

@@ -89,6 +89,7 @@ fn write_longest<O: Sink, L: Ledger>(
     let rules = settings.rules;
     let drop_mode = settings.drop_mode;
     let run = longest(
+        alloc,
         well,
         &rules,
         drop_mode,

@@ -1,7 +1,7 @@
 -- The last run that was found is the longest.
-use Rattle.std.proofs.Common.{arith, refl, subst, None}
+use Rattle.std.proofs.Common.{◌≡◌, None, arith, refl, subst, sym}
 use Rattle.std.specs.Prelude.{IfSome}
-use Rattle.std.proofs.lemmas.List.Elements.{All-replicate}
+use Rattle.fact_table.proofs.CallerLemmas.{facts-none}
 use Rattle.srs.specs.Kick.{Table}
 use Rattle.reach.specs.FloodRules.{flood_table}
 use Rattle.well.specs.Well.{filled}
@@ -23,7 +23,7 @@ loop-run-init g c = (
   empty_first (flood_table c.new.result) c.args.drop_mode (filled c.args.well.now) c.args.hold (pieces_at c.args.queue.now.items c.start-hand.result) 0 c.new-longest.result.items refl c.new-longest.ensures,
   omega arith,
   omega arith,
-  omega arith,
-  All-replicate (λ entry. IfSome entry (HasShorterRuns (flood_table c.new.result) c.args.drop_mode c.args.hold c.args.queue.now.items)) 2048 None tt,
+  facts-none (λ entry. entry ≡ None) (λ entry. IfSome entry (HasShorterRuns (flood_table c.new.result) c.args.drop_mode c.args.hold c.args.queue.now.items)) c.within_memory-store.result
+      (λ entry none. subst (λ e. IfSome e (HasShorterRuns (flood_table c.new.result) c.args.drop_mode c.args.hold c.args.queue.now.items)) (sym none) tt) c.within_memory-store.ensures.nothing,
   omega arith,
 )

@@ -1,5 +1,5 @@
 -- The longest run so far is the first of those that are as long.
-use Rattle.std.proofs.Common.{◌-◌, ◌≤◌, ◌<◌, length}
+use Rattle.std.proofs.Common.{◌-◌, ◌≤◌}
 use Rattle.reach.specs.FloodRules.{flood_table}
 use Rattle.well.specs.Well.{filled}
 use Rattle.hold_queue.specs.Hand.{pieces_at}
@@ -10,7 +10,7 @@ use Rattle.combo.proofs.search.longest.Given as goal
 abbrev pub invariant-loop-run : goal.invariant-loop-run
 invariant-loop-run g l =
     IsFirst (IsTakenRun (flood_table l.play.rules) l.fn.drop_mode (filled l.well) l.fn.hold (pieces_at l.queue.items l.hand)) (l.count - 1) l.longest.items
-    × (1 ≤ l.count) × (l.count ≤ 24) × (0 < length l.store)
+    × (1 ≤ l.count) × (l.count ≤ 24)
     × HaveShorterRuns (flood_table l.play.rules) l.fn.drop_mode l.fn.hold l.queue.items l.store
     × (l.fn.steps ≤ l.steps)
 

@@ -1,6 +1,6 @@
--- So far no place has an entry.
-use Rattle.std.proofs.Common.{◌≡◌, None, replicate}
+-- So far each entry says nothing.
+use Rattle.std.proofs.Common.{◌≡◌, All, length}
 use Rattle.fact_table.proofs.table.FactTable.new.Given as goal
 
 abbrev pub invariant-loop : goal.invariant-loop
-invariant-loop g l = l.places.items ≡ replicate l.counter None
+invariant-loop g l = All g.E.Entry.says_nothing l.entries.items × (length l.entries.items ≡ l.counter)
