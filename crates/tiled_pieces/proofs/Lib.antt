@@ -8,4 +8,8 @@ mod WalkRows
 mod WalkGains
 mod ListedLemmas
 mod ListLaws
+mod PathLemmas
+mod AddsLemmas
+mod LaidLemmas
+mod StepLemmas
 pub mod CallerLemmas

@@ -1,5 +1,5 @@
 // All tilings of a set of cells, found by a walk that lays one piece after the other.
-ghost use Rattle.std.specs.Prelude.{ℕ, ◌≡◌, ◌≤◌, IfSome, All, [], ◌∷◌};
+ghost use Rattle.std.specs.Prelude.{ℕ, ◌≡◌, ◌≤◌, ◌<◌, IfSome, All, [], ◌∷◌};
 ghost use Rattle.prune.specs.Tiling.{supply_in};
 ghost use Rattle.prune.specs.Laws.{with_one};
 ghost use Rattle.empty_cells.specs.Empties.{empty_cells};

@@ -40,8 +40,13 @@ impl Listing {
         if self.is_full {
             return;
         }
-        if self.most <= self.tilings.len() || self.tilings.push(self.path.tiling).is_err() {
+        if self.most <= self.tilings.len() {
             self.is_full = true;
+            return;
+        }
+        match self.tilings.push(self.path.tiling) {
+            Ok(()) => {}
+            Err(_) => self.is_full = true,
         }
     }
 }
