@@ -12,4 +12,5 @@ mod PathLemmas
 mod AddsLemmas
 mod LaidLemmas
 mod StepLemmas
+mod ListedAll
 pub mod CallerLemmas
