@@ -8,4 +8,9 @@ mod WalkRows
 mod WalkGains
 mod ListedLemmas
 mod ListLaws
+mod PathLemmas
+mod AddsLemmas
+mod LaidLemmas
+mod StepLemmas
+mod ListedAll
 pub mod CallerLemmas

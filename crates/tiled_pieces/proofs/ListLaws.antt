@@ -1,12 +1,13 @@
 -- What a list of all tilings says of one piece: it is in some of them where the others fill the rest, and those that have it are all tilings of the rest.
-use Rattle.std.proofs.Common.{◌≡◌, ◌↔◌, ℕ, ◌<◌, Bool, true, false, not, cond, ◌&&◌, ◌||◌, List, ◌∷◌, pos, refl, sym, subst, ◌∙◌, arith}
+use Rattle.std.proofs.Common.{◌≡◌, ◌↔◌, ℕ, ◌<◌, ◌≤◌, Bool, true, false, not, cond, ◌&&◌, ◌||◌, List, ◌∷◌, pos, refl, sym, subst, ◌∙◌, arith}
 use Rattle.std.proofs.Math.Path.{fun_ext}
 use Rattle.std.specs.List.{Contains, list_all}
 use Rattle.std.proofs.lemmas.List.Elements.{All-head, All-tail}
 use Rattle.lane_board.specs.Field.{Field, difference}
+use Rattle.srs.specs.declared.piece.Piece.{Piece}
 use Rattle.srs.specs.Cells.{Cell}
 use Rattle.srs.specs.SameCells.{is_among}
-use Rattle.prune.specs.Tiling.{IsGeneralized, Part, Supply, Tiling, covers, is_empty_below}
+use Rattle.prune.specs.Tiling.{IsGeneralized, Part, Supply, Tiling, covers, is_empty_below, parts_of}
 use Rattle.prune.specs.Laws.{with_one}
 use Rattle.prune.specs.OnePart.{less_one, with_cells}
 use Rattle.prune.proofs.CallerLemmas.{WithPart, one_part_more}
@@ -31,13 +32,17 @@ less true true = refl
 less true false = refl
 less false q = refl
 
-left_is : (E : Field) (part : Part) → all_but (left_by_part E part) ≡ with_cells (all_but E) part.cells
+pub left_is : (E : Field) (part : Part) → all_but (left_by_part E part) ≡ with_cells (all_but E) part.cells
 unfolding all_but difference with_cells
 left_is E part = sym (fun_ext (λ a. fun_ext (λ b. less (E a b) (is_among part.cells (pos a, pos b)))))
 
--- a listed tiling has the piece and all parts of a tiling of the rest
-have_both : (E : Field) (supply : Supply) (list : List ListedTiling) (part : Part) → LiesIn E supply part → ListsAll E supply list → (t : Tiling (all_but (left_by_part E part)) 8 (less_one supply part.piece)) → HasParts list (part ∷ t.parts)
-have_both E supply list part lies lists t = from (one_part_more (all_but E) 8 part (less_one supply part.piece) lies.generalized (empty_within 8 E part.cells lies.small lies.inside) rest)
+-- a tiling with the piece and the parts of a tiling of the rest
+pub record TilingWith (E : Field) (supply : Supply) (part : Part) (parts : List Part) : Type 0 where
+  pub tiling : Tiling (all_but E) 8 supply
+  pub parts_are : tiling.parts ≡ part ∷ parts
+
+pub tiling_with : (E : Field) (supply : Supply) (part : Part) → LiesIn E supply part → (t : Tiling (all_but (left_by_part E part)) 8 (less_one supply part.piece)) → TilingWith E supply part t.parts
+tiling_with E supply part lies t = from (one_part_more (all_but E) 8 part (less_one supply part.piece) lies.generalized (empty_within 8 E part.cells lies.small lies.inside) rest)
   where
     rest : Tiling (with_cells (all_but E) part.cells) 8 (less_one supply part.piece)
     rest = record {
@@ -47,11 +52,22 @@ have_both E supply list part lies lists t = from (one_part_more (all_but E) 8 pa
       supplied = t.supplied;
     }
 
-    all : ListsAll E (with_one (less_one supply part.piece) part.piece) list
-    all = subst (λ (s : Supply). ListsAll E s list) (sym (one_back supply part.piece lies.some)) lists
+    from : WithPart (all_but E) 8 (less_one supply part.piece) part t.parts → TilingWith E supply part t.parts
+    from more = record {
+      tiling = record {
+        parts = more.tiling.parts;
+        generalized = more.tiling.generalized;
+        covered = more.tiling.covered;
+        supplied = subst (λ (s : Supply). (piece : Piece) → parts_of more.tiling.parts piece ≤ s piece) (one_back supply part.piece lies.some) more.tiling.supplied;
+      };
+      parts_are = more.parts_are;
+    }
 
-    from : WithPart (all_but E) 8 (less_one supply part.piece) part t.parts → HasParts list (part ∷ t.parts)
-    from more = subst (HasParts list) more.parts_are (all.all more.tiling)
+-- a listed tiling has the piece and all parts of a tiling of the rest
+have_both : (E : Field) (supply : Supply) (list : List ListedTiling) (part : Part) → LiesIn E supply part → ListsAll E supply list → (t : Tiling (all_but (left_by_part E part)) 8 (less_one supply part.piece)) → HasParts list (part ∷ t.parts)
+have_both E supply list part lies lists t =
+    let with = tiling_with E supply part lies t in
+    subst (HasParts list) with.parts_are (lists.all with.tiling)
 
 -- where the others of the supply fill the rest, the piece is in some listed tiling
 pub part_listed : (E : Field) (supply : Supply) (list : List ListedTiling) (part : Part) → LiesIn E supply part → ListsAll E supply list → Tiling (all_but (left_by_part E part)) 8 (less_one supply part.piece) → SomeHas list (laid_part part)

@@ -3,3 +3,4 @@ pub mod TiledPieces
 pub mod TilingLists
 -- What serves proofs alone
 pub mod Walks
+pub mod Listings

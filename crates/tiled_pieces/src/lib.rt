@@ -2,9 +2,12 @@
 #![tactic(auto)]
 
 mod cover;
+mod dead;
 mod list;
 mod listed;
 mod lister;
+mod listing;
+mod path;
 mod pieces;
 mod placed;
 mod walk;

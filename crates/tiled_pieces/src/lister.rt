@@ -1,36 +1,74 @@
-// All tilings of a set of cells, listed.
-ghost use Rattle.std.specs.Prelude.{IfSome};
+// All tilings of a set of cells, found by a walk that lays one piece after the other.
+ghost use Rattle.std.specs.Prelude.{ℕ, ◌≡◌, ◌≤◌, ◌<◌, IfSome, All, [], ◌∷◌};
 ghost use Rattle.prune.specs.Tiling.{supply_in};
+ghost use Rattle.prune.specs.Laws.{with_one};
 ghost use Rattle.empty_cells.specs.Empties.{empty_cells};
+ghost use Rattle.empty_cells.specs.ShiftedCells.{shifted_cells};
+ghost use Rattle.empty_cells.specs.Spans.{IsFirst};
+ghost use Rattle.empty_cells.specs.SupplyWords.{supply_of};
+ghost use Rattle.tiled_pieces.specs.TilingLists.{ListsAll, ListsOnly};
+ghost use Rattle.tiled_pieces.specs.Listings.{Adds, GoesOn, GoesOnWith, HasFirst, IsAny, IsDead, StacksSome, StacksUp, TakesFirst};
 
+use crate::cover::Cover;
+use crate::dead::Dead;
 use crate::list::TilingList;
-use empty_cells::Empties;
+use crate::listing::Listing;
+use Span::{AllFour, First, FirstThree, FirstTwo, Second, SecondTwo, Third};
+use empty_cells::{Empties, Shifted, Span, SupplyWord, allowed, lowest_row, place_of, without_row};
+use srs::Piece;
 use std::alloc::Global;
+use std::mem;
 
-/// Lists tilings.
+/// How many questions a lister keeps.
+const PLACES: usize = 32_768;
+
+/// Lists all tilings, and keeps which questions have none.
 #[derive(Drop)]
 pub struct Lister {
-    known: Vec<u8>,
+    known: Vec<Dead>,
+    listing: Listing,
+    ghost are_true: { All IsDead known.items },
+}
+
+/// An entry for each question that is kept, or none if there is not enough memory.
+fn places(alloc: Global) -> Vec<Dead>
+    ensures { All IsDead result.items }
+{
+    match vec![in alloc; Dead::unknown(); PLACES] {
+        Ok(known) => known,
+        Err(_) => Vec::new(alloc),
+    }
+}
+
+// The tilings with the lowest span in each of the rows that it may be in.
+macro_rules! each_row {
+    ($self:expr, $cover:expr, $cells:expr, $floor:expr, $span:expr, $rest:ident, $row:ident => $found:expr) => {{
+        let mut rows = $cells.rows_with($span) & allowed($cover.y, $floor, $span);
+        while rows > 0 {
+            let $row = lowest_row(rows);
+            let $rest = $cells.without_span($span, $row);
+            $found;
+            rows = without_row(rows, $row);
+        }
+    }};
 }
 
 impl Lister {
-    ghost use Rattle.tiled_pieces.specs.TilingLists.{ListsAll, ListsOnly};
-
-    /// A lister that knows nothing yet.
+    /// A lister that knows nothing yet. If there is not enough memory for it, it keeps nothing.
     pub fn new(alloc: Global) -> Lister {
         Lister {
-            known: Vec::new(alloc),
+            known: places(alloc),
+            listing: Listing::new(alloc, 0),
         }
     }
 
-    /// All tilings of the cells with at most as many pieces of each kind as the supply has, by a walk that begins at
-    /// the side nearer to a column. The supply's entries stand in the order of piece codes. `None` if there are more
-    /// than `most` tilings, if they have more than eight pieces, or if there is not enough memory.
+    /// All tilings of the cells with at most as many pieces of each kind as the supply has. The supply's entries stand
+    /// in the order of piece codes. `None` if there are more than `most` tilings, if one has more than eight pieces, or
+    /// if there is not enough memory.
     pub fn tilings(
         &mut self,
         alloc: Global,
         cells: &Empties,
-        column: u8,
         supply: &[u8; 7],
         most: usize,
     ) -> Option<TilingList>
@@ -39,6 +77,252 @@ impl Lister {
         ensures only { IfSome result (λ list.
             ListsOnly (empty_cells cells.now) (supply_in supply.now) list.tilings.items) }
     {
-        None
+        self.listing = Listing::new(alloc, most);
+        self.search(&Shifted::new(cells), SupplyWord::new(supply));
+        if self.listing.is_full {
+            return None;
+        }
+        let tilings = mem::replace(&mut self.listing.tilings, Vec::new(alloc));
+        Some(TilingList { tilings })
+    }
+
+    /// Keeps that a question has no tiling.
+    fn note(&mut self, place: usize, dead: Dead)
+        requires { IsDead dead }
+        ensures { self.new.listing ≡ self.old.listing }
+    {
+        if place < self.known.len() {
+            self.known[place] = dead;
+        }
+    }
+
+    /// Adds all tilings that begin with the laid pieces and go on with these cells.
+    #[cycle(walk)]
+    fn search(&mut self, cells: &Shifted, supply: SupplyWord)
+        ensures { Adds self.old.listing self.new.listing
+            (GoesOn HasFirst (supply_of supply) (shifted_cells cells.now))
+            (GoesOn IsAny (supply_of supply) (shifted_cells cells.now)) }
+    {
+        if self.listing.is_full {
+            return;
+        }
+        let Some((counted, y)) = cells.from_first() else {
+            self.listing.add();
+            return;
+        };
+        if self.known.is_empty() || counted.is_few() {
+            self.covers(&counted, y, supply);
+            return;
+        }
+        if counted.is_refused(supply) {
+            return;
+        }
+        self.asks(&counted, y, supply);
+    }
+
+    /// The same for cells whose first one (the lowest of the leftmost column) is in this row of the column from which
+    /// they are counted: if it isn't known that there is no tiling.
+    #[cycle(walk)]
+    #[inline(always)]
+    fn asks(&mut self, cells: &Shifted, y: u8, supply: SupplyWord)
+        requires some { 0 < self.old.known.len }
+        requires first { IsFirst (shifted_cells cells.now) cells.now.x y }
+        ensures { Adds self.old.listing self.new.listing
+            (GoesOn HasFirst (supply_of supply) (shifted_cells cells.now))
+            (GoesOn IsAny (supply_of supply) (shifted_cells cells.now)) }
+    {
+        let all = cells.cells();
+        let place = place_of(&all, supply, self.known.len());
+        if self.known[place].is_of(&all, supply) {
+            return;
+        }
+        let before = self.listing.tilings.len();
+        self.covers(cells, y, supply);
+        if self.listing.tilings.len() == before && !self.listing.is_full {
+            self.note(
+                place,
+                Dead {
+                    cells: all,
+                    supply,
+                    is_known: true,
+                },
+            );
+        }
+    }
+
+    /// The same for cells of which nothing is known.
+    #[cycle(walk)]
+    fn covers(&mut self, cells: &Shifted, y: u8, supply: SupplyWord)
+        requires { IsFirst (shifted_cells cells.now) cells.now.x y }
+        ensures { Adds self.old.listing self.new.listing
+            (GoesOn HasFirst (supply_of supply) (shifted_cells cells.now))
+            (GoesOn IsAny (supply_of supply) (shifted_cells cells.now)) }
+    {
+        self.takes(cells, y, Piece::I, supply);
+        self.takes(cells, y, Piece::L, supply);
+        self.takes(cells, y, Piece::O, supply);
+        self.takes(cells, y, Piece::Z, supply);
+        self.takes(cells, y, Piece::T, supply);
+        self.takes(cells, y, Piece::J, supply);
+        self.takes(cells, y, Piece::S, supply);
+    }
+
+    /// The same for the tilings in which a piece of this kind covers the first cell.
+    #[cycle(walk)]
+    #[inline(always)]
+    fn takes(&mut self, cells: &Shifted, y: u8, piece: Piece, supply: SupplyWord)
+        requires { IsFirst (shifted_cells cells.now) cells.now.x y }
+        ensures { Adds self.old.listing self.new.listing
+            (TakesFirst HasFirst (supply_of supply) (shifted_cells cells.now) cells.now.x y piece)
+            (GoesOn IsAny (supply_of supply) (shifted_cells cells.now)) }
+    {
+        if supply.count_of(piece) == 0 {
+            return;
+        }
+        let cover = Cover {
+            cells: *cells,
+            y,
+            supply: supply.without_one(piece),
+        };
+        self.forms(&cover, piece);
+    }
+
+    /// The same for those in which this piece covers the first cell.
+    #[cycle(walk)]
+    fn forms(&mut self, cover: &Cover, piece: Piece)
+        ensures { Adds self.old.listing self.new.listing
+            (StacksSome HasFirst (supply_of cover.now.supply) (shifted_cells cover.now.cells)
+            cover.now.cells.x cover.now.y piece)
+            (GoesOn IsAny (with_one (supply_of cover.now.supply) piece) (shifted_cells cover.now.cells)) }
+    {
+        let cells = &cover.cells;
+        match piece {
+            Piece::I => {
+                self.stacks_one(cover, Piece::I, cells, 0, AllFour);
+                self.stacks_four(cover, Piece::I, cells, 0, First, First, First, First);
+            }
+            Piece::L => {
+                self.stacks_two(cover, Piece::L, cells, 0, FirstThree, Third);
+                self.stacks_three(cover, Piece::L, cells, 0, FirstTwo, First, First);
+                self.stacks_two(cover, Piece::L, cells, 0, First, FirstThree);
+                self.stacks_three(cover, Piece::L, cells, 0, Second, Second, FirstTwo);
+            }
+            Piece::O => self.stacks_two(cover, Piece::O, cells, 0, FirstTwo, FirstTwo),
+            Piece::Z => {
+                self.stacks_two(cover, Piece::Z, cells, 0, SecondTwo, FirstTwo);
+                self.stacks_three(cover, Piece::Z, cells, 0, First, FirstTwo, Second);
+            }
+            Piece::T => {
+                self.stacks_two(cover, Piece::T, cells, 0, FirstThree, Second);
+                self.stacks_three(cover, Piece::T, cells, 0, First, FirstTwo, First);
+                self.stacks_two(cover, Piece::T, cells, 0, Second, FirstThree);
+                self.stacks_three(cover, Piece::T, cells, 0, Second, FirstTwo, Second);
+            }
+            Piece::J => {
+                self.stacks_two(cover, Piece::J, cells, 0, FirstThree, First);
+                self.stacks_three(cover, Piece::J, cells, 0, First, First, FirstTwo);
+                self.stacks_two(cover, Piece::J, cells, 0, Third, FirstThree);
+                self.stacks_three(cover, Piece::J, cells, 0, FirstTwo, Second, Second);
+            }
+            Piece::S => {
+                self.stacks_two(cover, Piece::S, cells, 0, FirstTwo, SecondTwo);
+                self.stacks_three(cover, Piece::S, cells, 0, Second, FirstTwo, First);
+            }
+        }
+    }
+
+    /// The same for those in which one span is taken from these cells, in a row from `floor` on.
+    #[cycle(walk)]
+    #[inline(always)]
+    fn stacks_one(&mut self, cover: &Cover, piece: Piece, cells: &Shifted, floor: u8, a: Span)
+        requires { floor ≤ 8 }
+        ensures { Adds self.old.listing self.new.listing
+            (StacksUp HasFirst cover.now piece cells.now floor (a ∷ []))
+            (StacksUp IsAny cover.now piece cells.now floor (a ∷ [])) }
+    {
+        each_row!(self, cover, cells, floor, a, rest, row => self.leaves(cover, piece, &rest))
+    }
+
+    /// The same for two spans, one above the other.
+    #[cycle(walk)]
+    #[inline(always)]
+    fn stacks_two(
+        &mut self,
+        cover: &Cover,
+        piece: Piece,
+        cells: &Shifted,
+        floor: u8,
+        a: Span,
+        b: Span,
+    )
+        requires { floor ≤ 8 }
+        ensures { Adds self.old.listing self.new.listing
+            (StacksUp HasFirst cover.now piece cells.now floor (a ∷ b ∷ []))
+            (StacksUp IsAny cover.now piece cells.now floor (a ∷ b ∷ [])) }
+    {
+        each_row!(self, cover, cells, floor, a, rest, row => self.stacks_one(cover, piece, &rest, row + 1, b))
+    }
+
+    /// The same for three spans.
+    #[cycle(walk)]
+    #[inline(always)]
+    fn stacks_three(
+        &mut self,
+        cover: &Cover,
+        piece: Piece,
+        cells: &Shifted,
+        floor: u8,
+        a: Span,
+        b: Span,
+        c: Span,
+    )
+        requires { floor ≤ 8 }
+        ensures { Adds self.old.listing self.new.listing
+            (StacksUp HasFirst cover.now piece cells.now floor (a ∷ b ∷ c ∷ []))
+            (StacksUp IsAny cover.now piece cells.now floor (a ∷ b ∷ c ∷ [])) }
+    {
+        each_row!(self, cover, cells, floor, a, rest, row => self.stacks_two(cover, piece, &rest, row + 1, b, c))
+    }
+
+    /// The same for four spans.
+    #[cycle(walk)]
+    #[inline(always)]
+    fn stacks_four(
+        &mut self,
+        cover: &Cover,
+        piece: Piece,
+        cells: &Shifted,
+        floor: u8,
+        a: Span,
+        b: Span,
+        c: Span,
+        d: Span,
+    )
+        requires { floor ≤ 8 }
+        ensures { Adds self.old.listing self.new.listing
+            (StacksUp HasFirst cover.now piece cells.now floor (a ∷ b ∷ c ∷ d ∷ []))
+            (StacksUp IsAny cover.now piece cells.now floor (a ∷ b ∷ c ∷ d ∷ [])) }
+    {
+        each_row!(self, cover, cells, floor, a, rest, row => self.stacks_three(cover, piece, &rest, row + 1, b, c, d))
+    }
+
+    /// The same for those in which the piece leaves these cells.
+    #[cycle(walk)]
+    #[inline(always)]
+    fn leaves(&mut self, cover: &Cover, piece: Piece, rest: &Shifted)
+        ensures { Adds self.old.listing self.new.listing
+            (λ path found. GoesOnWith HasFirst (supply_of cover.now.supply) (shifted_cells cover.now.cells) piece
+            path found (shifted_cells rest.now))
+            (λ path found. GoesOnWith IsAny (supply_of cover.now.supply) (shifted_cells cover.now.cells) piece
+            path found (shifted_cells rest.now)) }
+    {
+        if self.listing.path.is_full() {
+            self.listing.is_full = true;
+            return;
+        }
+        let taken = cover.cells.cells().without_cells(&rest.cells());
+        self.listing.path.push(piece, taken);
+        self.search(rest, cover.supply);
+        self.listing.path.pop();
     }
 }

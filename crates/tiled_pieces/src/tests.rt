@@ -1,7 +1,8 @@
-// The pieces of the tilings of a small field.
-use crate::PieceStore;
+// The tilings of small fields, and their pieces.
+use crate::{Lister, PieceStore};
 use empty_cells::Empties;
 use srs::{Piece, Placement, Rotation};
+use std::alloc::Global;
 use well::Well;
 
 fn field(text: &[u8]) -> Well {
@@ -32,4 +33,46 @@ fn pieces_of_all_tilings(rt: HostRuntime) {
     assert!(rt; !pieces.has(&at(Piece::T, Rotation::Right, 4, 9)));
     let none = store.pieces(&cells, &[1, 0, 2, 0, 0, 0, 0]);
     assert!(rt; !none.has(&at(Piece::I, Rotation::Spawn, 5, 3)));
+}
+
+/// How many tilings there are of the cells below a row, with at most so many pieces of each kind. At most `most` are
+/// listed.
+fn count(alloc: Global, well: &Well, rows: u8, supply: &[u8; 7], most: usize) -> Option<usize>
+    requires { rows ≤ 8 }
+{
+    let mut lister = Lister::new(alloc);
+    let list = lister.tilings(alloc, &Empties::below(well, rows), supply, most)?;
+    Some(list.tilings.len())
+}
+
+#[test]
+fn tilings_of_small_boxes(rt: HostRuntime) {
+    // Two rows of four: two I, two O, two L or two J.
+    let low = field(b"XXXXXX____/XXXXXX____");
+    assert!(rt; count(rt.alloc(), &low, 2, &[2; 7], 9) == Some(4));
+    assert!(rt; count(rt.alloc(), &low, 2, &[2; 7], 4) == Some(4));
+    assert!(rt; count(rt.alloc(), &low, 2, &[2; 7], 3) == None);
+    assert!(rt; count(rt.alloc(), &low, 2, &[2, 1, 1, 2, 2, 1, 2], 9) == Some(1));
+    assert!(rt; count(rt.alloc(), &low, 2, &[1; 7], 9) == Some(0));
+    // Two columns of four rows, as pieces may have rows between theirs.
+    let high = field(b"XXXXXXXX__/XXXXXXXX__/XXXXXXXX__/XXXXXXXX__");
+    assert!(rt; count(rt.alloc(), &high, 4, &[2, 0, 0, 0, 0, 0, 0], 9) == Some(1));
+    assert!(rt; count(rt.alloc(), &high, 4, &[0, 0, 2, 0, 0, 0, 0], 9) == Some(3));
+}
+
+#[test]
+fn tilings_with_a_piece(rt: HostRuntime) {
+    let opener = field(b"XXXX____XX/XXXX___XXX/XXXX__XXXX/XXXX___XXX");
+    let cells = Empties::below(&opener, 4);
+    let mut lister = Lister::new(rt.alloc());
+    let list = lister.tilings(rt.alloc(), &cells, &[1, 0, 1, 0, 1, 0, 0], 9);
+    let list = list.expect(&rt, "few tilings");
+    assert!(rt; list.tilings.len() == 1);
+    let t = cells.without_cells(&cells.without(&at(Piece::T, Rotation::Right, 4, 1)));
+    assert!(rt; list.has(Piece::T, &t));
+    assert!(rt; !list.has(Piece::O, &t));
+    let with = list.with(rt.alloc(), Piece::T, &t).expect(&rt, "memory");
+    assert!(rt; with.tilings.len() == 1);
+    let without = list.with(rt.alloc(), Piece::I, &t).expect(&rt, "memory");
+    assert!(rt; without.tilings.is_empty());
 }

@@ -1,0 +1,185 @@
+-- What comes to a list, one step after the other.
+use Rattle.std.proofs.Common.{◌≡◌, ◌⊎◌, ℕ, ◌+◌, ◌<◌, bit_and, Bool, true, false, not, ◌&&◌, ◌==◌, nat_le, List, [], ◌∷◌, ◌++◌, refl, sym, ap, ap₂, subst, ◌∙◌, inl, inr, arith}
+use Rattle.std.specs.List.{Contains}
+use Rattle.std.proofs.lemmas.Bool.{and_parts, and_from, both_ways, cases_eq, le-leb, leb-true, ne_eqb, eq-eqb, true_from_ne_false, false_from_ne_true, false≢true}
+use Rattle.std.proofs.lemmas.List.{append-nil, append_assoc}
+use Rattle.std.proofs.lemmas.List.Elements.{Contains-append_left, Contains-append_right, Contains-append_cases}
+use Rattle.lane_board.specs.Field.{Field}
+use Rattle.lane_board.specs.Lanes.{has_bit}
+use Rattle.lane_board.proofs.CallerLemmas.{has_bit-and, has_bit-zero}
+use Rattle.empty_cells.specs.declared.span.Span.{Span}
+use Rattle.empty_cells.specs.Spans.{has_span, without_span}
+use Rattle.empty_cells.specs.Stacks.{MayTake, Stacks, is_allowed}
+use Rattle.empty_cells.proofs.CallerLemmas.{IsSmall, some_in_span}
+use Rattle.tiled_pieces.specs.declared.listed.ListedTiling.{ListedTiling}
+use Rattle.tiled_pieces.specs.declared.listing.Listing.{Listing}
+use Rattle.tiled_pieces.specs.TilingLists.{LaidPiece}
+use Rattle.tiled_pieces.specs.Listings.{Adds, Lies, Lists, path_of}
+
+-- what holds of a path and of the pieces that are found
+abbrev pub Fact : Type 1
+Fact = List LaidPiece → List LaidPiece → Type 0
+
+none_among : (tiling : ListedTiling) → Contains [] tiling → ⊥
+none_among tiling (k, below, _) = absurd (omega arith)
+
+not_full : (x y : Bool) → (x ≡ true → y ≡ true) → y ≡ false → x ≡ false
+not_full x y implied room = false_from_ne_true x (λ is. both_ways y room (implied is))
+
+-- nothing is added where there is nothing to add
+pub adds_none : (list : Listing) (Least Most : Fact) → ((path found : List LaidPiece) → Least path found → ⊥) → Adds list list Least Most
+adds_none list Least Most none = record {
+  more = [];
+  longer = sym (append-nil list.tilings.items);
+  path = refl;
+  full = λ is. is;
+  gained = λ _ found least. absurd (none _ found least);
+  only = λ tiling listed. absurd (none_among tiling listed);
+}
+
+-- or where the list is full
+pub adds_full : (old new : Listing) (Least Most : Fact) → new.tilings.items ≡ old.tilings.items → path_of new.path ≡ path_of old.path → new.is_full ≡ true → Adds old new Least Most
+adds_full old new Least Most same path full = record {
+  more = [];
+  longer = same ∙ sym (append-nil old.tilings.items);
+  path = path;
+  full = λ _. full;
+  gained = λ room found least. absurd (both_ways _ room full);
+  only = λ tiling listed. absurd (none_among tiling listed);
+}
+
+-- one step and then another one
+pub adds_then : (a b c : Listing) (Least More Most : Fact) → Adds a b Least Most → Adds b c More Most → Adds a c (λ path found. Least path found ⊎ More path found) Most
+adds_then a b c Least More Most first second = record {
+  more = first.more ++ second.more;
+  longer = second.longer ∙ ap (λ l. l ++ second.more) first.longer ∙ append_assoc a.tilings.items first.more second.more;
+  path = second.path ∙ first.path;
+  full = λ is. second.full (first.full is);
+  gained = gained;
+  only = only;
+}
+  where
+    gained : c.is_full ≡ false → (found : List LaidPiece) → Least (path_of a.path) found ⊎ More (path_of a.path) found → Lists (first.more ++ second.more) found
+    gained room found (inl least) =
+        let l = first.gained (not_full b.is_full c.is_full second.full room) found least in
+        record { tiling = l.tiling; listed = Contains-append_left first.more second.more l.tiling l.listed; spells = l.spells }
+    gained room found (inr more) =
+        let l = second.gained room found (subst (λ path. More path found) (sym first.path) more) in
+        record { tiling = l.tiling; listed = Contains-append_right first.more second.more l.tiling l.listed; spells = l.spells }
+
+    only : (tiling : ListedTiling) → Contains (first.more ++ second.more) tiling → Lies (Most (path_of a.path)) tiling
+    only tiling listed = elim (Contains-append_cases first.more second.more tiling listed) [
+      | inl here ↦ first.only tiling here
+      | inr later ↦ subst (λ path. Lies (Most path) tiling) first.path (second.only tiling later)
+    ]
+
+pub adds_as : (old new : Listing) (Least Most Less More : Fact) → ((path found : List LaidPiece) → Less path found → Least path found) → ((path found : List LaidPiece) → Most path found → More path found) → Adds old new Least Most → Adds old new Less More
+adds_as old new Least Most Less More least most adds = record {
+  more = adds.more;
+  longer = adds.longer;
+  path = adds.path;
+  full = adds.full;
+  gained = λ room found less. adds.gained room found (least _ found less);
+  only = λ tiling listed. let l = adds.only tiling listed in record { found = l.found; spells = l.spells; most = most _ l.found l.most };
+}
+
+-- the lowest span takes a row that is gone through: one that isn't left
+pub record StacksGone (By : List LaidPiece → List LaidPiece → Field → Type 0) (E : Field) (x y floor : ℕ) (span : Span) (spans : List Span) (rows : ℕ) (path found : List LaidPiece) : Type 0 where
+  pub row : ℕ
+  pub may : MayTake (is_allowed y) E x floor span row
+  pub gone : has_bit rows row ≡ false
+  pub stacks : Stacks (is_allowed y) (By path found) (without_span E x span row) x (row + 1) spans
+
+abbrev StacksAll : (List LaidPiece → List LaidPiece → Field → Type 0) → Field → ℕ → ℕ → ℕ → List Span → Fact
+StacksAll By E x y floor spans path found = Stacks (is_allowed y) (By path found) E x floor spans
+
+-- The rows that are left are some that the lowest span may take; all is added that is found with the others.
+pub record RowsGone (By All : List LaidPiece → List LaidPiece → Field → Type 0) (E : Field) (x y floor : ℕ) (span : Span) (spans : List Span) (rows : ℕ) (old new : Listing) : Type 0 where
+  pub may : (row : ℕ) → row < 8 → has_bit rows row ≡ true → MayTake (is_allowed y) E x floor span row
+  pub adds : Adds old new (StacksGone By E x y floor span spans rows) (StacksGone All E x y floor span spans rows)
+
+pub rows-start : (By All : List LaidPiece → List LaidPiece → Field → Type 0) (E : Field) (x y floor : ℕ) (span : Span) (spans : List Span) (rows permitted : ℕ) (old : Listing) → IsSmall 8 E →
+    ((row : ℕ) → row < 8 → has_bit rows row ≡ has_span E x span row) → ((row : ℕ) → row < 8 → has_bit permitted row ≡ (nat_le floor row && is_allowed y floor span row)) →
+    RowsGone By All E x y floor span spans (bit_and rows permitted) old old
+rows-start By All E x y floor span spans rows permitted old small has allowed = record {
+  may = λ row low bit.
+      let both = and_parts _ _ (sym (bits row low) ∙ bit) in
+      let inner = and_parts _ _ both.1 in
+      record { above = leb-true floor row inner.0; permitted = inner.1; has = both.0 };
+  adds = adds_none old (StacksGone By E x y floor span spans (bit_and rows permitted)) (StacksGone All E x y floor span spans (bit_and rows permitted)) (λ path found gone.
+      let cell = some_in_span E x span gone.row gone.may.has in
+      let low = small.row cell.0 gone.row cell.1 in
+      both_ways _ gone.gone (bits gone.row low ∙ and_from _ _ gone.may.has (and_from _ _ (le-leb floor gone.row gone.may.above) gone.may.permitted)));
+}
+  where
+    bits : (row : ℕ) → row < 8 → has_bit (bit_and rows permitted) row ≡ (has_span E x span row && (nat_le floor row && is_allowed y floor span row))
+    bits row low = has_bit-and rows permitted row ∙ ap₂ ◌&&◌ (has row low) (allowed row low)
+
+and_none : (b : Bool) → (b && false) ≡ false
+and_none true = refl
+and_none false = refl
+
+module _ (E rest : Field) (x y floor : ℕ) (span : Span) (spans : List Span) (rows less row : ℕ) (small : IsSmall 8 E) (low : row < 8) (here : has_bit rows row ≡ true)
+    (may : MayTake (is_allowed y) E x floor span row) (left : rest ≡ without_span E x span row) (others : (k : ℕ) → k < 8 → has_bit less k ≡ (has_bit rows k && not (k == row))) where
+  before : (By : List LaidPiece → List LaidPiece → Field → Type 0) (path found : List LaidPiece) → StacksGone By E x y floor span spans rows path found → StacksGone By E x y floor span spans less path found
+  before By path found f =
+      let cell = some_in_span E x span f.row f.may.has in
+      record { row = f.row; may = f.may; gone = others f.row (small.row cell.0 f.row cell.1) ∙ ap (λ b. b && not (f.row == row)) f.gone; stacks = f.stacks }
+
+  at_row : (By : List LaidPiece → List LaidPiece → Field → Type 0) (path found : List LaidPiece) → StacksAll By rest x y (row + 1) spans path found → StacksGone By E x y floor span spans less path found
+  at_row By path found stacks = record {
+    row = row;
+    may = may;
+    gone = others row low ∙ ap (λ b. has_bit rows row && not b) (eq-eqb row row refl) ∙ and_none (has_bit rows row);
+    stacks = subst (λ (G : Field). Stacks (is_allowed y) (By path found) G x (row + 1) spans) left stacks;
+  }
+
+  split : (By : List LaidPiece → List LaidPiece → Field → Type 0) (path found : List LaidPiece) → StacksGone By E x y floor span spans less path found →
+      StacksGone By E x y floor span spans rows path found ⊎ StacksAll By rest x y (row + 1) spans path found
+  split By path found g = elim (cases_eq g.row row) [
+    | inl same ↦ inr (subst (λ (G : Field). Stacks (is_allowed y) (By path found) G x (row + 1) spans) (sym left)
+        (subst (λ k. Stacks (is_allowed y) (By path found) (without_span E x span k) x (k + 1) spans) same g.stacks))
+    | inr other ↦
+        let cell = some_in_span E x span g.row g.may.has in
+        inl (record { row = g.row; may = g.may; gone = was (has_bit rows g.row) (g.row == row) (ne_eqb g.row row other) (sym (others g.row (small.row cell.0 g.row cell.1)) ∙ g.gone); stacks = g.stacks })
+  ]
+    where
+      was : (p q : Bool) → q ≡ false → (p && not q) ≡ false → p ≡ false
+      was true q other left = absurd (both_ways true (ap (λ t. true && not t) (sym other) ∙ left) refl)
+      was false q other left = refl
+
+pub rows-next : (By All : List LaidPiece → List LaidPiece → Field → Type 0) (E rest : Field) (x column y floor : ℕ) (span : Span) (spans : List Span) (rows less row : ℕ) (a b c : Listing) → IsSmall 8 E → row < 8 → has_bit rows row ≡ true →
+    rest ≡ without_span E x span row → column ≡ x → ((k : ℕ) → k < 8 → has_bit less k ≡ (has_bit rows k && not (k == row))) → RowsGone By All E x y floor span spans rows a b →
+    Adds b c (StacksAll By rest column y (row + 1) spans) (StacksAll All rest column y (row + 1) spans) → RowsGone By All E x y floor span spans less a c
+rows-next By All E rest x column y floor span spans rows less row a b c small low here left same_column others gone more_there = record {
+  may = λ k k_low bit. gone.may k k_low (and_parts _ _ (sym (others k k_low) ∙ bit)).0;
+  adds = adds_as a c _ (StacksGone All E x y floor span spans less) (StacksGone By E x y floor span spans less) (StacksGone All E x y floor span spans less)
+      (split E rest x y floor span spans rows less row small low here may left others By) (λ path found is. is)
+      (adds_then a b c (StacksGone By E x y floor span spans rows) (StacksAll By rest x y (row + 1) spans) (StacksGone All E x y floor span spans less)
+      (adds_as a b _ (StacksGone All E x y floor span spans rows) _ _ (λ path found is. is) (before E rest x y floor span spans rows less row small low here may left others All) gone.adds)
+      (adds_as b c _ (StacksAll All rest x y (row + 1) spans) _ _ (λ path found is. is) (at_row E rest x y floor span spans rows less row small low here may left others All) more));
+}
+  where
+    may : MayTake (is_allowed y) E x floor span row
+    may = gone.may row low here
+
+    more : Adds b c (StacksAll By rest x y (row + 1) spans) (StacksAll All rest x y (row + 1) spans)
+    more = subst (λ k. Adds b c (StacksAll By rest k y (row + 1) spans) (StacksAll All rest k y (row + 1) spans)) same_column more_there
+
+-- where no row is left, all is added that is found with the spans stacked
+pub rows-all : (By All : List LaidPiece → List LaidPiece → Field → Type 0) (E : Field) (x y floor : ℕ) (span : Span) (spans all : List Span) (rows : ℕ) (old new : Listing) → all ≡ span ∷ spans → rows ≡ 0 →
+    RowsGone By All E x y floor span spans rows old new → Adds old new (StacksAll By E x y floor all) (StacksAll All E x y floor all)
+unfolding Stacks
+rows-all By All E x y floor span spans all rows old new is none gone =
+    subst (λ all. Adds old new (StacksAll By E x y floor all) (StacksAll All E x y floor all)) (sym is)
+    (adds_as old new (StacksGone By E x y floor span spans rows) (StacksGone All E x y floor span spans rows) (StacksAll By E x y floor (span ∷ spans)) (StacksAll All E x y floor (span ∷ spans))
+    gone_of (λ path found g. (g.row, g.may, g.stacks)) gone.adds)
+  where
+    gone_of : (path found : List LaidPiece) → Stacks (is_allowed y) (By path found) E x floor (span ∷ spans) → StacksGone By E x y floor span spans rows path found
+    gone_of path found (row, may, stacks) = record { row = row; may = may; gone = ap (λ n. has_bit n row) none ∙ has_bit-zero row; stacks = stacks }
+
+-- with no span left, it is what the search finds
+pub rows-none : (By All : List LaidPiece → List LaidPiece → Field → Type 0) (E : Field) (x y floor : ℕ) (spans : List Span) (old new : Listing) → spans ≡ [] → Adds old new (λ path found. By path found E) (λ path found. All path found E) →
+    Adds old new (StacksAll By E x y floor spans) (StacksAll All E x y floor spans)
+unfolding Stacks
+rows-none By All E x y floor spans old new is adds = subst (λ spans. Adds old new (StacksAll By E x y floor spans) (StacksAll All E x y floor spans)) (sym is) adds

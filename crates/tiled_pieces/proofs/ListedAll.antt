@@ -1,0 +1,81 @@
+-- What a walk has added to an empty list: all tilings, and nothing else.
+use Rattle.std.proofs.Common.{◌≡◌, ◌⊎◌, ℕ, zero, suc, ◌<◌, ◌≤◌, false, List, [], ◌∷◌, ◌++◌, length, get_or, map, refl, sym, ap, subst, ◌∙◌, inl, inr, arith}
+use Rattle.std.specs.List.{Contains}
+use Rattle.std.proofs.lemmas.Bool.{cases_lt}
+use Rattle.std.proofs.lemmas.List.{get_or_default, get_or_past}
+use Rattle.std.proofs.lemmas.List.Elements.{All-weaker, Contains-get_or}
+use Rattle.lane_board.specs.Field.{Field, empty_field}
+use Rattle.srs.specs.declared.piece.Piece.TheVariants.{I}
+use Rattle.prune.specs.Tiling.{Supply, Tiling}
+use Rattle.empty_cells.specs.declared.empties.Empties.{Empties}
+use Rattle.empty_cells.specs.Empties.{all_but, empty_cells}
+use Rattle.empty_cells.specs.Spans.{HasNoCell}
+use Rattle.empty_cells.proofs.CallerLemmas.{IsSmall, total}
+use Rattle.tiled_pieces.specs.declared.listed.ListedTiling.{ListedTiling}
+use Rattle.tiled_pieces.specs.declared.listing.Listing.{Listing}
+use Rattle.tiled_pieces.specs.TilingLists.{HasParts, HasPiece, IsListed, LaidPiece, ListsAll, ListsOnly, laid_at, laid_part}
+use Rattle.tiled_pieces.specs.Listings.{Adds, GoesOn, HasFirst, IsAny, Lies, Spells, no_piece, path_of}
+use Rattle.tiled_pieces.proofs.LaidLemmas.{TilingOf, in_order, tiling_of}
+
+-- no piece at any place
+pub nowhere : (none : Empties) → empty_cells none ≡ empty_field → (place : ℕ) → place < 8 →
+    laid_at (record { kinds = I ∷ I ∷ I ∷ I ∷ I ∷ I ∷ I ∷ I ∷ []; cells = none ∷ none ∷ none ∷ none ∷ none ∷ none ∷ none ∷ none ∷ [] }) place ≡ no_piece
+unfolding laid_at
+nowhere none is zero low = ap (λ (cells : Field). record { piece = I; cells = cells }) is
+nowhere none is (suc zero) low = ap (λ (cells : Field). record { piece = I; cells = cells }) is
+nowhere none is (suc (suc zero)) low = ap (λ (cells : Field). record { piece = I; cells = cells }) is
+nowhere none is (suc (suc (suc zero))) low = ap (λ (cells : Field). record { piece = I; cells = cells }) is
+nowhere none is (suc (suc (suc (suc zero)))) low = ap (λ (cells : Field). record { piece = I; cells = cells }) is
+nowhere none is (suc (suc (suc (suc (suc zero))))) low = ap (λ (cells : Field). record { piece = I; cells = cells }) is
+nowhere none is (suc (suc (suc (suc (suc (suc zero)))))) low = ap (λ (cells : Field). record { piece = I; cells = cells }) is
+nowhere none is (suc (suc (suc (suc (suc (suc (suc zero))))))) low = ap (λ (cells : Field). record { piece = I; cells = cells }) is
+nowhere none is (suc (suc (suc (suc (suc (suc (suc (suc n)))))))) low = absurd (omega (arith, low))
+
+-- a listed tiling has each piece that it spells
+pub has_spelled : (tiling : ListedTiling) (found : List LaidPiece) (laid : LaidPiece) → Spells tiling found → Contains found laid → HasPiece tiling laid
+has_spelled tiling found laid spells (place, below, is) = record {
+  place = place;
+  known = omega (arith, below, spells.few);
+  there = spells.each place (omega (arith, below, spells.few)) ∙ get_or_default found place no_piece laid below ∙ is;
+}
+
+-- and at each place one of them, or nothing
+pub spelled_at : (tiling : ListedTiling) (found : List LaidPiece) → Spells tiling found → (place : ℕ) → place < 8 → HasNoCell (laid_at tiling place).cells ⊎ Contains found (laid_at tiling place)
+unfolding empty_field
+spelled_at tiling found spells place low = elim (cases_lt place (length found)) [
+  | inl below ↦ inr (subst (λ laid. Contains found laid) (sym (spells.each place low)) (Contains-get_or found place no_piece below))
+  | inr past ↦ inl (record { none = λ x y. ap (λ (laid : LaidPiece). laid.cells x y) (spells.each place low ∙ get_or_past found place no_piece past) })
+]
+
+module _ (supply : Supply) (E : Field) (old new : Listing) (small : IsSmall 8 E) (path : path_of old.path ≡ []) (none : old.tilings.items ≡ []) (adds : Adds old new (GoesOn HasFirst supply E) (GoesOn IsAny supply E)) where
+  longer : new.tilings.items ≡ adds.more
+  longer = adds.longer ∙ ap (λ l. l ++ adds.more) none
+
+  pub lists_all : new.is_full ≡ false → ListsAll E supply new.tilings.items
+  lists_all room = record { all = each }
+    where
+      each : (t : Tiling (all_but E) 8 supply) → HasParts new.tilings.items t.parts
+      each t =
+          let order = in_order (total supply) supply E (omega arith) small t in
+          let listed = adds.gained room order.laid (record { more = order.laid; is = ap (λ front. front ++ order.laid) (sym path); laid = order.are }) in
+          record {
+            tiling = listed.tiling;
+            listed = subst (λ l. Contains l listed.tiling) (sym longer) listed.listed;
+            all = All-weaker (λ part. Contains order.laid (laid_part part)) (λ part. HasPiece listed.tiling (laid_part part)) (λ part among. has_spelled listed.tiling order.laid (laid_part part) listed.spells among) t.parts order.all;
+          }
+
+  pub lists_only : ListsOnly E supply new.tilings.items
+  lists_only = record { only = λ tiling listed. one tiling (adds.only tiling (subst (λ l. Contains l tiling) longer listed)) }
+    where
+      one : (tiling : ListedTiling) → Lies (GoesOn IsAny supply E (path_of old.path)) tiling → IsListed E supply tiling
+      one tiling lies = by (tiling_of IsAny supply E lies.most.more small lies.most.laid)
+        where
+          pieces : lies.found ≡ lies.most.more
+          pieces = lies.most.is ∙ ap (λ front. front ++ lies.most.more) path
+
+          by : TilingOf supply E lies.most.more → IsListed E supply tiling
+          by t = record {
+            whole = t.tiling;
+            each = λ place low. subst (λ l. HasNoCell (laid_at tiling place).cells ⊎ Contains l (laid_at tiling place)) (sym t.are)
+                (spelled_at tiling lies.most.more (subst (Spells tiling) pieces lies.spells) place low);
+          }

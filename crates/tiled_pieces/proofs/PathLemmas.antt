@@ -1,0 +1,114 @@
+-- Pieces that are put at a place of a listed tiling, and the pieces of a path.
+use Rattle.std.proofs.Common.{◌≡◌, ◌≢◌, ℕ, zero, suc, ◌+◌, ◌-◌, ◌<◌, ◌≤◌, List, [], ◌∷◌, ◌++◌, length, get_or, map, set, refl, sym, ap, ap₂, subst, ◌∙◌, inl, inr, arith}
+use Rattle.std.specs.List.{Contains, range_with_len}
+use Rattle.std.proofs.lemmas.Bool.{cases_eq, cases_lt}
+use Rattle.std.proofs.lemmas.List.{get_or-map, get_or_past, get_or-set_same, get_or-set_other, length-append, length-set}
+use Rattle.std.proofs.lemmas.List.FromFn.{get_or-map-range_with_len, length-map-range_with_len, map-range_with_len_more}
+use Rattle.lane_board.specs.Field.{Field, empty_field}
+use Rattle.srs.specs.declared.piece.Piece.{Piece}
+use Rattle.srs.specs.declared.piece.Piece.TheVariants.{I}
+use Rattle.empty_cells.specs.declared.empties.Empties.{Empties}
+use Rattle.empty_cells.specs.Empties.{empty_cells}
+use Rattle.tiled_pieces.specs.declared.listed.ListedTiling.{ListedTiling}
+use Rattle.tiled_pieces.specs.declared.listing.Listing.{Listing}
+use Rattle.tiled_pieces.specs.declared.path.Path.{Path}
+use Rattle.tiled_pieces.specs.TilingLists.{LaidPiece, laid_at}
+use Rattle.tiled_pieces.specs.Listings.{Adds, Lies, Lists, Spells, no_piece, path_of}
+
+module _ (tiling : ListedTiling) (place : ℕ) (piece : Piece) (cells : Empties) (kinds_known : place < length tiling.kinds) (cells_known : place < length tiling.cells) where
+  abbrev after : ListedTiling
+  after = record { kinds = set tiling.kinds place piece; cells = set tiling.cells place cells }
+
+  pub put_there : laid_at after place ≡ record { piece = piece; cells = empty_cells cells }
+  unfolding laid_at
+  put_there =
+      let kind : get_or after.kinds place I ≡ piece = get_or-set_same tiling.kinds place piece I kinds_known in
+      let there : get_or (map empty_cells after.cells) place empty_field ≡ empty_cells cells =
+          get_or-map empty_cells after.cells place cells empty_field (omega (arith, cells_known, length-set tiling.cells place cells)) ∙ ap empty_cells (get_or-set_same tiling.cells place cells cells cells_known) in
+      λ i. record { piece = kind i; cells = there i }
+
+  pub put_elsewhere : (other : ℕ) → other ≢ place → other < length tiling.cells → laid_at after other ≡ laid_at tiling other
+  unfolding laid_at
+  put_elsewhere other apart known =
+      let kind : get_or after.kinds other I ≡ get_or tiling.kinds other I = get_or-set_other tiling.kinds place other piece I apart in
+      let there : get_or (map empty_cells after.cells) other empty_field ≡ get_or (map empty_cells tiling.cells) other empty_field =
+          get_or-map empty_cells after.cells other cells empty_field (omega (arith, known, length-set tiling.cells place cells))
+          ∙ ap empty_cells (get_or-set_other tiling.cells place other cells cells apart)
+          ∙ sym (get_or-map empty_cells tiling.cells other cells empty_field known) in
+      λ i. record { piece = kind i; cells = there i }
+
+-- an empty set at a place is no piece
+pub nothing_there : (tiling : ListedTiling) (place other : ℕ) (none : Empties) → other ≡ place → empty_cells none ≡ empty_field → place < length tiling.kinds → place < length tiling.cells →
+    laid_at (record { kinds = set tiling.kinds place I; cells = set tiling.cells place none }) other ≡ no_piece
+nothing_there tiling place other none same is kinds_known cells_known =
+    ap (λ k. laid_at (record { kinds = set tiling.kinds place I; cells = set tiling.cells place none }) k) same ∙ put_there tiling place I none kinds_known cells_known
+    ∙ ap (λ (cells : Field). record { piece = I; cells = cells }) is
+
+-- two ways to make a list that agree
+agree : (f g : ℕ → LaidPiece) (n : ℕ) → ((k : ℕ) → k < n → f k ≡ g k) → map f (range_with_len 0 n) ≡ map g (range_with_len 0 n)
+agree f g zero same = refl
+agree f g (suc n) same =
+    let one : suc n ≡ n + 1 = omega arith in
+    ap (λ k. map f (range_with_len 0 k)) one ∙ map-range_with_len_more f 0 n n (omega arith)
+    ∙ ap₂ (λ l x. l ++ x ∷ []) (agree f g n (λ k below. same k (omega (arith, below)))) (same n (omega arith))
+    ∙ sym (map-range_with_len_more g 0 n n (omega arith)) ∙ ap (λ k. map g (range_with_len 0 k)) (sym one)
+
+-- the pieces at the first places
+pub at_first : (tiling after : ListedTiling) (count : ℕ) → ((k : ℕ) → k < count → laid_at after k ≡ laid_at tiling k) → map (laid_at after) (range_with_len 0 count) ≡ map (laid_at tiling) (range_with_len 0 count)
+at_first tiling after count same = agree (laid_at after) (laid_at tiling) count same
+
+pub one_more : (tiling after : ListedTiling) (count : ℕ) (last : LaidPiece) → ((k : ℕ) → k < count → laid_at after k ≡ laid_at tiling k) → laid_at after count ≡ last →
+    map (laid_at after) (range_with_len 0 (count + 1)) ≡ map (laid_at tiling) (range_with_len 0 count) ++ last ∷ []
+one_more tiling after count last same at =
+    map-range_with_len_more (laid_at after) 0 count count (omega arith) ∙ ap₂ (λ l x. l ++ x ∷ []) (agree (laid_at after) (laid_at tiling) count same) at
+
+without_last : List LaidPiece → List LaidPiece
+without_last [] = []
+without_last (x ∷ []) = []
+without_last (x ∷ y ∷ xs) = x ∷ without_last (y ∷ xs)
+
+last_away : (xs : List LaidPiece) (x : LaidPiece) → without_last (xs ++ x ∷ []) ≡ xs
+unfolding without_last
+last_away [] x = refl
+last_away (y ∷ []) x = refl
+last_away (y ∷ z ∷ xs) x = ap (λ l. y ∷ l) (last_away (z ∷ xs) x)
+
+same_front : (xs ys : List LaidPiece) (x y : LaidPiece) → xs ++ x ∷ [] ≡ ys ++ y ∷ [] → xs ≡ ys
+same_front xs ys x y same = sym (last_away xs x) ∙ ap without_last same ∙ last_away ys y
+
+pub one_fewer : (tiling after : ListedTiling) (count : ℕ) (path : List LaidPiece) (last : LaidPiece) → 0 < count → ((k : ℕ) → k < count - 1 → laid_at after k ≡ laid_at tiling k) →
+    map (laid_at tiling) (range_with_len 0 count) ≡ path ++ last ∷ [] → map (laid_at after) (range_with_len 0 (count - 1)) ≡ path
+one_fewer tiling after count path last some same is =
+    let one : count ≡ count - 1 + 1 = omega (arith, some) in
+    agree (laid_at after) (laid_at tiling) (count - 1) same
+    ∙ same_front (map (laid_at tiling) (range_with_len 0 (count - 1))) path (laid_at tiling (count - 1)) last
+    (sym (map-range_with_len_more (laid_at tiling) 0 (count - 1) (count - 1) (omega arith)) ∙ ap (λ k. map (laid_at tiling) (range_with_len 0 k)) (sym one) ∙ is)
+
+pub none_to_take : (tiling : ListedTiling) (count : ℕ) (path : List LaidPiece) (last : LaidPiece) → count ≡ 0 → map (laid_at tiling) (range_with_len 0 count) ≡ path ++ last ∷ [] → ⊥
+none_to_take tiling count path last none is = absurd (omega (arith, none, sym (length-map-range_with_len (laid_at tiling) 0 count) ∙ ap length is ∙ length-append path (last ∷ [])))
+
+-- a path spells its pieces
+pub spells_path : (path : Path) → Spells path.tiling (path_of path)
+unfolding path_of
+spells_path path = record { few = omega (arith, path.few, length-map-range_with_len (laid_at path.tiling) 0 path.count); each = each }
+  where
+    each : (place : ℕ) → place < 8 → laid_at path.tiling place ≡ get_or (map (laid_at path.tiling) (range_with_len 0 path.count)) place no_piece
+    each place low = elim (cases_lt place path.count) [
+      | inl below ↦ sym (get_or-map-range_with_len (laid_at path.tiling) 0 path.count place place no_piece below (omega arith))
+      | inr past ↦ path.none place past low ∙ sym (get_or_past (map (laid_at path.tiling) (range_with_len 0 path.count)) place no_piece (omega (arith, past, length-map-range_with_len (laid_at path.tiling) 0 path.count)))
+    ]
+
+-- the path is added as a tiling
+pub adds_path : (old new : Listing) → new.path ≡ old.path → new.is_full ≡ old.is_full → new.tilings.items ≡ old.tilings.items ++ old.path.tiling ∷ [] → Adds old new (λ path found. found ≡ path) (λ path found. found ≡ path)
+adds_path old new path full longer = record {
+  more = old.path.tiling ∷ [];
+  longer = longer;
+  path = ap path_of path;
+  full = λ is. full ∙ is;
+  gained = λ _ found is. record { tiling = old.path.tiling; listed = (0, omega arith, refl); spells = subst (Spells old.path.tiling) (sym is) (spells_path old.path) };
+  only = λ tiling listed. record { found = path_of old.path; spells = subst (λ t. Spells t (path_of old.path)) (one_listed old.path.tiling tiling listed) (spells_path old.path); most = refl };
+}
+  where
+    one_listed : (x y : ListedTiling) → Contains (x ∷ []) y → x ≡ y
+    one_listed x y (zero, below, is) = is
+    one_listed x y (suc k, below, is) = absurd (omega (arith, below))
