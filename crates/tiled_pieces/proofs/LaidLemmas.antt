@@ -1,28 +1,27 @@
 -- Pieces laid one after the other are the parts of a tiling, and each tiling can be laid so that each piece has the first cell of what is left.
-use Rattle.std.proofs.Common.{◌≡◌, ◌⊎◌, ℕ, zero, suc, ◌+◌, ◌<◌, ◌≤◌, Bool, true, false, not, ◌&&◌, cond, List, [], ◌∷◌, ◌++◌, length, map, get_or, pos, negsuc, refl, sym, ap, ap₂, subst, ◌∙◌, inl, inr, arith}
+use Rattle.std.proofs.Common.{◌≡◌, ◌⊎◌, ℕ, zero, suc, ◌<◌, ◌≤◌, Bool, true, false, not, ◌&&◌, cond, List, [], ◌∷◌, ◌++◌, map, pos, negsuc, refl, sym, ap, ap₂, subst, ◌∙◌, inl, inr, arith}
 use Rattle.std.specs.Prelude.{All}
 use Rattle.std.proofs.Math.Path.{fun_ext}
-use Rattle.std.specs.List.{Contains, list_all}
+use Rattle.std.specs.List.{Contains}
 use Rattle.std.proofs.lemmas.Bool.{cases_Bool, cases_eq, cases_lt, and_parts, both_ways, false≢true}
 use Rattle.std.proofs.lemmas.List.{append_assoc}
 use Rattle.std.proofs.lemmas.List.Elements.{All-nil, All-weaker, Contains-append_left, Contains-append_right}
 use Rattle.lane_board.specs.Field.{Field, difference}
 use Rattle.srs.specs.declared.piece.Piece.{Piece}
 use Rattle.srs.specs.Cells.{Cell}
-use Rattle.srs.specs.SameCells.{is_among}
 use Rattle.srs.proofs.CallerLemmas.{is_among-all, list_all-from_is_among}
-use Rattle.prune.specs.Tiling.{IsGeneralized, Part, Supply, Tiling, covers, is_empty_below}
+use Rattle.prune.specs.Tiling.{Part, Supply, Tiling, covers, is_empty_below}
 use Rattle.prune.specs.Laws.{with_one}
-use Rattle.prune.specs.OnePart.{less_one, with_cells}
+use Rattle.prune.specs.OnePart.{less_one}
 use Rattle.prune.proofs.CallerLemmas.{TakenPart, no_parts, taken_part}
 use Rattle.empty_cells.specs.Empties.{all_but, has_cell}
-use Rattle.empty_cells.specs.Spans.{HasNoCell, IsFirst, forms_of}
-use Rattle.empty_cells.specs.Stacks.{CanFill, Stacks, in_stack, is_allowed, without_stack}
+use Rattle.empty_cells.specs.Spans.{HasNoCell, IsFirst}
+use Rattle.empty_cells.specs.Stacks.{Stacks, in_stack, is_allowed, without_stack}
 use Rattle.empty_cells.proofs.CallerLemmas.{Chosen, IsSmall, PartOf, StackOf, chosen, empty_is, empty_within, fewer, fills_nothing, form, form_at, form_of_place, form_within, over_first, part_of, rotation_at, stack_of, total}
 use Rattle.tiled_pieces.specs.TilingLists.{LaidPiece, laid_part}
-use Rattle.tiled_pieces.specs.Listings.{AreLaid, GoesOn, GoesOnWith, HasFirst, IsAny, IsLaid, StacksForm, StacksSome, TakesFirst}
-use Rattle.tiled_pieces.proofs.ListLaws.{LiesIn, TilingWith, left_by_part, left_is, tiling_with}
-use Rattle.tiled_pieces.proofs.WalkLemmas.{less_with, some_with}
+use Rattle.tiled_pieces.specs.Listings.{AreLaid, GoesOn, GoesOnWith, HasFirst, IsAny, IsLaid, StacksForm, TakesFirst}
+use Rattle.tiled_pieces.proofs.ListLaws.{left_by_part, left_is, tiling_with}
+use Rattle.tiled_pieces.proofs.SupplyLemmas.{less_with, some_with}
 
 -- what is left of a small set
 pub left_small : (E cells : Field) → IsSmall 8 E → IsSmall 8 (difference E cells)
@@ -111,10 +110,12 @@ first_of E small = elim (first_before E 10) [
     y = f.lowest.row;
     first = record { filled = f.lowest.filled; column = omega (arith, f.before); row = omega (arith, f.lowest.below); leftmost = λ a b less. outside a b (λ low. f.leftmost a b less low); lowest = f.lowest.lowest };
   })
-  | inr none ↦ inr (record { none = λ a b. elim (cases_Bool (E a b)) [
-    | inl has ↦ absurd (both_ways _ (none a b (small.column a b has) (small.row a b has)) has)
-    | inr hasnt ↦ hasnt
-  ] })
+  | inr none ↦ inr (record {
+    none = λ a b. elim (cases_Bool (E a b)) [
+      | inl has ↦ absurd (both_ways _ (none a b (small.column a b has) (small.row a b has)) has)
+      | inr hasnt ↦ hasnt
+    ];
+  })
 ]
   where
     outside : (a b : ℕ) → (b < 8 → E a b ≡ false) → E a b ≡ false

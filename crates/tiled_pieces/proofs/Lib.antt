@@ -1,16 +1,12 @@
 -- The lemmas of this crate.
-mod MarkLemmas
-mod FirstCells
-mod MirroredPieces
-mod WalkLemmas
-mod WalkSteps
-mod WalkRows
-mod WalkGains
+mod SupplyLemmas
+mod PivotCells
 mod ListedLemmas
 mod ListLaws
 mod PathLemmas
 mod AddsLemmas
 mod LaidLemmas
 mod StepLemmas
+mod StandsLemmas
 mod ListedAll
 pub mod CallerLemmas

@@ -1,5 +1,5 @@
 -- What a list of all tilings says of one piece: it is in some of them where the others fill the rest, and those that have it are all tilings of the rest.
-use Rattle.std.proofs.Common.{◌≡◌, ◌↔◌, ℕ, ◌<◌, ◌≤◌, Bool, true, false, not, cond, ◌&&◌, ◌||◌, List, ◌∷◌, pos, refl, sym, subst, ◌∙◌, arith}
+use Rattle.std.proofs.Common.{◌≡◌, ◌<◌, ◌≤◌, Bool, true, false, not, cond, ◌&&◌, ◌||◌, List, ◌∷◌, pos, refl, sym, subst}
 use Rattle.std.proofs.Math.Path.{fun_ext}
 use Rattle.std.specs.List.{Contains, list_all}
 use Rattle.std.proofs.lemmas.List.Elements.{All-head, All-tail}
@@ -8,7 +8,6 @@ use Rattle.srs.specs.declared.piece.Piece.{Piece}
 use Rattle.srs.specs.Cells.{Cell}
 use Rattle.srs.specs.SameCells.{is_among}
 use Rattle.prune.specs.Tiling.{IsGeneralized, Part, Supply, Tiling, covers, is_empty_below, parts_of}
-use Rattle.prune.specs.Laws.{with_one}
 use Rattle.prune.specs.OnePart.{less_one, with_cells}
 use Rattle.prune.proofs.CallerLemmas.{WithPart, one_part_more}
 use Rattle.empty_cells.specs.Empties.{all_but, has_cell}

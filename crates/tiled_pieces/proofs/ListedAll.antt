@@ -1,21 +1,26 @@
 -- What a walk has added to an empty list: all tilings, and nothing else.
-use Rattle.std.proofs.Common.{◌≡◌, ◌⊎◌, ℕ, zero, suc, ◌<◌, ◌≤◌, false, List, [], ◌∷◌, ◌++◌, length, get_or, map, refl, sym, ap, subst, ◌∙◌, inl, inr, arith}
+use Rattle.std.proofs.Common.{Global, Vec, ◌≡◌, ◌↔◌, ◌⊎◌, ℕ, zero, suc, ◌<◌, true, false, List, [], ◌∷◌, ◌++◌, length, sym, ap, subst, ◌∙◌, inl, inr, arith}
 use Rattle.std.specs.List.{Contains}
 use Rattle.std.proofs.lemmas.Bool.{cases_lt}
 use Rattle.std.proofs.lemmas.List.{get_or_default, get_or_past}
 use Rattle.std.proofs.lemmas.List.Elements.{All-weaker, Contains-get_or}
 use Rattle.lane_board.specs.Field.{Field, empty_field}
 use Rattle.srs.specs.declared.piece.Piece.TheVariants.{I}
+use Rattle.srs.specs.declared.placement.Placement.{Placement}
+use Rattle.srs.specs.Cells.{is_inside_of}
 use Rattle.prune.specs.Tiling.{Supply, Tiling}
 use Rattle.empty_cells.specs.declared.empties.Empties.{Empties}
+use Rattle.empty_cells.specs.declared.supply.SupplyWord.{SupplyWord}
 use Rattle.empty_cells.specs.Empties.{all_but, empty_cells}
+use Rattle.empty_cells.specs.SupplyWords.{supply_of}
 use Rattle.empty_cells.specs.Spans.{HasNoCell}
 use Rattle.empty_cells.proofs.CallerLemmas.{IsSmall, total}
 use Rattle.tiled_pieces.specs.declared.listed.ListedTiling.{ListedTiling}
 use Rattle.tiled_pieces.specs.declared.listing.Listing.{Listing}
-use Rattle.tiled_pieces.specs.TilingLists.{HasParts, HasPiece, IsListed, LaidPiece, ListsAll, ListsOnly, laid_at, laid_part}
+use Rattle.tiled_pieces.specs.TilingLists.{HasParts, HasPiece, IsListed, LaidPiece, ListsAll, ListsOnly, SomeHas, StandsInTiling, laid_at, laid_part, laid_placement}
 use Rattle.tiled_pieces.specs.Listings.{Adds, GoesOn, HasFirst, IsAny, Lies, Spells, no_piece, path_of}
 use Rattle.tiled_pieces.proofs.LaidLemmas.{TilingOf, in_order, tiling_of}
+use Rattle.tiled_pieces.proofs.StandsLemmas.{listed_stands}
 
 -- no piece at any place
 pub nowhere : (none : Empties) → empty_cells none ≡ empty_field → (place : ℕ) → place < 8 →
@@ -79,3 +84,27 @@ module _ (supply : Supply) (E : Field) (old new : Listing) (small : IsSmall 8 E)
             each = λ place low. subst (λ l. HasNoCell (laid_at tiling place).cells ⊎ Contains l (laid_at tiling place)) (sym t.are)
                 (spelled_at tiling lies.most.more (subst (Spells tiling) pieces lies.spells) place low);
           }
+
+-- what the list says that the walk from no piece has made
+pub record Listed (E : Field) (supply : Supply) (list : List ListedTiling) : Type 0 where
+  pub all : ListsAll E supply list
+  pub only : ListsOnly E supply list
+  pub exact : (m : Placement) → is_inside_of m ≡ true → SomeHas list (laid_placement m) ↔ StandsInTiling E supply m
+
+pub listed : (supply : Supply) (E : Field) (old new : Listing) (word : SupplyWord) (F : Field) (tilings : Vec ListedTiling Global) → IsSmall 8 E → path_of old.path ≡ [] → old.tilings.items ≡ [] → supply_of word ≡ supply → F ≡ E →
+    Adds old new (GoesOn HasFirst (supply_of word) F) (GoesOn IsAny (supply_of word) F) → new.is_full ≡ false → tilings ≡ new.tilings → Listed E supply tilings.items
+listed supply E old new word F tilings small path none same_supply same_cells adds room is = subst (λ (v : Vec ListedTiling Global). Listed E supply v.items) (sym is) (record {
+  all = all;
+  only = only;
+  exact = listed_stands E supply new.tilings.items small all only;
+})
+  where
+    walked : Adds old new (GoesOn HasFirst supply E) (GoesOn IsAny supply E)
+    walked = subst (λ (s : Supply). Adds old new (GoesOn HasFirst s E) (GoesOn IsAny s E)) same_supply
+        (subst (λ (G : Field). Adds old new (GoesOn HasFirst (supply_of word) G) (GoesOn IsAny (supply_of word) G)) same_cells adds)
+
+    all : ListsAll E supply new.tilings.items
+    all = lists_all supply E old new small path none walked room
+
+    only : ListsOnly E supply new.tilings.items
+    only = lists_only supply E old new small path none walked

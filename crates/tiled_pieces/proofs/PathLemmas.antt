@@ -1,7 +1,7 @@
 -- Pieces that are put at a place of a listed tiling, and the pieces of a path.
-use Rattle.std.proofs.Common.{◌≡◌, ◌≢◌, ℕ, zero, suc, ◌+◌, ◌-◌, ◌<◌, ◌≤◌, List, [], ◌∷◌, ◌++◌, length, get_or, map, set, refl, sym, ap, ap₂, subst, ◌∙◌, inl, inr, arith}
+use Rattle.std.proofs.Common.{◌≡◌, ◌≢◌, ℕ, zero, suc, ◌+◌, ◌-◌, ◌<◌, List, [], ◌∷◌, ◌++◌, length, get_or, map, set, refl, sym, ap, ap₂, subst, ◌∙◌, inl, inr, arith}
 use Rattle.std.specs.List.{Contains, range_with_len}
-use Rattle.std.proofs.lemmas.Bool.{cases_eq, cases_lt}
+use Rattle.std.proofs.lemmas.Bool.{cases_lt}
 use Rattle.std.proofs.lemmas.List.{get_or-map, get_or_past, get_or-set_same, get_or-set_other, length-append, length-set}
 use Rattle.std.proofs.lemmas.List.FromFn.{get_or-map-range_with_len, length-map-range_with_len, map-range_with_len_more}
 use Rattle.lane_board.specs.Field.{Field, empty_field}
@@ -13,7 +13,7 @@ use Rattle.tiled_pieces.specs.declared.listed.ListedTiling.{ListedTiling}
 use Rattle.tiled_pieces.specs.declared.listing.Listing.{Listing}
 use Rattle.tiled_pieces.specs.declared.path.Path.{Path}
 use Rattle.tiled_pieces.specs.TilingLists.{LaidPiece, laid_at}
-use Rattle.tiled_pieces.specs.Listings.{Adds, Lies, Lists, Spells, no_piece, path_of}
+use Rattle.tiled_pieces.specs.Listings.{Adds, Spells, no_piece, path_of}
 
 module _ (tiling : ListedTiling) (place : ℕ) (piece : Piece) (cells : Empties) (kinds_known : place < length tiling.kinds) (cells_known : place < length tiling.cells) where
   abbrev after : ListedTiling
@@ -24,7 +24,7 @@ module _ (tiling : ListedTiling) (place : ℕ) (piece : Piece) (cells : Empties)
   put_there =
       let kind : get_or after.kinds place I ≡ piece = get_or-set_same tiling.kinds place piece I kinds_known in
       let there : get_or (map empty_cells after.cells) place empty_field ≡ empty_cells cells =
-          get_or-map empty_cells after.cells place cells empty_field (omega (arith, cells_known, length-set tiling.cells place cells)) ∙ ap empty_cells (get_or-set_same tiling.cells place cells cells cells_known) in
+      get_or-map empty_cells after.cells place cells empty_field (omega (arith, cells_known, length-set tiling.cells place cells)) ∙ ap empty_cells (get_or-set_same tiling.cells place cells cells cells_known) in
       λ i. record { piece = kind i; cells = there i }
 
   pub put_elsewhere : (other : ℕ) → other ≢ place → other < length tiling.cells → laid_at after other ≡ laid_at tiling other
@@ -32,9 +32,9 @@ module _ (tiling : ListedTiling) (place : ℕ) (piece : Piece) (cells : Empties)
   put_elsewhere other apart known =
       let kind : get_or after.kinds other I ≡ get_or tiling.kinds other I = get_or-set_other tiling.kinds place other piece I apart in
       let there : get_or (map empty_cells after.cells) other empty_field ≡ get_or (map empty_cells tiling.cells) other empty_field =
-          get_or-map empty_cells after.cells other cells empty_field (omega (arith, known, length-set tiling.cells place cells))
-          ∙ ap empty_cells (get_or-set_other tiling.cells place other cells cells apart)
-          ∙ sym (get_or-map empty_cells tiling.cells other cells empty_field known) in
+      get_or-map empty_cells after.cells other cells empty_field (omega (arith, known, length-set tiling.cells place cells))
+      ∙ ap empty_cells (get_or-set_other tiling.cells place other cells cells apart)
+      ∙ sym (get_or-map empty_cells tiling.cells other cells empty_field known) in
       λ i. record { piece = kind i; cells = there i }
 
 -- an empty set at a place is no piece

@@ -1,5 +1,5 @@
 -- A placement is in a listed tiling exactly where the others fill what it leaves.
-use Rattle.std.proofs.Common.{◌≡◌, ◌↔◌, ◌⊎◌, ℕ, zero, suc, ◌<◌, ◌≤◌, Bool, true, false, not, ◌&&◌, List, [], ◌∷◌, map, get_or, pos, negsuc, refl, sym, ap, subst, ◌∙◌, inl, inr, arith}
+use Rattle.std.proofs.Common.{◌≡◌, ◌↔◌, ℕ, zero, suc, ◌<◌, Bool, true, false, not, ◌&&◌, List, [], ◌∷◌, map, pos, negsuc, refl, sym, ap, subst, ◌∙◌, inl, inr, arith}
 use Rattle.std.proofs.Math.Path.{fun_ext}
 use Rattle.std.specs.List.{Contains, list_all}
 use Rattle.std.proofs.lemmas.Bool.{and_parts, and_from, both_ways, not-true, not_from_false, false_from_ne_true, false≢true}
@@ -9,11 +9,10 @@ use Rattle.srs.specs.declared.placement.Placement.{Placement}
 use Rattle.srs.specs.Cells.{Cell, cells_of, in_well, is_inside_of}
 use Rattle.srs.specs.SameCells.{is_among}
 use Rattle.srs.proofs.CallerLemmas.{is_among-all, list_all-from_is_among}
-use Rattle.prune.specs.Tiling.{Supply, Tiling}
+use Rattle.prune.specs.Tiling.{Supply}
 use Rattle.prune.specs.OnePart.{less_one}
 use Rattle.prune.proofs.CallerLemmas.{placed, placed_generalized}
-use Rattle.empty_cells.specs.Empties.{all_but, has_cell, without_placement}
-use Rattle.empty_cells.specs.Spans.{HasNoCell}
+use Rattle.empty_cells.specs.Empties.{has_cell, without_placement}
 use Rattle.empty_cells.proofs.CallerLemmas.{CellOf, IsSmall, cell_of, total}
 use Rattle.tiled_pieces.specs.declared.listed.ListedTiling.{ListedTiling}
 use Rattle.tiled_pieces.specs.TilingLists.{HasPiece, IsListed, LaidPiece, ListsAll, ListsOnly, SomeHas, StandsInTiling, laid_at, laid_part, laid_placement}

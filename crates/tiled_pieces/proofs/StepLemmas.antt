@@ -1,17 +1,15 @@
 -- The steps of a walk that lists tilings.
-use Rattle.std.proofs.Common.{◌≡◌, ◌⊎◌, ℕ, zero, suc, ◌+◌, ◌<◌, ◌≤◌, Bool, true, false, List, [], ◌∷◌, ◌++◌, length, map, replicate, get_or, refl, sym, ap, subst, ◌∙◌, inl, inr, arith}
+use Rattle.std.proofs.Common.{◌≡◌, ◌⊎◌, ℕ, zero, suc, ◌<◌, true, false, List, [], ◌∷◌, ◌++◌, length, map, replicate, get_or, refl, sym, ap, subst, ◌∙◌, inl, inr, arith}
 use Rattle.std.specs.Prelude.{All}
-use Rattle.std.specs.List.{Contains}
 use Rattle.std.proofs.lemmas.List.{append-nil, length-append}
 use Rattle.std.proofs.lemmas.List.Elements.{All-replicate}
 use Rattle.lane_board.specs.Field.{Field, difference}
 use Rattle.srs.specs.declared.piece.Piece.{Piece}
 use Rattle.srs.specs.declared.piece.Piece.TheVariants.{I, L, O, Z, T, J, S}
-use Rattle.prune.specs.Tiling.{Supply, Tiling}
+use Rattle.prune.specs.Tiling.{Supply}
 use Rattle.prune.specs.Laws.{with_one}
 use Rattle.prune.specs.OnePart.{less_one}
 use Rattle.prune.proofs.CallerLemmas.{no_parts}
-use Rattle.empty_cells.specs.declared.span.Span.{Span}
 use Rattle.empty_cells.specs.declared.empties.Empties.{Empties}
 use Rattle.empty_cells.specs.declared.supply.SupplyWord.{SupplyWord}
 use Rattle.empty_cells.specs.Empties.{all_but, empty_cells}
@@ -20,10 +18,9 @@ use Rattle.tiled_pieces.specs.declared.dead.Dead.{Dead}
 use Rattle.empty_cells.specs.Spans.{HasNoCell, IsFirst, forms_of}
 use Rattle.empty_cells.specs.Stacks.{CanFill, Stacks, is_allowed}
 use Rattle.empty_cells.proofs.CallerLemmas.{IsSmall, one_back, total}
-use Rattle.tiled_pieces.specs.declared.listed.ListedTiling.{ListedTiling}
 use Rattle.tiled_pieces.specs.declared.listing.Listing.{Listing}
 use Rattle.tiled_pieces.specs.TilingLists.{LaidPiece, laid_part}
-use Rattle.tiled_pieces.specs.Listings.{Adds, AreLaid, GoesOn, GoesOnWith, HasFirst, IsAny, IsDead, Lies, Lists, StacksForm, StacksSome, TakesFirst, path_of}
+use Rattle.tiled_pieces.specs.Listings.{Adds, AreLaid, GoesOn, GoesOnWith, HasFirst, IsAny, IsDead, StacksForm, StacksSome, TakesFirst, path_of}
 use Rattle.tiled_pieces.proofs.AddsLemmas.{Fact, adds_as, adds_then}
 use Rattle.tiled_pieces.proofs.LaidLemmas.{TilingOf, form_found, in_order, none_empty, some_takes, tiling_of}
 

@@ -1,5 +1,5 @@
 -- Pieces laid one after the other, and what a walk over tilings adds to a list.
-use Rattle.std.specs.Prelude.{◌≡◌, ℕ, ◌<◌, ◌≤◌, Bool, true, false, IsTrue, List, [], ◌∷◌, ◌++◌, length, map, slice_index_or}
+use Rattle.std.specs.Prelude.{◌≡◌, ℕ, ◌<◌, ◌≤◌, true, false, IsTrue, List, [], ◌∷◌, ◌++◌, length, map, slice_index_or}
 use Rattle.std.specs.List.{Contains, list_all, range_with_len}
 use Rattle.lane_board.specs.Field.{Field, difference, empty_field}
 use Rattle.srs.specs.declared.piece.Piece.{Piece}

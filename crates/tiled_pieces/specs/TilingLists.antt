@@ -1,12 +1,15 @@
 -- Listed tilings: which pieces they have, and when all tilings of a set of cells are listed, and nothing else.
-use Rattle.std.specs.Prelude.{◌≡◌, ◌⊎◌, ℕ, ◌<◌, pos, List, All, map, slice_index_or}
-use Rattle.std.specs.List.{Contains}
+use Rattle.std.specs.Prelude.{◌≡◌, ◌⊎◌, ℕ, ◌<◌, pos, IsTrue, List, All, map, slice_index_or}
+use Rattle.std.specs.List.{Contains, list_all}
 use Rattle.lane_board.specs.Field.{Field, empty_field}
 use Rattle.srs.specs.declared.piece.Piece.{Piece}
 use Rattle.srs.specs.declared.piece.Piece.TheVariants.{I}
+use Rattle.srs.specs.declared.placement.Placement.{Placement}
+use Rattle.srs.specs.Cells.{cells_of}
 use Rattle.srs.specs.SameCells.{is_among}
 use Rattle.prune.specs.Tiling.{Part, Supply, Tiling}
-use Rattle.empty_cells.specs.Empties.{all_but, empty_cells}
+use Rattle.prune.specs.OnePart.{less_one}
+use Rattle.empty_cells.specs.Empties.{all_but, empty_cells, has_cell, without_placement}
 use Rattle.empty_cells.specs.Spans.{HasNoCell}
 use Rattle.tiled_pieces.specs.declared.listed.ListedTiling.{ListedTiling}
 
@@ -18,6 +21,10 @@ pub record LaidPiece : Type 0 where
 -- a part of a tiling, as a piece that is laid
 abbrev pub laid_part : Part → LaidPiece
 laid_part part = record { piece = part.piece; cells = λ x y. is_among part.cells (pos x, pos y) }
+
+-- a placement, as a piece that is laid
+abbrev pub laid_placement : Placement → LaidPiece
+laid_placement placement = record { piece = placement.piece; cells = λ x y. is_among (cells_of placement) (pos x, pos y) }
 
 -- the piece at a place of a listed tiling
 unfoldable pub laid_at : ListedTiling → ℕ → LaidPiece
@@ -57,3 +64,10 @@ pub record IsListed (E : Field) (supply : Supply) (tiling : ListedTiling) : Type
 -- nothing but tilings of a set of cells by a supply is listed
 pub record ListsOnly (E : Field) (supply : Supply) (list : List ListedTiling) : Type 0 where
   pub only : (tiling : ListedTiling) → Contains list tiling → IsListed E supply tiling
+
+-- A placement stands in a tiling of the set: the set has its cells, and what it leaves has a tiling by the others of
+-- the supply.
+pub record StandsInTiling (E : Field) (supply : Supply) (placement : Placement) : Type 0 where
+  pub inside : IsTrue (list_all (has_cell E) (cells_of placement))
+  pub some : 0 < supply placement.piece
+  pub rest : Tiling (all_but (without_placement E placement)) 8 (less_one supply placement.piece)

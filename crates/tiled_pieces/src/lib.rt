@@ -1,4 +1,4 @@
-// Which unbroken pieces stand in some tiling of a set of empty cells, found by a walk over all tilings.
+// All tilings of a set of empty cells, listed by a walk over them, and the tilings of a list that have a piece.
 #![tactic(auto)]
 
 mod cover;
@@ -8,17 +8,10 @@ mod listed;
 mod lister;
 mod listing;
 mod path;
-mod pieces;
-mod placed;
-mod walk;
-mod walked;
-mod whole;
 
 pub use list::TilingList;
 pub use listed::ListedTiling;
 pub use lister::Lister;
-pub use pieces::TiledPieces;
-pub use walk::PieceStore;
 
 #[cfg(test)]
 mod tests;

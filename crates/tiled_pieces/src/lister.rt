@@ -1,12 +1,14 @@
 // All tilings of a set of cells, found by a walk that lays one piece after the other.
-ghost use Rattle.std.specs.Prelude.{ℕ, ◌≡◌, ◌≤◌, ◌<◌, IfSome, All, [], ◌∷◌};
+ghost use Rattle.std.specs.Prelude.{ℕ, ◌≡◌, ◌≤◌, ◌<◌, ◌↔◌, IfSome, IsTrue, All, [], ◌∷◌};
+ghost use Rattle.srs.specs.declared.placement.Placement.{Placement};
+ghost use Rattle.srs.specs.Cells.{is_inside_of};
 ghost use Rattle.prune.specs.Tiling.{supply_in};
 ghost use Rattle.prune.specs.Laws.{with_one};
 ghost use Rattle.empty_cells.specs.Empties.{empty_cells};
 ghost use Rattle.empty_cells.specs.ShiftedCells.{shifted_cells};
 ghost use Rattle.empty_cells.specs.Spans.{IsFirst};
 ghost use Rattle.empty_cells.specs.SupplyWords.{supply_of};
-ghost use Rattle.tiled_pieces.specs.TilingLists.{ListsAll, ListsOnly};
+ghost use Rattle.tiled_pieces.specs.TilingLists.{ListsAll, ListsOnly, SomeHas, StandsInTiling, laid_placement};
 ghost use Rattle.tiled_pieces.specs.Listings.{Adds, GoesOn, GoesOnWith, HasFirst, IsAny, IsDead, StacksSome, StacksUp, TakesFirst};
 
 use crate::cover::Cover;
@@ -76,6 +78,9 @@ impl Lister {
             ListsAll (empty_cells cells.now) (supply_in supply.now) list.tilings.items) }
         ensures only { IfSome result (λ list.
             ListsOnly (empty_cells cells.now) (supply_in supply.now) list.tilings.items) }
+        ensures exact { IfSome result (λ list. (m : Placement) → IsTrue (is_inside_of m)
+            → SomeHas list.tilings.items (laid_placement m)
+            ↔ StandsInTiling (empty_cells cells.now) (supply_in supply.now) m) }
     {
         self.listing = Listing::new(alloc, most);
         self.search(&Shifted::new(cells), SupplyWord::new(supply));

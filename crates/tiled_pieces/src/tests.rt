@@ -1,5 +1,5 @@
 // The tilings of small fields, and their pieces.
-use crate::{Lister, PieceStore};
+use crate::Lister;
 use empty_cells::Empties;
 use srs::{Piece, Placement, Rotation};
 use std::alloc::Global;
@@ -17,22 +17,6 @@ fn at(piece: Piece, rotation: Rotation, x: u8, y: u8) -> Placement {
         x,
         y,
     }
-}
-
-#[test]
-fn pieces_of_all_tilings(rt: HostRuntime) {
-    // A T, an O and an I clear it in exactly one way, and the O has a row between its rows.
-    let opener = field(b"XXXX____XX/XXXX___XXX/XXXX__XXXX/XXXX___XXX");
-    let cells = Empties::below(&opener, 4);
-    let mut store = PieceStore::new(rt.alloc());
-    let pieces = store.pieces(&cells, &[1, 0, 1, 0, 1, 0, 0]);
-    assert!(rt; pieces.has(&at(Piece::T, Rotation::Right, 4, 1)));
-    assert!(rt; pieces.has(&at(Piece::I, Rotation::Spawn, 5, 3)));
-    assert!(rt; !pieces.has(&at(Piece::T, Rotation::Left, 5, 1)));
-    assert!(rt; !pieces.has(&at(Piece::O, Rotation::Spawn, 4, 0)));
-    assert!(rt; !pieces.has(&at(Piece::T, Rotation::Right, 4, 9)));
-    let none = store.pieces(&cells, &[1, 0, 2, 0, 0, 0, 0]);
-    assert!(rt; !none.has(&at(Piece::I, Rotation::Spawn, 5, 3)));
 }
 
 /// How many tilings there are of the cells below a row, with at most so many pieces of each kind. At most `most` are

@@ -2,15 +2,13 @@
 use Rattle.std.proofs.Common.{[], ◌∷◌, refl, sym, ap₂, subst, ◌∙◌, arith}
 use Rattle.lane_board.specs.Field.{Field, difference}
 use Rattle.srs.specs.declared.piece.Piece.TheVariants.{I, L, O, Z, T, J, S}
-use Rattle.prune.specs.Tiling.{Supply}
 use Rattle.empty_cells.specs.Empties.{empty_cells}
 use Rattle.empty_cells.specs.ShiftedCells.{shifted_cells}
 use Rattle.empty_cells.specs.Stacks.{CanFill}
 use Rattle.empty_cells.specs.SupplyWords.{supply_of}
-use Rattle.empty_cells.proofs.CallerLemmas.{cells_small, fewer, shifted_small}
-use Rattle.tiled_pieces.specs.declared.dead.Dead.{Dead}
+use Rattle.empty_cells.proofs.CallerLemmas.{fewer, shifted_small}
 use Rattle.tiled_pieces.specs.declared.listing.Listing.{Listing}
-use Rattle.tiled_pieces.specs.Listings.{Adds, GoesOn, GoesOnWith, HasFirst, IsAny, IsDead, StacksSome, TakesFirst}
+use Rattle.tiled_pieces.specs.Listings.{Adds, GoesOn, GoesOnWith, HasFirst, IsAny, IsDead, TakesFirst}
 use Rattle.tiled_pieces.proofs.AddsLemmas.{adds_as, adds_full, adds_none, rows-all, rows-next, rows-none, rows-start}
 use Rattle.tiled_pieces.proofs.StepLemmas.{dead_known, four_of, goes_fills, leaves_adds, none_added, nothing_more, one_of, path_goes, seven_add, takes_adds, two_of}
 use Rattle.tiled_pieces.proofs.lister.Lister.+walk.Goals as goal

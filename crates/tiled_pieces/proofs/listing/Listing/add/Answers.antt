@@ -1,5 +1,5 @@
 -- The path is pushed, or the list is full.
-use Rattle.std.proofs.Common.{◌≡◌, refl}
+use Rattle.std.proofs.Common.{refl}
 use Rattle.tiled_pieces.proofs.PathLemmas.{adds_path}
 use Rattle.tiled_pieces.proofs.listing.Listing.add.Goals as goal
 

@@ -1,5 +1,5 @@
 -- The last piece's place is free again.
-use Rattle.std.proofs.Common.{◌≡◌, ◌-◌, ◌∙◌, inl, inr, arith}
+use Rattle.std.proofs.Common.{◌-◌, ◌∙◌, inl, inr, arith}
 use Rattle.std.proofs.lemmas.Bool.{cases_eq}
 use Rattle.srs.specs.declared.piece.Piece.TheVariants.{I}
 use Rattle.tiled_pieces.specs.Listings.{path_of}
