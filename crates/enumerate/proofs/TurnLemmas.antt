@@ -352,6 +352,3 @@ turns-as table mode old mid new child Flooded before now left goes turns = (reco
 turns-as table mode old mid new child Entered before now left goes turns = (record { same = λ prefix. goes prefix ∙ turns.0.same prefix }, turns.1, turns.2 ∙ left)
 turns-as table mode old mid new child Full before now left goes turns = (record { same = λ prefix. goes prefix ∙ turns.0.same prefix }, turns.1)
 turns-as table mode old mid new child Over before now left goes turns = (record { same = λ prefix. goes prefix ∙ turns.0.same prefix }, turns.1)
-
-pub record-same : (a b c : Frame) → b.well ≡ a.well → b.rows ≡ a.rows → b.line.queues ≡ a.line.queues → b.left ≡ a.left → SamePosition b c → SamePosition a c
-record-same a b c well rows queues left same = record { well = same.well ∙ well; rows = same.rows ∙ rows; queues = same.queues ∙ queues; left = same.left ∙ left }

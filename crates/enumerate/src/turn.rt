@@ -76,7 +76,12 @@ impl Frame {
     }
 
     /// Whether what a placement leaves has a tiling by this many pieces of each kind.
-    fn leaves_tiling(&self, placement: &Placement, supply: SupplyWord, tilings: &mut Tilings) -> bool
+    fn leaves_tiling(
+        &self,
+        placement: &Placement,
+        supply: SupplyWord,
+        tilings: &mut Tilings,
+    ) -> bool
         requires lockable { IsTrue (may_lock (filled self.now.well) placement.now.piece placement.now) }
         requires below { IsTrue (is_below self.now.rows placement.now) }
         ensures { result ≡ has_tiling (locked (filled self.now.well) placement.now)
@@ -86,11 +91,7 @@ impl Frame {
             return tilings.leaves_tiling(&self.empties, placement, supply);
         }
         let (well, removed) = self.well.lock(placement);
-        tilings.has_tiling(
-            &well,
-            self.rows.saturating_sub(removed),
-            &supply.entries(),
-        )
+        tilings.has_tiling(&well, self.rows.saturating_sub(removed), &supply.entries())
     }
 
     /// Removes the next placement to be entered and returns it.
