@@ -1,6 +1,7 @@
 -- The lemmas of this crate.
 mod SpanBits
 mod ColumnBits
+mod SentLemmas
 mod Mirrors
 mod EmptiesLemmas
 mod FoundCells

@@ -1,10 +1,10 @@
 -- Pivots: each placement of a piece has a bit of its own.
-use Rattle.std.proofs.Common.{◌≡◌, ◌≢◌, ℕ, ◌+◌, ◌*◌, ◌/◌, ◌-◌, ◌%◌, ◌^◌, ◌<◌, ◌≤◌, Bool, true, false, ◌&&◌, ◌||◌, ◌==◌, nat_lt, bit_or, List, length, replicate, set, get_or, refl, sym, ap, ap₂, ◌∙◌, inl, inr, arith}
-use Rattle.std.proofs.lemmas.Bool.{both_ways, cases_eq, cases_lt, and_parts, and_from, or_cases, or_left, or_right, eq-eqb, eqb-true, lt-ltb, ltb-true, ne_eqb}
+use Rattle.std.proofs.Common.{◌≡◌, ◌≢◌, ℕ, ◌+◌, ◌*◌, ◌/◌, ◌%◌, ◌^◌, ◌<◌, ◌≤◌, Bool, true, false, ◌&&◌, ◌||◌, ◌==◌, nat_lt, bit_or, List, length, replicate, set, get_or, refl, sym, ap, ap₂, ◌∙◌, inl, inr, arith}
+use Rattle.std.proofs.lemmas.Bool.{both_ways, cases_eq, cases_lt, and_parts, and_from, or_cases, or_left, or_right, eq-eqb, eqb-true, lt-ltb, ltb-true}
 use Rattle.std.proofs.lemmas.List.{get_or-replicate, get_or-set_same, get_or-set_other, get_or_past}
 use Rattle.lane_board.specs.Lanes.{has_bit}
 use Rattle.lane_board.specs.Words.{cells_of_words}
-use Rattle.lane_board.proofs.CallerLemmas.{has_bit-low, has_bit-or, has_bit-past, has_bit-shifted_high, has_bit-shifted_low, has_bit-zero}
+use Rattle.lane_board.proofs.CallerLemmas.{has_bit-or, has_bit-zero}
 use Rattle.srs.specs.declared.placement.Placement.{Placement}
 use Rattle.srs.specs.declared.rotation.Rotation.{Rotation}
 use Rattle.srs.specs.declared.rotation.Rotation.TheVariants.{Spawn, Right, Reverse, Left}
@@ -12,6 +12,7 @@ use Rattle.srs.specs.Rotation.{rotation_place}
 use Rattle.srs.proofs.CallerLemmas.{rotation_place-injective}
 use Rattle.empty_cells.specs.declared.pivots.Pivots.{Pivots}
 use Rattle.empty_cells.specs.Pivots.{has_pivot}
+use Rattle.empty_cells.proofs.SentLemmas.{one_bit}
 
 pub place_small : (rotation : Rotation) → rotation_place rotation ≤ 3
 place_small Spawn = omega arith
@@ -28,20 +29,6 @@ bit_of q = 16 * (q.y % 4) + q.x
 
 abbrev pub bits_at : List ℕ → Placement → ℕ
 bits_at words q = get_or words (word_of q) 0
-
--- a word with one bit
-lowest : has_bit 1 0 ≡ true
-unfolding has_bit
-lowest = refl
-
-one_bit : (bit k : ℕ) → k < 64 → has_bit (1 * 2 ^ bit % 2 ^ 64) k ≡ (bit == k)
-one_bit bit k within = has_bit-low (1 * 2 ^ bit) 64 k within ∙ elim (cases_lt k bit) [
-  | inl under ↦ has_bit-shifted_low 1 bit k under ∙ sym (ne_eqb bit k (λ e. omega arith))
-  | inr from ↦ has_bit-shifted_high 1 bit k from ∙ elim (cases_eq bit k) [
-    | inl same ↦ ap (has_bit 1) {x = k - bit} {y = 0} (omega arith) ∙ lowest ∙ sym (eq-eqb bit k same)
-    | inr apart ↦ has_bit-past 1 1 (k - bit) (omega arith) (omega arith) ∙ sym (ne_eqb bit k apart)
-  ]
-]
 
 -- one bit more in the word of a placement
 abbrev pub with_bit : List ℕ → ℕ → ℕ → List ℕ
@@ -64,7 +51,7 @@ module _ (p : Pivots) (whole : length p.rotations ≡ 8) (q : Placement) (column
       ap (λ k. has_bit (get_or (with_bit p.rotations word bit) k 0) (bit_of r)) same
       ∙ ap (λ n. has_bit n (bit_of r)) (get_or-set_same p.rotations word _ 0 within)
       ∙ has_bit-or (get_or p.rotations word 0) _ (bit_of r)
-      ∙ ap₂ ◌||◌ (ap (λ k. has_bit (get_or p.rotations k 0) (bit_of r)) (sym same)) (one_bit bit (bit_of r) (omega arith))
+      ∙ ap₂ ◌||◌ (ap (λ k. has_bit (get_or p.rotations k 0) (bit_of r)) (sym same)) (one_bit 64 bit (bit_of r) (omega arith))
 
   bits_there : (r : Placement) → word_of r ≢ word → bits_at (with_bit p.rotations word bit) r ≡ bits_at p.rotations r
   bits_there r other = get_or-set_other p.rotations word (word_of r) _ 0 other

@@ -7,5 +7,6 @@ pub mod Spans
 pub mod ShiftedCells
 pub mod Stacks
 pub mod HasTiling
+pub mod SentCells
 -- What serves proofs alone
 pub mod ShapeBits

@@ -27,7 +27,7 @@ fn spread(row: u16) -> u128
 }
 
 impl Empties {
-    ghost use Rattle.std.specs.Prelude.{◌-◌, ◌↔◌, nat_le, not, IsTrue, MatchOption};
+    ghost use Rattle.std.specs.Prelude.{◌-◌, ◌↔◌, ◌||◌, nat_le, not, IsTrue, MatchOption};
     ghost use Rattle.lane_board.specs.Field.{empty_field, difference, rows_below};
     ghost use Rattle.well.specs.Well.{filled};
     ghost use Rattle.prune.specs.Counts.{run_empties};
@@ -156,6 +156,19 @@ impl Empties {
         let taken = self.cells & bits;
         Empties {
             cells: self.cells ^ taken,
+        }
+    }
+
+    /// The set with the cell at this column and row as well.
+    #[inline(always)]
+    pub(crate) fn with_cell(&self, x: u8, y: u8) -> Empties
+        requires column { x ≤ 9 }
+        requires row { y ≤ 7 }
+        ensures { (a b : ℕ) → empty_cells result a b
+            ≡ (empty_cells self.now a b || (x == a && y == b)) }
+    {
+        Empties {
+            cells: self.cells | 1 << (8 * x + y),
         }
     }
 

@@ -8,6 +8,7 @@ mod pivots;
 mod place;
 mod placed;
 mod rows;
+mod sent;
 mod shifted;
 mod span;
 mod supply;

@@ -80,12 +80,12 @@ open_below F rows (pos x, negsuc y) opened below = absurd (false≢true opened)
 open_below F rows (negsuc x, pos y) opened below = absurd (false≢true opened)
 open_below F rows (negsuc x, negsuc y) opened below = absurd (false≢true opened)
 
-placed_empty : (F : Field) (rows : ℕ) (q : Placement) → is_free F q ≡ true → is_below rows q ≡ true → list_all (is_empty_below F rows) (cells_of q) ≡ true
+pub placed_empty : (F : Field) (rows : ℕ) (q : Placement) → is_free F q ≡ true → is_below rows q ≡ true → list_all (is_empty_below F rows) (cells_of q) ≡ true
 unfolding is_free_at
 placed_empty F rows q free below = list_all-from_is_among (is_empty_below F rows) (cells_of q) (λ c has.
     open_below F rows c (is_among-all (is_open F) (cells_of q) c free has) (is_among-all (λ cell. int_lt cell.1 (pos rows)) (cells_of q) c below has))
 
-together_is : (F : Field) (q : Placement) → together F q ≡ with_cells F (cells_of q)
+pub together_is : (F : Field) (q : Placement) → together F q ≡ with_cells F (cells_of q)
 unfolding together with_cells
 together_is F q = refl
 

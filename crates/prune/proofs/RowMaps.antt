@@ -18,14 +18,14 @@ use Rattle.prune.proofs.EmptyCells.{EmptyCell, empty_cell, is_empty_at}
 use Rattle.prune.proofs.PartLemmas.{cells_in, covers-count, cells_empty}
 
 -- a row, a cell and a part where row y becomes row f y
-unfoldable row_to : (ℕ → ℕ) → ℤ → ℤ
+unfoldable pub row_to : (ℕ → ℕ) → ℤ → ℤ
 row_to f (pos y) = pos (f y)
 row_to f (negsuc y) = negsuc y
 
-unfoldable cell_to : (ℕ → ℕ) → Cell → Cell
+unfoldable pub cell_to : (ℕ → ℕ) → Cell → Cell
 cell_to f cell = (cell.0, row_to f cell.1)
 
-abbrev part_to : (ℕ → ℕ) → Part → Part
+abbrev pub part_to : (ℕ → ℕ) → Part → Part
 part_to f part = record { piece = part.piece; cells = map (cell_to f) part.cells }
 
 abbrev parts_to : (ℕ → ℕ) → List Part → List Part
@@ -64,7 +64,7 @@ sent_to f move row [] = refl
 sent_to f move row (c ∷ cs) = ap (λ rest. (c.0 +ℤ move, pos (f (row c.1))) ∷ rest) (sent_to f move row cs)
 
 module _ (F : Field) (rows : ℕ) (G : Field) (left : ℕ) (f : ℕ → ℕ) (sends : SendsRows F rows G left f) where
-  generalized_to : (part : Part) → list_all (is_empty_below F rows) part.cells ≡ true → IsGeneralized part → IsGeneralized (part_to f part)
+  pub generalized_to : (part : Part) → list_all (is_empty_below F rows) part.cells ≡ true → IsGeneralized part → IsGeneralized (part_to f part)
   unfolding sent
   generalized_to part empty is = record {
     rotation = is.rotation;
@@ -91,7 +91,7 @@ module _ (F : Field) (rows : ℕ) (G : Field) (left : ℕ) (f : ℕ → ℕ) (se
       All-cons IsGeneralized (part_to f part) (parts_to f parts) (generalized_to part both.0 (All-head IsGeneralized part parts all)) (all_generalized_to parts both.1 (All-tail IsGeneralized part parts all))
 
   -- an empty cell becomes one
-  empty_to : (cell : Cell) → is_empty_below F rows cell ≡ true → is_empty_below G left (cell_to f cell) ≡ true
+  pub empty_to : (cell : Cell) → is_empty_below F rows cell ≡ true → is_empty_below G left (cell_to f cell) ≡ true
   unfolding cell_to row_to
   empty_to cell here =
       let e = empty_cell F rows cell here in
