@@ -59,10 +59,10 @@ reached game F rows piece q is =
 no_more : (f g : Placement → Bool) → ((q : Placement) → g q ≡ true → f q ≡ true) → (qs : List Placement) → length (filter g qs) ≤ length (filter f qs)
 no_more f g also [] = omega arith
 no_more f g also (q ∷ qs) = elim (cases_Bool (g q)) [
-  | inl yes ↦ omega (arith, ap length (filter-true g q qs yes), ap length (filter-true f q qs (also q yes)), no_more f g also qs)
-  | inr no ↦ elim (cases_Bool (f q)) [
-    | inl before ↦ omega (arith, ap length (filter-false g q qs no), ap length (filter-true f q qs before), no_more f g also qs)
-    | inr never ↦ omega (arith, ap length (filter-false g q qs no), ap length (filter-false f q qs never), no_more f g also qs)
+  | inl passes ↦ omega (arith, ap length (filter-true g q qs passes), ap length (filter-true f q qs (also q passes)), no_more f g also qs)
+  | inr fails ↦ elim (cases_Bool (f q)) [
+    | inl before ↦ omega (arith, ap length (filter-false g q qs fails), ap length (filter-true f q qs before), no_more f g also qs)
+    | inr never ↦ omega (arith, ap length (filter-false g q qs fails), ap length (filter-false f q qs never), no_more f g also qs)
   ]
 ]
 
@@ -70,14 +70,14 @@ fewer : (f g : Placement → Bool) → ((q : Placement) → g q ≡ true → f q
 fewer f g also p was is [] among = absurd (Contains-none p among)
 fewer f g also p was is (q ∷ qs) among = elim (Contains-cases q qs p among) [
   | inl here ↦
-      let no : g q ≡ false = subst (λ q. g q ≡ false) (sym here) is in
-      let yes : f q ≡ true = subst (λ q. f q ≡ true) (sym here) was in
-      omega (arith, ap length (filter-false g q qs no), ap length (filter-true f q qs yes), no_more f g also qs)
+      let fails : g q ≡ false = subst (λ q. g q ≡ false) (sym here) is in
+      let passed : f q ≡ true = subst (λ q. f q ≡ true) (sym here) was in
+      omega (arith, ap length (filter-false g q qs fails), ap length (filter-true f q qs passed), no_more f g also qs)
   | inr later ↦ elim (cases_Bool (g q)) [
-    | inl yes ↦ omega (arith, ap length (filter-true g q qs yes), ap length (filter-true f q qs (also q yes)), fewer f g also p was is qs later)
-    | inr no ↦ elim (cases_Bool (f q)) [
-      | inl before ↦ omega (arith, ap length (filter-false g q qs no), ap length (filter-true f q qs before), fewer f g also p was is qs later)
-      | inr never ↦ omega (arith, ap length (filter-false g q qs no), ap length (filter-false f q qs never), fewer f g also p was is qs later)
+    | inl passes ↦ omega (arith, ap length (filter-true g q qs passes), ap length (filter-true f q qs (also q passes)), fewer f g also p was is qs later)
+    | inr fails ↦ elim (cases_Bool (f q)) [
+      | inl before ↦ omega (arith, ap length (filter-false g q qs fails), ap length (filter-true f q qs before), fewer f g also p was is qs later)
+      | inr never ↦ omega (arith, ap length (filter-false g q qs fails), ap length (filter-false f q qs never), fewer f g also p was is qs later)
     ]
   ]
 ]

@@ -50,13 +50,13 @@ loop-placement-smaller g c =
     let p = c.args.self.now.position in
     taken-fewer c.args.game.now (filled p.well) p.rows c.args.piece c.args.left c.args.asked.now.rests.items c.loop-placement.children.items c.loop-placement.places c.take_least.new.self c.in-Some.placement c.loop-placement.invariant.0 c.in-Some.ensures.least c.in-Some.ensures.rest
 
-pub loop-placement-smaller-in_ok-push : goal.loop-placement-smaller-in_ok-push
-loop-placement-smaller-in_ok-push g c =
+pub loop-placement-smaller-in-Continue-1 : goal.loop-placement-smaller-in-Continue-1
+loop-placement-smaller-in-Continue-1 g c =
     let p = c.args.self.now.position in
     taken-fewer c.args.game.now (filled p.well) p.rows c.args.piece c.args.left c.args.asked.now.rests.items c.loop-placement.children.items c.loop-placement.places c.take_least.new.self c.in-Some.placement c.loop-placement.invariant.0 c.in-Some.ensures.least c.in-Some.ensures.rest
 
-pub loop-placement-preserved-in_ok-push : goal.loop-placement-preserved-in_ok-push
-loop-placement-preserved-in_ok-push g c =
+pub loop-placement-preserved-in-Continue-1 : goal.loop-placement-preserved-in-Continue-1
+loop-placement-preserved-in-Continue-1 g c =
     let p = c.args.self.now.position in
     let low = taken c.args.game.now (filled p.well) p.rows c.args.piece c.args.left c.args.asked.now.rests.items c.loop-placement.children.items c.loop-placement.places c.take_least.new.self c.in-Some.placement c.loop-placement.invariant.0 c.in-Some.ensures.least c.in-Some.ensures.rest in (
       subst (λ l. Entering c.args.game.now (filled p.well) p.rows c.args.piece c.args.left c.args.asked.now.rests.items l c.take_least.new.self) (sym c.in_ok-push.ensures.items)
@@ -91,13 +91,13 @@ pub returns-clause-standing : goal.returns-clause-standing
 returns-clause-standing g c =
     All-permutation (λ child. IsStanding c.args.self.now.known.items c.args.self.now.rows child.placement child.standing) c.loop-placement.children.items c.sort_unstable_by_key.new.self.items c.sort_unstable_by_key.ensures.permutation c.loop-placement.invariant.1
 
-pub taken-requires-clause-free : goal.taken-requires-clause-free
-taken-requires-clause-free g c =
+pub taken-taken-requires-clause-free : goal.taken-taken-requires-clause-free
+taken-taken-requires-clause-free g c =
     let p = c.args.self.now.position in
     low-free c.args.game.now (filled p.well) p.rows c.args.piece c.in-Some.placement
     (taken c.args.game.now (filled p.well) p.rows c.args.piece c.args.left c.args.asked.now.rests.items c.loop-placement.children.items c.loop-placement.places c.take_least.new.self c.in-Some.placement c.loop-placement.invariant.0 c.in-Some.ensures.least c.in-Some.ensures.rest)
 
-pub taken-requires-clause-below : goal.taken-requires-clause-below
-taken-requires-clause-below g c =
+pub taken-taken-requires-clause-below : goal.taken-taken-requires-clause-below
+taken-taken-requires-clause-below g c =
     let p = c.args.self.now.position in
     (taken c.args.game.now (filled p.well) p.rows c.args.piece c.args.left c.args.asked.now.rests.items c.loop-placement.children.items c.loop-placement.places c.take_least.new.self c.in-Some.placement c.loop-placement.invariant.0 c.in-Some.ensures.least c.in-Some.ensures.rest).below
