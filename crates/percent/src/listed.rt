@@ -103,9 +103,7 @@ impl Marks {
         let Some(place) = self.place_with(hand, left, piece) else {
             return Ok(None);
         };
-        let Some(mark) = self.known.get(place as usize) else {
-            return Ok(None);
-        };
+        let mark = &self.known[place as usize];
         let tilings = mark.tilings.with(alloc, piece, taken)?;
         Ok(Some(Mark { counts, tilings }))
     }

@@ -68,6 +68,21 @@ pub fn counts_with(hand: u64, pieces: u8, piece: Piece) -> Counts
     counts
 }
 
+/// The mark of pieces with these counts: all their tilings of the cells, if these can be listed.
+fn listed(
+    alloc: Global,
+    lister: &mut Lister,
+    cells: &Empties,
+    near: u8,
+    counts: Counts,
+) -> Option<Mark>
+    ensures { IfSome result (IsTrueMark (empty_cells cells.now)) }
+{
+    let [_, i, l, o, z, t, j, s] = counts;
+    let tilings = lister.tilings(alloc, cells, near, &[i, l, o, z, t, j, s], MOST)?;
+    Some(Mark { counts, tilings })
+}
+
 /// Whether a placement may stand in a tiling of the mark at a place, given in which marks it does. If there is no mark, it
 /// may.
 fn may_stand(place: Option<u8>, standing: u64) -> bool
@@ -120,13 +135,10 @@ impl Marks {
     ) -> Result<bool, NoMemory>
         ensures { self.new.position ≡ self.old.position }
     {
-        let [_, i, l, o, z, t, j, s] = counts;
-        let supply = [i, l, o, z, t, j, s];
-        let near = self.position.near;
-        let Some(tilings) = lister.tilings(alloc, &self.cells, near, &supply, MOST) else {
+        let Some(mark) = listed(alloc, lister, &self.cells, self.position.near, counts) else {
             return Ok(false);
         };
-        self.known.push(Mark { counts, tilings })?;
+        self.known.push(mark)?;
         Ok(true)
     }
 

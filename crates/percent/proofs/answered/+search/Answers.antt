@@ -60,7 +60,7 @@ answered-returns-then-is_empty-3-clause-members g t c = λ hand.
     let nil = nil_from_length c.in-Some.known.items short in
     let whole : c.args.left - 1 + 1 ≡ c.args.left = omega (arith, c.if-left-eq0.false) in
     c.in_ok-found.ensures.members hand
-    ∙ (λ i. has (c.as_slice.ensures.value i) hand && is_good c.args.kept.now.game (filled p.well) p.rows (whole i) hand)
+    ∙ (λ i. has (c.as_slice-2.ensures.value i) hand && is_good c.args.kept.now.game (filled (c.in_ok-below-2.ensures i).well) (c.in_ok-below-2.ensures i).rows (whole i) hand)
     ∙ ap (λ b. b || (has c.in-Some.unknown.items hand && good hand)) (sym (ap (λ l. has l hand) nil ∙ has-none hand))
     ∙ (some-holds c.in_ok-known.field-0 (c.in-Some.known, c.in-Some.unknown) c.in-Some.is
     (λ v. (hand : ℕ) → (has v.0.items hand || (has v.1.items hand && good hand)) ≡ (has c.args.hands.now hand && good hand)) c.in_ok-known.ensures.members) hand
@@ -116,13 +116,6 @@ holds_of P items children i child same all within is = subst P (sym is) (subst (
 
 pub tried-fitting_after-requires-clause-child : goal.tried-fitting_after-requires-clause-child
 tried-fitting_after-requires-clause-child g t c =
-    let p = c.args.marks.now.position in
-    let is = holds_of (IsChild (filled p.well) p.rows c.args.piece) c.in_ok-children.children.items c.deref-child-items.result.now c.loop-child.child-index c.child-item.result
-    c.deref-child-items.ensures.value c.in_ok-children.ensures.after c.loop-child-test.true c.child-item.is in
-    subst (λ piece. IsChild (filled p.well) p.rows piece c.child-item.result) (sym is.kind) is
-
-pub tried-answered-requires-clause-child : goal.tried-answered-requires-clause-child
-tried-answered-requires-clause-child g t c =
     let p = c.args.marks.now.position in
     let is = holds_of (IsChild (filled p.well) p.rows c.args.piece) c.in_ok-children.children.items c.deref-child-items.result.now c.loop-child.child-index c.child-item.result
     c.deref-child-items.ensures.value c.in_ok-children.ensures.after c.loop-child-test.true c.child-item.is in

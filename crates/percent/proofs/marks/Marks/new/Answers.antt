@@ -10,6 +10,6 @@ use Rattle.percent.proofs.marks.Marks.new.Goals as goal
 pub invariant_of-result : goal.invariant_of-result
 invariant_of-result c =
     let p = c.args.position.now in record {
-      spread = spread-own (filled p.well) (empty_cells c.below-cells.result) p.rows p.few c.below-cells.ensures;
-      are_true = subst (All (IsTrueMark (empty_cells c.below-cells.result))) (sym c.new-known.ensures.items) (All-nil (IsTrueMark (empty_cells c.below-cells.result)));
+      spread = spread-own (filled p.well) (empty_cells c.below.result) p.rows p.few c.below.ensures;
+      are_true = subst (All (IsTrueMark (empty_cells c.below.result))) (sym c.new.ensures.items) (All-nil (IsTrueMark (empty_cells c.below.result)));
     }
