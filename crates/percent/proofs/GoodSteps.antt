@@ -296,15 +296,6 @@ second_true a false c is there = cc
 pub found-good : (found unknown : List ℕ) (good : ℕ → Bool) → ((hand : ℕ) → has found hand ≡ (has unknown hand && good hand)) → (hand : ℕ) → has found hand ≡ true → good hand ≡ true
 found-good found unknown good found_is hand there = second_true (has found hand) (has unknown hand) (good hand) (found_is hand) there
 
-left_over : (f u g m : Bool) → f ≡ (u && g) → m ≡ (u && not f) → m ≡ true → g ≡ false
-left_over f true false m is rest there = refl
-left_over f true true m is rest there = cc
-left_over f false g m is rest there = cc
-
-pub missed-bad : (found unknown missed : List ℕ) (good : ℕ → Bool) → ((hand : ℕ) → has found hand ≡ (has unknown hand && good hand))
-    → ((hand : ℕ) → has missed hand ≡ (has unknown hand && not (has found hand))) → (hand : ℕ) → has missed hand ≡ true → good hand ≡ false
-missed-bad found unknown missed good found_is missed_is hand there = left_over (has found hand) (has unknown hand) (good hand) (has missed hand) (found_is hand) (missed_is hand) there
-
 pub good-ends : (game : Game) (F : Field) (rows left hand : ℕ) → left ≡ 0 → is_good game F rows left hand ≡ (rows == 0)
 unfolding is_good
 good-ends game F rows left hand none = ap (λ n. is_good game F rows n hand) none

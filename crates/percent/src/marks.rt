@@ -69,17 +69,11 @@ pub fn counts_with(hand: u64, pieces: u8, piece: Piece) -> Counts
 }
 
 /// The mark of pieces with these counts: all their tilings of the cells, if these can be listed.
-fn listed(
-    alloc: Global,
-    lister: &mut Lister,
-    cells: &Empties,
-    near: u8,
-    counts: Counts,
-) -> Option<Mark>
+fn listed(alloc: Global, lister: &mut Lister, cells: &Empties, counts: Counts) -> Option<Mark>
     ensures { IfSome result (IsTrueMark (empty_cells cells.now)) }
 {
     let [_, i, l, o, z, t, j, s] = counts;
-    let tilings = lister.tilings(alloc, cells, near, &[i, l, o, z, t, j, s], MOST)?;
+    let tilings = lister.tilings(alloc, cells, &[i, l, o, z, t, j, s], MOST)?;
     Some(Mark { counts, tilings })
 }
 
@@ -135,7 +129,7 @@ impl Marks {
     ) -> Result<bool, NoMemory>
         ensures { self.new.position ≡ self.old.position }
     {
-        let Some(mark) = listed(alloc, lister, &self.cells, self.position.near, counts) else {
+        let Some(mark) = listed(alloc, lister, &self.cells, counts) else {
             return Ok(false);
         };
         self.known.push(mark)?;
