@@ -156,25 +156,25 @@ all_tried order game F rows left i same all hand =
     let one : left + 1 ≡ suc left = omega arith in
     ap (list_any test) (take_all i order all) ∙ sym (list_any-IsPermutation test all_pieces order same) ∙ sym (good-step game F rows left hand) ∙ ap (λ n. is_good game F rows n hand) (sym one)
 
-pub explore-ends : (order : List Piece) (game now : Game) (F : Field) (rows left : ℕ) (hands asked found : List ℕ) (before after i : ℕ) → IsPermutation all_pieces order → Exploring order game now F rows left hands asked before after i → length order ≤ i
-    → ((hand : ℕ) → has found hand ≡ (has hands hand && not (has asked hand)))
-    → (hand : ℕ) → has found hand ≡ (has hands hand && is_good game F rows (left + 1) hand)
-explore-ends order game now F rows left hands asked found before after i same state all found_is hand =
-    let test : Piece → Bool = λ piece. takes game.hold (piece_code piece) (is_good_after game F rows piece left) hand in
-    found_is hand ∙ ap (λ b. has hands hand && not b) (state.members hand)
-    ∙ taken_back (has hands hand) (list_any test (take i order))
-    ∙ ap (λ b. has hands hand && b) (all_tried order game F rows left i same all hand)
+-- the hands that are still open are those that aren't good
+pub explore-open : (order : List Piece) (game now : Game) (F : Field) (rows left : ℕ) (hands asked : List ℕ) (before after i : ℕ) → IsPermutation all_pieces order → Exploring order game now F rows left hands asked before after i → length order ≤ i
+    → (hand : ℕ) → has asked hand ≡ (has hands hand && not (is_good now F rows (left + 1) hand))
+explore-open order game now F rows left hands asked before after i same state all hand =
+    state.members hand ∙ ap (λ b. has hands hand && not b) (all_tried order game F rows left i same all hand ∙ ap (λ (g : Game). is_good g F rows (left + 1) hand) (sym state.same))
+
+-- the others are found
+pub closed-found : (hands asked found : List ℕ) (good : ℕ → Bool) → ((hand : ℕ) → has asked hand ≡ (has hands hand && not (good hand))) → ((hand : ℕ) → has found hand ≡ (has hands hand && not (has asked hand)))
+    → (hand : ℕ) → has found hand ≡ (has hands hand && good hand)
+closed-found hands asked found good asked_is found_is hand =
+    found_is hand ∙ ap (λ b. has hands hand && not b) (asked_is hand) ∙ taken_back (has hands hand) (good hand)
 
 not_second : (w t : Bool) → (w && not t) ≡ true → t ≡ false
 not_second true false there = refl
 not_second true true there = cc
 not_second false t there = cc
 
--- the hands that are still asked about aren't good
-pub explore-bad : (order : List Piece) (game now : Game) (F : Field) (rows left : ℕ) (hands asked : List ℕ) (before after i : ℕ) → IsPermutation all_pieces order → Exploring order game now F rows left hands asked before after i → length order ≤ i
-    → (hand : ℕ) → has asked hand ≡ true → is_good game F rows (left + 1) hand ≡ false
-explore-bad order game now F rows left hands asked before after i same state all hand there =
-    sym (all_tried order game F rows left i same all hand) ∙ not_second (has hands hand) _ (sym (state.members hand) ∙ there)
+pub open-bad : (hands asked : List ℕ) (good : ℕ → Bool) → ((hand : ℕ) → has asked hand ≡ (has hands hand && not (good hand))) → (hand : ℕ) → has asked hand ≡ true → good hand ≡ false
+open-bad hands asked good asked_is hand there = not_second (has hands hand) (good hand) (sym (asked_is hand) ∙ there)
 
 -- ---- one child after the other
 
@@ -295,15 +295,6 @@ second_true a false c is there = cc
 -- what is found is good, and what isn't found isn't
 pub found-good : (found unknown : List ℕ) (good : ℕ → Bool) → ((hand : ℕ) → has found hand ≡ (has unknown hand && good hand)) → (hand : ℕ) → has found hand ≡ true → good hand ≡ true
 found-good found unknown good found_is hand there = second_true (has found hand) (has unknown hand) (good hand) (found_is hand) there
-
-left_over : (f u g m : Bool) → f ≡ (u && g) → m ≡ (u && not f) → m ≡ true → g ≡ false
-left_over f true false m is rest there = refl
-left_over f true true m is rest there = cc
-left_over f false g m is rest there = cc
-
-pub missed-bad : (found unknown missed : List ℕ) (good : ℕ → Bool) → ((hand : ℕ) → has found hand ≡ (has unknown hand && good hand))
-    → ((hand : ℕ) → has missed hand ≡ (has unknown hand && not (has found hand))) → (hand : ℕ) → has missed hand ≡ true → good hand ≡ false
-missed-bad found unknown missed good found_is missed_is hand there = left_over (has found hand) (has unknown hand) (good hand) (has missed hand) (found_is hand) (missed_is hand) there
 
 pub good-ends : (game : Game) (F : Field) (rows left hand : ℕ) → left ≡ 0 → is_good game F rows left hand ≡ (rows == 0)
 unfolding is_good

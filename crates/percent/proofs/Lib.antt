@@ -12,3 +12,4 @@ mod GoodSteps
 mod AnswerLemmas
 mod TiledLemmas
 mod FittingLemmas
+mod SpreadLemmas

@@ -1,64 +1,52 @@
--- A placement after which a rest is good stands in a tiling by the pieces of the rest and its own.
-use Rattle.std.proofs.Common.{ℕ, ◌≡◌, ◌∙◌, ◌+◌, ◌-◌, ◌<◌, ◌≤◌, true, false, not, ◌==◌, nat_le, List, [], ◌∷◌, ◌++◌, length, get_or, ap, pos, negsuc, int_lt, refl, sym, subst, inl, inr, arith}
+-- A placement after which a rest is good stands in a listed tiling by the pieces of the rest and its own.
+use Rattle.std.proofs.Common.{ℕ, ◌≡◌, ◌↔◌, ◌∙◌, ◌+◌, ◌-◌, ◌*◌, ◌^◌, ◌%◌, ◌<◌, ◌≤◌, ◌⊎◌, Bool, true, false, not, ◌||◌, ◌==◌, cond, bit_or, List, [], ◌∷◌, ◌++◌, length, get_or, map, ap, pos, negsuc, refl, sym, subst, inl, inr, arith}
 use Rattle.std.specs.List.{list_all}
-use Rattle.std.proofs.lemmas.Bool.{and_parts, and_from, cases_Bool, cases_lt, cond-true, cond-false, both_ways, eq-eqb, false≢true, false_from_ne_true, lt-ltb, leb-true}
-use Rattle.std.specs.Prelude.{All, Option, Some, None, IfSome, IsSomeAnd}
+use Rattle.std.proofs.lemmas.List.Folds.{list_all-map}
+use Rattle.std.proofs.lemmas.Bool.{cases_Bool, cases_lt, cond-true, cond-false, both_ways, eq-eqb, false_from_ne_true, not-true, not_from_false}
+use Rattle.std.specs.Prelude.{All, Contains, Option, Some, None, IfSome, IsSomeAnd, slice_get}
 use Rattle.std.proofs.lemmas.Option.{slice_get_within, get_or_from_slice_get}
 use Rattle.std.proofs.lemmas.List.{get_or_append_left, get_or_push, length-append}
 use Rattle.number_sets.specs.Rising.{has}
 use Rattle.problem.proofs.CallerLemmas.{locked-low}
-use Rattle.lane_board.specs.Field.{Field, difference, rows_below}
+use Rattle.lists.proofs.CallerLemmas.{some_same}
+use Rattle.lane_board.specs.Lanes.{has_bit}
+use Rattle.lane_board.proofs.CallerLemmas.{has_bit-low, has_bit-or, has_bit-shifted_high}
+use Rattle.lane_board.specs.Field.{Field, difference}
 use Rattle.srs.specs.declared.piece.Piece.{Piece}
 use Rattle.srs.specs.declared.placement.Placement.{Placement}
 use Rattle.srs.specs.Piece.{piece_code}
-use Rattle.srs.specs.Cells.{Cell, cells_of, in_well}
+use Rattle.srs.specs.Cells.{Cell, cells_of}
+use Rattle.srs.specs.SameCells.{is_among}
+use Rattle.srs.proofs.CallerLemmas.{list_all-from_is_among}
 use Rattle.well.specs.Well.{filled}
-use Rattle.well.specs.Free.{is_free, is_free_at, is_open}
+use Rattle.well.specs.Free.{is_free}
 use Rattle.well.specs.Lock.{locked, rows_removed, together}
 use Rattle.well.specs.LockLaws.{is_below}
-use Rattle.prune.specs.Tiling.{Supply, Tiling}
+use Rattle.well.proofs.CallerLemmas.{free_inside}
+use Rattle.prune.specs.Tiling.{Part, Supply, Tiling}
 use Rattle.prune.specs.OnePart.{less_one}
-use Rattle.prune.proofs.CallerLemmas.{full_rows_may_stand, more_pieces}
+use Rattle.prune.proofs.CallerLemmas.{SendsRows, cell_to, full_rows_may_stand, generalized_to, more_pieces, part_to, placed, placed_empty, placed_generalized, row_to, tiling_to}
 use Rattle.empty_cells.specs.declared.empties.Empties.{Empties}
-use Rattle.empty_cells.specs.Empties.{all_but, empty_cells, without_placement, has_cell}
-use Rattle.tiled_pieces.specs.TiledPieces.{StandsInTiling, is_marked}
-use Rattle.empty_cells.proofs.CallerLemmas.{left_by_placement, tiling_below}
+use Rattle.empty_cells.specs.Empties.{all_but, empty_cells, has_cell}
+use Rattle.empty_cells.specs.SentCells.{sent_cells, sent_up}
+use Rattle.empty_cells.proofs.CallerLemmas.{IsSmall, cells_small}
+use Rattle.tiled_pieces.specs.declared.listed.ListedTiling.{ListedTiling}
+use Rattle.tiled_pieces.specs.TilingLists.{HasPiece, LaidPiece, ListsAll, SomeHas, laid_part}
+use Rattle.tiled_pieces.proofs.CallerLemmas.{LiesIn, left_by_part, part_listed, rest_listed}
 use Rattle.percent.specs.declared.game.Game.{Game}
 use Rattle.percent.specs.declared.marks.Mark.{Mark}
 use Rattle.percent.specs.declared.position.Child.{Child}
 use Rattle.percent.specs.declared.position.Position.{Position}
 use Rattle.percent.specs.Children.{IsChild}
-use Rattle.percent.specs.Fitting.{codes_with, supply_at, supply_by}
+use Rattle.percent.specs.Fitting.{codes_in, codes_with, supply_at, supply_by}
 use Rattle.percent.specs.GoodHands.{is_good}
-use Rattle.percent.specs.Marks.{ArePlaces, HasMarkAt, IsMarkOf, IsTrueMark}
+use Rattle.percent.specs.Marks.{ArePlaces, HasMarkAt, IsMarkOf, IsStanding, IsTrueMark}
+use Rattle.percent.specs.Spread.{IsSpread}
 use Rattle.percent.proofs.HandLemmas.{code-few}
 use Rattle.percent.proofs.FittingLemmas.{low-position}
+use Rattle.percent.proofs.SpreadLemmas.{IsRowOf, NearCell, near, row_of, spread-placed}
 use Rattle.percent.proofs.TiledLemmas.{good-tiled}
 use Rattle.number_sets.proofs.CallerLemmas.{has-at}
-
-blank_cell : (F : Field) (rows : ℕ) (c : Cell) → is_open F c ≡ true → int_lt c.1 (pos rows) ≡ true → has_cell (difference (rows_below rows) F) c ≡ true
-unfolding is_open difference rows_below
-blank_cell F rows (pos x, pos y) blank low =
-    let parts = and_parts (in_well (pos x, pos y)) (not (F x y)) blank in
-    let inside = and_parts (nat_le x 9) (nat_le y 22) parts.0 in
-    let column = leb-true x 9 inside.0 in
-    and_from _ _ (and_from _ _ (lt-ltb x 10 (omega arith)) low) parts.1
-blank_cell F rows (pos x, negsuc y) blank low = absurd (false≢true blank)
-blank_cell F rows (negsuc x, pos y) blank low = absurd (false≢true blank)
-blank_cell F rows (negsuc x, negsuc y) blank low = absurd (false≢true blank)
-
--- a blank cell below a row is one of the empty cells there
-blank_below : (F : Field) (rows : ℕ) (cells : List Cell) → list_all (is_open F) cells ≡ true → list_all (λ cell. int_lt cell.1 (pos rows)) cells ≡ true
-    → list_all (has_cell (difference (rows_below rows) F)) cells ≡ true
-blank_below F rows [] blank low = refl
-blank_below F rows (c ∷ cells) blank low =
-    let here = and_parts (is_open F c) (list_all (is_open F) cells) blank in
-    let below = and_parts (int_lt c.1 (pos rows)) (list_all (λ cell. int_lt cell.1 (pos rows)) cells) low in
-    and_from _ _ (blank_cell F rows c here.0 below.0) (blank_below F rows cells here.1 below.1)
-
-placed_inside : (F : Field) (rows : ℕ) (q : Placement) → is_free F q ≡ true → is_below rows q ≡ true → list_all (has_cell (difference (rows_below rows) F)) (cells_of q) ≡ true
-unfolding is_free_at
-placed_inside F rows q free below = blank_below F rows (cells_of q) free below
 
 -- the counts of a rest and a piece more are enough for the rest when the piece is placed
 enough : (piece other : Piece) (count rest : ℕ) (counts : List ℕ) → ((code : ℕ) → code < 8 → codes_with piece count rest code ≤ get_or counts code 0)
@@ -85,32 +73,122 @@ one_there piece count rest counts most =
     let more = cond-true {A = ℕ} (piece_code piece == piece_code piece) 1 0 (eq-eqb _ _ refl) in
     omega (arith, few, more)
 
-pub good-placed : (game : Game) (p : Position) (q : Placement) (left rest : ℕ) (counts : List ℕ) → is_free (filled p.well) q ≡ true → is_below p.rows q ≡ true
-    → ((code : ℕ) → code < 8 → codes_with q.piece (left + 1) rest code ≤ get_or counts code 0)
-    → is_good game (locked (filled p.well) q) (p.rows - rows_removed (filled p.well) q) left rest ≡ true
-    → StandsInTiling (difference (rows_below p.rows) (filled p.well)) (supply_by counts) q
-good-placed game p q left rest counts free below most good =
-    let F : Field = filled p.well in
-    let supply : Supply = supply_at (left + 1) rest in
-    let few = p.few in
-    let after : Tiling (locked F q) (p.rows - rows_removed F q) supply = good-tiled game (locked F q) (p.rows - rows_removed F q) left rest (left + 1) (locked-low F p.rows q (low-position p) below free) (omega arith) good in
-    let standing : Tiling (together F q) p.rows supply = (full_rows_may_stand F q p.rows supply (omega (arith, few)) p.below free below).1 after in
-    let as_set : Tiling (all_but (difference (rows_below p.rows) (together F q))) 8 supply = (tiling_below (together F q) p.rows 8 supply few).1 standing in
-    record {
-      inside = placed_inside F p.rows q free below;
-      some = one_there q.piece (left + 1) rest counts most;
-      rest = more_pieces (all_but (without_placement (difference (rows_below p.rows) F) q)) 8 supply (less_one (supply_by counts) q.piece)
-          (λ other. enough q.piece other (left + 1) rest counts most)
-          (subst (λ E. Tiling (all_but E) 8 supply) (sym (left_by_placement F p.rows q)) as_set);
-    }
+-- ---- rows that are sent to where they stand
 
-pub good-stands : (game : Game) (p : Position) (child : Child) (left rest : ℕ) (counts : List ℕ) → IsChild (filled p.well) p.rows child.placement.piece child
-    → ((code : ℕ) → code < 8 → codes_with child.placement.piece (left + 1) rest code ≤ get_or counts code 0)
-    → is_good game (filled child.position.well) child.position.rows left rest ≡ true
-    → StandsInTiling (difference (rows_below p.rows) (filled p.well)) (supply_by counts) child.placement
-good-stands game p child left rest counts is most good =
-    good-placed game p child.placement left rest counts is.free is.below most
-    (subst (λ n. is_good game (locked (filled p.well) child.placement) n left rest ≡ true) is.left (subst (λ (G : Field). is_good game G child.position.rows left rest ≡ true) is.field good))
+-- the rows of a position are sent to those of a set
+sends : (F : Field) (height : ℕ) (rows : List ℕ) (E : Field) → height ≤ 8 → IsSpread F height rows E → SendsRows F height (all_but E) 8 (λ y. get_or rows y 0)
+unfolding all_but
+sends F height rows E few spread = record {
+  rises = λ x v y z _ _ _ below_z _ _ lower. spread.rises y z lower below_z;
+  below = λ x y _ below _. spread.within y (omega arith);
+  empty = λ x y column below empty. ap not (spread.same x y (omega arith) below ∙ ap not empty);
+  before = λ x z column below empty.
+      let here : E x z ≡ true = not_false (E x z) empty in
+      let at = row_of height rows z (spread.only x z here) in
+      record { y = at.row; below = at.below; empty = not-true (F x at.row) (sym (spread.same x at.row (omega arith) at.below) ∙ ap (E x) at.sent ∙ here); sent = at.sent };
+}
+  where
+    not_false : (b : Bool) → not b ≡ false → b ≡ true
+    not_false true h = refl
+    not_false false h = cc
+
+-- what is left is tiled there
+tiled-left : (F : Field) (q : Placement) (height : ℕ) (rows : List ℕ) (E : Field) (supply : Supply) → height ≤ 8 → IsSpread F height rows E → is_free F q ≡ true → is_below height q ≡ true
+    → Tiling (together F q) height supply → Tiling (all_but (difference E (sent_cells rows q))) 8 supply
+tiled-left F q height rows E supply few spread free below t =
+    tiling_to (together F q) height (all_but (difference E (sent_cells rows q))) 8 (λ y. get_or rows y 0)
+    (sends (together F q) height rows (difference E (sent_cells rows q)) few (spread-placed F height rows E spread q free below)) supply t
+
+-- a placement, with its rows sent
+abbrev sent_part : List ℕ → Placement → Part
+sent_part rows q = part_to (λ y. get_or rows y 0) (placed q)
+
+abbrev laid : List ℕ → Placement → LaidPiece
+laid rows q = record { piece = q.piece; cells = sent_cells rows q }
+
+cells-same : (rows : List ℕ) (cells : List Cell) → map (cell_to (λ y. get_or rows y 0)) cells ≡ map (sent_up rows) cells
+unfolding cell_to row_to sent_up
+cells-same rows [] = refl
+cells-same rows ((x, pos y) ∷ cells) = ap (λ l. (x, pos (get_or rows y 0)) ∷ l) (cells-same rows cells)
+cells-same rows ((x, negsuc y) ∷ cells) = ap (λ l. (x, negsuc y) ∷ l) (cells-same rows cells)
+
+laid-sent : (rows : List ℕ) (q : Placement) → laid_part (sent_part rows q) ≡ laid rows q
+unfolding sent_cells
+laid-sent rows q = λ i. record { piece = q.piece; cells = λ x y. is_among (cells-same rows (cells_of q) i) (pos x, pos y) }
+
+left-sent : (rows : List ℕ) (E : Field) (q : Placement) → left_by_part E (sent_part rows q) ≡ difference E (sent_cells rows q)
+left-sent rows E q = ap (λ (piece : LaidPiece). difference E piece.cells) (laid-sent rows q)
+
+lies : (F : Field) (q : Placement) (height : ℕ) (rows : List ℕ) (E : Field) (supply : Supply) → height ≤ 8 → IsSmall 8 E → IsSpread F height rows E → is_free F q ≡ true → is_below height q ≡ true
+    → 0 < supply q.piece → LiesIn E supply (sent_part rows q)
+unfolding cell_to row_to
+lies F q height rows E supply few small spread free below some = record {
+  small = small;
+  generalized = generalized_to F height (all_but E) 8 (λ y. get_or rows y 0) (sends F height rows E few spread) (placed q) (placed_empty F height q free below) (placed_generalized q (free_inside F q free));
+  some = some;
+  inside = list_all-map (has_cell E) (cell_to (λ y. get_or rows y 0)) (cells_of q) ∙ list_all-from_is_among (λ c. has_cell E (cell_to (λ y. get_or rows y 0) c)) (cells_of q) (λ c has. here c (near F height rows E spread q free below c has));
+}
+  where
+    here : (c : Cell) → NearCell F height rows E spread q free below c → has_cell E (cell_to (λ y. get_or rows y 0) c) ≡ true
+    here c at =
+        let column = at.column in
+        subst (λ c. has_cell E (cell_to (λ y. get_or rows y 0) c) ≡ true) (sym at.is) (spread.same at.x at.y (omega arith) at.row ∙ not_from_false (F at.x at.y) at.empty)
+
+-- ---- good rests
+
+-- where a rest is good after a placement, what it leaves is tiled by the pieces of the rest
+good-left : (game : Game) (p : Position) (q : Placement) (left rest : ℕ) (rows : List ℕ) (E : Field) → IsSpread (filled p.well) p.rows rows E → is_free (filled p.well) q ≡ true → is_below p.rows q ≡ true
+    → is_good game (locked (filled p.well) q) (p.rows - rows_removed (filled p.well) q) left rest ≡ true
+    → Tiling (all_but (difference E (sent_cells rows q))) 8 (supply_at (left + 1) rest)
+good-left game p q left rest rows E spread free below good =
+    let F : Field = filled p.well in
+    let few = p.few in
+    let after = good-tiled game (locked F q) (p.rows - rows_removed F q) left rest (left + 1) (locked-low F p.rows q (low-position p) below free) (omega arith) good in
+    tiled-left F q p.rows rows E (supply_at (left + 1) rest) few spread free below ((full_rows_may_stand F q p.rows (supply_at (left + 1) rest) (omega (arith, few)) p.below free below).1 after)
+
+-- so no walls stand in what it leaves
+pub walled-bad : (game : Game) (p : Position) (q : Placement) (left rest : ℕ) (rows : List ℕ) (E : Field) → IsSpread (filled p.well) p.rows rows E → is_free (filled p.well) q ≡ true → is_below p.rows q ≡ true
+    → ((supply : Supply) → Tiling (all_but (difference E (sent_cells rows q))) 8 supply → ⊥)
+    → is_good game (locked (filled p.well) q) (p.rows - rows_removed (filled p.well) q) left rest ≡ false
+walled-bad game p q left rest rows E spread free below none =
+    false_from_ne_true _ (λ good. none (supply_at (left + 1) rest) (good-left game p q left rest rows E spread free below good))
+
+-- and it stands in a listed tiling
+pub good-listed : (game : Game) (p : Position) (q : Placement) (left rest : ℕ) (rows counts : List ℕ) (E : Field) (list : List ListedTiling) → IsSmall 8 E → IsSpread (filled p.well) p.rows rows E
+    → is_free (filled p.well) q ≡ true → is_below p.rows q ≡ true
+    → ((code : ℕ) → code < 8 → codes_with q.piece (left + 1) rest code ≤ get_or counts code 0) → ListsAll E (supply_by counts) list
+    → is_good game (locked (filled p.well) q) (p.rows - rows_removed (filled p.well) q) left rest ≡ true
+    → SomeHas list (laid rows q)
+good-listed game p q left rest rows counts E list small spread free below most all good =
+    subst (SomeHas list) (laid-sent rows q)
+    (part_listed E (supply_by counts) list (sent_part rows q)
+    (lies (filled p.well) q p.rows rows E (supply_by counts) p.few small spread free below (one_there q.piece (left + 1) rest counts most)) all
+    (subst (λ (D : Field). Tiling (all_but D) 8 (less_one (supply_by counts) q.piece)) (sym (left-sent rows E q))
+    (more_pieces (all_but (difference E (sent_cells rows q))) 8 (supply_at (left + 1) rest) (less_one (supply_by counts) q.piece)
+    (λ other. enough q.piece other (left + 1) rest counts most) (good-left game p q left rest rows E spread free below good))))
+
+-- the same tilings by fewer pieces
+fewer-listed : (E : Field) (supply more : Supply) (list : List ListedTiling) → ((piece : Piece) → supply piece ≤ more piece) → ListsAll E more list → ListsAll E supply list
+fewer-listed E supply more list enough all = record {
+  all = λ t. all.all (record { parts = t.parts; generalized = t.generalized; covered = t.covered; supplied = λ piece. omega (arith, t.supplied piece, enough piece) });
+}
+
+-- the tilings that have the placed piece are all tilings of what it leaves by the pieces of the rest
+pub after-listed : (F : Field) (q : Placement) (height left rest : ℕ) (rows counts fewer : List ℕ) (E : Field) (list kept : List ListedTiling) → height ≤ 8 → IsSmall 8 E → IsSpread F height rows E
+    → is_free F q ≡ true → is_below height q ≡ true
+    → ((code : ℕ) → code < 8 → codes_with q.piece (left + 1) rest code ≤ get_or counts code 0)
+    → ((code : ℕ) → code < 8 → get_or fewer code 0 ≡ codes_in (left + 1) rest code)
+    → ListsAll E (supply_by counts) list
+    → ((tiling : ListedTiling) → Contains list tiling → HasPiece tiling (laid rows q) → Contains kept tiling)
+    → ListsAll (difference E (sent_cells rows q)) (supply_by fewer) kept
+unfolding supply_by supply_at
+after-listed F q height left rest rows counts fewer E list kept few small spread free below most same all keeps =
+    fewer-listed (difference E (sent_cells rows q)) (supply_by fewer) (less_one (supply_by counts) q.piece) kept
+    (λ other. let equal = same (piece_code other) (let code = code-few other in omega arith) in omega (arith, equal, enough q.piece other (left + 1) rest counts most))
+    (subst (λ (D : Field). ListsAll D (less_one (supply_by counts) q.piece) kept) (left-sent rows E q)
+    (rest_listed E (supply_by counts) list kept (sent_part rows q)
+    (lies F q height rows E (supply_by counts) few small spread free below (one_there q.piece (left + 1) rest counts most)) all
+    (λ tiling listed has. keeps tiling listed (subst (HasPiece tiling) (laid-sent rows q) has))))
 
 -- what holds of all marks holds of the one at a place
 marked_at : (P : Mark → Type 0) (known : List Mark) (place : ℕ) (counts : List ℕ) → All P known → (k : HasMarkAt known place counts) → P k.mark
@@ -118,27 +196,96 @@ marked_at P known place counts all k =
     let within = slice_get_within known place k.mark k.there in
     subst P (get_or_from_slice_get known place k.mark k.mark k.there) (all place k.mark within)
 
--- where no mark has it, a rest whose pieces one of them is enough for isn't good
-pub none-placed : (game : Game) (p : Position) (known : List Mark) (cells : Empties) (q : Placement) (left rest place : ℕ) → empty_cells cells ≡ difference (rows_below p.rows) (filled p.well) → All (IsTrueMark cells) known
-    → is_free (filled p.well) q ≡ true → is_below p.rows q ≡ true → IsMarkOf known q.piece left rest place → All (λ mark. is_marked mark.pieces q ≡ false) known
+-- where the mark of a rest doesn't have it, the rest isn't good
+pub bad-placed : (game : Game) (p : Position) (known : List Mark) (rows : List ℕ) (cells : Empties) (q : Placement) (left rest place standing : ℕ) → IsSpread (filled p.well) p.rows rows (empty_cells cells)
+    → All (IsTrueMark (empty_cells cells)) known → is_free (filled p.well) q ≡ true → is_below p.rows q ≡ true → IsMarkOf known q.piece left rest place
+    → IsStanding known rows q standing → has_bit standing place ≡ false
     → is_good game (locked (filled p.well) q) (p.rows - rows_removed (filled p.well) q) left rest ≡ false
-none-placed game p known cells q left rest place are true_marks free below k unmarked =
+bad-placed game p known rows cells q left rest place standing spread true_marks free below k stands unset =
     let mark = k.there.mark in
-    let enough : (code : ℕ) → code < 8 → codes_with q.piece (left + 1) rest code ≤ get_or mark.counts code 0 =
+    let most : (code : ℕ) → code < 8 → codes_with q.piece (left + 1) rest code ≤ get_or mark.counts code 0 =
     λ code few. subst (λ (counts : List ℕ). codes_with q.piece (left + 1) rest code ≤ get_or counts code 0) (sym k.there.same) (k.enough code few) in
-    false_from_ne_true _ (λ good. both_ways _
-    (marked_at (λ mark. is_marked mark.pieces q ≡ false) known place k.counts unmarked k.there)
-    ((marked_at (IsTrueMark cells) known place k.counts true_marks k.there).each q
-    (subst (λ E. StandsInTiling E (supply_by mark.counts) q) (sym are) (good-placed game p q left rest mark.counts free below enough good))))
+    false_from_ne_true _ (λ good.
+    (marked_at (IsTrueMark (empty_cells cells)) known place k.counts true_marks k.there).each (λ all.
+    stands.none place k.there.few unset mark k.there.there
+    (good-listed game p q left rest rows mark.counts (empty_cells cells) mark.tilings.tilings.items (cells_small cells) spread free below most all good)))
 
--- where it doesn't stand in a tiling, the rest isn't good
-pub bad-stand : (game : Game) (p : Position) (child : Child) (left rest : ℕ) (counts : List ℕ) (cells : Empties) → empty_cells cells ≡ difference (rows_below p.rows) (filled p.well)
-    → IsChild (filled p.well) p.rows child.placement.piece child
-    → ((code : ℕ) → code < 8 → codes_with child.placement.piece (left + 1) rest code ≤ get_or counts code 0)
-    → (StandsInTiling (empty_cells cells) (supply_by counts) child.placement → ⊥)
+pub bad-stand : (game : Game) (p : Position) (child : Child) (left rest place : ℕ) (known : List Mark) (rows : List ℕ) (cells : Empties) → IsSpread (filled p.well) p.rows rows (empty_cells cells)
+    → All (IsTrueMark (empty_cells cells)) known → IsChild (filled p.well) p.rows child.placement.piece child → IsMarkOf known child.placement.piece left rest place
+    → IsStanding known rows child.placement child.standing → has_bit child.standing place ≡ false
     → is_good game (filled child.position.well) child.position.rows left rest ≡ false
-bad-stand game p child left rest counts cells are is most none =
-    false_from_ne_true _ (λ good. none (subst (λ E. StandsInTiling E (supply_by counts) child.placement) (sym are) (good-stands game p child left rest counts is most good)))
+bad-stand game p child left rest place known rows cells spread true_marks is k stands unset =
+    (λ i. is_good game (is.field i) (is.left i) left rest)
+    ∙ bad-placed game p known rows cells child.placement left rest place child.standing spread true_marks is.free is.below k stands unset
+
+-- the tilings of a mark that have the placed piece are a mark for the rest
+pub mark-listed : (p : Position) (child : Child) (left rest place : ℕ) (known : List Mark) (rows : List ℕ) (cells : Empties) (taken : Field) (old new : Mark) → IsSpread (filled p.well) p.rows rows (empty_cells cells)
+    → All (IsTrueMark (empty_cells cells)) known → IsChild (filled p.well) p.rows child.placement.piece child → IsMarkOf known child.placement.piece left rest place → slice_get known place ≡ Some old
+    → taken ≡ sent_cells rows child.placement
+    → ((code : ℕ) → code < 8 → get_or new.counts code 0 ≡ codes_in (left + 1) rest code)
+    → ((tiling : ListedTiling) → Contains new.tilings.tilings.items tiling ↔ (Contains old.tilings.tilings.items tiling × HasPiece tiling (record { piece = child.placement.piece; cells = taken })))
+    → IsTrueMark (difference (empty_cells cells) (sent_cells rows child.placement)) new
+mark-listed p child left rest place known rows cells taken old new spread true_marks is k there same counts both =
+    let mark = k.there.mark in
+    let one : mark ≡ old = some_same (sym k.there.there ∙ there) in
+    let most : (code : ℕ) → code < 8 → codes_with child.placement.piece (left + 1) rest code ≤ get_or mark.counts code 0 =
+    λ code few. subst (λ (counts : List ℕ). codes_with child.placement.piece (left + 1) rest code ≤ get_or counts code 0) (sym k.there.same) (k.enough code few) in
+    record {
+      each = λ none. (marked_at (IsTrueMark (empty_cells cells)) known place k.counts true_marks k.there).each (λ all.
+          none (after-listed (filled p.well) child.placement p.rows left rest rows mark.counts new.counts (empty_cells cells) mark.tilings.tilings.items new.tilings.tilings.items p.few (cells_small cells) spread is.free is.below most counts all
+          (λ tiling listed has. (both tiling).1 (subst (λ (mark : Mark). Contains mark.tilings.tilings.items tiling) one listed, subst (λ (E : Field). HasPiece tiling (record { piece = child.placement.piece; cells = E })) (sym same) has))));
+    }
+
+-- ---- in which marks a placement stands
+
+-- it stands in no tiling of the first i marks whose bits are not set
+pub record StandingBefore (known : List Mark) (rows : List ℕ) (q : Placement) (standing i : ℕ) : Type 0 where
+  pub none : (k : ℕ) → k < i → has_bit standing k ≡ false → (mark : Mark) → slice_get known k ≡ Some mark → SomeHas mark.tilings.tilings.items (laid rows q) → ⊥
+
+pub standing-starts : (known : List Mark) (rows : List ℕ) (q : Placement) (standing : ℕ) → StandingBefore known rows q standing 0
+standing-starts known rows q standing = record { none = λ k below. absurd (omega arith) }
+
+own_bit : (k : ℕ) → k < 64 → has_bit (1 * 2 ^ k % 2 ^ 64) k ≡ true
+unfolding has_bit
+own_bit k low = has_bit-low (1 * 2 ^ k) 64 k low ∙ has_bit-shifted_high 1 k k (omega arith) ∙ ap (has_bit 1) {x = k - k} {y = 0} (omega arith) ∙ refl
+
+neither : (a b : Bool) → (a || b) ≡ false → (a ≡ false) × (b ≡ false)
+neither false b h = (refl, h)
+neither true b h = cc
+
+-- one mark more that has it
+pub standing-more : (known : List Mark) (rows : List ℕ) (q : Placement) (standing i : ℕ) → i < 64 → StandingBefore known rows q standing i → StandingBefore known rows q (bit_or standing (1 * 2 ^ i % 2 ^ 64)) (i + 1)
+standing-more known rows q standing i low state = record {
+  none = λ k below unset mark there some.
+      let both = neither (has_bit standing k) (has_bit (1 * 2 ^ i % 2 ^ 64) k) (sym (has_bit-or standing (1 * 2 ^ i % 2 ^ 64) k) ∙ unset) in
+      elim (cases_lt k i) [
+        | inl before ↦ state.none k before both.0 mark there some
+        | inr past ↦
+            let same : k ≡ i = omega arith in
+            both_ways _ both.1 (ap (has_bit (1 * 2 ^ i % 2 ^ 64)) same ∙ own_bit i low)
+      ];
+}
+
+-- or that doesn't
+pub standing-pass : (known : List Mark) (rows : List ℕ) (q : Placement) (standing i : ℕ) (mark : Mark) → slice_get known i ≡ Some mark → (SomeHas mark.tilings.tilings.items (laid rows q) → ⊥)
+    → StandingBefore known rows q standing i → StandingBefore known rows q standing (i + 1)
+standing-pass known rows q standing i mark here none state = record {
+  none = λ k below unset other there some. elim (cases_lt k i) [
+    | inl before ↦ state.none k before unset other there some
+    | inr past ↦
+        let same : k ≡ i = omega arith in
+        none (subst (λ (mark : Mark). SomeHas mark.tilings.tilings.items (laid rows q)) (some_same (sym there ∙ ap (slice_get known) same ∙ here)) some)
+  ];
+}
+
+pub standing-ends : (known : List Mark) (rows : List ℕ) (q : Placement) (standing i : ℕ) → (length known ≤ i) ⊎ (64 ≤ i) → StandingBefore known rows q standing i → IsStanding known rows q standing
+standing-ends known rows q standing i all state = record {
+  none = λ k low unset mark there some. state.none k (before k low (slice_get_within known k mark there) all) unset mark there some;
+}
+  where
+    before : (k : ℕ) → k < 64 → k < length known → (length known ≤ i) ⊎ (64 ≤ i) → k < i
+    before k low within (inl all) = omega arith
+    before k low within (inr all) = omega arith
 
 -- ---- places of marks
 

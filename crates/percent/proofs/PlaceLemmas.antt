@@ -1,171 +1,212 @@
 -- The places of a piece, one after the other, and the positions after them.
-use Rattle.std.proofs.Common.{◌≡◌, ◌↔◌, ℕ, ◌-◌, Bool, true, false, ◌&&◌, ◌||◌, List, [], ◌∷◌, ◌++◌, IsTrue, refl, sym, ap, ◌∙◌, inl, inr}
-use Rattle.std.specs.Prelude.{Option, Some, None, MatchOption, filter, find}
+use Rattle.std.proofs.Common.{◌≡◌, ◌≢◌, ◌↔◌, ◌⊎◌, ℕ, ◌-◌, ◌+◌, ◌<◌, ◌≤◌, Bool, true, false, ◌&&◌, ◌||◌, List, [], ◌∷◌, ◌++◌, IsTrue, length, refl, sym, ap, subst, ◌∙◌, inl, inr, arith}
+use Rattle.std.specs.Prelude.{All, Contains, Option, Some, None, filter}
+use Rattle.std.specs.Cmp.{tied_itself}
 use Rattle.std.specs.List.{list_any}
+use Rattle.std.specs.declared.cmp.Ordering.{Ordering}
+use Rattle.std.specs.declared.cmp.Ordering.TheVariants.{Less, Equal, Greater}
 use Rattle.std.specs.Prelude.{IsPermutation}
-use Rattle.std.proofs.lemmas.Bool.{and_right, cases_Bool}
+use Rattle.std.proofs.lemmas.Bool.{and_from, and_parts, cases_Bool, false≢true}
+use Rattle.std.proofs.lemmas.List.Elements.{All-nil, All-push}
 use Rattle.std.proofs.lemmas.List.Sorted.{list_any-IsPermutation}
 use Rattle.std.proofs.lemmas.List.Folds.{list_any-append}
-use Rattle.std.proofs.lemmas.List.Kept.{IsStrictlySortedBy-filter}
 use Rattle.lane_board.specs.Field.{Field}
+use Rattle.lane_board.proofs.CallerLemmas.{same_from_both}
 use Rattle.srs.specs.declared.piece.Piece.{Piece}
 use Rattle.srs.specs.declared.placement.Placement.{Placement}
+use Rattle.srs.specs.Kick.{Table}
 use Rattle.srs.specs.Order.{placement_cmp}
 use Rattle.srs.specs.Placements.{IsCanonicalInside, placements_of}
 use Rattle.srs.specs.Rules.{table_of}
 use Rattle.srs.proofs.CallerLemmas.{placement_cmp-antisymmetric, placement_cmp-total, placements_of-list}
-use Rattle.lists.specs.Rising.{is_above, IsNextAbove, IsRisingListOf}
-use Rattle.lists.proofs.CallerLemmas.{Contains-filter, Contains-from_filter, find-next_of, filter_above-next, filter_above-none, IsNextAbove-unique}
+use Rattle.lists.specs.Rising.{IsNextAbove}
+use Rattle.lists.proofs.CallerLemmas.{Contains-cases, Contains-filter, Contains-from_filter, Contains-none, filter-false, filter-true, some_same}
 use Rattle.well.specs.Well.{filled}
 use Rattle.well.specs.Free.{is_free}
 use Rattle.well.specs.Lock.{locked, rows_removed}
 use Rattle.well.specs.LockLaws.{is_below}
 use Rattle.moves.specs.Place.{IsPlace}
 use Rattle.moves.specs.PlaceTest.{is_place}
-use Rattle.place_sets.specs.declared.held.Places.{Places}
-use Rattle.place_sets.specs.Places.{holds}
+use Rattle.place_sets.specs.declared.low_held.LowPlaces.{LowPlaces}
+use Rattle.place_sets.specs.LowPlaces.{holds}
 use Rattle.well.proofs.CallerLemmas.{free_inside}
 use Rattle.moves.proofs.CallerLemmas.{is_place-decides as place-decides, place-free}
 use Rattle.number_sets.specs.Rising.{has}
 use Rattle.percent.specs.declared.game.Game.{Game}
 use Rattle.percent.specs.declared.position.Child.{Child}
+use Rattle.percent.specs.Children.{IsChild}
 use Rattle.percent.specs.GoodHands.{reached_places, is_good, is_good_after, is_good_at}
+use Rattle.percent.proofs.TestLemmas.{any_passes, or_cases, or_first, or_second, some_passes}
 
--- the reached places whose cells lie below a row
-unfoldable pub reached_below : Game → Field → ℕ → Piece → List Placement
-reached_below game F rows piece = filter (is_below rows) (reached_places game F piece)
+-- a place of a piece below a row
+pub record IsLowPlace (game : Game) (F : Field) (rows : ℕ) (piece : Piece) (q : Placement) : Type 0 where
+  pub kind : q.piece ≡ piece
+  pub place : IsPlace (table_of game.rules) F game.drop_mode q
+  pub below : is_below rows q ≡ true
 
--- those above the last one
-unfoldable pub places_above : Game → Field → ℕ → Piece → Option Placement → List Placement
-places_above game F rows piece last = filter (is_above placement_cmp last) (reached_below game F rows piece)
+pub low-free : (game : Game) (F : Field) (rows : ℕ) (piece : Piece) (q : Placement) → IsLowPlace game F rows piece q → is_free F q ≡ true
+low-free game F rows piece q is = place-free (table_of game.rules) F game.drop_mode q is.place
 
--- the places below a row that a flood holds
-abbrev pub Held : Game → Field → ℕ → Piece → Places → Type 0
-Held game F rows piece places =
-    (q : Placement) → (IsTrue (holds places q)) ↔ ((q.piece ≡ piece) × IsPlace (table_of game.rules) F game.drop_mode q × IsTrue (is_below rows q))
+listed : (game : Game) (F : Field) (rows : ℕ) (piece : Piece) (q : Placement) → IsLowPlace game F rows piece q → Contains (placements_of piece) q
+listed game F rows piece q is = ((placements_of-list piece).members q).1 (record { kind = is.kind; canonical = is.place.canonical; inside = free_inside F q (low-free game F rows piece q is) })
 
-held-list : (game : Game) (F : Field) (rows : ℕ) (piece : Piece) (places : Places) → Held game F rows piece places
-    → IsRisingListOf placement_cmp (λ q. IsTrue (holds places q)) (reached_below game F rows piece)
-unfolding reached_places reached_below
-held-list game F rows piece places held = record {
-  rising = IsStrictlySortedBy-filter placement_cmp (is_below rows) (reached_places game F piece)
-      (IsStrictlySortedBy-filter placement_cmp (is_place (table_of game.rules) F game.drop_mode) (placements_of piece) (placements_of-list piece).rising);
-  members = λ q. (
-    λ among.
-        let low = Contains-from_filter (is_below rows) (reached_places game F piece) q among in
-        let found = Contains-from_filter (is_place (table_of game.rules) F game.drop_mode) (placements_of piece) q low.0 in
-        (held q).1 ((((placements_of-list piece).members q).0 found.0).kind, (place-decides (table_of game.rules) F game.drop_mode q).0 found.1, low.1),
-    λ is.
-        let place = (held q).0 is in
-        let listed : IsCanonicalInside piece q = record { kind = place.0; canonical = place.1.canonical; inside = free_inside F q (place-free (table_of game.rules) F game.drop_mode q place.1) } in
-        Contains-filter (is_below rows) (reached_places game F piece) q
-        (Contains-filter (is_place (table_of game.rules) F game.drop_mode) (placements_of piece) q (((placements_of-list piece).members q).1 listed) ((place-decides (table_of game.rules) F game.drop_mode q).1 place.1))
-        place.2,
-  );
-}
+reached : (game : Game) (F : Field) (rows : ℕ) (piece : Piece) (q : Placement) → IsLowPlace game F rows piece q → Contains (reached_places game F piece) q
+unfolding reached_places
+reached game F rows piece q is =
+    Contains-filter (is_place (table_of game.rules) F game.drop_mode) (placements_of piece) q (listed game F rows piece q is) ((place-decides (table_of game.rules) F game.drop_mode q).1 is.place)
 
--- the next held place is the first of those above the last one
-abbrev pub NextPlace : Game → Field → ℕ → Piece → Option Placement → Option Placement → Type 0
-NextPlace game F rows piece last next =
-    MatchOption next (places_above game F rows piece last ≡ [])
-    (λ q. (places_above game F rows piece last ≡ q ∷ places_above game F rows piece (Some q)) × (q.piece ≡ piece) × (is_free F q ≡ true) × (is_below rows q ≡ true))
+-- those of a list that pass a test are fewer where one fails that passed
+no_more : (f g : Placement → Bool) → ((q : Placement) → g q ≡ true → f q ≡ true) → (qs : List Placement) → length (filter g qs) ≤ length (filter f qs)
+no_more f g also [] = omega arith
+no_more f g also (q ∷ qs) = elim (cases_Bool (g q)) [
+  | inl passes ↦ omega (arith, ap length (filter-true g q qs passes), ap length (filter-true f q qs (also q passes)), no_more f g also qs)
+  | inr fails ↦ elim (cases_Bool (f q)) [
+    | inl before ↦ omega (arith, ap length (filter-false g q qs fails), ap length (filter-true f q qs before), no_more f g also qs)
+    | inr never ↦ omega (arith, ap length (filter-false g q qs fails), ap length (filter-false f q qs never), no_more f g also qs)
+  ]
+]
 
-pub next-place : (game : Game) (F : Field) (rows : ℕ) (piece : Piece) (places : Places) → Held game F rows piece places → (last next : Option Placement)
-    → IsNextAbove placement_cmp (λ q. IsTrue (holds places q)) last next → NextPlace game F rows piece last next
-unfolding places_above
-next-place game F rows piece places held last next is = at next same is
+fewer : (f g : Placement → Bool) → ((q : Placement) → g q ≡ true → f q ≡ true) → (p : Placement) → f p ≡ true → g p ≡ false → (qs : List Placement) → Contains qs p → length (filter g qs) < length (filter f qs)
+fewer f g also p was is [] among = absurd (Contains-none p among)
+fewer f g also p was is (q ∷ qs) among = elim (Contains-cases q qs p among) [
+  | inl here ↦
+      let fails : g q ≡ false = subst (λ q. g q ≡ false) (sym here) is in
+      let passed : f q ≡ true = subst (λ q. f q ≡ true) (sym here) was in
+      omega (arith, ap length (filter-false g q qs fails), ap length (filter-true f q qs passed), no_more f g also qs)
+  | inr later ↦ elim (cases_Bool (g q)) [
+    | inl passes ↦ omega (arith, ap length (filter-true g q qs passes), ap length (filter-true f q qs (also q passes)), fewer f g also p was is qs later)
+    | inr fails ↦ elim (cases_Bool (f q)) [
+      | inl before ↦ omega (arith, ap length (filter-false g q qs fails), ap length (filter-true f q qs before), fewer f g also p was is qs later)
+      | inr never ↦ omega (arith, ap length (filter-false g q qs fails), ap length (filter-false f q qs never), fewer f g also p was is qs later)
+    ]
+  ]
+]
+
+one-or-other : (q p : Placement) → (q ≡ p) ⊎ (Some q ≢ Some p)
+one-or-other q p = at (placement_cmp q p) refl
   where
-    same : find (is_above placement_cmp last) (reached_below game F rows piece) ≡ next
-    same = IsNextAbove-unique placement_cmp placement_cmp-total placement_cmp-antisymmetric (λ q. holds places q ≡ true) last (find (is_above placement_cmp last) (reached_below game F rows piece)) next
-        (find-next_of placement_cmp placement_cmp-total (λ q. holds places q ≡ true) last (reached_below game F rows piece) (held-list game F rows piece places held)) is
+    tied : Some q ≡ Some p → placement_cmp q p ≡ Equal
+    tied e = ap (placement_cmp q) (sym (some_same e)) ∙ tied_itself placement_cmp-total q
 
-    at : (next : Option Placement) → find (is_above placement_cmp last) (reached_below game F rows piece) ≡ next → IsNextAbove placement_cmp (λ q. IsTrue (holds places q)) last next
-        → MatchOption next (filter (is_above placement_cmp last) (reached_below game F rows piece) ≡ [])
-        (λ q. (filter (is_above placement_cmp last) (reached_below game F rows piece) ≡ q ∷ filter (is_above placement_cmp (Some q)) (reached_below game F rows piece))
-        × (q.piece ≡ piece) × (is_free F q ≡ true) × (is_below rows q ≡ true))
-    at None e is = filter_above-none placement_cmp placement_cmp-total last (reached_below game F rows piece) e
-    at (Some q) e is =
-        let place = (held q).0 is.member in (
-          filter_above-next placement_cmp placement_cmp-total last (reached_below game F rows piece) q (held-list game F rows piece places held).rising e,
-          place.0,
-          place-free (table_of game.rules) F game.drop_mode q place.1,
-          place.2,
-        )
+    at : (r : Ordering) → placement_cmp q p ≡ r → (q ≡ p) ⊎ (Some q ≢ Some p)
+    at Less e = inr (λ same. let tie = tied same in cc)
+    at Equal e = inl (placement_cmp-antisymmetric q p e)
+    at Greater e = inr (λ same. let tie = tied same in cc)
+
+-- how many of a piece's placements are held
+pub held_count : LowPlaces → Piece → ℕ
+held_count places piece = length (filter (holds places) (placements_of piece))
 
 -- ---- the positions after the places
 
--- whether a hand is good after one of these places
-unfoldable pub good_after_some : Game → Field → ℕ → List Placement → ℕ → ℕ → Bool
-good_after_some game F rows qs left hand = list_any (λ q. is_below rows q && is_good game (locked F q) (rows - rows_removed F q) left hand) qs
+-- whether a hand is good after a placement
+abbrev pub is_good_with : Game → Field → ℕ → ℕ → ℕ → Placement → Bool
+is_good_with game F rows left hand q = is_good game (locked F q) (rows - rows_removed F q) left hand
 
--- the positions so far and the places above the last one make up all at which some of the hands are good
-pub record Following (game : Game) (F : Field) (rows : ℕ) (piece : Piece) (left : ℕ) (hands : List ℕ) (children : List Child) (last : Option Placement) : Type 0 where
-  pub same : (hand : ℕ) → has hands hand ≡ true → (is_good_at game children left hand || good_after_some game F rows (places_above game F rows piece last) left hand) ≡ is_good_after game F rows piece left hand
+-- the positions so far and the places that are still held make up all at which some of the hands are good
+pub record Entering (game : Game) (F : Field) (rows : ℕ) (piece : Piece) (left : ℕ) (hands : List ℕ) (children : List Child) (places : LowPlaces) : Type 0 where
+  pub after : All (IsChild F rows piece) children
+  pub held : (q : Placement) → holds places q ≡ true → IsLowPlace game F rows piece q
+  pub only : (hand : ℕ) → is_good_at game children left hand ≡ true → is_good_after game F rows piece left hand ≡ true
+  pub each : (q : Placement) → IsLowPlace game F rows piece q
+      → (holds places q ≡ true) ⊎ ((hand : ℕ) → has hands hand ≡ true → is_good_with game F rows left hand q ≡ true → is_good_at game children left hand ≡ true)
 
-all_above : (qs : List Placement) → filter (λ q. true) qs ≡ qs
-all_above [] = refl
-all_above (q ∷ qs) = ap (λ l. q ∷ l) (all_above qs)
-
-below_only : (below good : Placement → Bool) (qs : List Placement) → list_any (λ q. below q && good q) (filter below qs) ≡ list_any (λ q. below q && good q) qs
-below_only below good [] = refl
-below_only below good (q ∷ qs) = elim (cases_Bool (below q)) [
-  | inl low ↦ rw low (ap (λ b. (b && good q) || list_any (λ x. below x && good x) (filter below qs)) low ∙ ap (λ t. good q || t) (below_only below good qs))
-  | inr high ↦ rw high (below_only below good qs)
-]
-
-pub follow-starts : (game : Game) (F : Field) (rows : ℕ) (piece : Piece) (left : ℕ) (hands : List ℕ) → Following game F rows piece left hands [] None
-unfolding places_above reached_below good_after_some is_good_at is_good_after
-follow-starts game F rows piece left hands = record {
-  same = λ hand _.
-      ap (list_any (λ q. is_below rows q && is_good game (locked F q) (rows - rows_removed F q) left hand)) (all_above (filter (is_below rows) (reached_places game F piece)))
-      ∙ below_only (is_below rows) (λ q. is_good game (locked F q) (rows - rows_removed F q) left hand) (reached_places game F piece);
+pub enter-starts : (game : Game) (T : Table) (F : Field) (rows : ℕ) (piece : Piece) (left : ℕ) (hands : List ℕ) (children : List Child) (places : LowPlaces) → T ≡ table_of game.rules → children ≡ []
+    → ((q : Placement) → (IsTrue (holds places q)) ↔ ((q.piece ≡ piece) × IsPlace T F game.drop_mode q × IsTrue (is_below rows q)))
+    → Entering game F rows piece left hands children places
+unfolding is_good_at
+enter-starts game T F rows piece left hands children places rules nil held = record {
+  after = subst (All (IsChild F rows piece)) (sym nil) (All-nil (IsChild F rows piece));
+  held = λ q is. let place = (held q).0 is in record { kind = place.0; place = subst (λ T. IsPlace T F game.drop_mode q) rules place.1; below = place.2 };
+  only = λ hand good. absurd (false≢true (sym (ap (list_any (λ child. is_good game (filled child.position.well) child.position.rows left hand)) nil) ∙ good));
+  each = λ q is. inl ((held q).1 (is.kind, subst (λ T. IsPlace T F game.drop_mode q) (sym rules) is.place, is.below));
 }
 
-or_next : (a t b : Bool) → ((a || t) || b) ≡ (a || (t || b))
-or_next true t b = refl
-or_next false t b = refl
+-- one is taken out of the places
+module _ (game : Game) (F : Field) (rows : ℕ) (piece : Piece) (left : ℕ) (hands : List ℕ) (children : List Child) (old new : LowPlaces) (q : Placement)
+    (state : Entering game F rows piece left hands children old) (least : IsNextAbove placement_cmp (λ p. IsTrue (holds old p)) None (Some q))
+    (rest : (p : Placement) → IsTrue (holds new p) ↔ (IsTrue (holds old p) × (Some q ≢ Some p))) where
+  pub taken : IsLowPlace game F rows piece q
+  taken = state.held q least.member
 
-or_false : (a : Bool) → (a || false) ≡ a
-or_false true = refl
-or_false false = refl
+  pub taken-fewer : held_count new piece < held_count old piece
+  unfolding held_count
+  taken-fewer = fewer (holds old) (holds new) (λ p is. ((rest p).0 is).0) q least.member gone (placements_of piece) (listed game F rows piece q taken)
+    where
+      gone : holds new q ≡ false
+      gone = at (holds new q) refl
+        where
+          at : (b : Bool) → holds new q ≡ b → b ≡ false
+          at false e = refl
+          at true e = absurd (((rest q).0 e).1 refl)
 
-pub follow-more : (game : Game) (F : Field) (rows : ℕ) (piece : Piece) (left : ℕ) (hands : List ℕ) (children : List Child) (last : Option Placement) (q : Placement) (child : Child)
-    → Following game F rows piece left hands children last → places_above game F rows piece last ≡ q ∷ places_above game F rows piece (Some q)
-    → is_below rows q ≡ true → filled child.position.well ≡ locked F q → child.position.rows ≡ rows - rows_removed F q
-    → Following game F rows piece left hands (children ++ child ∷ []) (Some q)
-unfolding good_after_some is_good_at
-follow-more game F rows piece left hands children last q child state first below field left_rows = record {
-  same = λ hand here.
-      let test : Placement → Bool = λ q. is_below rows q && is_good game (locked F q) (rows - rows_removed F q) left hand in
-      let good : Child → Bool = λ child. is_good game (filled child.position.well) child.position.rows left hand in
-      let at : good child ≡ test q = (λ i. is_good game (field i) (left_rows i) left hand) ∙ sym (ap (λ b. b && is_good game (locked F q) (rows - rows_removed F q) left hand) below) in
-      ap (λ b. b || list_any test (places_above game F rows piece (Some q))) (list_any-append good children (child ∷ []) ∙ ap (λ b. list_any good children || b) (or_false (good child) ∙ at))
-      ∙ or_next (list_any good children) (test q) (list_any test (places_above game F rows piece (Some q)))
-      ∙ ap (λ l. list_any good children || list_any test l) (sym first)
-      ∙ state.same hand here;
-}
+  -- and left out
+  pub enter-skip : ((hand : ℕ) → has hands hand ≡ true → is_good_with game F rows left hand q ≡ false) → Entering game F rows piece left hands children new
+  enter-skip bad = record {
+    after = state.after;
+    held = λ p is. state.held p ((rest p).0 is).0;
+    only = state.only;
+    each = λ p is. elim (state.each p is) [
+      | inr found ↦ inr found
+      | inl still ↦ elim (one-or-other q p) [
+        | inr other ↦ inl ((rest p).1 (still, other))
+        | inl same ↦ inr (λ hand here good. absurd (false≢true (sym (bad hand here) ∙ subst (λ p. is_good_with game F rows left hand p ≡ true) (sym same) good)))
+      ]
+    ];
+  }
 
--- or none of the hands is good after the next one
-pub follow-skip : (game : Game) (F : Field) (rows : ℕ) (piece : Piece) (left : ℕ) (hands : List ℕ) (children : List Child) (last : Option Placement) (q : Placement)
-    → Following game F rows piece left hands children last → places_above game F rows piece last ≡ q ∷ places_above game F rows piece (Some q)
-    → ((hand : ℕ) → has hands hand ≡ true → is_good game (locked F q) (rows - rows_removed F q) left hand ≡ false)
-    → Following game F rows piece left hands children (Some q)
-unfolding good_after_some
-follow-skip game F rows piece left hands children last q state first bad = record {
-  same = λ hand here.
-      let test : Placement → Bool = λ q. is_below rows q && is_good game (locked F q) (rows - rows_removed F q) left hand in
-      ap (λ b. is_good_at game children left hand || (b || list_any test (places_above game F rows piece (Some q)))) (sym (and_right (is_below rows q) _ (bad hand here)))
-      ∙ ap (λ l. is_good_at game children left hand || list_any test l) (sym first)
-      ∙ state.same hand here;
-}
+  -- or entered
+  pub enter-more : (child : Child) → IsChild F rows piece child → filled child.position.well ≡ locked F q → child.position.rows ≡ rows - rows_removed F q → Entering game F rows piece left hands (children ++ child ∷ []) new
+  unfolding is_good_at is_good_after
+  enter-more child is field height = record {
+    after = All-push (IsChild F rows piece) children child state.after is;
+    held = λ p is. state.held p ((rest p).0 is).0;
+    only = λ hand good. elim (or_cases (list_any (at hand) children) (at hand child || false) (sym (list_any-append (at hand) children (child ∷ [])) ∙ good)) [
+      | inl before ↦ state.only hand before
+      | inr here ↦
+          any_passes (λ p. is_below rows p && is_good_with game F rows left hand p) (reached_places game F piece) q (reached game F rows piece q taken)
+          (and_from (is_below rows q) _ taken.below (sym (same hand) ∙ one (at hand child) here))
+    ];
+    each = λ p low. elim (state.each p low) [
+      | inr found ↦ inr (λ hand here good. more hand (or_first (list_any (at hand) children) (at hand child || false) (found hand here good)))
+      | inl still ↦ elim (one-or-other q p) [
+        | inr other ↦ inl ((rest p).1 (still, other))
+        | inl here ↦ inr (λ hand _ good. more hand (or_second (list_any (at hand) children) (at hand child || false) (or_first (at hand child) false (same hand ∙ subst (λ p. is_good_with game F rows left hand p ≡ true) (sym here) good))))
+      ]
+    ];
+  }
+    where
+      at : ℕ → Child → Bool
+      at hand child = is_good game (filled child.position.well) child.position.rows left hand
 
-pub follow-ends : (game : Game) (F : Field) (rows : ℕ) (piece : Piece) (left : ℕ) (hands : List ℕ) (children : List Child) (last : Option Placement)
-    → Following game F rows piece left hands children last → places_above game F rows piece last ≡ []
+      same : (hand : ℕ) → at hand child ≡ is_good_with game F rows left hand q
+      same hand = λ i. is_good game (field i) (height i) left hand
+
+      more : (hand : ℕ) → (list_any (at hand) children || (at hand child || false)) ≡ true → list_any (at hand) (children ++ child ∷ []) ≡ true
+      more hand h = list_any-append (at hand) children (child ∷ []) ∙ h
+
+      one : (b : Bool) → (b || false) ≡ true → b ≡ true
+      one true h = refl
+      one false h = h
+
+pub enter-ends : (game : Game) (F : Field) (rows : ℕ) (piece : Piece) (left : ℕ) (hands : List ℕ) (children : List Child) (places : LowPlaces) → Entering game F rows piece left hands children places
+    → IsNextAbove placement_cmp (λ p. IsTrue (holds places p)) None None
     → (hand : ℕ) → has hands hand ≡ true → is_good_at game children left hand ≡ is_good_after game F rows piece left hand
-unfolding good_after_some
-follow-ends game F rows piece left hands children last state none hand here =
-    let test : Placement → Bool = λ q. is_below rows q && is_good game (locked F q) (rows - rows_removed F q) left hand in
-    sym (ap (λ l. is_good_at game children left hand || list_any test l) none ∙ or_false (is_good_at game children left hand)) ∙ state.same hand here
+unfolding is_good_after reached_places
+enter-ends game F rows piece left hands children places state none hand here = same_from_both _ _ (state.only hand) (λ good. all (some_passes (λ q. is_below rows q && is_good_with game F rows left hand q) (reached_places game F piece) good))
+  where
+    low : (q : Placement) → Contains (reached_places game F piece) q → is_below rows q ≡ true → IsLowPlace game F rows piece q
+    low q among below =
+        let found = Contains-from_filter (is_place (table_of game.rules) F game.drop_mode) (placements_of piece) q among in
+        record { kind = (((placements_of-list piece).members q).0 found.0).kind; place = (place-decides (table_of game.rules) F game.drop_mode q).0 found.1; below = below }
+
+    all : (q : Placement) × Contains (reached_places game F piece) q × ((is_below rows q && is_good_with game F rows left hand q) ≡ true) → is_good_at game children left hand ≡ true
+    all (q, among, good) =
+        let parts = and_parts (is_below rows q) (is_good_with game F rows left hand q) good in
+        elim (state.each q (low q among parts.0)) [
+          | inl still ↦ absurd (none.none q still refl)
+          | inr found ↦ found hand here parts.1
+        ]
 
 -- positions are good in any order
 pub in-any-order : (game : Game) (children ordered : List Child) (left hand : ℕ) → IsPermutation children ordered → is_good_at game ordered left hand ≡ is_good_at game children left hand

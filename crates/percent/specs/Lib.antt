@@ -8,4 +8,5 @@ pub mod Hands
 pub mod Kept
 pub mod Fitting
 pub mod Children
+pub mod Spread
 pub mod Marks

@@ -1,22 +1,29 @@
--- Marked placements: those that may stand in a tiling of some cells.
-use Rattle.std.specs.Prelude.{◌≡◌, ℕ, ◌+◌, ◌<◌, ◌≤◌, true, List, Option, Some, None, IfSome, length, slice_get, slice_index, slice_index_or}
+-- Marks: all tilings of some cells by some pieces.
+use Rattle.std.specs.Prelude.{◌≡◌, ℕ, ◌+◌, ◌<◌, ◌≤◌, false, List, Option, Some, None, IfSome, length, slice_get, slice_index, slice_index_or}
 use Rattle.srs.specs.declared.piece.Piece.{Piece}
+use Rattle.lane_board.specs.Field.{Field}
+use Rattle.lane_board.specs.Lanes.{has_bit}
 use Rattle.srs.specs.declared.placement.Placement.{Placement}
-use Rattle.empty_cells.specs.declared.empties.Empties.{Empties}
-use Rattle.empty_cells.specs.Empties.{empty_cells}
-use Rattle.tiled_pieces.specs.TiledPieces.{StandsInTiling, is_marked}
+use Rattle.empty_cells.specs.SentCells.{sent_cells}
+use Rattle.tiled_pieces.specs.TilingLists.{ListsAll, SomeHas}
 use Rattle.percent.specs.declared.marks.Mark.{Mark}
 use Rattle.percent.specs.Fitting.{codes_with, supply_by}
 
--- each placement that stands in a tiling by so many pieces is marked
-pub record IsTrueMark (cells : Empties) (mark : Mark) : Type 0 where
-  pub each : (q : Placement) → StandsInTiling (empty_cells cells) (supply_by mark.counts) q → is_marked mark.pieces q ≡ true
+-- Each tiling of the cells by so many pieces is listed. As a fact without a choice of its own: it can't be refuted.
+pub record IsTrueMark (E : Field) (mark : Mark) : Type 0 where
+  pub each : (ListsAll E (supply_by mark.counts) mark.tilings.tilings.items → ⊥) → ⊥
 
 -- the mark at this place is of pieces with these counts
 pub record HasMarkAt (known : List Mark) (place : ℕ) (counts : List ℕ) : Type 0 where
   pub mark : Mark
   pub there : slice_get known place ≡ Some mark
+  pub few : place < 64
   pub same : mark.counts ≡ counts
+
+-- a placement stands in no tiling of the marks whose bits are not set
+pub record IsStanding (known : List Mark) (rows : List ℕ) (q : Placement) (standing : ℕ) : Type 0 where
+  pub none : (k : ℕ) → k < 64 → has_bit standing k ≡ false → (mark : Mark) → slice_get known k ≡ Some mark
+      → SomeHas mark.tilings.tilings.items (record { piece = q.piece; cells = sent_cells rows q }) → ⊥
 
 -- the mark at this place is of enough pieces for a rest and a piece
 pub record IsMarkOf (known : List Mark) (piece : Piece) (left rest place : ℕ) : Type 0 where

@@ -2,14 +2,16 @@
 ghost use Rattle.std.specs.Prelude.{◌≡◌, ℕ, ◌≤◌, ◌+◌, ◌&&◌, ◌==◌, not, IfOk};
 ghost use Rattle.number_sets.specs.Rising.{IsRising, has};
 ghost use Rattle.well.specs.Well.{filled};
+ghost use Rattle.percent.specs.Children.{IsChild};
 ghost use Rattle.percent.specs.GoodHands.{is_good, is_good_after};
 ghost use Rattle.percent.specs.Marks.{ArePlaces};
 
 use crate::hand::{not_leading_to, rests_of};
 use crate::kept::Kept;
-use crate::marks::{Asked, Marks, fitting_after, marks_of};
+use crate::listed::{marks_after, marks_of};
+use crate::marks::{Asked, Marks, fitting_after};
 use crate::order::wanted_first;
-use crate::position::Position;
+use crate::position::{Child, Position};
 use number_sets::{merged, without};
 use pc_outside::NoMemory;
 use reach::Steps;
@@ -56,49 +58,87 @@ fn less(
     marks.asked(alloc, piece, left, rests)
 }
 
-/// The hands that are good at a position with `left` placements to come.
-#[cycle(search)]
-pub fn answered<L: Ledger>(
+/// The hands that are good at a position with one placement to come and then `left` more, given those that are still open
+/// after all kinds were tried. Both are kept.
+fn closed(
     alloc: Global,
     kept: &mut Kept,
     position: &Position,
+    left: u8,
+    hands: &[u64],
+    open: &[u64],
+) -> Result<Vec<u64>, NoMemory>
+    requires few { left ≤ 19 }
+    requires rises { IsRising hands.now }
+    requires open_rises { IsRising open.now }
+    requires open { (hand : ℕ) → has open.now hand ≡ (has hands.now hand
+        && not (is_good kept.old.game (filled position.now.well) position.now.rows (left + 1) hand)) }
+    ensures rises { IfOk result (λ v. IsRising v.items) }
+    ensures members { IfOk result (λ v. (hand : ℕ) → has v.items hand
+        ≡ (has hands.now hand && is_good kept.old.game (filled position.now.well) position.now.rows (left + 1) hand)) }
+    ensures game { kept.new.game ≡ kept.old.game }
+{
+    let found = without(alloc, hands, open)?;
+    kept.keep(alloc, position, left + 1, found.as_slice(), open);
+    Ok(found)
+}
+
+/// The hands that are good at the position after a placement, with `left` placements to come.
+#[cycle(search)]
+fn answered<L: Ledger>(
+    alloc: Global,
+    kept: &mut Kept,
+    marks: &Marks,
+    child: &Child,
     left: u8,
     hands: &[u64],
     steps: &mut Steps<L>,
 ) -> Result<Vec<u64>, NoMemory>
     requires few { left ≤ 20 }
     requires rises { IsRising hands.now }
+    requires child { IsChild (filled marks.now.position.well) marks.now.position.rows child.now.placement.piece
+        child.now }
     ensures rises { IfOk result (λ v. IsRising v.items) }
-    ensures members { IfOk result (λ v. (hand : ℕ) → has v.items hand
-        ≡ (has hands.now hand && is_good kept.old.game (filled position.now.well) position.now.rows left hand)) }
+    ensures members { IfOk result (λ v. (hand : ℕ) → has v.items hand ≡ (has hands.now hand
+        && is_good kept.old.game (filled child.now.position.well) child.now.position.rows left hand)) }
     ensures game { kept.new.game ≡ kept.old.game }
     ensures counted { steps.old ≤ steps.new }
 {
     if left == 0 {
-        return answered_at_end(alloc, position, hands);
+        return answered_at_end(alloc, &child.position, hands);
     }
     if hands.is_empty() {
         return Ok(Vec::new(alloc));
     }
-    let Some((known, unknown)) = kept.recalled(alloc, position, left, hands)? else {
-        return explored(alloc, kept, position, left - 1, hands, steps);
+    let Some((known, unknown)) = kept.recalled(alloc, &child.position, left, hands)? else {
+        let below = marks_after(alloc, &mut kept.lister, marks, child, left, hands)?;
+        return explored(alloc, kept, &below, left - 1, hands, steps);
     };
     if unknown.is_empty() {
         return Ok(known);
     }
-    let found = explored(alloc, kept, position, left - 1, unknown.as_slice(), steps)?;
+    let below = marks_after(
+        alloc,
+        &mut kept.lister,
+        marks,
+        child,
+        left,
+        unknown.as_slice(),
+    )?;
+    let found = explored(alloc, kept, &below, left - 1, unknown.as_slice(), steps)?;
     if known.is_empty() {
         return Ok(found);
     }
     merged(alloc, known.as_slice(), found.as_slice())
 }
 
-/// The hands that are good at a position with one placement to come and then `left` more, piece by piece. They are kept.
+/// The hands that are good at the position of the marks with one placement to come and then `left` more, piece by piece.
+/// They are kept.
 #[cycle(search)]
 fn explored<L: Ledger>(
     alloc: Global,
     kept: &mut Kept,
-    position: &Position,
+    marks: &Marks,
     left: u8,
     hands: &[u64],
     steps: &mut Steps<L>,
@@ -106,22 +146,19 @@ fn explored<L: Ledger>(
     requires few { left ≤ 19 }
     requires rises { IsRising hands.now }
     ensures rises { IfOk result (λ v. IsRising v.items) }
-    ensures members { IfOk result (λ v. (hand : ℕ) → has v.items hand
-        ≡ (has hands.now hand && is_good kept.old.game (filled position.now.well) position.now.rows (left + 1) hand)) }
+    ensures members { IfOk result (λ v. (hand : ℕ) → has v.items hand ≡ (has hands.now hand
+        && is_good kept.old.game (filled marks.now.position.well) marks.now.position.rows (left + 1) hand)) }
     ensures game { kept.new.game ≡ kept.old.game }
     ensures counted { steps.old ≤ steps.new }
 {
-    let marks = marks_of(alloc, &mut kept.pieces, position, left, hands)?;
     let mut open = Vec::from_slice(alloc, hands)?;
     for piece in wanted_first(kept.game.hold, hands) {
         let hold = kept.game.hold;
         let rests = rests_of(alloc, hold, piece, open.as_slice())?;
-        let good = tried(alloc, kept, &marks, left, piece, rests.as_slice(), steps)?;
+        let good = tried(alloc, kept, marks, left, piece, rests.as_slice(), steps)?;
         open = not_leading_to(alloc, hold, piece, open, good.as_slice())?;
     }
-    let found = without(alloc, hands, open.as_slice())?;
-    kept.keep(alloc, position, left + 1, found.as_slice(), open.as_slice());
-    Ok(found)
+    closed(alloc, kept, &marks.position, left, hands, open.as_slice())
 }
 
 /// The rests that are good after one of the places of a piece, at the position of the marks.
@@ -152,8 +189,31 @@ fn tried<L: Ledger>(
     let children = marks.children(alloc, &kept.game, &kept.flood, piece, left, &asked, steps)?;
     for child in &children {
         let fit = fitting_after(alloc, &mut kept.tilings, marks, child, left, &asked)?;
-        let good = answered(alloc, kept, &child.position, left, fit.as_slice(), steps)?;
+        let good = answered(alloc, kept, marks, child, left, fit.as_slice(), steps)?;
         asked = less(alloc, marks, piece, left, asked, good.as_slice())?;
     }
     without(alloc, rests, asked.rests.as_slice())
+}
+
+/// The hands that are good at a first position with `left` placements to come.
+pub fn answered_first<L: Ledger>(
+    alloc: Global,
+    kept: &mut Kept,
+    position: &Position,
+    left: u8,
+    hands: &[u64],
+    steps: &mut Steps<L>,
+) -> Result<Vec<u64>, NoMemory>
+    requires few { left ≤ 20 }
+    requires rises { IsRising hands.now }
+    ensures rises { IfOk result (λ v. IsRising v.items) }
+    ensures members { IfOk result (λ v. (hand : ℕ) → has v.items hand
+        ≡ (has hands.now hand && is_good kept.old.game (filled position.now.well) position.now.rows left hand)) }
+    ensures counted { steps.old ≤ steps.new }
+{
+    if left == 0 {
+        return answered_at_end(alloc, position, hands);
+    }
+    let marks = marks_of(alloc, &mut kept.lister, position, left - 1, hands)?;
+    explored(alloc, kept, &marks, left - 1, hands, steps)
 }

@@ -1,19 +1,27 @@
 // The positions that a piece leads to.
-ghost use Rattle.std.specs.Prelude.{◌≡◌, ◌≤◌, ◌+◌, ℕ, IsTrue, IfOk, All, true, false};
+ghost use Rattle.std.specs.Prelude.{◌≡◌, ◌≤◌, ◌+◌, ◌-◌, ℕ, IsTrue, IfOk, All, true, false};
 ghost use Rattle.srs.specs.Rules.{table_of};
 ghost use Rattle.well.specs.Well.{filled};
+ghost use Rattle.well.specs.Free.{is_free};
+ghost use Rattle.well.specs.Lock.{locked, rows_removed};
+ghost use Rattle.well.specs.LockLaws.{is_below};
+ghost use Rattle.lane_board.specs.Field.{difference};
+ghost use Rattle.prune.specs.Tiling.{Supply, Tiling};
+ghost use Rattle.empty_cells.specs.Empties.{all_but, empty_cells};
+ghost use Rattle.empty_cells.specs.SentCells.{sent_cells};
 ghost use Rattle.reach.specs.FloodRules.{flood_table};
-ghost use Rattle.tiled_pieces.specs.TiledPieces.{is_marked};
 ghost use Rattle.number_sets.specs.Rising.{has};
+ghost use Rattle.percent.specs.declared.game.Game.{Game};
 ghost use Rattle.percent.specs.Children.{IsChild};
-ghost use Rattle.percent.specs.GoodHands.{is_good_after, is_good_at};
-ghost use Rattle.percent.specs.Marks.{ArePlaces, IsMarkOf};
+ghost use Rattle.percent.specs.GoodHands.{is_good, is_good_after, is_good_at};
+ghost use Rattle.percent.specs.Marks.{ArePlaces, IsMarkOf, IsStanding};
 
 use crate::game::Game;
 use crate::marks::{Asked, Marks};
 use crate::position::Child;
+use empty_cells::Empties;
 use pc_outside::NoMemory;
-use reach::{FloodRules, Places, Steps};
+use reach::{FloodRules, Steps};
 use srs::{Piece, Placement};
 use std::alloc::Global;
 use std::sync::ledger::Ledger;
@@ -33,21 +41,52 @@ impl Marks {
         true
     }
 
-    /// Whether it is worth entering a placement: not where all is known, and it stands in no tiling.
-    fn is_worth(&self, placement: &Placement, knows_all: bool) -> bool
-        ensures known { result ≡ false → IsTrue knows_all }
-        ensures none { result ≡ false
-            → All (λ mark. is_marked mark.pieces placement.now ≡ false) self.now.known.items }
+    /// In which of the marks' tilings a placement with these cells stands. Bit `k` stands for mark `k`.
+    fn standing(&self, placement: &Placement, taken: &Empties) -> u64
+        requires { empty_cells taken.now ≡ sent_cells self.now.rows placement.now }
+        ensures { IsStanding self.now.known.items self.now.rows placement.now result }
     {
-        if !knows_all {
-            return true;
-        }
-        for mark in &self.known {
-            if mark.pieces.has(placement) {
-                return true;
+        let mut standing = 0;
+        for place in 0..self.known.len().min(64) {
+            if self.known[place].tilings.has(placement.piece, taken) {
+                standing |= 1 << place;
             }
         }
-        false
+        standing
+    }
+
+    /// Whether walls show that no pieces can fill what is left without these cells.
+    fn leaves_uneven_part(&self, taken: &Empties) -> bool
+        ensures { IsTrue result → (supply : Supply) → Tiling (all_but (difference (empty_cells self.now.cells)
+            (empty_cells taken.now))) 8 supply → ⊥ }
+    {
+        self.cells.without_cells(taken).has_uneven_part()
+    }
+
+    /// Whether it may be worth entering a placement with these cells. If it is not, none of the rests is good after it.
+    fn is_worth(
+        &self,
+        placement: &Placement,
+        taken: &Empties,
+        standing: u64,
+        left: u8,
+        asked: &Asked,
+        knows_all: bool,
+    ) -> bool
+        requires free { IsTrue (is_free (filled self.now.position.well) placement.now) }
+        requires below { IsTrue (is_below self.now.position.rows placement.now) }
+        requires taken { empty_cells taken.now ≡ sent_cells self.now.rows placement.now }
+        requires standing { IsStanding self.now.known.items self.now.rows placement.now standing }
+        requires known { IsTrue knows_all → (rest : ℕ) → has asked.now.rests.items rest ≡ true
+            → (place : ℕ) × IsMarkOf self.now.known.items placement.now.piece left rest place }
+        ensures { result ≡ false → (game : Game) (rest : ℕ) → has asked.now.rests.items rest ≡ true
+            → is_good game (locked (filled self.now.position.well) placement.now)
+            (self.now.position.rows - rows_removed (filled self.now.position.well) placement.now) left rest ≡ false }
+    {
+        if knows_all {
+            return standing != 0;
+        }
+        !self.leaves_uneven_part(taken)
     }
 
     /// The positions after the places of a piece that lie below the rows left, but for some at which none of the rests
@@ -67,6 +106,8 @@ impl Marks {
         requires rules { flood_table rules.now ≡ table_of game.now.rules }
         ensures after { IfOk result (λ v. All (IsChild (filled self.now.position.well) self.now.position.rows piece)
             v.items) }
+        ensures standing { IfOk result (λ v. All (λ child. IsStanding self.now.known.items self.now.rows
+            child.placement child.standing) v.items) }
         ensures good { IfOk result (λ v. (rest : ℕ) → has asked.now.rests.items rest ≡ true
             → is_good_at game.now v.items left rest
             ≡ is_good_after game.now (filled self.now.position.well) self.now.position.rows piece left rest) }
@@ -74,25 +115,24 @@ impl Marks {
     {
         let position = &self.position;
         let knows_all = self.knows_all(piece, left, asked);
-        let mut places = Places::none(piece);
-        rules.flood_below(
+        let mut places = rules.places_below(
             &position.well,
             piece,
             game.drop_mode,
             position.rows,
             steps,
-            &mut places,
         );
         let mut children = Vec::new(alloc);
-        let mut last = None;
-        while let Some(placement) = places.next_after(last.as_ref()) {
-            if self.is_worth(&placement, knows_all) {
+        while let Some(placement) = places.take_least() {
+            let taken = self.taken(&placement);
+            let standing = self.standing(&placement, &taken);
+            if self.is_worth(&placement, &taken, standing, left, asked, knows_all) {
                 children.push(Child {
                     placement,
                     position: position.after(&placement),
+                    standing,
                 })?;
             }
-            last = Some(placement);
         }
         children.sort_unstable_by_key(|child| child.position.roughness);
         Ok(children)

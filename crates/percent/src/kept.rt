@@ -11,7 +11,7 @@ use packing::TilingStore;
 use pc_outside::NoMemory;
 use reach::FloodRules;
 use std::alloc::Global;
-use tiled_pieces::PieceStore;
+use tiled_pieces::Lister;
 use well::cells_below;
 
 /// The hands that are known to be good at a position, and those that are known not to be.
@@ -58,7 +58,7 @@ pub struct Kept {
     pub game: Game,
     pub flood: FloodRules,
     pub tilings: TilingStore,
-    pub pieces: PieceStore,
+    pub lister: Lister,
     slots: Vec<Slot>,
     /// How many answers are kept.
     count: usize,
@@ -88,12 +88,12 @@ impl Kept {
             slots.push(Slot::empty(alloc))?;
         }
         let tilings = TilingStore::new(alloc)?;
-        let pieces = PieceStore::new(alloc);
+        let lister = Lister::new(alloc);
         Ok(Kept {
             game,
             flood: FloodRules::new(&game.rules),
             tilings,
-            pieces,
+            lister,
             slots,
             count: 0,
             next: 0,

@@ -9,9 +9,11 @@ mod game;
 mod hand;
 mod kept;
 pub mod laws;
+mod listed;
 mod marks;
 mod order;
 mod position;
+mod spread;
 mod start;
 #[cfg(test)]
 mod tests;

@@ -1,42 +1,53 @@
-// The placements that stand in some tiling by the available pieces. A piece placed elsewhere leaves cells that the
-// others can't fill.
-ghost use Rattle.std.specs.Prelude.{◌≡◌, ◌↔◌, ◌≤◌, ◌<◌, ◌&&◌, ℕ, IsTrue, IfOk, IfSome, IsSomeAnd, All, List, false, slice_index};
-ghost use Rattle.lane_board.specs.Field.{difference, rows_below};
+// All tilings of a position's empty cells by the available pieces. A piece that stands in none of them leaves cells that
+// the others can't fill.
+ghost use Rattle.std.specs.Prelude.{◌≡◌, ◌≤◌, ◌<◌, ◌&&◌, ℕ, IsTrue, IfOk, IfSome, IsSomeAnd, All, false, slice_index};
 ghost use Rattle.srs.specs.declared.placement.Placement.{Placement};
 ghost use Rattle.well.specs.Well.{filled};
+ghost use Rattle.well.specs.Free.{is_free};
+ghost use Rattle.well.specs.LockLaws.{is_below};
 ghost use Rattle.empty_cells.specs.Empties.{empty_cells};
-ghost use Rattle.tiled_pieces.specs.TiledPieces.{is_marked, StandsInTiling};
+ghost use Rattle.empty_cells.specs.SentCells.{sent_cells};
+ghost use Rattle.lane_board.specs.Lanes.{has_bit};
 ghost use Rattle.number_sets.specs.Rising.{IsRising, has};
 ghost use Rattle.percent.specs.declared.game.Game.{Game};
 ghost use Rattle.percent.specs.Children.{IsChild};
-ghost use Rattle.percent.specs.Fitting.{codes_with, supply_by};
+ghost use Rattle.percent.specs.Fitting.{codes_with};
 ghost use Rattle.percent.specs.GoodHands.{is_good};
-ghost use Rattle.percent.specs.Marks.{ArePlaces, HasMarkAt, IsMarkOf, IsTrueMark};
+ghost use Rattle.percent.specs.Marks.{ArePlaces, HasMarkAt, IsMarkOf, IsStanding, IsTrueMark};
+ghost use Rattle.percent.specs.Spread.{IsSpread};
 
 use crate::fitting::{Counts, counts_of, fitting};
 use crate::position::{Child, Position};
+use crate::spread::rows_among;
 use empty_cells::Empties;
 use packing::TilingStore;
 use pc_outside::NoMemory;
 use srs::{Piece, Placement};
 use std::alloc::Global;
-use tiled_pieces::{PieceStore, TiledPieces};
+use tiled_pieces::{Lister, TilingList};
 
-/// The pieces of all tilings by pieces with these counts.
-#[derive(Clone, Copy)]
+/// The most tilings that are listed at once.
+const MOST: usize = 4096;
+
+/// All tilings by pieces with these counts.
+#[derive(Drop)]
 pub struct Mark {
     pub counts: Counts,
-    pub pieces: TiledPieces,
+    pub tilings: TilingList,
 }
 
-/// A position, and the pieces of all tilings of its empty cells by some pieces.
+/// A position, and all tilings of its empty cells by some pieces. The tilings lie in the field at which they were listed,
+/// where rows that are removed since then still stand.
 #[derive(Drop)]
 pub struct Marks {
     pub position: Position,
-    cells: Empties,
+    /// The empty cells in that field.
+    pub cells: Empties,
+    /// The row of that field in which each row of the position stands.
+    pub rows: [u8; 8],
     pub known: Vec<Mark>,
-    ghost empty: { empty_cells cells ≡ difference (rows_below position.rows) (filled position.well) },
-    ghost are_true: { All (IsTrueMark cells) known.items },
+    ghost spread: { IsSpread (filled position.well) position.rows rows (empty_cells cells) },
+    ghost are_true: { All (IsTrueMark (empty_cells cells)) known.items },
 }
 
 /// Rests of hands, and for each the place of the mark of its pieces, if there is one.
@@ -44,15 +55,6 @@ pub struct Marks {
 pub struct Asked {
     pub rests: Vec<u64>,
     pub places: Vec<Option<u8>>,
-}
-
-/// The pieces of all tilings of some cells by pieces with these counts. The walk begins at the side nearer to a column.
-fn pieces_of(store: &mut PieceStore, cells: &Empties, near: u8, counts: &Counts) -> TiledPieces
-    ensures { (q : Placement) → IsTrue (is_marked result q)
-        ↔ StandsInTiling (empty_cells cells.now) (supply_by counts.now) q }
-{
-    let [_, i, l, o, z, t, j, s] = *counts;
-    store.pieces_near(cells, near, &[i, l, o, z, t, j, s])
 }
 
 /// The counts of the first `pieces` pieces of a hand and of one more piece.
@@ -66,37 +68,41 @@ pub fn counts_with(hand: u64, pieces: u8, piece: Piece) -> Counts
     counts
 }
 
-/// The counts of some hands, each once, or none if there are more than `most` of them.
-fn all_counts(
-    alloc: Global,
-    hands: &[u64],
-    pieces: u8,
-    most: usize,
-) -> Result<Vec<Counts>, NoMemory> {
-    let mut v = Vec::new(alloc);
-    for hand in hands {
-        let counts = counts_of(*hand, pieces);
-        if !v.as_slice().contains(&counts) {
-            if v.len() == most {
-                return Ok(Vec::new(alloc));
-            }
-            v.push(counts)?;
-        }
+/// The mark of pieces with these counts: all their tilings of the cells, if these can be listed.
+fn listed(alloc: Global, lister: &mut Lister, cells: &Empties, counts: Counts) -> Option<Mark>
+    ensures { IfSome result (IsTrueMark (empty_cells cells.now)) }
+{
+    let [_, i, l, o, z, t, j, s] = counts;
+    let tilings = lister.tilings(alloc, cells, &[i, l, o, z, t, j, s], MOST)?;
+    Some(Mark { counts, tilings })
+}
+
+/// Whether a placement may stand in a tiling of the mark at a place, given in which marks it does. If there is no mark, it
+/// may.
+fn may_stand(place: Option<u8>, standing: u64) -> bool
+    ensures { result ≡ false → IsSomeAnd place (λ known_place. (known_place < 64)
+        × (has_bit standing known_place ≡ false)) }
+{
+    let Some(known_place) = place else {
+        return true;
+    };
+    if 63 < known_place {
+        return true;
     }
-    Ok(v)
+    standing >> known_place & 1 == 1
 }
 
 impl Marks {
-    /// Nothing is known yet about the empty cells of a position. There is room for this many marks.
-    fn new(alloc: Global, position: &Position, room: usize) -> Result<Marks, NoMemory>
-        ensures { IfOk result (λ marks. marks.position ≡ position.now) }
+    /// Nothing is known yet about the empty cells of a position.
+    pub fn new(alloc: Global, position: &Position) -> Marks
+        ensures { result.position ≡ position.now }
     {
-        let known = Vec::with_capacity(alloc, room)?;
-        Ok(Marks {
+        Marks {
             position: *position,
             cells: Empties::below(&position.well, position.rows),
-            known,
-        })
+            rows: [0, 1, 2, 3, 4, 5, 6, 7],
+            known: Vec::new(alloc),
+        }
     }
 
     /// Whether nothing is known.
@@ -104,20 +110,37 @@ impl Marks {
         self.known.is_empty()
     }
 
-    /// Finds the pieces of all tilings by pieces with these counts.
-    fn find(&mut self, store: &mut PieceStore, counts: Counts) -> Result<(), NoMemory>
+    /// The cells of a placement, where its rows stand.
+    #[inline(always)]
+    pub fn taken(&self, placement: &Placement) -> Empties
+        requires free { IsTrue (is_free (filled self.now.position.well) placement.now) }
+        requires below { IsTrue (is_below self.now.position.rows placement.now) }
+        ensures { empty_cells result ≡ sent_cells self.now.rows placement.now }
+    {
+        Empties::sent(placement, &self.rows)
+    }
+
+    /// Lists all tilings by pieces with these counts, and says whether they could be listed.
+    pub fn list(
+        &mut self,
+        alloc: Global,
+        lister: &mut Lister,
+        counts: Counts,
+    ) -> Result<bool, NoMemory>
         ensures { self.new.position ≡ self.old.position }
     {
-        let pieces = pieces_of(store, &self.cells, self.position.near, &counts);
-        self.known.push(Mark { counts, pieces })?;
-        Ok(())
+        let Some(mark) = listed(alloc, lister, &self.cells, counts) else {
+            return Ok(false);
+        };
+        self.known.push(mark)?;
+        Ok(true)
     }
 
     /// The place of the mark of pieces with these counts, if there is one.
     fn place_of(&self, counts: &Counts) -> Option<u8>
         ensures { IfSome result (λ place. HasMarkAt self.now.known.items place counts.now) }
     {
-        for place in 0..self.known.len().min(256) {
+        for place in 0..self.known.len().min(64) {
             let mark = &self.known[place];
             if mark.counts == *counts {
                 return Some(place as u8);
@@ -127,7 +150,7 @@ impl Marks {
     }
 
     /// The place of the mark of the pieces of a rest and one more, if there is one.
-    fn place_with(&self, rest: u64, left: u8, piece: Piece) -> Option<u8>
+    pub fn place_with(&self, rest: u64, left: u8, piece: Piece) -> Option<u8>
         requires { left ≤ 20 }
         ensures { IfSome result (λ place. IsMarkOf self.now.known.items piece left rest place) }
     {
@@ -157,21 +180,6 @@ impl Marks {
         Ok(Asked { rests, places })
     }
 
-    /// Whether a placement may stand in a tiling by the pieces of the mark at a place. If there is no mark, it may.
-    fn may_stand(&self, place: Option<u8>, placement: &Placement) -> bool
-        ensures { result ≡ false → IsSomeAnd place (λ known_place. (counts : List ℕ)
-            → HasMarkAt self.now.known.items known_place counts
-            → StandsInTiling (empty_cells self.now.cells) (supply_by counts) placement.now → ⊥) }
-    {
-        let Some(known_place) = place else {
-            return true;
-        };
-        match self.known.get(known_place as usize) {
-            Some(mark) => mark.pieces.has(placement),
-            None => true,
-        }
-    }
-
     /// Those of the rests asked about with which a placement may stand in a tiling. The others are not good after it.
     pub fn likely(
         &self,
@@ -186,6 +194,7 @@ impl Marks {
             asked.now.places.items }
         requires child { IsChild (filled self.now.position.well) self.now.position.rows child.now.placement.piece
             child.now }
+        requires standing { IsStanding self.now.known.items self.now.rows child.now.placement child.now.standing }
         ensures rises { IfOk result (λ v. IsRising v.items) }
         ensures members { IfOk result (λ v. (game : Game) (rest : ℕ)
             → (has v.items rest && is_good game (filled child.now.position.well) child.now.position.rows left rest)
@@ -196,7 +205,7 @@ impl Marks {
         let places = asked.places.as_slice();
         let mut v = Vec::with_capacity(alloc, rests.len())?;
         for index in 0..rests.len() {
-            if self.may_stand(places[index], &child.placement) {
+            if may_stand(places[index], child.standing) {
                 v.push(rests[index])?;
             }
         }
@@ -219,6 +228,7 @@ pub fn fitting_after(
         asked.now.places.items }
     requires child { IsChild (filled marks.now.position.well) marks.now.position.rows child.now.placement.piece
         child.now }
+    requires standing { IsStanding marks.now.known.items marks.now.rows child.now.placement child.now.standing }
     ensures rises { IfOk result (λ v. IsRising v.items) }
     ensures members { IfOk result (λ v. (game : Game) (rest : ℕ)
         → (has v.items rest && is_good game (filled child.now.position.well) child.now.position.rows left rest)
@@ -235,32 +245,4 @@ pub fn fitting_after(
         );
     }
     marks.likely(alloc, child, left, asked)
-}
-
-/// For how many counts of pieces it pays to go through all tilings of a position, with one placement to come and then
-/// `left` more. High fields have too many tilings.
-fn most_counts(rows: u8, left: u8) -> usize {
-    if rows <= 4 && left <= 8 {
-        return 64;
-    }
-    if left <= 3 { 8 } else { 0 }
-}
-
-/// What is found about the tilings at a position by the pieces of some hands.
-pub fn marks_of(
-    alloc: Global,
-    store: &mut PieceStore,
-    position: &Position,
-    left: u8,
-    hands: &[u64],
-) -> Result<Marks, NoMemory>
-    requires { left ≤ 20 }
-    ensures { IfOk result (λ marks. marks.position ≡ position.now) }
-{
-    let all = all_counts(alloc, hands, left + 2, most_counts(position.rows, left))?;
-    let mut marks = Marks::new(alloc, position, all.len())?;
-    for counts in &all {
-        marks.find(store, *counts)?;
-    }
-    Ok(marks)
 }

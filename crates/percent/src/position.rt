@@ -24,6 +24,8 @@ pub struct Position {
 pub struct Child {
     pub placement: Placement,
     pub position: Position,
+    /// In which of the marks' tilings the placement stands. Bit `k` stands for mark `k`.
+    pub standing: u64,
 }
 
 impl Position {

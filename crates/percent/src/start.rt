@@ -8,7 +8,7 @@ ghost use Rattle.problem.specs.Problem.{IsFit, needed_of};
 ghost use Rattle.percent.specs.Good.{Good};
 ghost use Rattle.percent.specs.GoodHands.{game_of, hand_at, is_good};
 
-use crate::answered::answered;
+use crate::answered::answered_first;
 use crate::fitting::fitting;
 use crate::game::Game;
 use crate::hand::hand_of;
@@ -78,7 +78,7 @@ pub fn good_hands<L: Ledger>(
     let position = first_position(problem);
     let fit = fitting(alloc, &mut kept.tilings, &position, left, hands.as_slice())?;
     drop(hands);
-    answered(alloc, &mut kept, &position, left, fit.as_slice(), steps)
+    answered_first(alloc, &mut kept, &position, left, fit.as_slice(), steps)
 }
 
 /// The hand of the queue with this number, counted from 0.

@@ -15,9 +15,9 @@ use Rattle.percent.specs.declared.position.Child.{Child}
 use Rattle.percent.specs.declared.position.Position.{Position}
 use Rattle.percent.specs.declared.game.Game.{Game}
 use Rattle.percent.specs.Children.{IsChild}
-use Rattle.percent.specs.Marks.{ArePlaces}
+use Rattle.percent.specs.Marks.{ArePlaces, IsStanding}
 use Rattle.percent.specs.GoodHands.{is_good, is_good_after, is_good_at}
-use Rattle.percent.proofs.GoodSteps.{good-ends, answer-kept, answer-known, explore-bad, explore-ends, explore-step, found-good, try-ends, try-step, try-starts, ok-map}
+use Rattle.percent.proofs.GoodSteps.{good-ends, answer-kept, answer-known, explore-open, explore-step, try-ends, try-step, try-starts, ok-map}
 use Rattle.percent.proofs.answered.+search.Goals as goal
 
 -- what holds of a value that may be there holds of the one that is
@@ -26,13 +26,13 @@ some-holds o v is P holds = subst (λ o. IfSome o P) is holds
 
 pub answered-returns-then-left-eq0-clause-members : goal.answered-returns-then-left-eq0-clause-members
 answered-returns-then-left-eq0-clause-members g t c =
-    let p = c.args.position.now in
+    let p = c.args.child.now.position in
     ok-map c.answered_at_end.result _ _ (λ v h hand. h hand ∙ ap (λ b. has c.args.hands.now hand && b) (sym (good-ends c.args.kept.now.game (filled p.well) p.rows c.args.left hand c.if-left-eq0.true)))
     c.answered_at_end.ensures.members
 
 pub answered-returns-then-is_empty-clause-members : goal.answered-returns-then-is_empty-clause-members
 answered-returns-then-is_empty-clause-members g t c = λ hand.
-    let p = c.args.position.now in
+    let p = c.args.child.now.position in
     let none : (length c.args.hands.now == 0) ≡ true = sym c.is_empty.ensures ∙ c.if-is_empty.true in
     let short : length c.args.hands.now ≡ 0 = grind (arith, nat_tests) in
     let nil = nil_from_length c.args.hands.now short in
@@ -41,7 +41,7 @@ answered-returns-then-is_empty-clause-members g t c = λ hand.
 
 pub answered-returns-then-is_empty-2-clause-members : goal.answered-returns-then-is_empty-2-clause-members
 answered-returns-then-is_empty-2-clause-members g t c =
-    let p = c.args.position.now in
+    let p = c.args.child.now.position in
     let good : ℕ → Bool = is_good c.args.kept.now.game (filled p.well) p.rows c.args.left in
     let none : (vec_len c.in-Some.unknown == 0) ≡ true = sym c.is_empty-2.ensures ∙ c.if-is_empty-2.true in
     let short : length c.in-Some.unknown.items ≡ 0 = grind (arith, nat_tests) in
@@ -53,14 +53,14 @@ answered-returns-then-is_empty-2-clause-members g t c =
 
 pub answered-returns-then-is_empty-3-clause-members : goal.answered-returns-then-is_empty-3-clause-members
 answered-returns-then-is_empty-3-clause-members g t c = λ hand.
-    let p = c.args.position.now in
+    let p = c.args.child.now.position in
     let good : ℕ → Bool = is_good c.args.kept.now.game (filled p.well) p.rows c.args.left in
     let none : (vec_len c.in-Some.known == 0) ≡ true = sym c.is_empty-3.ensures ∙ c.if-is_empty-3.true in
     let short : length c.in-Some.known.items ≡ 0 = grind (arith, nat_tests) in
     let nil = nil_from_length c.in-Some.known.items short in
     let whole : c.args.left - 1 + 1 ≡ c.args.left = omega (arith, c.if-left-eq0.false) in
     c.in_ok-found.ensures.members hand
-    ∙ (λ i. has (c.as_slice.ensures.value i) hand && is_good c.args.kept.now.game (filled p.well) p.rows (whole i) hand)
+    ∙ (λ i. has (c.as_slice-2.ensures.value i) hand && is_good c.args.kept.now.game (filled (c.in_ok-below-2.ensures i).well) (c.in_ok-below-2.ensures i).rows (whole i) hand)
     ∙ ap (λ b. b || (has c.in-Some.unknown.items hand && good hand)) (sym (ap (λ l. has l hand) nil ∙ has-none hand))
     ∙ (some-holds c.in_ok-known.field-0 (c.in-Some.known, c.in-Some.unknown) c.in-Some.is
     (λ v. (hand : ℕ) → (has v.0.items hand || (has v.1.items hand && good hand)) ≡ (has c.args.hands.now hand && good hand)) c.in_ok-known.ensures.members) hand
@@ -70,48 +70,29 @@ seven order same = length_permutation all_pieces order same
 
 pub explored-loop-piece-preserved : goal.explored-loop-piece-preserved
 explored-loop-piece-preserved g t c =
-    let p = c.args.position.now in
+    let p = c.args.marks.now.position in
     explore-step c.wanted_first-piece-items.result c.args.kept.now.game c.loop-piece.kept.game c.tried.new.kept.game (filled p.well) p.rows c.args.left c.args.hands.now
     c.loop-piece.open.items c.as_slice.result.now c.loop-piece.open.items
     c.in_ok-rests.rests.items c.as_slice-in-loop-piece.result.now c.in_ok-good.good.items c.as_slice-in-loop-piece-2.result.now c.in_ok-open-2.open.items
     c.args.steps.now c.loop-piece.steps c.tried.new.steps c.loop-piece.piece-index _
     c.loop-piece.invariant (omega (arith, seven c.wanted_first-piece-items.result c.wanted_first-piece-items.ensures, c.loop-piece-test.true))
     c.as_slice.ensures.value c.in_ok-rests.ensures.members
-    c.as_slice-in-loop-piece.ensures.value
-    (subst (λ (m : Position). (rest : ℕ) → has c.in_ok-good.good.items rest ≡ (has c.as_slice-in-loop-piece.result.now rest
-    && is_good_after c.loop-piece.kept.game (filled m.well) m.rows (get_or c.wanted_first-piece-items.result c.loop-piece.piece-index I) c.args.left rest)) c.in_ok-marks.ensures c.in_ok-good.ensures.members)
+    c.as_slice-in-loop-piece.ensures.value c.in_ok-good.ensures.members
     c.in_ok-good.ensures.game c.in_ok-good.ensures.counted
     c.in_ok-open-2.ensures.rises refl c.as_slice-in-loop-piece-2.ensures.value c.in_ok-open-2.ensures.members
 
-pub explored-keep-requires-clause-found_true : goal.explored-keep-requires-clause-found_true
-explored-keep-requires-clause-found_true g t c = λ hand there.
-    let p = c.args.position.now in
+pub explored-closed-requires-clause-open : goal.explored-closed-requires-clause-open
+explored-closed-requires-clause-open g t c = λ hand.
+    let p = c.args.marks.now.position in
     let order = c.wanted_first-piece-items.result in
-    let state = c.loop-piece.invariant in
-    let found_is = explore-ends order c.args.kept.now.game c.loop-piece.kept.game (filled p.well) p.rows c.args.left c.args.hands.now c.loop-piece.open.items c.in_ok-found.found.items c.args.steps.now c.loop-piece.steps c.loop-piece.piece-index
-    c.wanted_first-piece-items.ensures state (omega (arith, seven order c.wanted_first-piece-items.ensures, c.loop-piece-test.false))
-    (λ hand. c.in_ok-found.ensures.members hand ∙ ap (λ l. has c.args.hands.now hand && not (has l hand)) c.as_slice-2.ensures.value) in
-    subst (λ (game : Game). is_good game (filled p.well) p.rows (c.args.left + 1) hand ≡ true) (sym state.same)
-    (found-good c.in_ok-found.found.items c.args.hands.now (is_good c.args.kept.now.game (filled p.well) p.rows (c.args.left + 1)) found_is hand
-    (sym (ap (λ l. has l hand) c.as_slice-3.ensures.value) ∙ there))
-
-pub explored-keep-requires-clause-missed_true : goal.explored-keep-requires-clause-missed_true
-explored-keep-requires-clause-missed_true g t c = λ hand there.
-    let p = c.args.position.now in
-    let order = c.wanted_first-piece-items.result in
-    let state = c.loop-piece.invariant in
-    subst (λ (game : Game). is_good game (filled p.well) p.rows (c.args.left + 1) hand ≡ false) (sym state.same)
-    (explore-bad order c.args.kept.now.game c.loop-piece.kept.game (filled p.well) p.rows c.args.left c.args.hands.now c.loop-piece.open.items c.args.steps.now c.loop-piece.steps c.loop-piece.piece-index
-    c.wanted_first-piece-items.ensures state (omega (arith, seven order c.wanted_first-piece-items.ensures, c.loop-piece-test.false)) hand
-    (sym (ap (λ l. has l hand) c.as_slice-4.ensures.value) ∙ there))
+    ap (λ l. has l hand) c.as_slice-2.ensures.value
+    ∙ explore-open order c.args.kept.now.game c.loop-piece.kept.game (filled p.well) p.rows c.args.left c.args.hands.now c.loop-piece.open.items c.args.steps.now c.loop-piece.steps c.loop-piece.piece-index
+    c.wanted_first-piece-items.ensures c.loop-piece.invariant (omega (arith, seven order c.wanted_first-piece-items.ensures, c.loop-piece-test.false)) hand
 
 pub explored-returns-clause-members : goal.explored-returns-clause-members
-explored-returns-clause-members g t c = λ hand.
-    let p = c.args.position.now in
-    let order = c.wanted_first-piece-items.result in
-    explore-ends order c.args.kept.now.game c.loop-piece.kept.game (filled p.well) p.rows c.args.left c.args.hands.now c.loop-piece.open.items c.in_ok-found.found.items c.args.steps.now c.loop-piece.steps c.loop-piece.piece-index
-    c.wanted_first-piece-items.ensures c.loop-piece.invariant (omega (arith, seven order c.wanted_first-piece-items.ensures, c.loop-piece-test.false))
-    (λ hand. c.in_ok-found.ensures.members hand ∙ ap (λ l. has c.args.hands.now hand && not (has l hand)) c.as_slice-2.ensures.value) hand
+explored-returns-clause-members g t c =
+    let p = c.args.marks.now.position in
+    ok-map c.closed.result _ _ (λ v h hand. h hand ∙ ap (λ (game : Game). has c.args.hands.now hand && is_good game (filled p.well) p.rows (c.args.left + 1) hand) c.loop-piece.invariant.same) c.closed.ensures.members
 
 pub tried-returns-then-is_empty-clause-members : goal.tried-returns-then-is_empty-clause-members
 tried-returns-then-is_empty-clause-members g t c = λ rest.
@@ -129,22 +110,27 @@ tried-loop-child-init g t c = (
   c.in_ok-asked.ensures.places,
 )
 
--- the child of the iteration comes after a placement
-child_is : (F : Field) (rows : ℕ) (piece : Piece) (items children : List Child) (i : ℕ) (child : Child) → children ≡ items → All (IsChild F rows piece) items → i < length children → child ≡ get_or children i child
-    → IsChild F rows piece child
-child_is F rows piece items children i child same all within is = subst (IsChild F rows piece) (sym is) (subst (All (IsChild F rows piece)) (sym same) all i child within)
+-- what holds of all children holds of that of the iteration
+holds_of : (P : Child → Type 0) (items children : List Child) (i : ℕ) (child : Child) → children ≡ items → All P items → i < length children → child ≡ get_or children i child → P child
+holds_of P items children i child same all within is = subst P (sym is) (subst (All P) (sym same) all i child within)
 
 pub tried-fitting_after-requires-clause-child : goal.tried-fitting_after-requires-clause-child
 tried-fitting_after-requires-clause-child g t c =
     let p = c.args.marks.now.position in
-    let is = child_is (filled p.well) p.rows c.args.piece c.in_ok-children.children.items c.deref-child-items.result.now c.loop-child.child-index c.child-item.result
+    let is = holds_of (IsChild (filled p.well) p.rows c.args.piece) c.in_ok-children.children.items c.deref-child-items.result.now c.loop-child.child-index c.child-item.result
     c.deref-child-items.ensures.value c.in_ok-children.ensures.after c.loop-child-test.true c.child-item.is in
     subst (λ piece. IsChild (filled p.well) p.rows piece c.child-item.result) (sym is.kind) is
+
+pub tried-fitting_after-requires-clause-standing : goal.tried-fitting_after-requires-clause-standing
+tried-fitting_after-requires-clause-standing g t c =
+    let marks = c.args.marks.now in
+    holds_of (λ child. IsStanding marks.known.items marks.rows child.placement child.standing) c.in_ok-children.children.items c.deref-child-items.result.now c.loop-child.child-index c.child-item.result
+    c.deref-child-items.ensures.value c.in_ok-children.ensures.standing c.loop-child-test.true c.child-item.is
 
 pub tried-fitting_after-requires-clause-places : goal.tried-fitting_after-requires-clause-places
 tried-fitting_after-requires-clause-places g t c =
     let p = c.args.marks.now.position in
-    let is = child_is (filled p.well) p.rows c.args.piece c.in_ok-children.children.items c.deref-child-items.result.now c.loop-child.child-index c.child-item.result
+    let is = holds_of (IsChild (filled p.well) p.rows c.args.piece) c.in_ok-children.children.items c.deref-child-items.result.now c.loop-child.child-index c.child-item.result
     c.deref-child-items.ensures.value c.in_ok-children.ensures.after c.loop-child-test.true c.child-item.is in
     subst (λ piece. ArePlaces c.args.marks.now.known.items piece c.args.left c.loop-child.asked.rests.items c.loop-child.asked.places.items) (sym is.kind) c.loop-child.invariant.1
 

@@ -1,27 +1,30 @@
--- One mark after the other.
-use Rattle.std.proofs.Common.{◌≡◌, All, List, false, get_or, sym, ap, subst, ◌∙◌, inl, inr, arith}
-use Rattle.std.proofs.lemmas.Bool.{cases_lt}
-use Rattle.std.proofs.lemmas.List.{get_or_default}
-use Rattle.tiled_pieces.specs.TiledPieces.{is_marked}
-use Rattle.percent.specs.declared.marks.Mark.{Mark}
+-- It stands in no listed tiling, or walls show that what it leaves has none.
+use Rattle.std.proofs.Common.{◌≡◌, ◌==◌, Bool, true, false, not, ◌∙◌, ap, subst, refl}
+use Rattle.std.proofs.lemmas.Bool.{eqb-true}
+use Rattle.lane_board.specs.Field.{Field, difference}
+use Rattle.lane_board.specs.Lanes.{has_bit}
+use Rattle.lane_board.proofs.CallerLemmas.{has_bit-zero}
+use Rattle.prune.specs.Tiling.{Supply, Tiling}
+use Rattle.well.specs.Well.{filled}
+use Rattle.empty_cells.specs.Empties.{all_but, empty_cells}
+use Rattle.percent.proofs.MarkLemmas.{bad-placed, walled-bad}
 use Rattle.percent.proofs.marks.Marks.is_worth.Goals as goal
 
-pub loop-mark-init : goal.loop-mark-init
-loop-mark-init c = λ k d below. absurd (omega arith)
+not_false : (b : Bool) → not b ≡ false → b ≡ true
+not_false true h = refl
+not_false false h = cc
 
-pub loop-mark-preserved : goal.loop-mark-preserved
-loop-mark-preserved c = λ k d below.
-    let items = c.deref-mark-items.result.now in
-    elim (cases_lt k c.loop-mark.mark-index) [
-      | inl before ↦ c.loop-mark.invariant k d before
-      | inr past ↦
-          let here : k ≡ c.loop-mark.mark-index = omega arith in
-          ap (λ (mark : Mark). is_marked mark.pieces c.args.placement.now)
-          (ap (λ j. get_or items j d) here ∙ get_or_default items c.loop-mark.mark-index d _ c.loop-mark-test.true)
-          ∙ sym c.has.ensures ∙ c.if-has.false
-    ]
+pub returns-then-knows_all : goal.returns-then-knows_all
+returns-then-knows_all c = λ no game rest here.
+    let marks = c.args.self.now in
+    let mark = c.requires.known c.if-knows_all.true rest here in
+    let none : c.args.standing ≡ 0 = eqb-true c.args.standing 0 (not_false (c.args.standing == 0) no) in
+    bad-placed game marks.position marks.known.items marks.rows marks.cells c.args.placement.now c.args.left rest mark.0 c.args.standing marks.spread marks.are_true c.requires.free c.requires.below mark.1 c.requires.standing
+    (ap (λ n. has_bit n mark.0) none ∙ has_bit-zero mark.0)
 
-pub returns-clause-none : goal.returns-clause-none
-returns-clause-none c = λ _.
-    subst (λ (marks : List Mark). All (λ mark. is_marked mark.pieces c.args.placement.now ≡ false) marks) c.deref-mark-items.ensures.value
-    (λ k d below. c.loop-mark.invariant k d (omega (arith, c.loop-mark-test.false)))
+pub returns : goal.returns
+returns c = λ no game rest here.
+    let marks = c.args.self.now in
+    let q = c.args.placement.now in
+    walled-bad game marks.position q c.args.left rest marks.rows (empty_cells marks.cells) marks.spread c.requires.free c.requires.below
+    (subst (λ (E : Field). (supply : Supply) → Tiling (all_but (difference (empty_cells marks.cells) E)) 8 supply → ⊥) c.requires.taken (c.leaves_uneven_part.ensures (not_false c.leaves_uneven_part.result no)))

@@ -34,8 +34,8 @@ loop-index-preserved c =
           let mark = mark-there (IsMarkOf marks.known.items c.args.child.now.placement.piece c.args.left (get_or rests index 0)) _ (get_or c.as_slice-places.result.now index None) (are.each index within) (c.may_stand.ensures w.if-may_stand.false) in
           rw w.v-is
           (sift-pass (λ game. is_good game (filled p.well) p.rows c.args.left) rests c.loop-index.v.items index rises c.loop-index.invariant within
-          (λ game. bad-stand game marks.position c.args.child.now c.args.left (get_or rests index 0) mark.1.counts marks.cells marks.empty c.requires.child
-          mark.1.enough (mark.2 mark.1.counts mark.1.there)))
+          (λ game. bad-stand game marks.position c.args.child.now c.args.left (get_or rests index 0) mark.0 marks.known.items marks.rows marks.cells marks.spread marks.are_true c.requires.child
+          mark.1 c.requires.standing mark.2.1))
     ]
 
 pub returns-clause-rises : goal.returns-clause-rises

@@ -1,0 +1,21 @@
+-- The tilings that have the piece are those of what it leaves.
+use Rattle.std.proofs.Common.{◌<◌, length, refl, arith}
+use Rattle.std.proofs.lemmas.Option.{slice_get_read, slice_get_within}
+use Rattle.empty_cells.specs.Empties.{empty_cells}
+use Rattle.percent.proofs.MarkLemmas.{mark-listed}
+use Rattle.percent.proofs.marks.Marks.mark_after.Goals as goal
+
+pub index-mark-requires : goal.index-mark-requires
+index-mark-requires c =
+    let within = slice_get_within c.args.self.now.known.items c.in-Some.place c.in-Some.ensures.there.mark c.in-Some.ensures.there.there in
+    let size = c.args.self.now.known.ok in
+    omega (arith, within, size)
+
+pub returns : goal.returns
+returns c =
+    let marks = c.args.self.now in
+    let k = c.in-Some.ensures in
+    let within = slice_get_within marks.known.items c.in-Some.place k.there.mark k.there.there in
+    mark-listed marks.position c.args.child.now c.args.left c.args.hand c.in-Some.place marks.known.items marks.rows marks.cells (empty_cells c.args.taken.now) c.index-mark.result.now _ marks.spread marks.are_true c.requires.child k
+    (slice_get_read marks.known.items _ c.in-Some.place c.index-mark.result.now refl within c.index-mark.ensures)
+    c.requires.taken c.requires.counts c.in_ok-tilings.ensures

@@ -1,0 +1,164 @@
+// The tilings at a position: listed there, or those at the position before it that have the piece placed since.
+ghost use Rattle.std.specs.Prelude.{◌≡◌, ◌≤◌, IfOk, IfSome};
+ghost use Rattle.well.specs.Well.{filled};
+ghost use Rattle.percent.specs.Children.{IsChild};
+
+use crate::fitting::{Counts, counts_of};
+use crate::marks::{Mark, Marks};
+use crate::position::{Child, Position};
+use crate::spread::rows_among;
+use empty_cells::Empties;
+use pc_outside::NoMemory;
+use srs::Piece;
+use std::alloc::Global;
+use tiled_pieces::Lister;
+
+/// The counts of some hands, each once, or none if there are more than `most` of them.
+fn all_counts(
+    alloc: Global,
+    hands: &[u64],
+    pieces: u8,
+    most: usize,
+) -> Result<Vec<Counts>, NoMemory> {
+    let mut v = Vec::new(alloc);
+    for hand in hands {
+        let counts = counts_of(*hand, pieces);
+        if !v.as_slice().contains(&counts) {
+            if v.len() == most {
+                return Ok(Vec::new(alloc));
+            }
+            v.push(counts)?;
+        }
+    }
+    Ok(v)
+}
+
+/// For how many counts of pieces it pays to list all tilings of a position, with one placement to come and then `left`
+/// more. High fields have too many tilings.
+fn most_counts(rows: u8, left: u8) -> usize {
+    if rows <= 4 && left <= 7 {
+        return 64;
+    }
+    if left <= 3 { 8 } else { 0 }
+}
+
+/// All tilings at a position by the pieces of some hands, if they can be listed.
+pub fn marks_of(
+    alloc: Global,
+    lister: &mut Lister,
+    position: &Position,
+    left: u8,
+    hands: &[u64],
+) -> Result<Marks, NoMemory>
+    requires { left ≤ 20 }
+    ensures { IfOk result (λ marks. marks.position ≡ position.now) }
+{
+    let all = all_counts(alloc, hands, left + 2, most_counts(position.rows, left))?;
+    let mut marks = Marks::new(alloc, position);
+    for counts in &all {
+        if !marks.list(alloc, lister, *counts)? {
+            return Ok(Marks::new(alloc, position));
+        }
+    }
+    Ok(marks)
+}
+
+/// Whether one of the marks is of pieces with these counts.
+fn is_known(known: &[Mark], counts: &Counts) -> bool {
+    for mark in known {
+        if mark.counts == *counts {
+            return true;
+        }
+    }
+    false
+}
+
+impl Marks {
+    ghost use Rattle.std.specs.Prelude.{◌+◌, ◌<◌, ℕ, slice_index};
+    ghost use Rattle.lane_board.specs.Field.{difference};
+    ghost use Rattle.empty_cells.specs.Empties.{empty_cells};
+    ghost use Rattle.empty_cells.specs.SentCells.{sent_cells};
+    ghost use Rattle.percent.specs.Fitting.{codes_in};
+    ghost use Rattle.percent.specs.Marks.{IsTrueMark};
+
+    /// The mark of the pieces of a hand after a placement: the tilings that have its piece.
+    fn mark_after(
+        &self,
+        alloc: Global,
+        child: &Child,
+        left: u8,
+        hand: u64,
+        counts: Counts,
+        taken: &Empties,
+    ) -> Result<Option<Mark>, NoMemory>
+        requires few { left ≤ 20 }
+        requires child { IsChild (filled self.now.position.well) self.now.position.rows child.now.placement.piece
+            child.now }
+        requires counts { (code : ℕ) → code < 8 → slice_index counts code ≡ codes_in (left + 1) hand code }
+        requires taken { empty_cells taken.now ≡ sent_cells self.now.rows child.now.placement }
+        ensures { IfOk result (λ mark. IfSome mark (IsTrueMark (difference (empty_cells self.now.cells)
+            (sent_cells self.now.rows child.now.placement)))) }
+    {
+        let piece = child.placement.piece;
+        let Some(place) = self.place_with(hand, left, piece) else {
+            return Ok(None);
+        };
+        let mark = &self.known[place as usize];
+        let tilings = mark.tilings.with(alloc, piece, taken)?;
+        Ok(Some(Mark { counts, tilings }))
+    }
+
+    /// What is known of the tilings at the position after a placement, by the pieces of some hands.
+    pub fn after(
+        &self,
+        alloc: Global,
+        child: &Child,
+        left: u8,
+        hands: &[u64],
+    ) -> Result<Marks, NoMemory>
+        requires few { left ≤ 20 }
+        requires child { IsChild (filled self.now.position.well) self.now.position.rows child.now.placement.piece
+            child.now }
+        ensures { IfOk result (λ marks. marks.position ≡ child.now.position) }
+    {
+        let taken = self.taken(&child.placement);
+        let cells = self.cells.without_cells(&taken);
+        let mut known = Vec::new(alloc);
+        for hand in hands {
+            let counts = counts_of(*hand, left + 1);
+            if is_known(known.as_slice(), &counts) {
+                continue;
+            }
+            if let Some(mark) = self.mark_after(alloc, child, left, *hand, counts, &taken)? {
+                known.push(mark)?;
+            }
+        }
+        Ok(Marks {
+            position: child.position,
+            cells,
+            rows: rows_among(&self.rows, self.position.rows, cells.rows()),
+            known,
+        })
+    }
+}
+
+/// All tilings at the position after a placement by the pieces of some hands, if they can be listed.
+pub fn marks_after(
+    alloc: Global,
+    lister: &mut Lister,
+    marks: &Marks,
+    child: &Child,
+    left: u8,
+    hands: &[u64],
+) -> Result<Marks, NoMemory>
+    requires some { 1 ≤ left }
+    requires few { left ≤ 20 }
+    requires child { IsChild (filled marks.now.position.well) marks.now.position.rows child.now.placement.piece
+        child.now }
+    ensures { IfOk result (λ marks. marks.position ≡ child.now.position) }
+{
+    if marks.is_empty() {
+        return marks_of(alloc, lister, &child.position, left - 1, hands);
+    }
+    marks.after(alloc, child, left, hands)
+}
