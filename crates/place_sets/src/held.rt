@@ -36,28 +36,6 @@ impl Places {
         }
     }
 
-    /// The empty set of placements of a piece.
-    pub fn none(piece: Piece) -> Places
-        ensures piece { piece_of result ≡ piece }
-        ensures held { (q : Placement) → holds result q ≡ false }
-    {
-        Places {
-            piece,
-            numbers: Numbers::none(),
-        }
-    }
-
-    /// Sets these to the placements of a piece with the given pivots whose cells all lie below row `rows`.
-    #[inline(always)]
-    pub fn fill(&mut self, piece: Piece, states: &Pivots<24>, rows: u8)
-        ensures piece { piece_of self.new ≡ piece }
-        ensures held { (q : Placement) → IsTrue (holds self.new q)
-            ↔ ((q.piece ≡ piece) × IsTrue (has_state (states_of states.now) q) × IsTrue (is_below rows q)) }
-    {
-        self.piece = piece;
-        self.numbers.fill(states, rows_left(piece, rows));
-    }
-
     #[tactic(auto, unfolding(crate::specs::Places::holds))]
     /// Whether the placement is one of these.
     pub fn contains(&self, placement: &Placement) -> bool

@@ -71,39 +71,6 @@ impl Numbers {
         }
     }
 
-    /// The empty set.
-    pub(crate) fn none() -> Numbers
-        ensures { (n : ℕ) → n < 1536 → has_number result n ≡ false }
-    {
-        Numbers {
-            words: [0; WORDS],
-            in_use: 0,
-        }
-    }
-
-    /// Sets this to the numbers of those states that lie below the given row of their rotation.
-    #[inline(always)]
-    pub(crate) fn fill(&mut self, states: &Pivots<24>, rows: [u8; 4])
-        requires { length rows ≡ 4 }
-        ensures { (r : Rotation) (x y : ℕ) → states_in self.new r x y
-            ≡ (states_of states.now r x y && nat_lt y (slice_index rows (rotation_place r))) }
-    {
-        let each = words_below(rows);
-        self.words = [0; WORDS];
-        self.in_use = first_words(each);
-        for at in 0..each {
-            let row = 4 * at as u8;
-            let spawn = in_low_rows(four_rows(&states.spawn, row), rows[0].saturating_sub(row));
-            let right = in_low_rows(four_rows(&states.right, row), rows[1].saturating_sub(row));
-            let reverse = in_low_rows(four_rows(&states.reverse, row), rows[2].saturating_sub(row));
-            let left = in_low_rows(four_rows(&states.left, row), rows[3].saturating_sub(row));
-            self.words[at] = spawn;
-            self.words[at + 6] = right;
-            self.words[at + 12] = reverse;
-            self.words[at + 18] = left;
-        }
-    }
-
     /// Whether the set has the number of a state.
     pub(crate) fn has(&self, state: &Placement) -> bool
         ensures { result ≡ has_state (states_in self.now) state.now }

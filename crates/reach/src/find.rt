@@ -61,7 +61,7 @@ pub(crate) fn places_where<L: Ledger>(
 }
 
 /// The pivots of these places.
-pub(crate) fn pivots_where(
+fn pivots_where(
     well: &Well,
     rules: &Rules,
     srs: bool,

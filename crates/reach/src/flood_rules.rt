@@ -6,7 +6,7 @@ ghost use Rattle.srs.specs.Piece.{piece_code};
 ghost use Rattle.srs.specs.Rules.{table_of};
 ghost use Rattle.reach.specs.SameOffsets.{HaveSameOffsets};
 
-use crate::find::{pivots_where, places_where};
+use crate::find::places_where;
 use crate::same_offsets::has_srs_offsets;
 use crate::steps::Steps;
 use lane_board::LaneBoard;
@@ -80,29 +80,6 @@ impl FloodRules {
     {
         let srs = self.has_srs_offsets(piece);
         places_where(well, &self.rules, srs, piece, drop_mode, steps)
-    }
-
-    #[tactic(auto, unfolding(crate::specs::FloodRules::flood_table))]
-    /// Floods, and sets `held` to the places that `places` gives whose cells all lie below row `rows`. Counts one
-    /// flood.
-    pub fn flood_below<L: Ledger>(
-        &self,
-        well: &Well,
-        piece: Piece,
-        drop_mode: DropMode,
-        rows: u8,
-        steps: &mut Steps<L>,
-        held: &mut Places,
-    )
-        ensures piece { piece_of held.new ≡ piece }
-        ensures held { (q : Placement) → (IsTrue (holds held.new q)) ↔ ((q.piece ≡ piece)
-            × IsPlace (flood_table self.now) (filled well.now) drop_mode q × IsTrue (is_below rows q)) }
-        ensures counted { steps.new ≡ steps.old + 1 }
-    {
-        steps.tick();
-        let srs = self.has_srs_offsets(piece);
-        let pivots = pivots_where(well, &self.rules, srs, piece, drop_mode);
-        held.fill(piece, &pivots, rows);
     }
 }
 
