@@ -24,7 +24,8 @@ laid_part part = record { piece = part.piece; cells = λ x y. is_among part.cell
 
 -- a placement, as a piece that is laid
 abbrev pub laid_placement : Placement → LaidPiece
-laid_placement placement = record { piece = placement.piece; cells = λ x y. is_among (cells_of placement) (pos x, pos y) }
+laid_placement placement =
+    record { piece = placement.piece; cells = λ x y. is_among (cells_of placement) (pos x, pos y) }
 
 -- the piece at a place of a listed tiling
 unfoldable pub laid_at : ListedTiling → ℕ → LaidPiece
