@@ -8,7 +8,6 @@ mod FoundCells
 mod SupplyLemmas
 mod SupplyWordLemmas
 mod PivotLemmas
-mod PivotMirrors
 mod StackLemmas
 mod ChosenLemmas
 mod FormLemmas

@@ -80,13 +80,13 @@ module _ (E G : Field) (turned : (x y : ℕ) → x ≤ 9 → G x y ≡ E (9 - x)
   shown (negsuc x, pos y) = refl
   shown (negsuc x, negsuc y) = refl
 
-  pub to_mirror : (supply : Supply) → Tiling (all_but E) 8 supply → Tiling (all_but G) 8 (mirrored_supply supply)
+  to_mirror : (supply : Supply) → Tiling (all_but E) 8 supply → Tiling (all_but G) 8 (mirrored_supply supply)
   to_mirror supply t = same_tiling (mirrored (all_but E)) (all_but G) 8 8 (mirrored_supply supply) shown (tiling_mirrored (all_but E) 8 supply t)
 
-  pub turned_back : (x y : ℕ) → x ≤ 9 → E x y ≡ G (9 - x) y
+  turned_back : (x y : ℕ) → x ≤ 9 → E x y ≡ G (9 - x) y
   turned_back x y near = sym (turned (9 - x) y (omega arith) ∙ ap (λ k. E k y) {x = 9 - (9 - x)} {y = x} (omega arith))
 
-pub supply_again : (supply : Supply) → mirrored_supply (mirrored_supply supply) ≡ supply
+supply_again : (supply : Supply) → mirrored_supply (mirrored_supply supply) ≡ supply
 supply_again supply = fun_ext (λ piece. ap supply (kind_again piece))
 
 -- so both have a tiling, or none has
