@@ -1,6 +1,5 @@
 -- A placement after which a rest is good stands in a listed tiling by the pieces of the rest and its own.
-use Rattle.std.proofs.Common.{ℕ, ◌≡◌, ◌↔◌, ◌∙◌, ◌+◌, ◌-◌, ◌*◌, ◌^◌, ◌%◌, ◌<◌, ◌≤◌, ◌⊎◌, Bool, true, false, not, ◌||◌, ◌==◌, cond, bit_or, List, [], ◌∷◌, ◌++◌, length, get_or, map, ap, pos, negsuc, refl, sym, subst, inl, inr, arith}
-use Rattle.std.specs.List.{list_all}
+use Rattle.std.proofs.Common.{ℕ, ◌≡◌, ◌↔◌, ◌∙◌, ◌+◌, ◌-◌, ◌*◌, ◌^◌, ◌%◌, ◌<◌, ◌≤◌, ◌⊎◌, Bool, true, false, not, ◌||◌, ◌==◌, bit_or, List, [], ◌∷◌, ◌++◌, length, get_or, map, ap, pos, negsuc, refl, sym, subst, inl, inr, arith}
 use Rattle.std.proofs.lemmas.List.Folds.{list_all-map}
 use Rattle.std.proofs.lemmas.Bool.{cases_Bool, cases_lt, cond-true, cond-false, both_ways, eq-eqb, false_from_ne_true, not-true, not_from_false}
 use Rattle.std.specs.Prelude.{All, Contains, Option, Some, None, IfSome, IsSomeAnd, slice_get}
@@ -44,7 +43,7 @@ use Rattle.percent.specs.Marks.{ArePlaces, HasMarkAt, IsMarkOf, IsStanding, IsTr
 use Rattle.percent.specs.Spread.{IsSpread}
 use Rattle.percent.proofs.HandLemmas.{code-few}
 use Rattle.percent.proofs.FittingLemmas.{low-position}
-use Rattle.percent.proofs.SpreadLemmas.{IsRowOf, NearCell, near, row_of, spread-placed}
+use Rattle.percent.proofs.SpreadLemmas.{NearCell, near, row_of, spread-placed}
 use Rattle.percent.proofs.TiledLemmas.{good-tiled}
 use Rattle.number_sets.proofs.CallerLemmas.{has-at}
 

@@ -1,6 +1,6 @@
 -- Positions whose rows stand in rows of an earlier field: at the start, and after one more placement.
-use Rattle.std.proofs.Common.{◌≡◌, ℕ, zero, suc, ◌==◌, int_lt, nat_le, length, length-set, ◌+◌, ◌-◌, ◌<◌, ◌≤◌, Bool, true, false, not, ◌&&◌, ◌||◌, nat_lt, List, [], ◌∷◌, map, get_or, pos, negsuc, nat_abs, refl, sym, ap, ap₂, subst, ◌∙◌, inl, inr, arith}
-use Rattle.std.proofs.lemmas.Bool.{agree_below_at, and_from, and_parts, cases_eq, cases_lt, cases_order, eq-eqb, eqb-true, false_from_ne_true, false≢true, leb-true, lt-ltb, ltb-true, not-true, not_from_false, or_from}
+use Rattle.std.proofs.Common.{◌≡◌, ℕ, zero, suc, ◌==◌, int_lt, nat_le, length, length-set, ◌+◌, ◌-◌, ◌<◌, ◌≤◌, Bool, true, false, not, ◌&&◌, ◌||◌, nat_lt, List, [], ◌∷◌, get_or, pos, negsuc, nat_abs, refl, sym, ap, ap₂, subst, ◌∙◌, inl, inr, arith}
+use Rattle.std.proofs.lemmas.Bool.{agree_below_at, and_from, and_parts, cases_eq, cases_lt, cases_order, eq-eqb, eqb-true, false_from_ne_true, false≢true, leb-true, lt-ltb, ltb-true, not-true, or_from}
 use Rattle.std.proofs.Common.{set as list_set}
 use Rattle.std.proofs.lemmas.List.{get_or-set_other}
 use Rattle.std.proofs.lemmas.Grind.{get_or-set_at}
@@ -18,7 +18,7 @@ use Rattle.well.specs.Lock.{locked, rows_removed, together}
 use Rattle.well.specs.LockLaws.{LiesBelow, is_below}
 use Rattle.empty_cells.specs.Empties.{has_cell}
 use Rattle.empty_cells.specs.SentCells.{sent_cells, sent_up}
-use Rattle.empty_cells.proofs.CallerLemmas.{CellOf, cell_of, sent_from, sent_has}
+use Rattle.empty_cells.proofs.CallerLemmas.{cell_of, sent_from, sent_has}
 use Rattle.percent.proofs.TestLemmas.{or_cases, or_first, or_second}
 use Rattle.percent.specs.Spread.{ComesFrom, IsSpread, KeepsRows, is_row_of}
 

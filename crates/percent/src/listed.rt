@@ -9,7 +9,6 @@ use crate::position::{Child, Position};
 use crate::spread::rows_among;
 use empty_cells::Empties;
 use pc_outside::NoMemory;
-use srs::Piece;
 use std::alloc::Global;
 use tiled_pieces::Lister;
 

@@ -1,10 +1,8 @@
 -- Each answer is made of lists whose contracts say what they have.
-use Rattle.std.proofs.Common.{◌≡◌, ◌<◌, ℕ, ◌+◌, ◌-◌, ◌==◌, ◌&&◌, ◌||◌, All, Bool, not, List, length, get_or, true, false, refl, ap, subst, ◌∙◌, sym, arith}
+use Rattle.std.proofs.Common.{◌≡◌, ◌<◌, ℕ, ◌+◌, ◌-◌, ◌==◌, ◌&&◌, ◌||◌, All, Bool, not, List, length, get_or, true, refl, ap, subst, ◌∙◌, sym, arith}
 use Rattle.std.specs.Prelude.{vec_len, IsPermutation, Option, Some, IfSome}
 use Rattle.srs.specs.declared.piece.Piece.{Piece}
-use Rattle.srs.specs.declared.piece.Piece.TheVariants.{I}
 use Rattle.srs.specs.Piece.{all_pieces}
-use Rattle.lane_board.specs.Field.{Field}
 use Rattle.std.proofs.lemmas.Bool.Decides.{nat_tests}
 use Rattle.std.proofs.lemmas.List.{nil_from_length}
 use Rattle.std.proofs.lemmas.List.Sorted.{length_permutation}
@@ -12,7 +10,6 @@ use Rattle.well.specs.Well.{filled}
 use Rattle.number_sets.specs.Rising.{has}
 use Rattle.number_sets.proofs.CallerLemmas.{has-none}
 use Rattle.percent.specs.declared.position.Child.{Child}
-use Rattle.percent.specs.declared.position.Position.{Position}
 use Rattle.percent.specs.declared.game.Game.{Game}
 use Rattle.percent.specs.Children.{IsChild}
 use Rattle.percent.specs.Marks.{ArePlaces, IsStanding}

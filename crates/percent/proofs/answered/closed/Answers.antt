@@ -1,5 +1,5 @@
 -- The hands that are not open any more are good, and those that are open are not.
-use Rattle.std.proofs.Common.{◌+◌, ◌&&◌, ℕ, Bool, not, ap, sym, ◌∙◌}
+use Rattle.std.proofs.Common.{◌+◌, ℕ, Bool, ap, sym, ◌∙◌}
 use Rattle.well.specs.Well.{filled}
 use Rattle.number_sets.specs.Rising.{has}
 use Rattle.percent.specs.GoodHands.{is_good}

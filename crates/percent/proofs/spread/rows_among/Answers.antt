@@ -1,5 +1,5 @@
 -- A row is put behind the others, or isn't one of the set.
-use Rattle.std.proofs.Common.{◌≡◌, ◌<◌, ◌==◌, ℕ, true, false, List, [], ◌∷◌, length, length-set, get_or, refl, sym, ap, subst, ◌∙◌, inl, inr, arith}
+use Rattle.std.proofs.Common.{◌≡◌, ◌<◌, ◌==◌, ℕ, true, List, [], ◌∷◌, length, length-set, get_or, refl, sym, ◌∙◌, inl, inr, arith}
 use Rattle.std.proofs.Common.{set as list_set}
 use Rattle.std.proofs.lemmas.Bool.{agree_below_at, cases_eq, eqb-true}
 use Rattle.std.proofs.lemmas.List.{get_or-set_other}

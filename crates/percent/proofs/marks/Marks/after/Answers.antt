@@ -5,7 +5,7 @@ use Rattle.lane_board.specs.Field.{Field, difference}
 use Rattle.lane_board.specs.FullRows.{columns}
 use Rattle.lane_board.specs.Lanes.{has_bit}
 use Rattle.well.specs.Well.{filled}
-use Rattle.well.specs.Lock.{locked, rows_removed, together}
+use Rattle.well.specs.Lock.{rows_removed, together}
 use Rattle.empty_cells.specs.Empties.{empty_cells}
 use Rattle.empty_cells.specs.SentCells.{sent_cells}
 use Rattle.empty_cells.proofs.CallerLemmas.{cells_small}

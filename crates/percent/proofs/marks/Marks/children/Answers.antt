@@ -1,6 +1,5 @@
 -- The places come in order, and each that lies below the rows left is entered, or no rest is good after it.
 use Rattle.std.proofs.Common.{All, subst, sym, ◌∙◌}
-use Rattle.std.specs.Prelude.{IsTrue}
 use Rattle.std.proofs.lemmas.List.Elements.{All-nil, All-push}
 use Rattle.std.proofs.lemmas.List.Sorted.{All-permutation}
 use Rattle.well.specs.Well.{filled}

@@ -5,7 +5,6 @@ use Rattle.lane_board.specs.Field.{Field, difference}
 use Rattle.lane_board.specs.Lanes.{has_bit}
 use Rattle.lane_board.proofs.CallerLemmas.{has_bit-zero}
 use Rattle.prune.specs.Tiling.{Supply, Tiling}
-use Rattle.well.specs.Well.{filled}
 use Rattle.empty_cells.specs.Empties.{all_but, empty_cells}
 use Rattle.percent.proofs.MarkLemmas.{bad-placed, walled-bad}
 use Rattle.percent.proofs.marks.Marks.is_worth.Goals as goal

@@ -1,5 +1,5 @@
 -- The tilings that have the piece are those of what it leaves.
-use Rattle.std.proofs.Common.{◌<◌, length, refl, arith}
+use Rattle.std.proofs.Common.{refl, arith}
 use Rattle.std.proofs.lemmas.Option.{slice_get_read, slice_get_within}
 use Rattle.empty_cells.specs.Empties.{empty_cells}
 use Rattle.percent.proofs.MarkLemmas.{mark-listed}
