@@ -50,11 +50,8 @@ pub fn has_tiling(cells: &Empties, supply: &[u8; 7]) -> bool
     if cells.has_uneven_part() {
         return false;
     }
-    decide(
-        cells,
-        SupplyWord::new(supply),
-        &mut FactTable::without_room(),
-    )
+    let mut known = FactTable::without_room();
+    decide(cells, SupplyWord::new(supply), &mut known)
 }
 
 /// The same. It uses the answers in `known`, and adds its own.
