@@ -58,28 +58,28 @@ fn less(
     marks.asked(alloc, piece, left, rests)
 }
 
-/// The hands that are good at a position with one placement to come and then `left` more, given those that are still open
-/// after all kinds were tried. Both are kept.
+/// The hands that are good at a position with one placement to come and then `left` more, given those for which no
+/// way was found after all kinds were tried. Both are kept.
 fn closed(
     alloc: Global,
     kept: &mut Kept,
     position: &Position,
     left: u8,
     hands: &[u64],
-    open: &[u64],
+    missed: &[u64],
 ) -> Result<Vec<u64>, NoMemory>
     requires few { left ≤ 19 }
     requires rises { IsRising hands.now }
-    requires open_rises { IsRising open.now }
-    requires open { (hand : ℕ) → has open.now hand ≡ (has hands.now hand
+    requires missed_rises { IsRising missed.now }
+    requires missed { (hand : ℕ) → has missed.now hand ≡ (has hands.now hand
         && not (is_good kept.old.game (filled position.now.well) position.now.rows (left + 1) hand)) }
     ensures rises { IfOk result (λ v. IsRising v.items) }
     ensures members { IfOk result (λ v. (hand : ℕ) → has v.items hand
         ≡ (has hands.now hand && is_good kept.old.game (filled position.now.well) position.now.rows (left + 1) hand)) }
     ensures game { kept.new.game ≡ kept.old.game }
 {
-    let found = without(alloc, hands, open)?;
-    kept.keep(alloc, position, left + 1, found.as_slice(), open);
+    let found = without(alloc, hands, missed)?;
+    kept.keep(alloc, position, left + 1, found.as_slice(), missed);
     Ok(found)
 }
 

@@ -78,8 +78,8 @@ explored-loop-piece-preserved g t c =
     c.in_ok-good.ensures.game c.in_ok-good.ensures.counted
     c.in_ok-open-2.ensures.rises refl c.as_slice-in-loop-piece-2.ensures.value c.in_ok-open-2.ensures.members
 
-pub explored-closed-requires-clause-open : goal.explored-closed-requires-clause-open
-explored-closed-requires-clause-open g t c = λ hand.
+pub explored-closed-requires-clause-missed : goal.explored-closed-requires-clause-missed
+explored-closed-requires-clause-missed g t c = λ hand.
     let p = c.args.marks.now.position in
     let order = c.wanted_first-piece-items.result in
     ap (λ l. has l hand) c.as_slice-2.ensures.value
