@@ -9,39 +9,26 @@ fn field(text: &[u8]) -> Well {
     Well::from_rows(text).unwrap_or(Well::empty())
 }
 
-/// A placement with its pivot at this column and row.
-fn at(piece: Piece, rotation: Rotation, x: u8, y: u8) -> Placement {
-    Placement {
-        piece,
-        rotation,
-        x,
-        y,
-    }
-}
-
-/// How many tilings there are of the cells below a row, with at most so many pieces of each kind. At most `most` are
-/// listed.
-fn count(alloc: Global, well: &Well, rows: u8, supply: &[u8; 7], most: usize) -> Option<usize>
-    requires { rows ≤ 8 }
-{
-    let mut lister = Lister::new(alloc);
-    let list = lister.tilings(alloc, &Empties::below(well, rows), supply, most)?;
+/// How many tilings of the cells there are, with at most so many pieces of each kind. At most `most` are listed.
+fn count(alloc: Global, cells: &Empties, supply: &[u8; 7], most: usize) -> Option<usize> {
+    let list = Lister::new(alloc).tilings(alloc, cells, supply, most)?;
     Some(list.tilings.len())
 }
 
 #[test]
 fn tilings_of_small_boxes(rt: HostRuntime) {
     // Two rows of four: two I, two O, two L or two J.
-    let low = field(b"XXXXXX____/XXXXXX____");
-    assert!(rt; count(rt.alloc(), &low, 2, &[2; 7], 9) == Some(4));
-    assert!(rt; count(rt.alloc(), &low, 2, &[2; 7], 4) == Some(4));
-    assert!(rt; count(rt.alloc(), &low, 2, &[2; 7], 3) == None);
-    assert!(rt; count(rt.alloc(), &low, 2, &[2, 1, 1, 2, 2, 1, 2], 9) == Some(1));
-    assert!(rt; count(rt.alloc(), &low, 2, &[1; 7], 9) == Some(0));
+    let low = Empties::below(&field(b"XXXXXX____/XXXXXX____"), 2);
+    assert!(rt; count(rt.alloc(), &low, &[2; 7], 9) == Some(4));
+    assert!(rt; count(rt.alloc(), &low, &[2; 7], 4) == Some(4));
+    assert!(rt; count(rt.alloc(), &low, &[2; 7], 3) == None);
+    assert!(rt; count(rt.alloc(), &low, &[2, 1, 1, 2, 2, 1, 2], 9) == Some(1));
+    assert!(rt; count(rt.alloc(), &low, &[1; 7], 9) == Some(0));
     // Two columns of four rows, as pieces may have rows between theirs.
     let high = field(b"XXXXXXXX__/XXXXXXXX__/XXXXXXXX__/XXXXXXXX__");
-    assert!(rt; count(rt.alloc(), &high, 4, &[2, 0, 0, 0, 0, 0, 0], 9) == Some(1));
-    assert!(rt; count(rt.alloc(), &high, 4, &[0, 0, 2, 0, 0, 0, 0], 9) == Some(3));
+    let high = Empties::below(&high, 4);
+    assert!(rt; count(rt.alloc(), &high, &[2, 0, 0, 0, 0, 0, 0], 9) == Some(1));
+    assert!(rt; count(rt.alloc(), &high, &[0, 0, 2, 0, 0, 0, 0], 9) == Some(3));
 }
 
 #[test]
@@ -52,7 +39,13 @@ fn tilings_with_a_piece(rt: HostRuntime) {
     let list = lister.tilings(rt.alloc(), &cells, &[1, 0, 1, 0, 1, 0, 0], 9);
     let list = list.expect(&rt, "few tilings");
     assert!(rt; list.tilings.len() == 1);
-    let t = cells.without_cells(&cells.without(&at(Piece::T, Rotation::Right, 4, 1)));
+    let placement = Placement {
+        piece: Piece::T,
+        rotation: Rotation::Right,
+        x: 4,
+        y: 1,
+    };
+    let t = cells.without_cells(&cells.without(&placement));
     assert!(rt; list.has(Piece::T, &t));
     assert!(rt; !list.has(Piece::O, &t));
     let with = list.with(rt.alloc(), Piece::T, &t).expect(&rt, "memory");
