@@ -21,7 +21,7 @@ use std::alloc::Global;
 use well::Well;
 
 /// How many questions with their answers a search keeps.
-const DECIDED: usize = 8192;
+const DECIDED: usize = 16384;
 
 /// How many questions without a tiling a search keeps.
 const DEAD: usize = 65_536;

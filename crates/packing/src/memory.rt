@@ -16,7 +16,7 @@ use srs::{Piece, Placement};
 use std::alloc::Global;
 
 /// How many sets are remembered.
-const PLACES: usize = 1024;
+const PLACES: usize = 4096;
 
 /// Which placements of a piece leave a tiling of a set of cells by a supply, as far as that was asked. Those that leave
 /// none are asked for with each flood, so they stand beside the question.
@@ -102,7 +102,7 @@ impl Entry for Remembered {
 }
 
 /// The hash of a question about a piece. For the same cells and the same supply the seven kinds have different places:
-/// the first seven multiples of 583 differ in their lowest ten bits.
+/// the first seven multiples of 583 differ, and each is less than 4,096.
 #[inline(always)]
 fn hash_for(cells: &Empties, supply: SupplyWord, piece: Piece) -> u64 {
     hash_of(cells, supply) ^ 583 * u64::from(piece.code())
