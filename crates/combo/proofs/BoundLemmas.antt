@@ -1,30 +1,18 @@
 -- How long a run can be.
-use Rattle.std.proofs.Common.{◌≡◌, ℕ, ◌*◌, ◌/◌, ◌≤◌, ◌<◌, min, List, [], ◌∷◌, length, map, arith}
+use Rattle.std.proofs.Common.{◌≡◌, ℕ, ◌/◌, ◌≤◌, ◌<◌, min, List, length, map, arith}
 use Rattle.std.proofs.lemmas.List.{length-map}
 use Rattle.lane_board.specs.Field.{Field}
 use Rattle.lane_board.specs.CellCount.{cell_count}
 use Rattle.srs.specs.declared.piece.Piece.{Piece}
 use Rattle.srs.specs.declared.placement.Placement.{Placement}
 use Rattle.srs.specs.Kick.{Table}
-use Rattle.well.specs.Lock.{locked}
-use Rattle.well.proofs.CallerLemmas.{adds_four_cells}
 use Rattle.moves.specs.declared.key.DropMode.{DropMode}
 use Rattle.hold_queue.specs.declared.hold.Hold.{Hold}
-use Rattle.combo.specs.Runs.{Runs}
 use Rattle.combo.specs.First.{AreShorter, IsTakenRun}
-use Rattle.moves.proofs.CallerLemmas.{place-free}
 use Rattle.hold_queue.proofs.CallerLemmas.{takes-length}
+use Rattle.problem.proofs.CallerLemmas.{runs_take_cells}
 
--- each placement adds four cells and removes ten or more
-pub runs_take_cells : (table : Table) (mode : DropMode) (F : Field) (run : List Placement) → Runs table mode F run → 6 * length run ≤ cell_count F 23
-runs_take_cells table mode F [] runs = omega arith
-runs_take_cells table mode F (q ∷ run) runs =
-    let counted = adds_four_cells F q (place-free table F mode q runs.0) in
-    let rest = runs_take_cells table mode (locked F q) run runs.2 in
-    let removes = runs.1 in
-    omega (arith, counted, rest, removes)
-
--- and takes one of the pieces at hand
+-- a run takes the pieces at hand
 taken_length : (table : Table) (mode : DropMode) (F : Field) (hold : Hold) (hand : List Piece) (run : List Placement) → IsTakenRun table mode F hold hand run → length run ≤ length hand
 taken_length table mode F hold hand run member =
     omega (arith, length-map run (λ (placement : Placement). placement.piece), takes-length hold hand (map (λ (placement : Placement). placement.piece) run) member.taken)

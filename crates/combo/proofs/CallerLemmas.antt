@@ -1,4 +1,3 @@
 -- Lemmas that the crates above cite.
-pub use Rattle.combo.proofs.BoundLemmas.{runs_take_cells}
 pub use Rattle.combo.proofs.LongestLemmas.{one_longest}
 pub use Rattle.combo.proofs.LongestExists.{longest-exists}

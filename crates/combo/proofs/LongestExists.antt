@@ -29,7 +29,7 @@ use Rattle.hold_queue.specs.AtHand.{at_hand}
 use Rattle.hold_queue.specs.Permits.{permits}
 use Rattle.hold_queue.proofs.CallerLemmas.{Contains-piece, permits-decides, takes-length, takes-of_permits}
 use Rattle.combo.specs.Longest.{IsLongest, IsPermittedRun}
-use Rattle.combo.specs.Runs.{Runs}
+use Rattle.problem.specs.Runs.{Runs}
 
 -- ---- the best of a list
 

@@ -15,7 +15,7 @@ use Rattle.well.proofs.CallerLemmas.{filled-within}
 use Rattle.moves.specs.declared.key.DropMode.{DropMode}
 use Rattle.combo.specs.Middle.{has_empty, has_gaps, has_three, is_gap, is_middle}
 use Rattle.combo.specs.Room.{HasWalls, open_gaps}
-use Rattle.combo.specs.Runs.{Runs}
+use Rattle.problem.specs.Runs.{Runs}
 use Rattle.combo.proofs.RoomLemmas.{runs_have_room}
 
 -- no cell lies above the rows of a well

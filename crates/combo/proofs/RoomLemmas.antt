@@ -20,7 +20,7 @@ use Rattle.well.proofs.CallerLemmas.{adds_four_cells, free_inside}
 use Rattle.moves.specs.declared.key.DropMode.{DropMode}
 use Rattle.moves.proofs.CallerLemmas.{place-free}
 use Rattle.combo.specs.Room.{HasWalls, open_gaps}
-use Rattle.combo.specs.Runs.{Runs}
+use Rattle.problem.specs.Runs.{Runs}
 use Rattle.combo.proofs.RoomCells.{Has, Crossing, crosses_height, high_or_none, within_three, within_two}
 use Rattle.combo.proofs.RoomRows.{cell_count-more, cells_left, columns_le, columns_less, comes_from, comes_from_above, same_above, same_row}
 

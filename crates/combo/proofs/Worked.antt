@@ -28,7 +28,7 @@ use Rattle.hold_queue.specs.declared.hold.Hold.{Hold}
 use Rattle.hold_queue.specs.declared.hold.Hold.TheVariants.{Allowed, Avoided}
 use Rattle.hold_queue.specs.Permits.{Way, plain, exchange, first_hold, last}
 use Rattle.combo.specs.Longest.{IsLongest, IsPermittedRun}
-use Rattle.combo.specs.Runs.{Runs}
+use Rattle.problem.specs.Runs.{Runs}
 
 abbrev row : Field
 row x y = nat_lt x 6 && nat_lt y 1

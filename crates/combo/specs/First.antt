@@ -14,7 +14,7 @@ use Rattle.hold_queue.specs.declared.hand.Taken.{Taken}
 use Rattle.hold_queue.specs.declared.hold.Hold.{Hold}
 use Rattle.hold_queue.specs.AtHand.{Takes}
 use Rattle.hold_queue.specs.Hand.{pieces_at}
-use Rattle.combo.specs.Runs.{Runs}
+use Rattle.problem.specs.Runs.{Runs}
 
 -- one of them with so many placements, and none of them with as many comes before it
 pub record IsFirst (IsMember : List Placement → Type 0) (count : ℕ) (run : List Placement) : Type 0 where

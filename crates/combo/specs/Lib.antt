@@ -1,5 +1,4 @@
 -- What a reader must believe
-pub mod Runs
 pub mod Longest
 pub mod Room
 -- What serves proofs alone

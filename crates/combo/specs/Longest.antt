@@ -9,7 +9,7 @@ use Rattle.srs.specs.Order.{sequence_cmp}
 use Rattle.moves.specs.declared.key.DropMode.{DropMode}
 use Rattle.hold_queue.specs.declared.hold.Hold.{Hold}
 use Rattle.hold_queue.specs.Permits.{Permits}
-use Rattle.combo.specs.Runs.{Runs}
+use Rattle.problem.specs.Runs.{Runs}
 
 -- a run whose pieces the queue and the held piece permit
 pub record IsPermittedRun (table : Table) (mode : DropMode) (F : Field) (hold : Hold) (queue : List Piece)

@@ -7,7 +7,7 @@ ghost use Rattle.srs.specs.declared.placement.Placement.{Placement};
 ghost use Rattle.srs.specs.Kick.{Table};
 ghost use Rattle.moves.specs.declared.key.DropMode.{DropMode};
 ghost use Rattle.hold_queue.specs.declared.hold.Hold.{Hold};
-ghost use Rattle.combo.specs.Runs.{Runs};
+ghost use Rattle.problem.specs.Runs.{Runs};
 ghost use Rattle.combo.specs.Longest.{IsLongest};
 ghost use Rattle.combo.specs.Room.{HasWalls, open_gaps};
 ghost use Rattle.well.specs.Counts.{empties_below};
@@ -27,7 +27,7 @@ pub fn longest_runs_exist()
 {}
 
 /// Each placement of a run takes six cells of the field: it adds four, and a removed row has ten.
-#[tactic(auto, using(crate::proofs::BoundLemmas::runs_take_cells))]
+#[tactic(auto, using(problem::proofs::CallerLemmas::runs_take_cells))]
 pub fn runs_take_six_cells_each()
     ensures { (table : Table) (mode : DropMode) (F : Field) (run : List Placement) → Runs table mode F run
         → 6 * length run ≤ cell_count F 23 }

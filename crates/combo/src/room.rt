@@ -6,7 +6,7 @@ ghost use Rattle.well.specs.Well.{filled};
 ghost use Rattle.moves.specs.declared.key.DropMode.{DropMode};
 ghost use Rattle.combo.specs.Middle.{has_empty, has_gaps, has_three, is_gap};
 ghost use Rattle.combo.specs.Room.{HasWalls, open_gaps};
-ghost use Rattle.combo.specs.Runs.{Runs};
+ghost use Rattle.problem.specs.Runs.{Runs};
 
 use well::Well;
 

@@ -80,16 +80,16 @@ sent_has f (d ∷ cells) c has = elim (or_cases (cell_eq d c) _ has) [
   | inr later ↦ or_right (cell_eq (f d) (f c)) _ (sent_has f cells c later)
 ]
 
+pub not_without : (p q : Bool) → (not p || q) ≡ not (p && not q)
+not_without true true = refl
+not_without true false = refl
+not_without false q = refl
+
 -- what is left where the cells of spans are filled
 pub left_by : (E : Field) (cells : List Cell) (x : ℕ) (rows : ℕ → ℕ) (spans : List Span) → ((a b : ℕ) → is_among cells (pos a, pos b) ≡ in_stack x rows spans a b) →
     with_cells (all_but E) cells ≡ all_but (without_stack E x rows spans)
 unfolding with_cells all_but without_stack
-left_by E cells x rows spans same = fun_ext (λ a. fun_ext (λ b. ap (λ t. not (E a b) || t) (same a b) ∙ less (E a b) (in_stack x rows spans a b)))
-  where
-    less : (p q : Bool) → (not p || q) ≡ not (p && not q)
-    less true true = refl
-    less true false = refl
-    less false q = refl
+left_by E cells x rows spans same = fun_ext (λ a. fun_ext (λ b. ap (λ t. not (E a b) || t) (same a b) ∙ not_without (E a b) (in_stack x rows spans a b)))
 
 pub one_back : (supply : Supply) (piece : Piece) → 0 < supply piece → with_one (less_one supply piece) piece ≡ supply
 unfolding with_one less_one

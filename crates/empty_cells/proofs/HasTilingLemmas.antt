@@ -50,7 +50,7 @@ at_number : (test : ℕ → Bool) (n i : ℕ) → i < n → test i ≡ true → 
 at_number test n i below here =
     list_any_at test (range_with_len 0 n) i 0 (omega (arith, length-range_with_len 0 n)) (ap test {y = i} (get_or-range_with_len 0 n i 0 below ∙ omega arith) ∙ here)
 
-column_at : (x : ℕ) → x < 10 → get_or columns x 0 ≡ x
+pub column_at : (x : ℕ) → x < 10 → get_or columns x 0 ≡ x
 column_at x below = eqb-true _ _ (agree_below_at (λ k. get_or columns k 0 == k) (λ k. true) 10 x refl below)
 
 -- a set with no cell below the row that bounds it has none

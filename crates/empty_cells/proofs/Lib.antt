@@ -9,6 +9,7 @@ mod SupplyLemmas
 mod SupplyWordLemmas
 mod PivotLemmas
 mod StackLemmas
+mod RowLemmas
 mod ChosenLemmas
 mod FormLemmas
 mod FillLemmas

@@ -10,6 +10,7 @@ use Rattle.srs.specs.declared.piece.Piece.TheVariants.{I, L, O, Z, T, J, S}
 use Rattle.srs.specs.Piece.{piece_code}
 use Rattle.srs.proofs.CallerLemmas.{piece_code-injective}
 use Rattle.prune.specs.Tiling.{Supply, supply_in}
+use Rattle.prune.specs.Mirror.{mirrored_supply}
 use Rattle.prune.specs.OnePart.{less_one}
 use Rattle.empty_cells.specs.declared.supply.SupplyWord.{SupplyWord}
 use Rattle.empty_cells.specs.SupplyWords.{supply_of}
@@ -138,3 +139,15 @@ seven_bytes s = fun_ext each
     each T = refl
     each J = refl
     each S = refl
+
+-- the entries of the mirror image of a supply
+pub places_changed : (s : List ℕ) (piece : Piece) →
+    supply_in (get_or s 0 0 ∷ get_or s 5 0 ∷ get_or s 2 0 ∷ get_or s 6 0 ∷ get_or s 4 0 ∷ get_or s 1 0 ∷ get_or s 3 0 ∷ []) piece ≡ mirrored_supply (supply_in s) piece
+unfolding supply_in
+places_changed s I = refl
+places_changed s L = refl
+places_changed s O = refl
+places_changed s Z = refl
+places_changed s T = refl
+places_changed s J = refl
+places_changed s S = refl

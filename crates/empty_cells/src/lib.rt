@@ -3,7 +3,6 @@
 
 mod columns;
 mod empties;
-mod mirror;
 mod pivots;
 mod place;
 mod placed;
@@ -14,9 +13,8 @@ mod span;
 mod supply;
 
 pub use empties::Empties;
-pub use mirror::mirrored_supply;
 pub use pivots::Pivots;
-pub use place::{hash_of, place_of};
+pub use place::hash_of;
 pub use rows::{allowed, has_row, lowest_row, without_row};
 pub use shifted::Shifted;
 pub use span::Span;

@@ -1,5 +1,4 @@
-// Where a store keeps a question.
-ghost use Rattle.std.specs.Prelude.{◌<◌};
+// By which number a store keeps a question.
 
 use crate::empties::Empties;
 use crate::supply::SupplyWord;
@@ -10,12 +9,4 @@ pub fn hash_of(cells: &Empties, supply: SupplyWord) -> u64 {
     let mixed = (cells.mixed() ^ counts.rotate_left(29)).wrapping_mul(0x9e37_79b9_7f4a_7c15);
     let hash = (mixed ^ mixed >> 32 ^ counts).wrapping_mul(0xd6e8_feb8_6659_fd93);
     hash >> 32
-}
-
-/// The index of a question in a store of this size.
-pub fn place_of(cells: &Empties, supply: SupplyWord, count: usize) -> usize
-    requires { 0 < count }
-    ensures { result < count }
-{
-    hash_of(cells, supply) as usize & (count - 1)
 }

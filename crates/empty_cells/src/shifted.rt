@@ -17,7 +17,7 @@ pub struct Shifted {
 }
 
 impl Shifted {
-    ghost use Rattle.std.specs.Prelude.{◌<◌, IsTrue, MatchOption};
+    ghost use Rattle.std.specs.Prelude.{◌<◌, ◌↔◌, IsTrue, MatchOption};
     ghost use Rattle.lane_board.specs.Lanes.{has_bit};
     ghost use Rattle.prune.specs.Tiling.{Supply, Tiling};
     ghost use Rattle.empty_cells.specs.Empties.{all_but};
@@ -59,6 +59,15 @@ impl Shifted {
         ensures { empty_cells result ≡ shifted_cells self.now }
     {
         self.cells.to_column(self.x)
+    }
+
+    /// The set with its columns counted from that one, which has a tiling exactly if the same cells in their columns do.
+    #[inline(always)]
+    pub fn counted(&self) -> Empties
+        ensures { (supply : Supply) → Tiling (all_but (empty_cells result)) 8 supply
+            ↔ Tiling (all_but (shifted_cells self.now)) 8 supply }
+    {
+        self.cells
     }
 
     /// Whether the set has at most four cells.

@@ -13,8 +13,10 @@ pub struct SupplyWord {
 }
 
 impl SupplyWord {
-    ghost use Rattle.std.specs.Prelude.{◌↔◌, ◌≤◌, IsTrue, sum_by};
+    ghost use Rattle.std.specs.Prelude.{◌↔◌, ◌≤◌, IsTrue, min, sum_by};
+    ghost use Rattle.srs.specs.declared.piece.Piece.{Piece};
     ghost use Rattle.srs.specs.Piece.{all_pieces};
+    ghost use Rattle.prune.specs.Mirror.{mirrored_supply};
     ghost use Rattle.empty_cells.specs.SupplyWords.{supply_of};
 
     /// The supply whose entries stand in the order of piece codes.
@@ -78,6 +80,32 @@ impl SupplyWord {
         SupplyWord {
             counts: self.counts - (1 << (8 * (piece.code() - 1))),
         }
+    }
+
+    /// The supply with at most this many pieces of each kind.
+    #[inline(always)]
+    pub fn at_most(self, most: u8) -> SupplyWord
+        ensures { (piece : Piece) → supply_of result piece ≡ min most (supply_of self piece) }
+    {
+        let [i, l, o, z, t, j, s, _] = self.counts.to_le_bytes();
+        SupplyWord::new(&[
+            most.min(i),
+            most.min(l),
+            most.min(o),
+            most.min(z),
+            most.min(t),
+            most.min(j),
+            most.min(s),
+        ])
+    }
+
+    /// The supply with each kind replaced by its mirror image.
+    #[inline(always)]
+    pub fn mirrored(self) -> SupplyWord
+        ensures { supply_of result ≡ mirrored_supply (supply_of self) }
+    {
+        let [i, l, o, z, t, j, s, _] = self.counts.to_le_bytes();
+        SupplyWord::new(&[i, j, o, s, t, l, z])
     }
 
     /// Whether both are the same.

@@ -1,8 +1,8 @@
 -- Places that leave no tiling have nothing to do, so they may be left out.
-use Rattle.std.proofs.Common.{◌≡◌, ℕ, ◌+◌, ◌-◌, ◌*◌, ◌/◌, ◌≤◌, get_or, Bool, true, false, not, ◌&&◌, List, [], ◌∷◌, ◌++◌, refl, sym, ap, subst, ◌∙◌, inl, inr, arith}
+use Rattle.std.proofs.Common.{◌≡◌, ℕ, ◌+◌, ◌-◌, ◌≤◌, Bool, true, false, not, ◌&&◌, List, [], ◌∷◌, ◌++◌, refl, sym, ap, subst, ◌∙◌, inl, inr, arith}
 use Rattle.std.specs.Prelude.{Some, filter, if◌then◌else◌, min}
 use Rattle.std.specs.List.{flat_map}
-use Rattle.std.proofs.lemmas.Bool.{both_ways, cases_Bool}
+use Rattle.std.proofs.lemmas.Bool.{cases_Bool}
 use Rattle.srs.specs.declared.piece.Piece.{Piece}
 use Rattle.srs.specs.declared.placement.Placement.{Placement}
 use Rattle.srs.specs.Kick.{Table}
@@ -14,25 +14,27 @@ use Rattle.lists.proofs.CallerLemmas.{filter-false, filter-true}
 use Rattle.lane_board.specs.Words.{cells_of_words}
 use Rattle.well.specs.LockLaws.{is_below}
 use Rattle.well.specs.Well.{filled}
-use Rattle.well.specs.declared.well.Well.{Well}
 use Rattle.moves.specs.declared.key.DropMode.{DropMode}
 use Rattle.place_sets.specs.declared.low_held.LowPlaces.{LowPlaces}
 use Rattle.place_sets.specs.LowPlaces.{holds, piece_of}
+use Rattle.hold_queue.specs.QueueSet.{queues_in_play}
 use Rattle.prune.specs.OnePart.{less_one}
 use Rattle.empty_cells.specs.Empties.{all_but, empty_cells, without_placement}
 use Rattle.empty_cells.specs.HasTiling.{has_tiling}
 use Rattle.empty_cells.specs.SupplyWords.{supply_of}
 use Rattle.empty_cells.specs.declared.supply.SupplyWord.{SupplyWord}
-use Rattle.empty_cells.proofs.CallerLemmas.{no_pivot, tiling_decided}
+use Rattle.empty_cells.proofs.CallerLemmas.{tiling_decided}
 use Rattle.enumerate.specs.declared.frame.Frame.{Frame}
 use Rattle.enumerate.specs.Events.{Event, entered, enter}
 use Rattle.enumerate.specs.Frames.{position_of, places_left}
+use Rattle.enumerate.specs.LeavesLive.{LeavesLive}
 use Rattle.enumerate.specs.Standing.{may_lock}
-use Rattle.enumerate.specs.Turns.{AreDead, SamePosition}
+use Rattle.enumerate.specs.Position.{after_of, is_live}
+use Rattle.enumerate.specs.Turns.{AreDead, LeadsOn}
 use Rattle.enumerate.proofs.Choices.{if_false, if_true}
 use Rattle.enumerate.proofs.PlaceLaws.{lockable-free, lockable-piece}
 use Rattle.enumerate.proofs.TilingLaws.{left-tiled, live-after}
-use Rattle.enumerate.proofs.TurnLemmas.{enters-dead, same-position}
+use Rattle.enumerate.proofs.TurnLemmas.{enters-dead}
 
 module _ (f : Placement → List Event) (a b : Placement → Bool) (same : (q : Placement) → (if a q then f q else []) ≡ (if b q then f q else [])) where
   first : (c : Placement → Bool) (q : Placement) (qs : List Placement) → flat_map f (filter c (q ∷ qs)) ≡ (if c q then f q else []) ++ flat_map f (filter c qs)
@@ -51,35 +53,35 @@ without_dead true false above events none = refl
 without_dead true true true events none = sym (none refl refl)
 without_dead true true false events none = refl
 
--- what leaves no tiling has nothing to do
-pub dead_found : (frame : Frame) (piece : Piece) → 1 ≤ frame.left → (supply : SupplyWord) → ((other : Piece) → supply_of supply other ≡ min frame.left (less_one (supply_of frame.supply) piece other)) →
-    (words : List ℕ) → ((q : Placement) → q.piece ≡ piece → cells_of_words words (rotation_place q.rotation) q.x q.y ≡ true → has_tiling (all_but (without_placement (empty_cells frame.empties) q)) 8 (supply_of supply) ≡ false) →
-    AreDead frame piece words
-dead_found frame piece some supply moves words none = record {
-  dead = λ q of_kind lockable below is.
-      let free = lockable-free (filled frame.well) piece q lockable in
+module _ (frame : Frame) (piece : Piece) (some : 1 ≤ frame.left) (supply : SupplyWord)
+    (moves : (other : Piece) → supply_of supply other ≡ min frame.left (less_one (supply_of frame.supply) piece other)) where
+  -- the position after a placement is live where what it leaves has a tiling
+  after-tiled : (q : Placement) → q.piece ≡ piece → may_lock (filled frame.well) piece q ≡ true → is_below frame.rows q ≡ true → (table : Table) (mode : DropMode) →
+      is_live (frame.left - 1) (after_of (position_of table mode frame) q) ≡ has_tiling (all_but (without_placement (empty_cells frame.empties) q)) 8 (supply_of supply)
+  after-tiled q of_kind lockable below table mode =
       let E = without_placement (empty_cells frame.empties) q in
-      let less : frame.left - 1 + 1 ≡ frame.left = omega (arith, some) in
-      let told = left-tiled (filled frame.well) E frame.rows q (supply_of supply) (has_tiling (all_but E) 8 (supply_of supply)) frame.low frame.bounded free below
-      (ap (λ E. without_placement E q) frame.emptied) (tiling_decided (all_but E) 8 (supply_of supply)) in
-      enters-dead frame q below (frame.left - 1) less (λ table mode.
-      live-after table mode frame q (supply_of supply) (λ other. moves other ∙ ap (λ (p : Piece). min frame.left (less_one (supply_of frame.supply) p other)) (sym of_kind)) (frame.left - 1) less
-      ∙ sym told ∙ none q of_kind is);
-}
+      live-after table mode frame q (supply_of supply) (λ other. moves other ∙ ap (λ (p : Piece). min frame.left (less_one (supply_of frame.supply) p other)) (sym of_kind)) (frame.left - 1) (omega (arith, some))
+      ∙ sym (left-tiled (filled frame.well) E frame.rows q (supply_of supply) (has_tiling (all_but E) 8 (supply_of supply)) frame.low frame.bounded (lockable-free (filled frame.well) piece q lockable) below
+      (ap (λ E. without_placement E q) frame.emptied) (tiling_decided (all_but E) 8 (supply_of supply)))
 
--- no pivots, no placements
-pub dead_none : (frame : Frame) (piece : Piece) (words : List ℕ) → ((k : ℕ) → get_or words k 0 ≡ 0) → AreDead frame piece words
-dead_none frame piece words none = record { dead = λ q _ _ _ is. absurd (both_ways _ (no_pivot words q.rotation q.x q.y (none (2 * rotation_place q.rotation + q.y / 4))) is) }
+  -- what leaves no tiling has nothing to do
+  pub dead_found : (words : List ℕ) → ((q : Placement) → q.piece ≡ piece → cells_of_words words (rotation_place q.rotation) q.x q.y ≡ true → has_tiling (all_but (without_placement (empty_cells frame.empties) q)) 8 (supply_of supply) ≡ false) →
+      AreDead frame piece words
+  dead_found words none = record {
+    dead = λ q of_kind lockable below is.
+        enters-dead frame q below (frame.left - 1) (omega (arith, some)) (λ table mode. after-tiled q of_kind lockable below table mode ∙ none q of_kind is);
+  }
 
--- the same at another frame of the position
-pub dead_stays : (old new : Frame) → SamePosition old new → (piece : Piece) (words : List ℕ) → AreDead old piece words → AreDead new piece words
-dead_stays old new same piece words are = record {
-  dead = λ q of_kind lockable below is.
-      let before = are.dead q of_kind (subst (λ (w : Well). may_lock (filled w) piece q ≡ true) same.well lockable) (subst (λ rows. is_below rows q ≡ true) same.rows below) is in
-      record {
-        same = λ table mode prefix. (λ i. entered (enter (same.left i)) prefix (same-position table mode old new same i) q) ∙ before.same table mode prefix;
-      };
-}
+  -- and what leaves one leads on
+  pub live_found : (q : Placement) → q.piece ≡ piece → may_lock (filled frame.well) piece q ≡ true → is_below frame.rows q ≡ true →
+      has_tiling (all_but (without_placement (empty_cells frame.empties) q)) 8 (supply_of supply) ≡ true → LeadsOn frame q
+  live_found q of_kind lockable below tiled table mode left less =
+      subst (λ left. is_live left (after_of (position_of table mode frame) q) ≡ true) (omega (arith, less)) (after-tiled q of_kind lockable below table mode ∙ tiled)
+
+-- what leads on leaves a live position
+pub leads-live : (frame : Frame) (q : Placement) → LeadsOn frame q → LeavesLive (filled frame.well) frame.rows (queues_in_play frame.line.queues) frame.left q
+unfolding position_of
+leads-live frame q leads = leads
 
 module _ (frame : Frame) (places : LowPlaces) (is : frame.places ≡ Some places) (words : List ℕ) (are : AreDead frame (piece_of places) words) where
   abbrev is_dead : Placement → Bool

@@ -7,8 +7,8 @@ pub mod ViewOf
 -- What serves proofs alone
 pub mod Settled
 pub mod Events
-pub mod SupplyAfter
 pub mod Standing
+pub mod LeavesLive
 pub mod Frames
 pub mod Turns
 pub mod Walks

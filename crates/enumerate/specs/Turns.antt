@@ -1,11 +1,13 @@
 -- What a turn at a frame does to the events that are still to come.
-use Rattle.std.specs.Prelude.{◌≡◌, ℕ, ◌+◌, true, Option, Some, None, List, [], ◌∷◌, ◌++◌}
+use Rattle.std.specs.Prelude.{◌≡◌, ℕ, ◌+◌, true, false, Option, Some, None, List, [], ◌∷◌, ◌++◌}
 use Rattle.srs.specs.declared.piece.Piece.{Piece}
 use Rattle.srs.specs.declared.placement.Placement.{Placement}
 use Rattle.srs.specs.Kick.{Table}
 use Rattle.srs.specs.Rotation.{rotation_place}
 use Rattle.lane_board.specs.Words.{cells_of_words}
 use Rattle.moves.specs.declared.key.DropMode.{DropMode}
+use Rattle.place_sets.specs.declared.low_held.LowPlaces.{LowPlaces}
+use Rattle.place_sets.specs.LowPlaces.{holds}
 use Rattle.enumerate.specs.declared.frame.Frame.{Frame}
 use Rattle.enumerate.specs.declared.turn.Turn.{Turn}
 use Rattle.enumerate.specs.declared.turn.Turn.TheVariants.{Passed, Flooded, Entered, Full, Over}
@@ -40,6 +42,16 @@ pub record AreDead (frame : Frame) (piece : Piece) (pivots : List ℕ) : Type 0 
   pub dead : (q : Placement) → q.piece ≡ piece → may_lock (filled frame.well) piece q ≡ true → is_below frame.rows q ≡ true →
       cells_of_words pivots (rotation_place q.rotation) q.x q.y ≡ true → EntersAs frame q (λ table mode prefix. [])
 
+-- where one more placement is to come, the position after this one is live
+abbrev pub LeadsOn : Frame → Placement → Type 0
+LeadsOn frame q = (table : Table) (mode : DropMode) (left : ℕ) → left + 1 ≡ frame.left →
+    is_live left (after_of (position_of table mode frame) q) ≡ true
+
+-- after places of which none has these pivots the position is live
+abbrev pub AreLiveBut : Frame → LowPlaces → List ℕ → Type 0
+AreLiveBut frame places pivots = (q : Placement) → holds places q ≡ true →
+    cells_of_words pivots (rotation_place q.rotation) q.x q.y ≡ false → LeadsOn frame q
+
 -- the frame after a placement, at which nothing was tried
 pub record IsChild (frame : Frame) (q : Placement) (child : Frame) : Type 0 where
   pub left : child.left + 1 ≡ frame.left
@@ -58,11 +70,6 @@ Enters frame q child Entered =
     EntersAs frame q (λ table mode prefix. Tick ∷ events_of table mode prefix child) × IsChild frame q child
 Enters frame q child Full = EntersAs frame q (λ table mode prefix. Found prefix ∷ [])
 Enters frame q child Over = ⊥
-
--- where one more placement is to come, the position after this one is live
-abbrev pub LeadsOn : Frame → Placement → Type 0
-LeadsOn frame q = (table : Table) (mode : DropMode) (left : ℕ) → left + 1 ≡ frame.left →
-    is_live left (after_of (position_of table mode frame) q) ≡ true
 
 -- what there was to do at a frame is what there is at this placement, where there is one, and then what is left
 abbrev pub GoesOn : Frame → Frame → Option Placement → Type 0

@@ -9,35 +9,35 @@ ghost use Rattle.enumerate.specs.Turns.{SamePlaces, SamePosition};
 
 use crate::frame::Frame;
 use crate::line::Line;
-use crate::supply::supply_after;
 use empty_cells::SupplyWord;
 use srs::Piece;
 
 impl Frame {
-    /// How many pieces of each kind may still be played after a piece of this kind.
+    /// How many pieces of each kind may still be played after a piece of this kind: one fewer of it, and of each kind at
+    /// most as many as placements come then.
+    #[inline(always)]
     pub fn supply_after(&self, piece: Piece) -> SupplyWord
         ensures { (other : Piece)
             → supply_of result other ≡ min self.now.left (less_one (supply_of self.now.supply) piece other) }
     {
-        if let Some(kind) = self.after_kind {
-            if kind.code() == piece.code() {
-                return self.after_supply;
-            }
+        if self.left < self.supply.count_of(piece) {
+            return self.limited;
         }
-        supply_after(self.supply, piece, self.left)
+        self.limited.without_one(piece)
     }
 
-    /// The line after a piece of this kind.
-    pub fn line_after(&self, piece: Piece) -> Line
+    /// Makes a line the one after a piece of this kind.
+    pub fn lead_line(&self, piece: Piece, line: &mut Line)
         requires { IsTrue (may_play (queues_in_play self.now.line.queues) piece) }
-        ensures { queues_in_play result.queues ≡ line_after (queues_in_play self.now.line.queues) piece }
+        ensures { queues_in_play line.new.queues ≡ line_after (queues_in_play self.now.line.queues) piece }
     {
         if let Some(kind) = self.next_kind {
             if kind.code() == piece.code() {
-                return self.next_line;
+                *line = self.next_line;
+                return;
             }
         }
-        self.line.after(piece)
+        line.follow(&self.line, piece);
     }
 
     /// Whether the line after a piece of this kind is kept.
@@ -46,18 +46,6 @@ impl Frame {
             None => false,
             Some(kind) => kind.code() == piece.code(),
         }
-    }
-
-    /// Keeps the supply after a piece of this kind, for all its places.
-    pub fn keep_supply(&mut self, piece: Piece)
-        ensures same { SamePosition self.old self.new }
-        ensures places { SamePlaces self.old self.new }
-    {
-        if self.left == 0 {
-            return;
-        }
-        self.after_supply = supply_after(self.supply, piece, self.left);
-        self.after_kind = Some(piece);
     }
 
     /// Keeps the line after a piece of this kind, if a placement is to come after it.
@@ -69,7 +57,7 @@ impl Frame {
         if self.left == 0 || self.keeps_line(piece) {
             return;
         }
-        self.next_line = self.line.after(piece);
+        self.next_line.follow(&self.line, piece);
         self.next_kind = Some(piece);
     }
 }

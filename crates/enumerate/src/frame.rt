@@ -1,7 +1,8 @@
 // One level of the search: a position, and which of its next placements are still to be searched.
-ghost use Rattle.std.specs.Prelude.{◌≡◌, ℕ, ◌+◌, ◌≤◌, IsTrue};
+ghost use Rattle.std.specs.Prelude.{◌≡◌, ℕ, ◌+◌, ◌≤◌, IsTrue, min};
 ghost use Rattle.std.specs.Option.{ForSome};
 ghost use Rattle.lane_board.specs.Field.{difference, rows_below};
+ghost use Rattle.srs.specs.declared.piece.Piece.{Piece};
 ghost use Rattle.srs.specs.declared.placement.Placement.{Placement};
 ghost use Rattle.well.specs.Well.{filled};
 ghost use Rattle.well.specs.LockLaws.{LiesBelow, is_below};
@@ -11,8 +12,8 @@ ghost use Rattle.hold_queue.specs.Supply.{supply_of};
 ghost use Rattle.empty_cells.specs.Empties.{empty_cells};
 ghost use Rattle.empty_cells.specs.SupplyWords;
 ghost use Rattle.enumerate.specs.Position.{line_after, may_play};
+ghost use Rattle.enumerate.specs.LeavesLive.{LeavesLive};
 ghost use Rattle.enumerate.specs.Standing.{may_lock};
-ghost use Rattle.enumerate.specs.SupplyAfter.{IsSupplyAfter};
 
 use crate::line::Line;
 use empty_cells::{Empties, SupplyWord};
@@ -33,27 +34,31 @@ pub struct Frame {
     pub supply: SupplyWord,
     /// How many placements come after the next one.
     pub left: u8,
-    /// The kind after which `after_supply` is the supply, if some kind was tried.
-    pub after_kind: Option<Piece>,
-    pub after_supply: SupplyWord,
+    /// The supply with at most `left` pieces of each kind.
+    pub limited: SupplyWord,
     /// The kind after which `next_line` is the line, if a place of some kind was entered.
     pub next_kind: Option<Piece>,
     pub next_line: Line,
     /// How many kinds were tried.
     pub tried: u8,
     pub places: Option<LowPlaces>,
+    /// Whether each of the places is known to leave a tiling.
+    pub are_live: bool,
     pub entered: Option<Placement>,
     ghost low: { rows ≤ 8 },
     ghost few: { left ≤ 19 },
     ghost bounded: { LiesBelow (filled well) rows },
     ghost emptied: { empty_cells empties ≡ difference (rows_below rows) (filled well) },
     ghost supplied: { SupplyWords.supply_of supply ≡ supply_of (queues_in_play line.queues) (left + 1) },
-    ghost followed: { ForSome after_kind (λ kind. IsSupplyAfter supply left kind after_supply) },
+    ghost limits: { (piece : Piece) → SupplyWords.supply_of limited piece
+        ≡ min left (SupplyWords.supply_of supply piece) },
     ghost lined: { ForSome next_kind (λ kind. queues_in_play next_line.queues
         ≡ line_after (queues_in_play line.queues) kind) },
     ghost lockable: { ForSome places (λ p. (q : Placement) → IsTrue (holds p q) →
         IsTrue (may_lock (filled well) (piece_of p) q)) },
     ghost held_below: { ForSome places (λ p. (q : Placement) → IsTrue (holds p q) → IsTrue (is_below rows q)) },
     ghost permitted: { ForSome places (λ p. IsTrue (may_play (queues_in_play line.queues) (piece_of p))) },
+    ghost live: { IsTrue are_live → ForSome places (λ p. (q : Placement) → IsTrue (holds p q) →
+        LeavesLive (filled well) rows (queues_in_play line.queues) left q) },
     ghost same_piece: { ForSome places (λ p. ForSome entered (λ q. q.piece ≡ piece_of p)) },
 }

@@ -11,7 +11,6 @@ mod notes;
 mod search;
 mod seek;
 mod start;
-mod supply;
 #[cfg(test)]
 mod tests;
 mod tilings;

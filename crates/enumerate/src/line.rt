@@ -34,11 +34,12 @@ impl Line {
         self.may_come[piece.code() as usize - 1]
     }
 
-    /// The line after one more piece.
-    pub fn after(&self, piece: Piece) -> Line
-        requires { IsTrue (may_play (queues_in_play self.now.queues) piece) }
-        ensures { queues_in_play result.queues ≡ line_after (queues_in_play self.now.queues) piece }
+    /// Makes this the line after one more piece than another line.
+    pub fn follow(&mut self, before: &Line, piece: Piece)
+        requires { IsTrue (may_play (queues_in_play before.now.queues) piece) }
+        ensures { queues_in_play self.new.queues ≡ line_after (queues_in_play before.now.queues) piece }
     {
-        Line::of(self.queues.after(piece))
+        self.queues = before.queues.after(piece);
+        self.may_come = self.queues.permitted();
     }
 }

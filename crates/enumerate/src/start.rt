@@ -84,12 +84,12 @@ fn first_frame(problem: &Problem, queue: &Option<Queue>) -> Frame
         line,
         supply,
         left,
-        after_kind: None,
-        after_supply: supply,
+        limited: supply.at_most(left),
         next_kind: None,
         next_line: line,
         tried: 0,
         places: None,
+        are_live: false,
         entered: None,
     }
 }

@@ -1,21 +1,25 @@
 // What a search knows of tilings.
-ghost use Rattle.std.specs.Prelude.{◌≡◌, ◌≤◌, ◌↔◌, [], true, false, IfOk, IsTrue};
+ghost use Rattle.std.specs.Prelude.{◌≡◌, ◌≤◌, ◌||◌, Contains, [], true, false, IfOk, IsTrue};
 ghost use Rattle.lane_board.specs.Words.{cells_of_words};
 ghost use Rattle.srs.specs.declared.placement.Placement.{Placement};
+ghost use Rattle.srs.specs.Placements.{placements_of};
 ghost use Rattle.srs.specs.Rotation.{rotation_place};
 ghost use Rattle.well.specs.Well.{filled};
+ghost use Rattle.place_sets.specs.LowPlaces.{holds, piece_of};
 ghost use Rattle.prune.specs.Tiling.{supply_in, Tiling};
 ghost use Rattle.empty_cells.specs.Empties.{all_but, empty_cells, without_placement};
 ghost use Rattle.empty_cells.specs.HasTiling.{has_tiling};
+ghost use Rattle.empty_cells.specs.Pivots.{has_pivot};
 ghost use Rattle.empty_cells.specs.SupplyWords.{supply_of};
 ghost use Rattle.dead_memo.specs.Memo.{kept};
 ghost use Rattle.enumerate.specs.Settled.{IsSettled};
 
 use dead_memo::DeadMemo;
 use empty_cells::{Empties, SupplyWord};
-use packing::{PlaceMemory, TilingStore};
+use packing::{PlaceAnswers, PlaceMemory, TilingStore};
 use pc_outside::NoMemory;
 use prune::cheap_no;
+use reach::LowPlaces;
 use srs::{Piece, Placement};
 use std::alloc::Global;
 use well::Well;
@@ -91,7 +95,8 @@ impl Tilings {
         }
     }
 
-    /// Whether a set of cells without those of a placement has a tiling by the supply.
+    /// Whether a set of cells without those of a placement has a tiling by the supply. The search begins at the side
+    /// nearer to the placement.
     pub fn leaves_tiling(
         &mut self,
         cells: &Empties,
@@ -100,21 +105,92 @@ impl Tilings {
     ) -> bool
         requires column { placement.now.x ≤ 9 }
         requires row { placement.now.y ≤ 31 }
-        ensures { IsTrue result ↔ Tiling (all_but (without_placement (empty_cells cells.now) placement.now)) 8
+        ensures { result ≡ has_tiling (all_but (without_placement (empty_cells cells.now) placement.now)) 8
             (supply_of supply) }
     {
-        self.left
-            .leaves_tiling(cells, placement, supply, &mut self.decided)
+        self.decided
+            .has_tiling_by(&cells.without(placement), placement.x, supply)
     }
 
-    /// The placements of a piece that are known to leave no tiling of a set of cells by the supply, by their pivots in
-    /// rows 0 to 7: two words for each rotation, four rows in each word, and sixteen bits for each row.
+    /// Adds the answers for some places of a piece, of which nothing is known yet.
+    fn answer(&mut self, answers: &mut PlaceAnswers, places: LowPlaces)
+        requires listed { (q : Placement) → IsTrue (holds places q) → Contains (placements_of (piece_of places)) q }
+        requires inside { (q : Placement) → IsTrue (holds places q)
+            → (q.piece ≡ answers.old.piece) × (q.x ≤ 9) × (q.y ≤ 7) }
+        ensures cells { answers.new.cells ≡ answers.old.cells }
+        ensures supply { answers.new.supply ≡ answers.old.supply }
+        ensures piece { answers.new.piece ≡ answers.old.piece }
+        ensures answered { (q : Placement) → IsTrue (holds places q)
+            → IsTrue (has_pivot answers.new.dead q || has_pivot answers.new.live q) }
+        ensures kept { (q : Placement) → IsTrue (has_pivot answers.old.dead q || has_pivot answers.old.live q)
+            → IsTrue (has_pivot answers.new.dead q || has_pivot answers.new.live q) }
+    {
+        let mut open = places;
+        while let Some(placement) = open.take_least() {
+            let answer = self.leaves_tiling(&answers.cells, &placement, answers.supply);
+            answers.add(&placement, answer);
+        }
+    }
+
+    /// Adds the answers for some places of a piece, keeps them all, and returns the pivots of placements that leave no
+    /// tiling.
+    fn completed(&mut self, answers: &mut PlaceAnswers, places: LowPlaces) -> [u64; 8]
+        requires listed { (q : Placement) → IsTrue (holds places q) → Contains (placements_of (piece_of places)) q }
+        requires inside { (q : Placement) → IsTrue (holds places q)
+            → (q.piece ≡ answers.old.piece) × (q.x ≤ 9) × (q.y ≤ 7) }
+        ensures dead { (q : Placement) → q.piece ≡ answers.old.piece
+            → cells_of_words result (rotation_place q.rotation) q.x q.y ≡ true
+            → has_tiling (all_but (without_placement (empty_cells answers.old.cells) q)) 8 (supply_of answers.old.supply)
+            ≡ false }
+        ensures live { (q : Placement) → IsTrue (holds places q)
+            → cells_of_words result (rotation_place q.rotation) q.x q.y ≡ false
+            → has_tiling (all_but (without_placement (empty_cells answers.old.cells) q)) 8 (supply_of answers.old.supply)
+            ≡ true }
+        ensures kept { (q : Placement) → q.piece ≡ answers.old.piece
+            → IsTrue (has_pivot answers.old.dead q || has_pivot answers.old.live q)
+            → cells_of_words result (rotation_place q.rotation) q.x q.y ≡ false
+            → has_tiling (all_but (without_placement (empty_cells answers.old.cells) q)) 8 (supply_of answers.old.supply)
+            ≡ true }
+    {
+        self.answer(answers, places);
+        self.left.keep(answers);
+        answers.dead.words()
+    }
+
+    /// The pivots in rows 0 to 7 of placements of a piece that leave no tiling of a set of cells by the supply: two words
+    /// for each rotation, four rows in each word, and sixteen bits for each row. Among them is each of the places that
+    /// leaves none.
     #[inline(always)]
-    pub fn dead_pivots(&self, cells: &Empties, supply: SupplyWord, piece: Piece) -> [u64; 8]
-        ensures { (q : Placement) → q.piece ≡ piece
+    pub fn dead_pivots(
+        &mut self,
+        cells: &Empties,
+        supply: SupplyWord,
+        piece: Piece,
+        places: &LowPlaces,
+    ) -> [u64; 8]
+        requires listed { (q : Placement) → IsTrue (holds places.now q)
+            → Contains (placements_of (piece_of places.now)) q }
+        requires inside { (q : Placement) → IsTrue (holds places.now q)
+            → (q.piece ≡ piece) × (q.x ≤ 9) × (q.y ≤ 7) }
+        ensures dead { (q : Placement) → q.piece ≡ piece
             → cells_of_words result (rotation_place q.rotation) q.x q.y ≡ true
             → has_tiling (all_but (without_placement (empty_cells cells.now) q)) 8 (supply_of supply) ≡ false }
+        ensures live { (q : Placement) → IsTrue (holds places.now q)
+            → cells_of_words result (rotation_place q.rotation) q.x q.y ≡ false
+            → has_tiling (all_but (without_placement (empty_cells cells.now) q)) 8 (supply_of supply) ≡ true }
     {
-        self.left.dead_pivots(cells, supply, piece)
+        let Some(known) = self.left.known(cells, supply, piece) else {
+            let mut none = PlaceAnswers::none(cells, supply, piece);
+            return self.completed(&mut none, *places);
+        };
+        let mut open = *places;
+        open.leave_out(&known.dead.words());
+        open.leave_out(&known.live.words());
+        let mut rest = open;
+        if let None = rest.take_least() {
+            return known.dead.words();
+        }
+        let mut answers = *known;
+        self.completed(&mut answers, open)
     }
 }

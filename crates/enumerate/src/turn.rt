@@ -1,5 +1,5 @@
 // One turn of the search at a frame.
-ghost use Rattle.std.specs.Prelude.{◌≡◌, ℕ, ◌+◌, ◌-◌, ◌≤◌, IsTrue, true, false, MatchOption, Some, None, List, [], ◌∷◌, drop, filter, length, min, slice_index_or};
+ghost use Rattle.std.specs.Prelude.{◌≡◌, ℕ, ◌+◌, ◌-◌, ◌≤◌, IsTrue, true, false, IfSome, MatchOption, Some, None, List, [], ◌∷◌, drop, filter, length, min, slice_index_or};
 ghost use Rattle.std.specs.Option.{ForSome};
 ghost use Rattle.srs.specs.declared.piece.Piece.{Piece};
 ghost use Rattle.srs.specs.declared.placement.Placement.{Placement};
@@ -21,7 +21,7 @@ ghost use Rattle.enumerate.specs.Position.{may_play, is_live, places_at};
 ghost use Rattle.enumerate.specs.Standing.{may_lock};
 ghost use Rattle.enumerate.specs.Counted.{CountsUp};
 ghost use Rattle.enumerate.specs.Frames.{events_of, position_of, places_left};
-ghost use Rattle.enumerate.specs.Turns.{AreDead, Enters, EntersAs, GoesOn, LeadsOn, Turns, SamePosition};
+ghost use Rattle.enumerate.specs.Turns.{AreDead, AreLiveBut, Enters, EntersAs, GoesOn, LeadsOn, Turns, SamePosition};
 ghost use Rattle.enumerate.specs.declared.frame.Frame.{Frame};
 
 use crate::frame::Frame;
@@ -58,9 +58,8 @@ fn kind_at(index: u8) -> Option<Piece>
     ensures { MatchOption result (drop index all_pieces ≡ []) (λ piece. drop index all_pieces
         ≡ piece ∷ drop (index + 1) all_pieces) }
 {
-    let index = usize::from(index);
-    if index < Piece::ALL.len() {
-        Some(Piece::ALL[index])
+    if index < 7 {
+        Piece::from_code(index + 1)
     } else {
         None
     }
@@ -95,6 +94,7 @@ impl Frame {
     }
 
     /// Removes the next placement to be entered and returns it.
+    #[inline(always)]
     pub fn take_upcoming(&mut self) -> Option<Placement>
         ensures next { MatchOption result
             ((places_left self.old.places self.old.entered ≡ []) × (places_left self.new.places self.new.entered ≡ []))
@@ -102,10 +102,12 @@ impl Frame {
             × ForSome self.new.places (λ p. q.piece ≡ piece_of p)
             × IsTrue (may_lock (filled self.old.well) q.piece q)
             × IsTrue (is_below self.old.rows q)
-            × IsTrue (may_play (queues_in_play self.old.line.queues) q.piece)) }
+            × IsTrue (may_play (queues_in_play self.old.line.queues) q.piece)
+            × (IsTrue self.old.are_live → LeadsOn self.old q)) }
         ensures same { SamePosition self.old self.new }
         ensures tried { self.new.tried ≡ self.old.tried }
         ensures entered { self.new.entered ≡ self.old.entered }
+        ensures live { self.new.are_live ≡ self.old.are_live }
     {
         let last = self.entered;
         match &mut self.places {
@@ -157,6 +159,18 @@ impl Frame {
         self.leaves_tiling(placement, supply, tilings)
     }
 
+    /// The same, without a question where each of the places is known to leave a tiling.
+    #[inline(always)]
+    fn leads_on(&self, placement: &Placement, tilings: &mut Tilings) -> bool
+        requires lockable { IsTrue (may_lock (filled self.now.well) placement.now.piece placement.now) }
+        requires below { IsTrue (is_below self.now.rows placement.now) }
+        requires known { IsTrue self.now.are_live → LeadsOn self.now placement.now }
+        ensures dead { result ≡ false → EntersAs self.now placement.now (λ table mode prefix. []) }
+        ensures live { result ≡ true → LeadsOn self.now placement.now }
+    {
+        self.are_live || self.is_worth(placement, tilings)
+    }
+
     /// Makes `child` the frame after a placement that leaves a tiling.
     fn lead_to(&self, placement: &Placement, child: &mut Frame)
         requires lockable { IsTrue (may_lock (filled self.now.well) placement.now.piece placement.now) }
@@ -172,13 +186,14 @@ impl Frame {
         child.well = well;
         child.rows = rows;
         child.empties = self.empties_after(placement, &well, rows, removed);
-        child.line = self.line_after(placement.piece);
+        self.lead_line(placement.piece, &mut child.line);
         child.supply = supply;
-        child.after_kind = None;
+        child.limited = supply.at_most(self.left - 1);
         child.next_kind = None;
         child.left = self.left - 1;
         child.tried = 0;
         child.places = None;
+        child.are_live = false;
         child.entered = None;
     }
 
@@ -213,7 +228,7 @@ impl Frame {
     {
         while let Some(placement) = self.take_upcoming() {
             self.entered = Some(placement);
-            if self.is_worth(&placement, tilings) {
+            if self.leads_on(&placement, tilings) {
                 return Some(placement);
             }
         }
@@ -242,25 +257,34 @@ impl Frame {
     {
         *floods = floods.saturating_add(1);
         self.entered = None;
+        self.are_live = false;
         self.places = Some(rules.places_below(&self.well, piece, drop_mode, self.rows, steps));
     }
 
-    /// The pivots of placements of a piece that are known to leave no tiling, at which there is nothing to do: two words
-    /// for each rotation, four rows in each word, and sixteen bits for each row.
+    /// The pivots of placements of a piece that leave no tiling, at which there is nothing to do: two words for each
+    /// rotation, four rows in each word, and sixteen bits for each row. The other places leave one. `None` if no places
+    /// are asked about at once: where none or many placements are to come.
     #[inline(always)]
-    fn dead_pivots(&self, piece: Piece, tilings: &Tilings) -> [u64; 8]
-        ensures { AreDead self.now piece result }
+    fn dead_pivots(&self, piece: Piece, tilings: &mut Tilings) -> Option<[u64; 8]>
+        requires { ForSome self.now.places (λ p. piece_of p ≡ piece) }
+        ensures dead { IfSome result (λ dead. AreDead self.now piece dead) }
+        ensures live { IfSome result (λ dead. ForSome self.now.places (λ p. AreLiveBut self.now p dead)) }
     {
         if self.left == 0 || MANY <= self.left {
-            return [0; 8];
+            return None;
         }
-        tilings.dead_pivots(&self.empties, self.supply_after(piece), piece)
+        let supply = self.supply_after(piece);
+        match &self.places {
+            None => None,
+            Some(places) => Some(tilings.dead_pivots(&self.empties, supply, piece, places)),
+        }
     }
 
-    /// Leaves out the places with these pivots, at which there is nothing to do.
+    /// Leaves out the places with these pivots, at which there is nothing to do. The others leave a tiling.
     #[inline(always)]
     fn leave_out(&mut self, dead: &[u64; 8])
-        requires { ForSome self.old.places (λ p. AreDead self.old (piece_of p) dead.now) }
+        requires dead { ForSome self.old.places (λ p. AreDead self.old (piece_of p) dead.now) }
+        requires live { ForSome self.old.places (λ p. AreLiveBut self.old p dead.now) }
         ensures goes { (table : Table) (mode : DropMode) (prefix : List Placement) →
             events_of table mode prefix self.new ≡ events_of table mode prefix self.old }
         ensures same { SamePosition self.old self.new }
@@ -268,6 +292,21 @@ impl Frame {
     {
         if let Some(places) = &mut self.places {
             places.leave_out(dead);
+            self.are_live = true;
+        }
+    }
+
+    /// Leaves out the places of a piece that leave no tiling, if all are asked about at once.
+    #[inline(always)]
+    fn leave_out_dead(&mut self, piece: Piece, tilings: &mut Tilings)
+        requires { ForSome self.old.places (λ p. piece_of p ≡ piece) }
+        ensures goes { (table : Table) (mode : DropMode) (prefix : List Placement) →
+            events_of table mode prefix self.new ≡ events_of table mode prefix self.old }
+        ensures same { SamePosition self.old self.new }
+        ensures tried { self.new.tried ≡ self.old.tried }
+    {
+        if let Some(dead) = self.dead_pivots(piece, tilings) {
+            self.leave_out(&dead);
         }
     }
 
@@ -310,11 +349,8 @@ impl Frame {
             Some(piece) => piece,
         };
         self.tried += 1;
-        self.keep_supply(piece);
-        // Asked for before the flood: while that runs, what is remembered comes from memory.
-        let dead = self.dead_pivots(piece, &notes.tilings);
         self.flood(piece, rules, drop_mode, &mut notes.floods, steps);
-        self.leave_out(&dead);
+        self.leave_out_dead(piece, &mut notes.tilings);
         Turn::Flooded
     }
 

@@ -105,16 +105,4 @@ impl<E: Entry> FactTable<E> {
             entries[place] = entry;
         }
     }
-
-    /// Forgets all entries.
-    pub fn forget(&mut self, alloc: Global)
-        ensures room { length self.new ≡ length self.old }
-        ensures nothing { All E.says_nothing self.new }
-    {
-        if let Some(entries) = &mut self.entries {
-            for place in 0..entries.len() {
-                entries[place] = E::nothing(alloc);
-            }
-        }
-    }
 }

@@ -1,4 +1,4 @@
-// A table that is filled and forgets.
+// A table that is filled, and one without room.
 use crate::FactTable;
 
 #[test]
@@ -10,8 +10,6 @@ fn keeps_the_last_entry_at_a_place(rt: HostRuntime) {
     assert!(rt; table.entry(6) == Some(&Some('c')));
     assert!(rt; table.entry(7) == Some(&Some('b')));
     assert!(rt; table.entry(5) == Some(&None));
-    table.forget(rt.alloc());
-    assert!(rt; table.entry(7) == Some(&None));
 }
 
 #[test]

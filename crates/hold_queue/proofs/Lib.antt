@@ -15,4 +15,5 @@ mod AtHandLemmas
 mod HandLemmas
 mod CutLemmas
 mod SinglesLemmas
+mod FirstHeld
 pub mod CallerLemmas

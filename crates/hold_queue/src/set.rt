@@ -39,6 +39,51 @@ struct Draws {
     holding: Option<Draw>,
 }
 
+/// A family for no held piece, and one for each piece that may be held.
+#[derive(Clone, Copy)]
+struct Families {
+    empty_handed: Family,
+    i: Family,
+    l: Family,
+    o: Family,
+    z: Family,
+    t: Family,
+    j: Family,
+    s: Family,
+}
+
+impl Families {
+    ghost use Rattle.std.specs.Prelude.{[], ◌∷◌};
+
+    /// The states of these families.
+    #[inline(always)]
+    fn states(&self) -> [u64; 16]
+        ensures { result ≡ self.now.empty_handed.low ∷ self.now.empty_handed.high ∷ self.now.i.low ∷ self.now.i.high
+            ∷ self.now.l.low ∷ self.now.l.high ∷ self.now.o.low ∷ self.now.o.high ∷ self.now.z.low ∷ self.now.z.high
+            ∷ self.now.t.low ∷ self.now.t.high ∷ self.now.j.low ∷ self.now.j.high ∷ self.now.s.low ∷ self.now.s.high
+            ∷ [] }
+    {
+        [
+            self.empty_handed.low,
+            self.empty_handed.high,
+            self.i.low,
+            self.i.high,
+            self.l.low,
+            self.l.high,
+            self.o.low,
+            self.o.high,
+            self.z.low,
+            self.z.high,
+            self.t.low,
+            self.t.high,
+            self.j.low,
+            self.j.high,
+            self.s.low,
+            self.s.high,
+        ]
+    }
+}
+
 /// The index of the two numbers for what is held among the states.
 fn place_of(held: Option<Piece>) -> usize
     ensures value { result ≡ 2 * States.held_code held }
@@ -71,7 +116,9 @@ fn drawn_holding(pattern: &Pattern, held: Option<Piece>, number: u8) -> Option<D
 }
 
 impl QueueSet {
-    ghost use Rattle.std.specs.Prelude.{◌+◌, List, [], ◌∷◌, ◌++◌};
+    ghost use Rattle.std.specs.Prelude.{◌+◌, ◌<◌, ℕ, List, [], ◌∷◌, ◌++◌, false};
+    ghost use Rattle.hold_queue.specs.declared.hold.Hold.TheVariants.{Allowed};
+    ghost use Rattle.hold_queue.specs.Family.{has_set};
     ghost use Rattle.hold_queue.specs.QueueSet.{QueuesInPlay, queues_in_play, singles, QueuesPermit, queues_permit};
     ghost use Rattle.hold_queue.specs.States.{IsNextFamily, IsHeldFamily, IsHolding, family_at};
     ghost use Rattle.hold_queue.specs.Supply.{supplies, supply_of};
@@ -83,7 +130,7 @@ impl QueueSet {
     {
         let mut states = [0; 16];
         states[place_of(held)] = 1;
-        QueueSet {
+        let set = QueueSet {
             pattern: *pattern,
             hold,
             held,
@@ -94,7 +141,43 @@ impl QueueSet {
                 holding: drawn_holding(pattern, held, 0),
             },
             states,
+        };
+        set.with_first_held()
+    }
+
+    /// The same queues. Where hold is allowed and a piece can be drawn, the first piece is held if nothing is held: it
+    /// is as good in hand as at the front of the queue, and no family without a held piece is left to be followed.
+    fn with_first_held(self) -> QueueSet
+        ensures { queues_in_play result ≡ queues_in_play self }
+    {
+        if let Hold::Avoided = self.hold {
+            return self;
         }
+        let Some(_) = self.due.empty_handed else {
+            return self;
+        };
+        let mut set = self;
+        set.states = self.first_held();
+        set
+    }
+
+    /// The states where a piece is held before the next draw.
+    fn first_held(&self) -> [u64; 16]
+        ensures none { family_at result None ≡ record { low = 0; high = 0 } }
+        ensures held { (piece : Piece) → IsHeldFamily (elements_of self.now.pattern) self.now.hold self.now.held
+            self.now.states self.now.number piece (family_at result (Some piece)) }
+    {
+        Families {
+            empty_handed: Family::EMPTY,
+            i: self.with_held(Piece::I),
+            l: self.with_held(Piece::L),
+            o: self.with_held(Piece::O),
+            z: self.with_held(Piece::Z),
+            t: self.with_held(Piece::T),
+            j: self.with_held(Piece::J),
+            s: self.with_held(Piece::S),
+        }
+        .states()
     }
 
     /// One queue, with nothing played.
@@ -142,32 +225,17 @@ impl QueueSet {
             IsNextFamily (elements_of self.now.pattern) self.now.hold self.now.held self.now.states
             self.now.number piece held (family_at result held) }
     {
-        let empty_handed = self.next_empty_handed(piece);
-        let held_i = self.next_holding(piece, Piece::I);
-        let held_l = self.next_holding(piece, Piece::L);
-        let held_o = self.next_holding(piece, Piece::O);
-        let held_z = self.next_holding(piece, Piece::Z);
-        let held_t = self.next_holding(piece, Piece::T);
-        let held_j = self.next_holding(piece, Piece::J);
-        let held_s = self.next_holding(piece, Piece::S);
-        [
-            empty_handed.low,
-            empty_handed.high,
-            held_i.low,
-            held_i.high,
-            held_l.low,
-            held_l.high,
-            held_o.low,
-            held_o.high,
-            held_z.low,
-            held_z.high,
-            held_t.low,
-            held_t.high,
-            held_j.low,
-            held_j.high,
-            held_s.low,
-            held_s.high,
-        ]
+        Families {
+            empty_handed: self.next_empty_handed(piece),
+            i: self.next_holding(piece, Piece::I),
+            l: self.next_holding(piece, Piece::L),
+            o: self.next_holding(piece, Piece::O),
+            z: self.next_holding(piece, Piece::Z),
+            t: self.next_holding(piece, Piece::T),
+            j: self.next_holding(piece, Piece::J),
+            s: self.next_holding(piece, Piece::S),
+        }
+        .states()
     }
 
     /// The drawn sets with which this piece may be held before the next draw: it is held, or nothing is held and it is
@@ -211,10 +279,21 @@ impl QueueSet {
         if !plain.is_empty() {
             return true;
         }
-        let second = holding.draw(self.due.holding, piece);
-        if !second.is_empty() {
+        if self.may_exchange(piece) {
             return true;
         }
+        !holding.draw(self.due.holding, piece).is_empty()
+    }
+
+    /// Whether the piece may be held and played from there.
+    #[inline(always)]
+    fn may_exchange(&self, piece: Piece) -> bool
+        ensures allowed { IsTrue result → self.now.hold ≡ Allowed }
+        ensures some { IsTrue result → ((set : ℕ) → set < 128 →
+            has_set (family_at self.now.states (Some piece)) set ≡ false) → ⊥ }
+        ensures none { result ≡ false → self.now.hold ≡ Allowed → (set : ℕ) → set < 128 →
+            has_set (family_at self.now.states (Some piece)) set ≡ false }
+    {
         if let Hold::Avoided = self.hold {
             return false;
         }

@@ -1,9 +1,9 @@
 -- The search goes down: it has fewer pieces or fewer spans left, and what was tried in vain stays tried.
 use Rattle.std.proofs.Common.{◌≡◌, ℕ, ◌+◌, bit_and, ◌<◌, ◌≤◌, Bool, true, false, not, ◌&&◌, ◌==◌, if◌then◌else◌, nat_le, nat_lt, List, [], ◌∷◌, length, get_or, refl, sym, ap, ap₂, subst, ◌∙◌, inl, inr, arith}
-use Rattle.std.proofs.lemmas.Bool.{and_parts, and_from, both_ways, cases_eq, eq-eqb, eqb-true, le-leb, le-ltb, leb-true, ne_eqb}
-use Rattle.lane_board.proofs.CallerLemmas.{has_bit-and, has_bit-zero}
+use Rattle.std.proofs.lemmas.Bool.{and_parts, both_ways, cases_eq, eq-eqb, eqb-true, le-ltb, ne_eqb}
+use Rattle.lane_board.proofs.CallerLemmas.{has_bit-zero}
 use Rattle.lane_board.specs.Lanes.{has_bit}
-use Rattle.empty_cells.proofs.CallerLemmas.{IsSmall, some_in_span, stacked_first, fills_stacked}
+use Rattle.empty_cells.proofs.CallerLemmas.{IsSmall, bit_from_may, fills_stacked, may_from_bit, some_in_span, stacked_first, was_unset}
 use Rattle.lane_board.specs.Field.{Field}
 use Rattle.srs.specs.declared.piece.Piece.{Piece}
 use Rattle.srs.specs.declared.piece.Piece.TheVariants.{I, L, O, Z, T, J, S}
@@ -71,17 +71,11 @@ pub tried-start : (supply : Supply) (E : Field) (x y floor : ℕ) (span : Span) 
     ((row : ℕ) → row < 8 → has_bit permitted row ≡ (nat_le floor row && is_allowed y floor span row)) →
     Tried supply E x y floor span spans (bit_and rows permitted)
 tried-start supply E x y floor span spans rows permitted has allowed = record {
-  may = λ row low bit.
-      let both = and_parts _ _ (sym (bits row low) ∙ bit) in
-      let inner = and_parts _ _ both.1 in
-      record { above = leb-true floor row inner.0; permitted = inner.1; has = both.0 };
+  may = may_from_bit E x y floor span rows permitted has allowed;
   failed = λ row low none. record {
-    fails = λ may stacks. both_ways _ none (bits row low ∙ and_from _ _ may.has (and_from _ _ (le-leb floor row may.above) may.permitted));
+    fails = λ may stacks. both_ways _ none (bit_from_may E x y floor span rows permitted has allowed row low may);
   };
 }
-  where
-    bits : (row : ℕ) → row < 8 → has_bit (bit_and rows permitted) row ≡ (has_span E x span row && (nat_le floor row && is_allowed y floor span row))
-    bits row low = has_bit-and rows permitted row ∙ ap₂ ◌&&◌ (has row low) (allowed row low)
 
 pub tried-next : (supply : Supply) (E : Field) (x y floor : ℕ) (span : Span) (spans : List Span) (rows less row : ℕ) → Tried supply E x y floor span spans rows →
     FailsIn supply E x y floor span spans row → ((k : ℕ) → k < 8 → has_bit less k ≡ (has_bit rows k && not (k == row))) → Tried supply E x y floor span spans less
@@ -89,13 +83,9 @@ tried-next supply E x y floor span spans rows less row tried fails others = reco
   may = λ k low bit. tried.may k low (and_parts _ _ (sym (others k low) ∙ bit)).0;
   failed = λ k low none. elim (cases_eq k row) [
     | inl same ↦ subst (λ k. FailsIn supply E x y floor span spans k) (sym same) fails
-    | inr other ↦ tried.failed k low (before (has_bit rows k) (k == row) (ne_eqb k row other) (sym (others k low) ∙ none))
+    | inr other ↦ tried.failed k low (was_unset (has_bit rows k) (k == row) (ne_eqb k row other) (sym (others k low) ∙ none))
   ];
 }
-  where
-    before : (p q : Bool) → q ≡ false → (p && not q) ≡ false → p ≡ false
-    before true q other left = absurd (both_ways true (ap (λ t. true && not t) (sym other) ∙ left) refl)
-    before false q other left = refl
 
 -- where no row is left, the spans can't be stacked
 pub all_tried : (supply : Supply) (E : Field) (x y floor : ℕ) (span : Span) (spans : List Span) (rows : ℕ) → IsSmall 8 E → rows ≡ 0 → Tried supply E x y floor span spans rows →

@@ -1,5 +1,5 @@
 // A memory of which placements leave a tiling.
-ghost use Rattle.std.specs.Prelude.{◌≡◌, ◌↔◌, ◌≤◌, IsTrue, IfSome, true, false, ⊤};
+ghost use Rattle.std.specs.Prelude.{◌≡◌, ◌≤◌, ◌||◌, IfSome, IsTrue, true, false, ⊤};
 ghost use Rattle.lane_board.specs.Words.{cells_of_words};
 ghost use Rattle.srs.specs.declared.placement.Placement.{Placement};
 ghost use Rattle.srs.specs.Rotation.{rotation_place};
@@ -8,39 +8,39 @@ ghost use Rattle.empty_cells.specs.HasTiling.{has_tiling};
 ghost use Rattle.empty_cells.specs.Pivots.{has_pivot};
 ghost use Rattle.empty_cells.specs.SupplyWords.{supply_of};
 
-use crate::store::TilingStore;
 use empty_cells::{Empties, Pivots, SupplyWord, hash_of};
 use fact_table::{Entry, FactTable};
 use pc_outside::NoMemory;
 use srs::{Piece, Placement};
 use std::alloc::Global;
 
-/// How many sets are remembered.
+/// How many sets of answers are remembered.
 const PLACES: usize = 4096;
 
-/// Which placements of a piece leave a tiling of a set of cells by a supply, as far as that was asked. Those that leave
-/// none are asked for with each flood, so they stand beside the question.
+/// Which placements of a piece leave a tiling of a set of cells by a supply, as far as that was asked.
 #[derive(Clone, Copy)]
-struct Remembered {
-    cells: Empties,
-    supply: SupplyWord,
-    piece: Piece,
-    dead: Pivots,
-    live: Pivots,
+pub struct PlaceAnswers {
+    pub cells: Empties,
+    pub supply: SupplyWord,
+    pub piece: Piece,
+    /// The placements that leave none.
+    pub dead: Pivots,
+    /// The placements that leave one.
+    pub live: Pivots,
     ghost live_is_true: { (q : Placement) → q.piece ≡ piece → has_pivot live q ≡ true
         → has_tiling (all_but (without_placement (empty_cells cells) q)) 8 (supply_of supply) ≡ true },
     ghost dead_is_true: { (q : Placement) → q.piece ≡ piece → has_pivot dead q ≡ true
         → has_tiling (all_but (without_placement (empty_cells cells) q)) 8 (supply_of supply) ≡ false },
 }
 
-impl Remembered {
-    /// A memory in which nothing was asked yet.
-    fn of(cells: &Empties, supply: SupplyWord, piece: Piece) -> Remembered
+impl PlaceAnswers {
+    /// No answers: nothing was asked yet.
+    pub fn none(cells: &Empties, supply: SupplyWord, piece: Piece) -> PlaceAnswers
         ensures cells { result.cells ≡ cells.now }
         ensures supply { result.supply ≡ supply }
         ensures piece { result.piece ≡ piece }
     {
-        Remembered {
+        PlaceAnswers {
             cells: *cells,
             supply,
             piece,
@@ -49,9 +49,9 @@ impl Remembered {
         }
     }
 
-    /// Whether this is about these cells, this supply and this piece.
+    /// Whether these are about these cells, this supply and this piece.
     #[inline(always)]
-    fn is_about(&self, cells: &Empties, supply: SupplyWord, piece: Piece) -> bool
+    fn are_about(&self, cells: &Empties, supply: SupplyWord, piece: Piece) -> bool
         ensures cells { IsTrue result → empty_cells self.now.cells ≡ empty_cells cells.now }
         ensures supply { IsTrue result → self.now.supply ≡ supply }
         ensures piece { IsTrue result → self.now.piece ≡ piece }
@@ -61,29 +61,20 @@ impl Remembered {
             && self.piece.code() == piece.code()
     }
 
-    /// Whether a placement of the piece leaves a tiling, if that was asked before.
-    #[inline(always)]
-    fn answer_to(&self, placement: &Placement) -> Option<bool>
-        requires { placement.now.piece ≡ self.now.piece }
-        ensures { IfSome result (λ answer. answer ≡ has_tiling
-            (all_but (without_placement (empty_cells self.now.cells) placement.now)) 8 (supply_of self.now.supply)) }
-    {
-        if self.live.has(placement) {
-            return Some(true);
-        }
-        if self.dead.has(placement) {
-            return Some(false);
-        }
-        None
-    }
-
     /// Adds the answer for one more placement.
-    fn add(&mut self, placement: &Placement, answer: bool)
+    #[inline(always)]
+    pub fn add(&mut self, placement: &Placement, answer: bool)
         requires column { placement.now.x ≤ 9 }
         requires row { placement.now.y ≤ 7 }
         requires piece { placement.now.piece ≡ self.old.piece }
         requires answer { answer ≡ has_tiling
             (all_but (without_placement (empty_cells self.old.cells) placement.now)) 8 (supply_of self.old.supply) }
+        ensures cells { self.new.cells ≡ self.old.cells }
+        ensures supply { self.new.supply ≡ self.old.supply }
+        ensures piece { self.new.piece ≡ self.old.piece }
+        ensures added { IsTrue (has_pivot self.new.dead placement.now || has_pivot self.new.live placement.now) }
+        ensures kept { (q : Placement) → IsTrue (has_pivot self.old.dead q || has_pivot self.old.live q)
+            → IsTrue (has_pivot self.new.dead q || has_pivot self.new.live q) }
     {
         if answer {
             self.live.add(placement);
@@ -93,11 +84,11 @@ impl Remembered {
     }
 }
 
-impl Entry for Remembered {
+impl Entry for PlaceAnswers {
     ghost says_nothing = { λ _. ⊤ };
 
-    fn nothing(_alloc: Global) -> Remembered {
-        Remembered::of(&Empties::empty(), SupplyWord::new(&[0; 7]), Piece::I)
+    fn nothing(_alloc: Global) -> PlaceAnswers {
+        PlaceAnswers::none(&Empties::empty(), SupplyWord::new(&[0; 7]), Piece::I)
     }
 }
 
@@ -108,11 +99,10 @@ fn hash_for(cells: &Empties, supply: SupplyWord, piece: Piece) -> u64 {
     hash_of(cells, supply) ^ 583 * u64::from(piece.code())
 }
 
-/// Remembers which placements leave a tiling, by the cells, the supply and the piece. A later set evicts an earlier
-/// one.
+/// Remembers which placements leave a tiling, by the cells, the supply and the piece. Later answers evict earlier ones.
 #[derive(Drop)]
 pub struct PlaceMemory {
-    sets: FactTable<Remembered>,
+    sets: FactTable<PlaceAnswers>,
 }
 
 impl PlaceMemory {
@@ -122,81 +112,24 @@ impl PlaceMemory {
         Ok(PlaceMemory { sets })
     }
 
-    /// What is remembered about these cells, this supply and this piece.
+    /// What is remembered about these cells, this supply and this piece, if anything is.
     #[inline(always)]
-    fn about(&self, cells: &Empties, supply: SupplyWord, piece: Piece) -> Option<&Remembered>
+    pub fn known(&self, cells: &Empties, supply: SupplyWord, piece: Piece) -> Option<&PlaceAnswers>
         ensures cells { IfSome result (λ known. empty_cells known.now.cells ≡ empty_cells cells.now) }
         ensures supply { IfSome result (λ known. known.now.supply ≡ supply) }
         ensures piece { IfSome result (λ known. known.now.piece ≡ piece) }
     {
         let known = self.sets.entry(hash_for(cells, supply, piece))?;
-        if known.is_about(cells, supply, piece) {
+        if known.are_about(cells, supply, piece) {
             return Some(known);
         }
         None
     }
 
-    /// Whether a placement leaves a tiling, if that was asked before.
+    /// Remembers answers, in the place of those before.
     #[inline(always)]
-    fn answer_to(&self, cells: &Empties, supply: SupplyWord, placement: &Placement) -> Option<bool>
-        ensures { IfSome result (λ answer. answer ≡ has_tiling
-            (all_but (without_placement (empty_cells cells.now) placement.now)) 8 (supply_of supply)) }
-    {
-        self.about(cells, supply, placement.piece)?
-            .answer_to(placement)
-    }
-
-    /// Remembers one more answer.
-    fn note(&mut self, cells: &Empties, supply: SupplyWord, placement: &Placement, answer: bool)
-        requires column { placement.now.x ≤ 9 }
-        requires row { placement.now.y ≤ 7 }
-        requires answer { answer ≡ has_tiling
-            (all_but (without_placement (empty_cells cells.now) placement.now)) 8 (supply_of supply) }
-    {
-        let mut known = match self.about(cells, supply, placement.piece) {
-            Some(known) => *known,
-            None => Remembered::of(cells, supply, placement.piece),
-        };
-        known.add(placement, answer);
-        self.sets
-            .put(hash_for(cells, supply, placement.piece), known);
-    }
-
-    /// Whether the cells without those of a placement have a tiling by the supply. A question that was not asked before
-    /// goes to the store; its search begins at the side nearer to the placement.
-    pub fn leaves_tiling(
-        &mut self,
-        cells: &Empties,
-        placement: &Placement,
-        supply: SupplyWord,
-        store: &mut TilingStore,
-    ) -> bool
-        requires column { placement.now.x ≤ 9 }
-        requires row { placement.now.y ≤ 31 }
-        ensures { result ≡ has_tiling (all_but (without_placement (empty_cells cells.now) placement.now)) 8
-            (supply_of supply) }
-    {
-        if let Some(answer) = self.answer_to(cells, supply, placement) {
-            return answer;
-        }
-        let answer = store.has_tiling_by(&cells.without(placement), placement.x, supply);
-        if placement.y < 8 {
-            self.note(cells, supply, placement, answer);
-        }
-        answer
-    }
-
-    /// The placements of a piece that are remembered to leave no tiling, by their pivots in rows 0 to 7: two words for
-    /// each rotation, in the order 0, R, 2, L, four rows in each word, and sixteen bits for each row.
-    #[inline(always)]
-    pub fn dead_pivots(&self, cells: &Empties, supply: SupplyWord, piece: Piece) -> [u64; 8]
-        ensures { (q : Placement) → q.piece ≡ piece
-            → cells_of_words result (rotation_place q.rotation) q.x q.y ≡ true
-            → has_tiling (all_but (without_placement (empty_cells cells.now) q)) 8 (supply_of supply) ≡ false }
-    {
-        match self.about(cells, supply, piece) {
-            Some(known) => known.dead.words(),
-            None => [0; 8],
-        }
+    pub fn keep(&mut self, answers: &PlaceAnswers) {
+        let hash = hash_for(&answers.cells, answers.supply, answers.piece);
+        self.sets.put(hash, *answers);
     }
 }

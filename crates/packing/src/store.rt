@@ -6,7 +6,7 @@ ghost use Rattle.empty_cells.specs.SupplyWords.{supply_of};
 
 use crate::decided::Decided;
 use crate::search::decide;
-use empty_cells::{Empties, SupplyWord, mirrored_supply};
+use empty_cells::{Empties, SupplyWord};
 use fact_table::FactTable;
 use pc_outside::NoMemory;
 use std::alloc::Global;
@@ -45,20 +45,19 @@ impl TilingStore {
     pub fn has_tiling_near(&mut self, cells: &Empties, column: u8, supply: &[u8; 7]) -> bool
         ensures { IsTrue result ↔ Tiling (all_but (empty_cells cells.now)) 8 (supply_in supply.now) }
     {
+        if cells.has_uneven_part() {
+            return false;
+        }
         self.has_tiling_by(cells, column, SupplyWord::new(supply))
     }
 
     /// The same for a supply in one word.
-    pub(crate) fn has_tiling_by(&mut self, cells: &Empties, column: u8, supply: SupplyWord) -> bool
+    pub fn has_tiling_by(&mut self, cells: &Empties, column: u8, supply: SupplyWord) -> bool
         ensures { IsTrue result ↔ Tiling (all_but (empty_cells cells.now)) 8 (supply_of supply) }
     {
-        if cells.has_uneven_part() {
-            return false;
-        }
         if !cells.lies_right(column) {
             return decide(cells, supply, &mut self.decided);
         }
-        let mirrored = SupplyWord::new(&mirrored_supply(&supply.entries()));
-        decide(&cells.mirrored(), mirrored, &mut self.decided)
+        decide(&cells.mirrored(), supply.mirrored(), &mut self.decided)
     }
 }

@@ -6,11 +6,11 @@ use Rattle.pc_source.specs.Task.{Needs, Task, first_fault, is_source, memory, mo
 use Rattle.pc_source.proofs.CallerLemmas.{not_too_long, too_long}
 use Rattle.pc_words.specs.Request.{Request}
 use Rattle.pc_words.specs.Words.{asked_in, request_in}
-use Rattle.pc_app.specs.Tasks.{refused_task, task_for, task_in, task_of}
+use Rattle.pc_app.specs.Tasks.{refused_task, task_for, task_in}
 use Rattle.pc_c.specs.Answered.{HasAskedFault}
 use Rattle.pc_c.specs.Asked.{ForAsked}
 use Rattle.pc_c.specs.Call.{seen}
-use Rattle.pc_c.specs.OtherCommand.{asks_other, is_other}
+use Rattle.pc_c.specs.OtherCommand.{is_other}
 
 needs_source : (needs : Needs) → is_source needs ≡ true → needs ≡ source_bytes
 needs_source nothing is = cc

@@ -1,11 +1,11 @@
 -- What a call for good queues answers, by its words.
-use Rattle.std.proofs.Common.{◌≡◌, ◌∙◌, ℕ, ◌-◌, ◌^◌, ◌≤◌, min, Bool, true, false, if◌then◌else◌, List, [], length, take, drop, Some, None, Result, Ok, Err, OnOk, IfOk, refl, subst, inl, inr, arith}
+use Rattle.std.proofs.Common.{◌≡◌, ℕ, ◌-◌, ◌^◌, ◌≤◌, min, Bool, if◌then◌else◌, List, [], length, take, drop, None, Result, Ok, Err, OnOk, IfOk, refl, subst, inl, inr, arith}
 use Rattle.std.specs.Prelude.{IfErr, OnErr}
 use Rattle.pc_settings.specs.Request.{PercentRequest}
 use Rattle.pc_source.specs.FieldText.{field_needs}
 use Rattle.pc_source.specs.Task.{is_source, most_bytes}
 use Rattle.pc_percent.specs.Faults.{percent_fault}
-use Rattle.pc_words.specs.Request.{Request, percent}
+use Rattle.pc_words.specs.Request.{percent}
 use Rattle.pc_words.specs.Words.{asked_in, request_in}
 use Rattle.pc_good_queues.specs.declared.answer.NoBits.{NoBits}
 use Rattle.pc_good_queues.specs.declared.answer.NoBits.TheVariants as none
@@ -17,7 +17,7 @@ use Rattle.pc_c.specs.declared.answer.Answer.{Answer}
 use Rattle.pc_c.specs.declared.answer.Answer.TheVariants.{Written, OtherCommand, Unwritten}
 use Rattle.pc_c.specs.Answered.{answer_of}
 use Rattle.pc_c.specs.Asked.{ForAsked}
-use Rattle.pc_c.specs.OtherCommand.{asks_other, is_other, is_percent}
+use Rattle.pc_c.specs.OtherCommand.{is_percent}
 use Rattle.pc_c.specs.QueuesEnded.{EndsQueues, IsPercentAnswer, IsPercentRefusal}
 use Rattle.pc_c.proofs.InputLemmas.{faulty_asked, for_asked}
 

@@ -1,5 +1,5 @@
 -- What a call for solutions answers, by its words.
-use Rattle.std.proofs.Common.{◌≡◌, ◌∙◌, ℕ, ◌-◌, ◌^◌, ◌<◌, ◌≤◌, ◌==◌, min, Bool, true, false, if◌then◌else◌, List, [], length, take, drop, Some, None, Result, Ok, Err, OnOk, IfOk, refl, sym, ap, subst, true≢false, arith}
+use Rattle.std.proofs.Common.{◌≡◌, ◌∙◌, ℕ, ◌-◌, ◌^◌, ◌≤◌, ◌==◌, min, Bool, true, false, if◌then◌else◌, List, [], length, take, drop, Some, None, Result, Ok, Err, IfOk, refl, sym, ap, subst, true≢false}
 use Rattle.std.specs.Prelude.{OnErr}
 use Rattle.pc_faults.specs.declared.fault.Fault.{Fault}
 use Rattle.pc_settings.specs.Request.{PathRequest}

@@ -4,7 +4,7 @@ ghost use Rattle.srs.specs.Rules.{table_of};
 ghost use Rattle.well.specs.Well.{filled};
 ghost use Rattle.pc_outside.specs.Counts.{HasCause};
 ghost use Rattle.pc_outside.specs.Writes.{WritesAll};
-ghost use Rattle.combo.specs.Runs.{Runs};
+ghost use Rattle.problem.specs.Runs.{Runs};
 ghost use Rattle.report.specs.Forms.{key_part};
 ghost use Rattle.report.specs.Keys.{has_keys};
 ghost use Rattle.pc_settings.specs.Views.{combo_view};

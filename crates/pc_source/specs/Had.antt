@@ -1,5 +1,5 @@
 -- What a call gives, with the fault that does not stand there, and what it is refused by.
-use Rattle.std.specs.Prelude.{◌≡◌, ℕ, List, IsTrue, All, Option, Some, None, if◌then◌else◌}
+use Rattle.std.specs.Prelude.{◌≡◌, ℕ, List, IsTrue, All, Option, Some, None}
 use Rattle.std.specs.Option.{ForSome}
 use Rattle.lane_board.specs.Field.{Field}
 use Rattle.srs.specs.Cells.{is_inside_of}
@@ -12,11 +12,10 @@ use Rattle.fumen_text.specs.Texts.{ReadsAs}
 use Rattle.pc_faults.specs.declared.fault.Fault.{Fault}
 use Rattle.pc_faults.specs.declared.fault.Fault.TheVariants.{SourceTooLong}
 use Rattle.pc_faults.specs.declared.status.Status.{Status}
-use Rattle.pc_faults.specs.declared.status.Status.TheVariants.{Done, Input, SourceFault, NoMemory}
-use Rattle.pc_settings.specs.Request.{FieldText, fumen_text, rows_text}
-use Rattle.pc_source.specs.FieldText.{is_of_source, IsPageField, IsFumenField, IsFieldOf}
-use Rattle.pc_source.specs.Faults.{field_fault, page_fault, text_fault}
-use Rattle.pc_source.specs.Task.{Needs, nothing, memory, source_bytes}
+use Rattle.pc_faults.specs.declared.status.Status.TheVariants.{Input, SourceFault, NoMemory}
+use Rattle.pc_settings.specs.Request.{FieldText}
+use Rattle.pc_source.specs.FieldText.{IsFumenField, IsFieldOf}
+use Rattle.pc_source.specs.Faults.{field_fault, text_fault}
 
 -- by this fault, or for want of memory
 abbrev pub IsRefusedInput : Option Fault → Refused Fault → Type 0

@@ -4,7 +4,7 @@ use Rattle.std.specs.Option.{ForSome}
 use Rattle.pc_outside.specs.Reads.{TakesFirst, TakesAtMost}
 use Rattle.pc_faults.specs.declared.fault.Fault.TheVariants.{SourceTooLong}
 use Rattle.pc_faults.specs.declared.status.Status.{Status}
-use Rattle.pc_faults.specs.declared.status.Status.TheVariants.{Done, Input, SourceFault, NoMemory}
+use Rattle.pc_faults.specs.declared.status.Status.TheVariants.{Done, Input, SourceFault}
 use Rattle.pc_source.specs.Task.{most_bytes}
 
 -- what is left of a source that is read: nothing at Done, and all but the first bytes where there are too many

@@ -1,7 +1,7 @@
 -- The hands of all queues, and how many of them are good.
 use Rattle.std.proofs.Common.{ℕ, ◌≡◌, ◌+◌, ◌%◌, ◌<◌, ◌≤◌, ◌↔◌, IsTrue, Bool, true, false, ◌&&◌, ◌==◌, List, [], ◌∷◌, ◌++◌, length, length-append, get_or, take, ◌-◌, refl, ap, subst, ◌∙◌, sym, arith, inl, inr}
 use Rattle.std.specs.Prelude.{Some, slice_get, count_by}
-use Rattle.std.proofs.lemmas.Bool.{cases_lt}
+use Rattle.std.proofs.lemmas.Bool.{cases_lt, or_left, or_right}
 use Rattle.std.proofs.lemmas.Bool.Decides.{nat_tests}
 use Rattle.std.proofs.lemmas.List.{take_all, length-take, get_or_append_left, get_or-append_right}
 use Rattle.std.proofs.lemmas.List.Sums.{count_by_more_no, count_by_more_yes, count_by-le-length}
@@ -17,7 +17,6 @@ use Rattle.problem.specs.declared.problem.Problem.{Problem}
 use Rattle.problem.specs.Problem.{IsFit, empties_of, needed_of}
 use Rattle.percent.specs.Hands.{hand_of}
 use Rattle.percent.specs.GoodHands.{AreAnswers, game_of, hand_at, HasGoodHands, HasHandsBefore, is_good, is_good_queue}
-use Rattle.percent.proofs.TestLemmas.{or_first, or_second}
 use Rattle.percent.proofs.GoodLemmas.{good-decides, uneven-none}
 
 -- the hand of a queue that was read
@@ -33,12 +32,12 @@ hands-none problem hands = record { each = λ k below. absurd (omega arith) }
 pub hands-more : (problem : Problem) (hands : List ℕ) (number hand : ℕ) → hand ≡ hand_at problem number → HasHandsBefore problem hands number → HasHandsBefore problem (hands ++ hand ∷ []) (number + 1)
 hands-more problem hands number hand is state = record {
   each = λ k below. has-push hands hand (hand_at problem k) ∙ elim (cases_lt k number) [
-    | inl before ↦ or_first (has hands (hand_at problem k)) (hand == hand_at problem k) (state.each k before)
+    | inl before ↦ or_left (has hands (hand_at problem k)) (hand == hand_at problem k) (state.each k before)
     | inr last ↦
         let same : k ≡ number = omega arith in
         let equal : hand ≡ hand_at problem k = is ∙ ap (hand_at problem) (sym same) in
         let passes : (hand == hand_at problem k) ≡ true = grind (arith, nat_tests) in
-        or_second (has hands (hand_at problem k)) (hand == hand_at problem k) passes
+        or_right (has hands (hand_at problem k)) (hand == hand_at problem k) passes
   ];
 }
 

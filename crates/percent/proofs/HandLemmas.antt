@@ -1,6 +1,6 @@
 -- Taking from pieces at hand is taking from their number.
 use Rattle.std.proofs.Common.{ℕ, ◌≡◌, ◌/◌, ◌%◌, ◌≤◌, ◌<◌, ◌^◌, Bool, true, ◌&&◌, ◌==◌, List, [], ◌∷◌, length, sym, subst, ◌∙◌, inl, inr, arith}
-use Rattle.std.proofs.lemmas.Bool.{and_parts, and_from, eqb-true, eq-eqb}
+use Rattle.std.proofs.lemmas.Bool.{and_from, and_parts, eq-eqb, eqb-true, or_left, or_right}
 use Rattle.std.proofs.Math.Nat.{pow-succ'}
 use Rattle.srs.specs.declared.piece.Piece.{Piece}
 use Rattle.srs.specs.declared.piece.Piece.TheVariants.{I, L, O, Z, T, J, S}
@@ -10,7 +10,7 @@ use Rattle.hold_queue.specs.declared.hold.Hold.{Hold}
 use Rattle.hold_queue.specs.declared.hold.Hold.TheVariants.{Allowed, Avoided}
 use Rattle.hold_queue.specs.AtHand.{Take, take_first, take_second}
 use Rattle.percent.specs.Hands.{number_of, allows_hold, takes, without_first, without_second}
-use Rattle.percent.proofs.TestLemmas.{or_cases, or_first, or_second}
+use Rattle.percent.proofs.TestLemmas.{or_cases}
 
 pub code-some : (piece : Piece) → 1 ≤ piece_code piece
 code-some I = omega arith
@@ -89,9 +89,9 @@ pub takes-from : (hold : Hold) (hand : List Piece) (piece : Piece) (rest : List 
 unfolding takes
 takes-from hold [] piece rest goes_on taken passes = elim taken [ ]
 takes-from hold (first ∷ hand) piece rest goes_on take_first passes =
-    or_first _ _ (and_from _ _ (eq-eqb _ _ (first-code piece rest)) (subst (λ n. goes_on n ≡ true) (sym (first-left piece rest)) passes))
+    or_left _ _ (and_from _ _ (eq-eqb _ _ (first-code piece rest)) (subst (λ n. goes_on n ≡ true) (sym (first-left piece rest)) passes))
 takes-from Allowed (first ∷ second ∷ hand) piece rest goes_on take_second passes =
-    or_second (number_of (first ∷ piece ∷ hand) % 8 == piece_code piece && goes_on (without_first (number_of (first ∷ piece ∷ hand)))) _
+    or_right (number_of (first ∷ piece ∷ hand) % 8 == piece_code piece && goes_on (without_first (number_of (first ∷ piece ∷ hand)))) _
     (and_from _ _ (eq-eqb _ _ (second-code first piece hand)) (subst (λ n. goes_on n ≡ true) (sym (second-left first piece hand)) passes))
 
 -- so many pieces make a number of three bits each

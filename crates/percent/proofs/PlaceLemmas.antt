@@ -6,7 +6,7 @@ use Rattle.std.specs.List.{list_any}
 use Rattle.std.specs.declared.cmp.Ordering.{Ordering}
 use Rattle.std.specs.declared.cmp.Ordering.TheVariants.{Less, Equal, Greater}
 use Rattle.std.specs.Prelude.{IsPermutation}
-use Rattle.std.proofs.lemmas.Bool.{and_from, and_parts, cases_Bool, false≢true}
+use Rattle.std.proofs.lemmas.Bool.{and_from, and_parts, cases_Bool, false≢true, or_left, or_right}
 use Rattle.std.proofs.lemmas.List.Elements.{All-nil, All-push}
 use Rattle.std.proofs.lemmas.List.Sorted.{list_any-IsPermutation}
 use Rattle.std.proofs.lemmas.List.Folds.{list_any-append}
@@ -36,7 +36,7 @@ use Rattle.percent.specs.declared.game.Game.{Game}
 use Rattle.percent.specs.declared.position.Child.{Child}
 use Rattle.percent.specs.Children.{IsChild}
 use Rattle.percent.specs.GoodHands.{reached_places, is_good, is_good_after, is_good_at}
-use Rattle.percent.proofs.TestLemmas.{any_passes, or_cases, or_first, or_second, some_passes}
+use Rattle.percent.proofs.TestLemmas.{any_passes, or_cases, some_passes}
 
 -- a place of a piece below a row
 pub record IsLowPlace (game : Game) (F : Field) (rows : ℕ) (piece : Piece) (q : Placement) : Type 0 where
@@ -168,10 +168,10 @@ module _ (game : Game) (F : Field) (rows : ℕ) (piece : Piece) (left : ℕ) (ha
           (and_from (is_below rows q) _ taken.below (sym (same hand) ∙ one (at hand child) here))
     ];
     each = λ p low. elim (state.each p low) [
-      | inr found ↦ inr (λ hand here good. more hand (or_first (list_any (at hand) children) (at hand child || false) (found hand here good)))
+      | inr found ↦ inr (λ hand here good. more hand (or_left (list_any (at hand) children) (at hand child || false) (found hand here good)))
       | inl still ↦ elim (one-or-other q p) [
         | inr other ↦ inl ((rest p).1 (still, other))
-        | inl here ↦ inr (λ hand _ good. more hand (or_second (list_any (at hand) children) (at hand child || false) (or_first (at hand child) false (same hand ∙ subst (λ p. is_good_with game F rows left hand p ≡ true) (sym here) good))))
+        | inl here ↦ inr (λ hand _ good. more hand (or_right (list_any (at hand) children) (at hand child || false) (or_left (at hand child) false (same hand ∙ subst (λ p. is_good_with game F rows left hand p ≡ true) (sym here) good))))
       ]
     ];
   }

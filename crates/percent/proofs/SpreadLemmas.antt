@@ -1,6 +1,6 @@
 -- Positions whose rows stand in rows of an earlier field: at the start, and after one more placement.
 use Rattle.std.proofs.Common.{◌≡◌, ℕ, zero, suc, ◌==◌, int_lt, nat_le, length, length-set, ◌+◌, ◌-◌, ◌<◌, ◌≤◌, Bool, true, false, not, ◌&&◌, ◌||◌, nat_lt, List, [], ◌∷◌, get_or, pos, negsuc, nat_abs, refl, sym, ap, ap₂, subst, ◌∙◌, inl, inr, arith}
-use Rattle.std.proofs.lemmas.Bool.{agree_below_at, and_from, and_parts, cases_eq, cases_lt, cases_order, eq-eqb, eqb-true, false_from_ne_true, false≢true, leb-true, lt-ltb, ltb-true, not-true, or_from}
+use Rattle.std.proofs.lemmas.Bool.{agree_below_at, and_from, and_parts, cases_eq, cases_lt, cases_order, eq-eqb, eqb-true, false_from_ne_true, false≢true, leb-true, lt-ltb, ltb-true, not-true, or_from, or_left, or_right}
 use Rattle.std.proofs.Common.{set as list_set}
 use Rattle.std.proofs.lemmas.List.{get_or-set_other}
 use Rattle.std.proofs.lemmas.Grind.{get_or-set_at}
@@ -19,7 +19,7 @@ use Rattle.well.specs.LockLaws.{LiesBelow, is_below}
 use Rattle.empty_cells.specs.Empties.{has_cell}
 use Rattle.empty_cells.specs.SentCells.{sent_cells, sent_up}
 use Rattle.empty_cells.proofs.CallerLemmas.{cell_of, sent_from, sent_has}
-use Rattle.percent.proofs.TestLemmas.{or_cases, or_first, or_second}
+use Rattle.percent.proofs.TestLemmas.{or_cases}
 use Rattle.percent.specs.Spread.{ComesFrom, IsSpread, KeepsRows, is_row_of}
 
 -- a row in which one of the first rows stands
@@ -40,8 +40,8 @@ pub is_row : (height : ℕ) (rows : List ℕ) (z row : ℕ) → row < height →
 unfolding is_row_of
 is_row zero rows z row low sent = absurd (omega arith)
 is_row (suc height) rows z row low sent = elim (cases_eq row height) [
-  | inl same ↦ or_second (is_row_of height rows z) (get_or rows height 0 == z) (eq-eqb _ _ (ap (λ k. get_or rows k 0) (sym same) ∙ sent))
-  | inr apart ↦ or_first (is_row_of height rows z) (get_or rows height 0 == z) (is_row height rows z row (omega (arith, low, apart)) sent)
+  | inl same ↦ or_right (is_row_of height rows z) (get_or rows height 0 == z) (eq-eqb _ _ (ap (λ k. get_or rows k 0) (sym same) ∙ sent))
+  | inr apart ↦ or_left (is_row_of height rows z) (get_or rows height 0 == z) (is_row height rows z row (omega (arith, low, apart)) sent)
 ]
 
 blank_cell : (F : Field) (rows : ℕ) (c : Cell) → is_open F c ≡ true → int_lt c.1 (pos rows) ≡ true → has_cell (difference (rows_below rows) F) c ≡ true

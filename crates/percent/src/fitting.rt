@@ -35,6 +35,14 @@ struct Verdicts {
     ghost are_true: { All (IsTrueVerdict cells) known },
 }
 
+/// Whether these are the same counts. They are compared as one word.
+#[inline(always)]
+pub fn are_same(a: &Counts, b: &Counts) -> bool
+    ensures { IsTrue result ↔ (a.now ≡ b.now) }
+{
+    u64::from_le_bytes(*a) == u64::from_le_bytes(*b)
+}
+
 /// The counts of the first `pieces` pieces of a hand.
 pub fn counts_of(hand: u64, pieces: u8) -> Counts
     ensures { (code : ℕ) → code < 8 → slice_index result code ≡ codes_in pieces hand code }
@@ -110,7 +118,7 @@ impl Verdicts {
         ensures none { result ≡ false → Tiling (all_but (empty_cells self.old.cells)) 8 (supply_by counts) → ⊥ }
     {
         let place = place_of(&counts);
-        if self.known[place].counts != counts {
+        if !are_same(&self.known[place].counts, &counts) {
             let may_fit = fills(tilings, &self.cells, self.near, &counts);
             self.known[place] = Verdict { counts, may_fit };
             return may_fit;

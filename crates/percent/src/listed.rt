@@ -4,7 +4,7 @@ ghost use Rattle.well.specs.Well.{filled};
 ghost use Rattle.percent.specs.Children.{IsChild};
 
 use crate::fitting::{Counts, counts_of};
-use crate::marks::{Mark, Marks};
+use crate::marks::{Mark, Marks, index_of};
 use crate::position::{Child, Position};
 use crate::spread::rows_among;
 use empty_cells::Empties;
@@ -62,16 +62,6 @@ pub fn marks_of(
     Ok(marks)
 }
 
-/// Whether one of the marks is of pieces with these counts.
-fn is_known(known: &[Mark], counts: &Counts) -> bool {
-    for mark in known {
-        if mark.counts == *counts {
-            return true;
-        }
-    }
-    false
-}
-
 impl Marks {
     ghost use Rattle.std.specs.Prelude.{◌+◌, ◌<◌, ℕ, slice_index};
     ghost use Rattle.lane_board.specs.Field.{difference};
@@ -99,10 +89,10 @@ impl Marks {
             (sent_cells self.now.rows child.now.placement)))) }
     {
         let piece = child.placement.piece;
-        let Some(place) = self.place_with(hand, left, piece) else {
+        let Some(index) = self.index_with(hand, left, piece) else {
             return Ok(None);
         };
-        let mark = &self.known[place as usize];
+        let mark = &self.known[index as usize];
         let tilings = mark.tilings.with(alloc, piece, taken)?;
         Ok(Some(Mark { counts, tilings }))
     }
@@ -125,7 +115,7 @@ impl Marks {
         let mut known = Vec::new(alloc);
         for hand in hands {
             let counts = counts_of(*hand, left + 1);
-            if is_known(known.as_slice(), &counts) {
+            if index_of(known.as_slice(), &counts).is_some() {
                 continue;
             }
             if let Some(mark) = self.mark_after(alloc, child, left, *hand, counts, &taken)? {

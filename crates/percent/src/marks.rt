@@ -16,7 +16,7 @@ ghost use Rattle.percent.specs.GoodHands.{is_good};
 ghost use Rattle.percent.specs.Marks.{ArePlaces, HasMarkAt, IsMarkOf, IsStanding, IsTrueMark};
 ghost use Rattle.percent.specs.Spread.{IsSpread};
 
-use crate::fitting::{Counts, counts_of, fitting};
+use crate::fitting::{Counts, are_same, counts_of, fitting};
 use crate::position::{Child, Position};
 use crate::spread::rows_among;
 use empty_cells::Empties;
@@ -75,6 +75,19 @@ fn listed(alloc: Global, lister: &mut Lister, cells: &Empties, counts: Counts) -
     let [_, i, l, o, z, t, j, s] = counts;
     let tilings = lister.tilings(alloc, cells, &[i, l, o, z, t, j, s], MOST)?;
     Some(Mark { counts, tilings })
+}
+
+/// The index of the mark of pieces with these counts, if it is among the first 64.
+pub fn index_of(known: &[Mark], counts: &Counts) -> Option<u8>
+    ensures { IfSome result (λ index. HasMarkAt known.now index counts.now) }
+{
+    for index in 0..known.len().min(64) {
+        let mark = &known[index];
+        if are_same(&mark.counts, counts) {
+            return Some(index as u8);
+        }
+    }
+    None
 }
 
 /// Whether a placement may stand in a tiling of the mark at a place, given in which marks it does. If there is no mark, it
@@ -136,28 +149,15 @@ impl Marks {
         Ok(true)
     }
 
-    /// The place of the mark of pieces with these counts, if there is one.
-    fn place_of(&self, counts: &Counts) -> Option<u8>
-        ensures { IfSome result (λ place. HasMarkAt self.now.known.items place counts.now) }
-    {
-        for place in 0..self.known.len().min(64) {
-            let mark = &self.known[place];
-            if mark.counts == *counts {
-                return Some(place as u8);
-            }
-        }
-        None
-    }
-
-    /// The place of the mark of the pieces of a rest and one more, if there is one.
-    pub fn place_with(&self, rest: u64, left: u8, piece: Piece) -> Option<u8>
+    /// The index of the mark of the pieces of a rest and one more, if there is one.
+    pub fn index_with(&self, rest: u64, left: u8, piece: Piece) -> Option<u8>
         requires { left ≤ 20 }
-        ensures { IfSome result (λ place. IsMarkOf self.now.known.items piece left rest place) }
+        ensures { IfSome result (λ index. IsMarkOf self.now.known.items piece left rest index) }
     {
         if self.known.is_empty() {
             return None;
         }
-        self.place_of(&counts_with(rest, left + 1, piece))
+        index_of(self.known.as_slice(), &counts_with(rest, left + 1, piece))
     }
 
     /// These rests, with the places of their marks when a piece is placed first.
@@ -175,7 +175,7 @@ impl Marks {
     {
         let mut places = Vec::with_capacity(alloc, rests.len())?;
         for rest in &rests {
-            places.push(self.place_with(*rest, left, piece))?;
+            places.push(self.index_with(*rest, left, piece))?;
         }
         Ok(Asked { rests, places })
     }

@@ -2,6 +2,7 @@
 ghost use Rattle.std.specs.Prelude.{◌≡◌, ◌≤◌, ◌<◌, IsPermutation};
 ghost use Rattle.srs.specs.Piece.{all_pieces};
 
+use crate::position::Child;
 use hold_queue::Hold;
 use srs::Piece;
 use std::cmp::Reverse;
@@ -27,6 +28,16 @@ pub fn roughness(well: &Well, rows: u8) -> u32
         above = row;
     }
     sum
+}
+
+/// A number by which positions after the places of a piece are tried: the least rough first, and those that are equally
+/// rough in the order of placements.
+pub fn rank(child: &Child) -> u64 {
+    let placement = &child.placement;
+    u64::from(child.position.roughness) << 24
+        | u64::from(placement.rotation.place()) << 16
+        | u64::from(placement.y) << 8
+        | u64::from(placement.x)
 }
 
 /// How many hands want each code. With hold, a hand wants its first and its second piece.

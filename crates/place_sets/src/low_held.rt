@@ -15,11 +15,11 @@ use srs::{Piece, Placement};
 /// Canonical placements of one piece with the pivot in rows 0 to 7.
 #[derive(Clone, Copy)]
 pub struct LowPlaces {
+    /// Their pivots: two words for each rotation, in the order 0, R, 2, L; four rows in each word, and sixteen bits for
+    /// each row. They come first, so that pairs of them are copied as they were written.
+    words: [u64; 8],
     /// The index of their piece in the order of codes. It takes a whole word, so that all parts of the set are words.
     kind: u64,
-    /// Their pivots: two words for each rotation, in the order 0, R, 2, L; four rows in each word, and sixteen bits for
-    /// each row.
-    words: [u64; 8],
     ghost seven: { kind < 7 },
 }
 
@@ -74,7 +74,15 @@ impl LowPlaces {
     fn piece(&self) -> Piece
         ensures { result ≡ piece_of self.now }
     {
-        Piece::ALL[self.kind as usize]
+        match self.kind {
+            0 => Piece::I,
+            1 => Piece::L,
+            2 => Piece::O,
+            3 => Piece::Z,
+            4 => Piece::T,
+            5 => Piece::J,
+            _ => Piece::S,
+        }
     }
 
     /// The placements of a piece with these pivots whose cells all lie below row `rows`.
@@ -87,7 +95,6 @@ impl LowPlaces {
     {
         let left = rows_left(piece, rows);
         LowPlaces {
-            kind: kind_of(piece),
             words: [
                 rows_under(&states.spawn, 0, left[0]),
                 rows_under(&states.spawn, 4, left[0]),
@@ -98,6 +105,7 @@ impl LowPlaces {
                 rows_under(&states.left, 0, left[3]),
                 rows_under(&states.left, 4, left[3]),
             ],
+            kind: kind_of(piece),
         }
     }
 

@@ -6,7 +6,6 @@ use Rattle.std.proofs.lemmas.Bool.{cases_Bool}
 use Rattle.lane_board.specs.Field.{Field}
 use Rattle.lane_board.specs.FullRows.{columns}
 use Rattle.lane_board.specs.CellCount.{cell_count}
-use Rattle.srs.specs.declared.piece.Piece.{Piece}
 use Rattle.srs.specs.declared.placement.Placement.{Placement}
 use Rattle.lists.proofs.CallerLemmas.{Contains-cases, Contains-none, Contains-range, find-false, find-true}
 use Rattle.well.specs.declared.well.Well.{Well}

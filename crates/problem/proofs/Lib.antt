@@ -2,4 +2,5 @@
 mod Game
 mod NeededCount
 mod ListLaws
+mod RunLemmas
 pub mod CallerLemmas

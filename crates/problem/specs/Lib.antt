@@ -4,3 +4,4 @@ pub mod Problem
 pub mod Faults
 pub mod Solution
 pub mod SolutionList
+pub mod Runs

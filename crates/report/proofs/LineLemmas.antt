@@ -12,13 +12,12 @@ use Rattle.well.specs.Lock.{locked, rows_removed}
 use Rattle.moves.specs.declared.key.DropMode.{DropMode}
 use Rattle.moves.specs.declared.key.Key.{Key}
 use Rattle.lane_board.proofs.CallerLemmas.{cell_count-le}
-use Rattle.lane_board.specs.CellCount.{cell_count}
-use Rattle.combo.proofs.CallerLemmas.{runs_take_cells}
+use Rattle.problem.proofs.CallerLemmas.{runs_take_cells}
 use Rattle.problem.specs.Plays.{Plays}
 use Rattle.well.proofs.CallerLemmas.{free_inside}
 use Rattle.moves.proofs.CallerLemmas.{place-free}
 use Rattle.sequence_text.specs.Written.{keyed_form, sequence_form, without_keys}
-use Rattle.combo.specs.Runs.{Runs}
+use Rattle.problem.specs.Runs.{Runs}
 use Rattle.report.specs.Played.{AreFree}
 use Rattle.report.specs.Forms.{KeysOf, key_part, keyed, line_form}
 

@@ -1,5 +1,5 @@
 -- The text of placements without keys is that of placements with none.
-use Rattle.std.proofs.Common.{◌≡◌, ℕ, List, [], ◌∷◌, ◌++◌, append-nil, refl, sym}
+use Rattle.std.proofs.Common.{◌≡◌, List, [], ◌∷◌, ◌++◌, append-nil, refl, sym}
 use Rattle.std.specs.List.{flat_map}
 use Rattle.srs.specs.declared.placement.Placement.{Placement}
 use Rattle.placement_form.specs.Form.{placement_form}

@@ -1,6 +1,5 @@
 -- What is written of placements in the well spells them.
-use Rattle.std.proofs.Common.{◌≡◌, ℕ, suc, ◌≤◌, List, [], ◌∷◌, ◌++◌, length, map, All, append-nil, append_assoc, Some, None, refl, sym, subst, arith}
-use Rattle.std.specs.List.{flat_map}
+use Rattle.std.proofs.Common.{suc, ◌≤◌, List, [], ◌∷◌, length, map, All, append-nil, append_assoc, Some, None, refl, sym, subst, arith}
 use Rattle.std.proofs.lemmas.List.{length-map}
 use Rattle.srs.specs.declared.placement.Placement.{Placement}
 use Rattle.moves.specs.Keys.{key_letter}

@@ -1,27 +1,25 @@
 -- What comes to a list, one step after the other.
-use Rattle.std.proofs.Common.{◌≡◌, ◌⊎◌, ℕ, ◌+◌, ◌<◌, bit_and, Bool, true, false, not, ◌&&◌, ◌==◌, nat_le, List, [], ◌∷◌, ◌++◌, refl, sym, ap, ap₂, subst, ◌∙◌, inl, inr, arith}
+use Rattle.std.proofs.Common.{◌≡◌, ◌⊎◌, ℕ, ◌+◌, ◌<◌, bit_and, Bool, true, false, not, ◌&&◌, ◌==◌, nat_le, List, [], ◌∷◌, ◌++◌, refl, sym, ap, subst, ◌∙◌, inl, inr}
 use Rattle.std.specs.List.{Contains}
-use Rattle.std.proofs.lemmas.Bool.{and_parts, and_from, both_ways, cases_eq, le-leb, leb-true, ne_eqb, eq-eqb, false_from_ne_true}
+use Rattle.std.proofs.lemmas.Bool.{and_parts, both_ways, cases_eq, ne_eqb, eq-eqb, false_from_ne_true}
 use Rattle.std.proofs.lemmas.List.{append-nil, append_assoc}
 use Rattle.std.proofs.lemmas.List.Elements.{Contains-append_left, Contains-append_right, Contains-append_cases}
 use Rattle.lane_board.specs.Field.{Field}
 use Rattle.lane_board.specs.Lanes.{has_bit}
-use Rattle.lane_board.proofs.CallerLemmas.{has_bit-and, has_bit-zero}
+use Rattle.lane_board.proofs.CallerLemmas.{has_bit-zero}
 use Rattle.empty_cells.specs.declared.span.Span.{Span}
 use Rattle.empty_cells.specs.Spans.{has_span, without_span}
 use Rattle.empty_cells.specs.Stacks.{MayTake, Stacks, is_allowed}
-use Rattle.empty_cells.proofs.CallerLemmas.{IsSmall, some_in_span}
+use Rattle.empty_cells.proofs.CallerLemmas.{IsSmall, bit_from_may, may_from_bit, some_in_span, was_unset}
 use Rattle.tiled_pieces.specs.declared.listed.ListedTiling.{ListedTiling}
 use Rattle.tiled_pieces.specs.declared.listing.Listing.{Listing}
 use Rattle.tiled_pieces.specs.TilingLists.{LaidPiece}
 use Rattle.tiled_pieces.specs.Listings.{Adds, Lies, Lists, path_of}
+use Rattle.tiled_pieces.proofs.ListedLemmas.{none_listed}
 
 -- what holds of a path and of the pieces that are found
 abbrev pub Fact : Type 1
 Fact = List LaidPiece → List LaidPiece → Type 0
-
-none_among : (tiling : ListedTiling) → Contains [] tiling → ⊥
-none_among tiling (k, below, _) = absurd (omega arith)
 
 not_full : (x y : Bool) → (x ≡ true → y ≡ true) → y ≡ false → x ≡ false
 not_full x y implied room = false_from_ne_true x (λ is. both_ways y room (implied is))
@@ -34,7 +32,7 @@ adds_none list Least Most none = record {
   path = refl;
   full = λ is. is;
   gained = λ _ found least. absurd (none _ found least);
-  only = λ tiling listed. absurd (none_among tiling listed);
+  only = λ tiling listed. absurd (none_listed tiling listed);
 }
 
 -- or where the list is full
@@ -45,7 +43,7 @@ adds_full old new Least Most same path full = record {
   path = path;
   full = λ _. full;
   gained = λ room found least. absurd (both_ways _ room full);
-  only = λ tiling listed. absurd (none_among tiling listed);
+  only = λ tiling listed. absurd (none_listed tiling listed);
 }
 
 -- one step and then another one
@@ -102,18 +100,12 @@ pub rows-start : (By All : List LaidPiece → List LaidPiece → Field → Type 
     ((row : ℕ) → row < 8 → has_bit rows row ≡ has_span E x span row) → ((row : ℕ) → row < 8 → has_bit permitted row ≡ (nat_le floor row && is_allowed y floor span row)) →
     RowsGone By All E x y floor span spans (bit_and rows permitted) old old
 rows-start By All E x y floor span spans rows permitted old small has allowed = record {
-  may = λ row low bit.
-      let both = and_parts _ _ (sym (bits row low) ∙ bit) in
-      let inner = and_parts _ _ both.1 in
-      record { above = leb-true floor row inner.0; permitted = inner.1; has = both.0 };
+  may = may_from_bit E x y floor span rows permitted has allowed;
   adds = adds_none old (StacksGone By E x y floor span spans (bit_and rows permitted)) (StacksGone All E x y floor span spans (bit_and rows permitted)) (λ path found gone.
       let cell = some_in_span E x span gone.row gone.may.has in
       let low = small.row cell.0 gone.row cell.1 in
-      both_ways _ gone.gone (bits gone.row low ∙ and_from _ _ gone.may.has (and_from _ _ (le-leb floor gone.row gone.may.above) gone.may.permitted)));
+      both_ways _ gone.gone (bit_from_may E x y floor span rows permitted has allowed gone.row low gone.may));
 }
-  where
-    bits : (row : ℕ) → row < 8 → has_bit (bit_and rows permitted) row ≡ (has_span E x span row && (nat_le floor row && is_allowed y floor span row))
-    bits row low = has_bit-and rows permitted row ∙ ap₂ ◌&&◌ (has row low) (allowed row low)
 
 and_none : (b : Bool) → (b && false) ≡ false
 and_none true = refl
@@ -141,12 +133,8 @@ module _ (E rest : Field) (x y floor : ℕ) (span : Span) (spans : List Span) (r
         (subst (λ k. Stacks (is_allowed y) (By path found) (without_span E x span k) x (k + 1) spans) same g.stacks))
     | inr other ↦
         let cell = some_in_span E x span g.row g.may.has in
-        inl (record { row = g.row; may = g.may; gone = was (has_bit rows g.row) (g.row == row) (ne_eqb g.row row other) (sym (others g.row (small.row cell.0 g.row cell.1)) ∙ g.gone); stacks = g.stacks })
+        inl (record { row = g.row; may = g.may; gone = was_unset (has_bit rows g.row) (g.row == row) (ne_eqb g.row row other) (sym (others g.row (small.row cell.0 g.row cell.1)) ∙ g.gone); stacks = g.stacks })
   ]
-    where
-      was : (p q : Bool) → q ≡ false → (p && not q) ≡ false → p ≡ false
-      was true q other left = absurd (both_ways true (ap (λ t. true && not t) (sym other) ∙ left) refl)
-      was false q other left = refl
 
 pub rows-next : (By All : List LaidPiece → List LaidPiece → Field → Type 0) (E rest : Field) (x column y floor : ℕ) (span : Span) (spans : List Span) (rows less row : ℕ) (a b c : Listing) → IsSmall 8 E → row < 8 → has_bit rows row ≡ true →
     rest ≡ without_span E x span row → column ≡ x → ((k : ℕ) → k < 8 → has_bit less k ≡ (has_bit rows k && not (k == row))) → RowsGone By All E x y floor span spans rows a b →

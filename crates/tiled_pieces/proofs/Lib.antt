@@ -9,4 +9,5 @@ mod LaidLemmas
 mod StepLemmas
 mod StandsLemmas
 mod ListedAll
+mod StandingLemmas
 pub mod CallerLemmas

@@ -1,5 +1,5 @@
 -- What a list of all tilings says of one piece: it is in some of them where the others fill the rest, and those that have it are all tilings of the rest.
-use Rattle.std.proofs.Common.{◌≡◌, ◌<◌, ◌≤◌, Bool, true, false, not, cond, ◌&&◌, ◌||◌, List, ◌∷◌, pos, refl, sym, subst}
+use Rattle.std.proofs.Common.{◌≡◌, ◌<◌, ◌≤◌, true, cond, List, ◌∷◌, pos, sym, subst}
 use Rattle.std.proofs.Math.Path.{fun_ext}
 use Rattle.std.specs.List.{Contains, list_all}
 use Rattle.std.proofs.lemmas.List.Elements.{All-head, All-tail}
@@ -11,7 +11,7 @@ use Rattle.prune.specs.Tiling.{IsGeneralized, Part, Supply, Tiling, covers, is_e
 use Rattle.prune.specs.OnePart.{less_one, with_cells}
 use Rattle.prune.proofs.CallerLemmas.{WithPart, one_part_more}
 use Rattle.empty_cells.specs.Empties.{all_but, has_cell}
-use Rattle.empty_cells.proofs.CallerLemmas.{IsSmall, empty_within, one_back}
+use Rattle.empty_cells.proofs.CallerLemmas.{IsSmall, empty_within, not_without, one_back}
 use Rattle.tiled_pieces.specs.declared.listed.ListedTiling.{ListedTiling}
 use Rattle.tiled_pieces.specs.TilingLists.{HasParts, HasPiece, ListsAll, SomeHas, laid_part}
 
@@ -26,14 +26,9 @@ pub record LiesIn (E : Field) (supply : Supply) (part : Part) : Type 0 where
 abbrev pub left_by_part : Field → Part → Field
 left_by_part E part = difference E (laid_part part).cells
 
-less : (p q : Bool) → (not p || q) ≡ not (p && not q)
-less true true = refl
-less true false = refl
-less false q = refl
-
 pub left_is : (E : Field) (part : Part) → all_but (left_by_part E part) ≡ with_cells (all_but E) part.cells
 unfolding all_but difference with_cells
-left_is E part = sym (fun_ext (λ a. fun_ext (λ b. less (E a b) (is_among part.cells (pos a, pos b)))))
+left_is E part = sym (fun_ext (λ a. fun_ext (λ b. not_without (E a b) (is_among part.cells (pos a, pos b)))))
 
 -- a tiling with the piece and the parts of a tiling of the rest
 pub record TilingWith (E : Field) (supply : Supply) (part : Part) (parts : List Part) : Type 0 where

@@ -53,7 +53,7 @@ none_at_all tiling laid place before last has = before.none has.place (omega (ar
 pub record NoneHave (list : List ListedTiling) (laid : LaidPiece) (index : ℕ) : Type 0 where
   pub none : (tiling : ListedTiling) → Contains (take index list) tiling → HasPiece tiling laid → ⊥
 
-none_listed : (tiling : ListedTiling) → Contains [] tiling → ⊥
+pub none_listed : (tiling : ListedTiling) → Contains [] tiling → ⊥
 none_listed tiling (k, below, _) = absurd (omega arith)
 
 pub have_first : (list : List ListedTiling) (laid : LaidPiece) → NoneHave list laid 0
@@ -72,6 +72,9 @@ have_next list laid index x answer below at before both none_here = record { non
 pub have_none : (list : List ListedTiling) (laid : LaidPiece) (index : ℕ) → length list ≤ index → NoneHave list laid index → SomeHas list laid → ⊥
 have_none list laid index last before some = before.none some.tiling (subst (λ l. Contains l some.tiling) (sym (take_all index list last)) some.listed) some.has
 
+one_further : (list : List ListedTiling) (index : ℕ) (x : ListedTiling) → index < length list → x ≡ get_or list index x → take (index + 1) list ≡ take index list ++ x ∷ []
+one_further list index x below at = take_more list index x below ∙ ap (λ t. take index list ++ t ∷ []) (sym at)
+
 -- the tilings before this one that have the piece
 pub record KeptWith (list kept : List ListedTiling) (laid : LaidPiece) (index : ℕ) : Type 0 where
   pub both : (tiling : ListedTiling) → Contains kept tiling ↔ (Contains (take index list) tiling × HasPiece tiling laid)
@@ -84,7 +87,7 @@ pub kept_next : (list kept more : List ListedTiling) (laid : LaidPiece) (index :
 kept_next list kept more laid index x below at before has is = record { both = both }
   where
     longer : take (index + 1) list ≡ take index list ++ x ∷ []
-    longer = take_more list index x below ∙ ap (λ t. take index list ++ t ∷ []) (sym at)
+    longer = one_further list index x below at
 
     both : (tiling : ListedTiling) → Contains more tiling ↔ (Contains (take (index + 1) list) tiling × HasPiece tiling laid)
     both tiling = (
@@ -105,7 +108,7 @@ pub kept_passed : (list kept : List ListedTiling) (laid : LaidPiece) (index : �
 kept_passed list kept laid index x answer below at before has none_here = record { both = both }
   where
     longer : take (index + 1) list ≡ take index list ++ x ∷ []
-    longer = take_more list index x below ∙ ap (λ t. take index list ++ t ∷ []) (sym at)
+    longer = one_further list index x below at
 
     both : (tiling : ListedTiling) → Contains kept tiling ↔ (Contains (take (index + 1) list) tiling × HasPiece tiling laid)
     both tiling = (

@@ -1,8 +1,6 @@
 -- The steps of a walk that lists tilings.
-use Rattle.std.proofs.Common.{◌≡◌, ◌⊎◌, ℕ, zero, suc, ◌<◌, true, false, List, [], ◌∷◌, ◌++◌, length, map, replicate, get_or, refl, sym, ap, subst, ◌∙◌, inl, inr, arith}
-use Rattle.std.specs.Prelude.{All}
+use Rattle.std.proofs.Common.{◌≡◌, ◌⊎◌, ℕ, zero, suc, ◌<◌, false, List, [], ◌∷◌, ◌++◌, length, map, get_or, refl, sym, ap, subst, ◌∙◌, inl, inr, arith}
 use Rattle.std.proofs.lemmas.List.{append-nil, length-append}
-use Rattle.std.proofs.lemmas.List.Elements.{All-replicate}
 use Rattle.lane_board.specs.Field.{Field, difference}
 use Rattle.srs.specs.declared.piece.Piece.{Piece}
 use Rattle.srs.specs.declared.piece.Piece.TheVariants.{I, L, O, Z, T, J, S}
@@ -10,17 +8,13 @@ use Rattle.prune.specs.Tiling.{Supply}
 use Rattle.prune.specs.Laws.{with_one}
 use Rattle.prune.specs.OnePart.{less_one}
 use Rattle.prune.proofs.CallerLemmas.{no_parts}
-use Rattle.empty_cells.specs.declared.empties.Empties.{Empties}
-use Rattle.empty_cells.specs.declared.supply.SupplyWord.{SupplyWord}
-use Rattle.empty_cells.specs.Empties.{all_but, empty_cells}
-use Rattle.empty_cells.specs.SupplyWords.{supply_of}
-use Rattle.tiled_pieces.specs.declared.dead.Dead.{Dead}
+use Rattle.empty_cells.specs.Empties.{all_but}
 use Rattle.empty_cells.specs.Spans.{HasNoCell, IsFirst, forms_of}
 use Rattle.empty_cells.specs.Stacks.{CanFill, Stacks, is_allowed}
 use Rattle.empty_cells.proofs.CallerLemmas.{IsSmall, one_back, total}
 use Rattle.tiled_pieces.specs.declared.listing.Listing.{Listing}
 use Rattle.tiled_pieces.specs.TilingLists.{LaidPiece, laid_part}
-use Rattle.tiled_pieces.specs.Listings.{Adds, AreLaid, GoesOn, GoesOnWith, HasFirst, IsAny, IsDead, StacksForm, StacksSome, TakesFirst, path_of}
+use Rattle.tiled_pieces.specs.Listings.{Adds, AreLaid, GoesOn, GoesOnWith, HasFirst, IsAny, StacksForm, StacksSome, TakesFirst, path_of}
 use Rattle.tiled_pieces.proofs.AddsLemmas.{Fact, adds_as, adds_then}
 use Rattle.tiled_pieces.proofs.LaidLemmas.{TilingOf, form_found, in_order, none_empty, some_takes, tiling_of}
 
@@ -143,12 +137,3 @@ none_added supply E a b small adds same room t =
     let order = in_order (total supply) supply E (omega arith) small t in
     let listed = adds.gained room (path_of a.path ++ order.laid) (record { more = order.laid; is = refl; laid = order.are }) in
     absurd (omega (arith, same, ap length adds.longer ∙ length-append a.tilings.items adds.more, listed.listed.1))
-
--- a question that is known to have no tiling has none
-pub dead_known : (dead : Dead) (cells : Empties) (supply : SupplyWord) (E : Field) → IsDead dead → (dead.is_known ≡ true) × (empty_cells dead.cells ≡ empty_cells cells) × (dead.supply ≡ supply) → empty_cells cells ≡ E → CanFill 8 (supply_of supply) E → ⊥
-dead_known dead cells supply E is (known, same, word) all filling =
-    is known (subst (λ (s : SupplyWord). CanFill 8 (supply_of s) (empty_cells dead.cells)) (sym word) (subst (λ (F : Field). CanFill 8 (supply_of supply) F) (sym (same ∙ all)) filling))
-
--- the same question at each place
-pub dead_places : (n : ℕ) (dead : Dead) (items : List Dead) → items ≡ replicate n dead → IsDead dead → All IsDead items
-dead_places n dead items is holds = subst (λ xs. All IsDead xs) (sym is) (All-replicate IsDead n dead holds)

@@ -8,13 +8,12 @@ use Rattle.prune.specs.Tiling.{IsGeneralized, Part, Supply}
 use Rattle.prune.specs.OnePart.{less_one}
 use Rattle.empty_cells.specs.declared.shifted.Shifted.{Shifted}
 use Rattle.empty_cells.specs.declared.span.Span.{Span}
-use Rattle.empty_cells.specs.Empties.{empty_cells, has_cell}
+use Rattle.empty_cells.specs.Empties.{has_cell}
 use Rattle.empty_cells.specs.ShiftedCells.{shifted_cells}
 use Rattle.empty_cells.specs.Spans.{HasNoCell, IsFirst, forms_of}
-use Rattle.empty_cells.specs.Stacks.{CanFill, Stacks, is_allowed}
+use Rattle.empty_cells.specs.Stacks.{Stacks, is_allowed}
 use Rattle.empty_cells.specs.SupplyWords.{supply_of}
 use Rattle.tiled_pieces.specs.declared.cover.Cover.{Cover}
-use Rattle.tiled_pieces.specs.declared.dead.Dead.{Dead}
 use Rattle.tiled_pieces.specs.declared.listed.ListedTiling.{ListedTiling}
 use Rattle.tiled_pieces.specs.declared.listing.Listing.{Listing}
 use Rattle.tiled_pieces.specs.declared.path.Path.{Path}
@@ -115,7 +114,3 @@ pub record Adds (old new : Listing) (Least Most : List LaidPiece → List LaidPi
   pub full : old.is_full ≡ true → new.is_full ≡ true
   pub gained : new.is_full ≡ false → (found : List LaidPiece) → Least (path_of old.path) found → Lists more found
   pub only : (tiling : ListedTiling) → Contains more tiling → Lies (Most (path_of old.path)) tiling
-
--- a question that is known to have no tiling has none
-abbrev pub IsDead : Dead → Type 0
-IsDead dead = IsTrue dead.is_known → CanFill 8 (supply_of dead.supply) (empty_cells dead.cells) → ⊥

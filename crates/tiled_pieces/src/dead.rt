@@ -1,38 +1,67 @@
 // Questions without a tiling.
-ghost use Rattle.std.specs.Prelude.{◌≡◌, IsTrue};
+ghost use Rattle.std.specs.Prelude.{IsTrue, ⊤};
 ghost use Rattle.empty_cells.specs.Empties.{empty_cells};
+ghost use Rattle.empty_cells.specs.Stacks.{CanFill};
+ghost use Rattle.empty_cells.specs.SupplyWords.{supply_of};
 
 use empty_cells::{Empties, SupplyWord};
+use fact_table::{Entry, FactTable};
+use std::alloc::Global;
 
 /// A question, which is a set of cells and a supply, of which it may be known that there is no tiling.
 #[derive(Clone, Copy)]
 pub(crate) struct Dead {
-    pub(crate) cells: Empties,
-    pub(crate) supply: SupplyWord,
-    pub(crate) is_known: bool,
+    cells: Empties,
+    supply: SupplyWord,
+    is_known: bool,
+    ghost holds: { IsTrue is_known → CanFill 8 (supply_of supply) (empty_cells cells) → ⊥ },
 }
 
 impl Dead {
-    ghost use Rattle.std.specs.Prelude.{true};
-    ghost use Rattle.tiled_pieces.specs.Listings.{IsDead};
-
-    /// A question of which nothing is known.
-    pub(crate) fn unknown() -> Dead
-        ensures { IsDead result }
+    /// A question without a tiling.
+    pub(crate) fn new(cells: Empties, supply: SupplyWord) -> Dead
+        requires { CanFill 8 (supply_of supply) (empty_cells cells) → ⊥ }
     {
+        Dead {
+            cells,
+            supply,
+            is_known: true,
+        }
+    }
+
+    /// Whether this is known of the question of these cells and this supply.
+    #[inline(always)]
+    fn is_of(&self, cells: &Empties, supply: SupplyWord) -> bool
+        ensures { IsTrue result → CanFill 8 (supply_of supply) (empty_cells cells.now) → ⊥ }
+    {
+        self.is_known && self.cells.is_equal(cells) && self.supply.is_equal(supply)
+    }
+}
+
+impl Entry for Dead {
+    ghost says_nothing = { λ _. ⊤ };
+
+    fn nothing(_alloc: Global) -> Dead {
         Dead {
             cells: Empties::empty(),
             supply: SupplyWord::new(&[0; 7]),
             is_known: false,
         }
     }
+}
 
-    /// Whether this is known of the question of these cells and this supply.
-    #[inline(always)]
-    pub(crate) fn is_of(&self, cells: &Empties, supply: SupplyWord) -> bool
-        ensures { IsTrue result → IsTrue self.now.is_known
-            × (empty_cells self.now.cells ≡ empty_cells cells.now) × (self.now.supply ≡ supply) }
-    {
-        self.is_known && self.cells.is_equal(cells) && self.supply.is_equal(supply)
+/// Whether it is kept that the question with this hash has no tiling.
+#[inline(always)]
+pub(crate) fn is_dead(
+    cells: &Empties,
+    supply: SupplyWord,
+    hash: u64,
+    known: &FactTable<Dead>,
+) -> bool
+    ensures { IsTrue result → CanFill 8 (supply_of supply) (empty_cells cells.now) → ⊥ }
+{
+    match known.entry(hash) {
+        Some(dead) => dead.is_of(cells, supply),
+        None => false,
     }
 }

@@ -1,5 +1,5 @@
 // All tilings of a set of cells, found by a walk that lays one piece after the other.
-ghost use Rattle.std.specs.Prelude.{ℕ, ◌≡◌, ◌≤◌, ◌<◌, ◌↔◌, IfSome, IsTrue, All, [], ◌∷◌};
+ghost use Rattle.std.specs.Prelude.{ℕ, ◌≡◌, ◌≤◌, ◌<◌, ◌↔◌, IfSome, IsTrue, [], ◌∷◌};
 ghost use Rattle.srs.specs.declared.placement.Placement.{Placement};
 ghost use Rattle.srs.specs.Cells.{is_inside_of};
 ghost use Rattle.prune.specs.Tiling.{supply_in};
@@ -9,14 +9,15 @@ ghost use Rattle.empty_cells.specs.ShiftedCells.{shifted_cells};
 ghost use Rattle.empty_cells.specs.Spans.{IsFirst};
 ghost use Rattle.empty_cells.specs.SupplyWords.{supply_of};
 ghost use Rattle.tiled_pieces.specs.TilingLists.{ListsAll, ListsOnly, SomeHas, StandsInTiling, laid_placement};
-ghost use Rattle.tiled_pieces.specs.Listings.{Adds, GoesOn, GoesOnWith, HasFirst, IsAny, IsDead, StacksSome, StacksUp, TakesFirst};
+ghost use Rattle.tiled_pieces.specs.Listings.{Adds, GoesOn, GoesOnWith, HasFirst, IsAny, StacksSome, StacksUp, TakesFirst};
 
 use crate::cover::Cover;
-use crate::dead::Dead;
+use crate::dead::{Dead, is_dead};
 use crate::list::TilingList;
 use crate::listing::Listing;
 use Span::{AllFour, First, FirstThree, FirstTwo, Second, SecondTwo, Third};
-use empty_cells::{Empties, Shifted, Span, SupplyWord, allowed, lowest_row, place_of, without_row};
+use empty_cells::{Empties, Shifted, Span, SupplyWord, allowed, hash_of, lowest_row, without_row};
+use fact_table::FactTable;
 use srs::Piece;
 use std::alloc::Global;
 use std::mem;
@@ -27,19 +28,8 @@ const PLACES: usize = 32_768;
 /// Lists all tilings, and keeps which questions have none.
 #[derive(Drop)]
 pub struct Lister {
-    known: Vec<Dead>,
+    known: FactTable<Dead>,
     listing: Listing,
-    ghost are_true: { All IsDead known.items },
-}
-
-/// An entry for each question that is kept, or none if there is not enough memory.
-fn places(alloc: Global) -> Vec<Dead>
-    ensures { All IsDead result.items }
-{
-    match vec![in alloc; Dead::unknown(); PLACES] {
-        Ok(known) => known,
-        Err(_) => Vec::new(alloc),
-    }
 }
 
 // The tilings with the lowest span in each of the rows that it may be in.
@@ -59,7 +49,7 @@ impl Lister {
     /// A lister that knows nothing yet. If there is not enough memory for it, it keeps nothing.
     pub fn new(alloc: Global) -> Lister {
         Lister {
-            known: places(alloc),
+            known: FactTable::within_memory(alloc, PLACES),
             listing: Listing::new(alloc, 0),
         }
     }
@@ -91,16 +81,6 @@ impl Lister {
         Some(TilingList { tilings })
     }
 
-    /// Keeps that a question has no tiling.
-    fn note(&mut self, place: usize, dead: Dead)
-        requires { IsDead dead }
-        ensures { self.new.listing ≡ self.old.listing }
-    {
-        if place < self.known.len() {
-            self.known[place] = dead;
-        }
-    }
-
     /// Adds all tilings that begin with the laid pieces and go on with these cells.
     #[cycle(walk)]
     fn search(&mut self, cells: &Shifted, supply: SupplyWord)
@@ -115,7 +95,7 @@ impl Lister {
             self.listing.add();
             return;
         };
-        if self.known.is_empty() || counted.is_few() {
+        if self.known.is_without_room() || counted.is_few() {
             self.covers(&counted, y, supply);
             return;
         }
@@ -130,28 +110,20 @@ impl Lister {
     #[cycle(walk)]
     #[inline(always)]
     fn asks(&mut self, cells: &Shifted, y: u8, supply: SupplyWord)
-        requires some { 0 < self.old.known.len }
-        requires first { IsFirst (shifted_cells cells.now) cells.now.x y }
+        requires { IsFirst (shifted_cells cells.now) cells.now.x y }
         ensures { Adds self.old.listing self.new.listing
             (GoesOn HasFirst (supply_of supply) (shifted_cells cells.now))
             (GoesOn IsAny (supply_of supply) (shifted_cells cells.now)) }
     {
-        let all = cells.cells();
-        let place = place_of(&all, supply, self.known.len());
-        if self.known[place].is_of(&all, supply) {
+        let counted = cells.counted();
+        let hash = hash_of(&counted, supply);
+        if is_dead(&counted, supply, hash, &self.known) {
             return;
         }
         let before = self.listing.tilings.len();
         self.covers(cells, y, supply);
-        if self.listing.tilings.len() == before && !self.listing.is_full {
-            self.note(
-                place,
-                Dead {
-                    cells: all,
-                    supply,
-                    is_known: true,
-                },
-            );
+        if self.listing.is_none_since(before) {
+            self.known.put(hash, Dead::new(counted, supply));
         }
     }
 

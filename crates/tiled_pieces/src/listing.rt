@@ -15,7 +15,7 @@ pub(crate) struct Listing {
 }
 
 impl Listing {
-    ghost use Rattle.std.specs.Prelude.{◌≡◌, List, [], false};
+    ghost use Rattle.std.specs.Prelude.{◌≡◌, IsTrue, List, [], false};
     ghost use Rattle.tiled_pieces.specs.TilingLists.{LaidPiece};
     ghost use Rattle.tiled_pieces.specs.Listings.{Adds, path_of};
 
@@ -48,5 +48,14 @@ impl Listing {
             Ok(()) => {}
             Err(_) => self.is_full = true,
         }
+    }
+
+    /// Whether no tiling came and none was left out since there were so many.
+    #[inline(always)]
+    pub(crate) fn is_none_since(&self, before: usize) -> bool
+        ensures same { IsTrue result → self.now.tilings.len ≡ before }
+        ensures room { IsTrue result → self.now.is_full ≡ false }
+    {
+        self.tilings.len() == before && !self.is_full
     }
 }

@@ -1,5 +1,5 @@
 -- Each row is the first of those that are left.
-use Rattle.std.proofs.Common.{◌≡◌, ◌+◌, ◌∙◌, ap, sym, subst, arith, refl}
+use Rattle.std.proofs.Common.{◌≡◌, ◌+◌, ◌∙◌, ap, sym, subst, arith}
 use Rattle.std.specs.List.{flat_map}
 use Rattle.pc_outside.specs.CountLaws.{none_more, none_yet}
 use Rattle.pc_outside.specs.Writes.{GrowsUpTo}

@@ -2,7 +2,7 @@
 use Rattle.std.proofs.Common.{[], refl, sym, subst, inl, arith}
 use Rattle.srs.specs.Rules.{table_of}
 use Rattle.well.specs.Well.{filled}
-use Rattle.combo.specs.Runs.{Runs}
+use Rattle.problem.specs.Runs.{Runs}
 use Rattle.report.specs.Forms.{key_part}
 use Rattle.report.specs.Keys.{has_keys}
 use Rattle.pc_settings.specs.Views.{combo_view}

@@ -1,6 +1,5 @@
 -- One column more.
-use Rattle.std.proofs.Common.{◌≡◌, ◌<◌, ℕ, Bool, true, false, ◌&&◌, ◌||◌, ◌==◌, ◌+◌, get_or, refl, sym, ap, ap₂, ◌∙◌, arith}
-use Rattle.std.proofs.lemmas.Bool.{agree_below_at, eqb-true}
+use Rattle.std.proofs.Common.{◌≡◌, ◌<◌, Bool, true, false, ◌&&◌, ◌||◌, ◌+◌, get_or, refl, sym, ap, ap₂, ◌∙◌, arith}
 use Rattle.std.proofs.lemmas.List.{take_all}
 use Rattle.std.proofs.lemmas.List.Folds.{list_any_more}
 use Rattle.std.specs.List.{list_any}
@@ -8,14 +7,12 @@ use Rattle.lane_board.specs.FullRows.{columns}
 use Rattle.lane_board.proofs.CallerLemmas.{has_bit-or, has_bit-zero}
 use Rattle.empty_cells.specs.Empties.{empty_cells}
 use Rattle.empty_cells.specs.Spans.{has_span}
+use Rattle.empty_cells.proofs.HasTilingLemmas.{column_at}
 use Rattle.empty_cells.proofs.empties.Empties.rows.Goals as goal
 
 and_true : (b : Bool) → (b && true) ≡ b
 and_true true = refl
 and_true false = refl
-
-column_at : (x : ℕ) → x < 10 → get_or columns x 0 ≡ x
-column_at x near = eqb-true _ _ (agree_below_at (λ k. get_or columns k 0 == k) (λ k. true) 10 x refl near)
 
 pub loop-x-init : goal.loop-x-init
 loop-x-init c = λ y low. has_bit-zero y

@@ -18,7 +18,7 @@ invariant_of-self g c = record {
   few = c.args.self.now.few;
   bounded = c.args.self.now.bounded;
   emptied = c.args.self.now.emptied;
-  followed = c.args.self.now.followed;
+  limits = c.args.self.now.limits;
   lined = c.args.self.now.lined;
   supplied = c.args.self.now.supplied;
   lockable = λ x is. subst (λ p. Lockable (filled c.args.self.now.well) p) (some_same is)
@@ -27,6 +27,7 @@ invariant_of-self g c = record {
       (flooded-below (flood_table c.args.rules.now) (filled c.args.self.now.well) c.args.drop_mode c.args.piece c.places_below.result c.places_below.ensures.piece c.args.self.now.rows c.places_below.ensures.held);
   permitted = λ x is. subst (λ p. may_play (queues_in_play c.args.self.now.line.queues) (piece_of p) ≡ true) (some_same is)
       (subst (λ p. may_play (queues_in_play c.args.self.now.line.queues) p ≡ true) (sym c.places_below.ensures.piece) c.requires);
+  live = λ no. cc;
   same_piece = λ x is q none. cc;
 }
 

@@ -26,7 +26,7 @@ invariant_of-child-clause-supplied c =
     let frame = c.args.self.now in
     let left : frame.left ≡ frame.left - 1 + 1 = omega (arith, c.requires.some) in
     supply-moves (queues_in_play frame.line.queues) c.args.placement.now.piece frame.left (SupplyWords.supply_of frame.supply) (SupplyWords.supply_of c.supply_after-supply.result) frame.supplied c.supply_after-supply.ensures
-    ∙ (λ i. supply_of (sym c.line_after-child.ensures i) (left i))
+    ∙ (λ i. supply_of (sym c.lead_line.ensures i) (left i))
 
 pub returns : goal.returns
 returns c =
@@ -34,6 +34,6 @@ returns c =
     let left : c.args.self.now.left - 1 + 1 ≡ c.args.self.now.left = omega (arith, c.requires.some) in
     let live : (table : Table) (mode : DropMode) → is_live (c.args.self.now.left - 1) (after_of (position_of table mode c.args.self.now) c.args.placement.now) ≡ true =
     λ table mode. c.requires.live table mode (c.args.self.now.left - 1) left in (
-      enters-child c.args.self.now c.args.placement.now c.requires.below _ c.lock-removed.ensures.field rows c.line_after-child.ensures left refl refl live,
-      is_child c.args.self.now c.args.placement.now c.requires.below _ c.lock-removed.ensures.field rows c.line_after-child.ensures left refl refl live,
+      enters-child c.args.self.now c.args.placement.now c.requires.below _ c.lock-removed.ensures.field rows c.lead_line.ensures left refl refl live,
+      is_child c.args.self.now c.args.placement.now c.requires.below _ c.lock-removed.ensures.field rows c.lead_line.ensures left refl refl live,
     )

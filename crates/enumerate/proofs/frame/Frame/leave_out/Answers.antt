@@ -1,11 +1,12 @@
 -- What is left out has nothing to do.
 use Rattle.srs.specs.declared.placement.Placement.{Placement}
-use Rattle.std.proofs.Common.{◌≡◌, true, ◌++◌, not, sym, ap, subst, ◌∙◌}
+use Rattle.std.proofs.Common.{◌≡◌, Bool, true, ◌++◌, not, sym, ap, subst, ◌∙◌}
 use Rattle.std.specs.Prelude.{drop}
 use Rattle.std.specs.List.{flat_map}
 use Rattle.srs.specs.Piece.{all_pieces}
 use Rattle.srs.specs.Rotation.{rotation_place}
-use Rattle.lists.proofs.CallerLemmas.{and_first, some_same}
+use Rattle.std.proofs.lemmas.Bool.{and_parts, not-true}
+use Rattle.lists.proofs.CallerLemmas.{some_same}
 use Rattle.lane_board.specs.Words.{cells_of_words}
 use Rattle.well.specs.Well.{filled}
 use Rattle.place_sets.specs.LowPlaces.{holds, piece_of}
@@ -14,7 +15,8 @@ use Rattle.enumerate.specs.Events.{entered, enter, tried_in_turn}
 use Rattle.enumerate.specs.Frames.{events_of, places_left, position_of}
 use Rattle.enumerate.specs.Position.{may_play}
 use Rattle.enumerate.specs.Standing.{may_lock}
-use Rattle.enumerate.proofs.DeadPlaces.{left-out}
+use Rattle.enumerate.specs.LeavesLive.{LeavesLive}
+use Rattle.enumerate.proofs.DeadPlaces.{leads-live, left-out}
 use Rattle.enumerate.proofs.TurnLemmas.{HeldBelow, Lockable}
 use Rattle.enumerate.proofs.frame.Frame.leave_out.Goals as goal
 
@@ -23,14 +25,16 @@ invariant_of-self c =
     let frame = c.args.self.now in
     let places = c.in-Some.places in
     let kept = c.leave_out.new.self in
-    let was : (q : Placement) → holds kept q ≡ true → holds places q ≡ true =
-    λ q is. and_first (holds places q) (not (cells_of_words c.args.dead.now (rotation_place q.rotation) q.x q.y)) (sym (c.leave_out.ensures.held q) ∙ is) in
+    let is_dead : Placement → Bool = λ q. cells_of_words c.args.dead.now (rotation_place q.rotation) q.x q.y in
+    let parts : (q : Placement) → holds kept q ≡ true → (holds places q ≡ true) × (not (is_dead q) ≡ true) =
+    λ q is. and_parts (holds places q) (not (is_dead q)) (sym (c.leave_out.ensures.held q) ∙ is) in
+    let was : (q : Placement) → holds kept q ≡ true → holds places q ≡ true = λ q is. (parts q is).0 in
     record {
       low = frame.low;
       few = frame.few;
       bounded = frame.bounded;
       emptied = frame.emptied;
-      followed = frame.followed;
+      limits = frame.limits;
       lined = frame.lined;
       supplied = frame.supplied;
       lockable = λ x is. subst (λ p. Lockable (filled frame.well) p) (some_same is)
@@ -38,6 +42,8 @@ invariant_of-self c =
       held_below = λ x is. subst (λ p. HeldBelow frame.rows p) (some_same is) (λ q held. frame.held_below places c.in-Some.is q (was q held));
       permitted = λ x is. subst (λ p. may_play (queues_in_play frame.line.queues) (piece_of p) ≡ true) (some_same is)
           (subst (λ p. may_play (queues_in_play frame.line.queues) p ≡ true) (sym c.leave_out.ensures.piece) (frame.permitted places c.in-Some.is));
+      live = λ _ x is. subst (λ p. (q : Placement) → holds p q ≡ true → LeavesLive (filled frame.well) frame.rows (queues_in_play frame.line.queues) frame.left q) (some_same is)
+          (λ q held. leads-live frame q (c.requires.live places c.in-Some.is q (was q held) (not-true (is_dead q) (parts q held).1)));
       same_piece = λ x is q is_q. frame.same_piece places c.in-Some.is q is_q ∙ sym c.leave_out.ensures.piece ∙ ap piece_of (some_same is);
     }
 
@@ -46,5 +52,5 @@ unfolding events_of position_of
 returns-in-Some-clause-goes c = λ table mode prefix.
     let frame = c.args.self.now in
     ap (λ l. l ++ tried_in_turn (enter frame.left) prefix (position_of table mode frame) (drop frame.tried all_pieces))
-    (left-out frame c.in-Some.places c.in-Some.is c.args.dead.now (c.requires c.in-Some.places c.in-Some.is) c.leave_out.new.self c.leave_out.ensures.piece c.leave_out.ensures.held table mode prefix
+    (left-out frame c.in-Some.places c.in-Some.is c.args.dead.now (c.requires.dead c.in-Some.places c.in-Some.is) c.leave_out.new.self c.leave_out.ensures.piece c.leave_out.ensures.held table mode prefix
     ∙ ap (λ p. flat_map (entered (enter frame.left) prefix (position_of table mode frame)) (places_left p frame.entered)) (sym c.in-Some.is))

@@ -6,6 +6,7 @@ use Rattle.well.proofs.CallerLemmas.{free_pivot_inside}
 use Rattle.empty_cells.specs.Empties.{empty_cells, without_placement}
 use Rattle.empty_cells.specs.HasTiling.{has_tiling}
 use Rattle.empty_cells.specs.SupplyWords.{supply_of}
+use Rattle.empty_cells.proofs.CallerLemmas.{right-from_answer}
 use Rattle.enumerate.proofs.PlaceLaws.{lockable-free}
 use Rattle.enumerate.proofs.TilingLaws.{left-tiled}
 use Rattle.enumerate.proofs.frame.Frame.leaves_tiling.Goals as goal
@@ -28,7 +29,7 @@ returns-then-self-lt-MANY c =
     let frame = c.args.self.now in
     let q = c.args.placement.now in
     left-tiled (filled frame.well) (without_placement (empty_cells frame.empties) q) frame.rows q (supply_of c.args.supply) c.leaves_tiling.result frame.low frame.bounded (lockable-free (filled frame.well) q.piece q c.requires.lockable) c.requires.below
-    (ap (λ E. without_placement E q) frame.emptied) c.leaves_tiling.ensures
+    (ap (λ E. without_placement E q) frame.emptied) (right-from_answer c.leaves_tiling.result _ 8 _ c.leaves_tiling.ensures)
 
 pub returns : goal.returns
 returns c =

@@ -32,12 +32,13 @@ invariant_of-self-2 g c = record {
   few = c.flood.new.self.few;
   bounded = c.flood.new.self.bounded;
   emptied = c.flood.new.self.emptied;
-  followed = c.flood.new.self.followed;
+  limits = c.flood.new.self.limits;
   lined = c.flood.new.self.lined;
   supplied = c.flood.new.self.supplied;
   lockable = c.flood.new.self.lockable;
   held_below = c.flood.new.self.held_below;
   permitted = c.flood.new.self.permitted;
+  live = c.flood.new.self.live;
   same_piece = λ places is q is_q. subst (λ q. q.piece ≡ piece_of places) (some_same is_q) (sym (c.flood.ensures.piece places is));
 }
 

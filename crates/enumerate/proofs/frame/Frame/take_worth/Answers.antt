@@ -6,9 +6,10 @@ use Rattle.well.specs.Well.{filled}
 use Rattle.well.specs.LockLaws.{is_below}
 use Rattle.place_sets.specs.LowPlaces.{piece_of}
 use Rattle.hold_queue.specs.QueueSet.{queues_in_play}
+use Rattle.enumerate.specs.Frames.{position_of}
 use Rattle.enumerate.specs.Position.{may_play}
 use Rattle.enumerate.specs.Standing.{may_lock}
-use Rattle.enumerate.proofs.TurnLemmas.{none-left, one-entered, one-passed}
+use Rattle.enumerate.proofs.TurnLemmas.{leads-stays, none-left, one-entered, one-passed}
 use Rattle.enumerate.proofs.frame.Frame.take_worth.Goals as goal
 
 pub loop-placement-init : goal.loop-placement-init
@@ -20,21 +21,27 @@ invariant_of-self c = record {
   few = c.take_upcoming.new.self.few;
   bounded = c.take_upcoming.new.self.bounded;
   emptied = c.take_upcoming.new.self.emptied;
-  followed = c.take_upcoming.new.self.followed;
+  limits = c.take_upcoming.new.self.limits;
   lined = c.take_upcoming.new.self.lined;
   supplied = c.take_upcoming.new.self.supplied;
   lockable = c.take_upcoming.new.self.lockable;
   held_below = c.take_upcoming.new.self.held_below;
   permitted = c.take_upcoming.new.self.permitted;
+  live = c.take_upcoming.new.self.live;
   same_piece = λ places is q is_q. subst (λ q. q.piece ≡ piece_of places) (some_same is_q) (c.in-Some.ensures.next.1 places is);
 }
 
-pub is_worth-requires-clause-lockable : goal.is_worth-requires-clause-lockable
-is_worth-requires-clause-lockable c =
+pub leads_on-requires-clause-lockable : goal.leads_on-requires-clause-lockable
+leads_on-requires-clause-lockable c =
     subst (λ w. may_lock (filled w) c.in-Some.placement.piece c.in-Some.placement ≡ true) (sym c.in-Some.ensures.same.well) c.in-Some.ensures.next.2
 
-pub is_worth-requires-clause-below : goal.is_worth-requires-clause-below
-is_worth-requires-clause-below c = subst (λ rows. is_below rows c.in-Some.placement ≡ true) (sym c.in-Some.ensures.same.rows) c.in-Some.ensures.next.3
+pub leads_on-requires-clause-below : goal.leads_on-requires-clause-below
+leads_on-requires-clause-below c = subst (λ rows. is_below rows c.in-Some.placement ≡ true) (sym c.in-Some.ensures.same.rows) c.in-Some.ensures.next.3
+
+pub leads_on-requires-clause-known : goal.leads_on-requires-clause-known
+unfolding position_of
+leads_on-requires-clause-known c = λ are_live.
+    leads-stays c.loop-placement.self c.take_upcoming.new.self c.in-Some.ensures.same c.in-Some.placement (c.in-Some.ensures.next.5 (sym c.in-Some.ensures.live ∙ are_live))
 
 pub loop-placement-smaller : goal.loop-placement-smaller
 loop-placement-smaller c = omega (arith, ap length c.in-Some.ensures.next.0)
@@ -51,34 +58,34 @@ loop-placement-preserved c = record {
   goes = λ table mode prefix.
       c.loop-placement.invariant.goes table mode prefix
       ∙ one-passed table mode c.loop-placement.self _ record { well = c.in-Some.ensures.same.well; rows = c.in-Some.ensures.same.rows; queues = c.in-Some.ensures.same.queues; left = c.in-Some.ensures.same.left }
-      c.in-Some.placement c.in-Some.ensures.next.0 c.in-Some.ensures.tried (c.is_worth.ensures.dead c.if-is_worth.false) prefix;
+      c.in-Some.placement c.in-Some.ensures.next.0 c.in-Some.ensures.tried (c.leads_on.ensures.dead c.if-leads_on.false) prefix;
 }
 
-pub returns-then-is_worth-clause-next : goal.returns-then-is_worth-clause-next
-returns-then-is_worth-clause-next c = (
+pub returns-then-leads_on-clause-next : goal.returns-then-leads_on-clause-next
+returns-then-leads_on-clause-next c = (
   refl,
   subst (λ w. may_lock (filled w) c.in-Some.placement.piece c.in-Some.placement ≡ true) (sym c.in-Some.ensures.same.well) c.in-Some.ensures.next.2,
   subst (λ rows. is_below rows c.in-Some.placement ≡ true) (sym c.in-Some.ensures.same.rows) c.in-Some.ensures.next.3,
   subst (λ set. may_play (queues_in_play set) c.in-Some.placement.piece ≡ true) (sym c.in-Some.ensures.same.queues) c.in-Some.ensures.next.4,
-  c.is_worth.ensures.live c.if-is_worth.true,
+  c.leads_on.ensures.live c.if-leads_on.true,
 )
 
-pub returns-then-is_worth-clause-goes : goal.returns-then-is_worth-clause-goes
-returns-then-is_worth-clause-goes c = λ table mode prefix.
+pub returns-then-leads_on-clause-goes : goal.returns-then-leads_on-clause-goes
+returns-then-leads_on-clause-goes c = λ table mode prefix.
     c.loop-placement.invariant.goes table mode prefix
     ∙ one-entered table mode c.loop-placement.self _ record { well = c.in-Some.ensures.same.well; rows = c.in-Some.ensures.same.rows; queues = c.in-Some.ensures.same.queues; left = c.in-Some.ensures.same.left }
     c.in-Some.placement c.in-Some.ensures.next.0 c.in-Some.ensures.tried prefix
 
-pub returns-then-is_worth-clause-same : goal.returns-then-is_worth-clause-same
-returns-then-is_worth-clause-same c = record {
+pub returns-then-leads_on-clause-same : goal.returns-then-leads_on-clause-same
+returns-then-leads_on-clause-same c = record {
   well = c.in-Some.ensures.same.well ∙ c.loop-placement.invariant.same.well;
   rows = c.in-Some.ensures.same.rows ∙ c.loop-placement.invariant.same.rows;
   queues = c.in-Some.ensures.same.queues ∙ c.loop-placement.invariant.same.queues;
   left = c.in-Some.ensures.same.left ∙ c.loop-placement.invariant.same.left;
 }
 
-pub returns-then-is_worth-clause-tried : goal.returns-then-is_worth-clause-tried
-returns-then-is_worth-clause-tried c = c.in-Some.ensures.tried ∙ c.loop-placement.invariant.tried
+pub returns-then-leads_on-clause-tried : goal.returns-then-leads_on-clause-tried
+returns-then-leads_on-clause-tried c = c.in-Some.ensures.tried ∙ c.loop-placement.invariant.tried
 
 pub returns-clause-next : goal.returns-clause-next
 returns-clause-next c = c.in_default.ensures.next.1

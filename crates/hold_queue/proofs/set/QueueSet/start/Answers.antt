@@ -7,8 +7,8 @@ use Rattle.hold_queue.specs.States.{AreStatesAfter, in_progress}
 use Rattle.hold_queue.proofs.FollowLemmas.{follows-start}
 use Rattle.hold_queue.proofs.set.QueueSet.start.Goals as goal
 
-pub invariant_of-result : goal.invariant_of-result
-invariant_of-result c = record {
+pub invariant_of-set : goal.invariant_of-set
+invariant_of-set c = record {
   room = refl;
   within = omega arith;
   follows = subst (λ place. AreStatesAfter (elements_of c.args.pattern.now) c.args.hold c.args.held
@@ -20,4 +20,4 @@ invariant_of-result c = record {
 
 pub returns : goal.returns
 unfolding queues_in_play
-returns c = refl
+returns c = c.with_first_held.ensures

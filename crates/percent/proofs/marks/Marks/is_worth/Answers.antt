@@ -1,5 +1,5 @@
 -- It stands in no listed tiling, or walls show that what it leaves has none.
-use Rattle.std.proofs.Common.{◌≡◌, ◌==◌, Bool, true, false, not, ◌∙◌, ap, subst, refl}
+use Rattle.std.proofs.Common.{◌≡◌, ◌==◌, ◌∙◌, ap, subst}
 use Rattle.std.proofs.lemmas.Bool.{eqb-true}
 use Rattle.lane_board.specs.Field.{Field, difference}
 use Rattle.lane_board.specs.Lanes.{has_bit}
@@ -7,11 +7,8 @@ use Rattle.lane_board.proofs.CallerLemmas.{has_bit-zero}
 use Rattle.prune.specs.Tiling.{Supply, Tiling}
 use Rattle.empty_cells.specs.Empties.{all_but, empty_cells}
 use Rattle.percent.proofs.MarkLemmas.{bad-placed, walled-bad}
+use Rattle.percent.proofs.TestLemmas.{not_false}
 use Rattle.percent.proofs.marks.Marks.is_worth.Goals as goal
-
-not_false : (b : Bool) → not b ≡ false → b ≡ true
-not_false true h = refl
-not_false false h = cc
 
 pub returns-then-knows_all : goal.returns-then-knows_all
 returns-then-knows_all c = λ no game rest here.

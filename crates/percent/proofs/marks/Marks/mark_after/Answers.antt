@@ -7,7 +7,7 @@ use Rattle.percent.proofs.marks.Marks.mark_after.Goals as goal
 
 pub index-mark-requires : goal.index-mark-requires
 index-mark-requires c =
-    let within = slice_get_within c.args.self.now.known.items c.in-Some.place c.in-Some.ensures.there.mark c.in-Some.ensures.there.there in
+    let within = slice_get_within c.args.self.now.known.items c.in-Some.index c.in-Some.ensures.there.mark c.in-Some.ensures.there.there in
     let size = c.args.self.now.known.ok in
     omega (arith, within, size)
 
@@ -15,7 +15,7 @@ pub returns : goal.returns
 returns c =
     let marks = c.args.self.now in
     let k = c.in-Some.ensures in
-    let within = slice_get_within marks.known.items c.in-Some.place k.there.mark k.there.there in
-    mark-listed marks.position c.args.child.now c.args.left c.args.hand c.in-Some.place marks.known.items marks.rows marks.cells (empty_cells c.args.taken.now) c.index-mark.result.now _ marks.spread marks.are_true c.requires.child k
-    (slice_get_read marks.known.items _ c.in-Some.place c.index-mark.result.now refl within c.index-mark.ensures)
+    let within = slice_get_within marks.known.items c.in-Some.index k.there.mark k.there.there in
+    mark-listed marks.position c.args.child.now c.args.left c.args.hand c.in-Some.index marks.known.items marks.rows marks.cells (empty_cells c.args.taken.now) c.index-mark.result.now _ marks.spread marks.are_true c.requires.child k
+    (slice_get_read marks.known.items _ c.in-Some.index c.index-mark.result.now refl within c.index-mark.ensures)
     c.requires.taken c.requires.counts c.in_ok-tilings.ensures

@@ -1,5 +1,5 @@
 -- Each way on, and what it adds.
-use Rattle.std.proofs.Common.{[], ◌∷◌, refl, sym, ap₂, subst, ◌∙◌, arith}
+use Rattle.std.proofs.Common.{[], ◌∷◌, refl, ap₂, subst, ◌∙◌, arith}
 use Rattle.lane_board.specs.Field.{Field, difference}
 use Rattle.srs.specs.declared.piece.Piece.TheVariants.{I, L, O, Z, T, J, S}
 use Rattle.empty_cells.specs.Empties.{empty_cells}
@@ -7,29 +7,20 @@ use Rattle.empty_cells.specs.ShiftedCells.{shifted_cells}
 use Rattle.empty_cells.specs.Stacks.{CanFill}
 use Rattle.empty_cells.specs.SupplyWords.{supply_of}
 use Rattle.empty_cells.proofs.CallerLemmas.{fewer, shifted_small}
-use Rattle.tiled_pieces.specs.declared.listing.Listing.{Listing}
-use Rattle.tiled_pieces.specs.Listings.{Adds, GoesOn, GoesOnWith, HasFirst, IsAny, IsDead, TakesFirst}
+use Rattle.tiled_pieces.specs.Listings.{Adds, GoesOn, GoesOnWith, HasFirst, IsAny, TakesFirst}
 use Rattle.tiled_pieces.proofs.AddsLemmas.{adds_as, adds_full, adds_none, rows-all, rows-next, rows-none, rows-start}
-use Rattle.tiled_pieces.proofs.StepLemmas.{dead_known, four_of, goes_fills, leaves_adds, none_added, nothing_more, one_of, path_goes, seven_add, takes_adds, two_of}
+use Rattle.tiled_pieces.proofs.StepLemmas.{four_of, goes_fills, leaves_adds, none_added, nothing_more, one_of, path_goes, seven_add, takes_adds, two_of}
 use Rattle.tiled_pieces.proofs.lister.Lister.+walk.Goals as goal
 
-pub asks-returns-then-is_of : goal.asks-returns-then-is_of
-asks-returns-then-is_of t c = let supply = supply_of c.args.supply in let E = shifted_cells c.args.cells.now in
+pub asks-returns-then-is_dead : goal.asks-returns-then-is_dead
+asks-returns-then-is_dead t c = let supply = supply_of c.args.supply in let E = shifted_cells c.args.cells.now in
     adds_none c.args.self.now.listing (GoesOn HasFirst supply E) (GoesOn IsAny supply E) (λ path found goes.
-    dead_known c.index.result.now c.cells-all.result c.args.supply E (subst IsDead (sym c.index.ensures) (c.args.self.now.are_true c.place_of-place.result c.index.result.now (omega (arith, c.place_of-place.ensures, c.len.ensures))))
-    (c.is_of.ensures c.if-is_of.true) c.cells-all.ensures (goes_fills supply E path found (shifted_small c.args.cells.now) goes))
+    c.is_dead.ensures c.if-is_dead.true ((c.counted-counted.ensures supply).1 (goes_fills supply E path found (shifted_small c.args.cells.now) goes)))
 
-pub asks-note-requires : goal.asks-note-requires
-asks-note-requires t c = λ _ filling. none_added (supply_of c.args.supply) (shifted_cells c.args.cells.now) c.args.self.now.listing c.covers.new.self.listing (shifted_small c.args.cells.now)
-    c.covers.ensures (omega (arith, c.len-before.ensures, c.len-2.ensures, c.if-len-before.true)) c.if-not-self.true
-    (subst (λ (E : Field). CanFill 8 (supply_of c.args.supply) E) c.cells-all.ensures filling)
-
-pub asks-returns-then-not-self : goal.asks-returns-then-not-self
-asks-returns-then-not-self t c = let supply = supply_of c.args.supply in let E = shifted_cells c.args.cells.now in
-    subst (λ (l : Listing). Adds c.args.self.now.listing l (GoesOn HasFirst supply E) (GoesOn IsAny supply E)) (sym c.note.ensures) c.covers.ensures
-
-pub asks-returns-else-len-before : goal.asks-returns-else-len-before
-asks-returns-else-len-before t c = c.covers.ensures
+pub asks-new-requires : goal.asks-new-requires
+asks-new-requires t c = λ filling. none_added (supply_of c.args.supply) (shifted_cells c.args.cells.now) c.args.self.now.listing c.covers.new.self.listing (shifted_small c.args.cells.now)
+    c.covers.ensures (omega (arith, c.len-before.ensures, c.is_none_since.ensures.same c.if-is_none_since.true)) (c.is_none_since.ensures.room c.if-is_none_since.true)
+    ((c.counted-counted.ensures (supply_of c.args.supply)).0 filling)
 
 pub covers-returns : goal.covers-returns
 covers-returns t c = seven_add (supply_of c.args.supply) (shifted_cells c.args.cells.now) c.args.cells.now.x c.args.y (shifted_small c.args.cells.now) c.requires _ _ _ _ _ _ _ _
@@ -94,8 +85,8 @@ search-returns-in_default t c = let supply = supply_of c.args.supply in let E = 
     adds_as c.args.self.now.listing c.add.new.self _ _ (GoesOn HasFirst supply E) (GoesOn IsAny supply E)
     (λ path found goes. nothing_more HasFirst supply E path found (shifted_small c.args.cells.now) c.in_default.ensures goes) (λ path found is. path_goes supply E path found c.in_default.ensures is) c.add.ensures
 
-pub search-returns-then-is_empty : goal.search-returns-then-is_empty
-search-returns-then-is_empty t c = let supply = supply_of c.args.supply in
+pub search-returns-then-is_without_room : goal.search-returns-then-is_without_room
+search-returns-then-is_without_room t c = let supply = supply_of c.args.supply in
     subst (λ (E : Field). Adds c.args.self.now.listing c.covers.new.self.listing (GoesOn HasFirst supply E) (GoesOn IsAny supply E)) c.in-Some.ensures.0 c.covers.ensures
 
 pub search-returns-then-is_refused : goal.search-returns-then-is_refused

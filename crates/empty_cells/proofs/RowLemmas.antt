@@ -1,0 +1,28 @@
+-- The rows that the lowest span may take, as bits.
+use Rattle.std.proofs.Common.{◌≡◌, ℕ, ◌<◌, bit_and, Bool, true, false, not, ◌&&◌, nat_le, refl, sym, ap, ap₂, ◌∙◌}
+use Rattle.std.proofs.lemmas.Bool.{and_from, and_parts, both_ways, le-leb, leb-true}
+use Rattle.lane_board.specs.Field.{Field}
+use Rattle.lane_board.specs.Lanes.{has_bit}
+use Rattle.lane_board.proofs.CallerLemmas.{has_bit-and}
+use Rattle.empty_cells.specs.declared.span.Span.{Span}
+use Rattle.empty_cells.specs.Spans.{has_span}
+use Rattle.empty_cells.specs.Stacks.{MayTake, is_allowed}
+
+module _ (E : Field) (x y floor : ℕ) (span : Span) (rows permitted : ℕ) (has : (row : ℕ) → row < 8 → has_bit rows row ≡ has_span E x span row)
+    (allowed : (row : ℕ) → row < 8 → has_bit permitted row ≡ (nat_le floor row && is_allowed y floor span row)) where
+  bits : (row : ℕ) → row < 8 → has_bit (bit_and rows permitted) row ≡ (has_span E x span row && (nat_le floor row && is_allowed y floor span row))
+  bits row low = has_bit-and rows permitted row ∙ ap₂ ◌&&◌ (has row low) (allowed row low)
+
+  pub may_from_bit : (row : ℕ) → row < 8 → has_bit (bit_and rows permitted) row ≡ true → MayTake (is_allowed y) E x floor span row
+  may_from_bit row low bit =
+      let both = and_parts _ _ (sym (bits row low) ∙ bit) in
+      let inner = and_parts _ _ both.1 in
+      record { above = leb-true floor row inner.0; permitted = inner.1; has = both.0 }
+
+  pub bit_from_may : (row : ℕ) → row < 8 → MayTake (is_allowed y) E x floor span row → has_bit (bit_and rows permitted) row ≡ true
+  bit_from_may row low may = bits row low ∙ and_from _ _ may.has (and_from _ _ (le-leb floor row may.above) may.permitted)
+
+-- a bit that isn't set once another one is taken away wasn't set before
+pub was_unset : (p q : Bool) → q ≡ false → (p && not q) ≡ false → p ≡ false
+was_unset true q other left = absurd (both_ways true (ap (λ t. true && not t) (sym other) ∙ left) refl)
+was_unset false q other left = refl
