@@ -11,8 +11,7 @@ use Rattle.moves.specs.declared.key.DropMode.TheVariants.{Soft, Hard}
 use Rattle.moves.specs.Place.{IsPlace}
 use Rattle.sky.specs.Sky.{IsClearFrom}
 use Rattle.low_flood.specs.LanePlaces.{hard_board}
-use Rattle.place_sets.specs.PlaceSets.{ArePlaces}
-use Rattle.place_sets.specs.States.{States, has_state}
+use Rattle.place_sets.specs.States.{HasExactly, States, has_state}
 use Rattle.place_sets.proofs.CallerLemmas.{LiesWithin, same_fields}
 use Rattle.low_flood.proofs.LaneMaps.{in_rows, from_rows}
 use Rattle.low_flood.proofs.LanePlaceLemmas.{hard_held}
@@ -59,7 +58,7 @@ low_within F r N clear few lies = record {
       (place.0, elim (cases_lt y N) [ inl low ↦ low | inr high ↦ absurd (both_ways _ (clear.clear x y (omega arith)) filled) ]);
 }
 
-pub hard_by : (r N : ℕ) (F B : Field) (piece : Piece) (S : States) → IsClearFrom r F → r + 2 ≤ N → N ≤ 16 → LiesWithin F 24 → B ≡ intersection F (rows_below N) → S ≡ hard_board piece N B → ArePlaces srs_table F Hard piece S
+pub hard_by : (r N : ℕ) (F B : Field) (piece : Piece) (S : States) → IsClearFrom r F → r + 2 ≤ N → N ≤ 16 → LiesWithin F 24 → B ≡ intersection F (rows_below N) → S ≡ hard_board piece N B → HasExactly (IsPlace srs_table F Hard) piece S
 unfolding has_state
 hard_by r N F B piece S clear over few lies is_board is = record { exact = each }
   where
@@ -78,5 +77,5 @@ pub lanes_clear : (r top N : ℕ) (F B : Field) → IsClearFrom r F → r ≤ to
 lanes_clear r top N F B clear low few lies is_board =
     subst (IsClearFrom top) (sym (is_board ∙ low_field F r N clear few lies)) (record { clear = λ x y high. clear.clear x y (omega arith) })
 
-pub soft_places_by : (r N : ℕ) (F B : Field) (piece : Piece) (S : States) → IsClearFrom r F → r ≤ N → LiesWithin F 24 → B ≡ intersection F (rows_below N) → ArePlaces srs_table B Soft piece S → ArePlaces srs_table F Soft piece S
-soft_places_by r N F B piece S clear few lies is_board are = subst (λ (F : Field). ArePlaces srs_table F Soft piece S) (is_board ∙ low_field F r N clear few lies) are
+pub soft_places_by : (r N : ℕ) (F B : Field) (piece : Piece) (S : States) → IsClearFrom r F → r ≤ N → LiesWithin F 24 → B ≡ intersection F (rows_below N) → HasExactly (IsPlace srs_table B Soft) piece S → HasExactly (IsPlace srs_table F Soft) piece S
+soft_places_by r N F B piece S clear few lies is_board are = subst (λ (F : Field). HasExactly (IsPlace srs_table F Soft) piece S) (is_board ∙ low_field F r N clear few lies) are

@@ -29,10 +29,9 @@ use Rattle.sky.proofs.CallerLemmas.{soft_places, rest_lane, keyed_in}
 use Rattle.low_flood.specs.LaneFlood.{Lanes, IsInLanes, IsLanesClosed}
 use Rattle.low_flood.specs.LanePlaces.{lane_pivots, has_own_cells}
 use Rattle.low_flood.specs.LaneTurns.{arrivals}
-use Rattle.place_sets.specs.PlaceSets.{ArePlaces}
+use Rattle.place_sets.specs.States.{HasExactly, has_state}
 use Rattle.low_flood.specs.SkyBoard.{IsLaneMap}
 use Rattle.low_flood.specs.SoftLanes.{free_boards, skies, places_of, rests_in, soft_board, HaveAllRests, AreSpread, IsTurnedInto, IsRound, Rounds, IsSoftFlood}
-use Rattle.place_sets.specs.States.{has_state}
 use Rattle.low_flood.proofs.ClassLemmas.{class_lane, rests_same}
 use Rattle.place_sets.proofs.CallerLemmas.{LiesWithin}
 use Rattle.low_flood.proofs.LaneClosed.{lanes_flood}
@@ -249,7 +248,7 @@ module _ (F : Field) (rows N : ℕ) (clear : IsClearFrom rows F) (over : rows + 
     pub soft_held : (soft_board piece N free S q.rotation q.x q.y ≡ true) ↔ IsPlace srs_table F Soft q
     soft_held = (there, back)
 
-pub soft_by : (F : Field) (N : ℕ) (piece : Piece) (free S H : Lanes) → IsClearFrom (N - 2) F → 8 ≤ N → N ≤ 16 → LiesWithin F N → free ≡ free_boards piece N F → IsSoftFlood piece N free S → H ≡ soft_board piece N free S → ArePlaces srs_table F Soft piece H
+pub soft_by : (F : Field) (N : ℕ) (piece : Piece) (free S H : Lanes) → IsClearFrom (N - 2) F → 8 ≤ N → N ≤ 16 → LiesWithin F N → free ≡ free_boards piece N F → IsSoftFlood piece N free S → H ≡ soft_board piece N free S → HasExactly (IsPlace srs_table F Soft) piece H
 unfolding has_state free_boards
 soft_by F N piece free S H clear many few lies is_free flood is = record { exact = each }
   where

@@ -4,8 +4,8 @@ ghost use Rattle.lane_board.specs.Board.{field_of};
 ghost use Rattle.srs.specs.Kick.{srs_table};
 ghost use Rattle.moves.specs.declared.key.DropMode.{DropMode};
 ghost use Rattle.sky.specs.Sky.{IsClearFrom};
-ghost use Rattle.place_sets.specs.PlaceSets.{ArePlaces};
-ghost use Rattle.place_sets.specs.States.{states_of};
+ghost use Rattle.moves.specs.Place.{IsPlace};
+ghost use Rattle.place_sets.specs.States.{HasExactly, states_of};
 ghost use Rattle.low_flood.specs.LanePlaces.{hard_board};
 
 use crate::hard::hard_places;
@@ -18,7 +18,7 @@ use srs::Piece;
 /// The places of a piece, if all cells lie below row 8.
 pub fn low_places(filled: &LaneBoard<24>, piece: Piece, drop_mode: DropMode) -> Pivots<24>
     requires { IsClearFrom 8 (field_of filled.now) }
-    ensures { ArePlaces srs_table (field_of filled.now) drop_mode piece (states_of result) }
+    ensures { HasExactly (IsPlace srs_table (field_of filled.now) drop_mode) piece (states_of result) }
 {
     match drop_mode {
         DropMode::Soft => low_soft_places(filled, piece),
@@ -29,7 +29,7 @@ pub fn low_places(filled: &LaneBoard<24>, piece: Piece, drop_mode: DropMode) -> 
 /// The places of a soft drop.
 fn low_soft_places(filled: &LaneBoard<24>, piece: Piece) -> Pivots<24>
     requires { IsClearFrom 8 (field_of filled.now) }
-    ensures { ArePlaces srs_table (field_of filled.now) DropMode.Soft piece (states_of result) }
+    ensures { HasExactly (IsPlace srs_table (field_of filled.now) DropMode.Soft) piece (states_of result) }
 {
     if is_clear_from(filled, 6) {
         return soft_copies(&filled.resized::<8>(), piece);
@@ -41,7 +41,7 @@ fn low_soft_places(filled: &LaneBoard<24>, piece: Piece) -> Pivots<24>
 fn soft_copies<const N: usize>(filled: &LaneBoard<N>, piece: Piece) -> Pivots<24>
     requires clear { IsClearFrom (N - 2) (field_of filled.now) }
     requires few { N ≤ 16 }
-    ensures { ArePlaces srs_table (field_of filled.now) DropMode.Soft piece (states_of result) }
+    ensures { HasExactly (IsPlace srs_table (field_of filled.now) DropMode.Soft) piece (states_of result) }
 {
     match piece {
         Piece::I => soft_places::<0, N>(filled, Piece::I),
@@ -57,7 +57,7 @@ fn soft_copies<const N: usize>(filled: &LaneBoard<N>, piece: Piece) -> Pivots<24
 /// The places of a hard drop.
 fn low_hard_places(filled: &LaneBoard<24>, piece: Piece) -> Pivots<24>
     requires { IsClearFrom 8 (field_of filled.now) }
-    ensures { ArePlaces srs_table (field_of filled.now) DropMode.Hard piece (states_of result) }
+    ensures { HasExactly (IsPlace srs_table (field_of filled.now) DropMode.Hard) piece (states_of result) }
 {
     if is_clear_from(filled, 6) {
         return hard_copies(&filled.resized::<8>(), piece);

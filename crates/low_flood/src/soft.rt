@@ -5,8 +5,8 @@ ghost use Rattle.lane_board.specs.Board.{field_of};
 ghost use Rattle.srs.specs.Kick.{srs_table};
 ghost use Rattle.moves.specs.declared.key.DropMode.{DropMode};
 ghost use Rattle.sky.specs.Sky.{IsClearFrom};
-ghost use Rattle.place_sets.specs.PlaceSets.{ArePlaces};
-ghost use Rattle.place_sets.specs.States.{states_of};
+ghost use Rattle.moves.specs.Place.{IsPlace};
+ghost use Rattle.place_sets.specs.States.{HasExactly, states_of};
 ghost use Rattle.low_flood.specs.SoftLanes.{free_boards, skies, with_rotation, places_of, rests_in, lacking};
 ghost use Rattle.low_flood.specs.SoftLanes.{soft_board, HaveAllRests, AreSpread, IsTurnedInto, IsRound, IsSoftFlood};
 
@@ -25,7 +25,7 @@ pub(crate) fn soft_places<const KIND: u8, const N: usize>(
 ) -> Pivots<24>
     requires clear { IsClearFrom (N - 2) (field_of filled.now) }
     requires few { N ≤ 16 }
-    ensures { ArePlaces srs_table (field_of filled.now) DropMode.Soft piece (states_of result) }
+    ensures { HasExactly (IsPlace srs_table (field_of filled.now) DropMode.Soft) piece (states_of result) }
 {
     let free = free_boards::<KIND, N>(filled, piece);
     let reached = flood::<KIND, N>(piece, &free);

@@ -9,22 +9,17 @@ use Rattle.srs.specs.declared.piece.Piece.{Piece}
 use Rattle.srs.specs.declared.rotation.Rotation.{Rotation}
 use Rattle.srs.specs.declared.rotation.Rotation.TheVariants.{Spawn, Right, Reverse, Left}
 use Rattle.srs.specs.declared.placement.Placement.{Placement}
-use Rattle.lane_board.specs.Field.{Field}
-use Rattle.srs.specs.Kick.{Table}
 use Rattle.srs.specs.Order.{placement_cmp}
 use Rattle.srs.specs.Piece.{piece_code}
 use Rattle.srs.specs.Rotation.{rotation_place}
 use Rattle.srs.proofs.CallerLemmas.{piece_code-injective, rotation_place-injective}
 use Rattle.lists.specs.Rising.{IsNextAbove}
 use Rattle.well.specs.LockLaws.{is_below}
-use Rattle.moves.specs.declared.key.DropMode.{DropMode}
-use Rattle.moves.specs.Place.{IsPlace}
-use Rattle.place_sets.specs.PlaceSets.{ArePlaces}
+use Rattle.place_sets.specs.States.{HasExactly, States, has_state}
 use Rattle.place_sets.specs.declared.low_held.LowPlaces.{LowPlaces}
 use Rattle.place_sets.specs.LowestBit.{IsLowestBit}
 use Rattle.place_sets.specs.LowPlaces.{holds, piece_of}
 use Rattle.place_sets.specs.Scan.{state_number}
-use Rattle.place_sets.specs.States.{States, has_state}
 use Rattle.place_sets.specs.Tops.{rows_over_pivot}
 use Rattle.place_sets.proofs.FieldLemmas.{LiesWithin}
 use Rattle.place_sets.proofs.PlaceNumbers.{few_places}
@@ -291,11 +286,11 @@ module _ (new : LowPlaces) (piece : Piece) (S : States) (rows : ℕ) (left : Lis
   pub eight_filled : piece_of new ≡ piece → (q : Placement) → IsTrue (holds new q) ↔ ((q.piece ≡ piece) × (has_state S q ≡ true) × IsTrue (is_below rows q))
   eight_filled kind = low_filled new piece S rows kind (λ r x y. cells r x y ∙ ap (λ limit. S r x y && nat_lt y limit) (limits r))
 
--- the places among the states that lie so low
-pub low_places_held : (table : Table) (F : Field) (mode : DropMode) (piece : Piece) (rows : ℕ) (places : LowPlaces) (S : States) →
-    ((q : Placement) → IsTrue (holds places q) ↔ ((q.piece ≡ piece) × (has_state S q ≡ true) × IsTrue (is_below rows q))) → ArePlaces table F mode piece S →
-    (q : Placement) → IsTrue (holds places q) ↔ ((q.piece ≡ piece) × IsPlace table F mode q × IsTrue (is_below rows q))
-low_places_held table F mode piece rows places S filled are q = (
+-- where a set has exactly the states of which P holds, places of its states so low hold those that lie so low
+pub low_places_held : (P : Placement → Type 0) (piece : Piece) (rows : ℕ) (places : LowPlaces) (S : States) →
+    ((q : Placement) → IsTrue (holds places q) ↔ ((q.piece ≡ piece) × (has_state S q ≡ true) × IsTrue (is_below rows q))) → HasExactly P piece S →
+    (q : Placement) → IsTrue (holds places q) ↔ ((q.piece ≡ piece) × P q × IsTrue (is_below rows q))
+low_places_held P piece rows places S filled are q = (
   λ held. let parts = (filled q).0 held in (parts.0, (are.exact q parts.0).0 parts.1, parts.2),
   λ place. (filled q).1 (place.0, (are.exact q place.0).1 place.1, place.2),
 )

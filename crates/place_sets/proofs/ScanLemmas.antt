@@ -5,24 +5,19 @@ use Rattle.std.specs.Ordering.{ordering_then, nat_cmp}
 use Rattle.std.specs.declared.cmp.Ordering.{Ordering}
 use Rattle.std.specs.declared.cmp.Ordering.TheVariants.{Less, Equal, Greater}
 use Rattle.std.proofs.lemmas.Bool.{cases_order, cond-true, cond-false, le-ltb, eq-eqb, ne_eqb, eqb-true, and_parts, and_from}
-use Rattle.lane_board.specs.Field.{Field}
 use Rattle.srs.specs.declared.piece.Piece.{Piece}
 use Rattle.srs.specs.declared.placement.Placement.{Placement}
 use Rattle.srs.specs.Piece.{piece_code}
 use Rattle.srs.specs.Rotation.{rotation_place}
-use Rattle.srs.specs.Kick.{Table}
 use Rattle.srs.specs.Order.{placement_cmp}
-use Rattle.moves.specs.declared.key.DropMode.{DropMode}
-use Rattle.moves.specs.Place.{IsPlace}
 use Rattle.lists.specs.Rising.{is_before, IsNextAbove}
 use Rattle.srs.proofs.CallerLemmas.{piece_code-injective}
 use Rattle.lists.proofs.CallerLemmas.{below_is_less, is_before-decides}
 use Rattle.place_sets.specs.declared.held.Places.{Places}
 use Rattle.place_sets.specs.Places.{holds, piece_of}
-use Rattle.place_sets.specs.PlaceSets.{ArePlaces}
+use Rattle.place_sets.specs.States.{HasExactly, States, has_state}
 use Rattle.place_sets.specs.Numbers.{states_in}
 use Rattle.place_sets.specs.Scan.{state_number, IsStateFrom}
-use Rattle.place_sets.specs.States.{States, has_state}
 use Rattle.place_sets.proofs.PlaceNumbers.{number-within}
 
 same_is_equal : (m n : ℕ) → m ≡ n → nat_cmp m n ≡ Equal
@@ -154,10 +149,10 @@ pub holds-piece : (places : Places) (q : Placement) → IsTrue (holds places q) 
 unfolding piece_of
 holds-piece places q held = (holds-parts places q held).0
 
--- the places of a set that has them
-pub places_held : (table : Table) (F : Field) (mode : DropMode) (piece : Piece) (S : States) (places : Places) → ((q : Placement) → holds places q ≡ (piece_code q.piece == piece_code piece && has_state S q)) →
-    ArePlaces table F mode piece S → (q : Placement) → IsTrue (holds places q) ↔ ((q.piece ≡ piece) × IsPlace table F mode q)
-places_held table F mode piece S places is are q = (
+-- where a set has exactly the states of which P holds, the places of its states hold these
+pub places_held : (P : Placement → Type 0) (piece : Piece) (S : States) (places : Places) → ((q : Placement) → holds places q ≡ (piece_code q.piece == piece_code piece && has_state S q)) →
+    HasExactly P piece S → (q : Placement) → IsTrue (holds places q) ↔ ((q.piece ≡ piece) × P q)
+places_held P piece S places is are q = (
   λ held. let parts = and_parts (piece_code q.piece == piece_code piece) _ (sym (is q) ∙ held) in let kind = piece_code-injective q.piece piece (eqb-true _ _ parts.0) in (kind, (are.exact q kind).0 parts.1),
   λ place. is q ∙ and_from _ _ (eq-eqb _ _ (ap (λ (p : Piece). piece_code p) place.0)) ((are.exact q place.0).1 place.1),
 )

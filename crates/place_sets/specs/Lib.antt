@@ -1,10 +1,9 @@
 -- What a reader must believe: which placements the places hold.
 pub mod Places
 pub mod LowPlaces
--- What contracts cite beside these: sets of states as boards, how they spread, and which sets are the places.
+-- What contracts cite beside these: sets of states as boards, and how they spread.
 pub mod States
 pub mod Shifts
-pub mod PlaceSets
 -- What serves proofs alone: numbers of states, and bits.
 pub mod Scan
 pub mod Numbers

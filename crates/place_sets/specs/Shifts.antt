@@ -2,8 +2,6 @@
 use Rattle.std.specs.Prelude.{◌≡◌, ℕ, zero, suc, pos}
 use Rattle.lane_board.specs.Field.{Field, intersection, union, moved_within}
 use Rattle.srs.specs.Cells.{minus}
-use Rattle.moves.specs.declared.key.DropMode.{DropMode}
-use Rattle.moves.specs.declared.key.DropMode.TheVariants.{Soft, Hard}
 use Rattle.place_sets.specs.declared.spreading.Shifts.{Shifts}
 use Rattle.place_sets.specs.declared.spreading.Shifts.TheVariants.{Sideways, Down, All}
 
@@ -35,8 +33,3 @@ pub record IsSpread (shifts : Shifts) (N : ℕ) (free S result : Field) : Type 0
   pub rounds : ℕ
   pub grown : result ≡ widened_by rounds shifts N free S
   pub still : widened shifts N free result ≡ result
-
--- the moves within a rotation that a drop mode allows
-abbrev pub shifts_in : DropMode → Shifts
-shifts_in Soft = All
-shifts_in Hard = Sideways

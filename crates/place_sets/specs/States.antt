@@ -1,7 +1,8 @@
 -- Sets of states of one piece: a field of pivots for each rotation.
-use Rattle.std.specs.Prelude.{ℕ, Bool, true, ◌≡◌, ◌==◌, if◌then◌else◌}
+use Rattle.std.specs.Prelude.{ℕ, Bool, true, ◌≡◌, ◌↔◌, ◌==◌, if◌then◌else◌}
 use Rattle.lane_board.specs.Field.{Field, empty_field, has_cell}
 use Rattle.lane_board.specs.Board.{field_of}
+use Rattle.srs.specs.declared.piece.Piece.{Piece}
 use Rattle.srs.specs.declared.rotation.Rotation.{Rotation}
 use Rattle.srs.specs.declared.rotation.Rotation.TheVariants.{Spawn, Right, Reverse, Left}
 use Rattle.srs.specs.declared.placement.Placement.{Placement}
@@ -35,6 +36,10 @@ states_of pivots Spawn = field_of pivots.spawn
 states_of pivots Right = field_of pivots.right
 states_of pivots Reverse = field_of pivots.reverse
 states_of pivots Left = field_of pivots.left
+
+-- of the states of the piece S has those of which P holds, and no others
+pub record HasExactly (P : Placement → Type 0) (piece : Piece) (S : States) : Type 0 where
+  pub exact : (state : Placement) → state.piece ≡ piece → (has_state S state ≡ true) ↔ P state
 
 -- S has all that R has
 pub record Includes (S R : States) : Type 0 where

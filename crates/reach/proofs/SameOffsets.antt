@@ -15,9 +15,8 @@ use Rattle.moves.specs.Leads.{pressed, spawned, state_after}
 use Rattle.moves.specs.Place.{IsPlace}
 use Rattle.moves.specs.Step.{first_free, kicked, turned, step_of}
 use Rattle.moves.proofs.CallerLemmas.{spawned-free, step_of-free}
-use Rattle.place_sets.specs.PlaceSets.{ArePlaces}
+use Rattle.place_sets.specs.States.{HasExactly, States}
 use Rattle.reach.specs.SameOffsets.{HaveSameOffsets}
-use Rattle.place_sets.specs.States.{States}
 
 pub same_back : (table other : Table) (piece : Piece) → HaveSameOffsets table other piece → HaveSameOffsets other table piece
 same_back table other piece same = record { each = λ rotation test low high. sym (same.each rotation test low high) }
@@ -67,7 +66,7 @@ place_same table other F mode q same place = record {
 }
 
 -- so the places by the one are the places by the other
-pub places_same : (table other : Table) (F : Field) (mode : DropMode) (piece : Piece) (S : States) → HaveSameOffsets table other piece → ArePlaces other F mode piece S → ArePlaces table F mode piece S
+pub places_same : (table other : Table) (F : Field) (mode : DropMode) (piece : Piece) (S : States) → HaveSameOffsets table other piece → HasExactly (IsPlace other F mode) piece S → HasExactly (IsPlace table F mode) piece S
 places_same table other F mode piece S offsets are = record {
   exact = λ q kind.
       let same : HaveSameOffsets table other q.piece = subst (HaveSameOffsets table other) (sym kind) offsets in

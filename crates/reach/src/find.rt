@@ -7,9 +7,8 @@ ghost use Rattle.well.specs.Well.{filled};
 ghost use Rattle.moves.specs.Place.{IsPlace};
 ghost use Rattle.sky.specs.Sky.{IsClearFrom};
 ghost use Rattle.sky.specs.Window.{IsWindowPlace};
-ghost use Rattle.place_sets.specs.PlaceSets.{ArePlaces};
+ghost use Rattle.place_sets.specs.States.{HasExactly, states_of};
 ghost use Rattle.place_sets.specs.Places.{holds, piece_of};
-ghost use Rattle.place_sets.specs.States.{states_of};
 ghost use Rattle.reach.specs.SameOffsets.{HaveSameOffsets};
 
 use crate::same_offsets::has_srs_offsets;
@@ -69,7 +68,7 @@ fn pivots_where(
     drop_mode: DropMode,
 ) -> Pivots<24>
     requires { IsTrue srs → HaveSameOffsets (table_of rules.now) srs_table piece }
-    ensures { ArePlaces (table_of rules.now) (filled well.now) drop_mode piece (states_of result) }
+    ensures { HasExactly (IsPlace (table_of rules.now) (filled well.now) drop_mode) piece (states_of result) }
 {
     let filled = well.board();
     if srs && is_clear_from(&filled, 8) {

@@ -17,9 +17,9 @@ use Rattle.moves.specs.declared.key.DropMode.TheVariants.{Soft, Hard}
 use Rattle.moves.specs.Keys.{allows}
 use Rattle.place_sets.specs.declared.spreading.Shifts.{Shifts}
 use Rattle.place_sets.specs.States.{States, has_state, states_with, Includes}
-use Rattle.place_sets.specs.Shifts.{IsSpread, shifts_in}
+use Rattle.place_sets.specs.Shifts.{IsSpread}
+use Rattle.whole_flood.specs.Flood.{shifts_in, Ground, IsReached, AreReached, IsSettled, turned_in, step_in}
 use Rattle.whole_flood.specs.Kicks.{turned_from}
-use Rattle.whole_flood.specs.Flood.{Ground, IsReached, AreReached, IsSettled, turned_in, step_in}
 use Rattle.place_sets.proofs.CallerLemmas.{LiesWithin, state_of, with_here, with_other, includes_with, includes_trans, spread-has}
 use Rattle.whole_flood.proofs.ReachedLemmas.{field_of_reached, with_reached, one_more, first_in-lands, LandsAt}
 use Rattle.whole_flood.proofs.SpreadReached.{spread-reached, shifts_to, left-stays, right-stays, down-stays}

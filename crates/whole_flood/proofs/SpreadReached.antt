@@ -16,8 +16,8 @@ use Rattle.moves.specs.Keys.{allows}
 use Rattle.moves.specs.Step.{state_at}
 use Rattle.moves.proofs.CallerLemmas.{some_same, not_some}
 use Rattle.place_sets.specs.States.{States, has_pivot}
-use Rattle.place_sets.specs.Shifts.{sideways, lower, neighbours, widened, widened_by, IsSpread, shifts_in}
-use Rattle.whole_flood.specs.Flood.{Ground, IsReached, first_in, shifted_in, step_in}
+use Rattle.place_sets.specs.Shifts.{sideways, lower, neighbours, widened, widened_by, IsSpread}
+use Rattle.whole_flood.specs.Flood.{shifts_in, Ground, IsReached, first_in, shifted_in, step_in}
 use Rattle.place_sets.proofs.CallerLemmas.{LiesWithin, MovedFrom, moved_from, moved_to, state_of, PivotAt, pivot_at, has_pivot-at, still-has, widened-from}
 use Rattle.whole_flood.proofs.ReachedLemmas.{FieldReached, one_more}
 

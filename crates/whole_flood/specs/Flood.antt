@@ -9,10 +9,13 @@ use Rattle.srs.specs.Kick.{Table}
 use Rattle.moves.specs.declared.key.Key.{Key}
 use Rattle.moves.specs.declared.key.Key.TheVariants.{Left, Right, Down, Clockwise, Anti}
 use Rattle.moves.specs.declared.key.DropMode.{DropMode}
+use Rattle.moves.specs.declared.key.DropMode.TheVariants.{Soft, Hard}
 use Rattle.moves.specs.Keys.{allows}
 use Rattle.moves.specs.Step.{state_at, kicked}
 use Rattle.moves.specs.Walk.{led}
 use Rattle.place_sets.specs.States.{States, Includes, has_state, has_pivot}
+use Rattle.place_sets.specs.declared.spreading.Shifts.{Shifts}
+use Rattle.place_sets.specs.declared.spreading.Shifts.TheVariants as Shift
 
 -- the state at the first of these pivots that is free, or nothing
 unfoldable pub first_in : States → Piece → Rotation → List Cell → Option Placement
@@ -35,6 +38,11 @@ step_in table free state Right = shifted_in free state (pos 1, pos 0)
 step_in table free state Down = shifted_in free state (pos 0, minus 1)
 step_in table free state Clockwise = turned_in table free state (clockwise_of state.rotation)
 step_in table free state Anti = turned_in table free state (anticlockwise_of state.rotation)
+
+-- the moves within a rotation that a drop mode allows
+abbrev pub shifts_in : DropMode → Shifts
+shifts_in Soft = Shift.All
+shifts_in Hard = Shift.Sideways
 
 -- what a flood goes by: a table of offsets, the free states of a piece, and a drop mode
 pub record Ground : Type 0 where

@@ -3,9 +3,8 @@ ghost use Rattle.std.specs.Prelude.{◌≡◌, ◌⊎◌, ℕ};
 ghost use Rattle.lane_board.specs.Field.{empty_field, union};
 ghost use Rattle.srs.specs.Rotation.{clockwise_of, anticlockwise_of};
 ghost use Rattle.srs.specs.Rules.{table_of};
-ghost use Rattle.whole_flood.specs.Flood.{IsSettled, IsFlood};
+ghost use Rattle.whole_flood.specs.Flood.{IsSettled, IsFlood, shifts_in};
 ghost use Rattle.srs.specs.Kick.{kicks_of};
-ghost use Rattle.place_sets.specs.Shifts.{shifts_in};
 ghost use Rattle.place_sets.specs.States.{states_of, states_with};
 ghost use Rattle.whole_flood.specs.Kicks.{turned_from};
 

@@ -2,8 +2,8 @@
 ghost use Rattle.std.specs.Prelude.{◌≡◌};
 ghost use Rattle.lane_board.specs.Board.{field_of};
 ghost use Rattle.srs.specs.Rules.{table_of};
-ghost use Rattle.place_sets.specs.PlaceSets.{ArePlaces};
-ghost use Rattle.place_sets.specs.States.{states_of};
+ghost use Rattle.moves.specs.Place.{IsPlace};
+ghost use Rattle.place_sets.specs.States.{HasExactly, states_of};
 ghost use Rattle.whole_flood.specs.Started.{started};
 
 use crate::flood::flood;
@@ -23,7 +23,7 @@ pub fn whole_places(
     piece: Piece,
     drop_mode: DropMode,
 ) -> Pivots<24>
-    ensures { ArePlaces (table_of rules.now) (field_of filled.now) drop_mode piece (states_of result) }
+    ensures { HasExactly (IsPlace (table_of rules.now) (field_of filled.now) drop_mode) piece (states_of result) }
 {
     let free = free_states(filled, piece);
     let reached = flood(&free, rules, piece, drop_mode, &started(&free));

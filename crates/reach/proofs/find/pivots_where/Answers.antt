@@ -4,15 +4,15 @@ use Rattle.lane_board.specs.Field.{Field}
 use Rattle.srs.specs.Kick.{srs_table}
 use Rattle.srs.specs.Rules.{table_of}
 use Rattle.well.specs.Well.{filled}
-use Rattle.place_sets.specs.PlaceSets.{ArePlaces}
-use Rattle.place_sets.specs.States.{states_of}
+use Rattle.moves.specs.Place.{IsPlace}
+use Rattle.place_sets.specs.States.{HasExactly, states_of}
 use Rattle.reach.proofs.SameOffsets.{places_same}
 use Rattle.reach.proofs.find.pivots_where.Goals as goal
 
 pub returns : goal.returns
-returns c = subst (λ (F : Field). ArePlaces (table_of c.args.rules.now) F c.args.drop_mode c.args.piece (states_of c.whole_places.result)) c.board-filled.ensures c.whole_places.ensures
+returns c = subst (λ (F : Field). HasExactly (IsPlace (table_of c.args.rules.now) F c.args.drop_mode) c.args.piece (states_of c.whole_places.result)) c.board-filled.ensures c.whole_places.ensures
 
 pub returns-then-is_clear_from : goal.returns-then-is_clear_from
 returns-then-is_clear_from c =
     places_same (table_of c.args.rules.now) srs_table (filled c.args.well.now) c.args.drop_mode c.args.piece (states_of c.low_places.result) (c.requires c.if-srs.true)
-    (subst (λ (F : Field). ArePlaces srs_table F c.args.drop_mode c.args.piece (states_of c.low_places.result)) c.board-filled.ensures c.low_places.ensures)
+    (subst (λ (F : Field). HasExactly (IsPlace srs_table F c.args.drop_mode) c.args.piece (states_of c.low_places.result)) c.board-filled.ensures c.low_places.ensures)

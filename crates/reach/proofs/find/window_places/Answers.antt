@@ -5,8 +5,8 @@ use Rattle.srs.specs.Kick.{srs_table}
 use Rattle.well.specs.Well.{filled}
 use Rattle.sky.specs.Sky.{IsClearFrom}
 use Rattle.sky.proofs.CallerLemmas.{window}
-use Rattle.place_sets.specs.PlaceSets.{ArePlaces}
-use Rattle.place_sets.specs.States.{states_of}
+use Rattle.moves.specs.Place.{IsPlace}
+use Rattle.place_sets.specs.States.{HasExactly, states_of}
 use Rattle.place_sets.proofs.CallerLemmas.{places_held}
 use Rattle.reach.proofs.find.window_places.Goals as goal
 
@@ -15,8 +15,8 @@ low_places-held-requires g c = subst (IsClearFrom 8) (sym c.board.ensures) c.req
 
 pub returns-clause-held : goal.returns-clause-held
 returns-clause-held g c =
-    places_held srs_table (filled c.args.well.now) c.args.drop_mode c.args.piece (states_of c.low_places-held.result) c.of_states.result c.of_states.ensures.held
-    (subst (λ (F : Field). ArePlaces srs_table F c.args.drop_mode c.args.piece (states_of c.low_places-held.result)) c.board.ensures c.low_places-held.ensures)
+    places_held (IsPlace srs_table (filled c.args.well.now) c.args.drop_mode) c.args.piece (states_of c.low_places-held.result) c.of_states.result c.of_states.ensures.held
+    (subst (λ (F : Field). HasExactly (IsPlace srs_table F c.args.drop_mode) c.args.piece (states_of c.low_places-held.result)) c.board.ensures c.low_places-held.ensures)
 
 pub returns-clause-window : goal.returns-clause-window
 returns-clause-window g c = λ r q clear low.

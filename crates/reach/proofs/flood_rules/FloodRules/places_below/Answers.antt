@@ -9,8 +9,7 @@ use Rattle.well.specs.Well.{filled}
 use Rattle.moves.specs.Place.{IsPlace}
 use Rattle.reach.specs.FloodRules.{flood_table}
 use Rattle.place_sets.specs.LowPlaces.{holds}
-use Rattle.place_sets.specs.PlaceSets.{ArePlaces}
-use Rattle.place_sets.specs.States.{states_of}
+use Rattle.place_sets.specs.States.{HasExactly, states_of}
 use Rattle.place_sets.proofs.CallerLemmas.{low_places_held}
 use Rattle.reach.proofs.SameOffsets.{places_same}
 use Rattle.reach.proofs.flood_rules.FloodRules.places_below.Goals as goal
@@ -19,9 +18,9 @@ pub returns-then-is_clear_from-clause-held : goal.returns-then-is_clear_from-cla
 returns-then-is_clear_from-clause-held g c =
     let table = flood_table c.args.self.now in
     let S = states_of c.low_places.result in
-    low_places_held table (filled c.args.well.now) c.args.drop_mode c.args.piece c.args.rows c.of_states.result S c.of_states.ensures.held
+    low_places_held (IsPlace table (filled c.args.well.now) c.args.drop_mode) c.args.piece c.args.rows c.of_states.result S c.of_states.ensures.held
     (places_same table srs_table (filled c.args.well.now) c.args.drop_mode c.args.piece S (c.has_srs_offsets-srs.ensures.0 c.if-srs.true)
-    (subst (λ (F : Field). ArePlaces srs_table F c.args.drop_mode c.args.piece S) c.board-filled.ensures c.low_places.ensures))
+    (subst (λ (F : Field). HasExactly (IsPlace srs_table F c.args.drop_mode) c.args.piece S) c.board-filled.ensures c.low_places.ensures))
 
 pub returns-clause-held : goal.returns-clause-held
 returns-clause-held g c =
