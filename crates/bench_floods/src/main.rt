@@ -4,7 +4,7 @@
 
 ghost use Rattle.std.specs.Prelude.{◌≡◌, ◌<◌, ◌≤◌};
 ghost use Rattle.well.specs.Well.{filled};
-ghost use Rattle.sky.specs.Sky.{IsClearFrom};
+ghost use Rattle.moves.specs.Sky.{IsClearFrom};
 
 mod fields;
 

@@ -22,9 +22,9 @@ use Rattle.well.proofs.CallerLemmas.{free_pivot}
 use Rattle.moves.specs.Step.{state_at, first_free, turned}
 use Rattle.moves.proofs.CallerLemmas.{some_same}
 use Rattle.moves.specs.Rest.{lowered}
-use Rattle.sky.specs.Lanes.{lowest}
-use Rattle.sky.specs.Sky.{IsUnderSky}
-use Rattle.sky.specs.Rests.{IsResting}
+use Rattle.moves.specs.Lanes.{lowest}
+use Rattle.moves.specs.Sky.{IsUnderSky}
+use Rattle.moves.specs.RestingStates.{IsResting}
 
 -- rotations of one class have one lane
 pub class_lane : (p : Piece) (r : Rotation) → lowest (shape p r) ≡ lowest (shape p (canonical_rotation p r)) +ℤ (canonical_move p r).1

@@ -19,18 +19,17 @@ use Rattle.moves.specs.declared.key.Key.{Key}
 use Rattle.moves.specs.declared.key.Key.TheVariants.{Left, Right, Down, Clockwise, Anti}
 use Rattle.moves.specs.declared.key.DropMode.TheVariants.{Soft}
 use Rattle.moves.specs.Step.{first_free, shifted, turned, step_of}
-use Rattle.moves.proofs.CallerLemmas.{step_of-free}
+use Rattle.moves.proofs.CallerLemmas.{step_of-free, Lifts, lifts_by, shift_lifts}
 use Rattle.place_sets.specs.Shifts.{sideways, lower}
 use Rattle.place_sets.proofs.CallerLemmas.{LiesWithin, moved_to}
-use Rattle.sky.specs.Sky.{IsClearFrom, IsUnderSky}
-use Rattle.sky.specs.Rests.{IsKeyed}
-use Rattle.sky.specs.Lanes.{lowest, lane, IsFloodBelow}
+use Rattle.moves.specs.Sky.{IsClearFrom, IsUnderSky}
+use Rattle.moves.specs.RestingStates.{IsKeyed}
+use Rattle.moves.specs.Lanes.{lowest, lane, IsFloodBelow}
 use Rattle.low_flood.specs.SkyBoard.{IsLaneMap, sky_board}
 use Rattle.low_flood.specs.LaneTurns.{arrivals}
 use Rattle.low_flood.specs.LaneFlood.{Lanes, IsInLanes, IsLanesClosed, place_column}
 use Rattle.low_flood.proofs.ClassLemmas.{class_lane, sky_same}
 use Rattle.low_flood.proofs.SkyBoards.{sky_board-exact}
-use Rattle.sky.proofs.CallerLemmas.{Lifts, lifts_by, shift_lifts}
 use Rattle.low_flood.proofs.LaneTurns.{free_lane, inside_lane, is_low_move, clockwise_low, anti_low, turn_arrives, class_place}
 
 -- a turn leads to its rotation

@@ -15,10 +15,10 @@ use Rattle.srs.proofs.CallerLemmas.{each_state}
 use Rattle.well.specs.Free.{is_open, is_free_at, is_free}
 use Rattle.well.proofs.CallerLemmas.{open_at, free_pivot}
 use Rattle.moves.specs.Rest.{lowered}
-use Rattle.sky.specs.Height.{is_column, fits_column}
-use Rattle.sky.specs.Rests.{IsResting}
-use Rattle.sky.specs.Lanes.{lowest, lane}
-use Rattle.sky.proofs.CallerLemmas.{yes, column, natural, free_fits}
+use Rattle.moves.specs.Height.{is_column, fits_column}
+use Rattle.moves.specs.RestingStates.{IsResting}
+use Rattle.moves.specs.Lanes.{lowest, lane}
+use Rattle.moves.proofs.CallerLemmas.{yes, column, natural, free_fits}
 use Rattle.low_flood.specs.LaneShapes.{from_lane, lane_cells, is_near_lane}
 use Rattle.low_flood.specs.LaneMap.{fitting, fitting_all, hit, hit_all, free_lanes, resting_lanes}
 use Rattle.low_flood.specs.SkyBoard.{IsLaneMap, inside_lanes}

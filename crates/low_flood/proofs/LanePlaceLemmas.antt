@@ -13,10 +13,10 @@ use Rattle.srs.proofs.CallerLemmas.{IsCanonical-from_test, is_canonical-from}
 use Rattle.well.specs.Free.{is_free}
 use Rattle.moves.specs.declared.key.DropMode.TheVariants.{Hard}
 use Rattle.moves.specs.Place.{IsPlace}
-use Rattle.sky.specs.Sky.{IsClearFrom, IsUnderSky}
-use Rattle.sky.specs.Rests.{IsResting, IsRestWhere}
-use Rattle.sky.specs.Lanes.{lowest, lane}
-use Rattle.sky.proofs.CallerLemmas.{hard_places, lowest_near, near, rest_lane, sky_free}
+use Rattle.moves.specs.Sky.{IsClearFrom, IsUnderSky}
+use Rattle.moves.specs.RestingStates.{IsResting, IsRestWhere}
+use Rattle.moves.specs.Lanes.{lowest, lane}
+use Rattle.moves.proofs.CallerLemmas.{hard_places, lowest_near, near, rest_lane, sky_free}
 use Rattle.low_flood.specs.LaneMap.{free_lanes, resting_lanes}
 use Rattle.low_flood.specs.LanePlaces.{lane_pivots, has_own_cells, hard_board}
 use Rattle.low_flood.specs.SkyBoard.{IsLaneMap, inside_lanes, sky_board}

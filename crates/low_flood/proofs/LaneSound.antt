@@ -19,11 +19,10 @@ use Rattle.moves.specs.declared.key.DropMode.TheVariants.{Soft}
 use Rattle.moves.specs.Leads.{state_after}
 use Rattle.moves.specs.Step.{state_at, first_free, shifted, turned, step_of}
 use Rattle.moves.specs.Walk.{led}
-use Rattle.moves.proofs.CallerLemmas.{step_of-free}
-use Rattle.sky.specs.Sky.{IsClearFrom}
-use Rattle.sky.specs.Rests.{IsKeyed}
-use Rattle.sky.specs.Lanes.{lowest, lane}
-use Rattle.sky.proofs.CallerLemmas.{soft_allows, leads-append, near, sky_is_reached}
+use Rattle.moves.proofs.CallerLemmas.{step_of-free, soft_allows, leads-append, near, sky_is_reached}
+use Rattle.moves.specs.Sky.{IsClearFrom}
+use Rattle.moves.specs.RestingStates.{IsKeyed}
+use Rattle.moves.specs.Lanes.{lowest, lane}
 use Rattle.place_sets.specs.declared.spreading.Shifts.TheVariants as Shift
 use Rattle.low_flood.specs.LaneFlood.{place_column}
 use Rattle.low_flood.specs.LaneTurns.{arrivals, lane_move}

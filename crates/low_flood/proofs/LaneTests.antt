@@ -11,8 +11,8 @@ use Rattle.srs.specs.Canonical.{canonical_rotation}
 use Rattle.srs.specs.Cells.{Cell, moved, shape}
 use Rattle.srs.specs.Kick.{srs_table, kick_in}
 use Rattle.srs.proofs.CallerLemmas.{is_among-all, origin, pivot_in_shape}
-use Rattle.sky.specs.Height.{is_column, fits_column}
-use Rattle.sky.proofs.CallerLemmas.{column}
+use Rattle.moves.specs.Height.{is_column, fits_column}
+use Rattle.moves.proofs.CallerLemmas.{column}
 use Rattle.low_flood.specs.LaneTests.{not_below_zero, opening}
 use Rattle.low_flood.specs.LaneTurns.{opened, lane_move, hits, lane_turned, arrivals}
 use Rattle.low_flood.specs.SkyBoard.{inside_lanes}

@@ -21,15 +21,14 @@ use Rattle.srs.proofs.CallerLemmas.{LiesAt, in_well-place, inside_cell, is_among
 use Rattle.well.specs.Free.{is_open, is_free_at}
 use Rattle.well.proofs.CallerLemmas.{open_in_well, free_pivot}
 use Rattle.moves.specs.Step.{state_at, first_free}
-use Rattle.moves.proofs.CallerLemmas.{some_same, not_some}
+use Rattle.moves.proofs.CallerLemmas.{some_same, not_some, yes, natural, IsNatural, open_height, IsOpenHeight, open_free, free_fits, lane_near}
 use Rattle.place_sets.proofs.CallerLemmas.{LiesWithin, moved_from, moved_to, MovedFrom}
-use Rattle.sky.specs.Height.{rise, fits_column}
-use Rattle.sky.specs.Sky.{IsClearFrom}
-use Rattle.sky.specs.Lanes.{lowest, lane}
+use Rattle.moves.specs.Height.{rise, fits_column}
+use Rattle.moves.specs.Sky.{IsClearFrom}
+use Rattle.moves.specs.Lanes.{lowest, lane}
 use Rattle.low_flood.proofs.ClassLemmas.{class_lane, class_free}
 use Rattle.low_flood.specs.SkyBoard.{IsLaneMap}
 use Rattle.low_flood.specs.LaneTurns.{opened, lane_move, hits, lane_turned}
-use Rattle.sky.proofs.CallerLemmas.{yes, natural, IsNatural, open_height, IsOpenHeight, open_free, free_fits, lane_near}
 
 -- a lowest cell
 lowest_cell : List Cell → Cell

@@ -9,7 +9,7 @@ use Rattle.srs.specs.declared.placement.Placement.{Placement}
 use Rattle.srs.specs.Kick.{srs_table}
 use Rattle.moves.specs.declared.key.DropMode.TheVariants.{Soft, Hard}
 use Rattle.moves.specs.Place.{IsPlace}
-use Rattle.sky.specs.Sky.{IsClearFrom}
+use Rattle.moves.specs.Sky.{IsClearFrom}
 use Rattle.low_flood.specs.LanePlaces.{hard_board}
 use Rattle.place_sets.specs.States.{HasExactly, States, has_state}
 use Rattle.place_sets.proofs.CallerLemmas.{LiesWithin, same_fields}

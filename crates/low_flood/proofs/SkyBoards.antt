@@ -9,11 +9,11 @@ use Rattle.srs.specs.Cells.{Cell, minus, moved, shape}
 use Rattle.srs.proofs.CallerLemmas.{less, pivot_inside}
 use Rattle.well.specs.Free.{is_free_at}
 use Rattle.place_sets.proofs.CallerLemmas.{LiesWithin, moved_from, moved_to}
-use Rattle.sky.specs.Height.{fits_column}
-use Rattle.sky.specs.Sky.{IsClearFrom, IsUnderSky}
-use Rattle.sky.specs.Lanes.{lowest, lane}
+use Rattle.moves.specs.Height.{fits_column}
+use Rattle.moves.specs.Sky.{IsClearFrom, IsUnderSky}
+use Rattle.moves.specs.Lanes.{lowest, lane}
 use Rattle.low_flood.specs.SkyBoard.{with_lower, inside_lanes, IsLaneMap, sky_board}
-use Rattle.sky.proofs.CallerLemmas.{free_fits, sky_free, near, sky_from}
+use Rattle.moves.proofs.CallerLemmas.{free_fits, sky_free, near, sky_from}
 
 -- R has the places of N lanes that have a cell of B fewer than n rows above them
 record Found (B : Field) (n x y : ℕ) : Type 0 where

@@ -22,10 +22,10 @@ use Rattle.moves.specs.declared.key.Key.TheVariants.{Clockwise, Anti}
 use Rattle.moves.specs.declared.key.DropMode.TheVariants.{Soft}
 use Rattle.moves.specs.Place.{IsPlace}
 use Rattle.moves.specs.Step.{turned}
-use Rattle.sky.specs.Sky.{IsClearFrom}
-use Rattle.sky.specs.Rests.{IsResting, IsKeyed}
-use Rattle.sky.specs.Lanes.{lowest, lane}
-use Rattle.sky.proofs.CallerLemmas.{soft_places, rest_lane, keyed_in}
+use Rattle.moves.specs.Sky.{IsClearFrom}
+use Rattle.moves.specs.RestingStates.{IsResting, IsKeyed}
+use Rattle.moves.specs.Lanes.{lowest, lane}
+use Rattle.moves.proofs.CallerLemmas.{soft_places, rest_lane, keyed_in}
 use Rattle.low_flood.specs.LaneFlood.{Lanes, IsInLanes, IsLanesClosed}
 use Rattle.low_flood.specs.LanePlaces.{lane_pivots, has_own_cells}
 use Rattle.low_flood.specs.LaneTurns.{arrivals}

@@ -7,7 +7,7 @@ use Rattle.srs.specs.declared.placement.Placement.{Placement}
 use Rattle.srs.specs.Canonical.{canonical_rotation, canonical_move}
 use Rattle.srs.specs.Rotation.{clockwise_of, anticlockwise_of}
 use Rattle.place_sets.specs.Shifts.{sideways, lower}
-use Rattle.sky.specs.Lanes.{lane}
+use Rattle.moves.specs.Lanes.{lane}
 use Rattle.low_flood.specs.LaneTurns.{arrivals}
 use Rattle.low_flood.specs.SkyBoard.{sky_board}
 

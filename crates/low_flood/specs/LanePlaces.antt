@@ -6,7 +6,7 @@ use Rattle.srs.specs.declared.rotation.Rotation.{Rotation}
 use Rattle.srs.specs.Canonical.{rotation_count}
 use Rattle.srs.specs.Cells.{shape}
 use Rattle.srs.specs.Rotation.{rotation_place}
-use Rattle.sky.specs.Lanes.{lowest}
+use Rattle.moves.specs.Lanes.{lowest}
 use Rattle.low_flood.specs.LaneMap.{free_lanes, resting_lanes}
 use Rattle.low_flood.specs.SkyBoard.{sky_board}
 

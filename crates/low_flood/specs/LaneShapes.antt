@@ -3,7 +3,7 @@ use Rattle.std.specs.Prelude.{Bool, ◌&&◌, int_le, pos, ◌-ℤ◌, List, map
 use Rattle.srs.specs.declared.piece.Piece.{Piece}
 use Rattle.srs.specs.declared.rotation.Rotation.{Rotation}
 use Rattle.srs.specs.Cells.{Cell, minus, shape}
-use Rattle.sky.specs.Lanes.{lowest}
+use Rattle.moves.specs.Lanes.{lowest}
 
 -- an offset from the pivot as one from the lane
 abbrev pub from_lane : Piece → Rotation → Cell → Cell

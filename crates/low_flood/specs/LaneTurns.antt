@@ -7,8 +7,8 @@ use Rattle.srs.specs.declared.rotation.Rotation.{Rotation}
 use Rattle.srs.specs.Canonical.{canonical_rotation, canonical_move}
 use Rattle.srs.specs.Cells.{Cell, shape}
 use Rattle.srs.specs.Kick.{srs_table, kicks_of}
-use Rattle.sky.specs.Height.{fits_column}
-use Rattle.sky.specs.Lanes.{lowest}
+use Rattle.moves.specs.Height.{fits_column}
+use Rattle.moves.specs.Lanes.{lowest}
 
 -- the free places, and above the lanes all inside places
 unfoldable pub opened : Piece → Rotation → ℕ → Field → Field

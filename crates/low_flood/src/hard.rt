@@ -3,7 +3,7 @@
 ghost use Rattle.std.specs.Prelude.{◌≡◌, ◌≤ℤ◌, pos, neg_ℤ};
 ghost use Rattle.lane_board.specs.Board.{field_of};
 ghost use Rattle.srs.specs.Cells.{shape};
-ghost use Rattle.sky.specs.Lanes.{lowest};
+ghost use Rattle.moves.specs.Lanes.{lowest};
 ghost use Rattle.place_sets.specs.States.{states_of};
 ghost use Rattle.low_flood.specs.LanePlaces.{lane_pivots, has_own_cells, hard_board};
 

@@ -3,7 +3,7 @@ ghost use Rattle.std.specs.Prelude.{◌≡◌, ◌≤◌, ◌≤ℤ◌, pos};
 ghost use Rattle.srs.specs.Canonical.{canonical_move};
 ghost use Rattle.srs.specs.Cells.{minus, shape};
 ghost use Rattle.srs.specs.Kick.{srs_table, kick_in, offset_in};
-ghost use Rattle.sky.specs.Lanes.{lowest};
+ghost use Rattle.moves.specs.Lanes.{lowest};
 ghost use Rattle.low_flood.specs.LaneTurns.{lane_move};
 
 use srs::{Piece, Rotation};

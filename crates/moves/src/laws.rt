@@ -12,6 +12,8 @@ ghost use Rattle.moves.specs.Leads.{state_after};
 ghost use Rattle.moves.specs.Place.{IsPlace};
 ghost use Rattle.moves.specs.PlaceTest.{is_place};
 ghost use Rattle.moves.specs.Rest.{IsRest, rest_of};
+ghost use Rattle.moves.specs.SkyLaws.{TurnsKeepTheHeight, SkyIsReached, PlacesAreRests, AllRestsArePlaces};
+ghost use Rattle.moves.specs.SkyLaws.{HardPlacesLieUnderTheSky, WindowLosesNothing};
 ghost use Rattle.moves.specs.Step.{step_of};
 
 use crate::key::Key;
@@ -48,4 +50,31 @@ pub fn free_states_have_one_rest()
 pub fn places_are_decided()
     ensures { (table : Table) (F : Field) (mode : DropMode) (placement : Placement) →
         (is_place table F mode placement ≡ true) ↔ IsPlace table F mode placement }
+{}
+
+/// From two rows above the stack up to the height of the spawn, both turns succeed and keep the upright height.
+pub fn turns_keep_the_height()
+    ensures { TurnsKeepTheHeight }
+{}
+
+/// Keys lead to every state under the sky that is no higher than the spawn.
+pub fn sky_is_reached()
+    ensures { SkyIsReached }
+{}
+
+/// With soft drop, the places are the resting states that keys lead to. If keys lead to every resting state, all of
+/// them are places.
+pub fn rests_are_places()
+    ensures reached { PlacesAreRests }
+    ensures all { AllRestsArePlaces }
+{}
+
+/// With hard drop, the places are the resting states under the sky.
+pub fn hard_places_lie_under_the_sky()
+    ensures { HardPlacesLieUnderTheSky }
+{}
+
+/// A window of sixteen rows, from just above a stack of up to eight rows, has the same places as the whole well.
+pub fn window_loses_nothing()
+    ensures { WindowLosesNothing }
 {}

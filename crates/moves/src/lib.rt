@@ -1,4 +1,5 @@
-// Single keys: the spawn, what a key does to a state, and where a state comes to rest.
+// Single keys: the spawn, what a key does to a state, and where a state comes to rest. Laws say what keys reach above
+// the stack.
 #![tactic(auto)]
 
 mod key;

@@ -3,8 +3,8 @@ use Rattle.std.proofs.Common.{sym, subst}
 use Rattle.lane_board.specs.Field.{Field}
 use Rattle.srs.specs.Kick.{srs_table}
 use Rattle.well.specs.Well.{filled}
-use Rattle.sky.specs.Sky.{IsClearFrom}
-use Rattle.sky.proofs.CallerLemmas.{window}
+use Rattle.moves.specs.Sky.{IsClearFrom}
+use Rattle.moves.proofs.CallerLemmas.{window}
 use Rattle.moves.specs.Place.{IsPlace}
 use Rattle.place_sets.specs.States.{HasExactly, states_of}
 use Rattle.place_sets.proofs.CallerLemmas.{places_held}

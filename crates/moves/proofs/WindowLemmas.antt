@@ -25,21 +25,22 @@ use Rattle.moves.specs.Leads.{spawned, spawn_of, state_after}
 use Rattle.moves.specs.Place.{IsPlace}
 use Rattle.moves.specs.Step.{step_of}
 use Rattle.moves.specs.Walk.{led}
-use Rattle.moves.proofs.CallerLemmas.{step_of-free, pivot_of_free, some_same, not_some, led_none}
-use Rattle.sky.specs.Height.{rise, depth, upright}
-use Rattle.sky.specs.Sky.{IsClearFrom, IsUnderSky}
-use Rattle.sky.specs.Rests.{IsResting, IsKeyed}
-use Rattle.sky.specs.Lanes.{lowest, lane}
-use Rattle.sky.specs.Window.{is_low_cell, is_low, low_step, IsStart, IsWindowed, IsWindowPlace}
-use Rattle.sky.proofs.TableFacts.{is_level, shape_level}
-use Rattle.sky.proofs.OpenLemmas.{all_so, yes, natural, open_height, IsOpenHeight, free_fits}
-use Rattle.sky.proofs.SkyLemmas.{rise_spawn, sky_is_reached, sky_free}
-use Rattle.sky.proofs.RestViews.{StandsAbove, stands_above, comes_to_rest}
-use Rattle.sky.proofs.EarlyEnd.{soft_allows, soft_places, own_rest, leads-append}
-use Rattle.sky.proofs.HardLemmas.{StandsAt, stays_level, led_level}
-use Rattle.sky.proofs.HardPlaces.{hard_places}
-use Rattle.sky.proofs.LaneFacts.{lowest_near, near, rest_lane, sky_from}
-use Rattle.sky.proofs.LaneLemmas.{key_lifts, inside_under_sky, down_sinks, rise_near}
+use Rattle.moves.proofs.StepLemmas.{step_of-free, pivot_of_free}
+use Rattle.moves.proofs.WalkLemmas.{some_same, not_some, led_none}
+use Rattle.moves.specs.Height.{rise, depth, upright}
+use Rattle.moves.specs.Sky.{IsClearFrom, IsUnderSky}
+use Rattle.moves.specs.RestingStates.{IsResting, IsKeyed}
+use Rattle.moves.specs.Lanes.{lowest, lane}
+use Rattle.moves.specs.Window.{is_low_cell, is_low, low_step, IsStart, IsWindowed, IsWindowPlace}
+use Rattle.moves.proofs.TableFacts.{is_level, shape_level}
+use Rattle.moves.proofs.OpenLemmas.{all_so, yes, natural, open_height, IsOpenHeight, free_fits}
+use Rattle.moves.proofs.SkyLemmas.{rise_spawn, sky_is_reached, sky_free}
+use Rattle.moves.proofs.AboveRest.{StandsAbove, stands_above, comes_to_rest}
+use Rattle.moves.proofs.SoftPlaces.{soft_allows, soft_places, own_rest, leads-append}
+use Rattle.moves.proofs.HardLemmas.{StandsAt, stays_level, led_level}
+use Rattle.moves.proofs.HardPlaces.{hard_places}
+use Rattle.moves.proofs.LaneFacts.{lowest_near, near, rest_lane, sky_from}
+use Rattle.moves.proofs.LaneLemmas.{key_lifts, inside_under_sky, down_sinks, rise_near}
 
 -- what is low enough lies in the window
 all_from : (f t : Cell → Bool) (s : Placement) → ((c : Cell) → f c ≡ true → t (moved (pivot_of s) c) ≡ true) → list_all f (shape s.piece s.rotation) ≡ true → list_all t (cells_of s) ≡ true

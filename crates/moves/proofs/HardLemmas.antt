@@ -23,15 +23,16 @@ use Rattle.moves.specs.Leads.{spawned, spawn_of, state_after}
 use Rattle.moves.specs.Rest.{lowered}
 use Rattle.moves.specs.Step.{state_at, first_free, shifted, step_of}
 use Rattle.moves.specs.Walk.{led}
-use Rattle.moves.proofs.CallerLemmas.{step_of-free, pivot_of_free, some_same, not_some, led_none}
-use Rattle.sky.specs.Height.{rise, upright, fits_column}
-use Rattle.sky.specs.Band.{Spot, open_key, is_some, path}
-use Rattle.sky.specs.Sky.{IsClearFrom, IsUnderSky}
-use Rattle.sky.proofs.TableFacts.{all_below, below_each, is_level, shape_level, turns_kept}
-use Rattle.sky.specs.SkyLaws.{KeepsHeight}
-use Rattle.sky.proofs.OpenLemmas.{open_height, IsOpenHeight, open_step, free_fits, yes, natural}
-use Rattle.sky.proofs.SkyLemmas.{high, rise_spawn, spawn_fits}
-use Rattle.sky.proofs.RestViews.{StandsAbove}
+use Rattle.moves.proofs.StepLemmas.{step_of-free, pivot_of_free}
+use Rattle.moves.proofs.WalkLemmas.{some_same, not_some, led_none}
+use Rattle.moves.specs.Height.{rise, upright, fits_column}
+use Rattle.moves.specs.OpenKeys.{Spot, open_key, is_some, path}
+use Rattle.moves.specs.Sky.{IsClearFrom, IsUnderSky}
+use Rattle.moves.proofs.TableFacts.{all_below, below_each, is_level, shape_level, turns_kept}
+use Rattle.moves.specs.SkyLaws.{KeepsHeight}
+use Rattle.moves.proofs.OpenLemmas.{open_height, IsOpenHeight, open_step, free_fits, yes, natural}
+use Rattle.moves.proofs.SkyLemmas.{high, rise_spawn, spawn_fits}
+use Rattle.moves.proofs.AboveRest.{StandsAbove}
 
 -- a state at an upright height that fits the columns
 pub record StandsAt (h : ℕ) (piece : Piece) (s : Placement) : Type 0 where

@@ -11,15 +11,15 @@ use Rattle.moves.specs.declared.key.DropMode.TheVariants.{Hard}
 use Rattle.moves.specs.Keys.{allows}
 use Rattle.moves.specs.Leads.{state_after}
 use Rattle.moves.specs.Place.{IsPlace}
-use Rattle.moves.proofs.CallerLemmas.{pivot_of_free}
-use Rattle.sky.specs.Band.{path}
-use Rattle.sky.specs.Sky.{IsClearFrom, IsUnderSky}
-use Rattle.sky.specs.Rests.{IsRestWhere}
-use Rattle.sky.proofs.OpenLemmas.{free_fits}
-use Rattle.sky.proofs.SkyLemmas.{high, sky_free}
-use Rattle.sky.proofs.RestViews.{stands_above, comes_to_rest}
-use Rattle.sky.proofs.HardLemmas.{path_allowed, leads_level, under_sky}
-use Rattle.sky.proofs.LaneFacts.{near, rest_lane}
+use Rattle.moves.proofs.StepLemmas.{pivot_of_free}
+use Rattle.moves.specs.OpenKeys.{path}
+use Rattle.moves.specs.Sky.{IsClearFrom, IsUnderSky}
+use Rattle.moves.specs.RestingStates.{IsRestWhere}
+use Rattle.moves.proofs.OpenLemmas.{free_fits}
+use Rattle.moves.proofs.SkyLemmas.{high, sky_free}
+use Rattle.moves.proofs.AboveRest.{stands_above, comes_to_rest}
+use Rattle.moves.proofs.HardLemmas.{path_allowed, leads_level, under_sky}
+use Rattle.moves.proofs.LaneFacts.{near, rest_lane}
 
 pub hard_places : (F : Field) (r : ℕ) (q : Placement) → IsClearFrom r F → r ≤ 18 → IsPlace srs_table F Hard q ↔ IsRestWhere F (IsUnderSky F) q
 hard_places F r q clear low = (there, back)

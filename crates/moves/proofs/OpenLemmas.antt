@@ -21,12 +21,12 @@ use Rattle.moves.specs.declared.key.Key.{Key}
 use Rattle.moves.specs.declared.key.Key.TheVariants.{Left, Right, Down, Clockwise, Anti}
 use Rattle.moves.specs.Step.{state_at, first_free, shifted, turned, step_of}
 use Rattle.moves.specs.Walk.{led}
-use Rattle.moves.proofs.CallerLemmas.{some_same, not_some}
-use Rattle.sky.specs.Height.{depth, rise, is_column, fits_column}
-use Rattle.sky.specs.Band.{Spot, spot_in, first_fitting, level_kick, open_turn, open_shift, open_key, open_led}
-use Rattle.sky.specs.Sky.{IsClearFrom}
+use Rattle.moves.proofs.WalkLemmas.{some_same, not_some}
+use Rattle.moves.specs.Height.{depth, rise, is_column, fits_column}
+use Rattle.moves.specs.OpenKeys.{Spot, spot_in, first_fitting, level_kick, open_turn, open_shift, open_key, open_led}
+use Rattle.moves.specs.Sky.{IsClearFrom}
 use Rattle.srs.proofs.CallerLemmas.{each_state}
-use Rattle.sky.proofs.TableFacts.{is_level, shape_level, is_not_deep, shape_not_deep, depth_small}
+use Rattle.moves.proofs.TableFacts.{is_level, shape_level, is_not_deep, shape_not_deep, depth_small}
 
 -- what holds of all by two tests holds by one that follows from them
 all_both : (p q t : Cell → Bool) (xs : List Cell) → ((c : Cell) → p c ≡ true → q c ≡ true → t c ≡ true) → list_all p xs ≡ true → list_all q xs ≡ true → list_all t xs ≡ true

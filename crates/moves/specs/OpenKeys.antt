@@ -9,7 +9,7 @@ use Rattle.srs.specs.Kick.{srs_table, kicks_of}
 use Rattle.srs.specs.Rotation.{clockwise_of, anticlockwise_of, rotation_place}
 use Rattle.moves.specs.declared.key.Key.{Key}
 use Rattle.moves.specs.declared.key.Key.TheVariants.{Left, Right, Down, Clockwise, Anti}
-use Rattle.sky.specs.Height.{rise, fits_column}
+use Rattle.moves.specs.Height.{rise, fits_column}
 
 -- a rotation and a column, at some upright height
 abbrev pub Spot : Type 0

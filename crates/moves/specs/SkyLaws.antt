@@ -10,10 +10,10 @@ use Rattle.moves.specs.declared.key.DropMode.{DropMode}
 use Rattle.moves.specs.declared.key.DropMode.TheVariants.{Soft, Hard}
 use Rattle.moves.specs.Place.{IsPlace}
 use Rattle.moves.specs.Step.{step_of}
-use Rattle.sky.specs.Height.{upright}
-use Rattle.sky.specs.Sky.{IsClearFrom, IsUnderSky, IsLedTo}
-use Rattle.sky.specs.Rests.{IsKeyed, IsRestWhere, AllRestsAreKeyed, Any}
-use Rattle.sky.specs.Window.{IsWindowPlace}
+use Rattle.moves.specs.Height.{upright}
+use Rattle.moves.specs.Sky.{IsClearFrom, IsUnderSky, IsLedTo}
+use Rattle.moves.specs.RestingStates.{IsKeyed, IsRestWhere, AllRestsAreKeyed, Any}
+use Rattle.moves.specs.Window.{IsWindowPlace}
 
 -- the key makes a move, and the state that it leads to has the same upright height
 pub record KeepsHeight (F : Field) (state : Placement) (key : Key) : Type 0 where

@@ -24,16 +24,17 @@ use Rattle.moves.specs.Leads.{spawned, spawn_of, state_after}
 use Rattle.moves.specs.Place.{IsPlace}
 use Rattle.moves.specs.Step.{state_at, first_free, shifted, turned, step_of}
 use Rattle.moves.specs.Walk.{led}
-use Rattle.moves.proofs.CallerLemmas.{step_of-free, pivot_of_free, some_same, not_some, led_none}
-use Rattle.sky.specs.Height.{rise, upright}
-use Rattle.sky.specs.Sky.{IsClearFrom, IsUnderSky}
-use Rattle.sky.specs.Rests.{IsKeyed, IsRestWhere}
-use Rattle.sky.specs.Lanes.{lowest, lane, IsFloodBelow}
-use Rattle.sky.proofs.OpenLemmas.{open_height, natural, IsOpenHeight, free_fits, yes}
-use Rattle.sky.proofs.SkyLemmas.{rise_spawn}
-use Rattle.sky.proofs.HardLemmas.{StandsAt, stays_level}
-use Rattle.sky.proofs.LaneFacts.{is_over, shape_over, near, cases_lane, rest_lane}
-use Rattle.sky.proofs.EarlyEnd.{soft_places}
+use Rattle.moves.proofs.StepLemmas.{step_of-free, pivot_of_free}
+use Rattle.moves.proofs.WalkLemmas.{some_same, not_some, led_none}
+use Rattle.moves.specs.Height.{rise, upright}
+use Rattle.moves.specs.Sky.{IsClearFrom, IsUnderSky}
+use Rattle.moves.specs.RestingStates.{IsKeyed, IsRestWhere}
+use Rattle.moves.specs.Lanes.{lowest, lane, IsFloodBelow}
+use Rattle.moves.proofs.OpenLemmas.{open_height, natural, IsOpenHeight, free_fits, yes}
+use Rattle.moves.proofs.SkyLemmas.{rise_spawn}
+use Rattle.moves.proofs.HardLemmas.{StandsAt, stays_level}
+use Rattle.moves.proofs.LaneFacts.{is_over, shape_over, near, cases_lane, rest_lane}
+use Rattle.moves.proofs.SoftPlaces.{soft_places}
 
 -- a free state whose lane is no lower than all rows are clear from lies under the sky
 pub inside_under_sky : (F : Field) (r : ℕ) → IsClearFrom r F → (t : Placement) → is_inside_of t ≡ true → pos r ≤ℤ lane t → IsUnderSky F t

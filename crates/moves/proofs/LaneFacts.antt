@@ -13,12 +13,12 @@ use Rattle.srs.specs.SameCells.{is_among}
 use Rattle.srs.proofs.CallerLemmas.{less, is_among-moved, is_among-all, each_state}
 use Rattle.well.specs.Free.{is_open, is_free_at, is_free}
 use Rattle.well.proofs.CallerLemmas.{free_inside}
-use Rattle.sky.specs.Height.{rise, upright}
-use Rattle.sky.specs.Sky.{IsClearFrom, IsUnderSky}
-use Rattle.sky.specs.Rests.{IsResting}
-use Rattle.sky.specs.Lanes.{lowest, lane}
-use Rattle.sky.proofs.OpenLemmas.{natural, yes}
-use Rattle.sky.proofs.HardLemmas.{lower_free}
+use Rattle.moves.specs.Height.{rise, upright}
+use Rattle.moves.specs.Sky.{IsClearFrom, IsUnderSky}
+use Rattle.moves.specs.RestingStates.{IsResting}
+use Rattle.moves.specs.Lanes.{lowest, lane}
+use Rattle.moves.proofs.OpenLemmas.{natural, yes}
+use Rattle.moves.proofs.HardLemmas.{lower_free}
 
 -- no cell is lower than the lane, and the lane lies from two rows below the upright height up to it
 unfoldable pub is_over : Piece → Rotation → Cell → Bool

@@ -17,11 +17,11 @@ use Rattle.moves.specs.Place.{IsPlace}
 use Rattle.moves.specs.Step.{step_of}
 use Rattle.moves.specs.Rest.{IsRest}
 use Rattle.moves.specs.Walk.{led}
-use Rattle.moves.proofs.CallerLemmas.{leads-free}
-use Rattle.sky.specs.Band.{repeated}
-use Rattle.sky.specs.Rests.{IsResting, IsKeyed, IsRestWhere, AllRestsAreKeyed, Any}
-use Rattle.sky.proofs.RestViews.{StandsAbove, stands_above, comes_to_rest}
-use Rattle.sky.proofs.SkyLemmas.{falls}
+use Rattle.moves.proofs.RestTest.{leads-free}
+use Rattle.moves.specs.OpenKeys.{repeated}
+use Rattle.moves.specs.RestingStates.{IsResting, IsKeyed, IsRestWhere, AllRestsAreKeyed, Any}
+use Rattle.moves.proofs.AboveRest.{StandsAbove, stands_above, comes_to_rest}
+use Rattle.moves.proofs.SkyLemmas.{falls}
 
 pub soft_allows : (key : Key) → IsTrue (allows Soft key)
 soft_allows Left = refl

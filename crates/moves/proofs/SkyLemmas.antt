@@ -24,11 +24,11 @@ use Rattle.moves.specs.declared.key.Key.TheVariants.{Down}
 use Rattle.moves.specs.Step.{state_at, first_free, shifted, step_of}
 use Rattle.moves.specs.Leads.{spawn_of, spawned, state_after}
 use Rattle.moves.specs.Walk.{led}
-use Rattle.sky.specs.Height.{rise, upright, fits_column}
-use Rattle.sky.specs.Band.{Spot, open_led, path, is_spot, repeated}
-use Rattle.sky.specs.Sky.{IsClearFrom, IsUnderSky, IsLedTo}
-use Rattle.sky.proofs.TableFacts.{is_level, shape_level, paths_lead}
-use Rattle.sky.proofs.OpenLemmas.{yes, IsOpenHeight, open_height, open_free, free_fits, open_leads}
+use Rattle.moves.specs.Height.{rise, upright, fits_column}
+use Rattle.moves.specs.OpenKeys.{Spot, open_led, path, is_spot, repeated}
+use Rattle.moves.specs.Sky.{IsClearFrom, IsUnderSky, IsLedTo}
+use Rattle.moves.proofs.TableFacts.{is_level, shape_level, paths_lead}
+use Rattle.moves.proofs.OpenLemmas.{yes, IsOpenHeight, open_height, open_free, free_fits, open_leads}
 
 state_of : Piece → Rotation → ℕ → ℕ → Placement
 state_of piece rotation x y = record { piece = piece; rotation = rotation; x = x; y = y }

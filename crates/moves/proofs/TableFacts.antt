@@ -9,8 +9,8 @@ use Rattle.srs.specs.Cells.{Cell, minus, shape}
 use Rattle.srs.specs.Rotation.{clockwise_of, anticlockwise_of}
 use Rattle.srs.specs.Kick.{srs_table, kicks_of}
 use Rattle.srs.proofs.CallerLemmas.{each_state, each_piece}
-use Rattle.sky.specs.Height.{depth, rise}
-use Rattle.sky.specs.Band.{path_leads, turns_stay}
+use Rattle.moves.specs.Height.{depth, rise}
+use Rattle.moves.specs.OpenKeys.{path_leads, turns_stay}
 
 -- each number below n passes
 unfoldable pub all_below : ℕ → (ℕ → Bool) → Bool
