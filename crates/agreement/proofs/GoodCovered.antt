@@ -8,7 +8,7 @@ use Rattle.std.proofs.lemmas.Cmp.{nat_cmp_total}
 use Rattle.std.proofs.lemmas.List.Kept.{IsStrictlySortedBy-filter}
 use Rattle.std.proofs.lemmas.List.Sums.{length-filter}
 use Rattle.std.proofs.lemmas.Option.{slice_get_within}
-use Rattle.lists.proofs.CallerLemmas.{Contains-filter, Contains-from_filter, Contains-here, Contains-range, IsRisingListOf-unique, filter-false, filter-true, rising-range}
+use Rattle.srs.proofs.CallerLemmas.{Contains-filter, Contains-from_filter, Contains-here, Contains-range, IsRisingListOf-unique, filter-false, filter-true, rising-range}
 use Rattle.srs.specs.declared.piece.Piece.{Piece}
 use Rattle.srs.specs.declared.placement.Placement.{Placement}
 use Rattle.queue_pattern.specs.Pattern.{elements_of}

@@ -4,7 +4,7 @@ use Rattle.std.specs.Prelude.{None, Some}
 use Rattle.srs.specs.declared.placement.Placement.{Placement}
 use Rattle.srs.specs.Order.{sequence_cmp}
 use Rattle.srs.specs.Rules.{table_of}
-use Rattle.lists.specs.Rising.{IsLeastAbove}
+use Rattle.srs.specs.Rising.{IsLeastAbove}
 use Rattle.well.specs.Well.{filled}
 use Rattle.moves.specs.Place.{IsPlace}
 use Rattle.moves.specs.declared.key.Key.{Key}

@@ -8,14 +8,13 @@ use Rattle.std.specs.declared.cmp.Ordering.{Ordering}
 use Rattle.std.specs.declared.cmp.Ordering.TheVariants.{Less, Equal, Greater}
 use Rattle.std.proofs.lemmas.List.Sums.{length-filter, count_by-le-length}
 use Rattle.lane_board.specs.Field.{Field}
-use Rattle.lists.specs.Rising.{IsLeastAbove, IsRisingListOf, NoneAbove}
-use Rattle.lists.proofs.CallerLemmas.{Contains-cases, Contains-here, Contains-there, IsRisingListOf-filter, IsRisingListOf-unique, rising-cons, some_same}
+use Rattle.srs.specs.Rising.{IsLeastAbove, IsRisingListOf, NoneAbove}
+use Rattle.srs.proofs.CallerLemmas.{Contains-cases, Contains-here, Contains-there, IsRisingListOf-filter, IsRisingListOf-unique, rising-cons, some_same, placement_cmp-antisymmetric, placement_cmp-total, placements_of-list}
 use Rattle.srs.specs.declared.piece.Piece.{Piece}
 use Rattle.srs.specs.declared.placement.Placement.{Placement}
 use Rattle.srs.specs.Kick.{Table}
 use Rattle.srs.specs.Order.{placement_cmp}
 use Rattle.srs.specs.Placements.{IsCanonicalInside, is_canonical_inside, placements_by_pivot, placements_of}
-use Rattle.srs.proofs.CallerLemmas.{placement_cmp-antisymmetric, placement_cmp-total, placements_of-list}
 use Rattle.well.proofs.CallerLemmas.{free_inside}
 use Rattle.moves.specs.declared.key.DropMode.{DropMode}
 use Rattle.moves.specs.Place.{IsPlace}

@@ -5,7 +5,7 @@ use Rattle.srs.specs.declared.piece.Piece.{Piece}
 use Rattle.srs.specs.declared.placement.Placement.{Placement}
 use Rattle.srs.specs.Kick.{Table}
 use Rattle.srs.specs.Order.{placement_cmp}
-use Rattle.lists.specs.Rising.{IsRisingListOf}
+use Rattle.srs.specs.Rising.{IsRisingListOf}
 use Rattle.moves.specs.declared.key.DropMode.{DropMode}
 use Rattle.moves.specs.Place.{IsPlace}
 use Rattle.problem.specs.declared.problem.Problem.{Problem}

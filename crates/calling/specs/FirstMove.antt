@@ -5,7 +5,7 @@ use Rattle.srs.specs.declared.placement.Placement.{Placement}
 use Rattle.srs.specs.Kick.{srs_table}
 use Rattle.srs.specs.Order.{sequence_cmp}
 use Rattle.srs.specs.Rules.{table_of}
-use Rattle.lists.specs.Rising.{IsLeastAbove, NoneAbove}
+use Rattle.srs.specs.Rising.{IsLeastAbove, NoneAbove}
 use Rattle.well.specs.declared.well.Well.{Well}
 use Rattle.well.specs.Well.{filled}
 use Rattle.moves.specs.declared.key.DropMode.TheVariants.{Soft}

@@ -1,7 +1,7 @@
 // The solutions of a problem.
 ghost use Rattle.std.specs.Prelude.{◌≡◌, ◌<◌, None, IfOk};
 ghost use Rattle.srs.specs.Order.{sequence_cmp};
-ghost use Rattle.lists.specs.Rising.{IsNextAbove};
+ghost use Rattle.srs.specs.Rising.{IsNextAbove};
 ghost use Rattle.problem.specs.Problem.{IsFit};
 ghost use Rattle.problem.specs.Solution.{IsSolution};
 ghost use Rattle.enumerate.specs.Items.{items_of};

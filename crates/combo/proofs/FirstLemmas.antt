@@ -7,15 +7,14 @@ use Rattle.std.specs.Prelude.{IfSome}
 use Rattle.arrayvec.specs.ArrayVec.{ArrayVec}
 use Rattle.std.proofs.lemmas.Bool.{cases_Bool, false≢true}
 use Rattle.lane_board.specs.Field.{Field}
-use Rattle.lists.specs.Rising.{is_above, IsLeastAbove, NoneAbove}
-use Rattle.lists.proofs.CallerLemmas.{below_is_less}
+use Rattle.srs.specs.Rising.{is_above, IsLeastAbove, NoneAbove}
+use Rattle.srs.proofs.CallerLemmas.{below_is_less, placement_cmp-total, sequence_cmp-first, sequence_cmp-total, placement_cmp-antisymmetric}
 use Rattle.srs.specs.declared.piece.Piece.{Piece}
 use Rattle.srs.specs.declared.placement.Placement.{Placement}
 use Rattle.srs.specs.Kick.{Table}
 use Rattle.srs.specs.Piece.{piece_code}
 use Rattle.srs.specs.Rotation.{rotation_place}
 use Rattle.srs.specs.Order.{placement_cmp, sequence_cmp}
-use Rattle.srs.proofs.CallerLemmas.{placement_cmp-total, sequence_cmp-first, sequence_cmp-total, placement_cmp-antisymmetric}
 use Rattle.well.specs.Lock.{locked, rows_removed}
 use Rattle.moves.specs.declared.key.DropMode.{DropMode}
 use Rattle.moves.specs.Place.{IsPlace}

@@ -10,14 +10,13 @@ use Rattle.std.specs.declared.cmp.Ordering.TheVariants.{Less, Equal, Greater}
 use Rattle.std.proofs.lemmas.Bool.{and_from, and_parts, cases_Bool, cases_order}
 use Rattle.std.proofs.lemmas.List.{length-map}
 use Rattle.lane_board.specs.Field.{Field}
-use Rattle.lists.proofs.CallerLemmas.{Contains-cases, Contains-filter, Contains-flat_map, Contains-from_filter, Contains-from_flat_map, Contains-from_map, Contains-here, Contains-map, Contains-none, Contains-there}
+use Rattle.srs.proofs.CallerLemmas.{Contains-cases, Contains-filter, Contains-flat_map, Contains-from_filter, Contains-from_flat_map, Contains-from_map, Contains-here, Contains-map, Contains-none, Contains-there, placement_cmp-antisymmetric, placements_of-list, sequence_cmp-total}
 use Rattle.srs.specs.declared.piece.Piece.{Piece}
 use Rattle.srs.specs.declared.placement.Placement.{Placement}
 use Rattle.srs.specs.Kick.{Table}
 use Rattle.srs.specs.Order.{sequence_cmp}
 use Rattle.srs.specs.Piece.{all_pieces}
 use Rattle.srs.specs.Placements.{placements_of}
-use Rattle.srs.proofs.CallerLemmas.{placement_cmp-antisymmetric, placements_of-list, sequence_cmp-total}
 use Rattle.well.specs.Lock.{locked, rows_removed}
 use Rattle.well.proofs.CallerLemmas.{free_inside}
 use Rattle.moves.specs.declared.key.DropMode.{DropMode}

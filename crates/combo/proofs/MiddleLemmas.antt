@@ -2,7 +2,7 @@
 use Rattle.std.proofs.Common.{◌≡◌, ℕ, zero, suc, ◌+◌, ◌*◌, ◌/◌, ◌<◌, ◌≤◌, true, false, not, ◌&&◌, List, length, refl, subst, ap, inl, inr, arith}
 use Rattle.std.proofs.lemmas.Bool.Decides.{nat_tests}
 use Rattle.std.proofs.lemmas.Bool.{and_from, both_ways, cases_Bool, cases_eq, false_from_ne_true, or_from, or_left, or_right}
-use Rattle.lists.proofs.CallerLemmas.{and_first, and_second}
+use Rattle.srs.proofs.CallerLemmas.{and_first, and_second}
 use Rattle.lane_board.specs.Field.{Field}
 use Rattle.lane_board.specs.FullRows.{is_full}
 use Rattle.lane_board.proofs.CallerLemmas.{cell_from_full}

@@ -3,14 +3,13 @@ use Rattle.std.proofs.Common.{◌≡◌, ◌<◌, true, List, length, ap, sym, s
 use Rattle.std.specs.Prelude.{IsTrue, filter, find}
 use Rattle.std.proofs.lemmas.Option.{same_Some}
 use Rattle.lane_board.specs.Field.{Field}
-use Rattle.lists.specs.Rising.{is_above, IsLeastAbove, IsNextAbove, NoneAbove, IsRisingListOf}
-use Rattle.lists.proofs.CallerLemmas.{IsNextAbove-unique, IsRisingListOf-filter, filter_above-next, find-next_of}
+use Rattle.srs.specs.Rising.{is_above, IsLeastAbove, IsNextAbove, NoneAbove, IsRisingListOf}
+use Rattle.srs.proofs.CallerLemmas.{IsNextAbove-unique, IsRisingListOf-filter, filter_above-next, find-next_of, placement_cmp-total, placement_cmp-antisymmetric, placements_of-list}
 use Rattle.srs.specs.declared.piece.Piece.{Piece}
 use Rattle.srs.specs.declared.placement.Placement.{Placement}
 use Rattle.srs.specs.Kick.{Table}
 use Rattle.srs.specs.Order.{placement_cmp}
 use Rattle.srs.specs.Placements.{IsCanonicalInside, placements_of}
-use Rattle.srs.proofs.CallerLemmas.{placement_cmp-total, placement_cmp-antisymmetric, placements_of-list}
 use Rattle.well.proofs.CallerLemmas.{free_inside}
 use Rattle.moves.specs.declared.key.DropMode.{DropMode}
 use Rattle.moves.specs.Place.{IsPlace}

@@ -7,13 +7,12 @@ use Rattle.std.specs.Cmp.{signed_Decides}
 use Rattle.std.specs.Int.Signed.{le_z_yes}
 use Rattle.std.proofs.lemmas.Bool.{or_cases, or_right, cases_eq, cases_order}
 use Rattle.std.proofs.lemmas.Int.{ints}
-use Rattle.lists.proofs.CallerLemmas.{and_first, and_second}
+use Rattle.srs.proofs.CallerLemmas.{and_first, and_second, less, cell_eq-decides, has_cell-head, is_among-moved, is_among-all, each_state, in_well-place, inside_cell}
 use Rattle.srs.specs.declared.piece.Piece.{Piece}
 use Rattle.srs.specs.declared.rotation.Rotation.{Rotation}
 use Rattle.srs.specs.declared.placement.Placement.{Placement}
 use Rattle.srs.specs.Cells.{Cell, minus, shape, moved, cells_of, pivot_of, in_well, is_inside_of}
 use Rattle.srs.specs.SameCells.{cell_eq, is_among}
-use Rattle.srs.proofs.CallerLemmas.{less, cell_eq-decides, has_cell-head, is_among-moved, is_among-all, each_state, in_well-place, inside_cell}
 
 yes : (a b : ℤ) → int_le a b ≡ true → a ≤ℤ b
 yes a b e = le_z_yes (subst T (sym e) tt)

@@ -7,7 +7,7 @@ use Rattle.std.proofs.lemmas.Bool.{and_from, and_parts, cases_Bool}
 use Rattle.std.proofs.lemmas.List.Kept.{IsStrictlySortedBy-filter}
 use Rattle.std.proofs.lemmas.Option.{slice_get_within}
 use Rattle.lane_board.specs.Field.{Field}
-use Rattle.lists.proofs.CallerLemmas.{Contains-cases, Contains-filter, Contains-from_filter, Contains-here, Contains-none, Contains-range, Contains-there, rising-range}
+use Rattle.srs.proofs.CallerLemmas.{Contains-cases, Contains-filter, Contains-from_filter, Contains-here, Contains-none, Contains-range, Contains-there, rising-range}
 use Rattle.srs.specs.declared.piece.Piece.{Piece}
 use Rattle.srs.specs.declared.placement.Placement.{Placement}
 use Rattle.srs.specs.Kick.{Table}

@@ -11,9 +11,8 @@ use Rattle.indexmap.proofs.CallerLemmas.{Contains-list_any}
 use Rattle.lane_board.proofs.CallerLemmas.{same_from_both}
 use Rattle.srs.specs.declared.piece.Piece.{Piece}
 use Rattle.srs.specs.Piece.{piece_code}
-use Rattle.srs.proofs.CallerLemmas.{piece_code-injective}
+use Rattle.srs.proofs.CallerLemmas.{piece_code-injective, Contains-cases, Contains-none}
 use Rattle.srs.specs.contracts.piece.PiecePartialEq.TheImpl.{eq-value}
-use Rattle.lists.proofs.CallerLemmas.{Contains-cases, Contains-none}
 use Rattle.cover.specs.Lists.{has_kinds, listed_kinds, same_kinds}
 use Rattle.cover.proofs.PieceEqual.{equal-decides}
 use Rattle.cover.specs.Covered.{Keeps}

@@ -8,7 +8,7 @@ use Rattle.queue_pattern.specs.Queues.{queues}
 use Rattle.hold_queue.specs.Permits.{Permits}
 use Rattle.problem.specs.declared.problem.Problem.{Problem}
 use Rattle.problem.specs.Solution.{IsSolution, pieces_of}
-use Rattle.lists.proofs.CallerLemmas.{Contains-cases, Contains-here, Contains-none}
+use Rattle.srs.proofs.CallerLemmas.{Contains-cases, Contains-here, Contains-none}
 use Rattle.cover.specs.Covered.{IsCovered}
 
 among : (lists : List (List Piece)) (number : ℕ) (queue : List Piece) → slice_get lists number ≡ Some queue → Contains lists queue

@@ -1,7 +1,7 @@
 -- Which queues of a pattern are covered: those that permit the kinds of a sequence that clears the field.
 use Rattle.std.specs.Prelude.{◌≡◌, ℕ, ◌≤◌, ◌⊎◌, Bool, true, false, List, [], ◌∷◌, ◌++◌, Option, Some, None, Contains, slice_get}
 use Rattle.std.specs.Ordering.{nat_cmp}
-use Rattle.lists.specs.Rising.{IsRisingListOf}
+use Rattle.srs.specs.Rising.{IsRisingListOf}
 use Rattle.srs.specs.declared.piece.Piece.{Piece}
 use Rattle.srs.specs.declared.placement.Placement.{Placement}
 use Rattle.srs.specs.Rules.{table_of}

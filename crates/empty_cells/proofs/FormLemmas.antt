@@ -14,8 +14,7 @@ use Rattle.srs.specs.declared.rotation.Rotation.{Rotation}
 use Rattle.srs.specs.declared.rotation.Rotation.TheVariants.{Spawn, Right, Reverse, Left}
 use Rattle.srs.specs.Cells.{Cell, minus, shape}
 use Rattle.srs.specs.SameCells.{cell_eq, is_among}
-use Rattle.srs.proofs.CallerLemmas.{each_state, is_among-all, has_cell-head}
-use Rattle.lists.proofs.CallerLemmas.{list_all_each}
+use Rattle.srs.proofs.CallerLemmas.{each_state, is_among-all, has_cell-head, list_all_each}
 use Rattle.prune.specs.Tiling.{sent}
 use Rattle.lane_board.proofs.CallerLemmas.{same_from_both}
 use Rattle.empty_cells.specs.declared.span.Span.{Span}

@@ -11,7 +11,7 @@ use Rattle.lane_board.proofs.CallerLemmas.{same_from_both}
 use Rattle.srs.specs.declared.piece.Piece.{Piece}
 use Rattle.srs.specs.declared.piece.Piece.TheVariants.{I, L, O, Z, T, J, S}
 use Rattle.srs.specs.Piece.{all_pieces, piece_code}
-use Rattle.lists.proofs.CallerLemmas.{list_all_each}
+use Rattle.srs.proofs.CallerLemmas.{list_all_each}
 use Rattle.prune.specs.Tiling.{Tiling, Supply}
 use Rattle.prune.specs.OnePart.{less_one}
 use Rattle.empty_cells.specs.declared.span.Span.{Span}

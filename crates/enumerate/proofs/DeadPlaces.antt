@@ -9,8 +9,8 @@ use Rattle.srs.specs.Kick.{Table}
 use Rattle.srs.specs.Order.{placement_cmp}
 use Rattle.srs.specs.Placements.{placements_of}
 use Rattle.srs.specs.Rotation.{rotation_place}
-use Rattle.lists.specs.Rising.{is_above}
-use Rattle.lists.proofs.CallerLemmas.{filter-false, filter-true}
+use Rattle.srs.specs.Rising.{is_above}
+use Rattle.srs.proofs.CallerLemmas.{filter-false, filter-true}
 use Rattle.lane_board.specs.Words.{cells_of_words}
 use Rattle.well.specs.LockLaws.{is_below}
 use Rattle.well.specs.Well.{filled}

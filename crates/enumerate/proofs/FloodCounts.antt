@@ -8,11 +8,10 @@ use Rattle.srs.specs.declared.piece.Piece.{Piece}
 use Rattle.srs.specs.declared.placement.Placement.{Placement}
 use Rattle.srs.specs.Piece.{all_pieces, piece_code}
 use Rattle.srs.specs.Order.{placement_cmp}
-use Rattle.lists.specs.Rising.{is_above}
-use Rattle.lists.proofs.CallerLemmas.{and_first, and_second, Contains-cases, Contains-none, filter-false, filter-true}
+use Rattle.srs.specs.Rising.{is_above}
+use Rattle.srs.proofs.CallerLemmas.{and_first, and_second, Contains-cases, Contains-none, filter-false, filter-true, placement_cmp-total}
 use Rattle.std.specs.Ordering.{is_lt}
 use Rattle.std.specs.Cmp.{tied_itself}
-use Rattle.srs.proofs.CallerLemmas.{placement_cmp-total}
 use Rattle.moves.specs.PlaceTest.{is_place}
 use Rattle.well.specs.LockLaws.{is_below}
 use Rattle.enumerate.specs.Position.{Position, after_of, may_play, places_at, is_live}

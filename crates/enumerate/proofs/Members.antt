@@ -7,7 +7,7 @@ use Rattle.std.proofs.lemmas.List.{append-nil}
 use Rattle.srs.specs.declared.piece.Piece.{Piece}
 use Rattle.srs.specs.declared.placement.Placement.{Placement}
 use Rattle.srs.specs.Piece.{all_pieces}
-use Rattle.lists.proofs.CallerLemmas.{Contains-cases, Contains-flat_map, Contains-from_flat_map, Contains-here, Contains-none}
+use Rattle.srs.proofs.CallerLemmas.{Contains-cases, Contains-flat_map, Contains-from_flat_map, Contains-here, Contains-none}
 use Rattle.moves.specs.Place.{IsPlace}
 use Rattle.hold_queue.specs.QueueSet.{QueuesPermit}
 use Rattle.problem.specs.Plays.{Plays}

@@ -1,7 +1,7 @@
 -- What is used or noted is kept.
 use Rattle.std.proofs.Common.{ℕ, List, sym, subst}
 use Rattle.std.specs.Prelude.{Contains}
-use Rattle.lists.proofs.CallerLemmas.{Contains-here}
+use Rattle.srs.proofs.CallerLemmas.{Contains-here}
 use Rattle.dead_memo.specs.Use.{IsUsed, IsNoted, again, new}
 
 pub kept-used : {A : Type 0} (before : List A) (x : A) (after : List A) → IsUsed before x after → Contains after x

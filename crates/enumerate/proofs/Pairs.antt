@@ -10,8 +10,7 @@ use Rattle.srs.specs.declared.piece.Piece.{Piece}
 use Rattle.srs.specs.declared.placement.Placement.{Placement}
 use Rattle.srs.specs.Piece.{all_pieces}
 use Rattle.srs.specs.Placements.{placements_of}
-use Rattle.lists.proofs.CallerLemmas.{and_both, Contains-here, Contains-there, filter-false, filter-true}
-use Rattle.srs.proofs.CallerLemmas.{placements_of-list}
+use Rattle.srs.proofs.CallerLemmas.{and_both, Contains-here, Contains-there, filter-false, filter-true, placements_of-list}
 use Rattle.moves.specs.PlaceTest.{is_place}
 use Rattle.hold_queue.specs.QueueSet.{QueuesInPlay, QueuesPermit, queues_permit}
 use Rattle.well.specs.LockLaws.{is_below}

@@ -9,8 +9,7 @@ use Rattle.srs.specs.Kick.{Table}
 use Rattle.srs.specs.Cells.{is_inside_of}
 use Rattle.srs.specs.Canonical.{is_canonical}
 use Rattle.srs.specs.Placements.{IsCanonicalInside, is_canonical_inside}
-use Rattle.srs.proofs.CallerLemmas.{is_canonical-from, IsCanonical-from_test, piece_code-injective}
-use Rattle.lists.proofs.CallerLemmas.{and_both, and_first, and_second}
+use Rattle.srs.proofs.CallerLemmas.{is_canonical-from, IsCanonical-from_test, piece_code-injective, and_both, and_first, and_second}
 use Rattle.std.proofs.lemmas.Bool.{eqb-true}
 use Rattle.well.specs.Free.{is_free}
 use Rattle.well.proofs.CallerLemmas.{free_inside}

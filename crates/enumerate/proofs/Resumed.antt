@@ -15,13 +15,12 @@ use Rattle.srs.specs.declared.piece.Piece.TheVariants.{I, L, O, Z, T, J, S}
 use Rattle.srs.specs.declared.placement.Placement.{Placement}
 use Rattle.srs.specs.Piece.{all_pieces, piece_code}
 use Rattle.srs.specs.Order.{placement_cmp, sequence_cmp}
-use Rattle.lists.specs.Rising.{is_above}
+use Rattle.srs.specs.Rising.{is_above}
 use Rattle.srs.specs.Placements.{placements_of}
-use Rattle.srs.proofs.CallerLemmas.{placements_of-list, placement_cmp-antisymmetric, placement_cmp-piece, placement_cmp-total, sequence_cmp-first}
+use Rattle.srs.proofs.CallerLemmas.{placements_of-list, placement_cmp-antisymmetric, placement_cmp-piece, placement_cmp-total, sequence_cmp-first, each-contained, Contains-filter, Contains-from_filter, Contains-from_flat_map, Contains-here, Contains-there, Contains-cases, Contains-none, filter-each, filter-true, filter-false, rising-first, rising-rest}
 use Rattle.moves.specs.PlaceTest.{is_place}
 use Rattle.moves.proofs.CallerLemmas.{is_place-decides}
 use Rattle.enumerate.proofs.PlaceLaws.{lockable-listed, place-lockable}
-use Rattle.lists.proofs.CallerLemmas.{each-contained, Contains-filter, Contains-from_filter, Contains-from_flat_map, Contains-here, Contains-there, Contains-cases, Contains-none, filter-each, filter-true, filter-false, rising-first, rising-rest}
 use Rattle.well.specs.LockLaws.{is_below}
 use Rattle.enumerate.specs.Position.{Position, after_of, may_play, places_at}
 use Rattle.enumerate.proofs.Solutions.{Sequences, in_kind, in_place, of_kind, of_place, places_at-rising}

@@ -7,7 +7,7 @@ use Rattle.srs.specs.declared.piece.Piece.{Piece}
 use Rattle.srs.specs.declared.placement.Placement.{Placement}
 use Rattle.srs.specs.Kick.{Table}
 use Rattle.srs.specs.Rules.{table_of}
-use Rattle.lists.proofs.CallerLemmas.{and_both, and_second}
+use Rattle.srs.proofs.CallerLemmas.{and_both, and_second}
 use Rattle.well.specs.Well.{filled}
 use Rattle.moves.specs.declared.key.DropMode.{DropMode}
 use Rattle.hold_queue.specs.declared.set.QueueSet.{QueueSet}

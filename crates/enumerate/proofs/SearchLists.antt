@@ -6,9 +6,8 @@ use Rattle.srs.specs.declared.piece.Piece.{Piece}
 use Rattle.srs.specs.Piece.{all_pieces}
 use Rattle.srs.specs.declared.placement.Placement.{Placement}
 use Rattle.srs.specs.Order.{sequence_cmp}
-use Rattle.lists.specs.Rising.{is_above, IsRisingListOf}
-use Rattle.lists.proofs.CallerLemmas.{filter-each, filter-false, filter-true, find-false, find-true, filter_above-next, IsRisingListOf-filter}
-use Rattle.srs.proofs.CallerLemmas.{sequence_cmp-total}
+use Rattle.srs.specs.Rising.{is_above, IsRisingListOf}
+use Rattle.srs.proofs.CallerLemmas.{filter-each, filter-false, filter-true, find-false, find-true, filter_above-next, IsRisingListOf-filter, sequence_cmp-total}
 use Rattle.hold_queue.specs.Permits.{SomePermits}
 use Rattle.hold_queue.specs.QueueSet.{QueuesPermit}
 use Rattle.hold_queue.proofs.CallerLemmas.{queues-singles}

@@ -13,9 +13,8 @@ use Rattle.srs.specs.Kick.{Table}
 use Rattle.srs.specs.Piece.{all_pieces, piece_code}
 use Rattle.srs.specs.Order.{placement_cmp}
 use Rattle.srs.specs.Placements.{placements_of}
-use Rattle.lists.specs.Rising.{is_above}
-use Rattle.lists.proofs.CallerLemmas.{Contains-cases, Contains-filter, Contains-from_filter, Contains-there, rising-first, rising-none}
-use Rattle.srs.proofs.CallerLemmas.{placement_cmp-total, placements_of-list}
+use Rattle.srs.specs.Rising.{is_above}
+use Rattle.srs.proofs.CallerLemmas.{Contains-cases, Contains-filter, Contains-from_filter, Contains-there, rising-first, rising-none, placement_cmp-total, placements_of-list}
 use Rattle.moves.specs.declared.key.DropMode.{DropMode}
 use Rattle.moves.specs.PlaceTest.{is_place}
 use Rattle.place_sets.specs.declared.low_held.LowPlaces.{LowPlaces}

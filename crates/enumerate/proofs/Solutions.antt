@@ -13,8 +13,7 @@ use Rattle.srs.specs.declared.placement.Placement.{Placement}
 use Rattle.srs.specs.Piece.{all_pieces, piece_code}
 use Rattle.srs.specs.Order.{placement_cmp, sequence_cmp}
 use Rattle.srs.specs.Placements.{IsCanonicalInside, placements_of}
-use Rattle.lists.proofs.CallerLemmas.{Contains-filter, Contains-from_filter, Contains-flat_map, Contains-from_flat_map, Contains-map, Contains-from_map, Contains-none, rising-cons, rising-flat_map, rising-map, rising-none}
-use Rattle.srs.proofs.CallerLemmas.{placement_cmp-piece, sequence_cmp-append, sequence_cmp-first, placements_of-list}
+use Rattle.srs.proofs.CallerLemmas.{Contains-filter, Contains-from_filter, Contains-flat_map, Contains-from_flat_map, Contains-map, Contains-from_map, Contains-none, rising-cons, rising-flat_map, rising-map, rising-none, placement_cmp-piece, sequence_cmp-append, sequence_cmp-first, placements_of-list}
 use Rattle.moves.specs.PlaceTest.{is_place}
 use Rattle.well.specs.LockLaws.{is_below}
 use Rattle.enumerate.specs.Position.{Position, after_of, may_play, places_at, is_live}

@@ -8,7 +8,7 @@ use Rattle.std.proofs.lemmas.List.{append-nil, get_or-append_right, length-take-
 use Rattle.std.proofs.lemmas.Grind.{flat_map-append}
 use Rattle.srs.specs.declared.placement.Placement.{Placement}
 use Rattle.srs.specs.Kick.{Table}
-use Rattle.lists.proofs.CallerLemmas.{and_both, and_first, and_second}
+use Rattle.srs.proofs.CallerLemmas.{and_both, and_first, and_second}
 use Rattle.moves.specs.declared.key.DropMode.{DropMode}
 use Rattle.enumerate.specs.declared.frame.Frame.{Frame}
 use Rattle.enumerate.specs.Events.{Event, Tick, Flood, Found, found, floods}

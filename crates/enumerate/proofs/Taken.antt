@@ -12,9 +12,8 @@ use Rattle.std.proofs.lemmas.List.Kept.{IsStrictlySortedBy-filter}
 use Rattle.srs.specs.declared.placement.Placement.{Placement}
 use Rattle.srs.specs.Order.{placement_cmp}
 use Rattle.srs.specs.Placements.{placements_of}
-use Rattle.srs.proofs.CallerLemmas.{placement_cmp-antisymmetric, placement_cmp-total, placements_of-list}
-use Rattle.lists.specs.Rising.{is_above, IsNextAbove, IsLeastAbove, IsRisingListOf}
-use Rattle.lists.proofs.CallerLemmas.{Contains-filter, Contains-from_filter, filter_above-next, filter_above-none, find-next_of, IsNextAbove-unique, some_same}
+use Rattle.srs.proofs.CallerLemmas.{placement_cmp-antisymmetric, placement_cmp-total, placements_of-list, Contains-filter, Contains-from_filter, filter_above-next, filter_above-none, find-next_of, IsNextAbove-unique, some_same}
+use Rattle.srs.specs.Rising.{is_above, IsNextAbove, IsLeastAbove, IsRisingListOf}
 use Rattle.well.specs.Well.{filled}
 use Rattle.well.specs.LockLaws.{is_below}
 use Rattle.place_sets.specs.declared.low_held.LowPlaces.{LowPlaces}

@@ -11,8 +11,7 @@ use Rattle.srs.specs.declared.placement.Placement.{Placement}
 use Rattle.srs.specs.Kick.{Table}
 use Rattle.srs.specs.Piece.{all_pieces}
 use Rattle.srs.specs.Placements.{placements_of}
-use Rattle.lists.proofs.CallerLemmas.{Contains-here, Contains-there, filter-false, filter-true}
-use Rattle.srs.proofs.CallerLemmas.{placements_of-list}
+use Rattle.srs.proofs.CallerLemmas.{Contains-here, Contains-there, filter-false, filter-true, placements_of-list}
 use Rattle.well.specs.Well.{filled}
 use Rattle.well.specs.Lock.{locked, rows_removed}
 use Rattle.moves.specs.declared.key.DropMode.{DropMode}

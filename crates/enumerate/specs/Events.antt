@@ -5,7 +5,7 @@ use Rattle.srs.specs.declared.piece.Piece.{Piece}
 use Rattle.srs.specs.declared.placement.Placement.{Placement}
 use Rattle.srs.specs.Piece.{all_pieces, piece_code}
 use Rattle.srs.specs.Order.{placement_cmp}
-use Rattle.lists.specs.Rising.{is_above}
+use Rattle.srs.specs.Rising.{is_above}
 use Rattle.moves.specs.PlaceTest.{is_place}
 use Rattle.well.specs.LockLaws.{is_below}
 use Rattle.enumerate.specs.Position.{Position, after_of, may_play, places_at, is_live}

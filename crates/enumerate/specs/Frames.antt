@@ -7,7 +7,7 @@ use Rattle.srs.specs.Kick.{Table}
 use Rattle.srs.specs.Piece.{all_pieces}
 use Rattle.srs.specs.Order.{placement_cmp}
 use Rattle.srs.specs.Placements.{placements_of}
-use Rattle.lists.specs.Rising.{is_above}
+use Rattle.srs.specs.Rising.{is_above}
 use Rattle.well.specs.Well.{filled}
 use Rattle.moves.specs.declared.key.DropMode.{DropMode}
 use Rattle.place_sets.specs.declared.low_held.LowPlaces.{LowPlaces}

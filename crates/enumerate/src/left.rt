@@ -3,7 +3,7 @@ ghost use Rattle.std.specs.Prelude.{◌≡◌, IsTrue, MatchOption, Option, Some
 ghost use Rattle.srs.specs.declared.placement.Placement.{Placement};
 ghost use Rattle.srs.specs.Order.{placement_cmp};
 ghost use Rattle.srs.specs.Placements.{placements_of};
-ghost use Rattle.lists.specs.Rising;
+ghost use Rattle.srs.specs.Rising;
 ghost use Rattle.place_sets.specs.LowPlaces.{holds, piece_of};
 ghost use Rattle.enumerate.specs.Frames.{places_left};
 

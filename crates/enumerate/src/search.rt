@@ -2,7 +2,7 @@
 ghost use Rattle.std.specs.Prelude.{◌≡◌, ℕ, ◌-◌, ◌≤◌, IsTrue, filter, take, None};
 ghost use Rattle.srs.specs.Order.{sequence_cmp};
 ghost use Rattle.srs.specs.Rules.{table_of};
-ghost use Rattle.lists.specs.Rising.{is_above};
+ghost use Rattle.srs.specs.Rising.{is_above};
 ghost use Rattle.reach.specs.FloodRules.{flood_table};
 ghost use Rattle.problem.specs.Problem.{IsFit};
 ghost use Rattle.enumerate.specs.Counted.{as_count};

@@ -3,7 +3,7 @@ ghost use Rattle.std.specs.Prelude.{◌≡◌, ℕ, ◌+◌, ◌-◌, ◌≤◌,
 ghost use Rattle.std.specs.Option.{ForSome};
 ghost use Rattle.srs.specs.Rules.{table_of};
 ghost use Rattle.srs.specs.Order.{sequence_cmp};
-ghost use Rattle.lists.specs.Rising.{IsNextAbove};
+ghost use Rattle.srs.specs.Rising.{IsNextAbove};
 ghost use Rattle.problem.specs.Solution.{IsSolution};
 ghost use Rattle.srs.specs.Kick.{Table};
 ghost use Rattle.moves.specs.declared.key.DropMode.{DropMode};

@@ -7,7 +7,7 @@ use Rattle.std.proofs.lemmas.List.{append-nil, take_rest, take_all, drop_more, d
 use Rattle.std.proofs.lemmas.List.Edits.{map_over_more}
 use Rattle.std.proofs.lemmas.List.Elements.{All-drop}
 use borrow.Rule.Slice.PartMut.{put_mid, mid_of}
-use Rattle.lists.proofs.CallerLemmas.{list_all_each}
+use Rattle.srs.proofs.CallerLemmas.{list_all_each}
 use Rattle.fumen_digits.specs.declared.dialect.Dialect.{Dialect}
 use Rattle.fumen_digits.specs.Dialect.{page_cell_count}
 use Rattle.fumen_digits.specs.declared.fault.FumenFault.{FumenFault}

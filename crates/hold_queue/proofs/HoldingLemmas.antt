@@ -4,7 +4,7 @@ use Rattle.std.proofs.lemmas.Bool.{cases_Bool}
 use Rattle.srs.specs.declared.piece.Piece.{Piece}
 use Rattle.srs.specs.declared.piece.Piece.TheVariants.{I, L, O, Z, T, J, S}
 use Rattle.srs.specs.Piece.{all_pieces}
-use Rattle.lists.proofs.CallerLemmas.{Contains-cases, Contains-none}
+use Rattle.srs.proofs.CallerLemmas.{Contains-cases, Contains-none}
 use Rattle.queue_pattern.specs.declared.element.Element.{Element}
 use Rattle.queue_pattern.specs.Queues.{queues}
 use Rattle.hold_queue.specs.declared.family.Family.{Family}

@@ -3,7 +3,7 @@ use Rattle.std.proofs.Common.{◌≡◌, ℕ, ◌+◌, ◌<◌, ◌≤◌, true,
 use Rattle.std.proofs.lemmas.Bool.{or_cases, or_left, or_right}
 use Rattle.srs.specs.declared.piece.Piece.{Piece}
 use Rattle.srs.specs.declared.piece.Piece.TheVariants.{I, L, O, Z, T, J, S}
-use Rattle.lists.proofs.CallerLemmas.{some_same, Contains-cases, Contains-none}
+use Rattle.srs.proofs.CallerLemmas.{some_same, Contains-cases, Contains-none}
 use Rattle.queue_pattern.specs.declared.element.Element.{Element}
 use Rattle.hold_queue.specs.declared.family.Draw.{Draw}
 use Rattle.hold_queue.specs.declared.family.Family.{Family}

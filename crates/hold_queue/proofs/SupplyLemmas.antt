@@ -7,8 +7,7 @@ use Rattle.std.proofs.lemmas.Option.{get_or_from_slice_get, slice_get_within}
 use Rattle.std.proofs.lemmas.List.Sums.{sum_by-cons, sum_by-append}
 use Rattle.srs.specs.declared.piece.Piece.{Piece}
 use Rattle.srs.specs.Piece.{all_pieces, piece_code}
-use Rattle.srs.proofs.CallerLemmas.{piece_code-injective}
-use Rattle.lists.proofs.CallerLemmas.{Contains-none, Contains-cases, Contains-from_filter, Contains-from_flat_map, Contains-from_map}
+use Rattle.srs.proofs.CallerLemmas.{piece_code-injective, Contains-none, Contains-cases, Contains-from_filter, Contains-from_flat_map, Contains-from_map}
 use Rattle.queue_pattern.specs.declared.element.Element.{Element}
 use Rattle.queue_pattern.specs.Queues.{pieces_in, others, choices, queues}
 use Rattle.hold_queue.specs.declared.hold.Hold.{Hold}

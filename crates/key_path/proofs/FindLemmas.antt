@@ -9,8 +9,7 @@ use Rattle.lane_board.specs.Field.{Field}
 use Rattle.srs.specs.declared.placement.Placement.{Placement}
 use Rattle.srs.specs.Kick.{Table}
 use Rattle.srs.specs.SameCells.{HasSameCells}
-use Rattle.srs.proofs.CallerLemmas.{same_cells-sym, same_cells-trans, same_cells-piece}
-use Rattle.lists.proofs.CallerLemmas.{Contains-here, Contains-cases, Contains-none}
+use Rattle.srs.proofs.CallerLemmas.{same_cells-sym, same_cells-trans, same_cells-piece, Contains-here, Contains-cases, Contains-none}
 use Rattle.well.specs.Free.{is_free}
 use Rattle.moves.specs.declared.key.Key.{Key}
 use Rattle.moves.specs.declared.key.DropMode.{DropMode}

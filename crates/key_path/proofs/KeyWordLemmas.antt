@@ -9,8 +9,8 @@ use Rattle.std.proofs.lemmas.Bool.{cases_Bool, cases_lt}
 use Rattle.lane_board.specs.Field.{Field}
 use Rattle.srs.specs.declared.placement.Placement.{Placement}
 use Rattle.srs.specs.Kick.{Table}
-use Rattle.lists.specs.Rising.{is_above, IsNextAbove, IsRisingListOf}
-use Rattle.lists.proofs.CallerLemmas.{Contains-here, Contains-cases, Contains-none, Contains-flat_map, Contains-from_flat_map, Contains-map, Contains-from_map, Contains-range, range-from, find-true, find-false, filter-true, filter-false, rising-none, rising-cons, rising-flat_map, rising-map, rising-range, find-next_of, IsNextAbove-unique, IsRisingListOf-filter}
+use Rattle.srs.specs.Rising.{is_above, IsNextAbove, IsRisingListOf}
+use Rattle.srs.proofs.CallerLemmas.{Contains-here, Contains-cases, Contains-none, Contains-flat_map, Contains-from_flat_map, Contains-map, Contains-from_map, Contains-range, range-from, find-true, find-false, filter-true, filter-false, rising-none, rising-cons, rising-flat_map, rising-map, rising-range, find-next_of, IsNextAbove-unique, IsRisingListOf-filter}
 use Rattle.moves.specs.declared.key.Key.{Key}
 use Rattle.moves.specs.declared.key.Key.TheVariants.{Left, Right, Down, Clockwise, Anti}
 use Rattle.moves.specs.declared.key.DropMode.{DropMode}

@@ -7,7 +7,7 @@ use Rattle.std.proofs.lemmas.List.{append-nil, append_assoc, length-append, leng
 use Rattle.std.proofs.lemmas.List.Sums.{sum_by-cons, sum_by-set}
 use Rattle.std.proofs.lemmas.List.Elements.{Contains-append_left, Contains-push, Contains-push_cases}
 use Rattle.srs.specs.declared.placement.Placement.{Placement}
-use Rattle.lists.proofs.CallerLemmas.{Contains-here, Contains-cases, Contains-none}
+use Rattle.srs.proofs.CallerLemmas.{Contains-here, Contains-cases, Contains-none}
 use Rattle.moves.specs.declared.key.Key.{Key}
 use Rattle.key_path.specs.declared.marks.Mark.{Mark}
 use Rattle.key_path.specs.declared.marks.Mark.TheVariants.{Unseen, Start, From}

@@ -8,7 +8,7 @@ use Rattle.std.proofs.lemmas.List.{append-nil, append_assoc, length-append}
 use Rattle.std.proofs.lemmas.List.Sums.{fold-append}
 use Rattle.std.proofs.lemmas.List.Elements.{Contains-append_left, Contains-push, Contains-push_cases}
 use Rattle.srs.specs.declared.placement.Placement.{Placement}
-use Rattle.lists.proofs.CallerLemmas.{Contains-here, Contains-there, Contains-cases, Contains-none, rising-first, rising-rest, rising-none, rising-cons, rising-append}
+use Rattle.srs.proofs.CallerLemmas.{Contains-here, Contains-there, Contains-cases, Contains-none, rising-first, rising-rest, rising-none, rising-cons, rising-append}
 use Rattle.moves.specs.declared.key.Key.{Key}
 use Rattle.moves.specs.Walk.{led, Leads}
 use Rattle.moves.proofs.CallerLemmas.{some_same, not_some, led_none}

@@ -3,7 +3,7 @@ use Rattle.std.specs.Prelude.{Option, None, List, find}
 use Rattle.lane_board.specs.Field.{Field}
 use Rattle.srs.specs.declared.placement.Placement.{Placement}
 use Rattle.srs.specs.Kick.{Table}
-use Rattle.lists.specs.Rising.{IsNextAbove}
+use Rattle.srs.specs.Rising.{IsNextAbove}
 use Rattle.moves.specs.declared.key.Key.{Key}
 use Rattle.moves.specs.declared.key.DropMode.{DropMode}
 use Rattle.moves.specs.Place.{LeadsToRest}

@@ -4,7 +4,7 @@ use Rattle.std.specs.Prelude.{int_le}
 use Rattle.std.proofs.lemmas.Bool.{false≢true}
 use Rattle.srs.specs.Cells.{Cell, minus}
 use Rattle.srs.specs.Kick.{Table, table_with, is_small_move}
-use Rattle.lists.proofs.CallerLemmas.{and_first, and_second}
+use Rattle.srs.proofs.CallerLemmas.{and_first, and_second}
 use Rattle.kick_file.specs.declared.turned.TurnedPiece.{TurnedPiece}
 use Rattle.kick_file.specs.declared.parser_state.ParserState.{ParserState}
 use Rattle.kick_file.specs.declared.parser_state.ParserState.TheVariants.{Columns, Comma, Rows, Whole}

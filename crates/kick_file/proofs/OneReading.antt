@@ -11,7 +11,7 @@ use Rattle.kick_file.specs.declared.parser_state.ParserState.{ParserState}
 use Rattle.kick_file.specs.declared.parser_state.ParserState.TheVariants.{Beginning, Division, Letter, Letters, Columns, Comma, Rows, Whole}
 use Rattle.kick_file.specs.Form.{Entry, SpellsEntries, is_repeated, are_distinct, turned_of, table_of_entries}
 use Rattle.srs.specs.Rotation.{rotation_letter}
-use Rattle.lists.specs.Forms.{IsFront, IsStopped, LeavesForm}
+use Rattle.srs.specs.Forms.{IsFront, IsStopped, LeavesForm}
 use Rattle.kick_file.specs.Faults.{Repeats, SpellsSome, IsUnexpected, IsReadAs}
 use Rattle.kick_file.specs.Reading.{Reading, kick_text, reading_at, after_byte, ended, next_state, read_on, read_after}
 use Rattle.kick_file.proofs.GivenLemmas.{distinct_more}

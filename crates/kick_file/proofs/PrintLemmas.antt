@@ -16,7 +16,7 @@ use Rattle.srs.specs.declared.offset.Offset.{Offset}
 use Rattle.srs.specs.Kick.{Table, IsSmallTable, is_small_move, kick_in, offset_in, pair_of}
 use Rattle.srs.specs.Piece.{all_pieces, piece_letter, piece_with_letter}
 use Rattle.srs.specs.Rotation.{all_rotations}
-use Rattle.lists.proofs.CallerLemmas.{and_both, and_first, and_second, list_all_each}
+use Rattle.srs.proofs.CallerLemmas.{and_both, and_first, and_second, list_all_each}
 use Rattle.kick_file.specs.Form.{Entry, SpellsEntries, offset_form, offsets_form, table_of_entries}
 use Rattle.kick_file.specs.Faults.{SpellsTable}
 use Rattle.kick_file.specs.Printed.{entry_form, entry_of, entries_of, table_form}

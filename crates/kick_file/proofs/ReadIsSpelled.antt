@@ -9,7 +9,7 @@ use Rattle.srs.specs.Piece.{piece_with_letter}
 use Rattle.srs.specs.Rotation.{rotation_letter}
 use Rattle.kick_file.specs.declared.turned.TurnedPiece.{TurnedPiece}
 use Rattle.kick_file.specs.Form.{Entry, SpellsEntry, SpellsEntries, offset_form, offsets_form, table_with_entry}
-use Rattle.lists.specs.Forms.{IsFront}
+use Rattle.srs.specs.Forms.{IsFront}
 use Rattle.kick_file.specs.Faults.{SpellsBefore, SpellsSome}
 use Rattle.kick_file.proofs.Entries.{HasFive, with_entry-five}
 

@@ -13,12 +13,12 @@ use Rattle.srs.specs.Cells.{Cell, minus}
 use Rattle.srs.specs.Kick.{Table, srs_table, table_with, is_small_move, pair_of}
 use Rattle.srs.specs.Piece.{piece_with_letter}
 use Rattle.srs.specs.Rotation.{all_rotations, rotation_letter, rotation_with_letter}
-use Rattle.lists.proofs.CallerLemmas.{find-Contains, each-contained}
+use Rattle.srs.proofs.CallerLemmas.{find-Contains, each-contained}
 use Rattle.kick_file.specs.declared.turned.TurnedPiece.{TurnedPiece}
 use Rattle.kick_file.specs.declared.parser_state.ParserState.{ParserState}
 use Rattle.kick_file.specs.declared.parser_state.ParserState.TheVariants.{Beginning, Division, Letter, Letters, Columns, Comma, Rows, Whole}
 use Rattle.kick_file.specs.Form.{Entry, SpellsEntry, signed_digit, offset_form, offsets_form, turned_of, table_with_entry, table_of_entries}
-use Rattle.lists.specs.Forms.{IsFront}
+use Rattle.srs.specs.Forms.{IsFront}
 use Rattle.kick_file.specs.Faults.{SpellsBefore, SpellsSome}
 use Rattle.kick_file.specs.Reading.{is_small_number, numbers, digit_of, number_with_digit}
 use Rattle.kick_file.proofs.Entries.{HasFive, put_from, put_five}

@@ -1,6 +1,6 @@
 -- What a text that spells no table is refused for.
 use Rattle.std.specs.Prelude.{◌≡◌, ℕ, IsTrue, List, [], ◌∷◌, ◌++◌, length, Some, Result, Ok, Err}
-use Rattle.lists.specs.Forms.{LeavesForm}
+use Rattle.srs.specs.Forms.{LeavesForm}
 use Rattle.srs.specs.Kick.{Table}
 use Rattle.srs.specs.Piece.{piece_with_letter}
 use Rattle.srs.specs.Rotation.{rotation_letter}

@@ -5,8 +5,7 @@ use Rattle.lane_board.specs.Field.{Field}
 use Rattle.srs.specs.declared.piece.Piece.{Piece}
 use Rattle.srs.specs.declared.placement.Placement.{Placement}
 use Rattle.srs.specs.Kick.{srs_table}
-use Rattle.srs.proofs.CallerLemmas.{same_cells-piece}
-use Rattle.lists.proofs.CallerLemmas.{list_all_each}
+use Rattle.srs.proofs.CallerLemmas.{same_cells-piece, list_all_each}
 use Rattle.moves.specs.declared.key.DropMode.TheVariants.{Hard}
 use Rattle.moves.specs.Keys.{allows}
 use Rattle.moves.specs.Leads.{state_after}

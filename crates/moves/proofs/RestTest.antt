@@ -9,8 +9,7 @@ use Rattle.srs.specs.declared.piece.Piece.{Piece}
 use Rattle.srs.specs.declared.placement.Placement.{Placement}
 use Rattle.srs.specs.Kick.{Table}
 use Rattle.srs.specs.SameCells.{HasSameCells}
-use Rattle.srs.proofs.CallerLemmas.{is_same_cells-decides}
-use Rattle.lists.proofs.CallerLemmas.{list_all_each}
+use Rattle.srs.proofs.CallerLemmas.{is_same_cells-decides, list_all_each}
 use Rattle.moves.specs.declared.key.Key.{Key}
 use Rattle.moves.specs.declared.key.DropMode.{DropMode}
 use Rattle.moves.specs.Keys.{allows}

@@ -11,8 +11,7 @@ use Rattle.srs.specs.declared.rotation.Rotation.{Rotation}
 use Rattle.srs.specs.declared.placement.Placement.{Placement}
 use Rattle.srs.specs.Cells.{Cell}
 use Rattle.srs.specs.Kick.{Table, IsSmallTable, is_small_move, pair_of, offset_in, kick_in}
-use Rattle.srs.proofs.CallerLemmas.{LiesAt, IsWithin, small_within}
-use Rattle.lists.proofs.CallerLemmas.{list_all_each}
+use Rattle.srs.proofs.CallerLemmas.{LiesAt, IsWithin, small_within, list_all_each}
 use Rattle.well.specs.Free.{is_free_at}
 use Rattle.well.proofs.CallerLemmas.{free_pivot}
 use Rattle.moves.specs.Step.{IsShort, state_at, first_free}

@@ -2,7 +2,7 @@
 use Rattle.std.proofs.Common.{true, ◌≡◌, ◌∙◌, ℕ, List, Result, Ok, slice_get, Some, sym, subst}
 use Rattle.std.specs.Ordering.{nat_cmp}
 use Rattle.std.proofs.lemmas.Cmp.{nat_cmp_total}
-use Rattle.lists.proofs.CallerLemmas.{IsRisingListOf-unique}
+use Rattle.srs.proofs.CallerLemmas.{IsRisingListOf-unique}
 use Rattle.srs.specs.declared.placement.Placement.{Placement}
 use Rattle.srs.specs.Rules.{table_of}
 use Rattle.lane_board.specs.Field.{Field}

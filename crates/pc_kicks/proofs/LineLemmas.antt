@@ -9,7 +9,7 @@ use Rattle.srs.specs.declared.rotation.Rotation.TheVariants.{Spawn}
 use Rattle.srs.specs.Kick.{Table, IsSmallTable, kick_in, kicks_of}
 use Rattle.srs.specs.Piece.{all_pieces}
 use Rattle.srs.specs.Rotation.{all_rotations, anticlockwise_of, clockwise_of}
-use Rattle.lists.proofs.CallerLemmas.{and_both}
+use Rattle.srs.proofs.CallerLemmas.{and_both}
 use Rattle.kick_file.specs.Printing.{is_short_move}
 use Rattle.kick_file.proofs.CallerLemmas.{kick_short}
 use Rattle.pc_kicks.specs.Lines.{both_turns, entry_line, entry_lines, kicks_form, turn_line, turn_lines}

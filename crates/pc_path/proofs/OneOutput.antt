@@ -1,10 +1,9 @@
 -- What `path` writes is determined by its request and the bytes of the source.
 use Rattle.std.proofs.Common.{◌≡◌, ℕ, ◌/◌, List, ◌++◌, true, false, refl, sym, ap, subst, ◌∙◌, Option, Some, None, IsTrue, Bool}
 use Rattle.srs.specs.declared.placement.Placement.{Placement}
-use Rattle.lists.specs.Rising.{is_above, IsRisingListOf}
+use Rattle.srs.specs.Rising.{is_above, IsRisingListOf}
 use Rattle.srs.specs.Order.{sequence_cmp}
-use Rattle.lists.proofs.CallerLemmas.{IsRisingListOf-unique}
-use Rattle.srs.proofs.CallerLemmas.{sequence_cmp-total}
+use Rattle.srs.proofs.CallerLemmas.{IsRisingListOf-unique, sequence_cmp-total}
 use Rattle.srs.specs.Rules.{table_of}
 use Rattle.well.specs.Counts.{empties_below}
 use Rattle.well.specs.Well.{filled}

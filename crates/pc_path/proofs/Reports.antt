@@ -6,7 +6,7 @@ use Rattle.pc_outside.specs.Writes.{GrowsUpTo}
 use Rattle.pc_outside.specs.WriteLaws.{begins}
 use Rattle.std.specs.Prelude.{Contains}
 use Rattle.srs.specs.Rules.{table_of}
-use Rattle.lists.proofs.CallerLemmas.{Contains-here}
+use Rattle.srs.proofs.CallerLemmas.{Contains-here}
 use Rattle.well.specs.Well.{filled}
 use Rattle.problem.specs.declared.problem.Problem.{Problem}
 use Rattle.problem.specs.Plays.{Plays}

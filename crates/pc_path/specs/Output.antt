@@ -3,7 +3,7 @@ use Rattle.std.specs.Prelude.{◌≡◌, ℕ, Bool, true, false, List, [], ◌++
 use Rattle.lane_board.specs.Field.{Field}
 use Rattle.srs.specs.declared.placement.Placement.{Placement}
 use Rattle.srs.specs.Order.{sequence_cmp}
-use Rattle.lists.specs.Rising.{IsRisingListOf}
+use Rattle.srs.specs.Rising.{IsRisingListOf}
 use Rattle.problem.specs.declared.problem.Problem.{Problem}
 use Rattle.enumerate.specs.Counted.{as_count}
 use Rattle.problem.specs.Problem.{needed_of}

@@ -1,7 +1,7 @@
 -- The first fault of a problem, told as the program's, is the first fault of what is asked.
 use Rattle.std.proofs.Common.{◌≡◌, ℕ, ◌+◌, ◌/◌, ◌%◌, ◌<◌, ◌&&◌, ◌==◌, nat_lt, [], ◌∷◌, Option, Some, None, option_map, Ok, sym, ap, subst, ◌∙◌, eq-eqb, lt-ltb}
 use Rattle.std.proofs.lemmas.Bool.{cond-true}
-use Rattle.lists.proofs.CallerLemmas.{and_both}
+use Rattle.srs.proofs.CallerLemmas.{and_both}
 use Rattle.lane_board.specs.Field.{Field}
 use Rattle.well.specs.Well.{filled}
 use Rattle.well.specs.Counts.{empties_below, lowest_full, lowest_filled_from}

@@ -1,10 +1,9 @@
 -- What `selfrun` writes is determined by its number and the number of pages.
 use Rattle.std.proofs.Common.{◌≡◌, ◌∙◌, ℕ, List, true, length, None, sym, ap, subst}
-use Rattle.lists.proofs.CallerLemmas.{IsRisingListOf-unique}
+use Rattle.srs.proofs.CallerLemmas.{IsRisingListOf-unique, sequence_cmp-total}
 use Rattle.srs.specs.declared.placement.Placement.{Placement}
 use Rattle.srs.specs.Order.{sequence_cmp}
 use Rattle.srs.specs.Rules.{table_of}
-use Rattle.srs.proofs.CallerLemmas.{sequence_cmp-total}
 use Rattle.fumen_digits.specs.declared.dialect.Dialect.TheVariants.{V115}
 use Rattle.fumen_text.specs.Written.{written}
 use Rattle.well.specs.Well.{filled}

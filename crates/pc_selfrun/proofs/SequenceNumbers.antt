@@ -9,7 +9,7 @@ use Rattle.std.specs.declared.cmp.Ordering.TheVariants.{Less, Equal}
 use Rattle.std.proofs.lemmas.Bool.{ne_eqb, or_cases}
 use Rattle.std.proofs.lemmas.List.{length-map}
 use Rattle.std.proofs.lemmas.Map.Steps.{length-le_from_distinct_below}
-use Rattle.lists.proofs.CallerLemmas.{Contains-here, Contains-there, rising-first, rising-rest}
+use Rattle.srs.proofs.CallerLemmas.{Contains-here, Contains-there, rising-first, rising-rest, PivotInside, piece_code-injective, rotation_place-injective, sequence_cmp-total}
 use Rattle.srs.specs.declared.piece.Piece.{Piece}
 use Rattle.srs.specs.declared.piece.Piece.TheVariants.{I, L, O, Z, T, J, S}
 use Rattle.srs.specs.declared.rotation.Rotation.{Rotation}
@@ -18,7 +18,6 @@ use Rattle.srs.specs.declared.placement.Placement.{Placement}
 use Rattle.srs.specs.Piece.{piece_code}
 use Rattle.srs.specs.Rotation.{rotation_place}
 use Rattle.srs.specs.Order.{sequence_cmp}
-use Rattle.srs.proofs.CallerLemmas.{PivotInside, piece_code-injective, rotation_place-injective, sequence_cmp-total}
 
 -- ---- the number of a sequence
 

@@ -10,8 +10,7 @@ use Rattle.srs.specs.declared.placement.Placement.{Placement}
 use Rattle.srs.specs.Piece.{all_pieces, piece_code}
 use Rattle.srs.specs.Placements.{IsCanonicalInside, placements_of}
 use Rattle.srs.specs.Rules.{table_of}
-use Rattle.srs.proofs.CallerLemmas.{placements_of-list}
-use Rattle.lists.proofs.CallerLemmas.{Contains-filter, Contains-from_filter}
+use Rattle.srs.proofs.CallerLemmas.{placements_of-list, Contains-filter, Contains-from_filter}
 use Rattle.well.specs.Well.{filled}
 use Rattle.well.specs.Lock.{locked, rows_removed}
 use Rattle.well.specs.LockLaws.{is_below}

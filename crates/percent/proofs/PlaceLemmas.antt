@@ -18,9 +18,8 @@ use Rattle.srs.specs.Kick.{Table}
 use Rattle.srs.specs.Order.{placement_cmp}
 use Rattle.srs.specs.Placements.{placements_of}
 use Rattle.srs.specs.Rules.{table_of}
-use Rattle.srs.proofs.CallerLemmas.{placement_cmp-antisymmetric, placement_cmp-total, placements_of-list}
-use Rattle.lists.specs.Rising.{IsNextAbove}
-use Rattle.lists.proofs.CallerLemmas.{Contains-cases, Contains-filter, Contains-from_filter, Contains-none, filter-false, filter-true, some_same}
+use Rattle.srs.proofs.CallerLemmas.{placement_cmp-antisymmetric, placement_cmp-total, placements_of-list, Contains-cases, Contains-filter, Contains-from_filter, Contains-none, filter-false, filter-true, some_same}
+use Rattle.srs.specs.Rising.{IsNextAbove}
 use Rattle.well.specs.Well.{filled}
 use Rattle.well.specs.Free.{is_free}
 use Rattle.well.specs.Lock.{locked, rows_removed}

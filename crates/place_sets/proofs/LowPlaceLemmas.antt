@@ -13,7 +13,7 @@ use Rattle.srs.specs.Order.{placement_cmp}
 use Rattle.srs.specs.Piece.{piece_code}
 use Rattle.srs.specs.Rotation.{rotation_place}
 use Rattle.srs.proofs.CallerLemmas.{piece_code-injective, rotation_place-injective}
-use Rattle.lists.specs.Rising.{IsNextAbove}
+use Rattle.srs.specs.Rising.{IsNextAbove}
 use Rattle.well.specs.LockLaws.{is_below}
 use Rattle.place_sets.specs.States.{HasExactly, States, has_state}
 use Rattle.place_sets.specs.declared.low_held.LowPlaces.{LowPlaces}

@@ -10,9 +10,8 @@ use Rattle.srs.specs.declared.placement.Placement.{Placement}
 use Rattle.srs.specs.Piece.{piece_code}
 use Rattle.srs.specs.Rotation.{rotation_place}
 use Rattle.srs.specs.Order.{placement_cmp}
-use Rattle.lists.specs.Rising.{is_before, IsNextAbove}
-use Rattle.srs.proofs.CallerLemmas.{piece_code-injective}
-use Rattle.lists.proofs.CallerLemmas.{below_is_less, is_before-decides}
+use Rattle.srs.specs.Rising.{is_before, IsNextAbove}
+use Rattle.srs.proofs.CallerLemmas.{piece_code-injective, below_is_less, is_before-decides}
 use Rattle.place_sets.specs.declared.held.Places.{Places}
 use Rattle.place_sets.specs.Places.{holds, piece_of}
 use Rattle.place_sets.specs.States.{HasExactly, States, has_state}

@@ -19,7 +19,7 @@ impl Places {
     ghost use Rattle.std.specs.Option.{option_copied};
     ghost use Rattle.srs.specs.Order.{placement_cmp};
     ghost use Rattle.srs.specs.Piece.{piece_code};
-    ghost use Rattle.lists.specs.Rising.{IsNextAbove};
+    ghost use Rattle.srs.specs.Rising.{IsNextAbove};
     ghost use Rattle.well.specs.LockLaws.{is_below};
     ghost use Rattle.place_sets.specs.Places.{holds, piece_of};
     ghost use Rattle.place_sets.specs.States.{has_state, states_of};

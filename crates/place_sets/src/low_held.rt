@@ -63,7 +63,7 @@ impl LowPlaces {
     ghost use Rattle.std.specs.Prelude.{◌↔◌, ◌≢◌, not, IsTrue, MatchOption, None, Some, slice_index};
     ghost use Rattle.srs.specs.Order.{placement_cmp};
     ghost use Rattle.lane_board.specs.Words.{cells_of_words};
-    ghost use Rattle.lists.specs.Rising.{IsNextAbove};
+    ghost use Rattle.srs.specs.Rising.{IsNextAbove};
     ghost use Rattle.well.specs.LockLaws.{is_below};
     ghost use Rattle.place_sets.specs.LowPlaces.{holds, piece_of};
     ghost use Rattle.place_sets.specs.States.{has_state, states_of};

@@ -11,7 +11,7 @@ use Rattle.srs.specs.declared.rotation.Rotation.TheVariants.{Spawn, Right, Rever
 use Rattle.srs.specs.declared.placement.Placement.{Placement}
 use Rattle.srs.specs.Piece.{piece_letter, all_pieces}
 use Rattle.srs.specs.Rotation.{rotation_letter, all_rotations, rotation_with_letter}
-use Rattle.lists.proofs.CallerLemmas.{find-Contains}
+use Rattle.srs.proofs.CallerLemmas.{find-Contains}
 use Rattle.placement_form.specs.Form.{placement_form, IsPlacementText}
 use Rattle.placement_form.specs.Reading.{capital_piece, digit_in, row_in, placement_in}
 use Rattle.placement_form.proofs.Digits.{digit_read, digit_only, row_read, row_only}

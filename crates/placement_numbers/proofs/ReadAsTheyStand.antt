@@ -12,8 +12,7 @@ use Rattle.srs.specs.declared.rotation.Rotation.TheVariants.{Spawn, Right, Rever
 use Rattle.srs.specs.declared.placement.Placement.{Placement}
 use Rattle.srs.specs.Piece.{all_pieces, piece_code, piece_with_code}
 use Rattle.srs.specs.Rotation.{all_rotations, rotation_place}
-use Rattle.srs.proofs.CallerLemmas.{piece_with_code-code}
-use Rattle.lists.proofs.CallerLemmas.{find-Contains}
+use Rattle.srs.proofs.CallerLemmas.{piece_with_code-code, find-Contains}
 use Rattle.placement_numbers.specs.Numbers.{AreNumbersOf, HasPivotInWell, numbers_of, sequence_numbers}
 use Rattle.placement_numbers.specs.Reading.{placement_in, placements_in, rotation_at}
 

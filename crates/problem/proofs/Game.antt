@@ -7,7 +7,7 @@ use Rattle.lane_board.specs.Field.{Field}
 use Rattle.lane_board.specs.FullRows.{columns}
 use Rattle.lane_board.specs.CellCount.{cell_count}
 use Rattle.srs.specs.declared.placement.Placement.{Placement}
-use Rattle.lists.proofs.CallerLemmas.{Contains-cases, Contains-none, Contains-range, find-false, find-true}
+use Rattle.srs.proofs.CallerLemmas.{Contains-cases, Contains-none, Contains-range, find-false, find-true}
 use Rattle.well.specs.declared.well.Well.{Well}
 use Rattle.well.specs.Well.{filled}
 use Rattle.well.specs.Free.{is_free}

@@ -9,9 +9,8 @@ use Rattle.std.specs.declared.cmp.Ordering.TheVariants.{Less, Equal}
 use Rattle.srs.specs.declared.piece.Piece.{Piece}
 use Rattle.srs.specs.declared.placement.Placement.{Placement}
 use Rattle.srs.specs.Order.{sequence_cmp}
-use Rattle.lists.specs.Rising.{is_above, IsLeastAbove, NoneAbove}
-use Rattle.lists.proofs.CallerLemmas.{Contains-cases, Contains-here, Contains-none, filter-each, filter-false, IsRisingListOf-filter, IsRisingListOf-unique, is_before-decides, rising-first, rising-rest}
-use Rattle.srs.proofs.CallerLemmas.{sequence_cmp-total}
+use Rattle.srs.specs.Rising.{is_above, IsLeastAbove, NoneAbove}
+use Rattle.srs.proofs.CallerLemmas.{Contains-cases, Contains-here, Contains-none, filter-each, filter-false, IsRisingListOf-filter, IsRisingListOf-unique, is_before-decides, rising-first, rising-rest, sequence_cmp-total}
 use Rattle.problem.specs.declared.problem.Problem.{Problem}
 use Rattle.problem.specs.SolutionList.{View, IsList, IsSolutionAbove, Resumes}
 use Rattle.problem.specs.Solution.{IsSolution}

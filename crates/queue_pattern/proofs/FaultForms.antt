@@ -7,7 +7,7 @@ use Rattle.queue_pattern.specs.declared.element.Element.{Element}
 use Rattle.queue_pattern.specs.Queues.{pieces_in}
 use Rattle.queue_pattern.specs.Spelling.{SpellsLetters, SpellsSet, SpellsChosen, SpellsElement, SpellsElements}
 use Rattle.queue_pattern.specs.Spelling as spelling
-use Rattle.lists.specs.Forms.{IsStopped}
+use Rattle.srs.specs.Forms.{IsStopped}
 use Rattle.queue_pattern.specs.Form.{is_letter, AreLetters, HasSetForm, all, these, others, HasChosenForm, one, digit, every, HasElementForm, letter, chosen, HasForm, none, gap, element}
 
 pub letter_of : (byte : ℕ) (piece : Piece) → piece_with_letter byte ≡ Some piece → is_letter byte ≡ true

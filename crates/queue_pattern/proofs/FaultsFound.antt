@@ -9,7 +9,7 @@ use Rattle.queue_pattern.specs.declared.fault.PatternFault.TheVariants.{Unexpect
 use Rattle.queue_pattern.specs.Queues.{is_in, pieces_in}
 use Rattle.queue_pattern.specs.Grammar.{Elements, TextPosition, outside, opened, listing, closed, choosing, bracketed, is_gap, set_of, all_set, position_step, outside_step, letter_step, listing_step, listed_step, opened_step, closed_step, choosing_step, end, elements, elements_from}
 use Rattle.queue_pattern.specs.Spelling.{SpellsLetters, SpellsSet, all, these, others, SpellsChosen, one, digit, every, letter, chosen, SpellsElements, none}
-use Rattle.lists.specs.Forms.{IsStopped}
+use Rattle.srs.specs.Forms.{IsStopped}
 use Rattle.queue_pattern.specs.Form.{HasForm}
 use Rattle.queue_pattern.specs.Faults.{BeginsSet, BeginsElement, IsUnexpectedAt, IsRepeatedAt, IsTooManyAt, IsUnmarked}
 use Rattle.queue_pattern.specs.Faults as fault

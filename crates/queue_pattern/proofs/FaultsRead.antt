@@ -11,7 +11,7 @@ use Rattle.queue_pattern.specs.declared.fault.PatternFault.TheVariants.{Unexpect
 use Rattle.queue_pattern.specs.Queues.{is_in, pieces_in}
 use Rattle.queue_pattern.specs.Grammar.{Elements, outside, opened, listing, closed, choosing, choice, before, is_gap, elements, elements_from}
 use Rattle.queue_pattern.specs.Spelling.{SpellsLetters, SpellsSet, SpellsElements}
-use Rattle.lists.specs.Forms.{IsStopped}
+use Rattle.srs.specs.Forms.{IsStopped}
 use Rattle.queue_pattern.specs.Form.{is_letter, AreLetters, HasForm}
 use Rattle.queue_pattern.specs.Form as form
 use Rattle.queue_pattern.specs.Faults.{BeginsSet, these, others, BeginsElement, nothing, IsUnexpectedAt, IsRepeatedAt, IsTooManyAt, IsUnmarked}

@@ -3,7 +3,7 @@ use Rattle.std.proofs.Common.{◌≡◌, ℕ, ◌+◌, Bool, true, false, if◌t
 use Rattle.std.specs.Option.{option_map}
 use Rattle.queue_pattern.specs.declared.fault.PatternFault.TheVariants.{Unexpected}
 use Rattle.queue_pattern.specs.Grammar.{outside, elements}
-use Rattle.lists.specs.Forms.{IsStopped, LeavesForm}
+use Rattle.srs.specs.Forms.{IsStopped, LeavesForm}
 use Rattle.queue_pattern.specs.Form.{HasForm}
 use Rattle.queue_pattern.proofs.Phases.{Phase, between, next, is_end, stop, stop_after, Agrees, agrees}
 use Rattle.queue_pattern.proofs.FormPhases.{Follows, follows_before, ending, ending_follows, end_follows}

@@ -9,7 +9,7 @@ use Rattle.std.proofs.lemmas.Option.{get_or_from_slice_get, slice_get_within}
 use Rattle.srs.specs.declared.piece.Piece.{Piece}
 use Rattle.srs.specs.declared.piece.Piece.TheVariants.{I, L, O, Z, T, J, S}
 use Rattle.srs.specs.Piece.{all_pieces, piece_code}
-use Rattle.lists.proofs.CallerLemmas.{Contains-none, Contains-from_map, rising-first, rising-rest, rising-none, rising-cons, rising-flat_map, rising-map}
+use Rattle.srs.proofs.CallerLemmas.{Contains-none, Contains-from_map, rising-first, rising-rest, rising-none, rising-cons, rising-flat_map, rising-map}
 use Rattle.queue_pattern.specs.declared.element.Element.{Element}
 use Rattle.queue_pattern.specs.Queues.{is_in, pieces_in, others, choices, queues}
 use Rattle.queue_pattern.specs.Order.{piece_cmp, queue_cmp}

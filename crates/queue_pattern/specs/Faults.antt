@@ -5,7 +5,7 @@ use Rattle.srs.specs.Piece.{piece_with_letter}
 use Rattle.queue_pattern.specs.declared.element.Element.{Element}
 use Rattle.queue_pattern.specs.declared.fault.PatternFault.{PatternFault}
 use Rattle.queue_pattern.specs.declared.fault.PatternFault.TheVariants.{Unexpected, RepeatedPiece, TooManyChosen, PatternTooLong, TooManyQueues}
-use Rattle.lists.specs.Forms.{IsStopped}
+use Rattle.srs.specs.Forms.{IsStopped}
 use Rattle.queue_pattern.specs.Form.{HasForm}
 use Rattle.queue_pattern.specs.Queues.{is_in, pieces_in, queue_count, queue_len}
 use Rattle.queue_pattern.specs.Spelling.{SpellsChosen, SpellsElements, SpellsLetters, SpellsSet}

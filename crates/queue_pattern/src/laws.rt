@@ -1,7 +1,7 @@
 // Laws of the definitions: functions with an empty body whose contract is the law.
 ghost use Rattle.std.specs.Prelude.{◌≡◌, ◌≢◌, ◌↔◌, ℕ, ◌<◌, ◌≤◌, List, Ok, Err, All, length, slice_get};
 ghost use Rattle.std.specs.List.Sorted.{IsStrictlySortedBy};
-ghost use Rattle.lists.specs.Forms.{LeavesForm};
+ghost use Rattle.srs.specs.Forms.{LeavesForm};
 ghost use Rattle.queue_pattern.specs.declared.element.Element.{Element};
 ghost use Rattle.queue_pattern.specs.declared.fault.PatternFault.{PatternFault};
 ghost use Rattle.queue_pattern.specs.declared.fault.PatternFault.TheVariants.{Unexpected};

@@ -10,11 +10,10 @@ use Rattle.std.proofs.lemmas.List.Folds.{list_all-map}
 use Rattle.lane_board.specs.Field.{Field}
 use Rattle.lane_board.specs.FullRows.{columns, is_full, full_below, without_full_rows}
 use Rattle.lane_board.proofs.CallerLemmas.{column_is, full_below-full, full_below-other, left_below, lowered_from, lowered_to, or_none, same_from_both}
-use Rattle.lists.proofs.CallerLemmas.{filter-false, filter-true}
+use Rattle.srs.proofs.CallerLemmas.{filter-false, filter-true, cell_eq-decides, in_well-place}
 use Rattle.srs.specs.declared.placement.Placement.{Placement}
 use Rattle.srs.specs.Cells.{Cell, in_well, cells_of}
 use Rattle.srs.specs.SameCells.{cell_eq, is_among}
-use Rattle.srs.proofs.CallerLemmas.{cell_eq-decides, in_well-place}
 use Rattle.well.specs.Lock.{together}
 use Rattle.fumen_digits.specs.declared.dialect.Dialect.TheVariants.{V115}
 use Rattle.fumen_pages.specs.Cells.{place_of}

@@ -13,7 +13,7 @@ use Rattle.srs.specs.SameCells.{is_among, SameCells, HasSameCells}
 use Rattle.srs.specs.Canonical.{IsCanonical, is_canonical, rotation_count, canonical_rotation, canonical_move}
 use Rattle.srs.proofs.CellLemmas.{apart_differ, is_among-all, moved-origin, origin, map-moved-moved, same_cells-moved, same_cells-sym, still_same}
 use Rattle.srs.proofs.CodeLemmas.{piece_code-injective, rotation_place-injective}
-use Rattle.lists.proofs.CallerLemmas.{and_first, and_second}
+use Rattle.srs.proofs.BooleanLemmas.{and_first, and_second}
 use Rattle.srs.proofs.ShapeLemmas.{canonical_earlier, canonical_move_in_shape, canonical_rotation_own, canonical_shape, kinds_apart, pivot_in_shape, rotations_apart, shape_still}
 
 -- the canonical rotation, with its pivot moved, has the same cells

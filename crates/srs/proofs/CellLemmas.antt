@@ -9,7 +9,7 @@ use Rattle.std.proofs.lemmas.Bool.{cases_Bool}
 use Rattle.std.proofs.lemmas.Int.{ints}
 use Rattle.srs.specs.Cells.{Cell, moved}
 use Rattle.srs.specs.SameCells.{cell_eq, cells_eq, is_among, SameCells, is_same_cells}
-use Rattle.lists.proofs.CallerLemmas.{and_first, and_second, and_both, or_right}
+use Rattle.srs.proofs.BooleanLemmas.{and_first, and_second, and_both, or_right}
 
 -- the test of cells decides whether they are equal
 pub cell_eq-decides : (c d : Cell) → Decides (cell_eq c d) (c ≡ d)

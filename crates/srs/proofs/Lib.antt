@@ -1,4 +1,7 @@
 -- Lemmas on lists, numbers, cells, shapes, tables of offsets and orders.
+mod BooleanLemmas
+mod MemberLemmas
+mod RisingLemmas
 mod CanonicalLemmas
 mod CellLemmas
 mod CodeLemmas

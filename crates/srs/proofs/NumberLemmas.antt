@@ -6,7 +6,7 @@ use Rattle.std.proofs.lemmas.Int.{ints}
 use Rattle.srs.specs.declared.offset.Offset.{Offset}
 use Rattle.srs.specs.Cells.{Cell, minus, is_near}
 use Rattle.srs.specs.Kick.{is_small}
-use Rattle.lists.proofs.CallerLemmas.{and_first, and_second}
+use Rattle.srs.proofs.BooleanLemmas.{and_first, and_second}
 
 -- both numbers lie between the bounds
 pub record IsWithin (low high : ℤ) (a b : ℤ) : Type 0 where

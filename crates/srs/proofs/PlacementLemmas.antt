@@ -18,9 +18,11 @@ use Rattle.srs.specs.Cells.{is_inside_of}
 use Rattle.srs.specs.Canonical.{is_canonical}
 use Rattle.srs.specs.Order.{placement_cmp}
 use Rattle.srs.specs.Placements.{IsCanonicalInside, is_canonical_inside, placements_by_pivot, placements_of}
-use Rattle.lists.specs.Rising.{IsRisingListOf}
+use Rattle.srs.specs.Rising.{IsRisingListOf}
 use Rattle.srs.proofs.CanonicalLemmas.{is_canonical-from, IsCanonical-from_test, pivot_inside}
-use Rattle.lists.proofs.CallerLemmas.{and_both, and_first, and_second, Contains-filter, Contains-flat_map, Contains-from_filter, Contains-from_flat_map, Contains-from_map, Contains-map, Contains-range, rising-flat_map, rising-map, rising-range}
+use Rattle.srs.proofs.BooleanLemmas.{and_both, and_first, and_second}
+use Rattle.srs.proofs.MemberLemmas.{Contains-filter, Contains-flat_map, Contains-from_filter, Contains-from_flat_map, Contains-from_map, Contains-map, Contains-range}
+use Rattle.srs.proofs.RisingLemmas.{rising-flat_map, rising-map, rising-range}
 
 abbrev state : Piece → Rotation → ℕ → ℕ → Placement
 state p r y x = record { piece = p; rotation = r; x = x; y = y }

@@ -14,7 +14,7 @@ use Rattle.srs.specs.Cells.{Cell, moved, shape, cells_of, pivot_of, is_near}
 use Rattle.srs.specs.SameCells.{is_among, SameCells}
 use Rattle.srs.specs.Canonical.{canonical_rotation, canonical_move, rotation_count}
 use Rattle.srs.proofs.CellLemmas.{origin, fits, is_apart, is_still, same_cells-from}
-use Rattle.lists.proofs.CallerLemmas.{and_both, list_all_each}
+use Rattle.srs.proofs.BooleanLemmas.{and_both, list_all_each}
 
 or_false : (a b : Bool) → a ≡ false → (a || b) ≡ true → b ≡ true
 or_false a b e h = subst (λ x. (x || b) ≡ true) e h

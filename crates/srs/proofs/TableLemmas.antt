@@ -22,7 +22,7 @@ use Rattle.srs.specs.Kick.{Table, IsSmallTable, is_small, is_small_move, pair_of
 use Rattle.srs.specs.Rules.{table_of, turns_table}
 use Rattle.srs.specs.SameCells.{cell_eq, cells_eq}
 use Rattle.srs.proofs.CellLemmas.{cells_eq-decides}
-use Rattle.lists.proofs.CallerLemmas.{list_all_each, list_all-true}
+use Rattle.srs.proofs.BooleanLemmas.{list_all_each, list_all-true}
 
 -- the offsets of a piece are equal where they are in each rotation
 pub same_turns : (t u : Rotation → List Cell) → t Spawn ≡ u Spawn → t Right ≡ u Right → t Reverse ≡ u Reverse → t Left ≡ u Left → t ≡ u

@@ -1,4 +1,7 @@
--- What a reader must believe
+-- What a reader must believe: lists of any things
+pub mod Rising
+pub mod Forms
+-- Pieces and placements
 pub mod Piece
 pub mod Rotation
 pub mod Cells

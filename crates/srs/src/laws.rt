@@ -8,7 +8,7 @@ ghost use Rattle.srs.specs.Cells.{shape, turned_clockwise};
 ghost use Rattle.srs.specs.SameCells.{HasSameCells};
 ghost use Rattle.srs.specs.Canonical.{IsCanonical, is_canonical};
 ghost use Rattle.srs.specs.Order.{placement_cmp, sequence_cmp};
-ghost use Rattle.lists.specs.Rising.{IsRisingListOf};
+ghost use Rattle.srs.specs.Rising.{IsRisingListOf};
 ghost use Rattle.srs.specs.Placements.{IsCanonicalInside, placements_of};
 ghost use Rattle.srs.specs.Kick.{IsSmallTable};
 ghost use Rattle.srs.specs.Rules.{table_of};

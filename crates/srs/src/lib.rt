@@ -1,5 +1,6 @@
 // Pieces of the Super Rotation System (SRS) in a well of ten columns and 23 rows: their cells, their kicks, canonical
-// placements, and the order of placements.
+// placements, and the order of placements. Definitions and lemmas alone are about lists of any things: members, lists
+// that rise strictly, the least thing above a bound, and where a text leaves a form.
 #![tactic(auto)]
 
 mod kicks;

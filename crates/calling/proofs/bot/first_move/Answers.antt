@@ -5,7 +5,7 @@ use Rattle.srs.specs.declared.placement.Placement.{Placement}
 use Rattle.srs.specs.declared.piece.Piece.TheVariants.{I}
 use Rattle.srs.specs.declared.rotation.Rotation.TheVariants.{Spawn}
 use Rattle.srs.specs.Order.{sequence_cmp}
-use Rattle.lists.specs.Rising.{IsLeastAbove, IsNextAbove}
+use Rattle.srs.specs.Rising.{IsLeastAbove, IsNextAbove}
 use Rattle.enumerate.specs.Items.{items_of}
 use Rattle.problem.specs.Solution.{IsSolution}
 use Rattle.calling.proofs.FirstPlacement.{first_begins, first_place}

@@ -3,8 +3,8 @@ use Rattle.std.proofs.Common.{◌≡◌, false, ◌∷◌, length, refl, sym, ap
 use Rattle.std.specs.Prelude.{Contains, Some, None}
 use Rattle.srs.specs.Order.{placement_cmp}
 use Rattle.srs.specs.Placements.{placements_of}
-use Rattle.lists.specs.Rising.{is_above}
-use Rattle.lists.proofs.CallerLemmas.{some_same}
+use Rattle.srs.specs.Rising.{is_above}
+use Rattle.srs.proofs.CallerLemmas.{some_same}
 use Rattle.enumerate.proofs.Taken.{Listed, next-first, taken-above, taken-held, taken-rest, taken-same}
 use Rattle.enumerate.proofs.left.take_above.Goals as goal
 

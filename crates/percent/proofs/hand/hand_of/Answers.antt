@@ -4,7 +4,7 @@ use Rattle.std.proofs.Math.Nat.{pow-le-pow_right}
 use Rattle.hold_queue.specs.declared.hold.Hold.{Hold}
 use Rattle.hold_queue.specs.declared.hold.Hold.TheVariants.{Allowed, Avoided}
 use Rattle.std.specs.Prelude.{Some, None, List, ◌∷◌, Option}
-use Rattle.lists.proofs.CallerLemmas.{some_same}
+use Rattle.srs.proofs.CallerLemmas.{some_same}
 use Rattle.srs.specs.Piece.{piece_code}
 use Rattle.srs.specs.declared.piece.Piece.{Piece}
 use Rattle.percent.specs.Hands.{number_of, hand_of}

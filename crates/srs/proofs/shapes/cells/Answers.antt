@@ -1,7 +1,7 @@
 -- The offset of the fourth cell is near, as those of all cells are.
 use Rattle.std.proofs.Common.{arith}
 use Rattle.srs.specs.Cells.{is_near}
-use Rattle.lists.proofs.CallerLemmas.{list_all_each}
+use Rattle.srs.proofs.BooleanLemmas.{list_all_each}
 use Rattle.srs.proofs.shapes.cells.Goals as goal
 
 pub cell_at-requires-4-clause-near : goal.cell_at-requires-4-clause-near

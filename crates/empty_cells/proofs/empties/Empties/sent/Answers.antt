@@ -12,7 +12,7 @@ use Rattle.std.specs.List.{list_all}
 use Rattle.std.specs.Prelude.{nat_lt}
 use mir.Syntax.{w8}
 use mir.Val.{to_z, of_z}
-use Rattle.lists.proofs.CallerLemmas.{list_all_each}
+use Rattle.srs.proofs.CallerLemmas.{list_all_each}
 use Rattle.lane_board.specs.Field.{Field, empty_field, rows_below}
 use Rattle.srs.specs.Cells.{Cell}
 use Rattle.srs.specs.SameCells.{cell_eq, is_among}

@@ -2,9 +2,8 @@
 use Rattle.std.proofs.Common.{◌≡◌, ◌&&◌, true, sym, subst, ◌∙◌, arith, nat_lt}
 use Rattle.std.specs.Prelude.{◌==◌}
 use Rattle.std.proofs.lemmas.Bool.{and_parts, ltb-true}
-use Rattle.lists.proofs.CallerLemmas.{some_same}
+use Rattle.srs.proofs.CallerLemmas.{some_same, placements_of-list}
 use Rattle.srs.specs.Piece.{piece_code}
-use Rattle.srs.proofs.CallerLemmas.{placements_of-list}
 use Rattle.lane_board.specs.Words.{cells_of_words}
 use Rattle.well.specs.Well.{filled}
 use Rattle.well.proofs.CallerLemmas.{free_pivot_inside}

@@ -2,7 +2,7 @@
 use Rattle.std.proofs.Common.{◌≡◌, refl, sym, subst}
 use Rattle.std.specs.Prelude.{true}
 use Rattle.reach.specs.FloodRules.{flood_table}
-use Rattle.lists.proofs.CallerLemmas.{some_same}
+use Rattle.srs.proofs.CallerLemmas.{some_same}
 use Rattle.well.specs.Well.{filled}
 use Rattle.place_sets.specs.LowPlaces.{piece_of}
 use Rattle.hold_queue.specs.QueueSet.{queues_in_play}

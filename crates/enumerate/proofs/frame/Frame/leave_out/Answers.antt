@@ -6,7 +6,7 @@ use Rattle.std.specs.List.{flat_map}
 use Rattle.srs.specs.Piece.{all_pieces}
 use Rattle.srs.specs.Rotation.{rotation_place}
 use Rattle.std.proofs.lemmas.Bool.{and_parts, not-true}
-use Rattle.lists.proofs.CallerLemmas.{some_same}
+use Rattle.srs.proofs.CallerLemmas.{some_same}
 use Rattle.lane_board.specs.Words.{cells_of_words}
 use Rattle.well.specs.Well.{filled}
 use Rattle.place_sets.specs.LowPlaces.{holds, piece_of}

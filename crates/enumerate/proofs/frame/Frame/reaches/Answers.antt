@@ -3,7 +3,7 @@ use Rattle.std.proofs.Common.{◌≡◌, ◌∷◌, length, refl, sym, ap, subst
 use Rattle.std.specs.Prelude.{Contains, Some}
 use Rattle.std.specs.List.Sorted.{IsStrictlySortedBy}
 use Rattle.srs.specs.Order.{placement_cmp}
-use Rattle.lists.proofs.CallerLemmas.{Contains-here, Contains-none}
+use Rattle.srs.proofs.CallerLemmas.{Contains-here, Contains-none}
 use Rattle.enumerate.specs.Frames.{places_left}
 use Rattle.enumerate.proofs.SkipLemmas.{not_first, past_it, places_left-rising}
 use Rattle.enumerate.proofs.frame.Frame.reaches.Goals as goal

@@ -1,7 +1,7 @@
 -- What comes before the placement is passed by, and what comes first at the placement itself is its frame or nothing.
 use Rattle.std.proofs.Common.{◌≡◌, refl, sym, subst, ◌∙◌, true}
 use Rattle.reach.specs.FloodRules.{flood_table}
-use Rattle.lists.proofs.CallerLemmas.{some_same}
+use Rattle.srs.proofs.CallerLemmas.{some_same}
 use Rattle.well.specs.Well.{filled}
 use Rattle.well.specs.LockLaws.{is_below}
 use Rattle.moves.specs.PlaceTest.{is_place}

@@ -1,7 +1,6 @@
 -- The next held placement is the first of those that are left.
 use Rattle.std.proofs.Common.{refl, sym, ap, ◌∙◌}
-use Rattle.srs.proofs.CallerLemmas.{placements_of-list}
-use Rattle.lists.proofs.CallerLemmas.{some_same}
+use Rattle.srs.proofs.CallerLemmas.{placements_of-list, some_same}
 use Rattle.well.specs.Well.{filled}
 use Rattle.place_sets.specs.LowPlaces.{piece_of}
 use Rattle.enumerate.specs.Frames.{places_left}

@@ -2,7 +2,7 @@
 use Rattle.std.proofs.Common.{◌≡◌, [], ◌∷◌, take, refl, sym, ap, subst, ◌∙◌, arith}
 use Rattle.std.specs.Prelude.{None, Some, filter}
 use Rattle.srs.specs.Order.{sequence_cmp}
-use Rattle.lists.specs.Rising.{is_above}
+use Rattle.srs.specs.Rising.{is_above}
 use Rattle.srs.specs.Rules.{table_of}
 use Rattle.enumerate.specs.Events.{found, floods}
 use Rattle.enumerate.specs.Frames.{stacked}

@@ -1,6 +1,6 @@
 -- The places that are still open are some of the places.
 use Rattle.std.proofs.Common.{sym, ◌∙◌}
-use Rattle.lists.proofs.CallerLemmas.{and_first}
+use Rattle.srs.proofs.CallerLemmas.{and_first}
 use Rattle.enumerate.proofs.tilings.Tilings.dead_pivots.Goals as goal
 
 pub completed-requires-2-clause-inside : goal.completed-requires-2-clause-inside

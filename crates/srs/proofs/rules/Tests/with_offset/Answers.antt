@@ -1,7 +1,7 @@
 -- There are still five offsets, and all are small.
 use Rattle.std.proofs.Common.{◌∙◌, length-set}
 use Rattle.srs.specs.Kick.{is_small}
-use Rattle.lists.proofs.CallerLemmas.{list_all-set}
+use Rattle.srs.proofs.BooleanLemmas.{list_all-set}
 use Rattle.srs.proofs.rules.Tests.with_offset.Goals as goal
 
 pub invariant_of-tests : goal.invariant_of-tests

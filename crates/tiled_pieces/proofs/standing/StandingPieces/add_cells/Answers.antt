@@ -1,6 +1,6 @@
 -- The entry of the cells has one list more, or is put behind the others.
 use Rattle.std.proofs.Common.{◌≡◌, ◌∙◌, ◌*◌, ◌^◌, ◌%◌, refl, sym, subst, arith}
-use Rattle.lists.proofs.CallerLemmas.{some_same}
+use Rattle.srs.proofs.CallerLemmas.{some_same}
 use Rattle.empty_cells.specs.Empties.{empty_cells}
 use Rattle.std.proofs.lemmas.Option.{slice_get_read, slice_get_within}
 use Rattle.tiled_pieces.specs.declared.standing.StandingCells.{StandingCells}

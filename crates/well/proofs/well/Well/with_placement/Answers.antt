@@ -2,14 +2,13 @@
 use Rattle.std.proofs.Common.{◌≡◌, ℕ, ◌<◌, true, get_or, pos, ap, ◌∙◌, arith}
 use Rattle.srs.specs.declared.placement.Placement.{Placement}
 use Rattle.srs.specs.Cells.{Cell, in_well, cells_of}
-use Rattle.lists.proofs.CallerLemmas.{list_all_each}
+use Rattle.srs.proofs.CallerLemmas.{list_all_each, cells_length}
 use Rattle.lane_board.specs.Field.{Field}
 use Rattle.std.specs.Prelude.{List}
 use Rattle.well.specs.Free.{is_free}
 use Rattle.well.specs.Lock.{with_place}
 use Rattle.well.specs.Well.{filled}
 use Rattle.well.proofs.FreeLemmas.{free_inside, free_pivot_inside}
-use Rattle.srs.proofs.CallerLemmas.{cells_length}
 use Rattle.well.proofs.LockLemmas.{together_of}
 use Rattle.well.proofs.well.Well.with_placement.Goals as goal
 

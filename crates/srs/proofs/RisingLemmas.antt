@@ -11,8 +11,8 @@ use Rattle.std.specs.declared.cmp.Ordering.TheVariants.{Less, Equal, Greater}
 use Rattle.std.proofs.lemmas.Bool.{cases_Bool}
 use Rattle.std.proofs.lemmas.List.Elements.{Contains-append_cases}
 use Rattle.std.proofs.lemmas.List.Kept.{IsStrictlySortedBy-filter}
-use Rattle.lists.specs.Rising.{is_before, is_above, IsLeastAbove, IsNextAbove, IsRisingListOf}
-use Rattle.lists.proofs.MemberLemmas.{Contains-cases, Contains-filter, Contains-from_filter, Contains-from_flat_map, Contains-from_map, Contains-here, Contains-none, Contains-there, each-contained, each-from_contained, filter-each, filter-false, filter-true, find-Contains, find-false, find-true, range-from, some_same}
+use Rattle.srs.specs.Rising.{is_before, is_above, IsLeastAbove, IsNextAbove, IsRisingListOf}
+use Rattle.srs.proofs.MemberLemmas.{Contains-cases, Contains-filter, Contains-from_filter, Contains-from_flat_map, Contains-from_map, Contains-here, Contains-none, Contains-there, each-contained, each-from_contained, filter-each, filter-false, filter-true, find-Contains, find-false, find-true, range-from, some_same}
 
 pub below_is_less : (m n : ℕ) → m < n → nat_cmp m n ≡ Less
 below_is_less m n below = rw (lt-ltb m n below) refl

@@ -1,3 +1,0 @@
--- What a reader must believe
-pub mod Forms
-pub mod Rising
