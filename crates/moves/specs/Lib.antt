@@ -1,10 +1,9 @@
--- What a reader must believe
+-- What a reader must believe: keys and places, and then what lies above the stack, resting states and the window
 pub mod Keys
 pub mod Step
 pub mod Leads
 pub mod Rest
 pub mod Place
--- States above the stack, resting states and the window, and the laws on them
 pub mod Height
 pub mod Sky
 pub mod RestingStates

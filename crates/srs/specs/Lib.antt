@@ -1,7 +1,6 @@
--- What a reader must believe: lists of any things
+-- What a reader must believe: lists of any things, and then pieces and placements
 pub mod Rising
 pub mod Forms
--- Pieces and placements
 pub mod Piece
 pub mod Rotation
 pub mod Cells
