@@ -5,7 +5,7 @@ use Rattle.pc_outside.specs.declared.answers.Refused.TheVariants as refused
 use Rattle.fumen_digits.specs.declared.dialect.Dialect.{Dialect}
 use Rattle.fumen_digits.specs.declared.dialect.Dialect.TheVariants.{V115}
 use Rattle.fumen_pages.specs.declared.page.Page.{Page}
-use Rattle.fumen_text.specs.declared.encode_fault.EncodeFault.TheVariants as fault
+use Rattle.fumen_pages.specs.declared.encode_fault.EncodeFault.TheVariants as fault
 use Rattle.fumen_text.specs.Faults.{IsTextFault}
 use Rattle.fumen_text.specs.Texts.{ReadsAs}
 use Rattle.fumen_text.specs.Written.{list_encode_fault, written}

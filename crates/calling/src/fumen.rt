@@ -1,6 +1,6 @@
 // Rewriting fumen texts.
 ghost use Rattle.std.specs.Prelude.{◌≡◌, ℕ, IfOk, IfErr};
-ghost use Rattle.fumen_text.specs.declared.encode_fault.EncodeFault.{EncodeFault};
+ghost use Rattle.fumen_pages.specs.declared.encode_fault.EncodeFault.{EncodeFault};
 ghost use Rattle.calling.specs.Rewritten.{IsRewriteFault, IsRewritten};
 
 use fumen_digits::{Dialect, FumenFault};

@@ -16,7 +16,7 @@ use Rattle.fumen_pages.specs.Action.{moved_back}
 use Rattle.fumen_pages.specs.Next.{rows_in, rows_of, cells_of_rows, marked, operation_filled, without_full, next}
 use Rattle.fumen_pages.specs.Reading.{run_at, runs_at, record_at, action_in, action_at, page_at, part_at}
 use Rattle.fumen_pages.specs.Written.{action_number_of, written_record, longest, extended}
-use Rattle.fumen_text.specs.declared.encode_fault.EncodeFault.TheVariants.{RowTooHigh}
+use Rattle.fumen_pages.specs.declared.encode_fault.EncodeFault.TheVariants.{RowTooHigh}
 use Rattle.fumen_text.specs.Texts.{empty_page}
 use Rattle.fumen_text.specs.Written.{cells_digits, list_encode_fault, page_encode_fault, pages_digits, pages_encode_fault, promised_behind, unchanged_pages}
 use Rattle.fumen_text.specs.Reading.{page_cells_at, pages_at, next_page_at, text_pages}

@@ -4,16 +4,15 @@ ghost use Rattle.std.specs.List.{list_all};
 ghost use Rattle.std.specs.Option.{ForSome, option_map_or};
 ghost use Rattle.fumen_comment.specs.Escape.{escaped, HasUnits};
 ghost use Rattle.fumen_pages.specs.Action.{is_inside_in};
+ghost use Rattle.fumen_pages.specs.declared.encode_fault.EncodeFault.{EncodeFault};
 ghost use Rattle.pc_outside.specs.declared.answers.Refused.{Refused};
-ghost use Rattle.fumen_text.specs.declared.encode_fault.EncodeFault.{EncodeFault};
 ghost use Rattle.fumen_text.specs.Checking.{IsMeasured};
 ghost use Rattle.fumen_text.specs.Written.{IsFoundFirst, IsRefusedBy, HasTypes, IsWritable, is_short, list_encode_fault, page_encode_fault};
 
-use crate::encode_fault::EncodeFault;
 use crate::pages::MOST_PAGES;
 use fumen_comment::{Comment, escape};
 use fumen_digits::Dialect;
-use fumen_pages::{Page, is_inside};
+use fumen_pages::{EncodeFault, Page, is_inside};
 use pc_outside::{NoMemory, Refused};
 use srs::Placement;
 use std::alloc::Global;

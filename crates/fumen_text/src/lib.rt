@@ -3,15 +3,14 @@
 
 mod cells;
 mod checks;
-mod encode_fault;
 pub mod laws;
 mod page_reader;
 mod pages;
 mod text;
 mod written;
 
-pub use encode_fault::EncodeFault;
 pub use fumen_digits::FumenFault;
+pub use fumen_pages::EncodeFault;
 pub use text::decode;
 pub use written::encode;
 

@@ -4,16 +4,15 @@ ghost use Rattle.fumen_digits.specs.declared.dialect.Dialect.{Dialect};
 ghost use Rattle.fumen_pages.specs.declared.page.Page.{Page};
 ghost use Rattle.fumen_pages.specs.Cells.{AreCells};
 ghost use Rattle.fumen_pages.specs.Next.{next};
+ghost use Rattle.fumen_pages.specs.declared.encode_fault.EncodeFault.{EncodeFault};
 ghost use Rattle.pc_outside.specs.declared.answers.Refused.{Refused};
-ghost use Rattle.fumen_text.specs.declared.encode_fault.EncodeFault.{EncodeFault};
 ghost use Rattle.fumen_text.specs.Texts.{ReadsAs, empty_page};
 ghost use Rattle.fumen_text.specs.Written.{IsFoundFirst, IsRefusedBy, IsWritable, cells_digits, keeps, list_encode_fault, pages_digits, promised_behind, tail_digits, unchanged_pages, written};
 
 use crate::checks::check_pages;
-use crate::encode_fault::EncodeFault;
 use fumen_comment::{escape, write_comment};
 use fumen_digits::{Dialect, break_lines, push_number};
-use fumen_pages::{Page, action_number, next_cells, write_cells};
+use fumen_pages::{EncodeFault, Page, action_number, next_cells, write_cells};
 use pc_outside::{NoMemory, Refused};
 use std::alloc::Global;
 

@@ -8,8 +8,8 @@ use Rattle.placement_form.specs.Form.{placement_form}
 use Rattle.placement_form.specs.Reading.{placement_in}
 use Rattle.placement_form.proofs.CallerLemmas.{read-from_written, written-from_read}
 use Rattle.fumen_pages.specs.declared.page.Page.{Page}
-use Rattle.page_list.specs.declared.fault.ListKind.{ListKind}
-use Rattle.page_list.specs.declared.fault.ListKind.TheVariants.{TooManyPages, BadLine, BadCells, BadOperation, BadFlags, BadComment}
+use Rattle.fumen_pages.specs.declared.list_fault.ListKind.{ListKind}
+use Rattle.fumen_pages.specs.declared.list_fault.ListKind.TheVariants.{TooManyPages, BadLine, BadCells, BadOperation, BadFlags, BadComment}
 use Rattle.page_list.specs.declared.fields.Flags.{Flags}
 use Rattle.page_list.specs.CellsReading.{cells_in}
 use Rattle.page_list.specs.FieldsReading.{is_dash, operation_in, flags_in, comment_in}

@@ -8,7 +8,7 @@ use Rattle.std.proofs.lemmas.List.Sums.{fails_before_first}
 use Rattle.pc_outside.specs.declared.answers.Refused.{Refused}
 use Rattle.pc_outside.specs.declared.answers.Refused.TheVariants as refused
 use Rattle.fumen_pages.specs.declared.page.Page.{Page}
-use Rattle.page_list.specs.declared.fault.ListFault.{ListFault}
+use Rattle.fumen_pages.specs.declared.list_fault.ListFault.{ListFault}
 use Rattle.page_list.specs.CellsReading.{cut_at}
 use Rattle.page_list.specs.ListReading.{without_return, whole_lines, lines_of, first_line, numbered_page, pages_from, HasFirstPage}
 use Rattle.fumen_digits.specs.Reading.{◌>>=◌}

@@ -3,9 +3,9 @@ use Rattle.std.proofs.Common.{◌≡◌, ℕ, suc, ◌+◌, ◌<◌, ◌≤◌, 
 use Rattle.std.specs.Prelude.{IsOk}
 use Rattle.std.proofs.lemmas.Bool.{cases_Bool}
 use Rattle.fumen_pages.specs.declared.page.Page.{Page}
-use Rattle.page_list.specs.declared.fault.ListFault.{ListFault}
-use Rattle.page_list.specs.declared.fault.ListKind.{ListKind}
-use Rattle.page_list.specs.declared.fault.ListKind.TheVariants.{TooManyPages}
+use Rattle.fumen_pages.specs.declared.list_fault.ListFault.{ListFault}
+use Rattle.fumen_pages.specs.declared.list_fault.ListKind.{ListKind}
+use Rattle.fumen_pages.specs.declared.list_fault.ListKind.TheVariants.{TooManyPages}
 use Rattle.page_list.specs.ListReading.{lines_of, first_line, numbered, numbered_page, pages_from, pages_in}
 use Rattle.page_list.specs.LineReading.{line_in}
 use Rattle.fumen_digits.specs.Reading.{◌>>=◌}

@@ -6,9 +6,9 @@ use Rattle.srs.specs.declared.rotation.Rotation.TheVariants.{Spawn}
 use Rattle.placement_form.specs.Reading.{placement_in, row_in}
 use Rattle.fumen_comment.specs.Unescape.{hex_value, hex_byte_at, hex_unit_at, unit_of, unescaped_behind}
 use Rattle.fumen_pages.specs.declared.page.Page.{Page}
-use Rattle.page_list.specs.declared.fault.ListFault.{ListFault}
-use Rattle.page_list.specs.declared.fault.ListKind.{ListKind}
-use Rattle.page_list.specs.declared.fault.ListKind.TheVariants.{BadLine, BadCells, BadOperation, BadFlags, BadComment}
+use Rattle.fumen_pages.specs.declared.list_fault.ListFault.{ListFault}
+use Rattle.fumen_pages.specs.declared.list_fault.ListKind.{ListKind}
+use Rattle.fumen_pages.specs.declared.list_fault.ListKind.TheVariants.{BadLine, BadCells, BadOperation, BadFlags, BadComment}
 use Rattle.page_list.specs.CellsReading.{cut_at, rows_at, rows_colours, garbage_colours, cells_in}
 use Rattle.page_list.specs.FieldsReading.{is_dash, operation_in, flags_in, units_in, comment_in}
 use Rattle.page_list.specs.LineReading.{four_in, line_in}

@@ -4,8 +4,8 @@ use Rattle.std.specs.Option.{ok_or}
 use Rattle.std.specs.List.{list_all}
 use Rattle.srs.specs.declared.placement.Placement.{Placement}
 use Rattle.fumen_pages.specs.declared.page.Page.{Page}
-use Rattle.page_list.specs.declared.fault.ListKind.{ListKind}
-use Rattle.page_list.specs.declared.fault.ListKind.TheVariants.{BadLine, BadCells, BadOperation, BadFlags, BadComment}
+use Rattle.fumen_pages.specs.declared.list_fault.ListKind.{ListKind}
+use Rattle.fumen_pages.specs.declared.list_fault.ListKind.TheVariants.{BadLine, BadCells, BadOperation, BadFlags, BadComment}
 use Rattle.page_list.specs.declared.fields.Flags.{Flags}
 use Rattle.page_list.specs.Divided.{Four}
 use Rattle.page_list.specs.CellsReading.{cells_in, cut_at}

@@ -6,9 +6,9 @@ use Rattle.placement_form.specs.Form.{IsPlacementText}
 use Rattle.fumen_comment.specs.Unescape.{unescaped}
 use Rattle.fumen_pages.specs.Cells.{IsColour}
 use Rattle.fumen_pages.specs.declared.page.Page.{Page}
-use Rattle.page_list.specs.declared.fault.ListFault.{ListFault}
-use Rattle.page_list.specs.declared.fault.ListKind.{ListKind}
-use Rattle.page_list.specs.declared.fault.ListKind.TheVariants.{TooManyPages, BadLine, BadCells, BadOperation, BadFlags, BadComment}
+use Rattle.fumen_pages.specs.declared.list_fault.ListFault.{ListFault}
+use Rattle.fumen_pages.specs.declared.list_fault.ListKind.{ListKind}
+use Rattle.fumen_pages.specs.declared.list_fault.ListKind.TheVariants.{TooManyPages, BadLine, BadCells, BadOperation, BadFlags, BadComment}
 use Rattle.page_list.specs.Divided.{Four, IsDivided}
 use Rattle.page_list.specs.Letters.{letters_of}
 use Rattle.page_list.specs.PrintedLine.{flags_form}

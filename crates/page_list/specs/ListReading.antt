@@ -3,9 +3,9 @@ use Rattle.std.specs.Prelude.{ℕ, ◌+◌, ◌-◌, ◌<◌, nat_lt, IsOk, List
 use Rattle.std.specs.Option.{option_map_or}
 use Rattle.std.specs.List.{slice_split}
 use Rattle.fumen_pages.specs.declared.page.Page.{Page}
-use Rattle.page_list.specs.declared.fault.ListFault.{ListFault}
-use Rattle.page_list.specs.declared.fault.ListKind.{ListKind}
-use Rattle.page_list.specs.declared.fault.ListKind.TheVariants.{TooManyPages}
+use Rattle.fumen_pages.specs.declared.list_fault.ListFault.{ListFault}
+use Rattle.fumen_pages.specs.declared.list_fault.ListKind.{ListKind}
+use Rattle.fumen_pages.specs.declared.list_fault.ListKind.TheVariants.{TooManyPages}
 use Rattle.page_list.specs.CellsReading.{cut_at}
 use Rattle.page_list.specs.LineReading.{line_in}
 use Rattle.fumen_digits.specs.Reading.{◌>>=◌}

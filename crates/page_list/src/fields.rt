@@ -2,13 +2,13 @@
 ghost use Rattle.std.specs.Prelude.{◌≡◌, Err, IsOk};
 ghost use Rattle.std.specs.List.{list_all};
 ghost use Rattle.std.specs.Option.{ok_or};
-ghost use Rattle.page_list.specs.declared.fault.ListKind.TheVariants.{BadComment};
+ghost use Rattle.fumen_pages.specs.declared.list_fault.ListKind.TheVariants.{BadComment};
 ghost use Rattle.page_list.specs.FieldsReading.{comment_in, flag_in, flags_in, is_dash, is_mark, operation_in};
 ghost use Rattle.fumen_digits.specs.Answers.{Gives};
 ghost use Rattle.pc_outside.specs.declared.answers.Refused.{Refused};
 
-use crate::fault::ListKind;
 use fumen_comment::{Comment, unescape};
+use fumen_pages::ListKind;
 use pc_outside::Refused;
 use placement_form::read_placement;
 use srs::Placement;

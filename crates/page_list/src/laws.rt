@@ -7,7 +7,7 @@ ghost use Rattle.fumen_digits.specs.declared.dialect.Dialect.TheVariants.{V115};
 ghost use Rattle.fumen_pages.specs.Cells.{AreCells};
 ghost use Rattle.fumen_pages.specs.Sound.{IsSound};
 ghost use Rattle.fumen_pages.specs.declared.page.Page.{Page};
-ghost use Rattle.page_list.specs.declared.fault.ListFault.{ListFault};
+ghost use Rattle.fumen_pages.specs.declared.list_fault.ListFault.{ListFault};
 ghost use Rattle.page_list.specs.PrintedLine.{page_form};
 ghost use Rattle.page_list.specs.LineSpelling.{HasLines, IsListFault, Spelled, SpellsPages};
 ghost use Rattle.page_list.specs.ListReading.{lines_of, pages_in};

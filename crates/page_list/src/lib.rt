@@ -2,7 +2,6 @@
 #![tactic(auto)]
 
 mod cells;
-mod fault;
 mod fields;
 pub mod laws;
 mod letters;
@@ -10,7 +9,7 @@ mod line;
 mod list;
 mod reading;
 
-pub use fault::{ListFault, ListKind};
+pub use fumen_pages::{ListFault, ListKind};
 pub use letters::{first_shown, letters_of, row};
 pub use line::print_page;
 pub use list::{first_line, parse};

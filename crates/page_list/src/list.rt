@@ -1,16 +1,15 @@
 // Lists of pages, one line for each page.
 ghost use Rattle.std.specs.Prelude.{◌≡◌, ◌≢◌, ◌<◌, ◌≤◌, [], IsOk, IfOk, List, Ok, Err};
 ghost use Rattle.fumen_pages.specs.declared.page.Page.{Page};
-ghost use Rattle.page_list.specs.declared.fault.ListFault.{ListFault};
+ghost use Rattle.fumen_pages.specs.declared.list_fault.ListFault.{ListFault};
 ghost use Rattle.page_list.specs.LineSpelling.{IsListFault, SpellsPages};
 ghost use Rattle.page_list.specs.ListReading.{HasFirstPage, first_line, numbered_page, pages_in, without_return};
 ghost use Rattle.fumen_digits.specs.Answers.{Gives};
 ghost use Rattle.pc_outside.specs.declared.answers.Refused.{Refused};
 
 use crate::cells::cut_at;
-use crate::fault::{ListFault, ListKind};
 use crate::reading::read_line;
-use fumen_pages::Page;
+use fumen_pages::{ListFault, ListKind, Page};
 use pc_outside::Refused;
 use std::alloc::Global;
 

@@ -6,9 +6,8 @@ ghost use Rattle.fumen_digits.specs.Answers.{Gives};
 ghost use Rattle.pc_outside.specs.declared.answers.Refused.{Refused};
 
 use crate::cells::{cells_in, cut_at};
-use crate::fault::ListKind;
 use crate::fields::{comment_in, flags_in, operation_in};
-use fumen_pages::Page;
+use fumen_pages::{ListKind, Page};
 use pc_outside::Refused;
 use std::alloc::Global;
 

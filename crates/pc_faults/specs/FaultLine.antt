@@ -9,10 +9,10 @@ use Rattle.kick_file.specs.declared.fault.KickFault.{KickFault}
 use Rattle.kick_file.specs.declared.fault.KickFault.TheVariants as kick
 use Rattle.fumen_digits.specs.declared.fault.FumenFault.{FumenFault}
 use Rattle.fumen_digits.specs.declared.fault.FumenFault.TheVariants as fumen
-use Rattle.fumen_text.specs.declared.encode_fault.EncodeFault.{EncodeFault}
-use Rattle.fumen_text.specs.declared.encode_fault.EncodeFault.TheVariants as unwritten
-use Rattle.page_list.specs.declared.fault.ListKind.{ListKind}
-use Rattle.page_list.specs.declared.fault.ListKind.TheVariants as kinds
+use Rattle.fumen_pages.specs.declared.encode_fault.EncodeFault.{EncodeFault}
+use Rattle.fumen_pages.specs.declared.encode_fault.EncodeFault.TheVariants as unwritten
+use Rattle.fumen_pages.specs.declared.list_fault.ListKind.{ListKind}
+use Rattle.fumen_pages.specs.declared.list_fault.ListKind.TheVariants as kinds
 use Rattle.pc_faults.specs.declared.words_fault.WordsKind.{WordsKind}
 use Rattle.pc_faults.specs.declared.words_fault.WordsKind.TheVariants.{NoCommand, UnknownCommand, UnknownOption, RepeatedOption, BothFields, MissingValue, BadValue, MissingOption}
 use Rattle.pc_faults.specs.declared.cover_fault.CoverKind.{CoverKind}

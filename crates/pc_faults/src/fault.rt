@@ -1,9 +1,9 @@
 // What is wrong with the input.
 use crate::cover_fault::CoverFault;
 use crate::words_fault::WordsFault;
-use fumen_text::{EncodeFault, FumenFault};
+use fumen_digits::FumenFault;
+use fumen_pages::{EncodeFault, ListFault};
 use kick_file::KickFault;
-use page_list::ListFault;
 use queue_pattern::PatternFault;
 use well::RowsFault;
 

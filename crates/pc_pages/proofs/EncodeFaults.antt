@@ -3,8 +3,8 @@ use Rattle.std.proofs.Common.{◌≡◌, ◌∙◌, ℕ, List, Some, Ok, ap}
 use Rattle.std.specs.Prelude.{option_map}
 use Rattle.fumen_digits.specs.declared.dialect.Dialect.{Dialect}
 use Rattle.fumen_pages.specs.declared.page.Page.{Page}
+use Rattle.fumen_pages.specs.declared.list_fault.ListFault.{ListFault}
 use Rattle.fumen_text.specs.Written.{list_encode_fault}
-use Rattle.page_list.specs.declared.fault.ListFault.{ListFault}
 use Rattle.page_list.specs.LineSpelling.{IsListFault, SpellsPages}
 use Rattle.page_list.specs.ListReading.{pages_in}
 use Rattle.page_list.proofs.CallerLemmas.{spelled_pages_read, spelled_fault_read}

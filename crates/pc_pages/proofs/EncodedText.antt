@@ -9,7 +9,7 @@ use Rattle.fumen_digits.specs.Framing.{broken, broken_digit, digits_in, is_dropp
 use Rattle.fumen_comment.specs.Escape.{HasUnits}
 use Rattle.fumen_pages.specs.declared.page.Page.{Page}
 use Rattle.fumen_pages.specs.Cells.{AreCells}
-use Rattle.fumen_text.specs.declared.encode_fault.EncodeFault.{EncodeFault}
+use Rattle.fumen_pages.specs.declared.encode_fault.EncodeFault.{EncodeFault}
 use Rattle.fumen_text.specs.Texts.{ReadsAs}
 use Rattle.fumen_text.specs.Written.{HasTypes, list_encode_fault}
 use Rattle.fumen_text.proofs.CallerLemmas.{written_reads}

@@ -1,7 +1,7 @@
 // The command `encode`: the fumen text of the pages whose lines are in the source.
 ghost use Rattle.std.specs.Prelude.{◌≡◌, ◌<◌, ◌++◌, [], ◌∷◌, None, Err, IfOk, IfErr, OnOk};
 ghost use Rattle.pc_outside.specs.declared.answers.Refused.{Refused};
-ghost use Rattle.page_list.specs.declared.fault.ListFault.{ListFault};
+ghost use Rattle.fumen_pages.specs.declared.list_fault.ListFault.{ListFault};
 ghost use Rattle.pc_faults.specs.declared.status.Status.{Status};
 ghost use Rattle.page_list.specs.LineSpelling.{IsListFault, SpellsPages};
 ghost use Rattle.page_list.specs.ListReading.{pages_in};

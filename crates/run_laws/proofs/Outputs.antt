@@ -15,6 +15,7 @@ use Rattle.fumen_digits.specs.declared.dialect.Dialect.{Dialect}
 use Rattle.fumen_digits.specs.declared.dialect.Dialect.TheVariants.{V115}
 use Rattle.fumen_digits.specs.declared.fault.FumenFault.{FumenFault as TextFault}
 use Rattle.fumen_pages.specs.declared.page.Page.{Page}
+use Rattle.fumen_pages.specs.declared.list_fault.ListFault.{ListFault}
 use Rattle.fumen_text.specs.Reading.{text_pages}
 use Rattle.fumen_text.specs.Written.{written}
 use Rattle.fumen_text.proofs.CallerLemmas.{text_from_read}
@@ -37,7 +38,6 @@ use Rattle.hold_queue.specs.declared.hold.Hold.TheVariants.{Allowed}
 use Rattle.sample_pages.specs.Pages.{column_drawn, sample_pages}
 use Rattle.cover.specs.Covered.{IsCoveredList}
 use Rattle.combo.specs.Longest.{IsLongest}
-use Rattle.page_list.specs.declared.fault.ListFault.{ListFault}
 use Rattle.page_list.specs.ListReading.{pages_in}
 use Rattle.page_list.specs.PrintedLine.{page_form}
 use Rattle.page_list.proofs.CallerLemmas.{pages_spelled}

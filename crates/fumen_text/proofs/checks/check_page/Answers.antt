@@ -4,7 +4,7 @@ use Rattle.std.specs.Prelude.{OnOk}
 use Rattle.pc_outside.specs.declared.answers.Refused.{Refused}
 use Rattle.fumen_digits.specs.declared.dialect.Dialect.{Dialect}
 use Rattle.fumen_pages.specs.declared.page.Page.{Page}
-use Rattle.fumen_text.specs.declared.encode_fault.EncodeFault.{EncodeFault}
+use Rattle.fumen_pages.specs.declared.encode_fault.EncodeFault.{EncodeFault}
 use Rattle.fumen_text.specs.Written.{IsRefusedBy, HasTypes, IsWritable, page_encode_fault}
 use Rattle.fumen_text.proofs.WrittenIsRead.{fit_page}
 use Rattle.fumen_text.proofs.checks.check_page.Goals as goal

@@ -4,7 +4,7 @@ use Rattle.std.specs.Prelude.{IfOk}
 use Rattle.pc_outside.specs.declared.answers.Refused.{Refused}
 use Rattle.pc_outside.specs.declared.answers.Refused.TheVariants as refused
 use Rattle.fumen_pages.specs.declared.page.Page.{Page}
-use Rattle.page_list.specs.declared.fault.ListFault.{ListFault}
+use Rattle.fumen_pages.specs.declared.list_fault.ListFault.{ListFault}
 use Rattle.fumen_digits.specs.Answers.{Gives}
 use Rattle.page_list.specs.ListReading.{pages_in}
 use Rattle.page_list.specs.LineSpelling.{SpellsPages}

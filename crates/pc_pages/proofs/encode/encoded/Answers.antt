@@ -5,9 +5,9 @@ use Rattle.pc_outside.specs.declared.answers.Refused.{Refused}
 use Rattle.pc_outside.specs.declared.answers.Refused.TheVariants as refused
 use Rattle.fumen_digits.specs.declared.dialect.Dialect.{Dialect}
 use Rattle.fumen_pages.specs.declared.page.Page.{Page}
-use Rattle.fumen_text.specs.declared.encode_fault.EncodeFault.{EncodeFault}
+use Rattle.fumen_pages.specs.declared.encode_fault.EncodeFault.{EncodeFault}
+use Rattle.fumen_pages.specs.declared.list_fault.ListFault.{ListFault}
 use Rattle.fumen_text.specs.Written.{IsRefusedBy, list_encode_fault}
-use Rattle.page_list.specs.declared.fault.ListFault.{ListFault}
 use Rattle.page_list.specs.LineSpelling.{SpellsPages}
 use Rattle.page_list.proofs.CallerLemmas.{spelled_fault_read, spelled_pages_read}
 use Rattle.pc_faults.specs.declared.fault.Fault.TheVariants.{Encode}
