@@ -1,6 +1,7 @@
--- Lemmas on pages: their cells, their actions, and what one leaves for the next.
+-- Lemmas on pages: their cells, their rows, their actions, and what one leaves for the next.
 mod InsideLaws
 mod RowLaws
+mod ShownRows
 mod NextLaws
 mod NextSound
 mod FlagLaws

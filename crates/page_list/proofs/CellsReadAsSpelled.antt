@@ -10,8 +10,8 @@ use Rattle.std.proofs.lemmas.Option.{none-some, option_and_then_some, same_Some}
 use Rattle.fumen_digits.proofs.CallerLemmas.{same_option, same_option-true}
 use Rattle.fumen_pages.specs.Cells.{IsColour}
 use Rattle.fumen_pages.proofs.CallerLemmas.{flat, length-flat}
+use Rattle.fumen_pages.specs.Letters.{colour_letter, letters_of}
 use Rattle.page_list.specs.CellsReading.{colour_in, with_front, rows_at, rows_colours, garbage_colours, cells_with_rows, cells_in, cut_at}
-use Rattle.page_list.specs.Letters.{colour_letter, letters_of}
 use Rattle.page_list.specs.LineSpelling.{IsPageRow, SpellsGarbage, left_out, written, SpellsLineCells}
 use Rattle.page_list.proofs.CutLaws.{cut_front, cut_is}
 use Rattle.page_list.proofs.ReadLemmas.{fronts}

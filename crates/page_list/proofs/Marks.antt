@@ -13,9 +13,9 @@ use Rattle.srs.proofs.CallerLemmas.{each_state}
 use Rattle.placement_form.specs.Form.{placement_form}
 use Rattle.fumen_comment.proofs.CallerLemmas.{IsMark}
 use Rattle.fumen_pages.specs.declared.page.Page.{Page}
+use Rattle.fumen_pages.specs.Letters.{colour_letter, letters_of}
 use Rattle.page_list.specs.Divided.{IsField}
 use Rattle.page_list.specs.FieldsReading.{is_mark}
-use Rattle.page_list.specs.Letters.{colour_letter, letters_of}
 use Rattle.page_list.specs.PrintedLine.{flag_form}
 use Rattle.page_list.specs.LineSpelling.{SpellsGarbage, left_out, written, SpellsLineCells, SpellsLineOperation, SpellsLineFlags, SpellsLineComment}
 use Rattle.page_list.proofs.CellsReadAsSpelled.{letters_all, rows_all}

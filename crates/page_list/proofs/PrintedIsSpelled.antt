@@ -19,8 +19,8 @@ use Rattle.fumen_pages.specs.Cells.{IsColour}
 use Rattle.fumen_pages.specs.Next.{rows_in}
 use Rattle.fumen_pages.specs.Sound.{IsSound}
 use Rattle.fumen_pages.proofs.CallerLemmas.{pivot_inside_in, page_row_count-most, flat, length-rows_in, flat-rows_in}
+use Rattle.fumen_pages.specs.Letters.{colour_letter, letters_of, is_blank, shown_rows, garbage_row}
 use Rattle.page_list.specs.Divided.{Four}
-use Rattle.page_list.specs.Letters.{colour_letter, letters_of, is_blank, shown_rows, garbage_row}
 use Rattle.page_list.specs.PrintedLine.{garbage_form, rows_form, operation_form, flags_form, comment_form, page_form}
 use Rattle.page_list.specs.LineSpelling.{IsPageRow, SpellsGarbage, left_out, written, SpellsLineCells, SpellsLineOperation, SpellsLineComment, SpellsPage, IsFirstLine, newline, SpellsFirst, none, more, SpellsPages}
 use Rattle.page_list.proofs.Marks.{HasMarks, marked_field, cells_marks, operation_marks, flags_marks, comment_marks}

@@ -1,57 +1,9 @@
--- The rows that are left from a row on.
-use Rattle.std.proofs.Common.{◌≡◌, ℕ, zero, suc, ◌+◌, ◌-◌, ◌*◌, ◌<◌, ◌≤◌, true, false, List, [], ◌∷◌, ◌++◌, take, drop, refl, add-one, inl, inr, append_assoc, append-nil, ap, sym, subst, ◌∙◌, arith}
-use Rattle.std.specs.List.{prefix_len, join_with_byte}
-use Rattle.std.proofs.lemmas.List.{drop-drop}
+-- The rows that are left from a row on, divided by `/`.
+use Rattle.std.proofs.Common.{◌≡◌, ℕ, ◌+◌, ◌*◌, ◌<◌, List, [], ◌∷◌, ◌++◌, take, drop, inl, inr, append_assoc, append-nil, sym, ◌∙◌, arith}
+use Rattle.std.specs.List.{join_with_byte}
 use Rattle.std.proofs.lemmas.Bool.{cases_lt, lt-ltb}
-use Rattle.fumen_pages.specs.Next.{rows_in}
-use Rattle.page_list.specs.Letters.{is_blank, shown_rows}
+use Rattle.fumen_pages.proofs.CallerLemmas.{rows_left, rows_left-more, rows_left-end}
 use Rattle.page_list.specs.PrintedLine.{divided_row}
-
--- the rows from this one on, counted from the top
-unfoldable pub rows_left : List ℕ → ℕ → List (List ℕ)
-rows_left letters index = rows_in (23 - index) (drop (10 * index) letters)
-
-abbrev pub row_at : List ℕ → ℕ → List ℕ
-row_at letters index = take 10 (drop (10 * index) letters)
-
-pub rows_left-start : (letters : List ℕ) → rows_in 23 letters ≡ rows_left letters 0
-unfolding rows_left
-rows_left-start letters = refl
-
-pub rows_left-end : (letters : List ℕ) → rows_left letters 23 ≡ []
-unfolding rows_left rows_in
-rows_left-end letters = refl
-
--- the first of these rows, and those behind it
-split : (letters : List ℕ) (n count : ℕ) → n ≡ suc count → rows_in n letters ≡ take 10 letters ∷ rows_in count (drop 10 letters)
-unfolding rows_in
-split letters n count is = rw (is) refl
-
--- the first of the rows that are left, and those behind it
-pub rows_left-more : (letters : List ℕ) (index : ℕ) → index < 23 → rows_left letters index ≡ row_at letters index ∷ rows_left letters (index + 1)
-unfolding rows_left
-rows_left-more letters index within =
-    let rest : drop 10 (drop (10 * index) letters) ≡ drop (10 * (index + 1)) letters = drop-drop 10 (10 * index) letters ∙ more (10 * index + 10) (10 * (index + 1)) (omega arith) in
-    split (drop (10 * index) letters) (23 - index) (23 - (index + 1)) (omega arith) ∙ ap (λ l. row_at letters index ∷ rows_in (23 - (index + 1)) l) rest where
-      more : (m n : ℕ) → m ≡ n → drop m letters ≡ drop n letters
-      more m n is = ap (λ k. drop k letters) is
-
--- the rows that are left after a number of them are dropped
-pub rows_left-drop : (letters : List ℕ) (index : ℕ) → index ≤ 23 → drop index (rows_in 23 letters) ≡ rows_left letters index
-rows_left-drop letters zero within = rows_left-start letters
-rows_left-drop letters (suc index) within = subst (λ n. drop n (rows_in 23 letters) ≡ rows_left letters n) (add-one index) (dropped (rows_left-drop letters index (omega arith))) where
-  dropped : drop index (rows_in 23 letters) ≡ rows_left letters index → drop (index + 1) (rows_in 23 letters) ≡ rows_left letters (index + 1)
-  dropped so_far = sym (drop-drop 1 index (rows_in 23 letters)) ∙ ap (drop 1) (so_far ∙ rows_left-more letters index (omega arith))
-
--- one more row at the top is blank
-pub first-goes_on : (letters : List ℕ) (index : ℕ) → index < 23 → is_blank (row_at letters index) ≡ true
-    → index + prefix_len is_blank (rows_left letters index) ≡ index + 1 + prefix_len is_blank (rows_left letters (index + 1))
-first-goes_on letters index within blank = rw (rows_left-more letters index within, blank) (omega arith)
-
--- a row isn't blank
-pub first-found : (letters : List ℕ) (index : ℕ) → index < 23 → is_blank (row_at letters index) ≡ false
-    → index + prefix_len is_blank (rows_left letters index) ≡ index
-first-found letters index within shown = rw (rows_left-more letters index within, shown) (omega arith)
 
 -- a row, the `/` after it, and the rows behind it
 pub joined-more : (letters : List ℕ) (index : ℕ) → index < 23
@@ -59,13 +11,9 @@ pub joined-more : (letters : List ℕ) (index : ℕ) → index < 23
 joined-more letters index within = elim (cases_lt index 22) [
   | inl more ↦
       let rest = rows_left-more letters (index + 1) (omega arith) in
-      rw (rows_left-more letters index within, rest, lt-ltb index 22 more) (sym (append_assoc (row_at letters index) (47 ∷ []) _))
+      rw (rows_left-more letters index within, rest, lt-ltb index 22 more) (sym (append_assoc (take 10 (drop (10 * index) letters)) (47 ∷ []) _))
   | inr last ↦
       let is : index ≡ 22 = omega arith in
-      rw (is, rows_left-more letters 22 (omega arith), rows_left-end letters) (sym (append-nil (row_at letters 22 ++ []) ∙ append-nil (row_at letters 22)))
+      let last_row = take 10 (drop 220 letters) in
+      rw (is, rows_left-more letters 22 (omega arith), rows_left-end letters) (sym (append-nil (last_row ++ []) ∙ append-nil last_row))
 ]
-
--- the rows that are shown are those that are left from the first of them on
-pub shown-left : (letters : List ℕ) (first : ℕ) → first ≡ prefix_len is_blank (rows_in 23 letters) → first ≤ 23 → shown_rows letters ≡ rows_left letters first
-unfolding shown_rows
-shown-left letters first is within = ap (λ n. drop n (rows_in 23 letters)) (sym is) ∙ rows_left-drop letters first within

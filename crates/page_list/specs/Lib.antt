@@ -1,5 +1,4 @@
 -- What a reader must believe
-pub mod Letters
 pub mod PrintedLine
 pub mod Divided
 pub mod LineSpelling

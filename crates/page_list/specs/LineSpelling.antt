@@ -9,8 +9,8 @@ use Rattle.fumen_pages.specs.declared.page.Page.{Page}
 use Rattle.fumen_pages.specs.declared.list_fault.ListFault.{ListFault}
 use Rattle.fumen_pages.specs.declared.list_fault.ListKind.{ListKind}
 use Rattle.fumen_pages.specs.declared.list_fault.ListKind.TheVariants.{TooManyPages, BadLine, BadCells, BadOperation, BadFlags, BadComment}
+use Rattle.fumen_pages.specs.Letters.{letters_of}
 use Rattle.page_list.specs.Divided.{Four, IsDivided}
-use Rattle.page_list.specs.Letters.{letters_of}
 use Rattle.page_list.specs.PrintedLine.{flags_form}
 
 -- ten cells, each of a colour

@@ -5,7 +5,7 @@ use Rattle.srs.specs.declared.placement.Placement.{Placement}
 use Rattle.fumen_comment.specs.Escape.{escaped}
 use Rattle.placement_form.specs.Form.{placement_form}
 use Rattle.fumen_pages.specs.declared.page.Page.{Page}
-use Rattle.page_list.specs.Letters.{letters_of, is_blank, shown_rows, garbage_row}
+use Rattle.fumen_pages.specs.Letters.{letters_of, is_blank, shown_rows, garbage_row}
 
 -- a row counted from the top, and a `/` where another one follows it
 abbrev pub divided_row : List ℕ → ℕ → List ℕ

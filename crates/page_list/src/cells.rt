@@ -5,7 +5,7 @@ ghost use Rattle.page_list.specs.CellsReading.{cells_in, cells_with_rows, colour
 
 use arrayvec::ArrayVec;
 
-/// The colour that a letter stands for, as `letters::colour_letter` writes it.
+/// The colour that a letter stands for, as `fumen_pages::letters_of` writes it.
 fn colour_in(letter: u8) -> Option<u8>
     ensures value { result ≡ colour_in letter }
     ensures small { IfSome result (λ colour. colour ≤ 8) }

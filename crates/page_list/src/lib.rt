@@ -4,13 +4,11 @@
 mod cells;
 mod fields;
 pub mod laws;
-mod letters;
 mod line;
 mod list;
 mod reading;
 
-pub use fumen_pages::{ListFault, ListKind};
-pub use letters::{first_shown, letters_of, row};
+pub use fumen_pages::{ListFault, ListKind, first_shown, letters_of, row};
 pub use line::print_page;
 pub use list::{first_line, parse};
 

@@ -2,12 +2,11 @@
 ghost use Rattle.std.specs.Prelude.{◌≡◌, ◌++◌, ◌<◌, All, IfOk, OnOk};
 ghost use Rattle.std.specs.List.{join_with_byte};
 ghost use Rattle.fumen_pages.specs.Cells.{IsColour};
-ghost use Rattle.page_list.specs.Letters.{shown_rows};
+ghost use Rattle.fumen_pages.specs.Letters.{shown_rows};
 ghost use Rattle.page_list.specs.PrintedLine.{comment_form, divided_row, flag_form, flags_form, operation_form, page_form, rows_form};
 
-use crate::letters::{first_shown, is_blank, letters_of, row};
 use fumen_comment::escape;
-use fumen_pages::Page;
+use fumen_pages::{Page, first_shown, is_blank, letters_of, row};
 use pc_outside::NoMemory;
 use placement_form::placement_text;
 use srs::Placement;
@@ -51,7 +50,7 @@ fn push_rows(line: &mut Vec<u8>, letters: &[u8; 240]) -> Result<(), NoMemory>
 }
 
 /// Appends the rows from the highest one that isn't blank down, separated by `/`.
-#[tactic(auto, unfolding(crate::specs::Letters::shown_rows))]
+#[tactic(auto, unfolding(fumen_pages::specs::Letters::shown_rows))]
 fn push_shown(line: &mut Vec<u8>, letters: &[u8; 240]) -> Result<(), NoMemory>
     ensures { OnOk result (line.new.items ≡ line.old.items ++ join_with_byte 47 (shown_rows letters.now)) }
 {

@@ -6,7 +6,7 @@ use Rattle.srs.specs.declared.placement.Placement.{Placement}
 use Rattle.srs.specs.Piece.{piece_letter}
 use Rattle.fumen_pages.specs.declared.page.Page.{Page}
 use Rattle.fumen_pages.specs.Next.{marked}
-use Rattle.page_list.specs.Letters.{letters_of, shown_rows, garbage_row}
+use Rattle.fumen_pages.specs.Letters.{letters_of, shown_rows, garbage_row}
 
 -- the small letter of the piece where the operation has a cell
 abbrev pub with_operation : Option Placement → List ℕ → List ℕ

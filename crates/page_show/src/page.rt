@@ -6,12 +6,11 @@ ghost use Rattle.pc_outside.specs.Counts.{HasCause};
 ghost use Rattle.pc_outside.specs.Writes.{WritesAll};
 ghost use Rattle.srs.specs.Cells.{is_inside_of};
 ghost use Rattle.fumen_pages.specs.Cells.{IsColour};
-ghost use Rattle.page_list.specs.Letters.{letters_of, shown_rows};
+ghost use Rattle.fumen_pages.specs.Letters.{letters_of, shown_rows};
 ghost use Rattle.page_show.specs.Page.{row_line, rows_lines, shown_page, with_operation};
 
-use fumen_pages::{Page, mark};
+use fumen_pages::{Page, first_shown, letters_of, mark, row};
 use line_writing::write_count;
-use page_list::{first_shown, letters_of, row};
 use pc_outside::{Failed, Sink, write_pieces};
 
 /// Writes a page: a line `page 1` with its number, then its rows from the highest one with a coloured cell or a cell of

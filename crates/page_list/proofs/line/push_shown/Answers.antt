@@ -1,8 +1,9 @@
 -- One row more is written, and then all are.
 use Rattle.std.proofs.Common.{◌≡◌, ◌+◌, ◌++◌, ◌∙◌, sym, ap, append_assoc, append-nil, arith}
 use Rattle.std.specs.List.{join_with_byte}
+use Rattle.fumen_pages.proofs.CallerLemmas.{rows_left, rows_left-end, shown-left}
 use Rattle.page_list.specs.PrintedLine.{divided_row}
-use Rattle.page_list.proofs.RowLemmas.{rows_left, rows_left-end, joined-more, shown-left}
+use Rattle.page_list.proofs.RowLemmas.{joined-more}
 use Rattle.page_list.proofs.line.push_shown.Goals as goal
 
 pub loop-index-init : goal.loop-index-init

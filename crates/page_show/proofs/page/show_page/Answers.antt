@@ -3,7 +3,7 @@ use Rattle.std.proofs.Common.{◌++◌, ap, sym, subst}
 use Rattle.std.specs.Prelude.{codes}
 use Rattle.pc_outside.specs.Writes.{WritesAll}
 use Rattle.pc_outside.specs.WriteLaws.{after_piece, at_err, begins, failed_piece, last_call}
-use Rattle.page_list.specs.Letters.{letters_of}
+use Rattle.fumen_pages.specs.Letters.{letters_of}
 use Rattle.line_writing.specs.Count.{count_form}
 use Rattle.page_show.specs.Page.{rows_lines, shown_page, with_operation}
 use Rattle.page_show.proofs.page.show_page.Goals as goal

@@ -4,8 +4,8 @@ use Rattle.std.specs.List.{flat_map}
 use Rattle.pc_outside.specs.CountLaws.{none_more, none_yet}
 use Rattle.pc_outside.specs.Writes.{GrowsUpTo}
 use Rattle.pc_outside.specs.WriteLaws.{begins, after_piece, failed_piece, ends, at_err}
-use Rattle.page_list.specs.Letters.{shown_rows}
-use Rattle.page_list.proofs.CallerLemmas.{rows_left, rows_left-more, rows_left-end, shown-left}
+use Rattle.fumen_pages.specs.Letters.{shown_rows}
+use Rattle.fumen_pages.proofs.CallerLemmas.{rows_left, rows_left-more, rows_left-end, shown-left}
 use Rattle.page_show.specs.Page.{row_line}
 use Rattle.page_show.proofs.page.write_shown.Goals as goal
 

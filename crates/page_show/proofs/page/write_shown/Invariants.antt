@@ -2,8 +2,8 @@
 use Rattle.std.specs.List.{flat_map}
 use Rattle.pc_outside.specs.CountLaws.{NoneFailed}
 use Rattle.pc_outside.specs.Writes.{GrowsUpTo}
-use Rattle.page_list.specs.Letters.{shown_rows}
-use Rattle.page_list.proofs.CallerLemmas.{rows_left}
+use Rattle.fumen_pages.specs.Letters.{shown_rows}
+use Rattle.fumen_pages.proofs.CallerLemmas.{rows_left}
 use Rattle.page_show.specs.Page.{row_line}
 use Rattle.page_show.proofs.page.write_shown.Given as goal
 

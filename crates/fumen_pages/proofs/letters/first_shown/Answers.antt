@@ -1,9 +1,9 @@
 -- One row more is blank, or the first that isn't is found.
 use Rattle.std.proofs.Common.{◌≡◌, ◌+◌, ◌∙◌, sym, ap, subst, true, false, arith}
 use Rattle.std.specs.List.{prefix_len}
-use Rattle.page_list.specs.Letters.{is_blank}
-use Rattle.page_list.proofs.RowLemmas.{rows_left, rows_left-start, rows_left-end, first-goes_on, first-found}
-use Rattle.page_list.proofs.letters.first_shown.Goals as goal
+use Rattle.fumen_pages.specs.Letters.{is_blank}
+use Rattle.fumen_pages.proofs.ShownRows.{rows_left, rows_left-start, rows_left-end, first-goes_on, first-found}
+use Rattle.fumen_pages.proofs.letters.first_shown.Goals as goal
 
 pub loop-index-init : goal.loop-index-init
 loop-index-init c = ap (prefix_len is_blank) (rows_left-start c.args.letters.now) ∙ omega arith

@@ -1,7 +1,7 @@
 -- The letters of the first cells are written.
 use Rattle.std.proofs.Common.{◌≡◌, length, take}
-use Rattle.page_list.specs.Letters.{letters_of}
-use Rattle.page_list.proofs.letters.letters_of.Given as goal
+use Rattle.fumen_pages.specs.Letters.{letters_of}
+use Rattle.fumen_pages.proofs.letters.letters_of.Given as goal
 
 abbrev pub invariant-loop-index : goal.invariant-loop-index
 invariant-loop-index l =

@@ -3,7 +3,7 @@ ghost use Rattle.std.specs.Prelude.{◌≡◌, ◌*◌, ◌<◌, ◌≤◌, All,
 ghost use Rattle.std.specs.List.{prefix_len};
 ghost use Rattle.fumen_pages.specs.Cells.{IsColour};
 ghost use Rattle.fumen_pages.specs.Next.{rows_in};
-ghost use Rattle.page_list.specs.Letters.{colour_letter, letters_of, is_blank};
+ghost use Rattle.fumen_pages.specs.Letters.{colour_letter, letters_of, is_blank};
 
 /// The letter of a cell's colour: `_` for 0 (empty), the piece's letter for the codes 1 to 7, and `X` for 8 (grey).
 #[tactic(auto, unfolding(crate::specs::Letters::colour_letter))]

@@ -2,9 +2,9 @@
 use Rattle.std.proofs.Common.{◌≡◌, ◌+◌}
 use Rattle.std.specs.List.{prefix_len}
 use Rattle.fumen_pages.specs.Next.{rows_in}
-use Rattle.page_list.specs.Letters.{is_blank}
-use Rattle.page_list.proofs.RowLemmas.{rows_left}
-use Rattle.page_list.proofs.letters.first_shown.Given as goal
+use Rattle.fumen_pages.specs.Letters.{is_blank}
+use Rattle.fumen_pages.proofs.ShownRows.{rows_left}
+use Rattle.fumen_pages.proofs.letters.first_shown.Given as goal
 
 abbrev pub invariant-loop-index : goal.invariant-loop-index
 invariant-loop-index l =
