@@ -1,7 +1,7 @@
 -- A placement after which a rest is good stands in a listed tiling by the pieces of the rest and its own.
-use Rattle.std.proofs.Common.{ℕ, ◌≡◌, ◌↔◌, ◌∙◌, ◌+◌, ◌-◌, ◌<◌, ◌≤◌, ◌⊎◌, true, false, not, ◌==◌, List, [], ◌∷◌, ◌++◌, length, get_or, map, ap, pos, negsuc, refl, sym, subst, inl, inr, arith}
+use Rattle.std.proofs.Common.{ℕ, ◌≡◌, ◌↔◌, ◌∙◌, ◌+◌, ◌-◌, ◌*◌, ◌^◌, ◌%◌, ◌<◌, ◌≤◌, ◌⊎◌, Bool, true, false, not, ◌||◌, ◌==◌, bit_or, List, [], ◌∷◌, ◌++◌, length, get_or, map, ap, pos, negsuc, refl, sym, subst, inl, inr, arith}
 use Rattle.std.proofs.lemmas.List.Folds.{list_all-map}
-use Rattle.std.proofs.lemmas.Bool.{cases_Bool, cases_lt, cond-true, cond-false, eq-eqb, false_from_ne_true, false≢true, not-true, not_from_false}
+use Rattle.std.proofs.lemmas.Bool.{cases_Bool, cases_lt, cond-true, cond-false, both_ways, eq-eqb, false_from_ne_true, not-true, not_from_false}
 use Rattle.std.specs.Prelude.{All, Contains, Option, Some, None, IfSome, IsSomeAnd, slice_get}
 use Rattle.std.proofs.lemmas.Option.{slice_get_within, get_or_from_slice_get}
 use Rattle.std.proofs.lemmas.List.{get_or_append_left, get_or_push, length-append}
@@ -9,6 +9,7 @@ use Rattle.number_sets.specs.Rising.{has}
 use Rattle.problem.proofs.CallerLemmas.{locked-low}
 use Rattle.srs.proofs.CallerLemmas.{some_same, list_all-from_is_among}
 use Rattle.lane_board.specs.Lanes.{has_bit}
+use Rattle.lane_board.proofs.CallerLemmas.{has_bit-low, has_bit-or, has_bit-shifted_high}
 use Rattle.lane_board.specs.Field.{Field, difference}
 use Rattle.srs.specs.declared.piece.Piece.{Piece}
 use Rattle.srs.specs.declared.placement.Placement.{Placement}
@@ -28,8 +29,6 @@ use Rattle.empty_cells.specs.Empties.{all_but, empty_cells, has_cell}
 use Rattle.empty_cells.specs.SentCells.{sent_cells, sent_up}
 use Rattle.empty_cells.proofs.CallerLemmas.{IsSmall, cells_small}
 use Rattle.tiled_pieces.specs.declared.listed.ListedTiling.{ListedTiling}
-use Rattle.tiled_pieces.specs.declared.standing.StandingPieces.{StandingPieces}
-use Rattle.tiled_pieces.specs.Standing.{KeepsStanding, StandsIn}
 use Rattle.tiled_pieces.specs.TilingLists.{HasPiece, LaidPiece, ListsAll, SomeHas, laid_part}
 use Rattle.tiled_pieces.proofs.CallerLemmas.{LiesIn, left_by_part, part_listed, rest_listed}
 use Rattle.percent.specs.declared.game.Game.{Game}
@@ -39,7 +38,7 @@ use Rattle.percent.specs.declared.position.Position.{Position}
 use Rattle.percent.specs.Children.{IsChild}
 use Rattle.percent.specs.Fitting.{codes_in, codes_with, supply_at, supply_by}
 use Rattle.percent.specs.GoodHands.{is_good}
-use Rattle.percent.specs.Marks.{ArePlaces, AreStanding, HasMarkAt, IsMarkOf, IsStanding, IsTrueMark}
+use Rattle.percent.specs.Marks.{ArePlaces, HasMarkAt, IsMarkOf, IsStanding, IsTrueMark}
 use Rattle.percent.specs.Spread.{IsSpread}
 use Rattle.percent.proofs.HandLemmas.{code-few}
 use Rattle.percent.proofs.FittingLemmas.{low-position}
@@ -234,42 +233,54 @@ mark-listed p child left rest place known rows cells taken old new spread true_m
 
 -- ---- in which marks a placement stands
 
--- the pieces of a kind in the tilings of the first i marks are said to stand there
-pub record StandingBefore (known : List Mark) (piece : Piece) (pieces : StandingPieces) (i : ℕ) : Type 0 where
-  pub each : (k : ℕ) → k < i → (mark : Mark) → slice_get known k ≡ Some mark → (cells : Field) → SomeHas mark.tilings.tilings.items (record { piece = piece; cells = cells }) → StandsIn pieces k cells
+-- it stands in no tiling of the first i marks whose bits are not set
+pub record StandingBefore (known : List Mark) (rows : List ℕ) (q : Placement) (standing i : ℕ) : Type 0 where
+  pub none : (k : ℕ) → k < i → has_bit standing k ≡ false → (mark : Mark) → slice_get known k ≡ Some mark → SomeHas mark.tilings.tilings.items (laid rows q) → ⊥
 
-pub standing-starts : (known : List Mark) (piece : Piece) (pieces : StandingPieces) → StandingBefore known piece pieces 0
-standing-starts known piece pieces = record { each = λ k below. absurd (omega arith) }
+pub standing-starts : (known : List Mark) (rows : List ℕ) (q : Placement) (standing : ℕ) → StandingBefore known rows q standing 0
+standing-starts known rows q standing = record { none = λ k below. absurd (omega arith) }
 
-pub standing-more : (known : List Mark) (piece : Piece) (old new : StandingPieces) (i : ℕ) (mark : Mark) → slice_get known i ≡ Some mark → StandingBefore known piece old i → KeepsStanding old new
-    → ((cells : Field) → SomeHas mark.tilings.tilings.items (record { piece = piece; cells = cells }) → StandsIn new i cells) → StandingBefore known piece new (i + 1)
-standing-more known piece old new i mark here state keeps added = record {
-  each = λ k below other there cells some. elim (cases_lt k i) [
-    | inl before ↦ keeps.keeps k cells (state.each k before other there cells some)
+own_bit : (k : ℕ) → k < 64 → has_bit (1 * 2 ^ k % 2 ^ 64) k ≡ true
+unfolding has_bit
+own_bit k low = has_bit-low (1 * 2 ^ k) 64 k low ∙ has_bit-shifted_high 1 k k (omega arith) ∙ ap (has_bit 1) {x = k - k} {y = 0} (omega arith) ∙ refl
+
+neither : (a b : Bool) → (a || b) ≡ false → (a ≡ false) × (b ≡ false)
+neither false b h = (refl, h)
+neither true b h = cc
+
+-- one mark more that has it
+pub standing-more : (known : List Mark) (rows : List ℕ) (q : Placement) (standing i : ℕ) → i < 64 → StandingBefore known rows q standing i → StandingBefore known rows q (bit_or standing (1 * 2 ^ i % 2 ^ 64)) (i + 1)
+standing-more known rows q standing i low state = record {
+  none = λ k below unset mark there some.
+      let both = neither (has_bit standing k) (has_bit (1 * 2 ^ i % 2 ^ 64) k) (sym (has_bit-or standing (1 * 2 ^ i % 2 ^ 64) k) ∙ unset) in
+      elim (cases_lt k i) [
+        | inl before ↦ state.none k before both.0 mark there some
+        | inr past ↦
+            let same : k ≡ i = omega arith in
+            both_ways _ both.1 (ap (has_bit (1 * 2 ^ i % 2 ^ 64)) same ∙ own_bit i low)
+      ];
+}
+
+-- or that doesn't
+pub standing-pass : (known : List Mark) (rows : List ℕ) (q : Placement) (standing i : ℕ) (mark : Mark) → slice_get known i ≡ Some mark → (SomeHas mark.tilings.tilings.items (laid rows q) → ⊥)
+    → StandingBefore known rows q standing i → StandingBefore known rows q standing (i + 1)
+standing-pass known rows q standing i mark here none state = record {
+  none = λ k below unset other there some. elim (cases_lt k i) [
+    | inl before ↦ state.none k before unset other there some
     | inr past ↦
         let same : k ≡ i = omega arith in
-        let one : other ≡ mark = some_same (sym there ∙ ap (slice_get known) same ∙ here) in
-        subst (λ n. StandsIn new n cells) (sym same) (added cells (subst (λ (mark : Mark). SomeHas mark.tilings.tilings.items (record { piece = piece; cells = cells })) one some))
+        none (subst (λ (mark : Mark). SomeHas mark.tilings.tilings.items (laid rows q)) (some_same (sym there ∙ ap (slice_get known) same ∙ here)) some)
   ];
 }
 
-pub standing-ends : (known : List Mark) (piece : Piece) (pieces : StandingPieces) (i : ℕ) → (length known ≤ i) ⊎ (64 ≤ i) → StandingBefore known piece pieces i → AreStanding known piece pieces
-standing-ends known piece pieces i all state = record {
-  each = λ k low mark there cells some. state.each k (before k low (slice_get_within known k mark there) all) mark there cells some;
+pub standing-ends : (known : List Mark) (rows : List ℕ) (q : Placement) (standing i : ℕ) → (length known ≤ i) ⊎ (64 ≤ i) → StandingBefore known rows q standing i → IsStanding known rows q standing
+standing-ends known rows q standing i all state = record {
+  none = λ k low unset mark there some. state.none k (before k low (slice_get_within known k mark there) all) unset mark there some;
 }
   where
     before : (k : ℕ) → k < 64 → k < length known → (length known ≤ i) ⊎ (64 ≤ i) → k < i
     before k low within (inl all) = omega arith
     before k low within (inr all) = omega arith
-
--- so a placement stands in no tiling of the marks whose bits are not set for its cells
-pub standing-bits : (known : List Mark) (rows : List ℕ) (piece : Piece) (pieces : StandingPieces) (q : Placement) (taken : Field) (standing : ℕ) → AreStanding known piece pieces → q.piece ≡ piece → taken ≡ sent_cells rows q
-    → ((k : ℕ) → StandsIn pieces k taken → has_bit standing k ≡ true) → IsStanding known rows q standing
-standing-bits known rows piece pieces q taken standing are kind same bits = record {
-  none = λ k low unset mark there some.
-      let laid_is : laid rows q ≡ record { piece = piece; cells = taken } = λ i. record { piece = kind i; cells = sym same i } in
-      false≢true (sym unset ∙ bits k (are.each k low mark there taken (subst (SomeHas mark.tilings.tilings.items) laid_is some)));
-}
 
 -- ---- places of marks
 

@@ -5,8 +5,6 @@ use Rattle.lane_board.specs.Field.{Field}
 use Rattle.lane_board.specs.Lanes.{has_bit}
 use Rattle.srs.specs.declared.placement.Placement.{Placement}
 use Rattle.empty_cells.specs.SentCells.{sent_cells}
-use Rattle.tiled_pieces.specs.declared.standing.StandingPieces.{StandingPieces}
-use Rattle.tiled_pieces.specs.Standing.{StandsIn}
 use Rattle.tiled_pieces.specs.TilingLists.{ListsAll, SomeHas}
 use Rattle.percent.specs.declared.marks.Mark.{Mark}
 use Rattle.percent.specs.Fitting.{codes_with, supply_by}
@@ -26,11 +24,6 @@ pub record HasMarkAt (known : List Mark) (place : ℕ) (counts : List ℕ) : Typ
 pub record IsStanding (known : List Mark) (rows : List ℕ) (q : Placement) (standing : ℕ) : Type 0 where
   pub none : (k : ℕ) → k < 64 → has_bit standing k ≡ false → (mark : Mark) → slice_get known k ≡ Some mark
       → SomeHas mark.tilings.tilings.items (record { piece = q.piece; cells = sent_cells rows q }) → ⊥
-
--- each piece of a kind in the tilings of one of the first 64 marks is said to stand there
-pub record AreStanding (known : List Mark) (piece : Piece) (pieces : StandingPieces) : Type 0 where
-  pub each : (k : ℕ) → k < 64 → (mark : Mark) → slice_get known k ≡ Some mark → (cells : Field)
-      → SomeHas mark.tilings.tilings.items (record { piece = piece; cells = cells }) → StandsIn pieces k cells
 
 -- the mark at this place is of enough pieces for a rest and a piece
 pub record IsMarkOf (known : List Mark) (piece : Piece) (left rest place : ℕ) : Type 0 where

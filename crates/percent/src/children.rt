@@ -14,7 +14,7 @@ ghost use Rattle.number_sets.specs.Rising.{has};
 ghost use Rattle.percent.specs.declared.game.Game.{Game};
 ghost use Rattle.percent.specs.Children.{IsChild};
 ghost use Rattle.percent.specs.GoodHands.{is_good, is_good_after, is_good_at};
-ghost use Rattle.percent.specs.Marks.{ArePlaces, AreStanding, IsMarkOf, IsStanding};
+ghost use Rattle.percent.specs.Marks.{ArePlaces, IsMarkOf, IsStanding};
 
 use crate::game::Game;
 use crate::marks::{Asked, Marks};
@@ -26,7 +26,6 @@ use reach::{FloodRules, Steps};
 use srs::{Piece, Placement};
 use std::alloc::Global;
 use std::sync::ledger::Ledger;
-use tiled_pieces::StandingPieces;
 
 impl Marks {
     /// Whether each of the rests has a mark.
@@ -43,15 +42,18 @@ impl Marks {
         true
     }
 
-    /// Which pieces of a kind stand in the marks' tilings. List `k` is that of mark `k`.
-    fn standing(&self, alloc: Global, piece: Piece) -> Result<StandingPieces, NoMemory>
-        ensures { IfOk result (AreStanding self.now.known.items piece) }
+    /// In which of the marks' tilings a placement with these cells stands. Bit `k` stands for mark `k`.
+    fn standing(&self, placement: &Placement, taken: &Empties) -> u64
+        requires { empty_cells taken.now ≡ sent_cells self.now.rows placement.now }
+        ensures { IsStanding self.now.known.items self.now.rows placement.now result }
     {
-        let mut pieces = StandingPieces::new(alloc, piece);
+        let mut standing = 0;
         for index in 0..self.known.len().min(64) {
-            pieces.add(&self.known[index].tilings, index as u8)?;
+            if self.known[index].tilings.has(placement.piece, taken) {
+                standing |= 1 << index;
+            }
         }
-        Ok(pieces)
+        standing
     }
 
     /// Whether walls show that no pieces can fill what is left without these cells.
@@ -121,11 +123,10 @@ impl Marks {
             position.rows,
             steps,
         );
-        let pieces = self.standing(alloc, piece)?;
         let mut children = Vec::new(alloc);
         while let Some(placement) = places.take_least() {
             let taken = self.taken(&placement);
-            let standing = pieces.lists_with(&taken);
+            let standing = self.standing(&placement, &taken);
             if self.is_worth(&placement, &taken, standing, left, asked, knows_all) {
                 children.push(Child {
                     placement,

@@ -9,5 +9,4 @@ mod LaidLemmas
 mod StepLemmas
 mod StandsLemmas
 mod ListedAll
-mod StandingLemmas
 pub mod CallerLemmas

@@ -8,12 +8,10 @@ mod listed;
 mod lister;
 mod listing;
 mod path;
-mod standing;
 
 pub use list::TilingList;
 pub use listed::ListedTiling;
 pub use lister::Lister;
-pub use standing::StandingPieces;
 
 #[cfg(test)]
 mod tests;

@@ -29,24 +29,6 @@ impl ListedTiling {
         false
     }
 
-    /// Whether the piece at this place is of this kind.
-    #[inline(always)]
-    pub(crate) fn is_of(&self, place: usize, piece: Piece) -> bool
-        requires { place < 8 }
-        ensures { IsTrue result ↔ ((laid_at self.now place).piece ≡ piece) }
-    {
-        self.kinds[place].code() == piece.code()
-    }
-
-    /// The cells of the piece at this place.
-    #[inline(always)]
-    pub(crate) fn cells_at(&self, place: usize) -> Empties
-        requires { place < 8 }
-        ensures { empty_cells result ≡ (laid_at self.now place).cells }
-    {
-        self.cells[place]
-    }
-
     /// Whether the piece at this place is of this kind and has these cells.
     #[inline(always)]
     fn has_at(&self, place: usize, piece: Piece, cells: &Empties) -> bool

@@ -5,8 +5,6 @@ use Rattle.std.proofs.lemmas.List.Sorted.{All-permutation}
 use Rattle.well.specs.Well.{filled}
 use Rattle.percent.specs.Children.{IsChild}
 use Rattle.percent.specs.Marks.{IsMarkOf, IsStanding}
-use Rattle.empty_cells.specs.Empties.{empty_cells}
-use Rattle.percent.proofs.MarkLemmas.{standing-bits}
 use Rattle.percent.proofs.PlaceLemmas.{Entering, enter-ends, enter-more, enter-skip, enter-starts, in-any-order, low-free, taken, taken-fewer}
 use Rattle.percent.proofs.marks.Marks.children.Goals as goal
 
@@ -22,12 +20,6 @@ is_worth-requires-clause-free g c =
     let p = c.args.self.now.position in
     low-free c.args.game.now (filled p.well) p.rows c.args.piece c.in-Some.placement
     (taken c.args.game.now (filled p.well) p.rows c.args.piece c.args.left c.args.asked.now.rests.items c.loop-placement.children.items c.loop-placement.places c.take_least.new.self c.in-Some.placement c.loop-placement.invariant.0 c.in-Some.ensures.least c.in-Some.ensures.rest)
-
-pub is_worth-requires-clause-standing : goal.is_worth-requires-clause-standing
-is_worth-requires-clause-standing g c =
-    let p = c.args.self.now.position in
-    let low = taken c.args.game.now (filled p.well) p.rows c.args.piece c.args.left c.args.asked.now.rests.items c.loop-placement.children.items c.loop-placement.places c.take_least.new.self c.in-Some.placement c.loop-placement.invariant.0 c.in-Some.ensures.least c.in-Some.ensures.rest in
-    standing-bits c.args.self.now.known.items c.args.self.now.rows c.args.piece c.in_ok-pieces.pieces c.in-Some.placement (empty_cells c.taken-taken.result) c.lists_with-standing.result c.in_ok-pieces.ensures low.kind c.taken-taken.ensures c.lists_with-standing.ensures
 
 pub is_worth-requires-clause-below : goal.is_worth-requires-clause-below
 is_worth-requires-clause-below g c =
@@ -57,22 +49,22 @@ loop-placement-smaller g c =
     let p = c.args.self.now.position in
     taken-fewer c.args.game.now (filled p.well) p.rows c.args.piece c.args.left c.args.asked.now.rests.items c.loop-placement.children.items c.loop-placement.places c.take_least.new.self c.in-Some.placement c.loop-placement.invariant.0 c.in-Some.ensures.least c.in-Some.ensures.rest
 
-pub loop-placement-smaller-in-Continue-branch-2 : goal.loop-placement-smaller-in-Continue-branch-2
-loop-placement-smaller-in-Continue-branch-2 g c =
+pub loop-placement-smaller-in-Continue-1 : goal.loop-placement-smaller-in-Continue-1
+loop-placement-smaller-in-Continue-1 g c =
     let p = c.args.self.now.position in
     taken-fewer c.args.game.now (filled p.well) p.rows c.args.piece c.args.left c.args.asked.now.rests.items c.loop-placement.children.items c.loop-placement.places c.take_least.new.self c.in-Some.placement c.loop-placement.invariant.0 c.in-Some.ensures.least c.in-Some.ensures.rest
 
-pub loop-placement-preserved-in-Continue-branch-2 : goal.loop-placement-preserved-in-Continue-branch-2
-loop-placement-preserved-in-Continue-branch-2 g c =
+pub loop-placement-preserved-in-Continue-1 : goal.loop-placement-preserved-in-Continue-1
+loop-placement-preserved-in-Continue-1 g c =
     let p = c.args.self.now.position in
     let low = taken c.args.game.now (filled p.well) p.rows c.args.piece c.args.left c.args.asked.now.rests.items c.loop-placement.children.items c.loop-placement.places c.take_least.new.self c.in-Some.placement c.loop-placement.invariant.0 c.in-Some.ensures.least c.in-Some.ensures.rest in (
       subst (λ l. Entering c.args.game.now (filled p.well) p.rows c.args.piece c.args.left c.args.asked.now.rests.items l c.take_least.new.self) (sym c.in_ok-push.ensures.items)
           (enter-more c.args.game.now (filled p.well) p.rows c.args.piece c.args.left c.args.asked.now.rests.items c.loop-placement.children.items c.loop-placement.places c.take_least.new.self c.in-Some.placement c.loop-placement.invariant.0 c.in-Some.ensures.least c.in-Some.ensures.rest
-          (record { placement = c.in-Some.placement; position = c.after.result; standing = c.lists_with-standing.result })
+          (record { placement = c.in-Some.placement; position = c.after.result; standing = c.standing-standing.result })
           (record { kind = low.kind; free = low-free c.args.game.now (filled p.well) p.rows c.args.piece c.in-Some.placement low; below = low.below; field = c.after.ensures.field; left = c.after.ensures.rows })
           c.after.ensures.field c.after.ensures.rows),
       subst (All (λ child. IsStanding c.args.self.now.known.items c.args.self.now.rows child.placement child.standing)) (sym c.in_ok-push.ensures.items)
-          (All-push (λ child. IsStanding c.args.self.now.known.items c.args.self.now.rows child.placement child.standing) c.loop-placement.children.items _ c.loop-placement.invariant.1 (standing-bits c.args.self.now.known.items c.args.self.now.rows c.args.piece c.in_ok-pieces.pieces c.in-Some.placement (empty_cells c.taken-taken.result) c.lists_with-standing.result c.in_ok-pieces.ensures low.kind c.taken-taken.ensures c.lists_with-standing.ensures)),
+          (All-push (λ child. IsStanding c.args.self.now.known.items c.args.self.now.rows child.placement child.standing) c.loop-placement.children.items _ c.loop-placement.invariant.1 c.standing-standing.ensures),
     )
 
 pub loop-placement-preserved : goal.loop-placement-preserved

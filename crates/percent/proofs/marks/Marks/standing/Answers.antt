@@ -1,30 +1,30 @@
 -- One mark after the other.
-use Rattle.std.proofs.Common.{◌≤◌, ◌⊎◌, ◌∙◌, length, refl, subst, inl, inr, arith}
-use Rattle.std.proofs.lemmas.Bool.{cases_lt}
+use Rattle.std.proofs.Common.{◌≤◌, ◌⊎◌, length, refl, sym, subst, ◌∙◌, inl, inr, arith}
+use Rattle.std.proofs.lemmas.Bool.{cases_lt, false≢true}
 use Rattle.std.proofs.lemmas.Option.{slice_get_read}
 use Rattle.lane_board.specs.Field.{Field}
-use Rattle.tiled_pieces.specs.Standing.{StandsIn}
 use Rattle.tiled_pieces.specs.TilingLists.{SomeHas}
-use Rattle.percent.specs.declared.marks.Mark.{Mark}
-use Rattle.percent.proofs.MarkLemmas.{standing-ends, standing-more, standing-starts}
+use Rattle.percent.proofs.MarkLemmas.{standing-ends, standing-more, standing-pass, standing-starts}
 use Rattle.percent.proofs.marks.Marks.standing.Goals as goal
+use Rattle.percent.proofs.marks.Marks.standing.Goals.{then-has, else-has}
 
 pub loop-index-init : goal.loop-index-init
-loop-index-init c = (c.new-pieces.ensures, standing-starts c.args.self.now.known.items c.args.piece c.new-pieces.result)
+loop-index-init c = standing-starts c.args.self.now.known.items c.args.self.now.rows c.args.placement.now 0
 
 pub loop-index-preserved : goal.loop-index-preserved
 loop-index-preserved c =
     let known = c.args.self.now.known.items in
+    let rows = c.args.self.now.rows in
+    let q = c.args.placement.now in
     let index = c.loop-index.index in
-    let mark : Mark = c.index.result.now in
-    let new = c.add.new.self in
-    let so_far = c.loop-index.invariant in
-    let added = c.in_ok-add.ensures in (
-      added.piece ∙ so_far.0,
-      standing-more known c.args.piece c.loop-index.pieces new index mark
-          (slice_get_read known _ index mark refl (omega (arith, c.loop-index-test.true, c.min-index-end.ensures, c.len.ensures)) c.index.ensures) so_far.1 added.kept
-          (subst (λ piece. (cells : Field) → SomeHas mark.tilings.tilings.items (record { piece = piece; cells = cells }) → StandsIn new index cells) so_far.0 added.added),
-    )
+    elim c.if-has.branch [
+      | then-has w ↦ rw w.standing-is (standing-more known rows q c.loop-index.standing index (omega (arith, c.loop-index-test.true, c.min-index-end.ensures)) c.loop-index.invariant)
+      | else-has w ↦
+          rw w.standing-is (standing-pass known rows q c.loop-index.standing index c.index.result.now
+          (slice_get_read known _ index c.index.result.now refl (omega (arith, c.loop-index-test.true, c.min-index-end.ensures, c.len.ensures)) c.index.ensures)
+          (λ some. false≢true (sym w.if-has.false ∙ c.has.ensures.1 (subst (λ (E : Field). SomeHas c.index.result.now.tilings.tilings.items (record { piece = q.piece; cells = E })) (sym c.requires) some)))
+          c.loop-index.invariant)
+    ]
 
 pub returns : goal.returns
 returns c =
@@ -33,4 +33,4 @@ returns c =
       | inl few ↦ inl (omega (arith, c.loop-index-test.false, c.min-index-end.ensures, c.len.ensures))
       | inr many ↦ inr (omega (arith, c.loop-index-test.false, c.min-index-end.ensures, c.len.ensures))
     ] in
-    standing-ends known c.args.piece c.loop-index.pieces c.loop-index.index all c.loop-index.invariant.1
+    standing-ends known c.args.self.now.rows c.args.placement.now c.loop-index.standing c.loop-index.index all c.loop-index.invariant
