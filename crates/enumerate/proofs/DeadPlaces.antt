@@ -17,7 +17,6 @@ use Rattle.well.specs.Well.{filled}
 use Rattle.moves.specs.declared.key.DropMode.{DropMode}
 use Rattle.place_sets.specs.declared.low_held.LowPlaces.{LowPlaces}
 use Rattle.place_sets.specs.LowPlaces.{holds, piece_of}
-use Rattle.hold_queue.specs.QueueSet.{queues_in_play}
 use Rattle.prune.specs.OnePart.{less_one}
 use Rattle.empty_cells.specs.Empties.{all_but, empty_cells, without_placement}
 use Rattle.empty_cells.specs.HasTiling.{has_tiling}
@@ -27,7 +26,6 @@ use Rattle.empty_cells.proofs.CallerLemmas.{tiling_decided}
 use Rattle.enumerate.specs.declared.frame.Frame.{Frame}
 use Rattle.enumerate.specs.Events.{Event, entered, enter}
 use Rattle.enumerate.specs.Frames.{position_of, places_left}
-use Rattle.enumerate.specs.LeavesLive.{LeavesLive}
 use Rattle.enumerate.specs.Standing.{may_lock}
 use Rattle.enumerate.specs.Position.{after_of, is_live}
 use Rattle.enumerate.specs.Turns.{AreDead, LeadsOn}
@@ -75,13 +73,9 @@ module _ (frame : Frame) (piece : Piece) (some : 1 ≤ frame.left) (supply : Sup
   -- and what leaves one leads on
   pub live_found : (q : Placement) → q.piece ≡ piece → may_lock (filled frame.well) piece q ≡ true → is_below frame.rows q ≡ true →
       has_tiling (all_but (without_placement (empty_cells frame.empties) q)) 8 (supply_of supply) ≡ true → LeadsOn frame q
+  unfolding position_of
   live_found q of_kind lockable below tiled table mode left less =
       subst (λ left. is_live left (after_of (position_of table mode frame) q) ≡ true) (omega (arith, less)) (after-tiled q of_kind lockable below table mode ∙ tiled)
-
--- what leads on leaves a live position
-pub leads-live : (frame : Frame) (q : Placement) → LeadsOn frame q → LeavesLive (filled frame.well) frame.rows (queues_in_play frame.line.queues) frame.left q
-unfolding position_of
-leads-live frame q leads = leads
 
 module _ (frame : Frame) (places : LowPlaces) (is : frame.places ≡ Some places) (words : List ℕ) (are : AreDead frame (piece_of places) words) where
   abbrev is_dead : Placement → Bool

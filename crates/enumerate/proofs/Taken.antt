@@ -19,7 +19,7 @@ use Rattle.well.specs.LockLaws.{is_below}
 use Rattle.place_sets.specs.declared.low_held.LowPlaces.{LowPlaces}
 use Rattle.place_sets.specs.LowPlaces.{holds, piece_of}
 use Rattle.hold_queue.specs.QueueSet.{queues_in_play}
-use Rattle.enumerate.specs.Frames.{places_left, position_of}
+use Rattle.enumerate.specs.Frames.{places_left}
 use Rattle.enumerate.specs.Turns.{LeadsOn}
 use Rattle.enumerate.specs.declared.frame.Frame.{Frame}
 use Rattle.enumerate.specs.Position.{may_play}
@@ -113,7 +113,6 @@ pub upcoming-taken : (frame : Frame) (places new : LowPlaces) → frame.places �
     (λ q. (places_left frame.places frame.entered ≡ q ∷ places_left (Some new) (Some q)) × ForSome (Some new) (λ p. q.piece ≡ piece_of p)
     × IsTrue (may_lock (filled frame.well) q.piece q) × IsTrue (is_below frame.rows q) × IsTrue (may_play (queues_in_play frame.line.queues) q.piece)
     × (IsTrue frame.are_live → LeadsOn frame q))
-unfolding position_of
 upcoming-taken frame places new is kind None next = (ap (λ p. places_left p frame.entered) is ∙ next.0, next.1)
 upcoming-taken frame places new is kind (Some q) next =
     let lock = frame.lockable places is q next.1 in

@@ -231,6 +231,7 @@ goes-stays table mode old new same places q prefix =
     sym (λ i. entered (enter (same.left i)) prefix (same-position table mode old new same i) q ++ stays table mode old new same places prefix i)
 
 pub leads-stays : (old new : Frame) (same : SamePosition old new) (q : Placement) → LeadsOn old q → LeadsOn new q
+unfolding position_of
 leads-stays old new same q leads = λ table mode left less.
     subst (λ n. is_live left (after_of n q) ≡ true) (sym (same-position table mode old new same)) (leads table mode left (less ∙ same.left))
 

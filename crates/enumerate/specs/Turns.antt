@@ -13,8 +13,10 @@ use Rattle.enumerate.specs.declared.turn.Turn.{Turn}
 use Rattle.enumerate.specs.declared.turn.Turn.TheVariants.{Passed, Flooded, Entered, Full, Over}
 use Rattle.well.specs.LockLaws.{is_below}
 use Rattle.well.specs.Well.{filled}
+use Rattle.hold_queue.specs.QueueSet.{queues_in_play}
 use Rattle.enumerate.specs.Standing.{may_lock}
 use Rattle.enumerate.specs.Position.{after_of, is_live}
+use Rattle.enumerate.specs.LeavesLive.{LeavesLive}
 use Rattle.enumerate.specs.Events.{Event, Tick, Flood, Found, entered, enter}
 use Rattle.enumerate.specs.Frames.{position_of, entered_placement, events_of}
 
@@ -44,8 +46,7 @@ pub record AreDead (frame : Frame) (piece : Piece) (pivots : List ℕ) : Type 0 
 
 -- where one more placement is to come, the position after this one is live
 abbrev pub LeadsOn : Frame → Placement → Type 0
-LeadsOn frame q = (table : Table) (mode : DropMode) (left : ℕ) → left + 1 ≡ frame.left →
-    is_live left (after_of (position_of table mode frame) q) ≡ true
+LeadsOn frame q = LeavesLive (filled frame.well) frame.rows (queues_in_play frame.line.queues) frame.left q
 
 -- after places of which none has these pivots the position is live
 abbrev pub AreLiveBut : Frame → LowPlaces → List ℕ → Type 0

@@ -1,6 +1,7 @@
 -- What leaves no tiling leads to a position that is not live.
 use Rattle.std.proofs.Common.{◌≡◌, ◌+◌, ◌-◌, sym, ◌∙◌, arith}
 use Rattle.empty_cells.specs.SupplyWords.{supply_of}
+use Rattle.enumerate.specs.Frames.{position_of}
 use Rattle.enumerate.proofs.TilingLaws.{live-after}
 use Rattle.enumerate.proofs.TurnLemmas.{enters-dead}
 use Rattle.enumerate.proofs.frame.Frame.is_worth.Goals as goal
@@ -15,5 +16,6 @@ returns-clause-dead c = λ is.
     (λ table mode. live-after table mode c.args.self.now c.args.placement.now (supply_of c.supply_after-supply.result) c.supply_after-supply.ensures (c.args.self.now.left - 1) less ∙ sym c.leaves_tiling.ensures ∙ is)
 
 pub returns-clause-live : goal.returns-clause-live
+unfolding position_of
 returns-clause-live c = λ is table mode left less.
     live-after table mode c.args.self.now c.args.placement.now (supply_of c.supply_after-supply.result) c.supply_after-supply.ensures left less ∙ sym c.leaves_tiling.ensures ∙ is

@@ -29,6 +29,7 @@ invariant_of-child-clause-supplied c =
     ∙ (λ i. supply_of (sym c.lead_line.ensures i) (left i))
 
 pub returns : goal.returns
+unfolding position_of
 returns c =
     let rows = c.saturating_sub-rows.ensures ∙ ap (λ k. c.args.self.now.rows - k) c.lock-removed.ensures.removed in
     let left : c.args.self.now.left - 1 + 1 ≡ c.args.self.now.left = omega (arith, c.requires.some) in

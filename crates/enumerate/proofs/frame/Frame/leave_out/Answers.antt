@@ -16,7 +16,7 @@ use Rattle.enumerate.specs.Frames.{events_of, places_left, position_of}
 use Rattle.enumerate.specs.Position.{may_play}
 use Rattle.enumerate.specs.Standing.{may_lock}
 use Rattle.enumerate.specs.LeavesLive.{LeavesLive}
-use Rattle.enumerate.proofs.DeadPlaces.{leads-live, left-out}
+use Rattle.enumerate.proofs.DeadPlaces.{left-out}
 use Rattle.enumerate.proofs.TurnLemmas.{HeldBelow, Lockable}
 use Rattle.enumerate.proofs.frame.Frame.leave_out.Goals as goal
 
@@ -43,7 +43,7 @@ invariant_of-self c =
       permitted = λ x is. subst (λ p. may_play (queues_in_play frame.line.queues) (piece_of p) ≡ true) (some_same is)
           (subst (λ p. may_play (queues_in_play frame.line.queues) p ≡ true) (sym c.leave_out.ensures.piece) (frame.permitted places c.in-Some.is));
       live = λ _ x is. subst (λ p. (q : Placement) → holds p q ≡ true → LeavesLive (filled frame.well) frame.rows (queues_in_play frame.line.queues) frame.left q) (some_same is)
-          (λ q held. leads-live frame q (c.requires.live places c.in-Some.is q (was q held) (not-true (is_dead q) (parts q held).1)));
+          (λ q held. c.requires.live places c.in-Some.is q (was q held) (not-true (is_dead q) (parts q held).1));
       same_piece = λ x is q is_q. frame.same_piece places c.in-Some.is q is_q ∙ sym c.leave_out.ensures.piece ∙ ap piece_of (some_same is);
     }
 

@@ -6,7 +6,6 @@ use Rattle.well.specs.Well.{filled}
 use Rattle.well.specs.LockLaws.{is_below}
 use Rattle.place_sets.specs.LowPlaces.{piece_of}
 use Rattle.hold_queue.specs.QueueSet.{queues_in_play}
-use Rattle.enumerate.specs.Frames.{position_of}
 use Rattle.enumerate.specs.Position.{may_play}
 use Rattle.enumerate.specs.Standing.{may_lock}
 use Rattle.enumerate.proofs.TurnLemmas.{leads-stays, none-left, one-entered, one-passed}
@@ -39,7 +38,6 @@ pub leads_on-requires-clause-below : goal.leads_on-requires-clause-below
 leads_on-requires-clause-below c = subst (λ rows. is_below rows c.in-Some.placement ≡ true) (sym c.in-Some.ensures.same.rows) c.in-Some.ensures.next.3
 
 pub leads_on-requires-clause-known : goal.leads_on-requires-clause-known
-unfolding position_of
 leads_on-requires-clause-known c = λ are_live.
     leads-stays c.loop-placement.self c.take_upcoming.new.self c.in-Some.ensures.same c.in-Some.placement (c.in-Some.ensures.next.5 (sym c.in-Some.ensures.live ∙ are_live))
 
