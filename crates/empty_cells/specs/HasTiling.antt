@@ -3,10 +3,12 @@ use Rattle.std.specs.Prelude.{ℕ, zero, suc, ◌+◌, Bool, not, ◌&&◌, ◌|
 use Rattle.std.specs.List.{list_any, list_all, range_with_len}
 use Rattle.lane_board.specs.Field.{Field, rows_below, difference}
 use Rattle.lane_board.specs.FullRows.{columns}
+use Rattle.srs.specs.declared.placement.Placement.{Placement}
 use Rattle.srs.specs.Piece.{all_pieces}
 use Rattle.prune.specs.Tiling.{Supply}
 use Rattle.prune.specs.OnePart.{less_one}
 use Rattle.empty_cells.specs.declared.span.Span.{Span}
+use Rattle.empty_cells.specs.Empties.{all_but, without_placement}
 use Rattle.empty_cells.specs.Spans.{forms_of, has_span, without_span}
 
 -- a set has no cell in the columns, below a row
@@ -31,3 +33,7 @@ can_fill (suc n) height supply E = is_empty height E
 -- the empty cells of rows 0 to rows - 1 have a tiling by the supply
 unfoldable pub has_tiling : Field → ℕ → Supply → Bool
 has_tiling F rows supply = can_fill (sum_by supply all_pieces) rows supply (difference (rows_below rows) F)
+
+-- a set of cells in rows 0 to 7 without those of a placement has a tiling by the supply
+abbrev pub leaves_tiling : Field → Placement → Supply → Bool
+leaves_tiling E placement supply = has_tiling (all_but (without_placement E placement)) 8 supply

@@ -19,7 +19,7 @@ use Rattle.place_sets.specs.declared.low_held.LowPlaces.{LowPlaces}
 use Rattle.place_sets.specs.LowPlaces.{holds, piece_of}
 use Rattle.prune.specs.OnePart.{less_one}
 use Rattle.empty_cells.specs.Empties.{all_but, empty_cells, without_placement}
-use Rattle.empty_cells.specs.HasTiling.{has_tiling}
+use Rattle.empty_cells.specs.HasTiling.{has_tiling, leaves_tiling}
 use Rattle.empty_cells.specs.SupplyWords.{supply_of}
 use Rattle.empty_cells.specs.declared.supply.SupplyWord.{SupplyWord}
 use Rattle.empty_cells.proofs.CallerLemmas.{tiling_decided}
@@ -55,7 +55,7 @@ module _ (frame : Frame) (piece : Piece) (some : 1 ≤ frame.left) (supply : Sup
     (moves : (other : Piece) → supply_of supply other ≡ min frame.left (less_one (supply_of frame.supply) piece other)) where
   -- the position after a placement is live where what it leaves has a tiling
   after-tiled : (q : Placement) → q.piece ≡ piece → may_lock (filled frame.well) piece q ≡ true → is_below frame.rows q ≡ true → (table : Table) (mode : DropMode) →
-      is_live (frame.left - 1) (after_of (position_of table mode frame) q) ≡ has_tiling (all_but (without_placement (empty_cells frame.empties) q)) 8 (supply_of supply)
+      is_live (frame.left - 1) (after_of (position_of table mode frame) q) ≡ leaves_tiling (empty_cells frame.empties) q (supply_of supply)
   after-tiled q of_kind lockable below table mode =
       let E = without_placement (empty_cells frame.empties) q in
       live-after table mode frame q (supply_of supply) (λ other. moves other ∙ ap (λ (p : Piece). min frame.left (less_one (supply_of frame.supply) p other)) (sym of_kind)) (frame.left - 1) (omega (arith, some))
@@ -63,7 +63,7 @@ module _ (frame : Frame) (piece : Piece) (some : 1 ≤ frame.left) (supply : Sup
       (ap (λ E. without_placement E q) frame.emptied) (tiling_decided (all_but E) 8 (supply_of supply)))
 
   -- what leaves no tiling has nothing to do
-  pub dead_found : (words : List ℕ) → ((q : Placement) → q.piece ≡ piece → cells_of_words words (rotation_place q.rotation) q.x q.y ≡ true → has_tiling (all_but (without_placement (empty_cells frame.empties) q)) 8 (supply_of supply) ≡ false) →
+  pub dead_found : (words : List ℕ) → ((q : Placement) → q.piece ≡ piece → cells_of_words words (rotation_place q.rotation) q.x q.y ≡ true → leaves_tiling (empty_cells frame.empties) q (supply_of supply) ≡ false) →
       AreDead frame piece words
   dead_found words none = record {
     dead = λ q of_kind lockable below is.
@@ -72,7 +72,7 @@ module _ (frame : Frame) (piece : Piece) (some : 1 ≤ frame.left) (supply : Sup
 
   -- and what leaves one leads on
   pub live_found : (q : Placement) → q.piece ≡ piece → may_lock (filled frame.well) piece q ≡ true → is_below frame.rows q ≡ true →
-      has_tiling (all_but (without_placement (empty_cells frame.empties) q)) 8 (supply_of supply) ≡ true → LeadsOn frame q
+      leaves_tiling (empty_cells frame.empties) q (supply_of supply) ≡ true → LeadsOn frame q
   unfolding position_of
   live_found q of_kind lockable below tiled table mode left less =
       subst (λ left. is_live left (after_of (position_of table mode frame) q) ≡ true) (omega (arith, less)) (after-tiled q of_kind lockable below table mode ∙ tiled)

@@ -7,8 +7,8 @@ ghost use Rattle.srs.specs.Rotation.{rotation_place};
 ghost use Rattle.well.specs.Well.{filled};
 ghost use Rattle.place_sets.specs.LowPlaces.{holds, piece_of};
 ghost use Rattle.prune.specs.Tiling.{supply_in, Tiling};
-ghost use Rattle.empty_cells.specs.Empties.{all_but, empty_cells, without_placement};
-ghost use Rattle.empty_cells.specs.HasTiling.{has_tiling};
+ghost use Rattle.empty_cells.specs.Empties.{empty_cells};
+ghost use Rattle.empty_cells.specs.HasTiling.{has_tiling, leaves_tiling};
 ghost use Rattle.empty_cells.specs.Pivots.{has_pivot};
 ghost use Rattle.empty_cells.specs.SupplyWords.{supply_of};
 ghost use Rattle.dead_memo.specs.Memo.{kept};
@@ -105,8 +105,7 @@ impl Tilings {
     ) -> bool
         requires column { placement.now.x ≤ 9 }
         requires row { placement.now.y ≤ 31 }
-        ensures { result ≡ has_tiling (all_but (without_placement (empty_cells cells.now) placement.now)) 8
-            (supply_of supply) }
+        ensures { result ≡ leaves_tiling (empty_cells cells.now) placement.now (supply_of supply) }
     {
         self.decided
             .has_tiling_by(&cells.without(placement), placement.x, supply)
@@ -140,17 +139,14 @@ impl Tilings {
             → (q.piece ≡ answers.old.piece) × (q.x ≤ 9) × (q.y ≤ 7) }
         ensures dead { (q : Placement) → q.piece ≡ answers.old.piece
             → cells_of_words result (rotation_place q.rotation) q.x q.y ≡ true
-            → has_tiling (all_but (without_placement (empty_cells answers.old.cells) q)) 8 (supply_of answers.old.supply)
-            ≡ false }
+            → leaves_tiling (empty_cells answers.old.cells) q (supply_of answers.old.supply) ≡ false }
         ensures live { (q : Placement) → IsTrue (holds places q)
             → cells_of_words result (rotation_place q.rotation) q.x q.y ≡ false
-            → has_tiling (all_but (without_placement (empty_cells answers.old.cells) q)) 8 (supply_of answers.old.supply)
-            ≡ true }
+            → leaves_tiling (empty_cells answers.old.cells) q (supply_of answers.old.supply) ≡ true }
         ensures kept { (q : Placement) → q.piece ≡ answers.old.piece
             → IsTrue (has_pivot answers.old.dead q || has_pivot answers.old.live q)
             → cells_of_words result (rotation_place q.rotation) q.x q.y ≡ false
-            → has_tiling (all_but (without_placement (empty_cells answers.old.cells) q)) 8 (supply_of answers.old.supply)
-            ≡ true }
+            → leaves_tiling (empty_cells answers.old.cells) q (supply_of answers.old.supply) ≡ true }
     {
         self.answer(answers, places);
         self.left.keep(answers);
@@ -174,10 +170,10 @@ impl Tilings {
             → (q.piece ≡ piece) × (q.x ≤ 9) × (q.y ≤ 7) }
         ensures dead { (q : Placement) → q.piece ≡ piece
             → cells_of_words result (rotation_place q.rotation) q.x q.y ≡ true
-            → has_tiling (all_but (without_placement (empty_cells cells.now) q)) 8 (supply_of supply) ≡ false }
+            → leaves_tiling (empty_cells cells.now) q (supply_of supply) ≡ false }
         ensures live { (q : Placement) → IsTrue (holds places.now q)
             → cells_of_words result (rotation_place q.rotation) q.x q.y ≡ false
-            → has_tiling (all_but (without_placement (empty_cells cells.now) q)) 8 (supply_of supply) ≡ true }
+            → leaves_tiling (empty_cells cells.now) q (supply_of supply) ≡ true }
     {
         let Some(known) = self.left.known(cells, supply, piece) else {
             let mut none = PlaceAnswers::none(cells, supply, piece);

@@ -3,8 +3,8 @@ ghost use Rattle.std.specs.Prelude.{◌≡◌, ◌≤◌, ◌||◌, IfSome, IsTr
 ghost use Rattle.lane_board.specs.Words.{cells_of_words};
 ghost use Rattle.srs.specs.declared.placement.Placement.{Placement};
 ghost use Rattle.srs.specs.Rotation.{rotation_place};
-ghost use Rattle.empty_cells.specs.Empties.{all_but, empty_cells, without_placement};
-ghost use Rattle.empty_cells.specs.HasTiling.{has_tiling};
+ghost use Rattle.empty_cells.specs.Empties.{empty_cells};
+ghost use Rattle.empty_cells.specs.HasTiling.{leaves_tiling};
 ghost use Rattle.empty_cells.specs.Pivots.{has_pivot};
 ghost use Rattle.empty_cells.specs.SupplyWords.{supply_of};
 
@@ -28,9 +28,9 @@ pub struct PlaceAnswers {
     /// The placements that leave one.
     pub live: Pivots,
     ghost live_is_true: { (q : Placement) → q.piece ≡ piece → has_pivot live q ≡ true
-        → has_tiling (all_but (without_placement (empty_cells cells) q)) 8 (supply_of supply) ≡ true },
+        → leaves_tiling (empty_cells cells) q (supply_of supply) ≡ true },
     ghost dead_is_true: { (q : Placement) → q.piece ≡ piece → has_pivot dead q ≡ true
-        → has_tiling (all_but (without_placement (empty_cells cells) q)) 8 (supply_of supply) ≡ false },
+        → leaves_tiling (empty_cells cells) q (supply_of supply) ≡ false },
 }
 
 impl PlaceAnswers {
@@ -67,8 +67,8 @@ impl PlaceAnswers {
         requires column { placement.now.x ≤ 9 }
         requires row { placement.now.y ≤ 7 }
         requires piece { placement.now.piece ≡ self.old.piece }
-        requires answer { answer ≡ has_tiling
-            (all_but (without_placement (empty_cells self.old.cells) placement.now)) 8 (supply_of self.old.supply) }
+        requires answer { answer ≡ leaves_tiling
+            (empty_cells self.old.cells) placement.now (supply_of self.old.supply) }
         ensures cells { self.new.cells ≡ self.old.cells }
         ensures supply { self.new.supply ≡ self.old.supply }
         ensures piece { self.new.piece ≡ self.old.piece }
