@@ -72,7 +72,8 @@ reason() {
     if [ -z "$changed" ]; then
         return
     elif [ "$(sum_of_sources)" = "$(sed -n 's/^sources //p' "$built")" ]; then
-        touch "$built" 2>/dev/null || true
+        # (a source that changes in this very moment must still be newer; a file's time is counted in steps of milliseconds)
+        touch -d '1 second ago' "$built" 2>/dev/null || true
     else
         echo "$changed has changed since the program was built"
     fi
