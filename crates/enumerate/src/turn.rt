@@ -1,5 +1,5 @@
 // One turn of the search at a frame.
-ghost use Rattle.std.specs.Prelude.{◌≡◌, ℕ, ◌+◌, ◌-◌, ◌≤◌, IsTrue, true, false, IfSome, MatchOption, Some, None, List, [], ◌∷◌, drop, filter, length, min, slice_index_or};
+ghost use Rattle.std.specs.Prelude.{◌≡◌, ◌+◌, ◌-◌, ◌≤◌, IsTrue, true, false, IfSome, MatchOption, Some, None, List, [], ◌∷◌, drop, filter, length, slice_index_or};
 ghost use Rattle.std.specs.Option.{ForSome};
 ghost use Rattle.srs.specs.declared.piece.Piece.{Piece};
 ghost use Rattle.srs.specs.declared.placement.Placement.{Placement};
@@ -13,7 +13,6 @@ ghost use Rattle.place_sets.specs.LowPlaces.{piece_of};
 ghost use Rattle.hold_queue.specs.QueueSet.{queues_in_play};
 ghost use Rattle.well.specs.Lock.{locked, rows_removed};
 ghost use Rattle.well.specs.LockLaws.{is_below};
-ghost use Rattle.prune.specs.OnePart.{less_one};
 ghost use Rattle.empty_cells.specs.Empties.{empty_cells};
 ghost use Rattle.empty_cells.specs.HasTiling.{has_tiling};
 ghost use Rattle.empty_cells.specs.SupplyWords.{supply_of};
@@ -180,13 +179,15 @@ impl Frame {
         requires live { LeadsOn self.now placement.now }
         ensures { Enters self.now placement.now child.new Turn.Entered }
     {
-        let (well, removed) = self.well.lock(placement);
+        child.well = self.well;
+        child.well.fill(placement);
+        self.lead_line(placement.piece, &mut child.line);
+        // (reading eight rows at once waits for single rows that were just written, so other work comes in between)
+        let removed = child.well.remove_full_rows();
         let rows = self.rows.saturating_sub(removed);
         let supply = self.supply_after(placement.piece);
-        child.well = well;
         child.rows = rows;
-        child.empties = self.empties_after(placement, &well, rows, removed);
-        self.lead_line(placement.piece, &mut child.line);
+        child.empties = self.empties_after(placement, &child.well, rows, removed);
         child.supply = supply;
         child.limited = supply.at_most(self.left - 1);
         child.next_kind = None;

@@ -48,14 +48,25 @@ impl<const N: usize> LaneBoard<N> {
         self.rows[y as usize]
     }
 
+    /// Adds the cell in column `x` and row `y`.
+    #[inline(always)]
+    pub fn fill(&mut self, x: u8, y: u8)
+        requires column { x ≤ 9 }
+        requires row { y < N }
+        ensures { field_of self.new ≡ with_cell (field_of self.old) x y }
+    {
+        self.rows[y as usize] |= 1 << x;
+    }
+
     /// The board plus the cell in column `x` and row `y`.
+    #[inline(always)]
     pub fn with(&self, x: u8, y: u8) -> LaneBoard<N>
         requires column { x ≤ 9 }
         requires row { y < N }
         ensures { field_of result ≡ with_cell (field_of self.now) x y }
     {
-        let mut rows = self.rows;
-        rows[y as usize] |= 1 << x;
-        LaneBoard { rows }
+        let mut board = *self;
+        board.fill(x, y);
+        board
     }
 }

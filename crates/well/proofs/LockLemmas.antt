@@ -186,3 +186,13 @@ stays_below F q height within below placed x y above =
 pub removes_below : RemovesBelow
 unfolding rows_removed
 removes_below F q height within below placed = omega (arith, full_below_height (together F q) height within (together_below F q height below placed), full_below-le (together F q) height)
+
+-- locking is filling, and then removing the full rows
+module _ (F G : Field) (q : Placement) (filling : G ≡ together F q) where
+  pub locked-by : (H : Field) → H ≡ without_full_rows G 23 → H ≡ locked F q
+  unfolding locked
+  locked-by H removing = removing ∙ ap (λ F. without_full_rows F 23) filling
+
+  pub removed-by : (removed : ℕ) → removed ≡ full_below G 23 → removed ≡ rows_removed F q
+  unfolding rows_removed
+  removed-by removed counted = counted ∙ ap (λ F. full_below F 23) filling

@@ -106,7 +106,10 @@ impl Well {
         ensures field { filled result.0 ≡ locked (filled self.now) placement.now }
         ensures removed { result.1 ≡ rows_removed (filled self.now) placement.now }
     {
-        self.with_placement(placement).without_full_rows()
+        let mut well = *self;
+        well.fill(placement);
+        let removed = well.remove_full_rows();
+        (well, removed)
     }
 
     /// Whether a pair of column and row is an empty cell of the well.
@@ -120,35 +123,37 @@ impl Well {
         !self.cell(x as u8, y as u8)
     }
 
-    /// The same well, with the placement's cells filled.
-    fn with_placement(&self, placement: &Placement) -> Well
-        requires { IsTrue (is_free (filled self.now) placement.now) }
-        ensures { filled result ≡ together (filled self.now) placement.now }
+    /// Fills the placement's cells. Full rows stay.
+    #[inline(always)]
+    pub fn fill(&mut self, placement: &Placement)
+        requires { IsTrue (is_free (filled self.old) placement.now) }
+        ensures { filled self.new ≡ together (filled self.old) placement.now }
     {
         let [a, b, c, d] = cells(placement);
-        self.with_place(a).with_place(b).with_place(c).with_place(d)
+        self.fill_cell(a);
+        self.fill_cell(b);
+        self.fill_cell(c);
+        self.fill_cell(d);
     }
 
-    /// The same well, with the cell at this column and row filled.
-    fn with_place(&self, cell: (i8, i8)) -> Well
+    /// Fills the cell at this column and row.
+    #[inline(always)]
+    fn fill_cell(&mut self, cell: (i8, i8))
         requires { IsTrue (in_well cell) }
-        ensures { filled result ≡ with_place (filled self.now) cell }
+        ensures { filled self.new ≡ with_place (filled self.old) cell }
     {
         let (x, y) = cell;
-        self.with(x as u8, y as u8)
+        self.board.fill(x as u8, y as u8);
     }
 
-    /// The well without its full rows, and how many there were. Every other cell moves down by the number of full rows
-    /// below it.
-    fn without_full_rows(&self) -> (Well, u8)
-        ensures field { filled result.0 ≡ without_full_rows (filled self.now) 23 }
-        ensures removed { result.1 ≡ full_below (filled self.now) 23 }
+    /// Removes the full rows and returns how many there were. Every other cell moves down by the number of full rows below
+    /// it.
+    #[inline(always)]
+    pub fn remove_full_rows(&mut self) -> u8
+        ensures field { filled self.new ≡ without_full_rows (filled self.old) 23 }
+        ensures removed { result ≡ full_below (filled self.old) 23 }
     {
-        let removed = self.board.full_rows().count_ones();
-        let well = Well {
-            board: self.board.without_full_rows(),
-        };
-        (well, removed as u8)
+        self.board.remove_full_rows() as u8
     }
 
     /// How many cells of the rows below `height` are empty.

@@ -40,4 +40,19 @@ impl<const N: usize> LaneBoard<N> {
         }
         LaneBoard { rows }
     }
+
+    /// Removes the full rows and returns how many there were. Every other cell moves down by the number of full rows
+    /// below it.
+    #[inline(always)]
+    pub fn remove_full_rows(&mut self) -> u32
+        ensures cells { field_of self.new ≡ without_full_rows (field_of self.old) N }
+        ensures number { result ≡ full_below (field_of self.old) N }
+    {
+        let full = self.full_rows();
+        if full == 0 {
+            return 0;
+        }
+        *self = self.without_full_rows();
+        full.count_ones()
+    }
 }

@@ -10,7 +10,7 @@ use Rattle.well.specs.Lock.{with_place}
 use Rattle.well.specs.Well.{filled}
 use Rattle.well.proofs.FreeLemmas.{free_inside, free_pivot_inside}
 use Rattle.well.proofs.LockLemmas.{together_of}
-use Rattle.well.proofs.well.Well.with_placement.Goals as goal
+use Rattle.well.proofs.well.Well.fill.Goals as goal
 
 each_in_well : (F : Field) (q : Placement) (cells : List Cell) (k : ℕ) → cells ≡ cells_of q → is_free F q ≡ true → k < 4 → in_well (get_or cells k (pos 0, pos 0)) ≡ true
 each_in_well F q cells k e free below =
@@ -22,22 +22,22 @@ cells-requires-clause-column c = omega (arith, (free_pivot_inside _ c.args.place
 pub cells-requires-clause-row : goal.cells-requires-clause-row
 cells-requires-clause-row c = omega (arith, (free_pivot_inside _ c.args.placement.now c.requires).in_rows)
 
-pub with_place-requires : goal.with_place-requires
-with_place-requires c = each_in_well _ c.args.placement.now c.cells.result 0 c.cells.ensures c.requires (omega arith)
+pub fill_cell-requires : goal.fill_cell-requires
+fill_cell-requires c = each_in_well _ c.args.placement.now c.cells.result 0 c.cells.ensures c.requires (omega arith)
 
-pub with_place-requires-2 : goal.with_place-requires-2
-with_place-requires-2 c = each_in_well _ c.args.placement.now c.cells.result 1 c.cells.ensures c.requires (omega arith)
+pub fill_cell-requires-2 : goal.fill_cell-requires-2
+fill_cell-requires-2 c = each_in_well _ c.args.placement.now c.cells.result 1 c.cells.ensures c.requires (omega arith)
 
-pub with_place-requires-3 : goal.with_place-requires-3
-with_place-requires-3 c = each_in_well _ c.args.placement.now c.cells.result 2 c.cells.ensures c.requires (omega arith)
+pub fill_cell-requires-3 : goal.fill_cell-requires-3
+fill_cell-requires-3 c = each_in_well _ c.args.placement.now c.cells.result 2 c.cells.ensures c.requires (omega arith)
 
-pub with_place-requires-4 : goal.with_place-requires-4
-with_place-requires-4 c = each_in_well _ c.args.placement.now c.cells.result 3 c.cells.ensures c.requires (omega arith)
+pub fill_cell-requires-4 : goal.fill_cell-requires-4
+fill_cell-requires-4 c = each_in_well _ c.args.placement.now c.cells.result 3 c.cells.ensures c.requires (omega arith)
 
 pub returns : goal.returns
 returns c =
-    c.with_place-4.ensures
-    ∙ ap (λ F. with_place F (get_or c.cells.result 3 (pos 0, pos 0))) (c.with_place-3.ensures
-    ∙ ap (λ F. with_place F (get_or c.cells.result 2 (pos 0, pos 0))) (c.with_place-2.ensures
-    ∙ ap (λ F. with_place F (get_or c.cells.result 1 (pos 0, pos 0))) c.with_place.ensures))
+    c.fill_cell-4.ensures
+    ∙ ap (λ F. with_place F (get_or c.cells.result 3 (pos 0, pos 0))) (c.fill_cell-3.ensures
+    ∙ ap (λ F. with_place F (get_or c.cells.result 2 (pos 0, pos 0))) (c.fill_cell-2.ensures
+    ∙ ap (λ F. with_place F (get_or c.cells.result 1 (pos 0, pos 0))) c.fill_cell.ensures))
     ∙ together_of (filled c.args.self.now) c.args.placement.now c.cells.result (pos 0, pos 0) c.cells.ensures
