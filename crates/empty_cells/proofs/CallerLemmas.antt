@@ -6,7 +6,6 @@ pub use Rattle.empty_cells.proofs.FormLemmas.{form, form_at, form_of_place, form
 pub use Rattle.empty_cells.proofs.HasTilingLemmas.{answer-from_right, right-from_answer, tiling_decided}
 pub use Rattle.empty_cells.proofs.Mirrors.{both_tiled}
 pub use Rattle.empty_cells.proofs.MovedTilings.{both_moved, first_moved}
-pub use Rattle.empty_cells.proofs.PivotLemmas.{no_pivot, no_words}
 pub use Rattle.empty_cells.proofs.RowLemmas.{bit_from_may, may_from_bit, was_unset}
 pub use Rattle.empty_cells.proofs.SameTilings.{left_by_placement, tiling_below}
 pub use Rattle.empty_cells.proofs.ShiftedLemmas.{shifted_small}

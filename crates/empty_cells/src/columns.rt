@@ -2,7 +2,7 @@
 ghost use Rattle.std.specs.Prelude.{◌≡◌, ◌≤◌, ◌↔◌, ◌+◌, ◌*◌, IsTrue, sum_by};
 ghost use Rattle.std.specs.List.{range_with_len};
 ghost use Rattle.prune.specs.Tiling.{Supply, Tiling};
-ghost use Rattle.prune.specs.Counts.{column_empties, run_empties};
+ghost use Rattle.prune.specs.Counts.{column_empties};
 ghost use Rattle.prune.specs.Walls.{IsWall, HasUnevenPart};
 ghost use Rattle.empty_cells.specs.Empties.{all_but, empty_cells};
 ghost use Rattle.empty_cells.specs.SupplyWords.{supply_of};

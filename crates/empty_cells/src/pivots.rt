@@ -45,21 +45,6 @@ impl Pivots {
         self.rotations
     }
 
-    /// Whether a placement is one of these.
-    #[inline(always)]
-    pub fn has(&self, placement: &Placement) -> bool
-        ensures { result ≡ has_pivot self.now placement.now }
-    {
-        if 15 < placement.x {
-            return false;
-        }
-        if 7 < placement.y {
-            return false;
-        }
-        let (word, bit) = place_of(placement);
-        self.rotations[word] >> bit & 1 == 1
-    }
-
     /// Adds a placement.
     #[inline(always)]
     pub fn add(&mut self, placement: &Placement)

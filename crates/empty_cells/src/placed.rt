@@ -1,17 +1,14 @@
 // The cells that a placement leaves.
 ghost use Rattle.std.specs.Prelude.{◌≡◌, ◌≤◌, ◌+◌, ◌*◌, ◌&&◌, ℕ, nat_le, pos};
-ghost use Rattle.std.specs.List.{list_all};
 ghost use Rattle.lane_board.specs.Lanes.{has_bit};
 ghost use Rattle.srs.specs.Cells.{cells_of};
 ghost use Rattle.srs.specs.SameCells.{is_among};
-ghost use Rattle.empty_cells.specs.Empties.{empty_cells, has_cell, without_placement};
+ghost use Rattle.empty_cells.specs.Empties.{empty_cells, without_placement};
 ghost use Rattle.empty_cells.specs.ShapeBits.{shape_bits};
 ghost use Rattle.srs.specs.declared.placement.Placement.{Placement};
 
 use crate::empties::Empties;
-use crate::rows::has_row;
-use crate::span::Span;
-use srs::{Piece, Placement, Rotation, cells};
+use srs::{Piece, Placement, Rotation};
 
 impl Empties {
     /// The set without the cells of a placement.
@@ -22,28 +19,6 @@ impl Empties {
         ensures { empty_cells result ≡ without_placement (empty_cells self.now) placement.now }
     {
         self.without_bits(bits_of(placement))
-    }
-
-    /// Whether the set has all cells of a placement.
-    #[inline(always)]
-    pub fn has_all(&self, placement: &Placement) -> bool
-        requires column { placement.now.x ≤ 31 }
-        requires row { placement.now.y ≤ 31 }
-        ensures { result ≡ list_all (has_cell (empty_cells self.now)) (cells_of placement.now) }
-    {
-        cells(placement).iter().all(|cell| self.has(*cell))
-    }
-
-    /// Whether the set has the cell at this column and row.
-    #[inline(always)]
-    fn has(&self, cell: (i8, i8)) -> bool
-        ensures { result ≡ has_cell (empty_cells self.now) cell }
-    {
-        let (x, y) = cell;
-        if x < 0 || 9 < x || y < 0 || 7 < y {
-            return false;
-        }
-        has_row(self.rows_with(x as u8, Span::First), y as u8)
     }
 }
 

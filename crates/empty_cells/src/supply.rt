@@ -1,5 +1,5 @@
 // How many pieces of each kind there are.
-ghost use Rattle.std.specs.Prelude.{◌≡◌, ℕ, length};
+ghost use Rattle.std.specs.Prelude.{◌≡◌};
 ghost use Rattle.prune.specs.OnePart.{less_one};
 ghost use Rattle.prune.specs.Tiling.{supply_in};
 
