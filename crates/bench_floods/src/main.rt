@@ -2,7 +2,7 @@
 // floods three fixed fields with either drop mode; `task_of` says what further arguments ask for.
 #![tactic(auto)]
 
-ghost use Rattle.std.specs.Prelude.{◌≡◌, ◌<◌, ◌≤◌};
+ghost use Rattle.std.specs.Prelude.{◌≡◌, ◌<◌};
 ghost use Rattle.well.specs.Well.{filled};
 ghost use Rattle.moves.specs.Sky.{IsClearFrom};
 

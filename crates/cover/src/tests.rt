@@ -1,5 +1,5 @@
 // Sequences that clear a small field, and the queues that they cover.
-ghost use Rattle.std.specs.Prelude.{◌≡◌, ◌≤◌, ◌<◌};
+ghost use Rattle.std.specs.Prelude.{◌≡◌, ◌<◌};
 ghost use Rattle.problem.specs.Problem.{IsFit};
 
 use crate::CoverSet;

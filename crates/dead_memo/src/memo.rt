@@ -2,7 +2,7 @@
 ghost use Rattle.std.specs.Prelude.{◌≡◌, ◌≤◌, false, IsTrue, ◌↔◌, [], length, Contains, IfOk, OnOk, OnErr};
 ghost use Rattle.well.specs.Well.{filled};
 ghost use Rattle.prune.specs.Tiling.{Tiling, supply_in};
-ghost use Rattle.dead_memo.specs.Question.{question, HasNoTiling};
+ghost use Rattle.dead_memo.specs.Question.{question};
 ghost use Rattle.dead_memo.specs.Use.{IsUsed, IsNoted};
 ghost use Rattle.dead_memo.specs.Keys.{AreDead};
 

@@ -1,5 +1,5 @@
 // The step from one solution to the next.
-ghost use Rattle.std.specs.Prelude.{◌≡◌, ℕ, ◌+◌, ◌<◌, ◌≤◌, Bool, true, IsTrue, MatchOption, [], ◌∷◌, length, nat_lt, take};
+ghost use Rattle.std.specs.Prelude.{◌≡◌, ◌+◌, ◌<◌, ◌≤◌, true, IsTrue, [], length, nat_lt, take};
 ghost use Rattle.reach.specs.FloodRules.{flood_table};
 ghost use Rattle.enumerate.specs.Counted.{CountsUp};
 ghost use Rattle.enumerate.specs.Events.{found, floods};

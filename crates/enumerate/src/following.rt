@@ -1,5 +1,5 @@
 // What may still be played after a piece of one kind, known for all its places.
-ghost use Rattle.std.specs.Prelude.{◌≡◌, ◌+◌, IsTrue, min};
+ghost use Rattle.std.specs.Prelude.{◌≡◌, IsTrue, min};
 ghost use Rattle.srs.specs.declared.piece.Piece.{Piece};
 ghost use Rattle.hold_queue.specs.QueueSet.{queues_in_play};
 ghost use Rattle.prune.specs.OnePart.{less_one};

@@ -1,5 +1,5 @@
 // One level of the search: a position, and which of its next placements are still to be searched.
-ghost use Rattle.std.specs.Prelude.{◌≡◌, ℕ, ◌+◌, ◌≤◌, IsTrue, min};
+ghost use Rattle.std.specs.Prelude.{◌≡◌, ◌+◌, ◌≤◌, IsTrue, min};
 ghost use Rattle.std.specs.Option.{ForSome};
 ghost use Rattle.lane_board.specs.Field.{difference, rows_below};
 ghost use Rattle.srs.specs.declared.piece.Piece.{Piece};

@@ -1,5 +1,5 @@
 // The search for solutions.
-ghost use Rattle.std.specs.Prelude.{◌≡◌, ℕ, ◌-◌, ◌≤◌, IsTrue, filter, take, None};
+ghost use Rattle.std.specs.Prelude.{◌≡◌, ◌-◌, ◌≤◌, IsTrue, filter, take, None};
 ghost use Rattle.srs.specs.Order.{sequence_cmp};
 ghost use Rattle.srs.specs.Rules.{table_of};
 ghost use Rattle.srs.specs.Rising.{is_above};

@@ -1,11 +1,11 @@
 // Moving frames to a given sequence, so that the search goes on with what comes after it.
-ghost use Rattle.std.specs.Prelude.{◌≡◌, ◌↔◌, ℕ, suc, ◌+◌, ◌-◌, ◌<◌, ◌≤◌, true, IsTrue, MatchOption, Some, Contains, [], ◌∷◌, length, take, drop, slice_index_or};
+ghost use Rattle.std.specs.Prelude.{◌≡◌, ◌↔◌, suc, ◌+◌, ◌-◌, ◌<◌, ◌≤◌, true, IsTrue, Some, Contains, [], length, take, slice_index_or};
 ghost use Rattle.std.specs.Option.{ForSome};
 ghost use Rattle.reach.specs.FloodRules.{flood_table};
 ghost use Rattle.place_sets.specs.LowPlaces.{piece_of};
 ghost use Rattle.enumerate.specs.Counted.{CountsUp};
 ghost use Rattle.enumerate.specs.Events.{sought};
-ghost use Rattle.enumerate.specs.Frames.{has_room, path_of, places_left, position_of, stacked};
+ghost use Rattle.enumerate.specs.Frames.{has_room, places_left, position_of, stacked};
 ghost use Rattle.enumerate.specs.declared.frame.Frame.{Frame};
 ghost use Rattle.enumerate.specs.Turns.{SamePosition};
 ghost use Rattle.enumerate.specs.Seeks.{IsFresh, IsSought, Skips, SkipsTo};

@@ -1,5 +1,5 @@
 // Starting a search, and going from solution to solution.
-ghost use Rattle.std.specs.Prelude.{◌≡◌, ℕ, ◌+◌, ◌-◌, ◌≤◌, ◌&&◌, nat_lt, length, List, IfOk, IsTrue, All, MatchOption, Some, None, [], ◌∷◌, Contains, take, ⊤};
+ghost use Rattle.std.specs.Prelude.{◌≡◌, ◌+◌, ◌-◌, ◌≤◌, ◌&&◌, nat_lt, length, IfOk, IsTrue, All, MatchOption, Some, None, [], ◌∷◌, Contains, take, ⊤};
 ghost use Rattle.std.specs.Option.{ForSome};
 ghost use Rattle.srs.specs.Rules.{table_of};
 ghost use Rattle.srs.specs.Order.{sequence_cmp};
@@ -19,7 +19,7 @@ ghost use Rattle.enumerate.specs.Items.{items_of};
 ghost use Rattle.enumerate.specs.Rest.{events_from, whole_from};
 ghost use Rattle.enumerate.specs.Walks.{Finds};
 ghost use Rattle.enumerate.specs.Seeks.{SkipsTo};
-ghost use Rattle.problem.specs.SolutionList.{View, IsList};
+ghost use Rattle.problem.specs.SolutionList.{IsList};
 ghost use Rattle.dead_memo.specs.Memo.{kept};
 ghost use Rattle.dead_memo.specs.Question.{HasNoTiling};
 ghost use Rattle.enumerate.specs.Work.{pairs};

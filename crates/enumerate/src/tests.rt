@@ -1,5 +1,5 @@
 // A search whose first position has no tiling, and searches that are resumed.
-ghost use Rattle.std.specs.Prelude.{◌≡◌, ◌≤◌, ◌<◌};
+ghost use Rattle.std.specs.Prelude.{◌≡◌, ◌<◌};
 ghost use Rattle.problem.specs.Problem.{IsFit};
 
 use crate::{Problem, Search, Sequence, needed};

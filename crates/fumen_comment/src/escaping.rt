@@ -1,5 +1,5 @@
 // Escaping units into text.
-ghost use Rattle.std.specs.Prelude.{◌≡◌, ℕ, ◌<◌, ◌++◌, [], All, IsOk, IfOk, OnOk};
+ghost use Rattle.std.specs.Prelude.{◌≡◌, ◌<◌, ◌++◌, [], All, IsOk, IfOk, OnOk};
 ghost use Rattle.fumen_comment.specs.Escape.{escaped, escaped_unit, hex_byte, hex_digit, IsPrintable, stays};
 
 use pc_outside::NoMemory;

@@ -1,5 +1,5 @@
 // The letters of a page's cells and rows.
-ghost use Rattle.std.specs.Prelude.{◌≡◌, ◌*◌, ◌<◌, ◌≤◌, All, length, take, drop};
+ghost use Rattle.std.specs.Prelude.{◌≡◌, ◌*◌, ◌<◌, ◌≤◌, All, take, drop};
 ghost use Rattle.std.specs.List.{prefix_len};
 ghost use Rattle.fumen_pages.specs.Cells.{IsColour};
 ghost use Rattle.fumen_pages.specs.Next.{rows_in};

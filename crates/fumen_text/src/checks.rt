@@ -1,5 +1,5 @@
 // The first fault of pages that are to be written.
-ghost use Rattle.std.specs.Prelude.{◌≡◌, ◌+◌, ◌^◌, ◌<◌, ◌≤◌, length, nat_le, nat_lt, All, OnOk, IsOk, IfOk, take, ◌==◌, true, Err, Some};
+ghost use Rattle.std.specs.Prelude.{◌≡◌, ◌+◌, ◌^◌, ◌<◌, ◌≤◌, length, nat_le, All, OnOk, IsOk, IfOk, ◌==◌, true, Err, Some};
 ghost use Rattle.std.specs.List.{list_all};
 ghost use Rattle.std.specs.Option.{ForSome, option_map_or};
 ghost use Rattle.fumen_comment.specs.Escape.{escaped, HasUnits};

@@ -2,8 +2,6 @@
 ghost use Rattle.std.specs.Prelude.{◌≡◌, ◌+◌, ◌≤◌, length, IfOk};
 ghost use Rattle.fumen_digits.specs.Answers.{Gives};
 ghost use Rattle.fumen_pages.specs.Cells.{AreCells};
-ghost use Rattle.fumen_pages.specs.Sound.{IsSound};
-ghost use Rattle.fumen_pages.specs.Reading.{page_at};
 ghost use Rattle.fumen_text.specs.Reading.{is_due, pages_of_digits, next_page_at};
 
 use crate::cells::cells_at;

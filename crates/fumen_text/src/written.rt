@@ -1,5 +1,5 @@
 // Pages as a fumen text.
-ghost use Rattle.std.specs.Prelude.{◌≡◌, ℕ, ◌<◌, ◌++◌, min, nat_eq, All, IfOk, OnOk, Err, Some};
+ghost use Rattle.std.specs.Prelude.{◌≡◌, ◌<◌, ◌++◌, min, All, IfOk, OnOk, Err, Some};
 ghost use Rattle.fumen_digits.specs.declared.dialect.Dialect.{Dialect};
 ghost use Rattle.fumen_pages.specs.declared.page.Page.{Page};
 ghost use Rattle.fumen_pages.specs.Cells.{AreCells};

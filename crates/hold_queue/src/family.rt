@@ -1,5 +1,5 @@
 // Families of sets of drawn pieces, and how drawing one more piece changes them.
-ghost use Rattle.std.specs.Prelude.{◌≡◌, ℕ, ◌<◌, ◌≤◌, ◌||◌, ◌==◌, ◌↔◌, IsTrue, true, false};
+ghost use Rattle.std.specs.Prelude.{◌≡◌, ℕ, ◌<◌, ◌||◌, ◌==◌, ◌↔◌, IsTrue, false};
 ghost use Rattle.std.specs.Int.{bit_at};
 ghost use Rattle.queue_pattern.specs.Pattern.{elements_of};
 ghost use Rattle.hold_queue.specs.Family;

@@ -1,7 +1,6 @@
 // How many pieces of one kind there are: in a pattern, held, and played.
 ghost use Rattle.std.specs.Prelude.{◌≡◌, ◌≤◌, ◌-◌, ◌==◌, length, count_by};
 ghost use Rattle.queue_pattern.specs.Queues.{is_in};
-ghost use Rattle.std.specs.Int.{bit_at};
 ghost use Rattle.srs.specs.Piece.{piece_code};
 ghost use Rattle.queue_pattern.specs.Pattern.{elements_of};
 ghost use Rattle.hold_queue.specs.Supply;

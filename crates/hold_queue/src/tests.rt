@@ -1,5 +1,4 @@
 // Which pieces may be played next, how many of each kind are left, and what is taken from a hand.
-ghost use Rattle.std.specs.Prelude.{◌≡◌};
 
 use crate::{Hand, Hold, QueueSet, Taken};
 use queue_pattern::{Pattern, Queue};

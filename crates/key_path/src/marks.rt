@@ -1,5 +1,5 @@
 // How each state of a piece was first reached.
-ghost use Rattle.std.specs.Prelude.{◌≡◌, ◌≤◌, ◌<◌, List, length, reverse, replicate};
+ghost use Rattle.std.specs.Prelude.{◌≡◌, reverse, replicate};
 ghost use Rattle.moves.specs.States.{IsPivot, state_code};
 ghost use Rattle.key_path.specs.Marks.{mark_at, with_mark, is_unseen, Traced};
 

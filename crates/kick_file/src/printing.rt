@@ -1,9 +1,7 @@
 // Printing a table.
-ghost use Rattle.std.specs.Prelude.{◌≡◌, ◌++◌, ◌∷◌, [], length, map, take, IsOk, IfOk, OnOk, OnErr, IsTrue, Ok};
+ghost use Rattle.std.specs.Prelude.{◌≡◌, ◌++◌, [], length, map, take, IsOk, IfOk, OnOk, OnErr, IsTrue, Ok};
 ghost use Rattle.std.specs.List.{list_all};
 ghost use Rattle.srs.specs.Kick.{pair_of};
-ghost use Rattle.srs.specs.Piece.{piece_letter};
-ghost use Rattle.srs.specs.Rotation.{rotation_letter};
 ghost use Rattle.srs.specs.Rules.{table_of};
 ghost use Rattle.kick_file.specs.Form.{signed_digit, offset_form, offsets_form};
 ghost use Rattle.kick_file.specs.Printed.{entry_form, entry_of, table_form};

@@ -1,6 +1,5 @@
 // Reading a table text.
 ghost use Rattle.std.specs.Prelude.{◌≡◌, IsTrue, Ok, Err, Some};
-ghost use Rattle.srs.specs.Rules.{table_of};
 ghost use Rattle.kick_file.specs.Form.{are_distinct, is_repeated};
 ghost use Rattle.kick_file.specs.Reading.{beginning, after_byte, reading_at, ended, kick_text, MovesOn, AnswersTable, is_sound_state};
 

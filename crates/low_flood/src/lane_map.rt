@@ -1,6 +1,5 @@
 // The places of a rotation on lanes: free ones, ones under an open sky, and ones at rest.
 ghost use Rattle.std.specs.Prelude.{◌≡◌, ◌≤◌, IsTrue};
-ghost use Rattle.std.specs.List.{list_all};
 ghost use Rattle.lane_board.specs.Board.{field_of};
 ghost use Rattle.lane_board.specs.Field.{rows_below, empty_field};
 ghost use Rattle.lane_board.specs.Lanes.{is_lane_count};

@@ -1,7 +1,7 @@
 // The spawn, and what one key does.
-ghost use Rattle.std.specs.Prelude.{◌≡◌, ◌≤◌, ◌≤ℤ◌, ◌⊎◌, IsTrue, pos, [], ◌∷◌};
-ghost use Rattle.srs.specs.Cells.{Cell, minus, moved, pivot_of};
-ghost use Rattle.srs.specs.Kick.{pair_of, kick_in};
+ghost use Rattle.std.specs.Prelude.{◌≡◌, ◌⊎◌, IsTrue, [], ◌∷◌};
+ghost use Rattle.srs.specs.Cells.{moved, pivot_of};
+ghost use Rattle.srs.specs.Kick.{pair_of};
 ghost use Rattle.srs.specs.Rotation.{clockwise_of, anticlockwise_of};
 ghost use Rattle.srs.specs.Rules.{table_of};
 ghost use Rattle.well.specs.Free.{is_free};

@@ -1,5 +1,5 @@
 // Unions and differences, each in one pass over two lists.
-ghost use Rattle.std.specs.Prelude.{◌≡◌, ℕ, ◌≤◌, ◌<◌, ◌+◌, ◌&&◌, ◌||◌, not, length, IfOk};
+ghost use Rattle.std.specs.Prelude.{◌≡◌, ℕ, ◌<◌, ◌+◌, ◌&&◌, ◌||◌, not, IfOk};
 ghost use Rattle.number_sets.specs.Rising.{IsRising, has};
 
 use pc_outside::NoMemory;

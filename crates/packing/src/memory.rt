@@ -1,8 +1,6 @@
 // A memory of which placements leave a tiling.
 ghost use Rattle.std.specs.Prelude.{◌≡◌, ◌≤◌, ◌||◌, IfSome, IsTrue, true, false, ⊤};
-ghost use Rattle.lane_board.specs.Words.{cells_of_words};
 ghost use Rattle.srs.specs.declared.placement.Placement.{Placement};
-ghost use Rattle.srs.specs.Rotation.{rotation_place};
 ghost use Rattle.empty_cells.specs.Empties.{empty_cells};
 ghost use Rattle.empty_cells.specs.HasTiling.{leaves_tiling};
 ghost use Rattle.empty_cells.specs.Pivots.{has_pivot};

@@ -1,5 +1,5 @@
 // The words of a caller.
-ghost use Rattle.std.specs.Prelude.{◌≡◌, ◌<◌, ◌==◌, ◌++◌, ◌∷◌, ℕ, false, All, Err, IfOk, MatchOption, length, position};
+ghost use Rattle.std.specs.Prelude.{◌≡◌, ◌<◌, ◌==◌, ◌++◌, ◌∷◌, false, All, Err, IfOk, MatchOption, position};
 ghost use Rattle.pc_words.specs.Words.{texts};
 ghost use Rattle.pc_c.specs.declared.words.NoWords.{NoWords};
 ghost use Rattle.pc_c.specs.Words.{SpellsNoWords, SpellsWords};

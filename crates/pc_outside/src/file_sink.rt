@@ -1,5 +1,5 @@
 // A sink over a writer of the standard library.
-ghost use Rattle.std.specs.Prelude.{◌≡◌, ℕ, ◌<◌, ◌≤◌, [], length, take, true, None, IsOk, IfOk, OnErr, is_ok, if◌then◌else◌};
+ghost use Rattle.std.specs.Prelude.{◌≡◌, ◌<◌, ◌≤◌, [], length, take, true, None, IsOk, IfOk, OnErr, is_ok, if◌then◌else◌};
 ghost use Rattle.pc_outside.specs.Counts.{next_count, HasCause};
 ghost use Rattle.pc_outside.specs.Writes.{Grows, WritesAll};
 

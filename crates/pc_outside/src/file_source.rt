@@ -1,5 +1,5 @@
 // A source over a reader of the standard library.
-ghost use Rattle.std.specs.Prelude.{◌≡◌, ℕ, [], true, None, IfOk, OnErr, is_ok, if◌then◌else◌};
+ghost use Rattle.std.specs.Prelude.{◌≡◌, [], true, None, IfOk, is_ok, if◌then◌else◌};
 ghost use Rattle.std.specs.Io.KnownBytes.{ReadConsumes};
 ghost use Rattle.pc_outside.specs.Counts.{next_count, HasCause};
 ghost use Rattle.pc_outside.specs.Reads.{Moves};

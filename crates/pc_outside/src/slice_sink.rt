@@ -1,5 +1,5 @@
 // A sink over a borrowed slice.
-ghost use Rattle.std.specs.Prelude.{◌≡◌, ℕ, ◌<◌, ◌↔◌, ◌++◌, ◌≤◌, [], length, take, drop, true, Some, IsOk, IsErr, OnOk, OnErr};
+ghost use Rattle.std.specs.Prelude.{◌≡◌, ◌<◌, ◌↔◌, ◌++◌, ◌≤◌, [], length, take, drop, true, Some, IsOk, IsErr, OnOk, OnErr};
 ghost use Rattle.pc_outside.specs.Counts.{next_count, HasCause};
 ghost use Rattle.pc_outside.specs.Writes.{WritesAll};
 

@@ -1,5 +1,5 @@
 // A source over a borrowed slice.
-ghost use Rattle.std.specs.Prelude.{◌≡◌, ℕ, ◌≤◌, ◌++◌, [], min, length, take, drop, true, Some, IfOk, OnErr, IsOk};
+ghost use Rattle.std.specs.Prelude.{◌≡◌, ℕ, ◌++◌, [], min, length, take, drop, true, Some, IfOk, OnErr, IsOk};
 ghost use Rattle.pc_outside.specs.Counts.{HasCause};
 ghost use Rattle.pc_outside.specs.Reads.{Moves};
 

@@ -1,5 +1,5 @@
 // The command `path`: the field, and then a line for each solution.
-ghost use Rattle.std.specs.Prelude.{◌≡◌, ◌-◌, ◌<◌, ◌≤◌, ◌++◌, [], false, Err, None, length, drop, IsOk, IfOk, OnOk, OnErr};
+ghost use Rattle.std.specs.Prelude.{◌≡◌, ◌-◌, ◌<◌, ◌≤◌, ◌++◌, [], Err, None, length, drop, IsOk, OnOk, OnErr};
 ghost use Rattle.well.specs.Well.{filled};
 ghost use Rattle.pc_outside.specs.Writes.{WritesAll};
 ghost use Rattle.enumerate.specs.ViewOf.{after_given, solutions, work};

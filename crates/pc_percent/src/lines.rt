@@ -1,5 +1,4 @@
 // The lines of queues without a perfect clear.
-ghost use Rattle.std.specs.Prelude.{◌≡◌};
 ghost use Rattle.pc_outside.specs.Counts.{HasCause};
 ghost use Rattle.pc_outside.specs.Writes.{WritesAll};
 ghost use Rattle.pc_percent.specs.Lines.{failed_form};

@@ -1,5 +1,5 @@
 // The answers for all queues of a pattern.
-ghost use Rattle.std.specs.Prelude.{◌≡◌, ℕ, ◌≤◌, IfOk, count_by, length};
+ghost use Rattle.std.specs.Prelude.{◌≡◌, ◌≤◌, IfOk, count_by, length};
 ghost use Rattle.queue_pattern.specs.Pattern.{elements_of};
 ghost use Rattle.queue_pattern.specs.Queues.{queues};
 ghost use Rattle.number_sets.specs.Rising.{IsRising};

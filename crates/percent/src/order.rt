@@ -1,5 +1,5 @@
 // In which order kinds and positions are tried. The answers are the same in any order.
-ghost use Rattle.std.specs.Prelude.{◌≡◌, ◌≤◌, ◌<◌, IsPermutation};
+ghost use Rattle.std.specs.Prelude.{◌≤◌, ◌<◌, IsPermutation};
 ghost use Rattle.srs.specs.Piece.{all_pieces};
 
 use crate::position::Child;

@@ -1,7 +1,6 @@
 // Sets of small numbers, as bits.
 ghost use Rattle.std.specs.Prelude.{◌≡◌, ℕ, ◌*◌, ◌%◌, ◌<◌, ◌≤◌, nat_lt, ◌&&◌, true, false, length, slice_index};
 ghost use Rattle.lane_board.specs.Lanes.{has_bit};
-ghost use Rattle.srs.specs.declared.rotation.Rotation.{Rotation};
 
 use crate::pivots::Pivots;
 use crate::scan::number_of;

@@ -1,6 +1,5 @@
 // How low the pivot lies if all cells of a placement lie below a row.
-ghost use Rattle.std.specs.Prelude.{◌≡◌, ℕ, ◌-◌, ◌≤◌, length, slice_index};
-ghost use Rattle.srs.specs.Cells.{Cell};
+ghost use Rattle.std.specs.Prelude.{◌≡◌, ◌-◌, length, slice_index};
 ghost use Rattle.srs.specs.Rotation.{rotation_place};
 ghost use Rattle.srs.specs.declared.rotation.Rotation.{Rotation};
 ghost use Rattle.place_sets.specs.Tops.{rows_over_pivot};

@@ -1,5 +1,5 @@
 // The elements that a text has spelled so far, within the limits of a pattern or beyond them.
-ghost use Rattle.std.specs.Prelude.{◌≡◌, ℕ, ◌+◌, ◌<◌, ◌≤◌, ◌++◌, ◌∷◌, [], List, length, IsTrue};
+ghost use Rattle.std.specs.Prelude.{◌≡◌, ◌+◌, ◌<◌, ◌≤◌, ◌++◌, ◌∷◌, [], List, length, IsTrue};
 ghost use Rattle.queue_pattern.specs.Queues.{pieces_in, falling_factor};
 ghost use Rattle.queue_pattern.specs.Sound.{is_sound};
 ghost use Rattle.queue_pattern.specs.declared.element.Element.{Element};

@@ -1,8 +1,6 @@
 // An element of a pattern.
-ghost use Rattle.std.specs.Prelude.{◌≡◌, ◌-◌, ◌==◌};
+ghost use Rattle.std.specs.Prelude.{◌≡◌, ◌-◌};
 ghost use Rattle.queue_pattern.specs.Queues.{is_in};
-ghost use Rattle.std.specs.Int.{bit_at};
-ghost use Rattle.srs.specs.Piece.{piece_code};
 
 use crate::sets::is_in;
 use srs::Piece;

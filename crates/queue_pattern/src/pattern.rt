@@ -1,5 +1,5 @@
 // Patterns, and the queues that they stand for.
-ghost use Rattle.std.specs.Prelude.{◌≡◌, ℕ, ◌≤◌, ◌<◌, length, take, IsTrue};
+ghost use Rattle.std.specs.Prelude.{◌≡◌, ◌≤◌, ◌<◌, length, take, IsTrue};
 ghost use Rattle.std.specs.List.{list_all};
 ghost use Rattle.queue_pattern.specs.Queues.{queue_len, queue_count};
 ghost use Rattle.queue_pattern.specs.Sound.{is_sound};

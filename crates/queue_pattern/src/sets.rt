@@ -1,7 +1,5 @@
 // Sets of pieces as bits: bit `c - 1` stands for the piece with code `c`.
-ghost use Rattle.std.specs.Prelude.{◌≡◌, ℕ, ◌-◌, ◌<◌, ◌≤◌, ◌==◌, length, IsTrue, Some, slice_get};
-ghost use Rattle.std.specs.Int.{bit_at};
-ghost use Rattle.srs.specs.Piece.{piece_code};
+ghost use Rattle.std.specs.Prelude.{◌≡◌, ◌-◌, ◌<◌, ◌≤◌, ◌==◌, length, Some, slice_get};
 ghost use Rattle.queue_pattern.specs.Queues.{is_in, pieces_in, others};
 ghost use Rattle.queue_pattern.specs.Grammar.{set_of};
 

@@ -1,10 +1,8 @@
 // One element of a pattern text: its set, and how many pieces are chosen.
-ghost use Rattle.std.specs.Prelude.{◌≡◌, ◌≤◌, ◌<◌, ◌+◌, ◌-◌, ◌^◌, ◌==◌, ◌&&◌, length, slice_index, IfOk, IfSome, Result, Ok, Err, IsTrue, nat_lt, nat_le, if◌then◌else◌, false, true};
-ghost use Rattle.std.specs.Int.{bit_at};
-ghost use Rattle.srs.specs.Piece.{piece_code};
+ghost use Rattle.std.specs.Prelude.{◌≡◌, ◌≤◌, ◌<◌, ◌+◌, ◌-◌, ◌^◌, ◌==◌, ◌&&◌, length, slice_index, IfOk, IfSome, Result, Ok, Err, IsTrue, false, true};
 ghost use Rattle.queue_pattern.specs.Queues.{pieces_in};
 ghost use Rattle.queue_pattern.specs.Sound.{is_sound};
-ghost use Rattle.queue_pattern.specs.Grammar.{set_of, outside, opened, listing, closed, is_gap};
+ghost use Rattle.queue_pattern.specs.Grammar.{outside, opened, listing, closed, is_gap};
 ghost use Rattle.queue_pattern.specs.Grammar;
 ghost use Rattle.queue_pattern.specs.Reading.{IsNextElement, IsNextSet, IsNext, IsChosen};
 

@@ -1,8 +1,7 @@
 // A sequence as pictures of its placements.
-ghost use Rattle.std.specs.Prelude.{◌≡◌, ◌+◌, ◌≤◌, ◌<◌, ◌++◌, [], ◌∷◌, pos, map, length};
+ghost use Rattle.std.specs.Prelude.{◌≡◌, ◌+◌, ◌≤◌, ◌<◌, ◌++◌, [], ◌∷◌, pos};
 ghost use Rattle.arrayvec.specs.ArrayVec.{array_vec_len};
-ghost use Rattle.lane_board.specs.FullRows.{columns};
-ghost use Rattle.srs.specs.Cells.{cells_of, is_inside_of};
+ghost use Rattle.srs.specs.Cells.{cells_of};
 ghost use Rattle.srs.specs.Rules.{table_of};
 ghost use Rattle.srs.specs.SameCells.{is_among};
 ghost use Rattle.well.specs.Well.{filled};

@@ -1,5 +1,5 @@
 // The text of one placement, with or without keys, read byte by byte.
-ghost use Rattle.std.specs.Prelude.{◌≡◌, ◌≤◌, ◌<◌};
+ghost use Rattle.std.specs.Prelude.{◌≡◌, ◌<◌};
 ghost use Rattle.sequence_text.specs.Reading.{step, step_at, after_row_step, keys_step, key_step, is_key_letter, may_end, unread};
 
 use placement_form::{capital_piece, digit_in, two_digit_row};

@@ -1,5 +1,5 @@
 // The cells of placements, from the shapes of the Super Rotation System.
-ghost use Rattle.std.specs.Prelude.{◌≡◌, ◌≤◌, ◌+ℤ◌, ◌≤ℤ◌, pos, IsTrue};
+ghost use Rattle.std.specs.Prelude.{◌≡◌, ◌≤◌, ◌≤ℤ◌, pos, IsTrue};
 ghost use Rattle.std.specs.List.{list_all};
 ghost use Rattle.srs.specs.Cells.{shape, moved, cells_of, in_well, is_inside_of, is_near};
 

@@ -1,5 +1,5 @@
 // Placements with the same cells, and the canonical one among them.
-ghost use Rattle.std.specs.Prelude.{◌≡◌, pos, IsTrue};
+ghost use Rattle.std.specs.Prelude.{◌≡◌, IsTrue};
 ghost use Rattle.srs.specs.Cells.{is_inside_of, pivot_of, moved};
 ghost use Rattle.srs.specs.SameCells.{HasSameCells};
 ghost use Rattle.srs.specs.Canonical.{IsCanonical, canonical_rotation, canonical_move};

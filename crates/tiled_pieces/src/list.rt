@@ -1,5 +1,5 @@
 // Lists of tilings.
-ghost use Rattle.std.specs.Prelude.{◌≡◌, ◌↔◌, IsTrue, IfOk};
+ghost use Rattle.std.specs.Prelude.{◌↔◌, IsTrue, IfOk};
 ghost use Rattle.std.specs.List.{Contains};
 ghost use Rattle.empty_cells.specs.Empties.{empty_cells};
 ghost use Rattle.tiled_pieces.specs.declared.listed.ListedTiling.{ListedTiling};

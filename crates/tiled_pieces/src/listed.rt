@@ -1,5 +1,5 @@
 // A tiling in a list.
-ghost use Rattle.std.specs.Prelude.{◌≡◌, ◌↔◌, ◌<◌, ℕ, IsTrue};
+ghost use Rattle.std.specs.Prelude.{◌≡◌, ◌↔◌, ◌<◌, IsTrue};
 ghost use Rattle.empty_cells.specs.Empties.{empty_cells};
 
 use empty_cells::Empties;

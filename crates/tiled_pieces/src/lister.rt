@@ -1,5 +1,5 @@
 // All tilings of a set of cells, found by a walk that lays one piece after the other.
-ghost use Rattle.std.specs.Prelude.{ℕ, ◌≡◌, ◌≤◌, ◌<◌, ◌↔◌, IfSome, IsTrue, [], ◌∷◌};
+ghost use Rattle.std.specs.Prelude.{◌≤◌, ◌<◌, ◌↔◌, IfSome, IsTrue, [], ◌∷◌};
 ghost use Rattle.srs.specs.declared.placement.Placement.{Placement};
 ghost use Rattle.srs.specs.Cells.{is_inside_of};
 ghost use Rattle.prune.specs.Tiling.{supply_in};

@@ -1,5 +1,4 @@
 // Where the states of a set come to rest.
-ghost use Rattle.std.specs.Prelude.{◌≡◌};
 ghost use Rattle.lane_board.specs.Board.{field_of};
 ghost use Rattle.place_sets.specs.States.{states_of};
 ghost use Rattle.whole_flood.specs.Rested.{IsRested, AreRested};
