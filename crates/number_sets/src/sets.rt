@@ -36,7 +36,7 @@ pub fn without(alloc: Global, a: &[u64], b: &[u64]) -> Result<Vec<u64>, NoMemory
     ensures members { IfOk result (λ v. (number : ℕ) →
         has v.items number ≡ (has a.now number && not (has b.now number))) }
 {
-    let mut v = Vec::new(alloc);
+    let mut v = Vec::with_capacity(alloc, a.len())?;
     let mut next = 0;
     for x in a {
         while next < b.len() && b[next] < *x {

@@ -10,6 +10,7 @@ mod MarkLemmas
 mod PlaceLemmas
 mod GoodSteps
 mod AnswerLemmas
+mod LookupLemmas
 mod TiledLemmas
 mod FittingLemmas
 mod SpreadLemmas

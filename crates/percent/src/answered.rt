@@ -55,7 +55,7 @@ fn less(
         return Ok(asked);
     }
     let rests = without(alloc, asked.rests.as_slice(), found)?;
-    marks.asked(alloc, piece, left, rests)
+    marks.asked_of(alloc, piece, left, &asked, rests)
 }
 
 /// The hands that are good at a position with one placement to come and then `left` more, given those for which no

@@ -6,8 +6,9 @@ ghost use Rattle.number_sets.specs.Rising.{IsRising};
 ghost use Rattle.problem.specs.Problem.{IsFit};
 ghost use Rattle.percent.specs.GoodHands.{AreAnswers, HasGoodHands, HasHandsBefore, is_good_queue};
 
+use crate::lookup::Starts;
 use crate::start::{good_hands, hand};
-use number_sets::{as_set, holds};
+use number_sets::as_set;
 use pc_outside::NoMemory;
 use problem::Problem;
 use reach::Steps;
@@ -56,10 +57,11 @@ fn judged(alloc: Global, problem: &Problem, all: usize, good: &[u64]) -> Result<
     if good.len() == all {
         return all_good(alloc, problem, good);
     }
+    let starts = Starts::new(alloc, good)?;
     let count = problem.pattern.count();
     let mut answers = Vec::with_capacity(alloc, count as usize)?;
     for number in 0..count {
-        answers.push(holds(good, hand(problem, number)))?;
+        answers.push(starts.has(good, hand(problem, number)))?;
     }
     Ok(answers)
 }

@@ -56,7 +56,7 @@ fn without_first(alloc: Global, code: u64, hands: &[u64]) -> Result<Vec<u64>, No
     ensures rises { IfOk result (λ v. IsRising v.items) }
     ensures members { IfOk result (λ v. (rest : ℕ) → has v.items rest ≡ has hands.now (with_first code rest)) }
 {
-    let mut v = Vec::new(alloc);
+    let mut v = Vec::with_capacity(alloc, hands.len())?;
     for hand in hands {
         if *hand % 8 == code {
             v.push(*hand / 8)?;
@@ -72,7 +72,7 @@ fn without_second(alloc: Global, code: u64, hands: &[u64]) -> Result<Vec<u64>, N
     ensures rises { IfOk result (λ v. IsRising v.items) }
     ensures members { IfOk result (λ v. (rest : ℕ) → has v.items rest ≡ has hands.now (with_second code rest)) }
 {
-    let mut v = Vec::new(alloc);
+    let mut v = Vec::with_capacity(alloc, hands.len())?;
     for hand in hands {
         if *hand / 8 % 8 == code {
             v.push(*hand / 64 * 8 + *hand % 8)?;
@@ -140,7 +140,7 @@ fn not_leading_to_some(
     ensures members { IfOk result (λ v. (hand : ℕ) → has v.items hand
         ≡ (has hands.now hand && not (takes hold (piece_code piece) (has rests.now) hand))) }
 {
-    let mut v = Vec::new(alloc);
+    let mut v = Vec::with_capacity(alloc, hands.len())?;
     for hand in hands {
         if !leaves_one_of(hold, piece, rests, *hand) {
             v.push(*hand)?;

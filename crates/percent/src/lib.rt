@@ -10,6 +10,7 @@ mod hand;
 mod kept;
 pub mod laws;
 mod listed;
+mod lookup;
 mod marks;
 mod order;
 mod position;

@@ -89,7 +89,7 @@ impl Marks {
             (sent_cells self.now.rows child.now.placement)))) }
     {
         let piece = child.placement.piece;
-        let Some(index) = self.index_with(hand, left, piece) else {
+        let Some(index) = self.index_with(hand, left, piece, None) else {
             return Ok(None);
         };
         let mark = &self.known[index as usize];
@@ -113,9 +113,11 @@ impl Marks {
         let taken = self.taken(&child.placement);
         let cells = self.cells.without_cells(&taken);
         let mut known = Vec::new(alloc);
+        let mut likely = None;
         for hand in hands {
             let counts = counts_of(*hand, left + 1);
-            if index_of(known.as_slice(), &counts).is_some() {
+            likely = index_of(known.as_slice(), &counts, likely);
+            if likely.is_some() {
                 continue;
             }
             if let Some(mark) = self.mark_after(alloc, child, left, *hand, counts, &taken)? {

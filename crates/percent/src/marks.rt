@@ -77,13 +77,28 @@ fn listed(alloc: Global, lister: &mut Lister, cells: &Empties, counts: Counts) -
     Some(Mark { counts, tilings })
 }
 
-/// The index of the mark of pieces with these counts, if it is among the first 64.
-pub fn index_of(known: &[Mark], counts: &Counts) -> Option<u8>
+/// Whether the mark at an index is of pieces with these counts, and among the first 64.
+fn is_mark_of(known: &[Mark], index: usize, counts: &Counts) -> bool
+    ensures { IsTrue result → HasMarkAt known.now index counts.now }
+{
+    if known.len().min(64) <= index {
+        return false;
+    }
+    let mark = &known[index];
+    are_same(&mark.counts, counts)
+}
+
+/// The index of the mark of pieces with these counts, if it is among the first 64. One index is looked at first.
+pub fn index_of(known: &[Mark], counts: &Counts, likely: Option<u8>) -> Option<u8>
     ensures { IfSome result (λ index. HasMarkAt known.now index counts.now) }
 {
+    if let Some(index) = likely {
+        if is_mark_of(known, index as usize, counts) {
+            return Some(index);
+        }
+    }
     for index in 0..known.len().min(64) {
-        let mark = &known[index];
-        if are_same(&mark.counts, counts) {
+        if is_mark_of(known, index, counts) {
             return Some(index as u8);
         }
     }
@@ -149,18 +164,23 @@ impl Marks {
         Ok(true)
     }
 
-    /// The index of the mark of the pieces of a rest and one more, if there is one.
-    pub fn index_with(&self, rest: u64, left: u8, piece: Piece) -> Option<u8>
+    /// The index of the mark of the pieces of a rest and one more, if there is one. One index is looked at first.
+    pub fn index_with(&self, rest: u64, left: u8, piece: Piece, likely: Option<u8>) -> Option<u8>
         requires { left ≤ 20 }
         ensures { IfSome result (λ index. IsMarkOf self.now.known.items piece left rest index) }
     {
         if self.known.is_empty() {
             return None;
         }
-        index_of(self.known.as_slice(), &counts_with(rest, left + 1, piece))
+        index_of(
+            self.known.as_slice(),
+            &counts_with(rest, left + 1, piece),
+            likely,
+        )
     }
 
-    /// These rests, with the places of their marks when a piece is placed first.
+    /// These rests, with the places of their marks when a piece is placed first. Rests side by side often have the same
+    /// pieces.
     pub fn asked(
         &self,
         alloc: Global,
@@ -174,8 +194,48 @@ impl Marks {
             asked.places.items) }
     {
         let mut places = Vec::with_capacity(alloc, rests.len())?;
+        let mut place = None;
         for rest in &rests {
-            places.push(self.index_with(*rest, left, piece))?;
+            place = self.index_with(*rest, left, piece, place);
+            places.push(place)?;
+        }
+        Ok(Asked { rests, places })
+    }
+
+    /// The place of the mark of a rest: the one that is known, if the rest stands at this index of those asked about.
+    fn place_of(&self, asked: &Asked, index: usize, rest: u64, left: u8, piece: Piece) -> Option<u8>
+        requires few { left ≤ 20 }
+        requires places { ArePlaces self.now.known.items piece left asked.now.rests.items asked.now.places.items }
+        ensures { IfSome result (IsMarkOf self.now.known.items piece left rest) }
+    {
+        if index < asked.rests.len() && asked.rests[index] == rest {
+            return asked.places[index];
+        }
+        self.index_with(rest, left, piece, None)
+    }
+
+    /// Some of the rests asked about, with their places.
+    pub fn asked_of(
+        &self,
+        alloc: Global,
+        piece: Piece,
+        left: u8,
+        asked: &Asked,
+        rests: Vec<u64>,
+    ) -> Result<Asked, NoMemory>
+        requires few { left ≤ 20 }
+        requires places { ArePlaces self.now.known.items piece left asked.now.rests.items asked.now.places.items }
+        ensures rests { IfOk result (λ asked. asked.rests.items ≡ rests.items) }
+        ensures places { IfOk result (λ asked. ArePlaces self.now.known.items piece left asked.rests.items
+            asked.places.items) }
+    {
+        let mut places = Vec::with_capacity(alloc, rests.len())?;
+        let mut next = 0;
+        for rest in &rests {
+            while next < asked.rests.len() && asked.rests[next] < *rest {
+                next += 1;
+            }
+            places.push(self.place_of(asked, next, *rest, left, piece))?;
         }
         Ok(Asked { rests, places })
     }

@@ -5,7 +5,7 @@ use Rattle.number_sets.proofs.sets.without.Goals as goal
 use Rattle.number_sets.proofs.sets.without.Goals.{then-loop-next-test+else-b-next, else-loop-next-test, then-next-b+in_ok-push, then-next-b-via-then-next-b, then-next-b-via-else-next-b+then-b-next-2, else-next-b+else-b-next-2}
 
 pub loop-x-init : goal.loop-x-init
-loop-x-init c = rw c.new-v.ensures.items (leave-starts c.args.a.now c.args.b.now)
+loop-x-init c = rw c.in_ok-v.ensures.items (leave-starts c.args.a.now c.args.b.now)
 
 pub loop-x-preserved : goal.loop-x-preserved
 loop-x-preserved c =

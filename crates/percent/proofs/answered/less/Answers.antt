@@ -13,10 +13,10 @@ returns-then-is_empty-clause-members c =
     less-none c.args.asked.rests.items c.args.found.now (nil_from_length c.args.found.now short)
 
 pub returns-clause-rises : goal.returns-clause-rises
-returns-clause-rises c = ok-map c.asked.result _ _ (λ v h. subst IsRising (sym h) c.in_ok-rests.ensures.rises) c.asked.ensures.rests
+returns-clause-rises c = ok-map c.asked_of.result _ _ (λ v h. subst IsRising (sym h) c.in_ok-rests.ensures.rises) c.asked_of.ensures.rests
 
 pub returns-clause-members : goal.returns-clause-members
 returns-clause-members c =
-    ok-map c.asked.result _ _
+    ok-map c.asked_of.result _ _
     (λ v h rest. ap (λ l. has l rest) h ∙ c.in_ok-rests.ensures.members rest ∙ ap (λ l. has l rest && not (has c.args.found.now rest)) c.as_slice.ensures.value)
-    c.asked.ensures.rests
+    c.asked_of.ensures.rests

@@ -10,8 +10,8 @@ loop-number-init c = judge-starts c.args.problem.now c.in_ok-answers.answers.ite
 pub loop-number-preserved : goal.loop-number-preserved
 loop-number-preserved c =
     rw c.in_ok-push.ensures.items
-    (judge-more c.args.problem.now c.args.good.now c.loop-number.answers.items c.loop-number.number c.hand.result c.holds.result c.requires.exact
-    (omega (arith, c.loop-number-test.true, c.count-count.ensures.number)) c.hand.ensures c.holds.ensures c.loop-number.invariant)
+    (judge-more c.args.problem.now c.args.good.now c.loop-number.answers.items c.loop-number.number c.hand.result c.has.result c.requires.exact
+    (omega (arith, c.loop-number-test.true, c.count-count.ensures.number)) c.hand.ensures c.has.ensures c.loop-number.invariant)
 
 pub returns : goal.returns
 returns c = subst (AreAnswers c.args.problem.now c.loop-number.answers.items) (omega (arith, c.loop-number-test.false, c.loop-number.auto.number-end, c.count-count.ensures.number)) c.loop-number.invariant

@@ -8,7 +8,7 @@ use Rattle.percent.proofs.hand.not_leading_to_some.Goals as goal
 use Rattle.percent.proofs.hand.not_leading_to_some.Goals.{then-not-leaves_one_of+in_ok-push, else-not-leaves_one_of}
 
 pub loop-hand-init : goal.loop-hand-init
-loop-hand-init c = rw c.new-v.ensures.items (keep-starts (λ hand. not (takes c.args.hold (piece_code c.args.piece) (has c.args.rests.now) hand)) c.args.hands.now)
+loop-hand-init c = rw c.in_ok-v.ensures.items (keep-starts (λ hand. not (takes c.args.hold (piece_code c.args.piece) (has c.args.rests.now) hand)) c.args.hands.now)
 
 pub loop-hand-preserved : goal.loop-hand-preserved
 loop-hand-preserved c =

@@ -6,7 +6,7 @@ use Rattle.percent.proofs.hand.without_first.Goals as goal
 use Rattle.percent.proofs.hand.without_first.Goals.{then-hand-code+in_ok-push, else-hand-code}
 
 pub loop-hand-init : goal.loop-hand-init
-loop-hand-init c = rw c.new-v.ensures.items (rest-starts (with_first c.args.code) c.args.hands.now)
+loop-hand-init c = rw c.in_ok-v.ensures.items (rest-starts (with_first c.args.code) c.args.hands.now)
 
 pub loop-hand-preserved : goal.loop-hand-preserved
 loop-hand-preserved c =

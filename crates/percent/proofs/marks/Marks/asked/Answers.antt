@@ -10,7 +10,7 @@ loop-rest-init c =
 pub loop-rest-preserved : goal.loop-rest-preserved
 loop-rest-preserved c =
     rw c.in_ok-push.ensures.items
-    (places-more c.args.self.now.known.items c.args.piece c.args.left c.deref-rest-items.result.now c.loop-rest.places.items c.loop-rest.rest-index c.index_with.result c.loop-rest.invariant c.index_with.ensures)
+    (places-more c.args.self.now.known.items c.args.piece c.args.left c.deref-rest-items.result.now c.loop-rest.places.items c.loop-rest.rest-index c.index_with-place.result c.loop-rest.invariant c.index_with-place.ensures)
 
 pub returns-clause-places : goal.returns-clause-places
 returns-clause-places c =

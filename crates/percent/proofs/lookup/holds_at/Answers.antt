@@ -1,0 +1,7 @@
+-- All numbers before the index are below the number, and the others above it.
+use Rattle.std.proofs.Common.{sym}
+use Rattle.percent.proofs.LookupLemmas.{between-absent}
+use Rattle.percent.proofs.lookup.holds_at.Goals as goal
+
+pub returns-then-are_above : goal.returns-then-are_above
+returns-then-are_above c = sym (between-absent c.args.numbers.now c.args.index c.args.number (c.are_below.ensures c.if-are_below.true) (c.are_above.ensures c.if-are_above.true))
