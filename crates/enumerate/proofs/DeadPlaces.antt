@@ -24,11 +24,13 @@ use Rattle.empty_cells.specs.SupplyWords.{supply_of}
 use Rattle.empty_cells.specs.declared.supply.SupplyWord.{SupplyWord}
 use Rattle.empty_cells.proofs.CallerLemmas.{tiling_decided}
 use Rattle.enumerate.specs.declared.frame.Frame.{Frame}
+use Rattle.enumerate.specs.declared.setup.Setup.{Setup}
 use Rattle.enumerate.specs.Events.{Event, entered, enter}
-use Rattle.enumerate.specs.Frames.{position_of, places_left}
+use Rattle.enumerate.specs.Frames.{places_left}
+use Rattle.enumerate.specs.Setups.{LeadsOn, position_of}
 use Rattle.enumerate.specs.Standing.{may_lock}
 use Rattle.enumerate.specs.Position.{after_of, is_live}
-use Rattle.enumerate.specs.Turns.{AreDead, LeadsOn}
+use Rattle.enumerate.specs.Turns.{AreDead}
 use Rattle.enumerate.proofs.Choices.{if_false, if_true}
 use Rattle.enumerate.proofs.PlaceLaws.{lockable-free, lockable-piece}
 use Rattle.enumerate.proofs.TilingLaws.{left-tiled, live-after}
@@ -51,46 +53,45 @@ without_dead true false above events none = refl
 without_dead true true true events none = sym (none refl refl)
 without_dead true true false events none = refl
 
-module _ (frame : Frame) (piece : Piece) (some : 1 ≤ frame.left) (supply : SupplyWord)
-    (moves : (other : Piece) → supply_of supply other ≡ min frame.left (less_one (supply_of frame.supply) piece other)) where
+module _ (setup : Setup) (piece : Piece) (some : 1 ≤ setup.left) (supply : SupplyWord)
+    (moves : (other : Piece) → supply_of supply other ≡ min setup.left (less_one (supply_of setup.supply) piece other)) where
   -- the position after a placement is live where what it leaves has a tiling
-  after-tiled : (q : Placement) → q.piece ≡ piece → may_lock (filled frame.well) piece q ≡ true → is_below frame.rows q ≡ true → (table : Table) (mode : DropMode) →
-      is_live (frame.left - 1) (after_of (position_of table mode frame) q) ≡ leaves_tiling (empty_cells frame.empties) q (supply_of supply)
+  after-tiled : (q : Placement) → q.piece ≡ piece → may_lock (filled setup.well) piece q ≡ true → is_below setup.rows q ≡ true → (table : Table) (mode : DropMode) →
+      is_live (setup.left - 1) (after_of (position_of table mode setup) q) ≡ leaves_tiling (empty_cells setup.empties) q (supply_of supply)
   after-tiled q of_kind lockable below table mode =
-      let E = without_placement (empty_cells frame.empties) q in
-      live-after table mode frame q (supply_of supply) (λ other. moves other ∙ ap (λ (p : Piece). min frame.left (less_one (supply_of frame.supply) p other)) (sym of_kind)) (frame.left - 1) (omega (arith, some))
-      ∙ sym (left-tiled (filled frame.well) E frame.rows q (supply_of supply) (has_tiling (all_but E) 8 (supply_of supply)) frame.low frame.bounded (lockable-free (filled frame.well) piece q lockable) below
-      (ap (λ E. without_placement E q) frame.emptied) (tiling_decided (all_but E) 8 (supply_of supply)))
+      let E = without_placement (empty_cells setup.empties) q in
+      live-after table mode setup q (supply_of supply) (λ other. moves other ∙ ap (λ (p : Piece). min setup.left (less_one (supply_of setup.supply) p other)) (sym of_kind)) (setup.left - 1) (omega (arith, some))
+      ∙ sym (left-tiled (filled setup.well) E setup.rows q (supply_of supply) (has_tiling (all_but E) 8 (supply_of supply)) setup.low setup.bounded (lockable-free (filled setup.well) piece q lockable) below
+      (ap (λ E. without_placement E q) setup.emptied) (tiling_decided (all_but E) 8 (supply_of supply)))
 
   -- what leaves no tiling has nothing to do
-  pub dead_found : (words : List ℕ) → ((q : Placement) → q.piece ≡ piece → cells_of_words words (rotation_place q.rotation) q.x q.y ≡ true → leaves_tiling (empty_cells frame.empties) q (supply_of supply) ≡ false) →
-      AreDead frame piece words
+  pub dead_found : (words : List ℕ) → ((q : Placement) → q.piece ≡ piece → cells_of_words words (rotation_place q.rotation) q.x q.y ≡ true → leaves_tiling (empty_cells setup.empties) q (supply_of supply) ≡ false) →
+      AreDead setup piece words
   dead_found words none = record {
     dead = λ q of_kind lockable below is.
-        enters-dead frame q below (frame.left - 1) (omega (arith, some)) (λ table mode. after-tiled q of_kind lockable below table mode ∙ none q of_kind is);
+        enters-dead setup q below (setup.left - 1) (omega (arith, some)) (λ table mode. after-tiled q of_kind lockable below table mode ∙ none q of_kind is);
   }
 
   -- and what leaves one leads on
-  pub live_found : (q : Placement) → q.piece ≡ piece → may_lock (filled frame.well) piece q ≡ true → is_below frame.rows q ≡ true →
-      leaves_tiling (empty_cells frame.empties) q (supply_of supply) ≡ true → LeadsOn frame q
-  unfolding position_of
+  pub live_found : (q : Placement) → q.piece ≡ piece → may_lock (filled setup.well) piece q ≡ true → is_below setup.rows q ≡ true →
+      leaves_tiling (empty_cells setup.empties) q (supply_of supply) ≡ true → LeadsOn setup q
   live_found q of_kind lockable below tiled table mode left less =
-      subst (λ left. is_live left (after_of (position_of table mode frame) q) ≡ true) (omega (arith, less)) (after-tiled q of_kind lockable below table mode ∙ tiled)
+      subst (λ left. is_live left (after_of (position_of table mode setup) q) ≡ true) (omega (arith, less)) (after-tiled q of_kind lockable below table mode ∙ tiled)
 
-module _ (frame : Frame) (places : LowPlaces) (is : frame.places ≡ Some places) (words : List ℕ) (are : AreDead frame (piece_of places) words) where
+module _ (frame : Frame) (places : LowPlaces) (is : frame.places ≡ Some places) (words : List ℕ) (are : AreDead frame.setup (piece_of places) words) where
   abbrev is_dead : Placement → Bool
   is_dead q = cells_of_words words (rotation_place q.rotation) q.x q.y
 
-  nothing : (table : Table) (mode : DropMode) (prefix : List Placement) (q : Placement) → holds places q ≡ true → is_dead q ≡ true → entered (enter frame.left) prefix (position_of table mode frame) q ≡ []
+  nothing : (table : Table) (mode : DropMode) (prefix : List Placement) (q : Placement) → holds places q ≡ true → is_dead q ≡ true → entered (enter frame.setup.left) prefix (position_of table mode frame.setup) q ≡ []
   nothing table mode prefix q held none =
       let lockable = frame.lockable places is q held in
-      (are.dead q (lockable-piece (filled frame.well) (piece_of places) q lockable) lockable (frame.held_below places is q held) none).same table mode prefix
+      (are.dead q (lockable-piece (filled frame.setup.well) (piece_of places) q lockable) lockable (frame.held_below places is q held) none).same table mode prefix
 
   pub left-out : (kept : LowPlaces) → piece_of kept ≡ piece_of places → ((q : Placement) → holds kept q ≡ (holds places q && not (is_dead q))) → (table : Table) (mode : DropMode) (prefix : List Placement) →
-      flat_map (entered (enter frame.left) prefix (position_of table mode frame)) (places_left (Some kept) frame.entered) ≡ flat_map (entered (enter frame.left) prefix (position_of table mode frame)) (places_left (Some places) frame.entered)
+      flat_map (entered (enter frame.setup.left) prefix (position_of table mode frame.setup)) (places_left (Some kept) frame.entered) ≡ flat_map (entered (enter frame.setup.left) prefix (position_of table mode frame.setup)) (places_left (Some places) frame.entered)
   unfolding places_left
   left-out kept same_kind held table mode prefix =
-      let walk : Placement → List Event = entered (enter frame.left) prefix (position_of table mode frame) in
+      let walk : Placement → List Event = entered (enter frame.setup.left) prefix (position_of table mode frame.setup) in
       let above : Placement → Bool = is_above placement_cmp frame.entered in
       ap (λ p. flat_map walk (filter (λ q. holds kept q && above q) (placements_of p))) same_kind
       ∙ flat_map-filters walk (λ q. holds kept q && above q) (λ q. holds places q && above q)

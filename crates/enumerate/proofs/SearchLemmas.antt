@@ -17,7 +17,8 @@ use Rattle.enumerate.specs.declared.frame.Frame.{Frame}
 use Rattle.problem.specs.Problem.{needed_of}
 use Rattle.enumerate.specs.Position.{Position, is_live, line_at, root_of}
 use Rattle.enumerate.specs.Events.{Event, begun, sought}
-use Rattle.enumerate.specs.Frames.{has_room, position_of, stacked}
+use Rattle.enumerate.specs.Frames.{has_room, stacked}
+use Rattle.enumerate.specs.Setups.{position_of}
 use Rattle.enumerate.specs.Rest.{events_from, whole_from}
 use Rattle.enumerate.specs.Seeks.{IsFresh, SkipsTo}
 use Rattle.enumerate.specs.Walks.{Finds}
@@ -65,37 +66,37 @@ unfolding sought
 sought-dead left n [] dead = if_false (is_live left n) _ [] dead
 sought-dead left n (q ∷ given) dead = if_false (is_live left n) _ [] dead
 
-module _ (problem : Problem) (queue : Option (List Piece)) (f : Frame) (position : position_of (table_of problem.rules) problem.drop_mode f ≡ root_of problem queue) (left : f.left ≡ needed_of problem - 1) where
+module _ (problem : Problem) (queue : Option (List Piece)) (f : Frame) (position : position_of (table_of problem.rules) problem.drop_mode f.setup ≡ root_of problem queue) (left : f.setup.left ≡ needed_of problem - 1) where
   abbrev here : Position
-  here = position_of (table_of problem.rules) problem.drop_mode f
+  here = position_of (table_of problem.rules) problem.drop_mode f.setup
 
-  pub whole-nothing : (nat_lt 0 (needed_of problem) && is_live f.left here) ≡ false → (after : Option (List Placement)) → whole_from problem queue after ≡ []
+  pub whole-nothing : (nat_lt 0 (needed_of problem) && is_live f.setup.left here) ≡ false → (after : Option (List Placement)) → whole_from problem queue after ≡ []
   unfolding whole_from
-  whole-nothing dead None = elim (dead-part (needed_of problem) (is_live f.left here) dead) [
+  whole-nothing dead None = elim (dead-part (needed_of problem) (is_live f.setup.left here) dead) [
     | inl none ↦ ap (λ k. begun k (root_of problem queue)) none ∙ begun-zero (root_of problem queue)
     | inr both ↦ ap (λ k. begun k (root_of problem queue)) both.0 ∙ begun-dead (needed_of problem - 1) (root_of problem queue) ((λ i. is_live (sym left i) (sym position i)) ∙ both.1)
   ]
-  whole-nothing dead (Some given) = elim (dead-part (needed_of problem) (is_live f.left here) dead) [
+  whole-nothing dead (Some given) = elim (dead-part (needed_of problem) (is_live f.setup.left here) dead) [
     | inl none ↦ ap (λ k. sought k [] (root_of problem queue) given) none ∙ sought-zero (root_of problem queue) given
     | inr both ↦ ap (λ k. sought k [] (root_of problem queue) given) both.0 ∙ sought-dead (needed_of problem - 1) (root_of problem queue) given ((λ i. is_live (sym left i) (sym position i)) ∙ both.1)
   ]
 
-  module _ (live : (nat_lt 0 (needed_of problem) && is_live f.left here) ≡ true) where
-    depth : needed_of problem ≡ suc f.left
-    depth = (live-part (needed_of problem) (is_live f.left here) live).0 ∙ ap suc (sym left)
+  module _ (live : (nat_lt 0 (needed_of problem) && is_live f.setup.left here) ≡ true) where
+    depth : needed_of problem ≡ suc f.setup.left
+    depth = (live-part (needed_of problem) (is_live f.setup.left here) live).0 ∙ ap suc (sym left)
 
-    pub whole-sought : (given : List Placement) → whole_from problem queue (Some given) ≡ sought (suc f.left) [] here given
+    pub whole-sought : (given : List Placement) → whole_from problem queue (Some given) ≡ sought (suc f.setup.left) [] here given
     unfolding whole_from
     whole-sought given = λ i. sought (depth i) [] (sym position i) given
 
     pub first-fresh : f.tried ≡ 0 → f.places ≡ None → IsFresh (table_of problem.rules) problem.drop_mode f
-    first-fresh tried places = record { tried = tried; places = places; live = (live-part (needed_of problem) (is_live f.left here) live).1 }
+    first-fresh tried places = record { tried = tried; places = places; live = (live-part (needed_of problem) (is_live f.setup.left here) live).1 }
 
     pub whole-first : f.tried ≡ 0 → f.places ≡ None → whole_from problem queue None ≡ stacked (table_of problem.rules) problem.drop_mode [] (f ∷ [])
     unfolding whole_from stacked
     whole-first tried places =
         (λ i. begun (depth i) (sym position i))
-        ∙ begun-sought f.left here
+        ∙ begun-sought f.setup.left here
         ∙ fresh-events (table_of problem.rules) problem.drop_mode [] f (first-fresh tried places)
 
 -- ---- the first frame in the array
@@ -103,9 +104,9 @@ module _ (problem : Problem) (queue : Option (List Piece)) (f : Frame) (position
 take-first : (frames : List Frame) (f : Frame) → 0 < length frames → take 1 (set frames 0 f) ≡ f ∷ []
 take-first frames f some = take_more_set frames 0 f some
 
-pub first-room : (frames : List Frame) (f : Frame) → 0 < length frames → f.left ≤ 19 → has_room 0 (take 1 (set frames 0 f)) ≡ true
+pub first-room : (frames : List Frame) (f : Frame) → 0 < length frames → f.setup.left ≤ 19 → has_room 0 (take 1 (set frames 0 f)) ≡ true
 unfolding has_room
-first-room frames f some few = subst (λ l. has_room 0 l ≡ true) (sym (take-first frames f some)) (and_both (nat_le (f.left + 0) 19) true (le-leb (f.left + 0) 19 (omega arith)) refl)
+first-room frames f some few = subst (λ l. has_room 0 l ≡ true) (sym (take-first frames f some)) (and_both (nat_le (f.setup.left + 0) 19) true (le-leb (f.setup.left + 0) 19 (omega arith)) refl)
 
 pub nothing-room : has_room 0 [] ≡ true
 unfolding has_room
@@ -125,19 +126,19 @@ pub first-read : (frames : List Frame) (f d : Frame) → 0 < length frames → g
 first-read frames f d some = get_or-set_same frames 0 f d some
 
 pub sought-skips : (table : Table) (mode : DropMode) (frames : List Frame) (f : Frame) (given given' : List Placement) (whole rest : List Event) (before now : ℕ) → 0 < length frames → given' ≡ given →
-    whole ≡ sought (suc f.left) [] (position_of table mode f) given →
-    ((d : Frame) → SkipsTo (sought (suc (get_or (set frames 0 f) 0 d).left) [] (position_of table mode (get_or (set frames 0 f) 0 d)) given') rest before now) → SkipsTo whole rest before now
+    whole ≡ sought (suc f.setup.left) [] (position_of table mode f.setup) given →
+    ((d : Frame) → SkipsTo (sought (suc (get_or (set frames 0 f) 0 d).setup.left) [] (position_of table mode (get_or (set frames 0 f) 0 d).setup) given') rest before now) → SkipsTo whole rest before now
 sought-skips table mode frames f given given' whole rest before now some same e skips =
     subst (λ w. SkipsTo w rest before now) (sym e)
-    (subst (λ s. SkipsTo (sought (suc f.left) [] (position_of table mode f) s) rest before now) same
-    (subst (λ g. SkipsTo (sought (suc g.left) [] (position_of table mode g) given') rest before now) (first-read frames f f some) (skips f)))
+    (subst (λ s. SkipsTo (sought (suc f.setup.left) [] (position_of table mode f.setup) s) rest before now) same
+    (subst (λ g. SkipsTo (sought (suc g.setup.left) [] (position_of table mode g.setup) given') rest before now) (first-read frames f f some) (skips f)))
 
 -- by equal tables the same is passed
 pub skips-by : (mode : DropMode) (frames : List Frame) (given : List Placement) (depth : ℕ) (used : List Frame) (before now : ℕ) (table other : Table) → table ≡ other →
-    ((d : Frame) → SkipsTo (sought (suc (get_or frames 0 d).left) [] (position_of table mode (get_or frames 0 d)) given) (stacked table mode [] (take depth used)) before now) →
-    (d : Frame) → SkipsTo (sought (suc (get_or frames 0 d).left) [] (position_of other mode (get_or frames 0 d)) given) (stacked other mode [] (take depth used)) before now
+    ((d : Frame) → SkipsTo (sought (suc (get_or frames 0 d).setup.left) [] (position_of table mode (get_or frames 0 d).setup) given) (stacked table mode [] (take depth used)) before now) →
+    (d : Frame) → SkipsTo (sought (suc (get_or frames 0 d).setup.left) [] (position_of other mode (get_or frames 0 d).setup) given) (stacked other mode [] (take depth used)) before now
 skips-by mode frames given depth used before now table other same skips d =
-    subst (λ (t : Table). SkipsTo (sought (suc (get_or frames 0 d).left) [] (position_of t mode (get_or frames 0 d)) given) (stacked t mode [] (take depth used)) before now) same (skips d)
+    subst (λ (t : Table). SkipsTo (sought (suc (get_or frames 0 d).setup.left) [] (position_of t mode (get_or frames 0 d).setup) given) (stacked t mode [] (take depth used)) before now) same (skips d)
 
 -- ---- going on
 

@@ -8,10 +8,11 @@ use Rattle.srs.specs.Kick.{Table}
 use Rattle.srs.specs.Piece.{all_pieces}
 use Rattle.moves.specs.declared.key.DropMode.{DropMode}
 use Rattle.enumerate.specs.declared.frame.Frame.{Frame}
+use Rattle.enumerate.specs.declared.setup.Setup.{Setup}
 use Rattle.enumerate.specs.Position.{is_live}
 use Rattle.enumerate.specs.Events.{Event, entered, enter, tried_in_turn, sought}
-use Rattle.enumerate.specs.Frames.{events_of, has_room, path_of, places_left, position_of, stacked, entered_placement}
-use Rattle.enumerate.specs.Turns.{SamePosition}
+use Rattle.enumerate.specs.Frames.{events_of, has_room, path_of, places_left, stacked, entered_placement}
+use Rattle.enumerate.specs.Setups.{position_of}
 use Rattle.enumerate.specs.Seeks.{IsDeeper, IsFresh, IsSought, IsThere, Skips, SkipsTo, sought_at}
 use Rattle.enumerate.proofs.SkipLemmas.{skips-before, skips-same}
 use Rattle.std.proofs.lemmas.List.{get_or-take, length-take-le, take-take}
@@ -51,19 +52,19 @@ module _ (table : Table) (mode : DropMode) (frames walked : List Frame) (top : �
   pub old-fresh : ((d : Frame) → IsFresh table mode (get_or frames top d)) → IsFresh table mode old
   old-fresh fresh = subst (IsFresh table mode) (sym (old-there d0)) (fresh d0)
 
-  fits : has_room 0 (take (top + 1) frames) ≡ true → old.left + top ≤ 19
+  fits : has_room 0 (take (top + 1) frames) ≡ true → old.setup.left + top ≤ 19
   fits room = let last = room-last 0 below old (subst (λ l. has_room 0 l ≡ true) whole room) in omega (arith, last.1, length-take top frames)
 
   -- there is room behind it for the placements that come after its next one
-  pub old-within : has_room 0 (take (top + 1) frames) ≡ true → old.left + (top + 1) ≤ 20
+  pub old-within : has_room 0 (take (top + 1) frames) ≡ true → old.setup.left + (top + 1) ≤ 20
   old-within room = omega (arith, fits room)
 
-  module _ (new : Frame) (room : has_room 0 (take (top + 1) frames) ≡ true) (same : SamePosition old new) (behind : List Frame) (before now : ℕ) (q : Placement) where
+  module _ (new : Frame) (room : has_room 0 (take (top + 1) frames) ≡ true) (same : new.setup ≡ old.setup) (behind : List Frame) (before now : ℕ) (q : Placement) where
     room-below : has_room 0 below ≡ true
     room-below = (room-last 0 below old (subst (λ l. has_room 0 l ≡ true) whole room)).0
 
     room-new : has_room 0 (below ++ new ∷ []) ≡ true
-    room-new = room-more 0 below new room-below (omega (arith, fits room, same.left, length-take top frames))
+    room-new = room-more 0 below new room-below (omega (arith, fits room, ap (λ (s : Setup). s.left) same, length-take top frames))
 
     abbrev more : List Frame
     more = set walked top new ++ behind
@@ -71,16 +72,16 @@ module _ (table : Table) (mode : DropMode) (frames walked : List Frame) (top : �
     written : take (top + 1) more ≡ below ++ new ∷ []
     written = written-top walked top (top + 1) refl long new behind ∙ ap (λ l. l ++ new ∷ []) below-same
 
-    there : ((prefix given : List Placement) → SkipsTo (sought (suc old.left) prefix (position_of table mode old) (q ∷ given)) (events_of table mode prefix new) before now) → IsThere table mode frames more top q before now
+    there : ((prefix given : List Placement) → SkipsTo (sought (suc old.setup.left) prefix (position_of table mode old.setup) (q ∷ given)) (events_of table mode prefix new) before now) → IsThere table mode frames more top q before now
     there skips = record {
       room = subst (λ l. has_room 0 l ≡ true) (sym written) room-new;
       skips = λ given d.
           subst (λ l. SkipsTo (sought_at table mode frames top (q ∷ given) d) l before now) (sym (ap (stacked table mode []) written ∙ stacked-last table mode [] below new))
-          (subst (λ f. SkipsTo (sought (suc f.left) (path_of below) (position_of table mode f) (q ∷ given) ++ stacked table mode [] below) (events_of table mode (path_of below) new ++ stacked table mode [] below) before now) (old-there d)
-          (skips-before (sought (suc old.left) (path_of below) (position_of table mode old) (q ∷ given)) (events_of table mode (path_of below) new) (stacked table mode [] below) before now (skips (path_of below) given)));
+          (subst (λ f. SkipsTo (sought (suc f.setup.left) (path_of below) (position_of table mode f.setup) (q ∷ given) ++ stacked table mode [] below) (events_of table mode (path_of below) new ++ stacked table mode [] below) before now) (old-there d)
+          (skips-before (sought (suc old.setup.left) (path_of below) (position_of table mode old.setup) (q ∷ given)) (events_of table mode (path_of below) new) (stacked table mode [] below) before now (skips (path_of below) given)));
     }
 
-    module _ (e : Frame) (fewer : (get_or behind 0 e).left + 1 ≡ old.left) (some : 0 < length behind) where
+    module _ (e : Frame) (fewer : (get_or behind 0 e).setup.left + 1 ≡ old.setup.left) (some : 0 < length behind) where
       abbrev child : Frame
       child = get_or behind 0 e
 
@@ -88,7 +89,7 @@ module _ (table : Table) (mode : DropMode) (frames walked : List Frame) (top : �
       child-there d = sym (written-child walked top (top + 1) refl long new behind e d some)
 
       deeper : IsFresh table mode child →
-          ((prefix given : List Placement) → SkipsTo (sought (suc old.left) prefix (position_of table mode old) (q ∷ given)) (sought (suc child.left) (prefix ++ entered_placement new) (position_of table mode child) given ++ events_of table mode prefix new) before now) →
+          ((prefix given : List Placement) → SkipsTo (sought (suc old.setup.left) prefix (position_of table mode old.setup) (q ∷ given)) (sought (suc child.setup.left) (prefix ++ entered_placement new) (position_of table mode child.setup) given ++ events_of table mode prefix new) before now) →
           IsDeeper table mode frames more top q before now
       deeper fresh skips = record {
         within = omega (arith, fits room, fewer);
@@ -97,27 +98,27 @@ module _ (table : Table) (mode : DropMode) (frames walked : List Frame) (top : �
         fresh = λ d. subst (IsFresh table mode) (child-there d) fresh;
         skips = λ given d.
             subst (λ l. SkipsTo (sought_at table mode frames top (q ∷ given) d) l before now) (shape given d)
-            (subst (λ f. SkipsTo (sought (suc f.left) (path_of below) (position_of table mode f) (q ∷ given) ++ stacked table mode [] below) ((sought (suc child.left) (path_of below ++ entered_placement new) (position_of table mode child) given ++ events_of table mode (path_of below) new) ++ stacked table mode [] below) before now) (old-there d)
-            (skips-before (sought (suc old.left) (path_of below) (position_of table mode old) (q ∷ given)) (sought (suc child.left) (path_of below ++ entered_placement new) (position_of table mode child) given ++ events_of table mode (path_of below) new) (stacked table mode [] below) before now (skips (path_of below) given)));
+            (subst (λ f. SkipsTo (sought (suc f.setup.left) (path_of below) (position_of table mode f.setup) (q ∷ given) ++ stacked table mode [] below) ((sought (suc child.setup.left) (path_of below ++ entered_placement new) (position_of table mode child.setup) given ++ events_of table mode (path_of below) new) ++ stacked table mode [] below) before now) (old-there d)
+            (skips-before (sought (suc old.setup.left) (path_of below) (position_of table mode old.setup) (q ∷ given)) (sought (suc child.setup.left) (path_of below ++ entered_placement new) (position_of table mode child.setup) given ++ events_of table mode (path_of below) new) (stacked table mode [] below) before now (skips (path_of below) given)));
       }
         where
-          shape : (given : List Placement) (d : Frame) → (sought (suc child.left) (path_of below ++ entered_placement new) (position_of table mode child) given ++ events_of table mode (path_of below) new) ++ stacked table mode [] below ≡ sought_at table mode more (top + 1) given d
+          shape : (given : List Placement) (d : Frame) → (sought (suc child.setup.left) (path_of below ++ entered_placement new) (position_of table mode child.setup) given ++ events_of table mode (path_of below) new) ++ stacked table mode [] below ≡ sought_at table mode more (top + 1) given d
           shape given d =
-              append_assoc (sought (suc child.left) (path_of below ++ entered_placement new) (position_of table mode child) given) (events_of table mode (path_of below) new) (stacked table mode [] below)
-              ∙ (λ i. sought (suc (child-there d i).left) (sym (path-last below new) i) (position_of table mode (child-there d i)) given ++ sym (stacked-last table mode [] below new) i)
-              ∙ sym (λ i. sought (suc (get_or more (top + 1) d).left) (path_of (written i)) (position_of table mode (get_or more (top + 1) d)) given ++ stacked table mode [] (written i))
+              append_assoc (sought (suc child.setup.left) (path_of below ++ entered_placement new) (position_of table mode child.setup) given) (events_of table mode (path_of below) new) (stacked table mode [] below)
+              ∙ (λ i. sought (suc (child-there d i).setup.left) (sym (path-last below new) i) (position_of table mode (child-there d i).setup) given ++ sym (stacked-last table mode [] below new) i)
+              ∙ sym (λ i. sought (suc (get_or more (top + 1) d).setup.left) (path_of (written i)) (position_of table mode (get_or more (top + 1) d).setup) given ++ stacked table mode [] (written i))
 
     pub skipped : length behind + (top + 1) ≡ 20 → (entered : Bool) → Skips table mode old new q (get_or behind 0 new) entered before now → IsSought table mode frames (set walked top new ++ behind) top q entered before now
     skipped size false skips = there skips
     skipped size true skips = deeper new skips.2 (omega (arith, fits room, skips.2, size)) skips.1 skips.0
 
 -- a fresh frame, with nothing to be passed by
-pub fresh-events : (table : Table) (mode : DropMode) (prefix : List Placement) (frame : Frame) → IsFresh table mode frame → sought (suc frame.left) prefix (position_of table mode frame) [] ≡ events_of table mode prefix frame
+pub fresh-events : (table : Table) (mode : DropMode) (prefix : List Placement) (frame : Frame) → IsFresh table mode frame → sought (suc frame.setup.left) prefix (position_of table mode frame.setup) [] ≡ events_of table mode prefix frame
 unfolding sought events_of places_left
 fresh-events table mode prefix frame fresh =
-    if_true (is_live frame.left (position_of table mode frame)) _ [] fresh.live
-    ∙ ap (λ k. tried_in_turn (enter frame.left) prefix (position_of table mode frame) (drop k all_pieces)) (sym fresh.tried)
-    ∙ ap (λ p. flat_map (entered (enter frame.left) prefix (position_of table mode frame)) (places_left p frame.entered) ++ tried_in_turn (enter frame.left) prefix (position_of table mode frame) (drop frame.tried all_pieces)) (sym fresh.places)
+    if_true (is_live frame.setup.left (position_of table mode frame.setup)) _ [] fresh.live
+    ∙ ap (λ k. tried_in_turn (enter frame.setup.left) prefix (position_of table mode frame.setup) (drop k all_pieces)) (sym fresh.tried)
+    ∙ ap (λ p. flat_map (entered (enter frame.setup.left) prefix (position_of table mode frame.setup)) (places_left p frame.entered) ++ tried_in_turn (enter frame.setup.left) prefix (position_of table mode frame.setup) (drop frame.tried all_pieces)) (sym fresh.places)
 
 pub at-end : (table : Table) (mode : DropMode) (frames : List Frame) (top : ℕ) (d : Frame) → top < length frames → IsFresh table mode (get_or frames top d) → sought_at table mode frames top [] d ≡ stacked table mode [] (take (top + 1) frames)
 at-end table mode frames top d within fresh =
@@ -126,13 +127,13 @@ at-end table mode frames top d within fresh =
     ∙ ap (stacked table mode []) (sym (take-top frames top d within))
 
 -- at the start
-pub at-start : (table : Table) (mode : DropMode) (frames : List Frame) (given : List Placement) (d : Frame) → sought_at table mode frames 0 given d ≡ sought (suc (get_or frames 0 d).left) [] (position_of table mode (get_or frames 0 d)) given
+pub at-start : (table : Table) (mode : DropMode) (frames : List Frame) (given : List Placement) (d : Frame) → sought_at table mode frames 0 given d ≡ sought (suc (get_or frames 0 d).setup.left) [] (position_of table mode (get_or frames 0 d).setup) given
 unfolding stacked path_of
-at-start table mode frames given d = append-nil (sought (suc (get_or frames 0 d).left) [] (position_of table mode (get_or frames 0 d)) given)
+at-start table mode frames given d = append-nil (sought (suc (get_or frames 0 d).setup.left) [] (position_of table mode (get_or frames 0 d).setup) given)
 
 pub starts : (table : Table) (mode : DropMode) (frames : List Frame) (given : List Placement) (d : Frame) (before : ℕ) →
-    SkipsTo (sought (suc (get_or frames 0 d).left) [] (position_of table mode (get_or frames 0 d)) given) (sought_at table mode frames 0 given d) before before
-starts table mode frames given d before = skips-same (sought (suc (get_or frames 0 d).left) [] (position_of table mode (get_or frames 0 d)) given) (sought_at table mode frames 0 given d) before (sym (at-start table mode frames given d))
+    SkipsTo (sought (suc (get_or frames 0 d).setup.left) [] (position_of table mode (get_or frames 0 d).setup) given) (sought_at table mode frames 0 given d) before before
+starts table mode frames given d before = skips-same (sought (suc (get_or frames 0 d).setup.left) [] (position_of table mode (get_or frames 0 d).setup) given) (sought_at table mode frames 0 given d) before (sym (at-start table mode frames given d))
 
 pub drop-none : (given : List Placement) (i : ℕ) → length given ≤ i → drop i given ≡ []
 drop-none [] zero within = refl

@@ -21,20 +21,22 @@ use Rattle.place_sets.specs.declared.low_held.LowPlaces.{LowPlaces}
 use Rattle.place_sets.specs.LowPlaces.{holds, piece_of}
 use Rattle.hold_queue.specs.QueueSet.{queues_in_play}
 use Rattle.enumerate.specs.declared.frame.Frame.{Frame}
+use Rattle.enumerate.specs.declared.setup.Setup.{Setup}
 use Rattle.enumerate.specs.declared.turn.Turn.{Turn}
 use Rattle.enumerate.specs.declared.turn.Turn.TheVariants.{Passed, Flooded, Entered, Full, Over}
 use Rattle.well.specs.LockLaws.{is_below}
 use Rattle.enumerate.specs.Position.{Position, after_of, may_play, places_at, is_live}
 use Rattle.enumerate.specs.Events.{Event, Tick, Flood, Found, found, floods, entered, tried_in_turn, enter, sought}
-use Rattle.enumerate.specs.Frames.{position_of, places_left, entered_placement, events_of}
-use Rattle.enumerate.specs.Turns.{Enters, EntersAs, IsChild, SamePosition}
+use Rattle.enumerate.specs.Frames.{places_left, entered_placement, events_of}
+use Rattle.enumerate.specs.Setups.{position_of}
+use Rattle.enumerate.specs.Turns.{Enters, EntersAs, IsChild}
 use Rattle.enumerate.specs.Seeks.{SkipsTo}
 use Rattle.enumerate.proofs.FloodCounts.{floods-sought}
 use Rattle.enumerate.proofs.Resumed.{past, placed-there, there-placed}
 use Rattle.enumerate.proofs.Solutions.{sols}
 use Rattle.enumerate.proofs.Sought.{found-sought}
 use Rattle.enumerate.proofs.Choices.{if_false, if_true}
-use Rattle.enumerate.proofs.TurnLemmas.{entered-below, filter-both, filter-same, same-position}
+use Rattle.enumerate.proofs.TurnLemmas.{entered-below, filter-both, filter-same}
 use Rattle.enumerate.proofs.Walks.{finds-enter, found-append, floods-append, prefixed}
 
 pub places_left-rising : (places : Option LowPlaces) (last : Option Placement) → IsStrictlySortedBy placement_cmp (places_left places last)
@@ -97,71 +99,71 @@ skips-before a b c k l skips = record {
   fewer = omega (arith, floods-append a c, floods-append b c, skips.fewer);
 }
 
-module _ (table : Table) (mode : DropMode) (old new : Frame) (same : SamePosition old new) (q : Placement)
-    (live : is_live old.left (position_of table mode old) ≡ true) (tried : new.tried ≡ piece_code q.piece) where
+module _ (table : Table) (mode : DropMode) (old new : Frame) (same : new.setup ≡ old.setup) (q : Placement)
+    (live : is_live old.setup.left (position_of table mode old.setup) ≡ true) (tried : new.tried ≡ piece_code q.piece) where
   abbrev here : Position
-  here = position_of table mode old
+  here = position_of table mode old.setup
 
   abbrev rest : List Placement → List Event
-  rest prefix = tried_in_turn (enter old.left) prefix here (drop (piece_code q.piece) all_pieces)
+  rest prefix = tried_in_turn (enter old.setup.left) prefix here (drop (piece_code q.piece) all_pieces)
 
-  rest-same : (prefix : List Placement) → tried_in_turn (enter new.left) prefix (position_of table mode new) (drop new.tried all_pieces) ≡ rest prefix
-  rest-same prefix = λ i. tried_in_turn (enter (same.left i)) prefix (same-position table mode old new same i) (drop (tried i) all_pieces)
+  rest-same : (prefix : List Placement) → tried_in_turn (enter new.setup.left) prefix (position_of table mode new.setup) (drop new.tried all_pieces) ≡ rest prefix
+  rest-same prefix = λ i. tried_in_turn (enter (same i).left) prefix (position_of table mode (same i)) (drop (tried i) all_pieces)
 
   -- a kind that may not be played
-  pub passes-kind : may_play (queues_in_play old.line.queues) q.piece ≡ false → places_left new.places new.entered ≡ [] → (prefix given : List Placement) →
-      sought (suc old.left) prefix here (q ∷ given) ≡ events_of table mode prefix new
+  pub passes-kind : may_play (queues_in_play old.setup.line.queues) q.piece ≡ false → places_left new.places new.entered ≡ [] → (prefix given : List Placement) →
+      sought (suc old.setup.left) prefix here (q ∷ given) ≡ events_of table mode prefix new
   unfolding sought events_of position_of
   passes-kind not_played none prefix given =
-      if_true (is_live old.left here) _ [] live
-      ∙ ap (λ l. l ++ rest prefix) (if_false (may_play (queues_in_play old.line.queues) q.piece) _ [] not_played)
+      if_true (is_live old.setup.left here) _ [] live
+      ∙ ap (λ l. l ++ rest prefix) (if_false (may_play (queues_in_play old.setup.line.queues) q.piece) _ [] not_played)
       ∙ sym (rest-same prefix)
-      ∙ ap (λ l. flat_map (entered (enter new.left) prefix (position_of table mode new)) l ++ tried_in_turn (enter new.left) prefix (position_of table mode new) (drop new.tried all_pieces)) (sym none)
+      ∙ ap (λ l. flat_map (entered (enter new.setup.left) prefix (position_of table mode new.setup)) l ++ tried_in_turn (enter new.setup.left) prefix (position_of table mode new.setup) (drop new.tried all_pieces)) (sym none)
 
   -- what comes first at the placement itself
   abbrev first : List Placement → List Placement → List Event
-  first prefix given = if is_place table here.field mode q && is_below old.rows q then sought old.left (prefix ++ q ∷ []) (after_of here q) given else []
+  first prefix given = if is_place table here.field mode q && is_below old.setup.rows q then sought old.setup.left (prefix ++ q ∷ []) (after_of here q) given else []
 
-  module _ (played : may_play (queues_in_play old.line.queues) q.piece ≡ true) (left : places_left new.places new.entered ≡ filter (is_above placement_cmp (Some q)) (filter (is_below old.rows) (places_at here q.piece))) where
-    pub floods-kind : (prefix given : List Placement) → sought (suc old.left) prefix here (q ∷ given) ≡ Flood ∷ (first prefix given ++ events_of table mode prefix new)
+  module _ (played : may_play (queues_in_play old.setup.line.queues) q.piece ≡ true) (left : places_left new.places new.entered ≡ filter (is_above placement_cmp (Some q)) (filter (is_below old.setup.rows) (places_at here q.piece))) where
+    pub floods-kind : (prefix given : List Placement) → sought (suc old.setup.left) prefix here (q ∷ given) ≡ Flood ∷ (first prefix given ++ events_of table mode prefix new)
     unfolding sought events_of position_of
     floods-kind prefix given =
-        if_true (is_live old.left here) _ [] live
-        ∙ ap (λ l. l ++ rest prefix) (if_true (may_play (queues_in_play old.line.queues) q.piece) _ [] played)
+        if_true (is_live old.setup.left here) _ [] live
+        ∙ ap (λ l. l ++ rest prefix) (if_true (may_play (queues_in_play old.setup.line.queues) q.piece) _ [] played)
         ∙ ap (λ l. Flood ∷ l)
-        (append_assoc (first prefix given) (flat_map (entered (enter old.left) prefix here) (filter (is_above placement_cmp (Some q)) (places_at here q.piece))) (rest prefix)
+        (append_assoc (first prefix given) (flat_map (entered (enter old.setup.left) prefix here) (filter (is_above placement_cmp (Some q)) (places_at here q.piece))) (rest prefix)
         ∙ ap (λ l. first prefix given ++ (l ++ rest prefix))
-        (sym (entered-below (enter old.left) prefix here (filter (is_above placement_cmp (Some q)) (places_at here q.piece)))
-        ∙ ap (flat_map (entered (enter old.left) prefix here)) (filters-swap (is_below old.rows) (is_above placement_cmp (Some q)) (places_at here q.piece)))
-        ∙ ap (λ l. first prefix given ++ l) (sym (λ i. flat_map (entered (enter (same.left i)) prefix (same-position table mode old new same i)) (left i) ++ rest-same prefix i)))
+        (sym (entered-below (enter old.setup.left) prefix here (filter (is_above placement_cmp (Some q)) (places_at here q.piece)))
+        ∙ ap (flat_map (entered (enter old.setup.left) prefix here)) (filters-swap (is_below old.setup.rows) (is_above placement_cmp (Some q)) (places_at here q.piece)))
+        ∙ ap (λ l. first prefix given ++ l) (sym (λ i. flat_map (entered (enter (same i).left) prefix (position_of table mode (same i))) (left i) ++ rest-same prefix i)))
 
     -- no place
-    pub skips-unplaced : (before now : ℕ) → now ≡ before + 1 → (is_place table here.field mode q && is_below old.rows q) ≡ false → (prefix given : List Placement) →
-        SkipsTo (sought (suc old.left) prefix here (q ∷ given)) (events_of table mode prefix new) before now
+    pub skips-unplaced : (before now : ℕ) → now ≡ before + 1 → (is_place table here.field mode q && is_below old.setup.rows q) ≡ false → (prefix given : List Placement) →
+        SkipsTo (sought (suc old.setup.left) prefix here (q ∷ given)) (events_of table mode prefix new) before now
     skips-unplaced before now steps unplaced prefix given =
         skips-flood _ (events_of table mode prefix new) before now
         (floods-kind prefix given
-        ∙ ap (λ b. Flood ∷ ((if b then sought old.left (prefix ++ q ∷ []) (after_of here q) given else []) ++ events_of table mode prefix new)) unplaced) steps
+        ∙ ap (λ b. Flood ∷ ((if b then sought old.setup.left (prefix ++ q ∷ []) (after_of here q) given else []) ++ events_of table mode prefix new)) unplaced) steps
 
     -- a place with a frame of its own
-    pub skips-entered : (before now : ℕ) → now ≡ before + 1 → is_place table here.field mode q ≡ true → new.entered ≡ Some q → (child : Frame) → IsChild new q child → (prefix given : List Placement) →
-        SkipsTo (sought (suc old.left) prefix here (q ∷ given)) (sought (suc child.left) (prefix ++ entered_placement new) (position_of table mode child) given ++ events_of table mode prefix new) before now
+    pub skips-entered : (before now : ℕ) → now ≡ before + 1 → is_place table here.field mode q ≡ true → new.entered ≡ Some q → (child : Frame) → IsChild new.setup q child → (prefix given : List Placement) →
+        SkipsTo (sought (suc old.setup.left) prefix here (q ∷ given)) (sought (suc child.setup.left) (prefix ++ entered_placement new) (position_of table mode child.setup) given ++ events_of table mode prefix new) before now
     skips-entered before now steps placed step child is_child prefix given =
-        let below : is_below old.rows q ≡ true = subst (λ r. is_below r q ≡ true) same.rows is_child.below in
-        let depth : old.left ≡ suc child.left = omega (arith, is_child.left, same.left) in
-        let at_child : after_of here q ≡ position_of table mode child = ap (λ n. after_of n q) (sym (same-position table mode old new same)) ∙ sym (is_child.position table mode) in
+        let below : is_below old.setup.rows q ≡ true = subst (λ (s : Setup). is_below s.rows q ≡ true) same is_child.below in
+        let depth : old.setup.left ≡ suc child.setup.left = omega (arith, is_child.left, ap (λ (s : Setup). s.left) same) in
+        let at_child : after_of here q ≡ position_of table mode child.setup = ap (λ s. after_of (position_of table mode s) q) (sym same) ∙ sym (is_child.position table mode) in
         let step_is : q ∷ [] ≡ entered_placement new = sym (ap option_to_list step) in
         skips-flood _ _ before now
         (floods-kind prefix given
         ∙ ap (λ l. Flood ∷ (l ++ events_of table mode prefix new))
-        (ap (λ b. if b && is_below old.rows q then sought old.left (prefix ++ q ∷ []) (after_of here q) given else []) placed
-        ∙ if_true (is_below old.rows q) _ [] below
+        (ap (λ b. if b && is_below old.setup.rows q then sought old.setup.left (prefix ++ q ∷ []) (after_of here q) given else []) placed
+        ∙ if_true (is_below old.setup.rows q) _ [] below
         ∙ (λ i. sought (depth i) (prefix ++ step_is i) (at_child i) given))) steps
 
     -- a place at which nothing more is to be done
     pub skips-dead : (before now : ℕ) → now ≡ before + 1 →
         ((prefix given : List Placement) → (found (first prefix given) ≡ []) × (floods (first prefix given) ≡ 0)) → (prefix given : List Placement) →
-        SkipsTo (sought (suc old.left) prefix here (q ∷ given)) (events_of table mode prefix new) before now
+        SkipsTo (sought (suc old.setup.left) prefix here (q ∷ given)) (events_of table mode prefix new) before now
     unfolding found floods
     skips-dead before now steps dead prefix given =
         let e = floods-kind prefix given in
@@ -197,13 +199,13 @@ full-dead (suc left) prefix s n given e = none (is_live left n) e
     none true e = cc
     none false e = cc
 
-module _ (table : Table) (mode : DropMode) (old new : Frame) (same : SamePosition old new) (q : Placement) where
+module _ (table : Table) (mode : DropMode) (old new : Setup) (same : new ≡ old) (q : Placement) where
   abbrev there : Position
   there = position_of table mode old
 
   -- what entering the placement comes to
   at-old : (events : Table → DropMode → List Placement → List Event) → EntersAs new q events → (prefix : List Placement) → entered (enter old.left) prefix there q ≡ events table mode (prefix ++ q ∷ [])
-  at-old events enters prefix = sym (λ i. entered (enter (same.left i)) prefix (same-position table mode old new same i) q) ∙ enters.same table mode prefix
+  at-old events enters prefix = sym (λ i. entered (enter (same i).left) prefix (position_of table mode (same i)) q) ∙ enters.same table mode prefix
 
   first-dead : (b : Bool) (events : Table → DropMode → List Placement → List Event) → EntersAs new q events →
       ((prefix given : List Placement) → enter old.left (prefix ++ q ∷ []) (after_of there q) ≡ events table mode (prefix ++ q ∷ []) →
@@ -266,7 +268,7 @@ module _ (n : Position) (q : Placement) (l : List Placement) (e : l ≡ filter (
   ]
 
 -- what entering comes to where there is no frame after the placement
-pub dead-result : (table : Table) (mode : DropMode) (old new : Frame) (same : SamePosition old new) (q : Placement) (child : Frame) (result : Turn) → Enters new q child result → (result ≡ Entered → ⊥) → (b : Bool) → (prefix given : List Placement) →
+pub dead-result : (table : Table) (mode : DropMode) (old new : Setup) (same : new ≡ old) (q : Placement) (child : Frame) (result : Turn) → Enters new q child result → (result ≡ Entered → ⊥) → (b : Bool) → (prefix given : List Placement) →
     (found (if b && is_below old.rows q then sought old.left (prefix ++ q ∷ []) (after_of (position_of table mode old) q) given else []) ≡ []) × (floods (if b && is_below old.rows q then sought old.left (prefix ++ q ∷ []) (after_of (position_of table mode old) q) given else []) ≡ 0)
 dead-result table mode old new same q child Passed enters none b = dead-passed table mode old new same q b enters
 dead-result table mode old new same q child Flooded enters none b = absurd enters

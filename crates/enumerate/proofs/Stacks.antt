@@ -31,21 +31,21 @@ unfolding path_of
 path-last frames frame = flat_map-append entered_placement frames (frame ∷ []) ∙ ap (λ l. flat_map entered_placement frames ++ l) (append-nil (entered_placement frame))
 
 -- room for frames at the end
-pub room-last : (depth : ℕ) (frames : List Frame) (frame : Frame) → has_room depth (frames ++ frame ∷ []) ≡ true → (has_room depth frames ≡ true) × (frame.left + (depth + length frames) ≤ 19)
+pub room-last : (depth : ℕ) (frames : List Frame) (frame : Frame) → has_room depth (frames ++ frame ∷ []) ≡ true → (has_room depth frames ≡ true) × (frame.setup.left + (depth + length frames) ≤ 19)
 unfolding has_room
-room-last depth [] frame room = let fits = leb-true (frame.left + depth) 19 (and_first (nat_le (frame.left + depth) 19) true room) in (refl, omega (arith, fits))
+room-last depth [] frame room = let fits = leb-true (frame.setup.left + depth) 19 (and_first (nat_le (frame.setup.left + depth) 19) true room) in (refl, omega (arith, fits))
 room-last depth (f ∷ frames) frame room =
-    let rest = room-last (suc depth) frames frame (and_second (nat_le (f.left + depth) 19) _ room) in
-    (and_both (nat_le (f.left + depth) 19) (has_room (suc depth) frames) (and_first (nat_le (f.left + depth) 19) _ room) rest.0, omega (arith, rest.1))
+    let rest = room-last (suc depth) frames frame (and_second (nat_le (f.setup.left + depth) 19) _ room) in
+    (and_both (nat_le (f.setup.left + depth) 19) (has_room (suc depth) frames) (and_first (nat_le (f.setup.left + depth) 19) _ room) rest.0, omega (arith, rest.1))
 
-pub room-more : (depth : ℕ) (frames : List Frame) (frame : Frame) → has_room depth frames ≡ true → frame.left + (depth + length frames) ≤ 19 → has_room depth (frames ++ frame ∷ []) ≡ true
+pub room-more : (depth : ℕ) (frames : List Frame) (frame : Frame) → has_room depth frames ≡ true → frame.setup.left + (depth + length frames) ≤ 19 → has_room depth (frames ++ frame ∷ []) ≡ true
 unfolding has_room
-room-more depth [] frame room fits = and_both (nat_le (frame.left + depth) 19) true (le-leb (frame.left + depth) 19 (omega (arith, fits))) refl
+room-more depth [] frame room fits = and_both (nat_le (frame.setup.left + depth) 19) true (le-leb (frame.setup.left + depth) 19 (omega (arith, fits))) refl
 room-more depth (f ∷ frames) frame room fits =
-    and_both (nat_le (f.left + depth) 19) (has_room (suc depth) (frames ++ frame ∷ [])) (and_first (nat_le (f.left + depth) 19) _ room)
-    (room-more (suc depth) frames frame (and_second (nat_le (f.left + depth) 19) _ room) (omega (arith, fits)))
+    and_both (nat_le (f.setup.left + depth) 19) (has_room (suc depth) (frames ++ frame ∷ [])) (and_first (nat_le (f.setup.left + depth) 19) _ room)
+    (room-more (suc depth) frames frame (and_second (nat_le (f.setup.left + depth) 19) _ room) (omega (arith, fits)))
 
-module _ (table : Table) (mode : DropMode) (fs : List Frame) (old new : Frame) (room : has_room 0 (fs ++ old ∷ []) ≡ true) (left : new.left ≡ old.left) where
+module _ (table : Table) (mode : DropMode) (fs : List Frame) (old new : Frame) (room : has_room 0 (fs ++ old ∷ []) ≡ true) (left : new.setup.left ≡ old.setup.left) where
   abbrev below : List Event
   below = stacked table mode [] fs
 
@@ -89,7 +89,7 @@ module _ (table : Table) (mode : DropMode) (fs : List Frame) (old new : Frame) (
       let e : stacked table mode [] (fs ++ old ∷ []) ≡ Tick ∷ stacked table mode [] fs = old-events (λ prefix. Tick ∷ []) goes in
       record { room = (room-last 0 fs old room).0; finds = ap found e; counted = omega (arith, ap floods e, steps); fewer = omega (arith, ap floods e); shorter = omega (arith, ap length e) }
 
-  pub turn-entered : (before now : ℕ) (child : Frame) → GoesAs table mode old (λ prefix. Tick ∷ (events_of table mode (prefix ++ entered_placement new) child ++ events_of table mode prefix new)) → now ≡ before → child.left + 1 ≡ old.left →
+  pub turn-entered : (before now : ℕ) (child : Frame) → GoesAs table mode old (λ prefix. Tick ∷ (events_of table mode (prefix ++ entered_placement new) child ++ events_of table mode prefix new)) → now ≡ before → child.setup.left + 1 ≡ old.setup.left →
       IsTurn table mode (fs ++ old ∷ []) ((fs ++ new ∷ []) ++ child ∷ []) before now false
   unfolding found floods
   turn-entered before now child goes steps fewer =
@@ -163,7 +163,7 @@ module _ (table : Table) (mode : DropMode) (frames walked : List Frame) (same : 
   array-room room = subst (λ l. has_room 0 l ≡ true) shape_of room
 
   -- there is room behind a frame for the placements that come after its next one
-  pub array-deeper : has_room 0 frames ≡ true → last.left + depth ≤ 20
+  pub array-deeper : has_room 0 frames ≡ true → last.setup.left + depth ≤ 20
   array-deeper room =
       let fits = room-last 0 before_last last (array-room room) in
       omega (arith, fits.1, length-take-le (depth - 1) walked (omega (arith, long)))

@@ -20,7 +20,7 @@ use Rattle.place_sets.specs.declared.low_held.LowPlaces.{LowPlaces}
 use Rattle.place_sets.specs.LowPlaces.{holds, piece_of}
 use Rattle.hold_queue.specs.QueueSet.{queues_in_play}
 use Rattle.enumerate.specs.Frames.{places_left}
-use Rattle.enumerate.specs.Turns.{LeadsOn}
+use Rattle.enumerate.specs.Setups.{LeadsOn}
 use Rattle.enumerate.specs.declared.frame.Frame.{Frame}
 use Rattle.enumerate.specs.Position.{may_play}
 use Rattle.enumerate.specs.Standing.{may_lock}
@@ -111,16 +111,16 @@ pub upcoming-taken : (frame : Frame) (places new : LowPlaces) → frame.places �
     (λ q. (places_left (Some places) frame.entered ≡ q ∷ places_left (Some new) (Some q)) × IsTrue (holds places q))
     → MatchOption r ((places_left frame.places frame.entered ≡ []) × (places_left (Some new) frame.entered ≡ []))
     (λ q. (places_left frame.places frame.entered ≡ q ∷ places_left (Some new) (Some q)) × ForSome (Some new) (λ p. q.piece ≡ piece_of p)
-    × IsTrue (may_lock (filled frame.well) q.piece q) × IsTrue (is_below frame.rows q) × IsTrue (may_play (queues_in_play frame.line.queues) q.piece)
-    × (IsTrue frame.are_live → LeadsOn frame q))
+    × IsTrue (may_lock (filled frame.setup.well) q.piece q) × IsTrue (is_below frame.setup.rows q) × IsTrue (may_play (queues_in_play frame.setup.line.queues) q.piece)
+    × (IsTrue frame.are_live → LeadsOn frame.setup q))
 upcoming-taken frame places new is kind None next = (ap (λ p. places_left p frame.entered) is ∙ next.0, next.1)
 upcoming-taken frame places new is kind (Some q) next =
     let lock = frame.lockable places is q next.1 in
-    let same : q.piece ≡ piece_of places = lockable-piece (filled frame.well) (piece_of places) q lock in (
+    let same : q.piece ≡ piece_of places = lockable-piece (filled frame.setup.well) (piece_of places) q lock in (
       ap (λ p. places_left p frame.entered) is ∙ next.0,
       λ p e. same ∙ sym kind ∙ ap piece_of (some_same e),
-      subst (λ p. may_lock (filled frame.well) p q ≡ true) (sym same) lock,
+      subst (λ p. may_lock (filled frame.setup.well) p q ≡ true) (sym same) lock,
       frame.held_below places is q next.1,
-      subst (λ p. may_play (queues_in_play frame.line.queues) p ≡ true) (sym same) (frame.permitted places is),
+      subst (λ p. may_play (queues_in_play frame.setup.line.queues) p ≡ true) (sym same) (frame.permitted places is),
       λ are_live. frame.live are_live places is q next.1,
     )

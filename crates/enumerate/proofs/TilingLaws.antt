@@ -32,8 +32,8 @@ use Rattle.empty_cells.specs.HasTiling.{has_tiling}
 use Rattle.empty_cells.proofs.CallerLemmas.{left_by_placement, tiling_below, tiling_decided}
 use Rattle.problem.specs.Plays.{Plays}
 use Rattle.problem.specs.Solution.{pieces_of}
-use Rattle.enumerate.specs.declared.frame.Frame.{Frame}
-use Rattle.enumerate.specs.Frames.{position_of}
+use Rattle.enumerate.specs.declared.setup.Setup.{Setup}
+use Rattle.enumerate.specs.Setups.{position_of}
 use Rattle.enumerate.specs.Position.{Position, after_of, can_be_tiled, is_live}
 use Rattle.problem.proofs.CallerLemmas.{IsLow, locked-low}
 use Rattle.moves.proofs.CallerLemmas.{place-free}
@@ -116,26 +116,26 @@ supply-next line piece left other = elim (cases_Bool (piece_code piece == piece_
       sum_by-cons (λ played. cond (piece_code played == piece_code other) 1 0) piece [],
     )
 
--- the supply of a frame, after one more piece
+-- the supply of a setup, after one more piece
 pub supply-moves : (line : QueuesInPlay) (piece : Piece) (left : ℕ) (before after : Supply) → before ≡ supply_of line (left + 1) →
     ((other : Piece) → after other ≡ min left (less_one before piece other)) → after ≡ supply_of (record line { played = line.played ++ piece ∷ [] }) left
 supply-moves line piece left before after is moves = fun_ext (λ other. moves other ∙ ap (λ (s : Supply). min left (less_one s piece other)) is ∙ supply-next line piece left other)
 
 -- so whether a placement leads to a live position is told by what it leaves
-pub live-after : (table : Table) (mode : DropMode) (frame : Frame) (q : Placement) (supply : Supply) → ((other : Piece) → supply other ≡ min frame.left (less_one (SupplyWords.supply_of frame.supply) q.piece other)) →
-    (left : ℕ) → left + 1 ≡ frame.left → is_live left (after_of (position_of table mode frame) q) ≡ has_tiling (locked (filled frame.well) q) (frame.rows - rows_removed (filled frame.well) q) supply
+pub live-after : (table : Table) (mode : DropMode) (setup : Setup) (q : Placement) (supply : Supply) → ((other : Piece) → supply other ≡ min setup.left (less_one (SupplyWords.supply_of setup.supply) q.piece other)) →
+    (left : ℕ) → left + 1 ≡ setup.left → is_live left (after_of (position_of table mode setup) q) ≡ has_tiling (locked (filled setup.well) q) (setup.rows - rows_removed (filled setup.well) q) supply
 unfolding is_live can_be_tiled after_of position_of
-live-after table mode frame q supply moves left less =
-    let line = queues_in_play frame.line.queues in
-    let next : suc left ≡ frame.left = omega arith in
-    ap (has_tiling (locked (filled frame.well) q) (frame.rows - rows_removed (filled frame.well) q))
-    (ap (supply_of (record line { played = line.played ++ q.piece ∷ [] })) next ∙ sym (supply-moves line q.piece frame.left (SupplyWords.supply_of frame.supply) supply frame.supplied moves))
+live-after table mode setup q supply moves left less =
+    let line = queues_in_play setup.line.queues in
+    let next : suc left ≡ setup.left = omega arith in
+    ap (has_tiling (locked (filled setup.well) q) (setup.rows - rows_removed (filled setup.well) q))
+    (ap (supply_of (record line { played = line.played ++ q.piece ∷ [] })) next ∙ sym (supply-moves line q.piece setup.left (SupplyWords.supply_of setup.supply) supply setup.supplied moves))
 
 -- what is left lies below the rows left
-pub locked-below : (frame : Frame) (q : Placement) (well : Well) (rows : ℕ) → is_below frame.rows q ≡ true → is_free (filled frame.well) q ≡ true →
-    filled well ≡ locked (filled frame.well) q → rows ≡ frame.rows - rows_removed (filled frame.well) q → LiesBelow (filled well) rows
-locked-below frame q well rows below free field is =
-    let low = locked-low (filled frame.well) frame.rows q (record { none = frame.bounded.none; within = omega (arith, frame.low) }) below free in
+pub locked-below : (setup : Setup) (q : Placement) (well : Well) (rows : ℕ) → is_below setup.rows q ≡ true → is_free (filled setup.well) q ≡ true →
+    filled well ≡ locked (filled setup.well) q → rows ≡ setup.rows - rows_removed (filled setup.well) q → LiesBelow (filled well) rows
+locked-below setup q well rows below free field is =
+    let low = locked-low (filled setup.well) setup.rows q (record { none = setup.bounded.none; within = omega (arith, setup.low) }) below free in
     record { none = λ x y above. ap (λ (F : Field). F x y) field ∙ low.none x y (omega (arith, is)) }
 
 -- the entries of a supply, read again

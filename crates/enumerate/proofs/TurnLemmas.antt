@@ -23,14 +23,16 @@ use Rattle.hold_queue.specs.QueueSet.{QueuesInPlay, QueuesPermit, queues_in_play
 use Rattle.moves.proofs.CallerLemmas.{is_place-decides}
 use Rattle.hold_queue.proofs.CallerLemmas.{queues_permit-decides}
 use Rattle.enumerate.specs.declared.frame.Frame.{Frame}
+use Rattle.enumerate.specs.declared.setup.Setup.{Setup}
 use Rattle.well.specs.LockLaws.{is_below}
 use Rattle.enumerate.specs.Position.{Position, after_of, may_play, places_at, is_live}
 use Rattle.enumerate.specs.Standing.{may_lock}
 use Rattle.enumerate.specs.Events.{Event, Tick, Flood, Found, Walk, entered, tried, tried_in_turn, enter}
-use Rattle.enumerate.specs.Frames.{position_of, places_left, entered_placement, events_of}
+use Rattle.enumerate.specs.Frames.{places_left, entered_placement, events_of}
+use Rattle.enumerate.specs.Setups.{position_of}
 use Rattle.enumerate.specs.declared.turn.Turn.{Turn}
 use Rattle.enumerate.specs.declared.turn.Turn.TheVariants.{Passed, Flooded, Entered, Full, Over}
-use Rattle.enumerate.specs.Turns.{Enters, EntersAs, GoesAs, IsChild, LeadsOn, SamePlaces, SamePosition, Turns}
+use Rattle.enumerate.specs.Turns.{Enters, EntersAs, GoesAs, IsChild, SamePlaces, Turns}
 use Rattle.enumerate.proofs.PlaceLaws.{place-lockable}
 use Rattle.enumerate.proofs.Choices.{if_false, if_true}
 
@@ -102,68 +104,70 @@ module _ (table : Table) (F : Field) (mode : DropMode) (piece : Piece) (places :
 
 -- ---- entering
 
-module _ (frame : Frame) (q : Placement) (below : is_below frame.rows q ≡ true) where
-  pub enters-full : frame.left ≡ 0 → frame.rows - rows_removed (filled frame.well) q ≡ 0 → EntersAs frame q (λ table mode prefix. Found prefix ∷ [])
+-- the setup after a placement stands for the position there
+module _ (setup child : Setup) (q : Placement) (field : filled child.well ≡ locked (filled setup.well) q) (rows : child.rows ≡ setup.rows - rows_removed (filled setup.well) q)
+    (line : queues_in_play child.line.queues ≡ record (queues_in_play setup.line.queues) { played = (queues_in_play setup.line.queues).played ++ q.piece ∷ [] }) where
+  pub child-position : (table : Table) (mode : DropMode) → position_of table mode child ≡ after_of (position_of table mode setup) q
+  unfolding position_of after_of
+  child-position table mode = λ i. record { table = table; mode = mode; field = field i; rows = rows i; line = line i }
+
+module _ (setup : Setup) (q : Placement) (below : is_below setup.rows q ≡ true) where
+  pub enters-full : setup.left ≡ 0 → setup.rows - rows_removed (filled setup.well) q ≡ 0 → EntersAs setup q (λ table mode prefix. Found prefix ∷ [])
   unfolding entered position_of enter after_of
   enters-full none done = record {
     same = λ table mode prefix.
-        if_true (is_below frame.rows q) (enter frame.left (prefix ++ q ∷ []) (after_of (position_of table mode frame) q)) [] below
-        ∙ ap (λ left. enter left (prefix ++ q ∷ []) (after_of (position_of table mode frame) q)) none
-        ∙ ap (λ e. e ∷ []) (if_true (frame.rows - rows_removed (filled frame.well) q == 0) (Found (prefix ++ q ∷ [])) Tick (eq-eqb _ 0 done));
+        if_true (is_below setup.rows q) (enter setup.left (prefix ++ q ∷ []) (after_of (position_of table mode setup) q)) [] below
+        ∙ ap (λ left. enter left (prefix ++ q ∷ []) (after_of (position_of table mode setup) q)) none
+        ∙ ap (λ e. e ∷ []) (if_true (setup.rows - rows_removed (filled setup.well) q == 0) (Found (prefix ++ q ∷ [])) Tick (eq-eqb _ 0 done));
   }
 
-  pub enters-rows_left : frame.left ≡ 0 → (frame.rows - rows_removed (filled frame.well) q == 0) ≡ false → EntersAs frame q (λ table mode prefix. Tick ∷ [])
+  pub enters-rows_left : setup.left ≡ 0 → (setup.rows - rows_removed (filled setup.well) q == 0) ≡ false → EntersAs setup q (λ table mode prefix. Tick ∷ [])
   unfolding entered position_of enter after_of
   enters-rows_left none more = record {
     same = λ table mode prefix.
-        if_true (is_below frame.rows q) (enter frame.left (prefix ++ q ∷ []) (after_of (position_of table mode frame) q)) [] below
-        ∙ ap (λ left. enter left (prefix ++ q ∷ []) (after_of (position_of table mode frame) q)) none
-        ∙ ap (λ e. e ∷ []) (if_false (frame.rows - rows_removed (filled frame.well) q == 0) (Found (prefix ++ q ∷ [])) Tick more);
+        if_true (is_below setup.rows q) (enter setup.left (prefix ++ q ∷ []) (after_of (position_of table mode setup) q)) [] below
+        ∙ ap (λ left. enter left (prefix ++ q ∷ []) (after_of (position_of table mode setup) q)) none
+        ∙ ap (λ e. e ∷ []) (if_false (setup.rows - rows_removed (filled setup.well) q == 0) (Found (prefix ++ q ∷ [])) Tick more);
   }
 
-  -- the frame after a placement stands for the position there
-  module _ (child : Frame) (field : filled child.well ≡ locked (filled frame.well) q) (rows : child.rows ≡ frame.rows - rows_removed (filled frame.well) q)
-      (line : queues_in_play child.line.queues ≡ record (queues_in_play frame.line.queues) { played = (queues_in_play frame.line.queues).played ++ q.piece ∷ [] }) where
-    child-position : (table : Table) (mode : DropMode) → position_of table mode child ≡ after_of (position_of table mode frame) q
-    unfolding position_of after_of
-    child-position table mode = λ i. record { table = table; mode = mode; field = field i; rows = rows i; line = line i }
-
-    pub is_child : child.left + 1 ≡ frame.left → child.tried ≡ 0 → child.places ≡ None → ((table : Table) (mode : DropMode) → is_live child.left (after_of (position_of table mode frame) q) ≡ true) → IsChild frame q child
+  -- the frame after a placement
+  module _ (child : Frame) (position : (table : Table) (mode : DropMode) → position_of table mode child.setup ≡ after_of (position_of table mode setup) q) where
+    pub is_child : child.setup.left + 1 ≡ setup.left → child.tried ≡ 0 → child.places ≡ None → ((table : Table) (mode : DropMode) → is_live child.setup.left (after_of (position_of table mode setup) q) ≡ true) → IsChild setup q child
     is_child left tried places live = record {
       left = left;
       below = below;
-      position = child-position;
-      live = λ table mode. subst (λ n. is_live child.left n ≡ true) (sym (child-position table mode)) (live table mode);
+      position = position;
+      live = λ table mode. subst (λ n. is_live child.setup.left n ≡ true) (sym (position table mode)) (live table mode);
       tried = tried;
       places = places;
     }
 
-    pub enters-child : child.left + 1 ≡ frame.left → child.tried ≡ 0 → child.places ≡ None → ((table : Table) (mode : DropMode) → is_live child.left (after_of (position_of table mode frame) q) ≡ true) →
-        EntersAs frame q (λ table mode prefix. Tick ∷ events_of table mode prefix child)
+    pub enters-child : child.setup.left + 1 ≡ setup.left → child.tried ≡ 0 → child.places ≡ None → ((table : Table) (mode : DropMode) → is_live child.setup.left (after_of (position_of table mode setup) q) ≡ true) →
+        EntersAs setup q (λ table mode prefix. Tick ∷ events_of table mode prefix child)
     unfolding entered enter events_of places_left position_of
     enters-child left tried places live = record {
       same = λ table mode prefix.
-          let next : Position = after_of (position_of table mode frame) q in
-          let depth : frame.left ≡ suc child.left = omega (arith, left) in
-          if_true (is_below frame.rows q) (enter frame.left (prefix ++ q ∷ []) next) [] below
+          let next : Position = after_of (position_of table mode setup) q in
+          let depth : setup.left ≡ suc child.setup.left = omega (arith, left) in
+          if_true (is_below setup.rows q) (enter setup.left (prefix ++ q ∷ []) next) [] below
           ∙ ap (λ left. enter left (prefix ++ q ∷ []) next) depth
-          ∙ if_true (is_live child.left next) (Tick ∷ tried_in_turn (enter child.left) (prefix ++ q ∷ []) next all_pieces) [] (live table mode)
+          ∙ if_true (is_live child.setup.left next) (Tick ∷ tried_in_turn (enter child.setup.left) (prefix ++ q ∷ []) next all_pieces) [] (live table mode)
           ∙ ap (λ l. Tick ∷ l)
-          (sym (λ i. tried_in_turn (enter child.left) (prefix ++ q ∷ []) (child-position table mode i) all_pieces)
-          ∙ ap (λ k. tried_in_turn (enter child.left) (prefix ++ q ∷ []) (position_of table mode child) (drop k all_pieces)) (sym tried)
-          ∙ ap (λ p. flat_map (entered (enter child.left) (prefix ++ q ∷ []) (position_of table mode child)) (places_left p child.entered)
-          ++ tried_in_turn (enter child.left) (prefix ++ q ∷ []) (position_of table mode child) (drop child.tried all_pieces)) (sym places));
+          (sym (λ i. tried_in_turn (enter child.setup.left) (prefix ++ q ∷ []) (position table mode i) all_pieces)
+          ∙ ap (λ k. tried_in_turn (enter child.setup.left) (prefix ++ q ∷ []) (position_of table mode child.setup) (drop k all_pieces)) (sym tried)
+          ∙ ap (λ p. flat_map (entered (enter child.setup.left) (prefix ++ q ∷ []) (position_of table mode child.setup)) (places_left p child.entered)
+          ++ tried_in_turn (enter child.setup.left) (prefix ++ q ∷ []) (position_of table mode child.setup) (drop child.tried all_pieces)) (sym places));
     }
 
   -- a position that has no tiling
-  pub enters-dead : (left : ℕ) → left + 1 ≡ frame.left → ((table : Table) (mode : DropMode) → is_live left (after_of (position_of table mode frame) q) ≡ false) →
-      EntersAs frame q (λ table mode prefix. [])
+  pub enters-dead : (left : ℕ) → left + 1 ≡ setup.left → ((table : Table) (mode : DropMode) → is_live left (after_of (position_of table mode setup) q) ≡ false) →
+      EntersAs setup q (λ table mode prefix. [])
   unfolding entered enter position_of
   enters-dead left less dead = record {
     same = λ table mode prefix.
-        let next : Position = after_of (position_of table mode frame) q in
-        let depth : frame.left ≡ suc left = omega (arith, less) in
-        if_true (is_below frame.rows q) (enter frame.left (prefix ++ q ∷ []) next) [] below
+        let next : Position = after_of (position_of table mode setup) q in
+        let depth : setup.left ≡ suc left = omega (arith, less) in
+        if_true (is_below setup.rows q) (enter setup.left (prefix ++ q ∷ []) next) [] below
         ∙ ap (λ left. enter left (prefix ++ q ∷ []) next) depth
         ∙ if_false (is_live left next) (Tick ∷ tried_in_turn (enter left) (prefix ++ q ∷ []) next all_pieces) [] (dead table mode);
   }
@@ -185,10 +189,10 @@ entered-below walk prefix n (q ∷ qs) = elim (cases_Bool (is_below n.rows q)) [
     nothing e = if_false (is_below n.rows q) (walk (prefix ++ q ∷ []) (after_of n q)) [] e
 
 events-shape : (table : Table) (mode : DropMode) (frame : Frame) (prefix : List Placement) → places_left frame.places frame.entered ≡ [] →
-    events_of table mode prefix frame ≡ tried_in_turn (enter frame.left) prefix (position_of table mode frame) (drop frame.tried all_pieces)
+    events_of table mode prefix frame ≡ tried_in_turn (enter frame.setup.left) prefix (position_of table mode frame.setup) (drop frame.tried all_pieces)
 unfolding events_of
 events-shape table mode frame prefix none =
-    ap (λ l. flat_map (entered (enter frame.left) prefix (position_of table mode frame)) l ++ tried_in_turn (enter frame.left) prefix (position_of table mode frame) (drop frame.tried all_pieces)) none
+    ap (λ l. flat_map (entered (enter frame.setup.left) prefix (position_of table mode frame.setup)) l ++ tried_in_turn (enter frame.setup.left) prefix (position_of table mode frame.setup) (drop frame.tried all_pieces)) none
 
 tried_in_turn-cons : (walk : Walk) (prefix : List Placement) (n : Position) (c : Piece) (cs : List Piece) → tried_in_turn walk prefix n (c ∷ cs) ≡ tried walk prefix n c ++ tried_in_turn walk prefix n cs
 unfolding tried_in_turn
@@ -207,90 +211,80 @@ pub goes-over : (table : Table) (mode : DropMode) (frame : Frame) → places_lef
 goes-over table mode frame none last = record {
   same = λ prefix.
       events-shape table mode frame prefix none
-      ∙ ap (tried_in_turn (enter frame.left) prefix (position_of table mode frame)) last
-      ∙ tried_in_turn-nil (enter frame.left) prefix (position_of table mode frame);
+      ∙ ap (tried_in_turn (enter frame.setup.left) prefix (position_of table mode frame.setup)) last
+      ∙ tried_in_turn-nil (enter frame.setup.left) prefix (position_of table mode frame.setup);
 }
 
--- two frames at one position
-pub same-position : (table : Table) (mode : DropMode) (old new : Frame) → SamePosition old new → position_of table mode new ≡ position_of table mode old
-unfolding position_of
-same-position table mode old new same = λ i. record { table = table; mode = mode; field = filled (same.well i); rows = same.rows i; line = queues_in_play (same.queues i) }
-
 -- two frames at one position, with the same places left
-module _ (table : Table) (mode : DropMode) (old new : Frame) (same : SamePosition old new) (places : SamePlaces old new) (prefix : List Placement) where
+module _ (table : Table) (mode : DropMode) (old new : Frame) (same : new.setup ≡ old.setup) (places : SamePlaces old new) (prefix : List Placement) where
   pub stays : events_of table mode prefix new ≡ events_of table mode prefix old
   unfolding events_of
   stays = λ i.
-      flat_map (entered (enter (same.left i)) prefix (same-position table mode old new same i)) (places_left (places.places i) (places.entered i))
-      ++ tried_in_turn (enter (same.left i)) prefix (same-position table mode old new same i) (drop (places.tried i) all_pieces)
+      flat_map (entered (enter (same i).left) prefix (position_of table mode (same i))) (places_left (places.places i) (places.entered i))
+      ++ tried_in_turn (enter (same i).left) prefix (position_of table mode (same i)) (drop (places.tried i) all_pieces)
 
-pub goes-stays : (table : Table) (mode : DropMode) (old new : Frame) (same : SamePosition old new) (places : SamePlaces old new) (q : Placement) (prefix : List Placement) →
-    entered (enter old.left) prefix (position_of table mode old) q ++ events_of table mode prefix old
-    ≡ entered (enter new.left) prefix (position_of table mode new) q ++ events_of table mode prefix new
+pub goes-stays : (table : Table) (mode : DropMode) (old new : Frame) (same : new.setup ≡ old.setup) (places : SamePlaces old new) (q : Placement) (prefix : List Placement) →
+    entered (enter old.setup.left) prefix (position_of table mode old.setup) q ++ events_of table mode prefix old
+    ≡ entered (enter new.setup.left) prefix (position_of table mode new.setup) q ++ events_of table mode prefix new
 goes-stays table mode old new same places q prefix =
-    sym (λ i. entered (enter (same.left i)) prefix (same-position table mode old new same i) q ++ stays table mode old new same places prefix i)
+    sym (λ i. entered (enter (same i).left) prefix (position_of table mode (same i)) q ++ stays table mode old new same places prefix i)
 
-pub leads-stays : (old new : Frame) (same : SamePosition old new) (q : Placement) → LeadsOn old q → LeadsOn new q
-unfolding position_of
-leads-stays old new same q leads = λ table mode left less.
-    subst (λ n. is_live left (after_of n q) ≡ true) (sym (same-position table mode old new same)) (leads table mode left (less ∙ same.left))
-
-module _ (table : Table) (mode : DropMode) (old new : Frame) (same : SamePosition old new) (c : Piece)
+module _ (table : Table) (mode : DropMode) (old new : Frame) (same : new.setup ≡ old.setup) (c : Piece)
     (none : places_left old.places old.entered ≡ []) (next : drop old.tried all_pieces ≡ c ∷ drop new.tried all_pieces) where
   begins : (prefix : List Placement) → events_of table mode prefix old
-      ≡ tried (enter old.left) prefix (position_of table mode old) c ++ tried_in_turn (enter old.left) prefix (position_of table mode old) (drop new.tried all_pieces)
+      ≡ tried (enter old.setup.left) prefix (position_of table mode old.setup) c ++ tried_in_turn (enter old.setup.left) prefix (position_of table mode old.setup) (drop new.tried all_pieces)
   begins prefix =
       events-shape table mode old prefix none
-      ∙ ap (tried_in_turn (enter old.left) prefix (position_of table mode old)) next
-      ∙ tried_in_turn-cons (enter old.left) prefix (position_of table mode old) c (drop new.tried all_pieces)
+      ∙ ap (tried_in_turn (enter old.setup.left) prefix (position_of table mode old.setup)) next
+      ∙ tried_in_turn-cons (enter old.setup.left) prefix (position_of table mode old.setup) c (drop new.tried all_pieces)
 
-  rest-same : (prefix : List Placement) → tried_in_turn (enter new.left) prefix (position_of table mode new) (drop new.tried all_pieces) ≡ tried_in_turn (enter old.left) prefix (position_of table mode old) (drop new.tried all_pieces)
-  rest-same prefix = λ i. tried_in_turn (enter (same.left i)) prefix (same-position table mode old new same i) (drop new.tried all_pieces)
+  rest-same : (prefix : List Placement) → tried_in_turn (enter new.setup.left) prefix (position_of table mode new.setup) (drop new.tried all_pieces) ≡ tried_in_turn (enter old.setup.left) prefix (position_of table mode old.setup) (drop new.tried all_pieces)
+  rest-same prefix = λ i. tried_in_turn (enter (same i).left) prefix (position_of table mode (same i)) (drop new.tried all_pieces)
 
-  pub goes-past_kind : may_play (queues_in_play old.line.queues) c ≡ false → places_left new.places new.entered ≡ [] → (prefix : List Placement) → events_of table mode prefix old ≡ events_of table mode prefix new
+  pub goes-past_kind : may_play (queues_in_play old.setup.line.queues) c ≡ false → places_left new.places new.entered ≡ [] → (prefix : List Placement) → events_of table mode prefix old ≡ events_of table mode prefix new
   unfolding tried position_of
   goes-past_kind not_played none_new prefix =
       begins prefix
-      ∙ ap (λ l. l ++ tried_in_turn (enter old.left) prefix (position_of table mode old) (drop new.tried all_pieces)) (if_false (may_play (queues_in_play old.line.queues) c) _ [] not_played)
+      ∙ ap (λ l. l ++ tried_in_turn (enter old.setup.left) prefix (position_of table mode old.setup) (drop new.tried all_pieces)) (if_false (may_play (queues_in_play old.setup.line.queues) c) _ [] not_played)
       ∙ sym (events-shape table mode new prefix none_new ∙ rest-same prefix)
 
-  pub goes-flooded : may_play (queues_in_play old.line.queues) c ≡ true → places_left new.places new.entered ≡ filter (is_below old.rows) (places_at (position_of table mode old) c) → GoesAs table mode old (λ prefix. Flood ∷ events_of table mode prefix new)
+  pub goes-flooded : may_play (queues_in_play old.setup.line.queues) c ≡ true → places_left new.places new.entered ≡ filter (is_below old.setup.rows) (places_at (position_of table mode old.setup) c) → GoesAs table mode old (λ prefix. Flood ∷ events_of table mode prefix new)
   unfolding tried position_of events_of
   goes-flooded played places = record {
     same = λ prefix.
         begins prefix
-        ∙ ap (λ l. l ++ tried_in_turn (enter old.left) prefix (position_of table mode old) (drop new.tried all_pieces))
-        (if_true (may_play (queues_in_play old.line.queues) c) (Flood ∷ flat_map (entered (enter old.left) prefix (position_of table mode old)) (places_at (position_of table mode old) c)) [] played)
-        ∙ ap (λ l. Flood ∷ (l ++ tried_in_turn (enter old.left) prefix (position_of table mode old) (drop new.tried all_pieces)))
-        (sym (entered-below (enter old.left) prefix (position_of table mode old) (places_at (position_of table mode old) c)))
+        ∙ ap (λ l. l ++ tried_in_turn (enter old.setup.left) prefix (position_of table mode old.setup) (drop new.tried all_pieces))
+        (if_true (may_play (queues_in_play old.setup.line.queues) c) (Flood ∷ flat_map (entered (enter old.setup.left) prefix (position_of table mode old.setup)) (places_at (position_of table mode old.setup) c)) [] played)
+        ∙ ap (λ l. Flood ∷ (l ++ tried_in_turn (enter old.setup.left) prefix (position_of table mode old.setup) (drop new.tried all_pieces)))
+        (sym (entered-below (enter old.setup.left) prefix (position_of table mode old.setup) (places_at (position_of table mode old.setup) c)))
         ∙ ap (λ l. Flood ∷ l)
-        (sym ((λ i. flat_map (entered (enter (same.left i)) prefix (same-position table mode old new same i)) (places i)
-        ++ tried_in_turn (enter (same.left i)) prefix (same-position table mode old new same i) (drop new.tried all_pieces))));
+        (sym ((λ i. flat_map (entered (enter (same i).left) prefix (position_of table mode (same i))) (places i)
+        ++ tried_in_turn (enter (same i).left) prefix (position_of table mode (same i)) (drop new.tried all_pieces))));
   }
 
 -- the next placement is entered
-module _ (table : Table) (mode : DropMode) (old new : Frame) (same : SamePosition old new) (q : Placement)
+module _ (table : Table) (mode : DropMode) (old new : Frame) (same : new.setup ≡ old.setup) (q : Placement)
     (first : places_left old.places old.entered ≡ q ∷ places_left new.places new.entered) (kinds : new.tried ≡ old.tried) where
-  pub one-entered : (prefix : List Placement) → events_of table mode prefix old ≡ entered (enter new.left) prefix (position_of table mode new) q ++ events_of table mode prefix new
+  pub one-entered : (prefix : List Placement) → events_of table mode prefix old ≡ entered (enter new.setup.left) prefix (position_of table mode new.setup) q ++ events_of table mode prefix new
   unfolding events_of
   one-entered prefix =
       (λ i. flat_map (entered (enter (left i)) prefix (position i)) (first i) ++ tried_in_turn (enter (left i)) prefix (position i) (drop (kinds' i) all_pieces))
-      ∙ append_assoc (entered (enter new.left) prefix (position_of table mode new) q) (flat_map (entered (enter new.left) prefix (position_of table mode new)) (places_left new.places new.entered)) (tried_in_turn (enter new.left) prefix (position_of table mode new) (drop new.tried all_pieces))
+      ∙ append_assoc (entered (enter new.setup.left) prefix (position_of table mode new.setup) q) (flat_map (entered (enter new.setup.left) prefix (position_of table mode new.setup)) (places_left new.places new.entered)) (tried_in_turn (enter new.setup.left) prefix (position_of table mode new.setup) (drop new.tried all_pieces))
     where
-      left : old.left ≡ new.left
-      left = sym same.left
+      left : old.setup.left ≡ new.setup.left
+      left = ap (λ (s : Setup). s.left) (sym same)
 
       kinds' : old.tried ≡ new.tried
       kinds' = sym kinds
 
-      position : position_of table mode old ≡ position_of table mode new
-      position = sym (same-position table mode old new same)
+      position : position_of table mode old.setup ≡ position_of table mode new.setup
+      position = ap (position_of table mode) (sym same)
 
-  pub one-passed : EntersAs new q (λ table mode prefix. []) → (prefix : List Placement) → events_of table mode prefix old ≡ events_of table mode prefix new
+  pub one-passed : EntersAs new.setup q (λ table mode prefix. []) → (prefix : List Placement) → events_of table mode prefix old ≡ events_of table mode prefix new
   one-passed enters prefix = one-entered prefix ∙ ap (λ l. l ++ events_of table mode prefix new) (enters.same table mode prefix)
 
 -- where nothing is left to enter at a frame, what it does is what another does at its position with the same kinds
-module _ (table : Table) (mode : DropMode) (old mid : Frame) (same : SamePosition old mid) (kinds : mid.tried ≡ old.tried)
+module _ (table : Table) (mode : DropMode) (old mid : Frame) (same : mid.setup ≡ old.setup) (kinds : mid.tried ≡ old.tried)
     (none : places_left old.places old.entered ≡ []) (none_mid : places_left mid.places mid.entered ≡ []) where
   goes-from : (events : List Placement → List Event) → GoesAs table mode mid events → GoesAs table mode old events
   goes-from events goes = record {
@@ -301,14 +295,14 @@ module _ (table : Table) (mode : DropMode) (old mid : Frame) (same : SamePositio
         ∙ goes.same prefix;
   }
     where
-      left : old.left ≡ mid.left
-      left = sym same.left
+      left : old.setup.left ≡ mid.setup.left
+      left = ap (λ (s : Setup). s.left) (sym same)
 
       kinds' : old.tried ≡ mid.tried
       kinds' = sym kinds
 
-      position : position_of table mode old ≡ position_of table mode mid
-      position = sym (same-position table mode old mid same)
+      position : position_of table mode old.setup ≡ position_of table mode mid.setup
+      position = ap (position_of table mode) (sym same)
 
   pub none-left : (prefix : List Placement) → events_of table mode prefix old ≡ events_of table mode prefix mid
   none-left prefix = (goes-from (λ prefix. events_of table mode prefix mid) record { same = λ prefix. refl }).same prefix
@@ -324,9 +318,9 @@ not-zero k differs = elim (cases_Bool (k == 0)) [
 ]
 
 -- a turn that enters a placement
-module _ (table : Table) (mode : DropMode) (old new : Frame) (left : new.left ≡ old.left) (q : Placement) (step : new.entered ≡ Some q)
-    (goes : (prefix : List Placement) → events_of table mode prefix old ≡ entered (enter new.left) prefix (position_of table mode new) q ++ events_of table mode prefix new) where
-  goes-entered : (events : Table → DropMode → List Placement → List Event) → EntersAs new q events →
+module _ (table : Table) (mode : DropMode) (old new : Frame) (left : new.setup.left ≡ old.setup.left) (q : Placement) (step : new.entered ≡ Some q)
+    (goes : (prefix : List Placement) → events_of table mode prefix old ≡ entered (enter new.setup.left) prefix (position_of table mode new.setup) q ++ events_of table mode prefix new) where
+  goes-entered : (events : Table → DropMode → List Placement → List Event) → EntersAs new.setup q events →
       GoesAs table mode old (λ prefix. events table mode (prefix ++ entered_placement new) ++ events_of table mode prefix new)
   goes-entered events enters = record {
     same = λ prefix.
@@ -337,7 +331,7 @@ module _ (table : Table) (mode : DropMode) (old new : Frame) (left : new.left �
       step-is : entered_placement new ≡ q ∷ []
       step-is = ap option_to_list step
 
-  pub enters-turn : (child : Frame) (result : Turn) (steps : ℕ) → Enters new q child result → Turns table mode old new child result steps steps
+  pub enters-turn : (child : Frame) (result : Turn) (steps : ℕ) → Enters new.setup q child result → Turns table mode old new child result steps steps
   enters-turn child Passed steps enters = (goes-entered (λ table mode prefix. Tick ∷ []) enters, refl)
   enters-turn child Flooded steps enters = absurd enters
   enters-turn child Entered steps enters = (goes-entered (λ table mode prefix. Tick ∷ events_of table mode prefix child) enters.0, refl, enters.1.left ∙ left)
@@ -345,7 +339,7 @@ module _ (table : Table) (mode : DropMode) (old new : Frame) (left : new.left �
   enters-turn child Over steps enters = absurd enters
 
 -- what a turn comes to at a frame that does what another does
-pub turns-as : (table : Table) (mode : DropMode) (old mid new child : Frame) (result : Turn) (before now : ℕ) → mid.left ≡ old.left →
+pub turns-as : (table : Table) (mode : DropMode) (old mid new child : Frame) (result : Turn) (before now : ℕ) → mid.setup.left ≡ old.setup.left →
     ((prefix : List Placement) → events_of table mode prefix old ≡ events_of table mode prefix mid) → Turns table mode mid new child result before now → Turns table mode old new child result before now
 turns-as table mode old mid new child Passed before now left goes turns = (record { same = λ prefix. goes prefix ∙ turns.0.same prefix }, turns.1)
 turns-as table mode old mid new child Flooded before now left goes turns = (record { same = λ prefix. goes prefix ∙ turns.0.same prefix }, turns.1)

@@ -8,23 +8,12 @@ use Rattle.srs.specs.Piece.{all_pieces}
 use Rattle.srs.specs.Order.{placement_cmp}
 use Rattle.srs.specs.Placements.{placements_of}
 use Rattle.srs.specs.Rising.{is_above}
-use Rattle.well.specs.Well.{filled}
 use Rattle.moves.specs.declared.key.DropMode.{DropMode}
 use Rattle.place_sets.specs.declared.low_held.LowPlaces.{LowPlaces}
 use Rattle.place_sets.specs.LowPlaces.{holds, piece_of}
-use Rattle.hold_queue.specs.QueueSet.{queues_in_play}
 use Rattle.enumerate.specs.declared.frame.Frame.{Frame}
-use Rattle.enumerate.specs.Position.{Position}
+use Rattle.enumerate.specs.Setups.{position_of}
 use Rattle.enumerate.specs.Events.{Event, entered, tried_in_turn, enter}
-
-unfoldable pub position_of : Table → DropMode → Frame → Position
-position_of table mode frame = record {
-  table = table;
-  mode = mode;
-  field = filled frame.well;
-  rows = frame.rows;
-  line = queues_in_play frame.line.queues;
-}
 
 -- the held placements above the one that was entered last
 unfoldable pub places_left : Option LowPlaces → Option Placement → List Placement
@@ -39,8 +28,9 @@ entered_placement frame = option_to_list frame.entered
 -- what is still to be done at a frame
 unfoldable pub events_of : Table → DropMode → List Placement → Frame → List Event
 events_of table mode prefix frame =
-    flat_map (entered (enter frame.left) prefix (position_of table mode frame)) (places_left frame.places frame.entered)
-    ++ tried_in_turn (enter frame.left) prefix (position_of table mode frame) (drop frame.tried all_pieces)
+    flat_map (entered (enter frame.setup.left) prefix (position_of table mode frame.setup))
+    (places_left frame.places frame.entered)
+    ++ tried_in_turn (enter frame.setup.left) prefix (position_of table mode frame.setup) (drop frame.tried all_pieces)
 
 -- what is still to be done at frames, from the first position on: the deepest one comes first
 unfoldable pub stacked : Table → DropMode → List Placement → List Frame → List Event
@@ -55,4 +45,4 @@ path_of frames = flat_map entered_placement frames
 -- there is room for the frames below
 unfoldable pub has_room : ℕ → List Frame → Bool
 has_room depth [] = true
-has_room depth (frame ∷ frames) = nat_le (frame.left + depth) 19 && has_room (suc depth) frames
+has_room depth (frame ∷ frames) = nat_le (frame.setup.left + depth) 19 && has_room (suc depth) frames

@@ -8,7 +8,7 @@ pub mod ViewOf
 pub mod Settled
 pub mod Events
 pub mod Standing
-pub mod LeavesLive
+pub mod Setups
 pub mod Frames
 pub mod Turns
 pub mod Walks

@@ -9,23 +9,16 @@ use Rattle.moves.specs.declared.key.DropMode.{DropMode}
 use Rattle.place_sets.specs.declared.low_held.LowPlaces.{LowPlaces}
 use Rattle.place_sets.specs.LowPlaces.{holds}
 use Rattle.enumerate.specs.declared.frame.Frame.{Frame}
+use Rattle.enumerate.specs.declared.setup.Setup.{Setup}
 use Rattle.enumerate.specs.declared.turn.Turn.{Turn}
 use Rattle.enumerate.specs.declared.turn.Turn.TheVariants.{Passed, Flooded, Entered, Full, Over}
 use Rattle.well.specs.LockLaws.{is_below}
 use Rattle.well.specs.Well.{filled}
-use Rattle.hold_queue.specs.QueueSet.{queues_in_play}
 use Rattle.enumerate.specs.Standing.{may_lock}
 use Rattle.enumerate.specs.Position.{after_of, is_live}
-use Rattle.enumerate.specs.LeavesLive.{LeavesLive}
 use Rattle.enumerate.specs.Events.{Event, Tick, Flood, Found, entered, enter}
-use Rattle.enumerate.specs.Frames.{position_of, entered_placement, events_of}
-
--- the two frames differ only in what was tried
-pub record SamePosition (old new : Frame) : Type 0 where
-  pub well : new.well ≡ old.well
-  pub rows : new.rows ≡ old.rows
-  pub queues : new.line.queues ≡ old.line.queues
-  pub left : new.left ≡ old.left
+use Rattle.enumerate.specs.Setups.{LeadsOn, position_of}
+use Rattle.enumerate.specs.Frames.{entered_placement, events_of}
 
 -- the same kinds were tried at the two frames, with the same places left
 pub record SamePlaces (old new : Frame) : Type 0 where
@@ -34,43 +27,40 @@ pub record SamePlaces (old new : Frame) : Type 0 where
   pub entered : new.entered ≡ old.entered
 
 -- what there is to do at a placement, whatever the rules, and after any prefix
-pub record EntersAs (frame : Frame) (q : Placement)
+pub record EntersAs (setup : Setup) (q : Placement)
     (events : Table → DropMode → List Placement → List Event) : Type 0 where
   pub same : (table : Table) (mode : DropMode) (prefix : List Placement) →
-      entered (enter frame.left) prefix (position_of table mode frame) q ≡ events table mode (prefix ++ q ∷ [])
+      entered (enter setup.left) prefix (position_of table mode setup) q ≡ events table mode (prefix ++ q ∷ [])
 
 -- nothing is to be done at placements of a piece with these pivots
-pub record AreDead (frame : Frame) (piece : Piece) (pivots : List ℕ) : Type 0 where
-  pub dead : (q : Placement) → q.piece ≡ piece → may_lock (filled frame.well) piece q ≡ true → is_below frame.rows q ≡ true →
-      cells_of_words pivots (rotation_place q.rotation) q.x q.y ≡ true → EntersAs frame q (λ table mode prefix. [])
-
--- where one more placement is to come, the position after this one is live
-abbrev pub LeadsOn : Frame → Placement → Type 0
-LeadsOn frame q = LeavesLive (filled frame.well) frame.rows (queues_in_play frame.line.queues) frame.left q
+pub record AreDead (setup : Setup) (piece : Piece) (pivots : List ℕ) : Type 0 where
+  pub dead : (q : Placement) → q.piece ≡ piece →
+      may_lock (filled setup.well) piece q ≡ true → is_below setup.rows q ≡ true →
+      cells_of_words pivots (rotation_place q.rotation) q.x q.y ≡ true → EntersAs setup q (λ table mode prefix. [])
 
 -- after places of which none has these pivots the position is live
-abbrev pub AreLiveBut : Frame → LowPlaces → List ℕ → Type 0
-AreLiveBut frame places pivots = (q : Placement) → holds places q ≡ true →
-    cells_of_words pivots (rotation_place q.rotation) q.x q.y ≡ false → LeadsOn frame q
+abbrev pub AreLiveBut : Setup → LowPlaces → List ℕ → Type 0
+AreLiveBut setup places pivots = (q : Placement) → holds places q ≡ true →
+    cells_of_words pivots (rotation_place q.rotation) q.x q.y ≡ false → LeadsOn setup q
 
 -- the frame after a placement, at which nothing was tried
-pub record IsChild (frame : Frame) (q : Placement) (child : Frame) : Type 0 where
-  pub left : child.left + 1 ≡ frame.left
-  pub below : is_below frame.rows q ≡ true
+pub record IsChild (setup : Setup) (q : Placement) (child : Frame) : Type 0 where
+  pub left : child.setup.left + 1 ≡ setup.left
+  pub below : is_below setup.rows q ≡ true
   pub position : (table : Table) (mode : DropMode) →
-      position_of table mode child ≡ after_of (position_of table mode frame) q
-  pub live : (table : Table) (mode : DropMode) → is_live child.left (position_of table mode child) ≡ true
+      position_of table mode child.setup ≡ after_of (position_of table mode setup) q
+  pub live : (table : Table) (mode : DropMode) → is_live child.setup.left (position_of table mode child.setup) ≡ true
   pub tried : child.tried ≡ 0
   pub places : child.places ≡ None
 
 -- what entering a placement came to, and the frame after it where there is one
-abbrev pub Enters : Frame → Placement → Frame → Turn → Type 0
-Enters frame q child Passed = EntersAs frame q (λ table mode prefix. Tick ∷ [])
-Enters frame q child Flooded = ⊥
-Enters frame q child Entered =
-    EntersAs frame q (λ table mode prefix. Tick ∷ events_of table mode prefix child) × IsChild frame q child
-Enters frame q child Full = EntersAs frame q (λ table mode prefix. Found prefix ∷ [])
-Enters frame q child Over = ⊥
+abbrev pub Enters : Setup → Placement → Frame → Turn → Type 0
+Enters setup q child Passed = EntersAs setup q (λ table mode prefix. Tick ∷ [])
+Enters setup q child Flooded = ⊥
+Enters setup q child Entered =
+    EntersAs setup q (λ table mode prefix. Tick ∷ events_of table mode prefix child) × IsChild setup q child
+Enters setup q child Full = EntersAs setup q (λ table mode prefix. Found prefix ∷ [])
+Enters setup q child Over = ⊥
 
 -- what there was to do at a frame is what there is at this placement, where there is one, and then what is left
 abbrev pub GoesOn : Frame → Frame → Option Placement → Type 0
@@ -78,7 +68,7 @@ GoesOn old new None = (table : Table) (mode : DropMode) (prefix : List Placement
     events_of table mode prefix old ≡ events_of table mode prefix new
 GoesOn old new (Some q) = (table : Table) (mode : DropMode) (prefix : List Placement) →
     events_of table mode prefix old
-    ≡ entered (enter new.left) prefix (position_of table mode new) q ++ events_of table mode prefix new
+    ≡ entered (enter new.setup.left) prefix (position_of table mode new.setup) q ++ events_of table mode prefix new
 
 -- what there is to do at a frame, after any prefix
 pub record GoesAs (table : Table) (mode : DropMode) (frame : Frame)
@@ -94,7 +84,7 @@ Turns table mode old new child Flooded before now =
 Turns table mode old new child Entered before now =
     GoesAs table mode old (λ prefix. Tick ∷ (events_of table mode (prefix ++ entered_placement new) child
     ++ events_of table mode prefix new))
-    × (now ≡ before) × (child.left + 1 ≡ old.left)
+    × (now ≡ before) × (child.setup.left + 1 ≡ old.setup.left)
 Turns table mode old new child Full before now =
     GoesAs table mode old (λ prefix. Found (prefix ++ entered_placement new) ∷ events_of table mode prefix new)
     × (now ≡ before)

@@ -1,18 +1,19 @@
 // What may still be played after a piece of one kind, known for all its places.
-ghost use Rattle.std.specs.Prelude.{◌≡◌, IsTrue, min};
+ghost use Rattle.std.specs.Prelude.{◌≡◌, IfSome, IsTrue, min};
 ghost use Rattle.srs.specs.declared.piece.Piece.{Piece};
 ghost use Rattle.hold_queue.specs.QueueSet.{queues_in_play};
 ghost use Rattle.prune.specs.OnePart.{less_one};
 ghost use Rattle.empty_cells.specs.SupplyWords.{supply_of};
 ghost use Rattle.enumerate.specs.Position.{line_after, may_play};
-ghost use Rattle.enumerate.specs.Turns.{SamePlaces, SamePosition};
+ghost use Rattle.enumerate.specs.Turns.{SamePlaces};
 
 use crate::frame::Frame;
 use crate::line::Line;
+use crate::setup::Setup;
 use empty_cells::SupplyWord;
 use srs::Piece;
 
-impl Frame {
+impl Setup {
     /// How many pieces of each kind may still be played after a piece of this kind: one fewer of it, and of each kind at
     /// most as many as placements come then.
     #[inline(always)]
@@ -26,38 +27,43 @@ impl Frame {
         self.limited.without_one(piece)
     }
 
-    /// Makes a line the one after a piece of this kind.
-    pub fn lead_line(&self, piece: Piece, line: &mut Line)
-        requires { IsTrue (may_play (queues_in_play self.now.line.queues) piece) }
+    /// Makes a line the one after a piece of this kind, which is the kept one, where one is kept.
+    pub fn lead_line(&self, piece: Piece, kept: Option<&Line>, line: &mut Line)
+        requires permitted { IsTrue (may_play (queues_in_play self.now.line.queues) piece) }
+        requires kept { IfSome kept (λ line. queues_in_play line.now.queues
+            ≡ line_after (queues_in_play self.now.line.queues) piece) }
         ensures { queues_in_play line.new.queues ≡ line_after (queues_in_play self.now.line.queues) piece }
     {
-        if let Some(kind) = self.next_kind {
-            if kind.code() == piece.code() {
-                *line = self.next_line;
-                return;
-            }
+        match kept {
+            None => line.follow(&self.line, piece),
+            Some(kept) => *line = *kept,
         }
-        line.follow(&self.line, piece);
     }
+}
 
-    /// Whether the line after a piece of this kind is kept.
-    fn keeps_line(&self, piece: Piece) -> bool {
-        match self.next_kind {
-            None => false,
-            Some(kind) => kind.code() == piece.code(),
+impl Frame {
+    /// The line after a piece of this kind, if it is kept.
+    pub fn kept_line(&self, piece: Piece) -> Option<&Line>
+        ensures { IfSome result (λ line. queues_in_play line.now.queues
+            ≡ line_after (queues_in_play self.now.setup.line.queues) piece) }
+    {
+        let kind = self.next_kind?;
+        if kind.code() == piece.code() {
+            return Some(&self.next_line);
         }
+        None
     }
 
     /// Keeps the line after a piece of this kind, if a placement is to come after it.
     pub fn keep_line(&mut self, piece: Piece)
-        requires { IsTrue (may_play (queues_in_play self.old.line.queues) piece) }
-        ensures same { SamePosition self.old self.new }
+        requires { IsTrue (may_play (queues_in_play self.old.setup.line.queues) piece) }
+        ensures same { self.new.setup ≡ self.old.setup }
         ensures places { SamePlaces self.old self.new }
     {
-        if self.left == 0 || self.keeps_line(piece) {
+        if self.setup.left == 0 || self.kept_line(piece).is_some() {
             return;
         }
-        self.next_line.follow(&self.line, piece);
+        self.setup.lead_line(piece, None, &mut self.next_line);
         self.next_kind = Some(piece);
     }
 }

@@ -2,6 +2,7 @@
 #![tactic(auto)]
 
 mod advance;
+mod after;
 mod following;
 mod frame;
 pub mod laws;
@@ -10,6 +11,7 @@ mod line;
 mod notes;
 mod search;
 mod seek;
+mod setup;
 mod start;
 #[cfg(test)]
 mod tests;

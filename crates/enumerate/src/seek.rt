@@ -5,9 +5,9 @@ ghost use Rattle.reach.specs.FloodRules.{flood_table};
 ghost use Rattle.place_sets.specs.LowPlaces.{piece_of};
 ghost use Rattle.enumerate.specs.Counted.{CountsUp};
 ghost use Rattle.enumerate.specs.Events.{sought};
-ghost use Rattle.enumerate.specs.Frames.{has_room, places_left, position_of, stacked};
+ghost use Rattle.enumerate.specs.Frames.{has_room, places_left, stacked};
 ghost use Rattle.enumerate.specs.declared.frame.Frame.{Frame};
-ghost use Rattle.enumerate.specs.Turns.{SamePosition};
+ghost use Rattle.enumerate.specs.Setups.{position_of};
 ghost use Rattle.enumerate.specs.Seeks.{IsFresh, IsSought, Skips, SkipsTo};
 
 use crate::frame::Frame;
@@ -58,17 +58,17 @@ impl Frame {
         steps: &mut Steps<L>,
     ) -> bool
         requires fresh { IsFresh (flood_table rules.now) drop_mode self.old }
-        requires room { self.old.left ≤ length behind.old }
+        requires room { self.old.setup.left ≤ length behind.old }
         ensures skips { Skips (flood_table rules.now) drop_mode self.old self.new target.now
             (slice_index_or behind.new 0 self.new) result steps.old steps.new }
         ensures size { length behind.new ≡ length behind.old }
-        ensures same { SamePosition self.old self.new }
+        ensures same { self.new.setup ≡ self.old.setup }
         ensures noted { CountsUp notes.old.floods notes.new.floods steps.old steps.new }
     {
         self.tried = target.piece.code();
         self.places = None;
         self.entered = None;
-        if !self.line.queues.may_play(target.piece) {
+        if !self.setup.line.queues.may_play(target.piece) {
             return false;
         }
         self.flood(target.piece, rules, drop_mode, &mut notes.floods, steps);
@@ -77,7 +77,7 @@ impl Frame {
         if !reached {
             return false;
         }
-        if !self.is_worth(target, &mut notes.tilings) {
+        if !self.setup.is_worth(target, &mut notes.tilings) {
             return false;
         }
         match self.enter(target, behind) {
@@ -124,8 +124,8 @@ pub fn seek<L: Ledger>(
     ensures within { result ≤ 20 }
     ensures room { IsTrue (has_room 0 (take result frames.new)) }
     ensures skips { (d : Frame) → SkipsTo
-        (sought (suc (slice_index_or frames.old 0 d).left) [] (position_of (flood_table rules.now) drop_mode
-        (slice_index_or frames.old 0 d)) given.now)
+        (sought (suc (slice_index_or frames.old 0 d).setup.left) []
+        (position_of (flood_table rules.now) drop_mode (slice_index_or frames.old 0 d).setup) given.now)
         (stacked (flood_table rules.now) drop_mode [] (take result frames.new)) steps.old steps.new }
     ensures noted { CountsUp notes.old.floods notes.new.floods steps.old steps.new }
 {

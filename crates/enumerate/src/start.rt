@@ -14,8 +14,9 @@ ghost use Rattle.problem.specs.Problem.{IsFit, needed_of};
 ghost use Rattle.enumerate.specs.Position.{is_live, root_of};
 ghost use Rattle.enumerate.specs.Counted.{as_count, CountsUp};
 ghost use Rattle.enumerate.specs.Events.{found, floods};
-ghost use Rattle.enumerate.specs.Frames.{has_room, path_of, position_of, stacked};
+ghost use Rattle.enumerate.specs.Frames.{has_room, path_of, stacked};
 ghost use Rattle.enumerate.specs.Items.{items_of};
+ghost use Rattle.enumerate.specs.Setups.{position_of};
 ghost use Rattle.enumerate.specs.Rest.{events_from, whole_from};
 ghost use Rattle.enumerate.specs.Walks.{Finds};
 ghost use Rattle.enumerate.specs.Seeks.{SkipsTo};
@@ -31,6 +32,7 @@ use crate::line::Line;
 use crate::notes::Notes;
 use crate::search::Search;
 use crate::seek::seek;
+use crate::setup::Setup;
 use crate::tilings::Tilings;
 use empty_cells::{Empties, SupplyWord};
 use hold_queue::QueueSet;
@@ -64,9 +66,9 @@ fn copied_if_any(sequence: &Option<Sequence>) -> Option<Sequence>
 /// The frame of the position at which a search begins.
 fn first_frame(problem: &Problem, queue: &Option<Queue>) -> Frame
     requires { IsFit problem.now }
-    ensures position { position_of (table_of problem.now.rules) problem.now.drop_mode result
+    ensures position { position_of (table_of problem.now.rules) problem.now.drop_mode result.setup
         ≡ root_of problem.now (items_of queue.now) }
-    ensures left { result.left ≡ needed_of problem.now - 1 }
+    ensures left { result.setup.left ≡ needed_of problem.now - 1 }
     ensures tried { result.tried ≡ 0 }
     ensures places { result.places ≡ None }
 {
@@ -77,7 +79,7 @@ fn first_frame(problem: &Problem, queue: &Option<Queue>) -> Frame
     let left = needed(problem).saturating_sub(1);
     let line = Line::of(queues);
     let supply = SupplyWord::new(&queues.supply(left + 1));
-    Frame {
+    let setup = Setup {
         well: problem.well,
         rows: problem.height,
         empties: Empties::below(&problem.well, problem.height),
@@ -85,6 +87,9 @@ fn first_frame(problem: &Problem, queue: &Option<Queue>) -> Frame
         supply,
         left,
         limited: supply.at_most(left),
+    };
+    Frame {
+        setup,
         next_kind: None,
         next_line: line,
         tried: 0,
@@ -97,10 +102,10 @@ fn first_frame(problem: &Problem, queue: &Option<Queue>) -> Frame
 /// Whether a search has a first frame: where some placement is needed, and the position is worth a look.
 fn has_frame(problem: &Problem, first: &Frame, tilings: &mut Tilings) -> bool
     requires { IsFit problem.now }
-    ensures { (table : Table) (mode : DropMode) →
-        result ≡ (nat_lt 0 (needed_of problem.now) && is_live first.now.left (position_of table mode first.now)) }
+    ensures { (table : Table) (mode : DropMode) → result ≡ (nat_lt 0 (needed_of problem.now)
+        && is_live first.now.setup.left (position_of table mode first.now.setup)) }
 {
-    needed(problem) > 0 && first.is_live(tilings)
+    needed(problem) > 0 && first.setup.is_live(tilings)
 }
 
 /// Goes from where a search stands to its next solution. Returns how many frames are in use then, which is 0 if no

@@ -14,21 +14,21 @@ returns-in-Passed-clause-turn g c =
     array-turn (flood_table c.args.rules.now) c.args.drop_mode (take c.args.depth c.args.frames.now) c.split_at_mut-walked.result.0.now c.split_at_mut-walked.ensures.front c.args.depth c.requires.some c.split_at_mut-walked.ensures.front_len c.index-walked-top.result c.turn.new.self c.turn.new.behind _ _ _
     (turn-passed _ _ (take (c.args.depth - 1) c.split_at_mut-walked.result.0.now) (get_or c.split_at_mut-walked.result.0.now (c.args.depth - 1) c.index-walked-top.result) c.turn.new.self
     (array-room (flood_table c.args.rules.now) c.args.drop_mode (take c.args.depth c.args.frames.now) c.split_at_mut-walked.result.0.now c.split_at_mut-walked.ensures.front c.args.depth c.requires.some c.split_at_mut-walked.ensures.front_len c.index-walked-top.result c.requires.room)
-    c.in-Passed.ensures.same.left _ _ c.in-Passed.ensures.turn.0 c.in-Passed.ensures.turn.1)
+    (λ i. (c.in-Passed.ensures.same i).left) _ _ c.in-Passed.ensures.turn.0 c.in-Passed.ensures.turn.1)
 
 pub returns-in-Flooded-clause-turn : goal.returns-in-Flooded-clause-turn
 returns-in-Flooded-clause-turn g c =
     array-turn (flood_table c.args.rules.now) c.args.drop_mode (take c.args.depth c.args.frames.now) c.split_at_mut-walked.result.0.now c.split_at_mut-walked.ensures.front c.args.depth c.requires.some c.split_at_mut-walked.ensures.front_len c.index-walked-top.result c.turn.new.self c.turn.new.behind _ _ _
     (turn-flooded _ _ (take (c.args.depth - 1) c.split_at_mut-walked.result.0.now) (get_or c.split_at_mut-walked.result.0.now (c.args.depth - 1) c.index-walked-top.result) c.turn.new.self
     (array-room (flood_table c.args.rules.now) c.args.drop_mode (take c.args.depth c.args.frames.now) c.split_at_mut-walked.result.0.now c.split_at_mut-walked.ensures.front c.args.depth c.requires.some c.split_at_mut-walked.ensures.front_len c.index-walked-top.result c.requires.room)
-    c.in-Flooded.ensures.same.left _ _ c.in-Flooded.ensures.turn.0 c.in-Flooded.ensures.turn.1)
+    (λ i. (c.in-Flooded.ensures.same i).left) _ _ c.in-Flooded.ensures.turn.0 c.in-Flooded.ensures.turn.1)
 
 pub returns-in-Full-clause-turn : goal.returns-in-Full-clause-turn
 returns-in-Full-clause-turn g c =
     array-turn (flood_table c.args.rules.now) c.args.drop_mode (take c.args.depth c.args.frames.now) c.split_at_mut-walked.result.0.now c.split_at_mut-walked.ensures.front c.args.depth c.requires.some c.split_at_mut-walked.ensures.front_len c.index-walked-top.result c.turn.new.self c.turn.new.behind _ _ _
     (turn-full _ _ (take (c.args.depth - 1) c.split_at_mut-walked.result.0.now) (get_or c.split_at_mut-walked.result.0.now (c.args.depth - 1) c.index-walked-top.result) c.turn.new.self
     (array-room (flood_table c.args.rules.now) c.args.drop_mode (take c.args.depth c.args.frames.now) c.split_at_mut-walked.result.0.now c.split_at_mut-walked.ensures.front c.args.depth c.requires.some c.split_at_mut-walked.ensures.front_len c.index-walked-top.result c.requires.room)
-    c.in-Full.ensures.same.left _ _ c.in-Full.ensures.turn.0 c.in-Full.ensures.turn.1)
+    (λ i. (c.in-Full.ensures.same i).left) _ _ c.in-Full.ensures.turn.0 c.in-Full.ensures.turn.1)
 
 pub returns-in-Entered-clause-within : goal.returns-in-Entered-clause-within
 returns-in-Entered-clause-within g c =
@@ -41,11 +41,11 @@ returns-in-Entered-clause-turn g c =
     array-entered (flood_table c.args.rules.now) c.args.drop_mode (take c.args.depth c.args.frames.now) c.split_at_mut-walked.result.0.now c.split_at_mut-walked.ensures.front c.args.depth c.requires.some c.split_at_mut-walked.ensures.front_len c.index-walked-top.result c.turn.new.self c.turn.new.behind _ _ c.turn.new.self (omega (arith, deeper, c.in-Entered.ensures.turn.2, c.in-Entered.ensures.size, c.split_at_mut-walked.ensures.back_len))
     (turn-entered _ _ (take (c.args.depth - 1) c.split_at_mut-walked.result.0.now) (get_or c.split_at_mut-walked.result.0.now (c.args.depth - 1) c.index-walked-top.result) c.turn.new.self
     (array-room (flood_table c.args.rules.now) c.args.drop_mode (take c.args.depth c.args.frames.now) c.split_at_mut-walked.result.0.now c.split_at_mut-walked.ensures.front c.args.depth c.requires.some c.split_at_mut-walked.ensures.front_len c.index-walked-top.result c.requires.room)
-    c.in-Entered.ensures.same.left _ _ _ c.in-Entered.ensures.turn.0 c.in-Entered.ensures.turn.1 c.in-Entered.ensures.turn.2)
+    (λ i. (c.in-Entered.ensures.same i).left) _ _ _ c.in-Entered.ensures.turn.0 c.in-Entered.ensures.turn.1 c.in-Entered.ensures.turn.2)
 
 pub returns-in-Over-clause-turn : goal.returns-in-Over-clause-turn
 returns-in-Over-clause-turn g c =
     array-over (flood_table c.args.rules.now) c.args.drop_mode (take c.args.depth c.args.frames.now) c.split_at_mut-walked.result.0.now c.split_at_mut-walked.ensures.front c.args.depth c.requires.some c.split_at_mut-walked.ensures.front_len c.index-walked-top.result c.turn.new.self c.turn.new.behind _ _
     (turn-over _ _ (take (c.args.depth - 1) c.split_at_mut-walked.result.0.now) (get_or c.split_at_mut-walked.result.0.now (c.args.depth - 1) c.index-walked-top.result) c.turn.new.self
     (array-room (flood_table c.args.rules.now) c.args.drop_mode (take c.args.depth c.args.frames.now) c.split_at_mut-walked.result.0.now c.split_at_mut-walked.ensures.front c.args.depth c.requires.some c.split_at_mut-walked.ensures.front_len c.index-walked-top.result c.requires.room)
-    c.in-Over.ensures.same.left _ _ c.in-Over.ensures.turn.0 c.in-Over.ensures.turn.1)
+    (λ i. (c.in-Over.ensures.same i).left) _ _ c.in-Over.ensures.turn.0 c.in-Over.ensures.turn.1)

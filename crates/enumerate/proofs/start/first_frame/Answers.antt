@@ -3,7 +3,7 @@ use Rattle.std.proofs.Common.{sym, ap, ◌+◌, ◌∙◌, arith}
 use Rattle.hold_queue.specs.QueueSet.{queues_in_play}
 use Rattle.hold_queue.specs.Supply.{supply_of}
 use Rattle.prune.specs.Tiling.{supply_in}
-use Rattle.enumerate.specs.Frames.{position_of}
+use Rattle.enumerate.specs.Setups.{position_of}
 use Rattle.enumerate.specs.Items.{items_of}
 use Rattle.enumerate.specs.Position.{line_at}
 use Rattle.problem.proofs.CallerLemmas.{filled-low}
@@ -12,11 +12,11 @@ use Rattle.enumerate.proofs.TilingLaws.{supplies-read}
 use Rattle.enumerate.proofs.start.first_frame.Goals as goal
 use Rattle.enumerate.proofs.start.first_frame.Goals.{in-None, in-Some}
 
-pub invariant_of-result-clause-bounded : goal.invariant_of-result-clause-bounded
-invariant_of-result-clause-bounded c = record { none = (filled-low c.args.problem.now.well c.args.problem.now.height (omega (arith, c.requires.low)) c.requires.below).none }
+pub invariant_of-setup-clause-bounded : goal.invariant_of-setup-clause-bounded
+invariant_of-setup-clause-bounded c = record { none = (filled-low c.args.problem.now.well c.args.problem.now.height (omega (arith, c.requires.low)) c.requires.below).none }
 
-pub invariant_of-result-clause-supplied : goal.invariant_of-result-clause-supplied
-invariant_of-result-clause-supplied c = c.new-supply.ensures ∙ ap supply_in c.supply.ensures ∙ supplies-read (queues_in_play c.match-queue.queues) (c.saturating_sub-left.result + 1)
+pub invariant_of-setup-clause-supplied : goal.invariant_of-setup-clause-supplied
+invariant_of-setup-clause-supplied c = c.new-supply.ensures ∙ ap supply_in c.supply.ensures ∙ supplies-read (queues_in_play c.match-queue.queues) (c.saturating_sub-left.result + 1)
     ∙ ap (λ set. supply_of (queues_in_play set) (c.saturating_sub-left.result + 1)) (sym c.of-line.ensures)
 
 pub returns-clause-position : goal.returns-clause-position

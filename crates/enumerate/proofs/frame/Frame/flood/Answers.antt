@@ -6,7 +6,7 @@ use Rattle.srs.proofs.CallerLemmas.{some_same}
 use Rattle.well.specs.Well.{filled}
 use Rattle.place_sets.specs.LowPlaces.{piece_of}
 use Rattle.hold_queue.specs.QueueSet.{queues_in_play}
-use Rattle.enumerate.specs.Frames.{position_of}
+use Rattle.enumerate.specs.Setups.{position_of}
 use Rattle.enumerate.specs.Position.{may_play}
 use Rattle.enumerate.proofs.TurnLemmas.{HeldBelow, Lockable, flooded-below, flooded-lockable, flooded-places}
 use Rattle.enumerate.proofs.Counting.{counts-one}
@@ -14,19 +14,13 @@ use Rattle.enumerate.proofs.frame.Frame.flood.Goals as goal
 
 pub invariant_of-self : goal.invariant_of-self
 invariant_of-self g c = record {
-  low = c.args.self.now.low;
-  few = c.args.self.now.few;
-  bounded = c.args.self.now.bounded;
-  emptied = c.args.self.now.emptied;
-  limits = c.args.self.now.limits;
   lined = c.args.self.now.lined;
-  supplied = c.args.self.now.supplied;
-  lockable = λ x is. subst (λ p. Lockable (filled c.args.self.now.well) p) (some_same is)
-      (flooded-lockable (flood_table c.args.rules.now) (filled c.args.self.now.well) c.args.drop_mode c.args.piece c.places_below.result c.places_below.ensures.piece c.args.self.now.rows c.places_below.ensures.held);
-  held_below = λ x is. subst (λ p. HeldBelow c.args.self.now.rows p) (some_same is)
-      (flooded-below (flood_table c.args.rules.now) (filled c.args.self.now.well) c.args.drop_mode c.args.piece c.places_below.result c.places_below.ensures.piece c.args.self.now.rows c.places_below.ensures.held);
-  permitted = λ x is. subst (λ p. may_play (queues_in_play c.args.self.now.line.queues) (piece_of p) ≡ true) (some_same is)
-      (subst (λ p. may_play (queues_in_play c.args.self.now.line.queues) p ≡ true) (sym c.places_below.ensures.piece) c.requires);
+  lockable = λ x is. subst (λ p. Lockable (filled c.args.self.now.setup.well) p) (some_same is)
+      (flooded-lockable (flood_table c.args.rules.now) (filled c.args.self.now.setup.well) c.args.drop_mode c.args.piece c.places_of.result c.places_of.ensures.piece c.args.self.now.setup.rows c.places_of.ensures.held);
+  held_below = λ x is. subst (λ p. HeldBelow c.args.self.now.setup.rows p) (some_same is)
+      (flooded-below (flood_table c.args.rules.now) (filled c.args.self.now.setup.well) c.args.drop_mode c.args.piece c.places_of.result c.places_of.ensures.piece c.args.self.now.setup.rows c.places_of.ensures.held);
+  permitted = λ x is. subst (λ p. may_play (queues_in_play c.args.self.now.setup.line.queues) (piece_of p) ≡ true) (some_same is)
+      (subst (λ p. may_play (queues_in_play c.args.self.now.setup.line.queues) p ≡ true) (sym c.places_of.ensures.piece) c.requires);
   live = λ no. cc;
   same_piece = λ x is q none. cc;
 }
@@ -34,11 +28,11 @@ invariant_of-self g c = record {
 pub returns-clause-places : goal.returns-clause-places
 unfolding position_of
 returns-clause-places g c =
-    flooded-places (flood_table c.args.rules.now) (filled c.args.self.now.well) c.args.drop_mode c.args.piece c.places_below.result c.places_below.ensures.piece c.args.self.now.rows c.places_below.ensures.held
-    (position_of (flood_table c.args.rules.now) c.args.drop_mode c.args.self.now) refl refl refl
+    flooded-places (flood_table c.args.rules.now) (filled c.args.self.now.setup.well) c.args.drop_mode c.args.piece c.places_of.result c.places_of.ensures.piece c.args.self.now.setup.rows c.places_of.ensures.held
+    (position_of (flood_table c.args.rules.now) c.args.drop_mode c.args.self.now.setup) refl refl refl
 
 pub returns-clause-piece : goal.returns-clause-piece
-returns-clause-piece g c = λ x is. subst (λ p. piece_of p ≡ c.args.piece) (some_same is) c.places_below.ensures.piece
+returns-clause-piece g c = λ x is. subst (λ p. piece_of p ≡ c.args.piece) (some_same is) c.places_of.ensures.piece
 
 pub returns-clause-noted : goal.returns-clause-noted
-returns-clause-noted g c = counts-one c.args.floods.now _ c.args.steps.now _ c.saturating_add.ensures c.places_below.ensures.counted
+returns-clause-noted g c = counts-one c.args.floods.now _ c.args.steps.now _ c.saturating_add.ensures c.places_of.ensures.counted

@@ -4,7 +4,7 @@ use Rattle.enumerate.proofs.TurnLemmas.{goes-past_kind}
 use Rattle.enumerate.proofs.frame.Frame.next_kind.Goals as goal
 
 pub loop-piece-init : goal.loop-piece-init
-loop-piece-init c = record { same = record { well = refl; rows = refl; queues = refl; left = refl }; none = c.requires; goes = λ table mode prefix. refl }
+loop-piece-init c = record { same = refl; none = c.requires; goes = λ table mode prefix. refl }
 
 pub loop-piece-smaller : goal.loop-piece-smaller
 loop-piece-smaller c = omega (arith, ap length c.in-Some.ensures)
@@ -13,11 +13,11 @@ pub loop-piece-preserved : goal.loop-piece-preserved
 loop-piece-preserved c =
     let before = c.loop-piece.invariant in
     record {
-      same = record { well = before.same.well; rows = before.same.rows; queues = before.same.queues; left = before.same.left };
+      same = before.same;
       none = before.none;
       goes = λ table mode prefix.
           before.goes table mode prefix
-          ∙ goes-past_kind table mode c.loop-piece.self _ record { well = refl; rows = refl; queues = refl; left = refl } c.in-Some.piece before.none c.in-Some.ensures
+          ∙ goes-past_kind table mode c.loop-piece.self _ refl c.in-Some.piece before.none c.in-Some.ensures
           (sym c.may_come.ensures ∙ c.if-may_come.false) before.none prefix;
     }
 

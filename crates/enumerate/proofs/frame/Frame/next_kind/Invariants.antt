@@ -5,12 +5,11 @@ use Rattle.srs.specs.Piece.{all_pieces}
 use Rattle.srs.specs.Kick.{Table}
 use Rattle.moves.specs.declared.key.DropMode.{DropMode}
 use Rattle.enumerate.specs.Frames.{events_of, places_left}
-use Rattle.enumerate.specs.Turns.{SamePosition}
 use Rattle.enumerate.proofs.frame.Frame.next_kind.Given as goal
 
 abbrev pub invariant-loop-piece : goal.invariant-loop-piece
 invariant-loop-piece l = record {
-  same : SamePosition l.initial.self l.self;
+  same : l.self.setup ≡ l.initial.self.setup;
   none : places_left l.self.places l.self.entered ≡ [];
   goes : (table : Table) (mode : DropMode) (prefix : List Placement) → events_of table mode prefix l.initial.self ≡ events_of table mode prefix l.self;
 }

@@ -10,7 +10,7 @@ use Rattle.enumerate.proofs.frame.Frame.take_upcoming.Goals as goal
 
 pub take_above-requires : goal.take_above-requires
 take_above-requires c = λ q is.
-    ((placements_of-list (piece_of c.in-Some.places)).members q).1 (lockable-listed (filled c.args.self.now.well) (piece_of c.in-Some.places) q (c.args.self.now.lockable c.in-Some.places c.in-Some.is q is))
+    ((placements_of-list (piece_of c.in-Some.places)).members q).1 (lockable-listed (filled c.args.self.now.setup.well) (piece_of c.in-Some.places) q (c.args.self.now.lockable c.in-Some.places c.in-Some.is q is))
 
 pub returns-in-None-clause-next : goal.returns-in-None-clause-next
 unfolding places_left

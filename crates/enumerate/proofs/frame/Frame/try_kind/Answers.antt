@@ -4,8 +4,7 @@ use Rattle.std.specs.Prelude.{drop}
 use Rattle.srs.specs.Piece.{all_pieces}
 use Rattle.reach.specs.FloodRules.{flood_table}
 use Rattle.enumerate.specs.Events.{Flood}
-use Rattle.enumerate.specs.Frames.{position_of}
-use Rattle.enumerate.specs.Turns.{SamePosition}
+use Rattle.enumerate.specs.Setups.{position_of}
 use Rattle.enumerate.proofs.TurnLemmas.{goes-over, goes-flooded}
 use Rattle.enumerate.proofs.Counting.{counts-none}
 use Rattle.enumerate.proofs.frame.Frame.try_kind.Goals as goal
@@ -25,8 +24,7 @@ pub returns-clause-turn : goal.returns-clause-turn
 unfolding position_of
 returns-clause-turn g c = λ child.
     let frame = c.next_kind.new.self in
-    let same : SamePosition frame c.flood.new.self = record { well = c.flood.ensures.same.well; rows = c.flood.ensures.same.rows; queues = c.flood.ensures.same.queues; left = c.flood.ensures.same.left } in
-    let flooded = goes-flooded (flood_table c.args.rules.now) c.args.drop_mode frame c.flood.new.self same c.in-Some.piece c.in-Some.ensures.none
+    let flooded = goes-flooded (flood_table c.args.rules.now) c.args.drop_mode frame c.flood.new.self c.flood.ensures.same c.in-Some.piece c.in-Some.ensures.none
     (c.in-Some.ensures.next.0 ∙ ap (λ k. c.in-Some.piece ∷ drop k all_pieces) (sym c.flood.ensures.tried))
     c.in-Some.ensures.next.1
     c.flood.ensures.places in (
@@ -38,12 +36,7 @@ returns-clause-turn g c = λ child.
     )
 
 pub returns-clause-same : goal.returns-clause-same
-returns-clause-same g c = record {
-  well = c.leave_out_dead.ensures.same.well ∙ c.flood.ensures.same.well ∙ c.in-Some.ensures.same.well;
-  rows = c.leave_out_dead.ensures.same.rows ∙ c.flood.ensures.same.rows ∙ c.in-Some.ensures.same.rows;
-  queues = c.leave_out_dead.ensures.same.queues ∙ c.flood.ensures.same.queues ∙ c.in-Some.ensures.same.queues;
-  left = c.leave_out_dead.ensures.same.left ∙ c.flood.ensures.same.left ∙ c.in-Some.ensures.same.left;
-}
+returns-clause-same g c = c.leave_out_dead.ensures.same ∙ c.flood.ensures.same ∙ c.in-Some.ensures.same
 
 pub returns-in-None-clause-noted : goal.returns-in-None-clause-noted
 returns-in-None-clause-noted g c = counts-none c.args.notes.now.floods c.args.steps.now

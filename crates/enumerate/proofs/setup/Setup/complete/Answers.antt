@@ -4,7 +4,7 @@ use Rattle.std.specs.Prelude.{◌==◌}
 use Rattle.well.specs.Well.{filled}
 use Rattle.enumerate.proofs.PlaceLaws.{lockable-free}
 use Rattle.enumerate.proofs.TurnLemmas.{enters-full, enters-rows_left, not-zero}
-use Rattle.enumerate.proofs.frame.Frame.complete.Goals as goal
+use Rattle.enumerate.proofs.setup.Setup.complete.Goals as goal
 
 pub lock-removed-requires : goal.lock-removed-requires
 lock-removed-requires c = lockable-free (filled c.args.self.now.well) c.args.placement.now.piece c.args.placement.now c.requires.lockable

@@ -9,7 +9,7 @@ use Rattle.empty_cells.specs.SupplyWords.{supply_of}
 use Rattle.empty_cells.proofs.CallerLemmas.{right-from_answer}
 use Rattle.enumerate.proofs.PlaceLaws.{lockable-free}
 use Rattle.enumerate.proofs.TilingLaws.{left-tiled}
-use Rattle.enumerate.proofs.frame.Frame.leaves_tiling.Goals as goal
+use Rattle.enumerate.proofs.setup.Setup.leaves_tiling.Goals as goal
 
 pub leaves_tiling-requires-clause-column : goal.leaves_tiling-requires-clause-column
 leaves_tiling-requires-clause-column c =
@@ -26,16 +26,16 @@ lock-removed-requires c = lockable-free (filled c.args.self.now.well) c.args.pla
 
 pub returns-then-self-lt-MANY : goal.returns-then-self-lt-MANY
 returns-then-self-lt-MANY c =
-    let frame = c.args.self.now in
+    let setup = c.args.self.now in
     let q = c.args.placement.now in
-    left-tiled (filled frame.well) (without_placement (empty_cells frame.empties) q) frame.rows q (supply_of c.args.supply) c.leaves_tiling.result frame.low frame.bounded (lockable-free (filled frame.well) q.piece q c.requires.lockable) c.requires.below
-    (ap (λ E. without_placement E q) frame.emptied) (right-from_answer c.leaves_tiling.result _ 8 _ c.leaves_tiling.ensures)
+    left-tiled (filled setup.well) (without_placement (empty_cells setup.empties) q) setup.rows q (supply_of c.args.supply) c.leaves_tiling.result setup.low setup.bounded (lockable-free (filled setup.well) q.piece q c.requires.lockable) c.requires.below
+    (ap (λ E. without_placement E q) setup.emptied) (right-from_answer c.leaves_tiling.result _ 8 _ c.leaves_tiling.ensures)
 
 pub returns : goal.returns
 returns c =
-    let frame = c.args.self.now in
+    let setup = c.args.self.now in
     let q = c.args.placement.now in
     c.has_tiling.ensures.answer
     ∙ ap (has_tiling (filled c.lock-removed.result.0) c.saturating_sub.result) c.entries.ensures
     ∙ ap (λ F. has_tiling F c.saturating_sub.result (supply_of c.args.supply)) c.lock-removed.ensures.field
-    ∙ ap (λ rows. has_tiling (locked (filled frame.well) q) rows (supply_of c.args.supply)) (c.saturating_sub.ensures ∙ ap (λ k. frame.rows - k) c.lock-removed.ensures.removed)
+    ∙ ap (λ rows. has_tiling (locked (filled setup.well) q) rows (supply_of c.args.supply)) (c.saturating_sub.ensures ∙ ap (λ k. setup.rows - k) c.lock-removed.ensures.removed)

@@ -8,7 +8,7 @@ use Rattle.srs.proofs.CallerLemmas.{piece_code-injective}
 use Rattle.prune.specs.Tiling.{Supply}
 use Rattle.prune.specs.OnePart.{less_one}
 use Rattle.empty_cells.specs.SupplyWords.{supply_of}
-use Rattle.enumerate.proofs.frame.Frame.supply_after.Goals as goal
+use Rattle.enumerate.proofs.setup.Setup.supply_after.Goals as goal
 
 module _ (supply limited : Supply) (left : ℕ) (piece other : Piece) (is : limited other ≡ min left (supply other)) where
   at_kind : (P : ℕ → Type 0) → P (supply piece) → (piece_code piece == piece_code other) ≡ true → P (supply other)
@@ -32,11 +32,11 @@ module _ (supply limited : Supply) (left : ℕ) (piece other : Piece) (is : limi
 
 pub returns-then-self-count_of : goal.returns-then-self-count_of
 returns-then-self-count_of c = λ other.
-    let frame = c.args.self.now in
-    with_more (supply_of frame.supply) (supply_of frame.limited) frame.left c.args.piece other (frame.limits other) (omega (arith, c.if-self-count_of.true, c.count_of.ensures))
+    let setup = c.args.self.now in
+    with_more (supply_of setup.supply) (supply_of setup.limited) setup.left c.args.piece other (setup.limits other) (omega (arith, c.if-self-count_of.true, c.count_of.ensures))
 
 pub returns : goal.returns
 returns c = λ other.
-    let frame = c.args.self.now in
+    let setup = c.args.self.now in
     ap (λ supply. supply other) c.without_one.ensures
-    ∙ with_few (supply_of frame.supply) (supply_of frame.limited) frame.left c.args.piece other (frame.limits other) (omega (arith, c.if-self-count_of.false, c.count_of.ensures))
+    ∙ with_few (supply_of setup.supply) (supply_of setup.limited) setup.left c.args.piece other (setup.limits other) (omega (arith, c.if-self-count_of.false, c.count_of.ensures))

@@ -4,9 +4,9 @@ use Rattle.well.specs.Well.{filled}
 use Rattle.hold_queue.specs.QueueSet.{queues_in_play}
 use Rattle.hold_queue.specs.Supply.{supply_of}
 use Rattle.empty_cells.specs.HasTiling.{has_tiling}
-use Rattle.enumerate.specs.Frames.{position_of}
+use Rattle.enumerate.specs.Setups.{position_of}
 use Rattle.enumerate.specs.Position.{can_be_tiled, is_live}
-use Rattle.enumerate.proofs.frame.Frame.is_live.Goals as goal
+use Rattle.enumerate.proofs.setup.Setup.is_live.Goals as goal
 
 pub returns : goal.returns
 unfolding is_live can_be_tiled position_of

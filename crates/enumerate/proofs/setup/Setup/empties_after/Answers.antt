@@ -7,7 +7,7 @@ use Rattle.empty_cells.specs.Empties.{without_placement}
 use Rattle.empty_cells.proofs.CallerLemmas.{left_by_placement}
 use Rattle.enumerate.proofs.KeptRows.{kept-empties}
 use Rattle.enumerate.proofs.PlaceLaws.{lockable-free}
-use Rattle.enumerate.proofs.frame.Frame.empties_after.Goals as goal
+use Rattle.enumerate.proofs.setup.Setup.empties_after.Goals as goal
 
 pub without-requires-clause-column : goal.without-requires-clause-column
 without-requires-clause-column c =
@@ -21,9 +21,9 @@ without-requires-clause-row c =
 
 pub returns-then-removed-eq0 : goal.returns-then-removed-eq0
 returns-then-removed-eq0 c =
-    let frame = c.args.self.now in
+    let setup = c.args.self.now in
     let q = c.args.placement.now in
-    let same : frame.rows ≡ c.args.rows = omega (arith, c.requires.rows, c.if-removed-eq0.true) in
-    c.without.ensures ∙ ap (λ E. without_placement E q) frame.emptied ∙ left_by_placement (filled frame.well) frame.rows q
-    ∙ kept-empties (filled frame.well) q frame.rows frame.low (sym c.requires.removed ∙ c.if-removed-eq0.true)
+    let same : setup.rows ≡ c.args.rows = omega (arith, c.requires.rows, c.if-removed-eq0.true) in
+    c.without.ensures ∙ ap (λ E. without_placement E q) setup.emptied ∙ left_by_placement (filled setup.well) setup.rows q
+    ∙ kept-empties (filled setup.well) q setup.rows setup.low (sym c.requires.removed ∙ c.if-removed-eq0.true)
     ∙ (λ i. difference (rows_below (same i)) (sym c.requires.field i))

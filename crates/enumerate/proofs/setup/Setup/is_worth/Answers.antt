@@ -1,10 +1,9 @@
 -- What leaves no tiling leads to a position that is not live.
 use Rattle.std.proofs.Common.{◌≡◌, ◌+◌, ◌-◌, sym, ◌∙◌, arith}
 use Rattle.empty_cells.specs.SupplyWords.{supply_of}
-use Rattle.enumerate.specs.Frames.{position_of}
 use Rattle.enumerate.proofs.TilingLaws.{live-after}
 use Rattle.enumerate.proofs.TurnLemmas.{enters-dead}
-use Rattle.enumerate.proofs.frame.Frame.is_worth.Goals as goal
+use Rattle.enumerate.proofs.setup.Setup.is_worth.Goals as goal
 
 pub returns-then-self-eq0-clause-live : goal.returns-then-self-eq0-clause-live
 returns-then-self-eq0-clause-live c = λ is table mode left less. absurd (omega (arith, less, c.if-self-eq0.true))
@@ -16,6 +15,5 @@ returns-clause-dead c = λ is.
     (λ table mode. live-after table mode c.args.self.now c.args.placement.now (supply_of c.supply_after-supply.result) c.supply_after-supply.ensures (c.args.self.now.left - 1) less ∙ sym c.leaves_tiling.ensures ∙ is)
 
 pub returns-clause-live : goal.returns-clause-live
-unfolding position_of
 returns-clause-live c = λ is table mode left less.
     live-after table mode c.args.self.now c.args.placement.now (supply_of c.supply_after-supply.result) c.supply_after-supply.ensures left less ∙ sym c.leaves_tiling.ensures ∙ is

@@ -1,0 +1,39 @@
+-- The setup after a placement has what the placement leaves.
+use Rattle.std.proofs.Common.{◌≡◌, ◌+◌, ◌-◌, sym, ap, ◌∙◌, arith}
+use Rattle.well.specs.Well.{filled}
+use Rattle.well.proofs.CallerLemmas.{locked-by, removed-by}
+use Rattle.hold_queue.specs.QueueSet.{queues_in_play}
+use Rattle.hold_queue.specs.Supply.{supply_of}
+use Rattle.empty_cells.specs.SupplyWords
+use Rattle.enumerate.proofs.PlaceLaws.{lockable-free}
+use Rattle.enumerate.proofs.TilingLaws.{locked-below, supply-moves}
+use Rattle.enumerate.proofs.TurnLemmas.{child-position}
+use Rattle.enumerate.proofs.setup.Setup.lead_to.Goals as goal
+
+pub fill-requires : goal.fill-requires
+fill-requires c = lockable-free (filled c.args.self.now.well) c.args.placement.now.piece c.args.placement.now c.requires.lockable
+
+pub empties_after-child-requires-clause-field : goal.empties_after-child-requires-clause-field
+empties_after-child-requires-clause-field c = locked-by (filled c.args.self.now.well) _ c.args.placement.now c.fill.ensures _ c.remove_full_rows-removed.ensures.field
+
+pub empties_after-child-requires-clause-removed : goal.empties_after-child-requires-clause-removed
+empties_after-child-requires-clause-removed c = removed-by (filled c.args.self.now.well) _ c.args.placement.now c.fill.ensures _ c.remove_full_rows-removed.ensures.removed
+
+pub invariant_of-child-clause-bounded : goal.invariant_of-child-clause-bounded
+invariant_of-child-clause-bounded c =
+    locked-below c.args.self.now c.args.placement.now _ _ c.requires.below (lockable-free (filled c.args.self.now.well) c.args.placement.now.piece c.args.placement.now c.requires.lockable)
+    (locked-by (filled c.args.self.now.well) _ c.args.placement.now c.fill.ensures _ c.remove_full_rows-removed.ensures.field)
+    (c.saturating_sub-rows.ensures ∙ ap (λ k. c.args.self.now.rows - k) (removed-by (filled c.args.self.now.well) _ c.args.placement.now c.fill.ensures _ c.remove_full_rows-removed.ensures.removed))
+
+pub invariant_of-child-clause-supplied : goal.invariant_of-child-clause-supplied
+invariant_of-child-clause-supplied c =
+    let setup = c.args.self.now in
+    let left : setup.left ≡ setup.left - 1 + 1 = omega (arith, c.requires.some) in
+    supply-moves (queues_in_play setup.line.queues) c.args.placement.now.piece setup.left (SupplyWords.supply_of setup.supply) (SupplyWords.supply_of c.supply_after-supply.result) setup.supplied c.supply_after-supply.ensures
+    ∙ (λ i. supply_of (sym c.lead_line.ensures i) (left i))
+
+pub returns-clause-position : goal.returns-clause-position
+returns-clause-position c =
+    let field = locked-by (filled c.args.self.now.well) _ c.args.placement.now c.fill.ensures _ c.remove_full_rows-removed.ensures.field in
+    let removed = removed-by (filled c.args.self.now.well) _ c.args.placement.now c.fill.ensures _ c.remove_full_rows-removed.ensures.removed in
+    child-position c.args.self.now _ c.args.placement.now field (c.saturating_sub-rows.ensures ∙ ap (λ k. c.args.self.now.rows - k) removed) c.lead_line.ensures

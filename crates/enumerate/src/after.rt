@@ -1,0 +1,151 @@
+// What placements leave at a position, and the position after one.
+ghost use Rattle.std.specs.Prelude.{◌≡◌, ◌↔◌, ◌+◌, ◌-◌, ◌≤◌, IfSome, IsTrue, true, false, []};
+ghost use Rattle.lane_board.specs.Field.{difference, rows_below};
+ghost use Rattle.srs.specs.declared.placement.Placement.{Placement};
+ghost use Rattle.srs.specs.Kick.{Table};
+ghost use Rattle.well.specs.Well.{filled};
+ghost use Rattle.well.specs.Lock.{locked, rows_removed};
+ghost use Rattle.well.specs.LockLaws.{is_below};
+ghost use Rattle.moves.specs.declared.key.DropMode.{DropMode};
+ghost use Rattle.moves.specs.Place.{IsPlace};
+ghost use Rattle.place_sets.specs.LowPlaces.{holds, piece_of};
+ghost use Rattle.reach.specs.FloodRules.{flood_table};
+ghost use Rattle.hold_queue.specs.QueueSet.{queues_in_play};
+ghost use Rattle.empty_cells.specs.Empties.{empty_cells};
+ghost use Rattle.empty_cells.specs.HasTiling.{has_tiling};
+ghost use Rattle.empty_cells.specs.SupplyWords.{supply_of};
+ghost use Rattle.enumerate.specs.Position.{after_of, is_live, line_after, may_play};
+ghost use Rattle.enumerate.specs.Setups.{LeadsOn, position_of};
+ghost use Rattle.enumerate.specs.Standing.{may_lock};
+ghost use Rattle.enumerate.specs.Turns.{Enters, EntersAs};
+ghost use Rattle.enumerate.specs.declared.frame.Frame.{Frame};
+
+use crate::line::Line;
+use crate::setup::Setup;
+use crate::tilings::Tilings;
+use crate::turn::Turn;
+use empty_cells::{Empties, SupplyWord};
+use moves::DropMode;
+use reach::{FloodRules, LowPlaces, Steps};
+use srs::{Piece, Placement};
+use std::sync::ledger::Ledger;
+use well::Well;
+
+/// A position without a tiling is kept if at least this many placements are to come.
+pub const MANY: u8 = 8;
+
+impl Setup {
+    /// Whether the empty cells of the rows that are left have a tiling by what may still be played.
+    pub fn is_live(&self, tilings: &mut Tilings) -> bool
+        ensures { (table : Table) (mode : DropMode)
+            → result ≡ is_live self.now.left (position_of table mode self.now) }
+    {
+        tilings.has_tiling(&self.well, self.rows, &self.supply.entries())
+    }
+
+    /// The places of a kind whose cells all lie below the rows that are left. Counts one flood.
+    #[inline(always)]
+    pub fn places_of<L: Ledger>(
+        &self,
+        piece: Piece,
+        rules: &FloodRules,
+        drop_mode: DropMode,
+        steps: &mut Steps<L>,
+    ) -> LowPlaces
+        ensures piece { piece_of result ≡ piece }
+        ensures held { (q : Placement) → (IsTrue (holds result q)) ↔ ((q.piece ≡ piece)
+            × IsPlace (flood_table rules.now) (filled self.now.well) drop_mode q
+            × IsTrue (is_below self.now.rows q)) }
+        ensures counted { steps.new ≡ steps.old + 1 }
+    {
+        rules.places_below(&self.well, piece, drop_mode, self.rows, steps)
+    }
+
+    /// Whether what a placement leaves has a tiling by this many pieces of each kind.
+    fn leaves_tiling(
+        &self,
+        placement: &Placement,
+        supply: SupplyWord,
+        tilings: &mut Tilings,
+    ) -> bool
+        requires lockable { IsTrue (may_lock (filled self.now.well) placement.now.piece placement.now) }
+        requires below { IsTrue (is_below self.now.rows placement.now) }
+        ensures { result ≡ has_tiling (locked (filled self.now.well) placement.now)
+            (self.now.rows - rows_removed (filled self.now.well) placement.now) (supply_of supply) }
+    {
+        if self.left < MANY {
+            return tilings.leaves_tiling(&self.empties, placement, supply);
+        }
+        let (well, removed) = self.well.lock(placement);
+        tilings.has_tiling(&well, self.rows.saturating_sub(removed), &supply.entries())
+    }
+
+    /// The empty cells of the rows that are left after a placement. If it removes no row, only its own cells go.
+    fn empties_after(&self, placement: &Placement, well: &Well, rows: u8, removed: u8) -> Empties
+        requires lockable { IsTrue (may_lock (filled self.now.well) placement.now.piece placement.now) }
+        requires field { filled well.now ≡ locked (filled self.now.well) placement.now }
+        requires removed { removed ≡ rows_removed (filled self.now.well) placement.now }
+        requires rows { rows ≡ self.now.rows - removed }
+        ensures { empty_cells result ≡ difference (rows_below rows) (filled well.now) }
+    {
+        if removed == 0 {
+            return self.empties.without(placement);
+        }
+        Empties::below(well, rows)
+    }
+
+    /// Enters a placement that must be the last one.
+    pub fn complete(&self, placement: &Placement) -> Turn
+        requires lockable { IsTrue (may_lock (filled self.now.well) placement.now.piece placement.now) }
+        requires below { IsTrue (is_below self.now.rows placement.now) }
+        requires last { self.now.left ≡ 0 }
+        ensures { (child : Frame) → Enters self.now placement.now child result }
+    {
+        let (_, removed) = self.well.lock(placement);
+        if self.rows.saturating_sub(removed) == 0 {
+            return Turn::Full;
+        }
+        Turn::Passed
+    }
+
+    /// Whether there is something to do at a placement: none is to come after it, or what it leaves has a tiling by the
+    /// pieces that may still be played.
+    pub fn is_worth(&self, placement: &Placement, tilings: &mut Tilings) -> bool
+        requires lockable { IsTrue (may_lock (filled self.now.well) placement.now.piece placement.now) }
+        requires below { IsTrue (is_below self.now.rows placement.now) }
+        ensures dead { result ≡ false → EntersAs self.now placement.now (λ table mode prefix. []) }
+        ensures live { result ≡ true → LeadsOn self.now placement.now }
+    {
+        if self.left == 0 {
+            return true;
+        }
+        let supply = self.supply_after(placement.piece);
+        self.leaves_tiling(placement, supply, tilings)
+    }
+
+    /// Makes `child` the position after a placement. Its line is the kept one, where one is kept.
+    pub fn lead_to(&self, placement: &Placement, kept: Option<&Line>, child: &mut Setup)
+        requires lockable { IsTrue (may_lock (filled self.now.well) placement.now.piece placement.now) }
+        requires below { IsTrue (is_below self.now.rows placement.now) }
+        requires permitted { IsTrue (may_play (queues_in_play self.now.line.queues) placement.now.piece) }
+        requires some { 1 ≤ self.now.left }
+        requires kept { IfSome kept (λ line. queues_in_play line.now.queues
+            ≡ line_after (queues_in_play self.now.line.queues) placement.now.piece) }
+        ensures left { child.new.left + 1 ≡ self.now.left }
+        ensures position { (table : Table) (mode : DropMode)
+            → position_of table mode child.new ≡ after_of (position_of table mode self.now) placement.now }
+    {
+        child.well = self.well;
+        child.well.fill(placement);
+        self.lead_line(placement.piece, kept, &mut child.line);
+        // (reading eight rows at once waits for single rows that were just written, so other work comes in between)
+        let removed = child.well.remove_full_rows();
+        let rows = self.rows.saturating_sub(removed);
+        let supply = self.supply_after(placement.piece);
+        child.rows = rows;
+        child.empties = self.empties_after(placement, &child.well, rows, removed);
+        child.supply = supply;
+        child.limited = supply.at_most(self.left - 1);
+        child.left = self.left - 1;
+    }
+}
