@@ -51,8 +51,8 @@ fn first_position(problem: &Problem) -> Position
 fn room_for(hands: usize, left: u8) -> usize
     ensures { 0 < result }
 {
-    let for_each = if left > 10 { 128 } else { 4 };
-    hands.saturating_mul(for_each).clamp(8192, 524_288)
+    let for_each = if left > 10 { 64 } else { 4 };
+    hands.saturating_mul(for_each).clamp(8192, 262_144)
 }
 
 /// Those of the hands that are good. If the number of empty cells below the height is not a multiple of four, there are

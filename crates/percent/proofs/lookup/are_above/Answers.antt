@@ -1,5 +1,4 @@
 -- The first of them is.
-use Rattle.std.proofs.Common.{arith}
 use Rattle.std.proofs.lemmas.Bool.{ltb-true}
 use Rattle.percent.proofs.LookupLemmas.{above-first}
 use Rattle.percent.proofs.lookup.are_above.Goals as goal
