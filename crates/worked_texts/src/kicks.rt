@@ -1,6 +1,6 @@
 // Other tables of offsets: how they change `path`, and what `kicks` writes for them.
 use kick_file::{parse, print};
-use pc_outside::MemorySource;
+use pc_outside::{MemorySource, Source};
 use run_outcomes::asserts::{lists, over, refused};
 use run_outcomes::run_words;
 use std::process::Abort;
