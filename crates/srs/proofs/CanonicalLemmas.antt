@@ -12,7 +12,7 @@ use Rattle.srs.specs.Cells.{Cell, moved, shape, cells_at, cells_of, pivot_of, in
 use Rattle.srs.specs.SameCells.{is_among, SameCells, HasSameCells}
 use Rattle.srs.specs.Canonical.{IsCanonical, is_canonical, rotation_count, canonical_rotation, canonical_move}
 use Rattle.srs.proofs.CellLemmas.{apart_differ, is_among-all, moved-origin, origin, map-moved-moved, same_cells-moved, same_cells-sym, still_same}
-use Rattle.srs.proofs.CodeLemmas.{piece_code-injective, rotation_place-injective}
+use Rattle.srs.proofs.CodeLemmas.{piece_code-injective, rotation_place-injective, same_placement}
 use Rattle.srs.proofs.BooleanLemmas.{and_first, and_second}
 use Rattle.srs.proofs.ShapeLemmas.{canonical_earlier, canonical_move_in_shape, canonical_rotation_own, canonical_shape, kinds_apart, pivot_in_shape, rotations_apart, shape_still}
 
@@ -76,10 +76,7 @@ canonical_unique s t first second same =
     pivot_unique t.piece t.rotation (pivot_of s) (pivot_of t)
     (subst (λ p. SameCells (cells_at p t.rotation (pivot_of s)) (cells_of t)) kind
     (subst (λ r. SameCells (cells_at s.piece r (pivot_of s)) (cells_of t)) turn same)) in
-    equal_parts s t kind turn (ap (λ c. nat_abs c.0) pivots) (ap (λ c. nat_abs c.1) pivots)
-  where
-    equal_parts : (s t : Placement) → s.piece ≡ t.piece → s.rotation ≡ t.rotation → s.x ≡ t.x → s.y ≡ t.y → s ≡ t
-    equal_parts s t p r x y = λ i. record { piece = p i; rotation = r i; x = x i; y = y i }
+    same_placement s t kind turn (ap (λ c. nat_abs c.0) pivots) (ap (λ c. nat_abs c.1) pivots)
 
 -- each cell of a placement that is inside lies in the well
 pub inside_cell : (s : Placement) (move : Cell) → is_inside_of s ≡ true → is_among (shape s.piece s.rotation) move ≡ true → in_well (moved (pivot_of s) move) ≡ true

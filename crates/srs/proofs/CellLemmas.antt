@@ -5,18 +5,18 @@ use Rattle.std.specs.Ordering.{int_eq}
 use Rattle.std.specs.Bool.{one_answer}
 use Rattle.std.specs.Cmp.{both_ways, signed_Decides}
 use Rattle.std.specs.Cmp.Lexicographic.{pointwise_decides}
-use Rattle.std.proofs.lemmas.Bool.{cases_Bool}
+use Rattle.std.proofs.lemmas.Bool.{cases_Bool, and_from, or_right}
 use Rattle.std.proofs.lemmas.Int.{ints}
 use Rattle.srs.specs.Cells.{Cell, moved}
 use Rattle.srs.specs.SameCells.{cell_eq, cells_eq, is_among, SameCells, is_same_cells}
-use Rattle.srs.proofs.BooleanLemmas.{and_first, and_second, and_both, or_right}
+use Rattle.srs.proofs.BooleanLemmas.{and_first, and_second}
 
 -- the test of cells decides whether they are equal
 pub cell_eq-decides : (c d : Cell) → Decides (cell_eq c d) (c ≡ d)
 cell_eq-decides c d =
     let x = signed_Decides c.0 d.0 in
     let y = signed_Decides c.1 d.1 in
-    (λ e. cells_same (x.0 (and_first _ _ e)) (y.0 (and_second _ _ e)), λ e. and_both _ _ (x.1 (ap (λ c. c.0) e)) (y.1 (ap (λ c. c.1) e)))
+    (λ e. cells_same (x.0 (and_first _ _ e)) (y.0 (and_second _ _ e)), λ e. and_from _ _ (x.1 (ap (λ c. c.0) e)) (y.1 (ap (λ c. c.1) e)))
   where
     cells_same : c.0 ≡ d.0 → c.1 ≡ d.1 → c ≡ d
     cells_same e f = λ i. (e i, f i)
@@ -81,7 +81,7 @@ has_cell-tail x xs c has = or_right (cell_eq x c) (is_among xs c) has
 pub list_all-from_is_among : (test : Cell → Bool) (xs : List Cell) → ((x : Cell) → is_among xs x ≡ true → test x ≡ true) → list_all test xs ≡ true
 list_all-from_is_among test [] each = refl
 list_all-from_is_among test (x ∷ xs) each =
-    and_both (test x) (list_all test xs) (each x (has_cell-head x xs)) (list_all-from_is_among test xs (λ c has. each c (has_cell-tail x xs c has)))
+    and_from (test x) (list_all test xs) (each x (has_cell-head x xs)) (list_all-from_is_among test xs (λ c has. each c (has_cell-tail x xs c has)))
 
 -- the cells of one list are cells of another, and the other way round
 pub same_cells-from : (xs ys : List Cell) → list_all (is_among ys) xs ≡ true → list_all (is_among xs) ys ≡ true → SameCells xs ys
@@ -95,7 +95,7 @@ is_same_cells-decides xs ys =
     let there = list_all (is_among ys) xs in
     let back = list_all (is_among xs) ys in (
       λ e. same_cells-from xs ys (and_first there back e) (and_second there back e),
-      λ h. and_both there back
+      λ h. and_from there back
           (list_all-from_is_among (is_among ys) xs (λ c has. sym (h.same c) ∙ has))
           (list_all-from_is_among (is_among xs) ys (λ c has. h.same c ∙ has)),
     )
@@ -114,7 +114,7 @@ same_cells-moved c xs ys h = record { same = λ d. is_among-moved c xs d ∙ h.s
 unfoldable pub fits : List Cell → List Cell → Cell → Bool
 fits xs ys move = list_all (λ x. is_among ys (moved move x)) xs
 
-less-moved : (c x : Cell) → less (moved c x) c ≡ x
+pub less-moved : (c x : Cell) → less (moved c x) c ≡ x
 unfolding moved less
 less-moved c x =
     let a : (c.0 +ℤ x.0) -ℤ c.0 ≡ x.0 = omega (arith, ints) in

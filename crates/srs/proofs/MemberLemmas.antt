@@ -1,8 +1,9 @@
 -- What a list contains, and what a filter and a search take from it.
 use Rattle.std.proofs.Common.{◌≡◌, ◌⊎◌, ℕ, zero, suc, ◌+◌, ◌<◌, ◌≤◌, Bool, true, false, cond, List, [], ◌∷◌, length, get_or, map, refl, sym, ap, subst, ◌∙◌, inl, inr, arith}
 use Rattle.std.specs.Prelude.{Some, filter, find, Contains}
-use Rattle.std.specs.List.{AllByRecursion, flat_map, range_with_len}
+use Rattle.std.specs.List.{AllByRecursion, flat_map, range_with_len, list_any}
 use Rattle.std.proofs.lemmas.Bool.{cases_Bool, cases_lt}
+use Rattle.std.proofs.lemmas.List.Folds.{Any-from_list_any, list_any-from_Any}
 use Rattle.std.proofs.lemmas.List.Elements.{Contains-append_cases, Contains-append_left, Contains-append_right}
 
 -- a filter and a search, at a first element
@@ -51,6 +52,13 @@ module _ {A : Type 0} where
   pub each-from_contained : (P : A → Type 0) (xs : List A) → ((y : A) → Contains xs y → P y) → AllByRecursion P xs
   each-from_contained P [] each = tt
   each-from_contained P (x ∷ xs) each = (each x (Contains-here x xs), each-from_contained P xs (λ y among. each y (Contains-there x xs y among)))
+
+  -- some element passes a test
+  pub some_passes : (test : A → Bool) (xs : List A) → list_any test xs ≡ true → (x : A) × Contains xs x × (test x ≡ true)
+  some_passes test xs passes = let some = Any-from_list_any test xs passes in (some.1, (some.0, some.2, some.3), some.4)
+
+  pub any_passes : (test : A → Bool) (xs : List A) (x : A) → Contains xs x → test x ≡ true → list_any test xs ≡ true
+  any_passes test xs x among passes = list_any-from_Any test xs (among.0, x, among.1, among.2, passes)
 
   -- a filter keeps what passes its test
   pub Contains-filter : (test : A → Bool) (xs : List A) (y : A) → Contains xs y → test y ≡ true → Contains (filter test xs) y

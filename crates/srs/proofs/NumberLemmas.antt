@@ -15,8 +15,8 @@ pub record IsWithin (low high : ℤ) (a b : ℤ) : Type 0 where
   pub down : low ≤ℤ b
   pub up : b ≤ℤ high
 
-yes : (a b : ℤ) → int_le a b ≡ true → a ≤ℤ b
-yes a b e = le_z_yes (subst T (sym e) tt)
+pub int_le-true : (a b : ℤ) → int_le a b ≡ true → a ≤ℤ b
+int_le-true a b e = le_z_yes (subst T (sym e) tt)
 
 within : (low high a b : ℤ) → (int_le low a && int_le a high && int_le low b && int_le b high) ≡ true → IsWithin low high a b
 within low high a b h =
@@ -26,10 +26,10 @@ within low high a b h =
     let s = int_le b high in
     let front = and_first ((p && q) && r) s h in
     record {
-      left = yes low a (and_first p q (and_first (p && q) r front));
-      right = yes a high (and_second p q (and_first (p && q) r front));
-      down = yes low b (and_second (p && q) r front);
-      up = yes b high (and_second ((p && q) && r) s h);
+      left = int_le-true low a (and_first p q (and_first (p && q) r front));
+      right = int_le-true a high (and_second p q (and_first (p && q) r front));
+      down = int_le-true low b (and_second (p && q) r front);
+      up = int_le-true b high (and_second ((p && q) && r) s h);
     }
 
 pub near_within : (move : Cell) → is_near move ≡ true → IsWithin (minus 2) (pos 2) move.0 move.1

@@ -1,7 +1,7 @@
 -- The orders of placements and of sequences: both are total, and equal only of equal things.
-use Rattle.std.proofs.Common.{◌≡◌, ◌↔◌, ◌<◌, List, [], ◌∷◌, ◌++◌, refl, sym, ap, subst, ◌∙◌}
+use Rattle.std.proofs.Common.{◌≡◌, ◌↔◌, ◌<◌, List, [], ◌∷◌, ◌++◌, refl, sym, ap, ◌∙◌, ℕ, ◌⊎◌, inl, inr}
 use Rattle.std.specs.Ordering.{ordering_then, nat_cmp}
-use Rattle.std.specs.Cmp.{IsTotalOrder, nat_cmp_total, on_total, then_total, tied_itself}
+use Rattle.std.specs.Cmp.{IsTotalOrder, nat_cmp_total, on_total, then_total, tied_itself, nat_cmp_is}
 use Rattle.std.specs.Cmp.Lexicographic.{lists_total}
 use Rattle.std.specs.FinMap.{IsAntisymmetric, nat_cmp-IsAntisymmetric, slice_cmp-IsAntisymmetric}
 use Rattle.std.specs.declared.cmp.Ordering.{Ordering}
@@ -11,7 +11,8 @@ use Rattle.srs.specs.declared.placement.Placement.{Placement}
 use Rattle.srs.specs.Piece.{piece_code}
 use Rattle.srs.specs.Rotation.{rotation_place}
 use Rattle.srs.specs.Order.{placement_cmp, sequence_cmp}
-use Rattle.srs.proofs.CodeLemmas.{piece_code-injective, rotation_place-injective}
+use Rattle.srs.proofs.CodeLemmas.{piece_code-injective, rotation_place-injective, same_placement}
+use Rattle.std.proofs.lemmas.Bool.{cases_order}
 
 pub then_assoc : (a b c : Ordering) → ordering_then (ordering_then a b) c ≡ ordering_then a (ordering_then b c)
 then_assoc Less b c = refl
@@ -23,19 +24,35 @@ then_first Less b e = cc
 then_first Equal b e = refl
 then_first Greater b e = cc
 
-then_second : (a b : Ordering) → ordering_then a b ≡ Equal → b ≡ Equal
+pub then_second : (a b : Ordering) → ordering_then a b ≡ Equal → b ≡ Equal
 then_second Less b e = cc
 then_second Equal b e = e
 then_second Greater b e = cc
+
+pub first_less : (a b : Ordering) → a ≡ Less → ordering_then a b ≡ Less
+first_less a b e = ap (λ r. ordering_then r b) e
+
+-- a comparison of numbers decides, or else the next
+pub then_less : (m n : ℕ) (rest : Ordering) → ordering_then (nat_cmp m n) rest ≡ Less → (m < n) ⊎ ((m ≡ n) × (rest ≡ Less))
+then_less m n rest less = elim (cases_order m n) [
+  | inl same ↦ inr (same, ap (λ o. ordering_then o rest) (nat_cmp_is m n Equal same) ∙ less)
+  | inr apart ↦ elim apart [
+    | inl below ↦ inl below
+    | inr above ↦ let both : Greater ≡ Less = ap (λ o. ordering_then o rest) (nat_cmp_is m n Greater above) ∙ less in cc
+  ]
+]
+
+pub less_is_below : (m n : ℕ) → nat_cmp m n ≡ Less → m < n
+less_is_below m n less = elim (then_less m n Equal (ap (λ o. ordering_then o Equal) less)) [
+  | inl below ↦ below
+  | inr same ↦ let both : Equal ≡ Less = same.1 in cc
+]
 
 pub placement_cmp-total : IsTotalOrder placement_cmp
 placement_cmp-total =
     then_total (on_total (λ (s : Placement). piece_code s.piece) nat_cmp_total)
     (then_total (on_total (λ (s : Placement). rotation_place s.rotation) nat_cmp_total)
     (then_total (on_total (λ (s : Placement). s.y) nat_cmp_total) (on_total (λ (s : Placement). s.x) nat_cmp_total)))
-
-equal_parts : (s t : Placement) → s.piece ≡ t.piece → s.rotation ≡ t.rotation → s.x ≡ t.x → s.y ≡ t.y → s ≡ t
-equal_parts s t p r x y = λ i. record { piece = p i; rotation = r i; x = x i; y = y i }
 
 pub placement_cmp-antisymmetric : IsAntisymmetric placement_cmp
 placement_cmp-antisymmetric s t e =
@@ -45,7 +62,7 @@ placement_cmp-antisymmetric s t e =
     let column = nat_cmp s.x t.x in
     let after_piece = then_second piece (ordering_then rotation (ordering_then row column)) e in
     let after_rotation = then_second rotation (ordering_then row column) after_piece in
-    equal_parts s t
+    same_placement s t
     (piece_code-injective s.piece t.piece (nat_cmp-IsAntisymmetric _ _ (then_first piece _ e)))
     (rotation_place-injective s.rotation t.rotation (nat_cmp-IsAntisymmetric _ _ (then_first rotation _ after_piece)))
     (nat_cmp-IsAntisymmetric s.x t.x (then_second row column after_rotation))
@@ -66,9 +83,6 @@ sequence_cmp-equal s t = (sequence_cmp-antisymmetric s t, λ e. ap (sequence_cmp
 -- the piece is what is compared first
 pub placement_cmp-piece : (s t : Placement) → piece_code s.piece < piece_code t.piece → placement_cmp s t ≡ Less
 placement_cmp-piece s t below = first_less _ _ (below_is_less (piece_code s.piece) (piece_code t.piece) below)
-  where
-    first_less : (a b : Ordering) → a ≡ Less → ordering_then a b ≡ Less
-    first_less a b e = subst (λ r. ordering_then r b ≡ Less) (sym e) refl
 
 -- the first placements of two sequences decide where they differ
 pub sequence_cmp-first : (x y : Placement) (xs ys : List Placement) → placement_cmp x y ≡ Less → sequence_cmp (x ∷ xs) (y ∷ ys) ≡ Less

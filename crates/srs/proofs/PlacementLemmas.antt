@@ -20,9 +20,10 @@ use Rattle.srs.specs.Order.{placement_cmp}
 use Rattle.srs.specs.Placements.{IsCanonicalInside, is_canonical_inside, placements_by_pivot, placements_of}
 use Rattle.srs.specs.Rising.{IsRisingListOf}
 use Rattle.srs.proofs.CanonicalLemmas.{is_canonical-from, IsCanonical-from_test, pivot_inside}
-use Rattle.srs.proofs.BooleanLemmas.{and_both, and_first, and_second}
+use Rattle.srs.proofs.BooleanLemmas.{and_first, and_second}
 use Rattle.srs.proofs.MemberLemmas.{Contains-filter, Contains-flat_map, Contains-from_filter, Contains-from_flat_map, Contains-from_map, Contains-map, Contains-range}
 use Rattle.srs.proofs.RisingLemmas.{rising-flat_map, rising-map, rising-range}
+use Rattle.std.proofs.lemmas.Bool.{and_from}
 
 abbrev state : Piece → Rotation → ℕ → ℕ → Placement
 state p r y x = record { piece = p; rotation = r; x = x; y = y }
@@ -116,4 +117,4 @@ placements_of-list p = record {
         let pivot = pivot_inside s one.inside in
         Contains-filter is_canonical_inside (placements_by_pivot p) s
         (subst (λ q. Contains (placements_by_pivot q) s) one.kind (placements_by_pivot-has s pivot.in_columns pivot.in_rows))
-        (and_both (is_canonical s) (is_inside_of s) (is_canonical-from s one.canonical) one.inside)
+        (and_from (is_canonical s) (is_inside_of s) (is_canonical-from s one.canonical) one.inside)

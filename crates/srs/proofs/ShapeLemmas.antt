@@ -1,7 +1,7 @@
 -- Facts of the table of shapes, tried at each piece and rotation.
-use Rattle.std.proofs.Common.{◌≡◌, nat_lt, Bool, true, false, not, ◌&&◌, ◌||◌, ◌==◌, List, length, map, refl, subst, ◌∙◌, arith}
+use Rattle.std.proofs.Common.{◌≡◌, nat_lt, Bool, true, false, not, ◌&&◌, ◌||◌, ◌==◌, List, length, map, refl, subst, ◌∙◌, arith, ◌<◌, ◌≤◌, nat_le}
 use Rattle.std.specs.List.{list_all}
-use Rattle.std.proofs.lemmas.Bool.{eqb-true}
+use Rattle.std.proofs.lemmas.Bool.{eqb-true, and_from, leb-true, ltb-true}
 use Rattle.std.proofs.lemmas.List.{length-map}
 use Rattle.srs.specs.declared.piece.Piece.{Piece}
 use Rattle.srs.specs.declared.piece.Piece.TheVariants.{I, L, O, Z, T, J, S}
@@ -14,10 +14,7 @@ use Rattle.srs.specs.Cells.{Cell, moved, shape, cells_of, pivot_of, is_near}
 use Rattle.srs.specs.SameCells.{is_among, SameCells}
 use Rattle.srs.specs.Canonical.{canonical_rotation, canonical_move, rotation_count}
 use Rattle.srs.proofs.CellLemmas.{origin, fits, is_apart, is_still, same_cells-from}
-use Rattle.srs.proofs.BooleanLemmas.{and_both, list_all_each}
-
-or_false : (a b : Bool) → a ≡ false → (a || b) ≡ true → b ≡ true
-or_false a b e h = subst (λ x. (x || b) ≡ true) e h
+use Rattle.srs.proofs.BooleanLemmas.{list_all_each, or_second}
 
 -- what is tried of all pieces holds of each
 pub each_piece : (test : Piece → Bool) → list_all test all_pieces ≡ true → (piece : Piece) → test piece ≡ true
@@ -40,8 +37,18 @@ each_rotation test all Left = list_all_each test all_rotations 3 Spawn all (omeg
 pub each_state : (test : Piece → Rotation → Bool) → list_all (λ piece. list_all (test piece) all_rotations) all_pieces ≡ true → (piece : Piece) (rotation : Rotation) → test piece rotation ≡ true
 each_state test all piece = each_rotation (test piece) (each_piece (λ p. list_all (test p) all_rotations) all piece)
 
+-- codes of pieces and places of rotations are few
+pub piece_code-some : (piece : Piece) → 1 ≤ piece_code piece
+piece_code-some piece = leb-true _ _ (each_piece (λ p. nat_le 1 (piece_code p)) refl piece)
+
+pub piece_code-small : (piece : Piece) → piece_code piece ≤ 7
+piece_code-small piece = leb-true _ _ (each_piece (λ p. nat_le (piece_code p) 7) refl piece)
+
+pub rotation_place-small : (rotation : Rotation) → rotation_place rotation < 4
+rotation_place-small rotation = ltb-true _ _ (each_rotation (λ r. nat_lt (rotation_place r) 4) refl rotation)
+
 -- each placement has four cells
-shape_length : (piece : Piece) (rotation : Rotation) → length (shape piece rotation) ≡ 4
+pub shape_length : (piece : Piece) (rotation : Rotation) → length (shape piece rotation) ≡ 4
 shape_length piece rotation = eqb-true _ _ (each_state (λ p r. length (shape p r) == 4) refl piece rotation)
 
 pub cells_length : (placement : Placement) → length (cells_of placement) ≡ 4
@@ -77,7 +84,7 @@ canonical_shape p r = same_cells-from _ _ (each_state there refl p r) (each_stat
 -- no two kinds of piece have a shape in common, wherever they are
 pub kinds_apart : (p : Piece) (r : Rotation) (q : Piece) (s : Rotation) → (piece_code p == piece_code q) ≡ false → is_apart (shape p r) (shape q s) ≡ true
 unfolding is_among moved fits is_apart
-kinds_apart p r q s other = or_false _ _ other (each_state (λ q s. piece_code p == piece_code q || is_apart (shape p r) (shape q s)) (each_state (λ p r. list_all (λ q. list_all (λ s. piece_code p == piece_code q || is_apart (shape p r) (shape q s)) all_rotations) all_pieces) refl p r) q s)
+kinds_apart p r q s other = or_second _ _ other (each_state (λ q s. piece_code p == piece_code q || is_apart (shape p r) (shape q s)) (each_state (λ p r. list_all (λ q. list_all (λ s. piece_code p == piece_code q || is_apart (shape p r) (shape q s)) all_rotations) all_pieces) refl p r) q s)
 
 -- the rotations that a piece has cells of its own in are apart from each earlier one
 pub rotations_apart : (p : Piece) (r s : Rotation) → nat_lt (rotation_place s) (rotation_count p) ≡ true → nat_lt (rotation_place r) (rotation_place s) ≡ true → is_apart (shape p r) (shape p s) ≡ true
@@ -88,7 +95,7 @@ rotations_apart p r s own earlier = both_so _ _ _ own earlier (each_rotation (λ
     test p r s = not (nat_lt (rotation_place s) (rotation_count p) && nat_lt (rotation_place r) (rotation_place s)) || is_apart (shape p r) (shape p s)
 
     both_so : (a b c : Bool) → a ≡ true → b ≡ true → (not (a && b) || c) ≡ true → c ≡ true
-    both_so a b c e f h = subst (λ x. (not x || c) ≡ true) (and_both a b e f) h
+    both_so a b c e f h = subst (λ x. (not x || c) ≡ true) (and_from a b e f) h
 
 pub shape_still : (p : Piece) (r : Rotation) → is_still (shape p r) ≡ true
 unfolding is_among moved fits is_still origin
@@ -96,7 +103,7 @@ shape_still = each_state (λ p r. is_still (shape p r)) refl
 
 -- a rotation has cells of its own, or the canonical one is earlier
 pub canonical_earlier : (p : Piece) (r : Rotation) → nat_lt (rotation_place r) (rotation_count p) ≡ false → nat_lt (rotation_place (canonical_rotation p r)) (rotation_place r) ≡ true
-canonical_earlier p r other = or_false _ _ other (each_state (λ p r. nat_lt (rotation_place r) (rotation_count p) || nat_lt (rotation_place (canonical_rotation p r)) (rotation_place r)) refl p r)
+canonical_earlier p r other = or_second _ _ other (each_state (λ p r. nat_lt (rotation_place r) (rotation_count p) || nat_lt (rotation_place (canonical_rotation p r)) (rotation_place r)) refl p r)
 
 -- the canonical rotation has cells of its own
 pub canonical_rotation_own : (p : Piece) (r : Rotation) → nat_lt (rotation_place (canonical_rotation p r)) (rotation_count p) ≡ true
