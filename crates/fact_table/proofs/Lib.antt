@@ -1,4 +1,4 @@
 -- The lemmas of this crate.
 mod FactLemmas
-mod PlaceLemmas
+mod SlotLemmas
 pub mod CallerLemmas

@@ -8,9 +8,9 @@ entries_of None = []
 entries_of (Some entries) = entries.items
 
 -- the index of the questions with this hash, where there is so much room
-unfoldable pub place_in : ℕ → ℕ → ℕ
-place_in room hash = bit_and hash (room - 1)
+unfoldable pub slot_in : ℕ → ℕ → ℕ
+slot_in room hash = bit_and hash (room - 1)
 
 -- the entries after one is put there
 abbrev pub with_entry : {E : Type 0} → List E → ℕ → E → List E
-with_entry entries hash entry = set entries (place_in (length entries) hash) entry
+with_entry entries hash entry = set entries (slot_in (length entries) hash) entry

@@ -1,6 +1,6 @@
-// A table of fixed room in which each question has one place.
+// A table of fixed room in which each question has one slot.
 ghost use Rattle.std.specs.Prelude.{◌≡◌, ◌⊎◌, ◌==◌, All, IfOk, None, [], length, option_copied, slice_get};
-ghost use Rattle.fact_table.specs.Entries.{place_in, with_entry};
+ghost use Rattle.fact_table.specs.Entries.{slot_in, with_entry};
 
 use pc_outside::NoMemory;
 use std::alloc::Global;
@@ -23,7 +23,7 @@ impl<T: Drop> Entry for Option<T> {
     }
 }
 
-/// Remembered entries, in fixed room. Each question has one place, which its hash says, so a later entry evicts an
+/// Remembered entries, in fixed room. Each question has one slot, which its hash says, so a later entry evicts an
 /// earlier one. A contract sees a table as the list of its entries.
 #[derive(Drop)]
 pub struct FactTable<E> {
@@ -86,23 +86,23 @@ impl<E: Entry> FactTable<E> {
         self.entries.is_none()
     }
 
-    /// The entry at the place of the questions with this hash. `None` exactly if there is no room.
+    /// The entry in the slot of the questions with this hash. `None` exactly if there is no room.
     #[inline(always)]
     pub fn entry(&self, hash: u64) -> Option<&E>
-        ensures { option_copied result ≡ slice_get self.now (place_in (length self.now) hash) }
+        ensures { option_copied result ≡ slice_get self.now (slot_in (length self.now) hash) }
     {
         let entries = self.entries.as_ref()?;
         Some(&entries[hash as usize & (entries.len() - 1)])
     }
 
-    /// Puts an entry at the place of the questions with this hash.
+    /// Puts an entry in the slot of the questions with this hash.
     #[inline(always)]
     pub fn put(&mut self, hash: u64, entry: E)
         ensures { self.new ≡ with_entry self.old hash entry }
     {
         if let Some(entries) = &mut self.entries {
-            let place = hash as usize & (entries.len() - 1);
-            entries[place] = entry;
+            let slot = hash as usize & (entries.len() - 1);
+            entries[slot] = entry;
         }
     }
 }

@@ -2,7 +2,7 @@
 use crate::FactTable;
 
 #[test]
-fn keeps_the_last_entry_at_a_place(rt: HostRuntime) {
+fn keeps_the_last_entry_in_a_slot(rt: HostRuntime) {
     let mut table = FactTable::within_memory(rt.alloc(), 4);
     table.put(6, Some('a'));
     table.put(7, Some('b'));
