@@ -6,6 +6,7 @@ use Rattle.std.specs.List.{list_all}
 use Rattle.std.specs.Cmp.{both_ways}
 use Rattle.std.proofs.lemmas.Bool.{and_parts, and_from, or_from, false_from_ne_true, false≢true, not-true, not_from_false, eqb-true, eq-eqb, leb-true, ltb-true}
 use Rattle.std.proofs.lemmas.Int.{ints}
+use Rattle.std.proofs.Math.Bool.{or_assoc}
 use Rattle.lane_board.specs.Field.{Field, with_cell}
 use Rattle.lane_board.specs.FullRows.{full_below, without_full_rows}
 use Rattle.lane_board.specs.CellCount.{cell_count}
@@ -46,17 +47,13 @@ placed F column row = fun_ext (λ x. fun_ext (λ y. ap (λ b. F x y || b) (same 
 unfoldable added : Field → List Cell → Field
 added F cells x y = F x y || is_among cells (pos x, pos y)
 
-or_assoc : (a b c : Bool) → (a || (b || c)) ≡ ((a || b) || c)
-or_assoc true b c = refl
-or_assoc false b c = refl
-
 added-nil : (F : Field) → added F [] ≡ F
 unfolding added is_among
 added-nil F = fun_ext (λ x. fun_ext (λ y. or_none (F x y) false refl))
 
 added-cons : (F : Field) (cell : Cell) (cells : List Cell) → added F (cell ∷ cells) ≡ added (with_place F cell) cells
 unfolding added is_among with_place
-added-cons F cell cells = fun_ext (λ x. fun_ext (λ y. or_assoc (F x y) (cell_eq cell (pos x, pos y)) (is_among cells (pos x, pos y))))
+added-cons F cell cells = fun_ext (λ x. fun_ext (λ y. sym (or_assoc (F x y) (cell_eq cell (pos x, pos y)) (is_among cells (pos x, pos y)))))
 
 -- four cells are added one after another
 added_four : (F : Field) (cells : List Cell) (d : Cell) → length cells ≡ 4 →
@@ -168,11 +165,12 @@ below_cell : (q : Placement) (height x y : ℕ) → is_below height q ≡ true �
 below_cell q height x y below above =
     false_from_ne_true _ (λ has. omega (arith, ints, ltb-true y height (is_among-all (λ cell. int_lt cell.1 (pos height)) (cells_of q) (pos x, pos y) below has)))
 
-together_below : (F : Field) (q : Placement) (height : ℕ) → LiesBelow F height → is_below height q ≡ true → (x y : ℕ) → height ≤ y → together F q x y ≡ false
+-- no cell stands above the height once the placement is there
+pub together_below : (F : Field) (q : Placement) (height : ℕ) → LiesBelow F height → is_below height q ≡ true → (x y : ℕ) → height ≤ y → together F q x y ≡ false
 unfolding together
 together_below F q height below placed x y above = or_from _ _ (below.none x y above) (below_cell q height x y placed above)
 
-full_below_height : (G : Field) (height : ℕ) → height ≤ 23 → ((x y : ℕ) → height ≤ y → G x y ≡ false) → full_below G 23 ≡ full_below G height
+pub full_below_height : (G : Field) (height : ℕ) → height ≤ 23 → ((x y : ℕ) → height ≤ y → G x y ≡ false) → full_below G 23 ≡ full_below G height
 full_below_height G height within none = let size : 23 ≡ height + (23 - height) = omega arith in ap (full_below G) size ∙ full_above G height (23 - height) (λ y above. not_full_from_cell G 0 y (omega arith) (none 0 y above))
 
 pub stays_below : StaysBelow

@@ -1,10 +1,11 @@
 -- Rows of ten bits in one number.
-use Rattle.std.proofs.Common.{◌≡◌, ℕ, zero, suc, ◌+◌, ◌-◌, ◌*◌, ◌/◌, ◌%◌, ◌^◌, ◌<◌, ◌≤◌, Bool, true, false, ◌&&◌, ◌==◌, nat_lt, refl, sym, ap, subst, ◌∙◌, ◌⊎◌, inl, inr, arith}
+use Rattle.std.proofs.Common.{◌≡◌, ℕ, zero, suc, ◌+◌, ◌-◌, ◌*◌, ◌/◌, ◌%◌, ◌^◌, ◌<◌, ◌≤◌, true, false, ◌&&◌, ◌==◌, nat_lt, sym, ap, subst, ◌∙◌, ◌⊎◌, inl, inr, arith}
 use Rattle.std.proofs.Math.Path.{fun_ext}
 use Rattle.std.specs.Int.{bit_at}
 use Rattle.std.proofs.lemmas.Bool.{cases_lt, and_left, and_right, false_from_ne_true, lt-ltb, ltb-true}
 use Rattle.std.proofs.lemmas.Nat.Bits.{bit_at_cat_low, bit_at_cat_high}
 use Rattle.std.proofs.Math.Nat.{pow-le-pow_right}
+use Rattle.std.proofs.Math.Bool.{and-true}
 use Rattle.lane_board.specs.Field.{Field, intersection, rows_below}
 use Rattle.lane_board.specs.Lanes.{has_bit}
 use Rattle.lane_board.proofs.CallerLemmas.{has_bit-zero, has_bit-low, has_bit-past, same_from_columns}
@@ -51,11 +52,7 @@ module _ (F : Field) (rows y t cells row next : ℕ) (step : y ≡ t + 1) (withi
           let place : 10 * 0 + x ≡ x = omega arith in
           let row_is : t + 0 ≡ t = omega arith in
           ap (λ n. has_bit n (10 * 0 + x)) is ∙ ap (has_bit (cells * 1024 + row)) place ∙ low_bit cells row x column ∙ ap (λ f. f x) here
-          ∙ sym (and_true (F x t)) ∙ ap (λ b. F x t && b) (sym (lt-ltb t rows (omega arith))) ∙ ap (λ k. F x k && nat_lt k rows) (sym row_is)
-        where
-          and_true : (a : Bool) → (a && true) ≡ a
-          and_true true = refl
-          and_true false = refl
+          ∙ sym (and-true (F x t)) ∙ ap (λ b. F x t && b) (sym (lt-ltb t rows (omega arith))) ∙ ap (λ k. F x k && nat_lt k rows) (sym row_is)
       bits x (suc j) column =
           let place : 10 * suc j + x ≡ 10 * j + x + 10 = omega arith in
           let row_is : y + j ≡ t + suc j = omega arith in

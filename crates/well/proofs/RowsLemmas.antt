@@ -16,7 +16,7 @@ use Rattle.well.specs.RowsReading.{raised}
 pub rows_of : List ℕ → List (List ℕ)
 rows_of text = reverse (slice_split is_slash text)
 
-has_row : (text : List ℕ) → 0 < length (slice_split is_slash text)
+pub has_row : (text : List ℕ) → 0 < length (slice_split is_slash text)
 has_row text = omega (arith, length-slice_split is_slash text)
 
 -- a byte after the last row of a list, or after the first

@@ -3,9 +3,10 @@ use Rattle.std.proofs.Common.{◌≡◌, ℕ, ◌+◌, ◌<◌, ◌≤◌, true,
 use Rattle.std.specs.List.{slice_split, onto_first}
 use Rattle.std.proofs.lemmas.Bool.{cases_Bool, eqb-true, eqb-false, ne_eqb, eq-eqb}
 use Rattle.std.proofs.lemmas.List.Elements.{All-nil, All-cons, All-head, All-tail}
-use Rattle.std.proofs.lemmas.List.Splits.{length-slice_split, slice_split-cons_yes, slice_split-cons_no}
+use Rattle.std.proofs.lemmas.List.Splits.{slice_split-cons_yes, slice_split-cons_no}
 use Rattle.well.specs.declared.rows.RowsFault.TheVariants.{BadRowChar, BadRowLength, TooManyRows}
 use Rattle.well.specs.Rows.{is_slash, is_row_char, IsRow, IsRowsText, fault_from, rows_fault}
+use Rattle.well.proofs.RowsLemmas.{has_row}
 
 abbrev IsRowChar : ℕ → Type 0
 IsRowChar byte = is_row_char byte ≡ true
@@ -14,9 +15,6 @@ IsRowChar byte = is_row_char byte ≡ true
 abbrev Fits : ℕ → ℕ → List (List ℕ) → Type 0
 Fits row n [] = ⊥
 Fits row n (part ∷ parts) = (length part + n ≡ 10) × All IsRowChar part × (row + length parts ≤ 23) × All IsRow parts
-
-some_parts : (bytes : List ℕ) → 0 < length (slice_split is_slash bytes)
-some_parts bytes = omega (arith, length-slice_split is_slash bytes)
 
 -- what is due at a byte
 pub slash_goes_on : (row n place byte : ℕ) (bytes : List ℕ) → is_slash byte ≡ true → (n == 10) ≡ true → (row == 23) ≡ false
@@ -137,12 +135,12 @@ none-from_fits [] row n place fits = let ten : (n == 10) ≡ true = eq-eqb n 10 
 none-from_fits (byte ∷ bytes) row n place fits = elim (cases_Bool (is_slash byte)) [
   | inl slash ↦
       let cut : Fits row n ([] ∷ slice_split is_slash bytes) = subst (Fits row n) (slice_split-cons_yes is_slash byte bytes slash) fits in
-      let later = before_slash row n (slice_split is_slash bytes) (some_parts bytes) cut in
+      let later = before_slash row n (slice_split is_slash bytes) (has_row bytes) cut in
       slash_goes_on row n place byte bytes slash (eq-eqb n 10 (omega (arith, cut.0)))
-      (ne_eqb row 23 (λ last. omega (arith, last, cut.2, some_parts bytes))) ∙ none-from_fits bytes (row + 1) 0 (place + 1) later
+      (ne_eqb row 23 (λ last. omega (arith, last, cut.2, has_row bytes))) ∙ none-from_fits bytes (row + 1) 0 (place + 1) later
   | inr other ↦
       let cut : Fits row n (onto_first byte (slice_split is_slash bytes)) = subst (Fits row n) (slice_split-cons_no is_slash byte bytes other) fits in
-      let later = before_character row n byte (slice_split is_slash bytes) (some_parts bytes) cut in
+      let later = before_character row n byte (slice_split is_slash bytes) (has_row bytes) cut in
       character_goes_on row n place byte bytes other later.character (ne_eqb n 10 (λ ten. omega (arith, ten, later.short)))
       ∙ none-from_fits bytes row (n + 1) (place + 1) later.fits
 ]
@@ -168,4 +166,4 @@ pub none-from_rows : (text : List ℕ) → IsRowsText text → rows_fault text �
 unfolding rows_fault
 none-from_rows [] form = refl
 none-from_rows (byte ∷ bytes) form =
-    none-from_fits (byte ∷ bytes) 1 0 0 (fits-from_rows (slice_split is_slash (byte ∷ bytes)) (some_parts (byte ∷ bytes)) form)
+    none-from_fits (byte ∷ bytes) 1 0 0 (fits-from_rows (slice_split is_slash (byte ∷ bytes)) (has_row (byte ∷ bytes)) form)
