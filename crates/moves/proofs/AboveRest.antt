@@ -8,8 +8,8 @@ use Rattle.well.specs.Free.{is_free_at}
 use Rattle.well.proofs.CallerLemmas.{free_pivot}
 use Rattle.moves.specs.Step.{state_at}
 use Rattle.moves.specs.Rest.{lowered, IsRest}
-use Rattle.moves.proofs.WalkLemmas.{some_same}
 use Rattle.moves.specs.RestingStates.{IsResting}
+use Rattle.srs.proofs.CallerLemmas.{some_same}
 
 pub record StandsAbove (F : Field) (s t : Placement) : Type 0 where
   pub rows : ℕ

@@ -12,7 +12,7 @@ use Rattle.srs.specs.declared.placement.Placement.{Placement}
 use Rattle.srs.specs.Cells.{Cell, minus, moved, shape, cells_at, cells_of, pivot_of, in_well}
 use Rattle.srs.specs.SameCells.{is_among}
 use Rattle.srs.specs.Kick.{srs_table}
-use Rattle.srs.proofs.CallerLemmas.{less, is_among-moved, is_among-all, list_all-from_is_among, in_well-place, inside_cell, each_state}
+use Rattle.srs.proofs.CallerLemmas.{less, is_among-moved, is_among-all, list_all-from_is_among, in_well-place, inside_cell, each_state, some_same, int_le-true}
 use Rattle.well.specs.Free.{is_open, is_free_at, is_free}
 use Rattle.well.proofs.CallerLemmas.{open_at, free_inside, free_pivot}
 use Rattle.moves.specs.declared.key.Key.{Key}
@@ -24,13 +24,13 @@ use Rattle.moves.specs.Rest.{lowered}
 use Rattle.moves.specs.Step.{state_at, first_free, shifted, step_of}
 use Rattle.moves.specs.Walk.{led}
 use Rattle.moves.proofs.StepLemmas.{step_of-free, pivot_of_free}
-use Rattle.moves.proofs.WalkLemmas.{some_same, not_some, led_none}
+use Rattle.moves.proofs.WalkLemmas.{not_some, led_none}
 use Rattle.moves.specs.Height.{rise, upright, fits_column}
 use Rattle.moves.specs.OpenKeys.{Spot, open_key, is_some, path}
 use Rattle.moves.specs.Sky.{IsClearFrom, IsUnderSky}
 use Rattle.moves.proofs.TableFacts.{all_below, below_each, is_level, shape_level, turns_kept}
 use Rattle.moves.specs.SkyLaws.{KeepsHeight}
-use Rattle.moves.proofs.OpenLemmas.{open_height, IsOpenHeight, open_step, free_fits, yes, natural}
+use Rattle.moves.proofs.OpenLemmas.{open_height, IsOpenHeight, open_step, free_fits, natural}
 use Rattle.moves.proofs.SkyLemmas.{high, rise_spawn, spawn_fits}
 use Rattle.moves.proofs.AboveRest.{StandsAbove}
 
@@ -109,7 +109,7 @@ module _ (F : Field) (r : ℕ) (clear : IsClearFrom r F) (low : r ≤ 18) (s t :
       let c = less (pos x, pos y) (pivot_of t) in
       let has_c : is_among (shape t.piece t.rotation) c ≡ true = sym (is_among-moved (pivot_of t) (shape t.piece t.rotation) (pos x, pos y)) ∙ has in
       let rows = and_parts (int_le (minus 2) (c.1 -ℤ rise t.piece t.rotation)) (int_le (c.1 -ℤ rise t.piece t.rotation) (pos 1)) (is_among-all (is_level t.piece t.rotation) (shape t.piece t.rotation) c (shape_level t.piece t.rotation) has_c) in
-      let down = yes (minus 2) (c.1 -ℤ rise t.piece t.rotation) rows.0 in
+      let down = int_le-true (minus 2) (c.1 -ℤ rise t.piece t.rotation) rows.0 in
       let tall : pos (t.y + above.rows) +ℤ rise t.piece t.rotation ≡ pos 20 = sym (ap upright above.is) ∙ height in
       let near : k - y ≤ above.rows = omega (arith, ints) in
       let raised : ◌≡◌ {A = Cell} (less (pos x, pos k) (pos t.x, pos (t.y + (k - y)))) c = (let same : pos k -ℤ pos (t.y + (k - y)) ≡ pos y -ℤ pos t.y = omega (arith, ints) in λ i. (pos x -ℤ pos t.x, same i)) in
@@ -127,9 +127,6 @@ module _ (F : Field) (r : ℕ) (clear : IsClearFrom r F) (low : r ≤ 18) (s t :
 pub path_allowed : (piece : Piece) (rotation : Rotation) (x : ℕ) → x < 10 → list_all (allows Hard) (path piece rotation x) ≡ true
 unfolding all_below
 path_allowed piece rotation = below_each 10 (λ x. list_all (allows Hard) (path piece rotation x)) (each_state (λ p r. all_below 10 (λ x. list_all (allows Hard) (path p r x))) refl piece rotation)
-
-rise_low : (piece : Piece) (rotation : Rotation) → int_le (minus 1) (rise piece rotation) ≡ true
-rise_low = each_state (λ p r. int_le (minus 1) (rise p r)) refl
 
 -- a state all of whose cells lie above row r is free one row lower
 module _ (F : Field) (r : ℕ) (clear : IsClearFrom r F) (t : Placement) (free : is_free F t ≡ true) (over : (c : Cell) → is_among (shape t.piece t.rotation) c ≡ true → pos (r + 1) ≤ℤ (pos t.y +ℤ c.1)) where

@@ -10,14 +10,14 @@ use Rattle.srs.specs.declared.rotation.Rotation.{Rotation}
 use Rattle.srs.specs.declared.placement.Placement.{Placement}
 use Rattle.srs.specs.Cells.{Cell, minus, shape, cells_at, cells_of, pivot_of, in_well}
 use Rattle.srs.specs.SameCells.{is_among}
-use Rattle.srs.proofs.CallerLemmas.{less, is_among-moved, is_among-all, each_state}
+use Rattle.srs.proofs.CallerLemmas.{less, is_among-moved, is_among-all, each_state, int_le-true}
 use Rattle.well.specs.Free.{is_open, is_free_at, is_free}
 use Rattle.well.proofs.CallerLemmas.{free_inside}
 use Rattle.moves.specs.Height.{rise, upright}
 use Rattle.moves.specs.Sky.{IsClearFrom, IsUnderSky}
 use Rattle.moves.specs.RestingStates.{IsResting}
 use Rattle.moves.specs.Lanes.{lowest, lane}
-use Rattle.moves.proofs.OpenLemmas.{natural, yes}
+use Rattle.moves.proofs.OpenLemmas.{natural}
 use Rattle.moves.proofs.HardLemmas.{lower_free}
 
 -- no cell is lower than the lane, and the lane lies from two rows below the upright height up to it
@@ -38,8 +38,8 @@ pub record IsNear (s : Placement) : Type 0 where
 pub near : (s : Placement) → IsNear s
 near s =
     let parts = and_parts (int_le (minus 2) (lowest (shape s.piece s.rotation) -ℤ rise s.piece s.rotation)) (int_le (lowest (shape s.piece s.rotation) -ℤ rise s.piece s.rotation) (pos 0)) (lane_near s.piece s.rotation) in
-    let a = yes (minus 2) (lowest (shape s.piece s.rotation) -ℤ rise s.piece s.rotation) parts.0 in
-    let b = yes (lowest (shape s.piece s.rotation) -ℤ rise s.piece s.rotation) (pos 0) parts.1 in
+    let a = int_le-true (minus 2) (lowest (shape s.piece s.rotation) -ℤ rise s.piece s.rotation) parts.0 in
+    let b = int_le-true (lowest (shape s.piece s.rotation) -ℤ rise s.piece s.rotation) (pos 0) parts.1 in
     record { low = omega (arith, ints); high = omega (arith, ints) }
 
 deep : (p : Piece) (r : Rotation) → int_le (minus 3) (lowest (shape p r)) ≡ true
@@ -48,7 +48,7 @@ deep = each_state (λ p r. int_le (minus 3) (lowest (shape p r))) refl
 -- a lane is below N or not
 pub cases_lane : (N : ℕ) (t : Placement) → (lane t <ℤ pos N) ⊎ (pos N ≤ℤ lane t)
 cases_lane N t =
-    let low = yes (minus 3) (lowest (shape t.piece t.rotation)) (deep t.piece t.rotation) in
+    let low = int_le-true (minus 3) (lowest (shape t.piece t.rotation)) (deep t.piece t.rotation) in
     let n = natural (lane t +ℤ pos 3) (omega (arith, ints)) in
     let is = n.is in
     elim (cases_lt n.n (N + 3)) [ inl below ↦ inl (omega (arith, ints)) | inr high ↦ inr (omega (arith, ints)) ]
@@ -59,12 +59,12 @@ unfolding is_over
 rest_lane F r clear t rests = elim (cases_lane (r + 1) t) [
   | inl low ↦ omega (arith, ints)
   | inr tall ↦ absurd (both_ways _ rests.blocked (lower_free F r clear t rests.free (λ c has.
-      let low = yes (lowest (shape t.piece t.rotation)) c.1 (is_among-all (is_over t.piece t.rotation) (shape t.piece t.rotation) c (shape_over t.piece t.rotation) has) in
+      let low = int_le-true (lowest (shape t.piece t.rotation)) c.1 (is_among-all (is_over t.piece t.rotation) (shape t.piece t.rotation) c (shape_over t.piece t.rotation) has) in
       omega (arith, ints))))
 ]
 
 pub lowest_near : (p : Piece) (r : Rotation) → minus 2 ≤ℤ lowest (shape p r)
-lowest_near p r = yes (minus 2) (lowest (shape p r)) (each_state (λ p r. int_le (minus 2) (lowest (shape p r))) refl p r)
+lowest_near p r = int_le-true (minus 2) (lowest (shape p r)) (each_state (λ p r. int_le (minus 2) (lowest (shape p r))) refl p r)
 
 -- a free state lies under the sky where it is free at each lane on the way up to row r
 pub sky_from : (F : Field) (r : ℕ) → IsClearFrom r F → (t : Placement) → is_free F t ≡ true → ((j : ℕ) → (lane t +ℤ pos j) <ℤ pos r → is_free_at F t.piece t.rotation (pos t.x, pos (t.y + j)) ≡ true) → IsUnderSky F t
@@ -75,7 +75,7 @@ sky_from F r clear t free above = record { inside = free_inside F t free; clear 
     not_filled x y k has up below =
         let c = less (pos x, pos y) (pivot_of t) in
         let has_c : is_among (shape t.piece t.rotation) c ≡ true = sym (is_among-moved (pivot_of t) (shape t.piece t.rotation) (pos x, pos y)) ∙ has in
-        let over = yes (lowest (shape t.piece t.rotation)) c.1 (is_among-all (is_over t.piece t.rotation) (shape t.piece t.rotation) c (shape_over t.piece t.rotation) has_c) in
+        let over = int_le-true (lowest (shape t.piece t.rotation)) c.1 (is_among-all (is_over t.piece t.rotation) (shape t.piece t.rotation) c (shape_over t.piece t.rotation) has_c) in
         let under : (lane t +ℤ pos (k - y)) <ℤ pos r = omega (arith, ints) in
         let raised : ◌≡◌ {A = Cell} (less (pos x, pos k) (pos t.x, pos (t.y + (k - y)))) c = (let same : pos k -ℤ pos (t.y + (k - y)) ≡ pos y -ℤ pos t.y = omega (arith, ints) in λ i. (pos x -ℤ pos t.x, same i)) in
         let has_up = is_among-moved (pos t.x, pos (t.y + (k - y))) (shape t.piece t.rotation) (pos x, pos k) ∙ ap (is_among (shape t.piece t.rotation)) raised ∙ has_c in

@@ -1,5 +1,5 @@
 -- What lies at lane N or above needs no lane: each such state that keys can reach is open, and so are its neighbours.
-use Rattle.std.proofs.Common.{◌&&◌, ◌≡◌, ◌↔◌, ◌⊎◌, ℕ, ◌+◌, ◌≤◌, Bool, true, false, pos, ◌+ℤ◌, ◌-ℤ◌, ◌≤ℤ◌, Option, Some, None, List, [], ◌∷◌, map, refl, sym, ap, subst, ◌∙◌, inl, inr, arith}
+use Rattle.std.proofs.Common.{◌&&◌, ◌≡◌, ◌⊎◌, ℕ, ◌+◌, ◌≤◌, Bool, true, false, pos, ◌+ℤ◌, ◌-ℤ◌, ◌≤ℤ◌, Option, Some, None, List, [], ◌∷◌, map, refl, sym, ap, subst, ◌∙◌, inl, inr, arith}
 use Rattle.std.specs.Prelude.{IsTrue, int_le, ◌<ℤ◌}
 use Rattle.std.specs.List.{list_all}
 use Rattle.std.proofs.lemmas.Int.{ints}
@@ -13,7 +13,7 @@ use Rattle.srs.specs.Cells.{Cell, minus, moved, shape, cells_of, pivot_of, is_in
 use Rattle.srs.specs.SameCells.{cell_eq, is_among}
 use Rattle.srs.specs.Kick.{srs_table, kicks_of}
 use Rattle.srs.specs.Rotation.{clockwise_of, anticlockwise_of}
-use Rattle.srs.proofs.CallerLemmas.{same_cells-piece, cell_eq-decides, less, is_among-moved, is_among-all, each_state, each_piece}
+use Rattle.srs.proofs.CallerLemmas.{cell_eq-decides, less, is_among-moved, is_among-all, each_state, each_piece, some_same, int_le-true}
 use Rattle.well.specs.Free.{is_free_at, is_free}
 use Rattle.well.proofs.CallerLemmas.{free_inside, free_pivot}
 use Rattle.moves.specs.declared.key.Key.{Key}
@@ -21,20 +21,18 @@ use Rattle.moves.specs.declared.key.Key.TheVariants.{Left, Right, Down, Clockwis
 use Rattle.moves.specs.declared.key.DropMode.TheVariants.{Soft, Hard}
 use Rattle.moves.specs.Keys.{allows}
 use Rattle.moves.specs.Leads.{spawned, spawn_of, state_after}
-use Rattle.moves.specs.Place.{IsPlace}
 use Rattle.moves.specs.Step.{state_at, first_free, shifted, turned, step_of}
 use Rattle.moves.specs.Walk.{led}
 use Rattle.moves.proofs.StepLemmas.{step_of-free, pivot_of_free}
-use Rattle.moves.proofs.WalkLemmas.{some_same, not_some, led_none}
+use Rattle.moves.proofs.WalkLemmas.{not_some, led_none}
 use Rattle.moves.specs.Height.{rise, upright}
 use Rattle.moves.specs.Sky.{IsClearFrom, IsUnderSky}
-use Rattle.moves.specs.RestingStates.{IsKeyed, IsRestWhere}
+use Rattle.moves.specs.RestingStates.{IsKeyed}
 use Rattle.moves.specs.Lanes.{lowest, lane, IsFloodBelow}
-use Rattle.moves.proofs.OpenLemmas.{open_height, natural, IsOpenHeight, free_fits, yes}
+use Rattle.moves.proofs.OpenLemmas.{open_height, natural, IsOpenHeight, free_fits}
 use Rattle.moves.proofs.SkyLemmas.{rise_spawn}
 use Rattle.moves.proofs.HardLemmas.{StandsAt, stays_level}
-use Rattle.moves.proofs.LaneFacts.{is_over, shape_over, near, cases_lane, rest_lane}
-use Rattle.moves.proofs.SoftPlaces.{soft_places}
+use Rattle.moves.proofs.LaneFacts.{is_over, shape_over, near, cases_lane}
 
 -- a free state whose lane is no lower than all rows are clear from lies under the sky
 pub inside_under_sky : (F : Field) (r : ℕ) → IsClearFrom r F → (t : Placement) → is_inside_of t ≡ true → pos r ≤ℤ lane t → IsUnderSky F t
@@ -45,7 +43,7 @@ inside_under_sky F r clear t inside over = record { inside = inside; clear = eac
     each x y k has up =
         let c = less (pos x, pos y) (pivot_of t) in
         let has_c : is_among (shape t.piece t.rotation) c ≡ true = sym (is_among-moved (pivot_of t) (shape t.piece t.rotation) (pos x, pos y)) ∙ has in
-        let low = yes (lowest (shape t.piece t.rotation)) c.1 (is_among-all (is_over t.piece t.rotation) (shape t.piece t.rotation) c (shape_over t.piece t.rotation) has_c) in
+        let low = int_le-true (lowest (shape t.piece t.rotation)) c.1 (is_among-all (is_over t.piece t.rotation) (shape t.piece t.rotation) c (shape_over t.piece t.rotation) has_c) in
         let within : r ≤ k = omega (arith, ints) in
         clear.clear x k within
 
@@ -88,7 +86,7 @@ turn_lifts : (F : Field) (s : Placement) (to : Rotation) (t : Placement) → lis
 unfolding turned is_low_kick
 turn_lifts F s to t all e =
     let way = lifts_by F s.piece to (pivot_of s) (is_low_kick s.piece s.rotation to) (kicks_of srs_table s.piece s.rotation to) t all e in
-    let low = yes (way.move.1 +ℤ (rise s.piece to -ℤ rise s.piece s.rotation)) (pos 2) way.passes in
+    let low = int_le-true (way.move.1 +ℤ (rise s.piece to -ℤ rise s.piece s.rotation)) (pos 2) way.passes in
     let row = way.lifts.row in
     let same : rise t.piece t.rotation ≡ rise s.piece to = λ i. rise (way.lifts.kind i) (way.lifts.turn i) in
     omega (arith, ints)
@@ -125,7 +123,7 @@ pub record IsRiseNear (p : Piece) (r : Rotation) : Type 0 where
 pub rise_near : (p : Piece) (r : Rotation) → IsRiseNear p r
 rise_near p r =
     let parts = and_parts (int_le (minus 1) (rise p r)) (int_le (rise p r) (pos 1)) (each_state (λ p r. int_le (minus 1) (rise p r) && int_le (rise p r) (pos 1)) refl p r) in
-    record { low = yes (minus 1) (rise p r) parts.0; high = yes (rise p r) (pos 1) parts.1 }
+    record { low = int_le-true (minus 1) (rise p r) parts.0; high = int_le-true (rise p r) (pos 1) parts.1 }
 
 -- a free state above the lanes
 pub record IsAbove (N : ℕ) (F : Field) (piece : Piece) (s : Placement) : Type 0 where
@@ -211,7 +209,7 @@ unfolding state_after spawned
 keyed_in F r N piece S clear over few flood t kind keyed below = elim (cases_Bool (is_free F (spawn_of piece))) [
   | inl free ↦
       let zero_rise = rise_spawn piece in
-      let on = yes (pos 0) (lowest (shape piece Turn.Spawn)) (spawn_lane piece) in
+      let on = int_le-true (pos 0) (lowest (shape piece Turn.Spawn)) (spawn_lane piece) in
       let start : IsAbove N F piece (spawn_of piece) = record { kind = refl; free = free; lanes = omega (arith, ints); low = omega (arith, ints) } in
       from (led_in F r N clear over few piece S flood keyed.keys (spawn_of piece) t (inr start)
       (ap (λ (o : Option Placement). led (step_of srs_table F) o keyed.keys) (sym (cond-true _ (Some (spawn_of piece)) None free)) ∙ keyed_from))
@@ -224,22 +222,3 @@ keyed_in F r N piece S clear over few flood t kind keyed below = elim (cases_Boo
     from : S t ⊎ IsAbove N F piece t → S t
     from (inl here) = here
     from (inr above) = let lanes = above.lanes in absurd (omega (arith, ints))
-
--- the places are the resting states of the flood
-pub lanes_suffice : (F : Field) (r N : ℕ) (q : Placement) (S : Placement → Type 0) → IsClearFrom r F → r + 2 ≤ N → N ≤ 16 → IsFloodBelow N F q.piece S → IsPlace srs_table F Soft q ↔ IsRestWhere F S q
-lanes_suffice F r N q S clear over few flood = (there, back)
-  where
-    there : IsPlace srs_table F Soft q → IsRestWhere F S q
-    there place =
-        let found = (soft_places srs_table F q).0 place in
-        let low = rest_lane F r clear found.state found.rests in
-        record {
-          canonical = found.canonical;
-          state = found.state;
-          rests = found.rests;
-          holds = keyed_in F r N q.piece S clear over few flood found.state (same_cells-piece found.state q found.same_cells) found.holds (omega (arith, ints));
-          same_cells = found.same_cells;
-        }
-
-    back : IsRestWhere F S q → IsPlace srs_table F Soft q
-    back found = (soft_places srs_table F q).1 (record { canonical = found.canonical; state = found.state; rests = found.rests; holds = flood.sound found.state found.holds; same_cells = found.same_cells })

@@ -1,7 +1,6 @@
 -- Keys in the open do what the model says.
-use Rattle.std.proofs.Common.{◌&&◌, ◌≡◌, ℕ, ◌+◌, ◌≤◌, Bool, true, not, ℤ, pos, negsuc, ◌+ℤ◌, ◌-ℤ◌, ◌≤ℤ◌, T, Option, Some, None, List, [], ◌∷◌, map, refl, sym, ap, subst, ◌∙◌, inl, inr, arith}
+use Rattle.std.proofs.Common.{◌&&◌, ◌≡◌, ℕ, ◌+◌, ◌≤◌, Bool, true, not, ℤ, pos, negsuc, ◌+ℤ◌, ◌-ℤ◌, ◌≤ℤ◌, Option, Some, None, List, [], ◌∷◌, map, refl, sym, ap, subst, ◌∙◌, inl, inr, arith}
 use Rattle.std.specs.Prelude.{int_le, nat_le, option_and_then}
-use Rattle.std.specs.Int.Signed.{le_z_yes}
 use Rattle.std.specs.Cmp.{signed_Decides}
 use Rattle.std.specs.Ordering.{int_eq}
 use Rattle.std.specs.List.{list_all}
@@ -21,11 +20,11 @@ use Rattle.moves.specs.declared.key.Key.{Key}
 use Rattle.moves.specs.declared.key.Key.TheVariants.{Left, Right, Down, Clockwise, Anti}
 use Rattle.moves.specs.Step.{state_at, first_free, shifted, turned, step_of}
 use Rattle.moves.specs.Walk.{led}
-use Rattle.moves.proofs.WalkLemmas.{some_same, not_some}
+use Rattle.moves.proofs.WalkLemmas.{not_some}
 use Rattle.moves.specs.Height.{depth, rise, is_column, fits_column}
 use Rattle.moves.specs.OpenKeys.{Spot, spot_in, first_fitting, level_kick, open_turn, open_shift, open_key, open_led}
 use Rattle.moves.specs.Sky.{IsClearFrom}
-use Rattle.srs.proofs.CallerLemmas.{each_state}
+use Rattle.srs.proofs.CallerLemmas.{each_state, some_same, int_le-true}
 use Rattle.moves.proofs.TableFacts.{is_level, shape_level, is_not_deep, shape_not_deep, depth_small}
 
 -- what holds of all by two tests holds by one that follows from them
@@ -56,9 +55,6 @@ pub record IsColumn (z : ℤ) : Type 0 where
 pub column : (z : ℤ) → is_column z ≡ true → IsColumn z
 column (pos n) h = record { n = n; is = refl; within = leb-true n 9 h }
 column (negsuc n) h = absurd (false≢true h)
-
-pub yes : (a b : ℤ) → int_le a b ≡ true → a ≤ℤ b
-yes a b e = le_z_yes (subst T (sym e) tt)
 
 cells_same : (a b c d : ℤ) → a ≡ c → b ≡ d → ◌≡◌ {A = Cell} (a, b) (c, d)
 cells_same a b c d e f = λ i. (e i, f i)
@@ -116,11 +112,11 @@ module _ (F : Field) (r : ℕ) (clear : IsClearFrom r F) (h : ℕ) (piece : Piec
   open_cell rotation pivot c height in_columns in_both =
       let both = and_parts (is_level piece rotation c) (is_not_deep piece rotation c) in_both in
       let in_rows = both.0 in
-      let under = yes (minus (depth piece)) (c.1 -ℤ rise piece rotation) both.1 in
+      let under = int_le-true (minus (depth piece)) (c.1 -ℤ rise piece rotation) both.1 in
       let x = column (pivot.0 +ℤ c.0) in_columns in
       let rows = and_parts (int_le (minus 2) (c.1 -ℤ rise piece rotation)) (int_le (c.1 -ℤ rise piece rotation) (pos 1)) in_rows in
-      let low = yes (minus 2) (c.1 -ℤ rise piece rotation) rows.0 in
-      let high = yes (c.1 -ℤ rise piece rotation) (pos 1) rows.1 in
+      let low = int_le-true (minus 2) (c.1 -ℤ rise piece rotation) rows.0 in
+      let high = int_le-true (c.1 -ℤ rise piece rotation) (pos 1) rows.1 in
       let y = natural (pivot.1 +ℤ c.1) (omega (arith, ints, room.low)) in
       let top : y.n ≤ 22 = omega (arith, ints, room.high, y.is) in
       let above : r ≤ y.n = omega (arith, ints, room.low, y.is) in
@@ -158,7 +154,7 @@ module _ (F : Field) (r : ℕ) (clear : IsClearFrom r F) (h : ℕ) (piece : Piec
 
   lands_at : (to : Rotation) (pivot : Cell) (spot : Spot) → pivot.1 +ℤ rise piece to ≡ pos h → spot_in piece to pivot.0 ≡ Some spot → Lands to pivot spot
   lands_at to (pos x, z) spot height e =
-      let small = yes (rise piece to) (pos 1) (rise_small piece to) in
+      let small = int_le-true (rise piece to) (pos 1) (rise_small piece to) in
       let y = natural z (omega (arith, ints, room.low, (depth_is piece).some)) in
       let same : ◌≡◌ {A = Spot} (to, x) spot = some_same e in
       subst (λ spot. Lands to (pos x, z) spot) same (record { row = y.n; lands = ap (λ (z : ℤ). state_at piece to (pos x, z)) y.is; height = ap (λ (z : ℤ). z +ℤ rise piece to) (sym y.is) ∙ height })

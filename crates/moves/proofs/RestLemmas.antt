@@ -1,5 +1,5 @@
 -- The rest of a free state exists, is one, and is what the function gives.
-use Rattle.std.proofs.Common.{◌≡◌, ℕ, zero, suc, ◌+◌, ◌<◌, ◌≤◌, Bool, true, false, ℤ, pos, negsuc, ◌-ℤ◌, sym, ap, subst, ◌∙◌, inl, inr, arith}
+use Rattle.std.proofs.Common.{◌≡◌, ℕ, zero, suc, ◌+◌, ◌<◌, ◌≤◌, true, false, ℤ, pos, negsuc, ◌-ℤ◌, sym, ap, subst, ◌∙◌, inl, inr, arith}
 use Rattle.std.proofs.lemmas.Bool.{cases_Bool, cond-true, cond-false, both_ways, cases_order, false_from_ne_true}
 use Rattle.std.proofs.lemmas.Int.{ints}
 use Rattle.lane_board.specs.Field.{Field}
@@ -7,12 +7,11 @@ use Rattle.srs.specs.declared.piece.Piece.{Piece}
 use Rattle.srs.specs.declared.rotation.Rotation.{Rotation}
 use Rattle.srs.specs.declared.placement.Placement.{Placement}
 use Rattle.srs.specs.Cells.{Cell}
-use Rattle.srs.proofs.CallerLemmas.{LiesAt}
+use Rattle.srs.proofs.CallerLemmas.{LiesAt, some_same}
 use Rattle.well.specs.Free.{is_free_at, is_free}
 use Rattle.well.proofs.CallerLemmas.{free_pivot}
 use Rattle.moves.specs.Step.{state_at}
 use Rattle.moves.specs.Rest.{lowered, IsRest, rest_from, rest_of}
-use Rattle.moves.proofs.WalkLemmas.{some_same}
 
 abbrev state_of : Piece → Rotation → ℕ → ℕ → Placement
 state_of piece rotation x y = record { piece = piece; rotation = rotation; x = x; y = y }
@@ -32,9 +31,6 @@ none_lower : (x y : ℕ) → ◌≡◌ {A = Cell} (pos x, pos y -ℤ pos 0) (pos
 none_lower x y = let e : pos y -ℤ pos 0 ≡ pos y = omega (arith, ints) in λ i. (pos x, e i)
 
 module _ (F : Field) (piece : Piece) (rotation : Rotation) (x : ℕ) where
-  free_at : Cell → Bool
-  free_at = is_free_at F piece rotation
-
   stays : (y : ℕ) → is_free_at F piece rotation (pos x, pos y) ≡ true → is_free_at F piece rotation (lowered (state_of piece rotation x y) 1) ≡ false → IsRest F (state_of piece rotation x y) (state_of piece rotation x y)
   stays y free blocked = record {
     rows = 0;

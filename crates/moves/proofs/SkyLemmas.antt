@@ -14,7 +14,7 @@ use Rattle.srs.specs.Cells.{Cell, minus, moved, shape, cells_of, pivot_of}
 use Rattle.srs.specs.SameCells.{is_among}
 use Rattle.srs.specs.Kick.{Table, srs_table}
 use Rattle.srs.specs.Rotation.{rotation_place}
-use Rattle.srs.proofs.CallerLemmas.{less, is_among-moved, is_among-all, list_all-from_is_among, each_piece, rotation_place-injective, in_well-place, inside_cell, pivot_inside}
+use Rattle.srs.proofs.CallerLemmas.{is_among-moved, is_among-all, list_all-from_is_among, each_piece, rotation_place-injective, in_well-place, inside_cell, pivot_inside, int_le-true, less-moved}
 use Rattle.std.specs.Cmp.{signed_Decides}
 use Rattle.std.specs.Ordering.{int_eq}
 use Rattle.well.specs.Free.{is_open, is_free_at, is_free}
@@ -28,10 +28,7 @@ use Rattle.moves.specs.Height.{rise, upright, fits_column}
 use Rattle.moves.specs.OpenKeys.{Spot, open_led, path, is_spot, repeated}
 use Rattle.moves.specs.Sky.{IsClearFrom, IsUnderSky, IsLedTo}
 use Rattle.moves.proofs.TableFacts.{is_level, shape_level, paths_lead}
-use Rattle.moves.proofs.OpenLemmas.{yes, IsOpenHeight, open_height, open_free, free_fits, open_leads}
-
-state_of : Piece → Rotation → ℕ → ℕ → Placement
-state_of piece rotation x y = record { piece = piece; rotation = rotation; x = x; y = y }
+use Rattle.moves.proofs.OpenLemmas.{IsOpenHeight, open_height, open_free, free_fits, open_leads}
 
 -- the path leads where the piece fits
 path_is : (piece : Piece) (rotation : Rotation) (x : ℕ) → x < 10 → fits_column piece rotation (pos x) ≡ true → open_led piece (Some (Turn.Spawn, 4)) (path piece rotation x) ≡ Some (rotation, x)
@@ -92,13 +89,6 @@ module _ (table : Table) (F : Field) (piece : Piece) (rotation : Rotation) (x : 
       ∙ ap (λ (o : Option Placement). led (step_of table F) o (repeated Down k)) (down_step (y + k) (free k (omega arith)))
       ∙ falls y k (λ j within. free j (omega arith))
 
-pub less-moved : (c x : Cell) → less (moved c x) c ≡ x
-unfolding moved less
-less-moved c x =
-    let a : (c.0 +ℤ x.0) -ℤ c.0 ≡ x.0 = omega (arith, ints) in
-    let b : (c.1 +ℤ x.1) -ℤ c.1 ≡ x.1 = omega (arith, ints) in
-    λ i. (a i, b i)
-
 -- a state under the sky is free, and so is what lies above it, up to the spawn's height
 module _ (F : Field) (s : Placement) (sky : IsUnderSky F s) where
   above_open : (j : ℕ) → (upright s +ℤ pos j) ≤ℤ pos 20 → (c : Cell) → is_among (shape s.piece s.rotation) c ≡ true → is_open F (moved (pos s.x, pos (s.y + j)) c) ≡ true
@@ -108,7 +98,7 @@ module _ (F : Field) (s : Placement) (sky : IsUnderSky F s) where
       let is_cell = is_among-moved (pivot_of s) (shape s.piece s.rotation) (moved (pivot_of s) c) ∙ ap (is_among (shape s.piece s.rotation)) (less-moved (pivot_of s) c) ∙ has in
       let clear = sky.clear lies.x lies.y (lies.y + j) (subst (λ (d : Cell). is_among (cells_of s) d ≡ true) lies.is is_cell) (omega arith) in
       let rows = and_parts (int_le (minus 2) (c.1 -ℤ rise s.piece s.rotation)) (int_le (c.1 -ℤ rise s.piece s.rotation) (pos 1)) (is_among-all (is_level s.piece s.rotation) (shape s.piece s.rotation) c (shape_level s.piece s.rotation) has) in
-      let up = yes (c.1 -ℤ rise s.piece s.rotation) (pos 1) rows.1 in
+      let up = int_le-true (c.1 -ℤ rise s.piece s.rotation) (pos 1) rows.1 in
       let column : pos s.x +ℤ c.0 ≡ pos lies.x = ap (λ (c : Cell). c.0) lies.is in
       let row : pos s.y +ℤ c.1 ≡ pos lies.y = ap (λ (c : Cell). c.1) lies.is in
       let higher : pos (s.y + j) +ℤ c.1 ≡ pos (lies.y + j) = omega (arith, ints) in

@@ -1,5 +1,5 @@
 -- A step, and any keys, lead to a free state of the same piece.
-use Rattle.std.proofs.Common.{◌≡◌, true, pos, negsuc, Some, None, List, [], ◌∷◌, refl, sym, subst, ◌∙◌, inl, inr, arith}
+use Rattle.std.proofs.Common.{◌≡◌, true, pos, negsuc, Some, None, List, [], ◌∷◌, refl, sym, subst, ◌∙◌, inl, inr}
 use Rattle.std.proofs.lemmas.Bool.{cases_Bool, cond-true, cond-false}
 use Rattle.lane_board.specs.Field.{Field}
 use Rattle.srs.specs.declared.piece.Piece.{Piece}
@@ -15,7 +15,8 @@ use Rattle.moves.specs.Step.{state_at, first_free, shifted, turned, step_of}
 use Rattle.moves.specs.Leads.{spawn_of, spawned}
 use Rattle.moves.specs.States.{IsPivot, state_code}
 use Rattle.moves.proofs.StateLemmas.{code_below, one_state}
-use Rattle.moves.proofs.WalkLemmas.{some_same, not_some, IsFinite}
+use Rattle.moves.proofs.WalkLemmas.{not_some, IsFinite}
+use Rattle.srs.proofs.CallerLemmas.{some_same}
 
 -- a free state of a piece
 pub record IsFreeState (F : Field) (piece : Piece) (s : Placement) : Type 0 where

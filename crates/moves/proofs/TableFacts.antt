@@ -6,8 +6,6 @@ use Rattle.std.proofs.lemmas.Bool.{and_parts, cases_order}
 use Rattle.srs.specs.declared.piece.Piece.{Piece}
 use Rattle.srs.specs.declared.rotation.Rotation.{Rotation}
 use Rattle.srs.specs.Cells.{Cell, minus, shape}
-use Rattle.srs.specs.Rotation.{clockwise_of, anticlockwise_of}
-use Rattle.srs.specs.Kick.{srs_table, kicks_of}
 use Rattle.srs.proofs.CallerLemmas.{each_state, each_piece}
 use Rattle.moves.specs.Height.{depth, rise}
 use Rattle.moves.specs.OpenKeys.{path_leads, turns_stay}
@@ -26,11 +24,6 @@ below_each (suc n) test all x within =
       | inl same ↦ subst (λ k. test k ≡ true) (sym same) parts.0
       | inr apart ↦ below_each n test parts.1 x (omega arith)
     ]
-
--- no key moves a pivot by more than two rows
-pub kicks_near : (piece : Piece) (rotation : Rotation) →
-    (list_all (λ (kick : Cell). int_le (minus 2) kick.1 && int_le kick.1 (pos 2)) (kicks_of srs_table piece rotation (clockwise_of rotation)) && list_all (λ (kick : Cell). int_le (minus 2) kick.1 && int_le kick.1 (pos 2)) (kicks_of srs_table piece rotation (anticlockwise_of rotation))) ≡ true
-kicks_near = each_state (λ p r. list_all (λ (kick : Cell). int_le (minus 2) kick.1 && int_le kick.1 (pos 2)) (kicks_of srs_table p r (clockwise_of r)) && list_all (λ (kick : Cell). int_le (minus 2) kick.1 && int_le kick.1 (pos 2)) (kicks_of srs_table p r (anticlockwise_of r))) refl
 
 -- the cells of a state lie from two rows below its upright height to one above
 unfoldable pub is_level : Piece → Rotation → Cell → Bool

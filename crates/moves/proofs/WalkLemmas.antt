@@ -11,9 +11,7 @@ use Rattle.moves.specs.declared.key.Key.{Key}
 use Rattle.moves.specs.declared.key.Key.TheVariants.{Left, Right, Down, Clockwise, Anti}
 use Rattle.moves.specs.Keys.{all_keys}
 use Rattle.moves.specs.Walk.{led, Leads, some_keys_lead}
-
-pub some_same : {A : Type 0} {x y : A} → Some x ≡ Some y → x ≡ y
-some_same e = cc
+use Rattle.srs.proofs.CallerLemmas.{some_same}
 
 pub not_some : {A : Type 0} {x : A} → None ≡ Some x → ⊥
 not_some e = cc

@@ -13,7 +13,7 @@ use Rattle.srs.specs.declared.rotation.Rotation.{Rotation}
 use Rattle.srs.specs.declared.placement.Placement.{Placement}
 use Rattle.srs.specs.Cells.{Cell, minus, moved, shape, cells_of, pivot_of}
 use Rattle.srs.specs.Kick.{srs_table}
-use Rattle.srs.proofs.CallerLemmas.{same_cells-piece, origin, is_among-all, each_state, pivot_in_shape}
+use Rattle.srs.proofs.CallerLemmas.{same_cells-piece, origin, is_among-all, each_state, pivot_in_shape, some_same, int_le-true}
 use Rattle.well.specs.Free.{is_free_at, is_free}
 use Rattle.well.proofs.CallerLemmas.{free_inside}
 use Rattle.moves.specs.declared.key.Key.{Key}
@@ -26,14 +26,14 @@ use Rattle.moves.specs.Place.{IsPlace}
 use Rattle.moves.specs.Step.{step_of}
 use Rattle.moves.specs.Walk.{led}
 use Rattle.moves.proofs.StepLemmas.{step_of-free, pivot_of_free}
-use Rattle.moves.proofs.WalkLemmas.{some_same, not_some, led_none}
+use Rattle.moves.proofs.WalkLemmas.{not_some, led_none}
 use Rattle.moves.specs.Height.{rise, depth, upright}
 use Rattle.moves.specs.Sky.{IsClearFrom, IsUnderSky}
 use Rattle.moves.specs.RestingStates.{IsResting, IsKeyed}
 use Rattle.moves.specs.Lanes.{lowest, lane}
 use Rattle.moves.specs.Window.{is_low_cell, is_low, low_step, IsStart, IsWindowed, IsWindowPlace}
 use Rattle.moves.proofs.TableFacts.{is_level, shape_level}
-use Rattle.moves.proofs.OpenLemmas.{all_so, yes, natural, open_height, IsOpenHeight, free_fits}
+use Rattle.moves.proofs.OpenLemmas.{all_so, natural, open_height, IsOpenHeight, free_fits}
 use Rattle.moves.proofs.SkyLemmas.{rise_spawn, sky_is_reached, sky_free}
 use Rattle.moves.proofs.AboveRest.{StandsAbove, stands_above, comes_to_rest}
 use Rattle.moves.proofs.SoftPlaces.{soft_allows, soft_places, own_rest, leads-append}
@@ -56,14 +56,14 @@ no a b h = passes (int_le a b) h.le
 low_from : (s : Placement) → upright s ≤ℤ pos 14 → is_low s ≡ true
 unfolding moved is_level
 low_from s low = all_from (is_level s.piece s.rotation) is_low_cell s
-    (λ c h. let up = yes (c.1 -ℤ rise s.piece s.rotation) (pos 1) (and_parts (int_le (minus 2) (c.1 -ℤ rise s.piece s.rotation)) (int_le (c.1 -ℤ rise s.piece s.rotation) (pos 1)) h).1 in no (pos s.y +ℤ c.1) (pos 15) (omega (arith, ints))) (shape_level s.piece s.rotation)
+    (λ c h. let up = int_le-true (c.1 -ℤ rise s.piece s.rotation) (pos 1) (and_parts (int_le (minus 2) (c.1 -ℤ rise s.piece s.rotation)) (int_le (c.1 -ℤ rise s.piece s.rotation) (pos 1)) h).1 in no (pos s.y +ℤ c.1) (pos 15) (omega (arith, ints))) (shape_level s.piece s.rotation)
 
 -- and what lies in it is low
 low_upright : (s : Placement) → is_low s ≡ true → upright s ≤ℤ pos 16
 unfolding moved origin
 low_upright s low =
     let at = is_among-all (λ c. is_low_cell (moved (pivot_of s) c)) (shape s.piece s.rotation) origin (sym (list_all-map is_low_cell (moved (pivot_of s)) (shape s.piece s.rotation)) ∙ low) (pivot_in_shape s.piece s.rotation) in
-    let row = yes (pos s.y +ℤ pos 0) (pos 15) at in
+    let row = int_le-true (pos s.y +ℤ pos 0) (pos 15) at in
     let by = rise_near s.piece s.rotation in
     omega (arith, ints, by.high)
 
@@ -279,7 +279,7 @@ windowed_hard : (F : Field) (r : ℕ) (s t : Placement) → IsClearFrom r F → 
 windowed_hard F r s t clear few way above =
     let from = way.from in
     let at = start_open F r from clear few way.starts in
-    let deep = yes (pos (depth from.piece)) (pos 2 +ℤ rise from.piece from.rotation) (rise_deep from.piece from.rotation) in
+    let deep = int_le-true (pos (depth from.piece)) (pos 2 +ℤ rise from.piece from.rotation) (rise_deep from.piece from.rotation) in
     let a = way.starts.from_row in
     let low = at.low in
     let h = natural (upright from) (omega (arith, ints)) in
@@ -294,7 +294,7 @@ windowed_hard F r s t clear few way above =
     few_rows h low there j under =
         let height = sym (ap upright above.is) ∙ there.height in
         let same : depth t.piece ≡ depth way.from.piece = ap depth (sym (ap (λ (s : Placement). s.piece) above.is) ∙ there.kind) in
-        let lanes = yes (rise t.piece t.rotation) (lowest (shape t.piece t.rotation) +ℤ pos (depth t.piece)) (lane_deep t.piece t.rotation) in
+        let lanes = int_le-true (rise t.piece t.rotation) (lowest (shape t.piece t.rotation) +ℤ pos (depth t.piece)) (lane_deep t.piece t.rotation) in
         omega (arith, ints)
 
 pub hard_window : (F : Field) (r : ℕ) (q : Placement) → IsClearFrom r F → r ≤ 8 → IsWindowPlace F r Hard q ↔ IsPlace srs_table F Hard q
