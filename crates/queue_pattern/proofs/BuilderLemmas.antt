@@ -62,6 +62,10 @@ count_more count choices elements element is some ways =
     ap (λ n. min (n * choices) 10000001) is ∙ min_times (queue_count elements) choices 10000001 some
     ∙ ap (λ n. min n 10000001) (ap (λ k. queue_count elements * k) ways ∙ sym (queue_count-append elements element))
 
+pub sound-set : (element : Element) → is_sound element ≡ true → element.set < 128
+unfolding is_sound
+sound-set element sound = grind (arith, nat_tests)
+
 pub sound-within : (element : Element) → is_sound element ≡ true → element.chosen ≤ length (pieces_in element.set)
 unfolding is_sound
 sound-within element sound = grind (arith, nat_tests)

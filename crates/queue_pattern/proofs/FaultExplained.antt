@@ -1,5 +1,5 @@
 -- What stands before a position in a text, and how a fault there is explained by it.
-use Rattle.std.proofs.Common.{◌≡◌, ℕ, ◌<◌, ◌≤◌, Bool, true, false, cond, ◌&&◌, nat_lt, nat_le, leb-true, ltb-true, List, [], ◌∷◌, ◌++◌, length, append_assoc, append-nil, bit_or, refl, ap, sym, subst, ◌∙◌, arith, Some, Ok, Err, inl, inr, ◌⊎◌}
+use Rattle.std.proofs.Common.{◌≡◌, ℕ, ◌<◌, ◌≤◌, Bool, true, false, cond, ◌&&◌, nat_lt, nat_le, leb-true, ltb-true, List, [], ◌∷◌, ◌++◌, length, append_assoc, append-nil, bit_or, ap, sym, subst, ◌∙◌, arith, Some, Ok, Err, inl, inr, ◌⊎◌}
 use Rattle.std.proofs.lemmas.Bool.{cases_Bool, and_parts}
 use Rattle.std.proofs.lemmas.Bool.Decides.{nat_tests}
 use Rattle.srs.specs.declared.piece.Piece.{Piece}
@@ -40,6 +40,7 @@ pub record Whole (front : List ℕ) : Type 0 where
   pub elements : List Element
   pub spelled : SpellsElements front elements
 
+-- `[`, with `^` behind it or not
 abbrev pub opening : Bool → List ℕ
 opening true = 91 ∷ 94 ∷ []
 opening false = 91 ∷ []
@@ -105,11 +106,6 @@ no_fault es f e = cc
 
 pub explained : (text : List ℕ) (g f : PatternFault) → ◌≡◌ {A = Elements} (Err g) (Err f) → Explains text g → Explains text f
 explained text g f e is = subst (Explains text) (same_fault g f e) is
-
--- a choice by a test
-pub on_if : {A : Type 0} (b : Bool) (x y z : A) → cond b x y ≡ z → ((b ≡ true) × (x ≡ z)) ⊎ ((b ≡ false) × (y ≡ z))
-on_if true x y z h = inl (refl, h)
-on_if false x y z h = inr (refl, h)
 
 pub before-err : (e : Element) (read : Elements) (f : PatternFault) → before (Ok e) read ≡ Err f → read ≡ Err f
 before-err e (Ok later) f h = cc

@@ -1,5 +1,5 @@
 -- What is spelled is of the form, and a byte that leaves the form leads on nowhere.
-use Rattle.std.proofs.Common.{◌≡◌, ℕ, Bool, true, false, List, [], ◌∷◌, ◌++◌, length, append_assoc, refl, ap, sym, subst, ◌∙◌, Option, Some, None, is_some}
+use Rattle.std.proofs.Common.{◌≡◌, ℕ, true, List, [], ◌∷◌, ◌++◌, length, append_assoc, refl, ap, sym, subst, ◌∙◌, Option, Some, None, is_some}
 use Rattle.std.proofs.lemmas.List.Elements.{All-nil, All-cons}
 use Rattle.srs.specs.declared.piece.Piece.{Piece}
 use Rattle.srs.specs.Piece.{piece_with_letter}
@@ -56,11 +56,6 @@ no_byte whole begun more byte form stops rest goes =
 
 pub no_end : (whole begun : List ℕ) → HasForm whole → IsStopped HasForm (whole ++ begun) [] → HasForm begun → ⊥
 no_end whole begun form stops goes = stops (forms_join whole begun form goes)
-
--- a test that can't pass fails
-pub fails : (test : Bool) → (test ≡ true → ⊥) → test ≡ false
-fails true bad = absurd (bad refl)
-fails false bad = refl
 
 -- what has no piece is no letter
 pub no_piece : (found : Option Piece) → ((piece : Piece) → found ≡ Some piece → ⊥) → found ≡ None

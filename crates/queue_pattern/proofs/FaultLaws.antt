@@ -7,10 +7,10 @@ use Rattle.queue_pattern.specs.declared.fault.PatternFault.TheVariants.{Unexpect
 use Rattle.queue_pattern.specs.Faults.{IsPatternFault}
 use Rattle.queue_pattern.specs.Grammar.{Elements, elements, limited}
 use Rattle.queue_pattern.specs.Queues.{queue_count, queue_len}
-use Rattle.queue_pattern.proofs.FaultExplained.{on_if, same_fault}
+use Rattle.queue_pattern.proofs.FaultExplained.{no_fault, same_fault}
 use Rattle.queue_pattern.proofs.FaultsFound.{never_long, never_many, repeated_found, too_many_found, unexpected_found}
 use Rattle.queue_pattern.proofs.FaultsRead.{repeated_read, too_many_read, unexpected_read}
-use Rattle.queue_pattern.proofs.ReadIsSpelled.{spelled-from_read}
+use Rattle.queue_pattern.proofs.ReadIsSpelled.{on_if, spelled-from_read}
 use Rattle.queue_pattern.proofs.SpelledIsRead.{read-from_spelled}
 
 of_grammar : (text : List ℕ) (f : PatternFault) → elements text ≡ Err f → IsPatternFault text f
@@ -26,9 +26,6 @@ at_most a b over = grind (arith, nat_tests, over)
 not_over : (a b : ℕ) → b ≤ a → nat_lt a b ≡ false
 not_over a b short = grind (arith, nat_tests, short)
 
-none_left : (es : List Element) (f : PatternFault) → ◌≡◌ {A = Elements} (Ok es) (Err f) → ⊥
-none_left es f e = cc
-
 of_limits : (text : List ℕ) (es : List Element) (f : PatternFault) → elements text ≡ Ok es → limited (Ok es) ≡ Err f → IsPatternFault text f
 of_limits text es f read refused =
     let spelled = spelled-from_read text es read in
@@ -37,7 +34,7 @@ of_limits text es f read refused =
       | inr short ↦ elim (on_if (nat_lt 10000000 (queue_count es)) _ _ _ short.1) [
         | inl many ↦ subst (IsPatternFault text) (same_fault TooManyQueues f many.1)
             (record { elements = es; spelled = spelled; short = at_most 22 (queue_len es) short.0; many = ltb-true 10000000 (queue_count es) many.0 })
-        | inr few ↦ absurd (none_left es f few.1)
+        | inr few ↦ absurd (no_fault es f few.1)
       ]
     ]
 

@@ -11,11 +11,12 @@ use Rattle.queue_pattern.specs.Grammar.{Elements, TextPosition, outside, opened,
 use Rattle.queue_pattern.specs.Spelling.{SpellsLetters, SpellsSet, all, these, others, SpellsChosen, one, digit, every, letter, chosen, SpellsElements, none}
 use Rattle.srs.specs.Forms.{IsStopped}
 use Rattle.queue_pattern.specs.Form.{HasForm}
-use Rattle.queue_pattern.specs.Faults.{BeginsSet, BeginsElement, IsUnexpectedAt, IsRepeatedAt, IsTooManyAt, IsUnmarked}
+use Rattle.queue_pattern.specs.Faults.{BeginsSet, IsUnexpectedAt, IsRepeatedAt, IsTooManyAt, IsUnmarked}
 use Rattle.queue_pattern.specs.Faults as fault
 use Rattle.queue_pattern.proofs.FormLeft.{left-from_unexpected}
 use Rattle.queue_pattern.proofs.SpelledIsRead.{total_some}
-use Rattle.queue_pattern.proofs.FaultExplained.{Begun, Choosing, Closed, Explains, Listing, Stands, Whole, before-err, choice-err, elements_more, explained, gap_more, letters_more, no_fault, on_if, opening}
+use Rattle.queue_pattern.proofs.FaultExplained.{Begun, Choosing, Closed, Explains, Listing, Stands, Whole, before-err, choice-err, elements_more, explained, gap_more, letters_more, no_fault, opening}
+use Rattle.queue_pattern.proofs.ReadIsSpelled.{on_if}
 
 -- ---- step by step
 
@@ -221,10 +222,6 @@ module _ (text : List ℕ) (front : List ℕ) (byte place : ℕ) (bytes : List �
     ]
 
   module _ (start set : ℕ) (stands : Choosing front start set) where
-    -- the set alone stands before the mark
-    set_before : Closed (stands.whole ++ stands.text) start set
-    set_before = record { whole = stands.whole; is = stands.is; begins = stands.begins; text = stands.text; spelled = stands.spelled; joined = refl }
-
     front_is : front ≡ (stands.whole ++ stands.text) ++ stands.mark ∷ []
     front_is = stands.joined ∙ sym (append_assoc stands.whole stands.text (stands.mark ∷ []))
 

@@ -1,6 +1,6 @@
 -- The faults that stand in a text are read.
 use Rattle.std.proofs.Common.{◌≡◌, ◌≢◌, ℕ, ◌+◌, ◌-◌, ◌<◌, Bool, true, false, not, cond, ◌&&◌, ◌==◌, nat_lt, nat_le, eqb-true, leb-true, ne_eqb, List, [], ◌∷◌, ◌++◌, length, append_assoc, append-nil, length-append, refl, ap, sym, subst, ◌∙◌, arith, Some, None, Ok, Err, inl, inr, ◌⊎◌}
-use Rattle.std.proofs.lemmas.Bool.{and_parts}
+use Rattle.std.proofs.lemmas.Bool.{and_parts, false_from_ne_true}
 use Rattle.std.proofs.lemmas.Bool.Decides.{nat_tests}
 use Rattle.std.proofs.lemmas.List.Elements.{All-nil, All-append, All-cons}
 use Rattle.srs.specs.declared.piece.Piece.{Piece}
@@ -18,14 +18,10 @@ use Rattle.queue_pattern.specs.Faults.{BeginsSet, these, others, BeginsElement, 
 use Rattle.queue_pattern.specs.Faults as fault
 use Rattle.queue_pattern.proofs.ParseLemmas.{after_front}
 use Rattle.queue_pattern.proofs.SpelledIsRead.{NoMark, Clear, not_letter, read_letters, read_first, read_set, read_chosen, read_elements}
-use Rattle.queue_pattern.proofs.FaultForms.{letter_of, letters_form, set_form, elements_form, no_byte, no_end, fails, no_piece}
+use Rattle.queue_pattern.proofs.FaultForms.{letter_of, letters_form, set_form, elements_form, no_byte, no_end, no_piece}
+use Rattle.queue_pattern.proofs.FaultExplained.{opening}
 
 -- ---- a bracket that isn't closed
-
--- whether `^` stands behind the bracket
-abbrev opening : Bool → List ℕ
-opening true = 91 ∷ 94 ∷ []
-opening false = 91 ∷ []
 
 -- bytes behind `[` are read as in a list, unless they begin with `^`
 abbrev NoCaret : List ℕ → Type 0
@@ -80,9 +76,9 @@ stopped_free whole (byte ∷ rest) stops done front es set joined spelled is =
     let bad : (more back : List ℕ) → form.HasChosenForm back → byte ∷ more ≡ back → ⊥ = λ more back says same.
     no_byte done front rest byte (elements_form done es spelled) (subst (λ w. IsStopped HasForm w (byte ∷ rest)) joined stops) more
     (subst HasForm (append-nil (front ++ byte ∷ more)) (form.element (form.chosen (set_form front set is) (subst form.HasChosenForm (sym same) says)) form.none)) in (
-      fails (byte == 112) (λ is. bad (49 ∷ []) (112 ∷ 49 ∷ []) (form.digit {n = 1} (inl refl) (omega arith) (omega arith)) (ap (λ b. b ∷ 49 ∷ []) (eqb-true byte 112 is))),
-      fails (byte == 80) (λ is. bad (49 ∷ []) (80 ∷ 49 ∷ []) (form.digit {n = 1} (inr refl) (omega arith) (omega arith)) (ap (λ b. b ∷ 49 ∷ []) (eqb-true byte 80 is))),
-      fails (byte == 33) (λ is. bad [] (33 ∷ []) form.every (ap (λ b. b ∷ []) (eqb-true byte 33 is))),
+      false_from_ne_true (byte == 112) (λ is. bad (49 ∷ []) (112 ∷ 49 ∷ []) (form.digit {n = 1} (inl refl) (omega arith) (omega arith)) (ap (λ b. b ∷ 49 ∷ []) (eqb-true byte 112 is))),
+      false_from_ne_true (byte == 80) (λ is. bad (49 ∷ []) (80 ∷ 49 ∷ []) (form.digit {n = 1} (inr refl) (omega arith) (omega arith)) (ap (λ b. b ∷ 49 ∷ []) (eqb-true byte 80 is))),
+      false_from_ne_true (byte == 33) (λ is. bad [] (33 ∷ []) form.every (ap (λ b. b ∷ []) (eqb-true byte 33 is))),
     )
 
 -- a fault behind whole elements is that of the text
@@ -103,9 +99,9 @@ unfolding elements_from
 outside_stops whole [] place of_form stops = absurd (no_end whole [] of_form stops form.none)
 outside_stops whole (byte ∷ rest) place of_form stops =
     let bad : (more : List ℕ) → HasForm (byte ∷ more) → ⊥ = no_byte whole [] rest byte of_form stops in
-    let no_gap : is_gap byte ≡ false = fails (is_gap byte) (λ is. bad [] (form.gap is form.none)) in
-    let no_star : (byte == 42) ≡ false = fails (byte == 42) (λ is. bad [] (subst (λ b. HasForm (b ∷ [])) (sym (eqb-true byte 42 is)) (form.element (form.chosen form.all form.one) form.none))) in
-    let no_bracket : (byte == 91) ≡ false = fails (byte == 91) (λ is. bad (73 ∷ 93 ∷ []) (subst (λ b. HasForm (b ∷ 73 ∷ 93 ∷ [])) (sym (eqb-true byte 91 is)) (form.element (form.chosen (form.these {letters = 73 ∷ []} (λ e. cc) (All-cons (λ b. is_letter b ≡ true) 73 [] refl (All-nil (λ b. is_letter b ≡ true)))) form.one) form.none))) in
+    let no_gap : is_gap byte ≡ false = false_from_ne_true (is_gap byte) (λ is. bad [] (form.gap is form.none)) in
+    let no_star : (byte == 42) ≡ false = false_from_ne_true (byte == 42) (λ is. bad [] (subst (λ b. HasForm (b ∷ [])) (sym (eqb-true byte 42 is)) (form.element (form.chosen form.all form.one) form.none))) in
+    let no_bracket : (byte == 91) ≡ false = false_from_ne_true (byte == 91) (λ is. bad (73 ∷ 93 ∷ []) (subst (λ b. HasForm (b ∷ 73 ∷ 93 ∷ [])) (sym (eqb-true byte 91 is)) (form.element (form.chosen (form.these {letters = 73 ∷ []} (λ e. cc) (All-cons (λ b. is_letter b ≡ true) 73 [] refl (All-nil (λ b. is_letter b ≡ true)))) form.one) form.none))) in
     let no_letter : piece_with_letter byte ≡ None = no_piece (piece_with_letter byte) (λ piece is. bad [] (form.element (form.letter (letter_of byte piece is)) form.none)) in
     rw (no_gap, no_star, no_bracket, no_letter) refl
 
@@ -129,7 +125,7 @@ listing_stops whole except letters [] listed start place of_form spelled stops =
 listing_stops whole except letters (byte ∷ rest) listed start place of_form spelled stops =
     let bad : (more : List ℕ) → HasForm ((opening except ++ letters) ++ byte ∷ more) → ⊥ = no_byte whole (opening except ++ letters) rest byte of_form stops in
     let are = letters_form letters 0 listed spelled in
-    let no_close : (byte == 93 && not (listed == 0)) ≡ false = fails (byte == 93 && not (listed == 0))
+    let no_close : (byte == 93 && not (listed == 0)) ≡ false = false_from_ne_true (byte == 93 && not (listed == 0))
     (λ is. let parts = and_parts (byte == 93) (not (listed == 0)) is in
     bad [] (subst (λ b. HasForm ((opening except ++ letters) ++ b ∷ [])) (sym (eqb-true byte 93 parts.0))
     (listed_form except letters (some_by letters listed spelled parts.1) are))) in
@@ -147,7 +143,7 @@ choosing_stops : (whole front rest : List ℕ) (set mark start place : ℕ) → 
 unfolding elements_from
 choosing_stops whole front [] set mark start place of_form is marks stops = refl
 choosing_stops whole front (byte ∷ rest) set mark start place of_form is marks stops =
-    let no_digit : (nat_le 49 byte && nat_le byte 57) ≡ false = fails (nat_le 49 byte && nat_le byte 57)
+    let no_digit : (nat_le 49 byte && nat_le byte 57) ≡ false = false_from_ne_true (nat_le 49 byte && nat_le byte 57)
     (λ digit. let parts = and_parts (nat_le 49 byte) (nat_le byte 57) digit in
     let low = leb-true 49 byte parts.0 in
     let high = leb-true byte 57 parts.1 in
@@ -173,7 +169,7 @@ set_free front more set is = go (set_form front set is)
 caret_free : (whole letters rest : List ℕ) (listed : ℕ) → HasForm whole → SpellsLetters 0 letters listed → IsStopped HasForm (whole ++ (91 ∷ letters)) rest → NoCaret (letters ++ rest)
 caret_free whole (byte ∷ letters) rest listed of_form spelled stops = not_letter byte 94 spelled.0 spelled.1 refl
 caret_free whole [] [] listed of_form spelled stops = tt
-caret_free whole [] (byte ∷ rest) listed of_form spelled stops = fails (byte == 94)
+caret_free whole [] (byte ∷ rest) listed of_form spelled stops = false_from_ne_true (byte == 94)
     (λ is. no_byte whole (91 ∷ []) rest byte of_form stops (73 ∷ 93 ∷ [])
     (subst (λ b. HasForm (91 ∷ b ∷ 73 ∷ 93 ∷ [])) (sym (eqb-true byte 94 is)) (listed_form true (73 ∷ []) (λ e. cc) (All-cons (λ b. is_letter b ≡ true) 73 [] refl (All-nil (λ b. is_letter b ≡ true))))))
 

@@ -1,12 +1,13 @@
 -- What may follow in each phase of the form of a pattern text.
 use Rattle.std.proofs.Common.{◌≡◌, ◌≢◌, ℕ, ◌+◌, ◌-◌, ◌≤◌, true, false, ◌&&◌, ◌||◌, ◌==◌, nat_le, Option, Some, None, is_some, List, [], ◌∷◌, ◌++◌, append_assoc, refl, sym, ap, subst, ◌∙◌, arith, ◌⊎◌, inl, inr}
-use Rattle.std.proofs.lemmas.Bool.{cases_Bool, eqb-true, and_parts, or_cases, leb-true}
+use Rattle.std.proofs.lemmas.Bool.{cases_Bool, eqb-true, and_parts, leb-true}
 use Rattle.std.proofs.lemmas.List.Elements.{All-nil, All-cons}
 use Rattle.srs.specs.declared.piece.Piece.{Piece}
 use Rattle.srs.specs.Piece.{piece_with_letter}
 use Rattle.queue_pattern.specs.Grammar.{is_gap}
 use Rattle.queue_pattern.specs.Form.{is_letter, AreLetters, all, these, others, HasChosenForm, one, digit, every, letter, chosen, HasForm, none, gap, element}
 use Rattle.queue_pattern.proofs.Phases.{Phase, between, begun, unlisted, listed, shut, marked, letter_next, between_next, next, is_end}
+use Rattle.queue_pattern.proofs.ReadIsSpelled.{mark_of}
 
 pub record AfterSet (rest : List ℕ) : Type 0 where
   pub back : List ℕ
@@ -172,18 +173,12 @@ listed_more after byte rest leads follows = elim (cases_Bool (byte == 93)) [
       listed_on byte rest found.0 (phase_is listed after rest found.1 follows)
 ]
 
-marked_by : (byte : ℕ) → (byte == 112 || byte == 80) ≡ true → (byte ≡ 112) ⊎ (byte ≡ 80)
-marked_by byte is = elim (or_cases (byte == 112) (byte == 80) is) [
-  | inl small ↦ inl (eqb-true byte 112 small)
-  | inr large ↦ inr (eqb-true byte 80 large)
-]
-
 choosing_before : (byte : ℕ) (rest : List ℕ) → (byte == 112 || byte == 80) ≡ true → AfterMark rest → AfterSet (byte ∷ rest)
 choosing_before byte rest is mark = record {
   back = byte ∷ (48 + mark.n) ∷ [];
   more = mark.more;
   divided = ap (λ text. byte ∷ text) mark.divided;
-  says = digit (marked_by byte is) mark.least mark.most;
+  says = digit (mark_of byte is) mark.least mark.most;
   form = mark.form;
 }
 

@@ -3,13 +3,12 @@ use Rattle.std.proofs.Common.{◌≡◌, ℕ, zero, suc, ◌*◌, ◌<◌, ◌�
 use Rattle.std.specs.List.{flat_map, list_all}
 use Rattle.std.proofs.Math.Nat.{dvd-mul_left, dvd-mul_right, eq-one_of_dvd-one}
 use Rattle.std.proofs.lemmas.Bool.{agree_below_at, and_parts}
-use Rattle.std.proofs.lemmas.Bool.Decides.{nat_tests}
 use Rattle.srs.specs.declared.piece.Piece.{Piece}
 use Rattle.queue_pattern.specs.declared.element.Element.{Element}
 use Rattle.queue_pattern.specs.Grammar.{set_of}
 use Rattle.queue_pattern.specs.Queues.{pieces_in, choices, queues, falling_factor, queue_count}
 use Rattle.queue_pattern.specs.Sound.{is_sound}
-use Rattle.queue_pattern.proofs.BuilderLemmas.{sound-within}
+use Rattle.queue_pattern.proofs.BuilderLemmas.{sound-within, sound-set}
 use Rattle.queue_pattern.proofs.LimitLemmas.{sound-some}
 use Rattle.queue_pattern.proofs.QueueLemmas.{length-queues, queues-none}
 use Rattle.queue_pattern.proofs.SingleLemmas.{single}
@@ -54,10 +53,6 @@ queues-single piece elements set chosen alone once =
     (λ i. flat_map (λ choice. map (λ rest. choice ++ rest) (queues elements)) (choices (alone i) (once i)))
     ∙ append-nil (map (λ rest. piece ∷ rest) (queues elements))
 
-below_128 : (element : Element) → is_sound element ≡ true → element.set < 128
-unfolding is_sound
-below_128 element sound = grind (arith, nat_tests)
-
 -- what one list is that stands alone
 same_only : {A : Type 0} (x y : A) → x ∷ [] ≡ y ∷ [] → x ≡ y
 same_only x y is = cc
@@ -75,7 +70,7 @@ unfolding queue_count
 first_of_one element elements queue sound is =
     let counted : falling_factor (length (pieces_in element.set)) element.chosen * queue_count elements ≡ 1 = sym (length-queues (element ∷ elements)) ∙ ap length is in
     let one = one_piece (length (pieces_in element.set)) element.chosen (sound-some element sound) (sound-within element sound) (left_one _ _ counted) in
-    let its = the_piece (pieces_in element.set) element.set (its_set element.set (below_128 element sound)) one.0 in
+    let its = the_piece (pieces_in element.set) element.set (its_set element.set (sound-set element sound)) one.0 in
     let rest = the_only (queues elements) (length-queues elements ∙ right_one _ _ counted) in
     record {
       piece = its.0;

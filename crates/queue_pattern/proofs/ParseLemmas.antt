@@ -21,9 +21,9 @@ pub reads_more : (text : List ℕ) (front : List Element) (place next : ℕ) (el
 reads_more text front place next element so_far is =
     record { reads = so_far.reads ∙ ap (after_front front) is ∙ after-one front element (read_at text outside next) }
 
+pub none_before : (read : Elements) → read ≡ after_front [] read
+none_before (Ok rest) = refl
+none_before (Err fault) = refl
+
 pub reads_none : (text : List ℕ) → ReadsOn text [] 0
-reads_none text = record { reads = go (elements text) }
-  where
-    go : (read : Elements) → read ≡ after_front [] read
-    go (Ok rest) = refl
-    go (Err fault) = refl
+reads_none text = record { reads = none_before (elements text) }

@@ -17,9 +17,9 @@ use Rattle.queue_pattern.specs.Queues.{pieces_in, queue_count, queue_len}
 use Rattle.queue_pattern.specs.Sound.{is_sound}
 use Rattle.queue_pattern.specs.Spelling.{SpellsLetters, SpellsSet, all, these, others, SpellsChosen, one, digit, every, SpellsElement, letter, chosen, SpellsElements, none, gap, element}
 use Rattle.queue_pattern.proofs.FaultLaws.{at_most}
-use Rattle.queue_pattern.proofs.FaultExplained.{on_if}
 use Rattle.queue_pattern.proofs.LimitLemmas.{length-le-queue_len, queue_count-some}
-use Rattle.queue_pattern.proofs.ReadIsSpelled.{spelled-from_read}
+use Rattle.queue_pattern.proofs.ReadIsSpelled.{on_if, spelled-from_read}
+use Rattle.queue_pattern.proofs.SetLemmas.{single-sound}
 
 -- ---- what is spelled is sound
 
@@ -47,12 +47,8 @@ sound_of set n small some enough =
     and_from (nat_lt set 128) (nat_lt 0 n && nat_le n (length (pieces_in set))) (lt-ltb set 128 small)
     (and_from (nat_lt 0 n) (nat_le n (length (pieces_in set))) (lt-ltb 0 n some) (le-leb n (length (pieces_in set)) enough))
 
-piece_sound : (piece : Piece) → is_sound (record { set = set_of piece; chosen = 1 }) ≡ true
-unfolding is_sound pieces_in
-piece_sound piece = each_piece (λ p. is_sound (record { set = set_of p; chosen = 1 })) refl piece
-
 element_sound : (text : List ℕ) (e : Element) → SpellsElement text e → is_sound e ≡ true
-element_sound text e (letter {piece = piece} is) = piece_sound piece
+element_sound text e (letter {piece = piece} is) = single-sound piece
 element_sound text e (chosen {front = front} {back = back} {set = set} {n = n} set_is says some enough) =
     sound_of set n (set_fits front set set_is) (some_chosen (length (pieces_in set)) n back says some) enough
 

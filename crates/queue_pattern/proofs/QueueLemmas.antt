@@ -3,7 +3,7 @@ use Rattle.std.proofs.Common.{◌≡◌, ℕ, suc, ◌+◌, ◌-◌, ◌*◌, �
 use Rattle.std.specs.List.{flat_map, slice_get}
 use Rattle.std.specs.Option.{option_and_then, option_map}
 use Rattle.std.proofs.Math.Path.{fun_ext}
-use Rattle.std.proofs.lemmas.List.{length-map, map-append}
+use Rattle.std.proofs.lemmas.List.{length-map, map-append, map-id}
 use Rattle.std.proofs.lemmas.Option.{slice_get-map}
 use Rattle.std.proofs.lemmas.List.Concat.{flat_map-append}
 use Rattle.srs.specs.declared.piece.Piece.{Piece}
@@ -20,13 +20,9 @@ pub queues-none : queues [] ≡ [] ∷ []
 unfolding queues
 queues-none = refl
 
-map-itself : {A : Type 0} (xs : List A) → map (λ x. x) xs ≡ xs
-map-itself [] = refl
-map-itself (x ∷ xs) = ap (λ rest. x ∷ rest) (map-itself xs)
-
 pub tails-none : (pieces : List Piece) (elements : List Element) → tails pieces 0 elements ≡ queues elements
 unfolding tails choices
-tails-none pieces elements = append-nil (map (λ rest. rest) (queues elements)) ∙ map-itself (queues elements)
+tails-none pieces elements = append-nil (map (λ rest. rest) (queues elements)) ∙ map-id (queues elements)
 
 -- a flat map over a flat map
 flat-flat : {A B C : Type 0} (g : B → List C) (h : A → List B) (xs : List A) → flat_map g (flat_map h xs) ≡ flat_map (λ x. flat_map g (h x)) xs

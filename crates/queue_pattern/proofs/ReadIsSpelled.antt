@@ -1,6 +1,6 @@
 -- The grammar as a relation and the function that reads a text agree: what is read is spelled.
 use Rattle.std.proofs.Common.{◌≡◌, ◌≢◌, ℕ, ◌+◌, ◌-◌, ◌<◌, ◌≤◌, Bool, true, false, not, cond, ◌&&◌, ◌||◌, ◌==◌, nat_lt, nat_le, ltb-true, leb-true, eqb-true, List, [], ◌∷◌, ◌++◌, length, append_assoc, bit_or, refl, ap, sym, subst, ◌∙◌, arith, Option, Some, None, Ok, Err, inl, inr, ◌⊎◌}
-use Rattle.std.proofs.lemmas.Bool.{cases_Bool, and_parts}
+use Rattle.std.proofs.lemmas.Bool.{cases_Bool, and_parts, or_cases}
 use Rattle.srs.specs.declared.piece.Piece.{Piece}
 use Rattle.srs.specs.Piece.{piece_with_letter}
 use Rattle.queue_pattern.specs.declared.element.Element.{Element}
@@ -10,7 +10,7 @@ use Rattle.queue_pattern.specs.Grammar.{TextPosition, Elements, outside, opened,
 use Rattle.queue_pattern.specs.Spelling.{SpellsLetters, SpellsSet, all, these, others, SpellsChosen, one, digit, every, letter, chosen, SpellsElements, none, gap, element}
 
 -- a choice by a test
-on_if : {A : Type 0} (b : Bool) (x y z : A) → cond b x y ≡ z → ((b ≡ true) × (x ≡ z)) ⊎ ((b ≡ false) × (y ≡ z))
+pub on_if : {A : Type 0} (b : Bool) (x y z : A) → cond b x y ≡ z → ((b ≡ true) × (x ≡ z)) ⊎ ((b ≡ false) × (y ≡ z))
 on_if true x y z h = inl (refl, h)
 on_if false x y z h = inr (refl, h)
 
@@ -173,14 +173,11 @@ opened-goes start place byte bytes rest elements ih h = elim (on_if (byte == 94)
   | inr listed ↦ inr (listing-goes start false 0 place byte bytes rest elements ih listed.1)
 ]
 
-mark_of : (byte : ℕ) → (byte == 112 || byte == 80) ≡ true → (byte ≡ 112) ⊎ (byte ≡ 80)
-mark_of byte h = elim (cases_Bool (byte == 112)) [
+pub mark_of : (byte : ℕ) → (byte == 112 || byte == 80) ≡ true → (byte ≡ 112) ⊎ (byte ≡ 80)
+mark_of byte is = elim (or_cases (byte == 112) (byte == 80) is) [
   | inl small ↦ inl (eqb-true byte 112 small)
-  | inr other ↦ inr (eqb-true byte 80 (second (byte == 112) (byte == 80) other h))
+  | inr large ↦ inr (eqb-true byte 80 large)
 ]
-  where
-    second : (a b : Bool) → a ≡ false → (a || b) ≡ true → b ≡ true
-    second a b e h = cc
 
 closed-goes : (start set place byte : ℕ) (bytes : List ℕ) (rest : TextPosition → Elements) (elements : List Element)
     → ((position : TextPosition) (es : List Element) → rest position ≡ Ok es → Goes position bytes es)

@@ -9,7 +9,7 @@ use Rattle.std.proofs.lemmas.Option.{get_or_from_slice_get, slice_get_within}
 use Rattle.srs.specs.declared.piece.Piece.{Piece}
 use Rattle.srs.specs.declared.piece.Piece.TheVariants.{I, L, O, Z, T, J, S}
 use Rattle.srs.specs.Piece.{all_pieces, piece_code}
-use Rattle.srs.proofs.CallerLemmas.{Contains-none, Contains-from_map, rising-first, rising-rest, rising-none, rising-cons, rising-flat_map, rising-map}
+use Rattle.srs.proofs.CallerLemmas.{Contains-none, Contains-from_map, rising-first, rising-rest, rising-none, rising-cons, rising-flat_map, rising-map, first_less}
 use Rattle.queue_pattern.specs.declared.element.Element.{Element}
 use Rattle.queue_pattern.specs.Queues.{is_in, pieces_in, others, choices, queues}
 use Rattle.queue_pattern.specs.Order.{piece_cmp, queue_cmp}
@@ -29,16 +29,13 @@ same_first T r = refl
 same_first J r = refl
 same_first S r = refl
 
-less_first : (a r : Ordering) → a ≡ Less → ordering_then a r ≡ Less
-less_first a r e = ap (λ o. ordering_then o r) e
-
 differ-more : (p : Piece) (xs ys : List Piece) → differ_cmp xs ys ≡ Less → differ_cmp (p ∷ xs) (p ∷ ys) ≡ Less
 unfolding differ_cmp
 differ-more p xs ys less = same_first p (differ_cmp xs ys) ∙ less
 
 differ-first : (p q : Piece) (xs ys : List Piece) → piece_cmp p q ≡ Less → differ_cmp (p ∷ xs) (q ∷ ys) ≡ Less
 unfolding differ_cmp
-differ-first p q xs ys less = less_first (piece_cmp p q) (differ_cmp xs ys) less
+differ-first p q xs ys less = first_less (piece_cmp p q) (differ_cmp xs ys) less
 
 -- what follows decides nothing after a difference
 differ-queues : (xs ys rest rest' : List Piece) → differ_cmp xs ys ≡ Less → queue_cmp (xs ++ rest) (ys ++ rest') ≡ Less

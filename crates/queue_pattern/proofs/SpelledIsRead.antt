@@ -10,7 +10,7 @@ use Rattle.queue_pattern.specs.declared.fault.PatternFault.TheVariants.{TooManyC
 use Rattle.queue_pattern.specs.Queues.{pieces_in}
 use Rattle.queue_pattern.specs.Grammar.{Elements, outside, opened, listing, closed, choosing, choice, before, bracketed, is_gap, all_set, set_of, elements_from}
 use Rattle.queue_pattern.specs.Spelling.{SpellsLetters, SpellsSet, all, these, others, SpellsChosen, one, digit, every, SpellsElement, letter, chosen, SpellsElements, none, gap, element}
-use Rattle.queue_pattern.proofs.ParseLemmas.{after_front}
+use Rattle.queue_pattern.proofs.ParseLemmas.{after_front, none_before}
 
 -- a letter is no other byte that means something
 pub not_letter : (byte other : ℕ) (piece : Piece) → piece_with_letter byte ≡ Some piece → piece_with_letter other ≡ None → (byte == other) ≡ false
@@ -170,10 +170,6 @@ clear_element front more rest e first clear = record {
 one_before : (e : Element) (es : List Element) (read : Elements) → before (Ok e) (after_front es read) ≡ after_front (e ∷ es) read
 one_before e es (Ok found) = refl
 one_before e es (Err fault) = refl
-
-none_before : (read : Elements) → read ≡ after_front [] read
-none_before (Ok found) = refl
-none_before (Err fault) = refl
 
 -- elements are read before what follows them
 pub read_elements : (whole : List ℕ) (es : List Element) → SpellsElements whole es → (rest : List ℕ) → Clear whole rest → (place : ℕ)

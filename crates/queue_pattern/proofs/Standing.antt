@@ -5,15 +5,15 @@ use Rattle.std.specs.Option.{option_map}
 use Rattle.std.specs.List.{list_all}
 use Rattle.std.proofs.lemmas.Nat.{div-add-mod', mod_below, div_below}
 use Rattle.std.proofs.lemmas.Bool.{and_parts}
-use Rattle.std.proofs.lemmas.Bool.Decides.{nat_tests}
 use Rattle.std.proofs.lemmas.List.Sums.{sum_by-cons}
 use Rattle.std.proofs.Math.Nat.{mul_assoc, mul-le-mul, one-mul, mul-div_cancel_left}
 use Rattle.std.proofs.lemmas.Option.{get_or_from_slice_get}
+use Rattle.std.proofs.lemmas.Iterator.Adapters.{option_map_id}
 use Rattle.srs.specs.declared.piece.Piece.{Piece}
 use Rattle.queue_pattern.specs.declared.element.Element.{Element}
 use Rattle.queue_pattern.specs.Queues.{tails, pieces_in, others, queues, falling_factor, queue_count, queue_len}
 use Rattle.queue_pattern.specs.Sound.{is_sound}
-use Rattle.queue_pattern.proofs.BuilderLemmas.{sound-within}
+use Rattle.queue_pattern.proofs.BuilderLemmas.{sound-within, sound-set}
 use Rattle.queue_pattern.proofs.LimitLemmas.{queue_count-some}
 use Rattle.queue_pattern.proofs.ChoiceLemmas.{IsSet, pieces_in-set, length-others}
 use Rattle.queue_pattern.proofs.FallingLemmas.{falling_factor-more, falling_factor-none, falling_factor-some}
@@ -25,12 +25,8 @@ pub record Stands (whole : List (List Piece)) (index : ℕ) (front : List Piece)
   pub here : slice_get whole index ≡ option_map (λ tail. front ++ tail) (slice_get rest left)
   pub within : left < block
 
-map-itself : {A : Type 0} (o : Option A) → option_map (λ x. x) o ≡ o
-map-itself None = refl
-map-itself (Some x) = refl
-
 pub stands_first : (whole : List (List Piece)) (index block : ℕ) → index < block → Stands whole index [] index block whole
-stands_first whole index block within = record { here = sym (map-itself (slice_get whole index)); within = within }
+stands_first whole index block within = record { here = sym (option_map_id (slice_get whole index)); within = within }
 
 map-append : (front : List Piece) (piece : Piece) (o : Option (List Piece)) →
     option_map (λ tail. front ++ tail) (option_map (λ tail. piece ∷ tail) o) ≡ option_map (λ tail. (front ++ piece ∷ []) ++ tail) o
@@ -73,10 +69,6 @@ pub between_first : (whole : List Element) (index block room : ℕ) → index < 
     → Between whole index room [] index block whole
 between_first whole index block room within is pieces sound =
     record { stands = stands_first (queues whole) index block within; blocks = is; pieces = omega (arith, pieces); sound = sound }
-
-sound-set : (element : Element) → is_sound element ≡ true → element.set < 128
-unfolding is_sound
-sound-set element sound = grind (arith, nat_tests)
 
 pub into_element : (whole : List Element) (index room : ℕ) (front : List Piece) (left block : ℕ) (element : Element) (rest : List Element)
     → Between whole index room front left block (element ∷ rest) → Within whole index room front left block element.set element.chosen rest

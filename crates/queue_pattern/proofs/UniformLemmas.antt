@@ -2,25 +2,19 @@
 use Rattle.std.proofs.Common.{◌≡◌, ℕ, zero, suc, ◌+◌, ◌*◌, ◌<◌, List, [], ◌∷◌, ◌++◌, length, refl, ap, sym, ◌∙◌, arith, length-append, Contains, zero-mul}
 use Rattle.std.specs.List.{flat_map, slice_get}
 use Rattle.std.specs.Option.{option_and_then}
-use Rattle.std.proofs.lemmas.List.Elements.{Contains-append_right}
+use Rattle.srs.proofs.CallerLemmas.{Contains-here, Contains-there}
 
 -- each part has n elements
 pub record IsUniform {X A : Type 0} (f : X → List A) (xs : List X) (n : ℕ) : Type 0 where
   pub each : (x : X) → Contains xs x → length (f x) ≡ n
 
-pub contains_first : {X : Type 0} (x : X) (xs : List X) → Contains (x ∷ xs) x
-contains_first x xs = (0, omega arith, refl)
-
-pub contains_rest : {X : Type 0} (x : X) (xs : List X) (y : X) → Contains xs y → Contains (x ∷ xs) y
-contains_rest x xs y there = Contains-append_right (x ∷ []) xs y there
-
 uniform_rest : {X A : Type 0} (f : X → List A) (x : X) (xs : List X) (n : ℕ) → IsUniform f (x ∷ xs) n → IsUniform f xs n
-uniform_rest f x xs n uniform = record { each = λ y there. uniform.each y (contains_rest x xs y there) }
+uniform_rest f x xs n uniform = record { each = λ y there. uniform.each y (Contains-there x xs y there) }
 
 pub length-uniform : {X A : Type 0} (f : X → List A) (xs : List X) (n : ℕ) → IsUniform f xs n → length (flat_map f xs) ≡ length xs * n
 length-uniform f [] n uniform = sym (zero-mul n)
 length-uniform f (x ∷ xs) n uniform =
-    let first = uniform.each x (contains_first x xs) in
+    let first = uniform.each x (Contains-here x xs) in
     let rest = length-uniform f xs n (uniform_rest f x xs n uniform) in
     omega (arith, length-append (f x) (flat_map f xs), first, rest)
 
@@ -40,7 +34,7 @@ get-uniform f [] n q r uniform within = refl
 get-uniform f (x ∷ xs) n zero r uniform within =
     let at : zero * n + r ≡ r = omega (arith, zero-mul n) in
     ap (slice_get (f x ++ flat_map f xs)) at
-    ∙ get-left (f x) (flat_map f xs) r (omega (arith, uniform.each x (contains_first x xs)))
+    ∙ get-left (f x) (flat_map f xs) r (omega (arith, uniform.each x (Contains-here x xs)))
 get-uniform f (x ∷ xs) n (suc q) r uniform within =
-    get-right (f x) (flat_map f xs) (q * n + r) (suc q * n + r) (omega (arith, uniform.each x (contains_first x xs)))
+    get-right (f x) (flat_map f xs) (q * n + r) (suc q * n + r) (omega (arith, uniform.each x (Contains-here x xs)))
     ∙ get-uniform f xs n q r (uniform_rest f x xs n uniform) within
