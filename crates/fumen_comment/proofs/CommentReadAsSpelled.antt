@@ -10,13 +10,10 @@ use Rattle.fumen_comment.specs.Unescape.{unescaped}
 use Rattle.fumen_comment.specs.Part.{unpacked, group_count, AreGroups, SpellsText}
 use Rattle.fumen_comment.specs.Reading.{text_at, comment_at}
 use Rattle.fumen_comment.specs.Faults.{IsGroupDue, IsCommentFault, CommentStands}
-use Rattle.fumen_comment.proofs.Groups.{characters_of, characters_of-is, length-unpacked_all, TextStands, text_from_read, read_from_text, GroupsDue, TextFault, text_fault_from_read, read_from_text_fault}
+use Rattle.fumen_comment.proofs.Groups.{characters_of, characters_of-is, length-unpacked_all, TextStands, text_from_read, read_from_text, GroupsDue, TextFault, text_fault_from_read, read_from_text_fault, done_text}
 
 abbrev then_text : List ℕ → ℕ → ℕ → Result (List ℕ × ℕ) FumenFault
 then_text ds place total = text_at ds (place + 2) total (group_count total) >>= λ text. Ok (unescaped text.0, text.1)
-
-done_comment : (x y : List ℕ × ℕ) → ◌≡◌ {A = Result (List ℕ × ℕ) FumenFault} (Ok x) (Ok y) → x ≡ y
-done_comment x y e = cc
 
 -- so many groups hold so many characters
 length_of_text : (total : ℕ) (text groups : List ℕ) → length groups ≡ group_count total → text ≡ characters_of total groups → length text ≡ total
@@ -54,7 +51,7 @@ comment_from_read ds place units end le e =
     let t = bind_ok (text_at ds (place + 2) n.0 (group_count n.0)) (λ text. Ok (unescaped text.0, text.1)) (units, end) n.2 in
     let number = stands_from_read ds place place 2 n.0 le n.1 in
     let text = text_from_read ds (place + 2) n.0 (group_count n.0) t.0.0 t.0.1 number.stands.within t.1 in
-    subst (λ (x : List ℕ × ℕ). CommentStands ds place x.0 x.1) (done_comment (unescaped t.0.0, t.0.1) (units, end) t.2) (spells ds place n.0 t.0.1 t.0.0 number text)
+    subst (λ (x : List ℕ × ℕ). CommentStands ds place x.0 x.1) (done_text (unescaped t.0.0, t.0.1) (units, end) t.2) (spells ds place n.0 t.0.1 t.0.0 number text)
 
 -- the length of a text that stands there, and its groups
 length_stands : (ds : List ℕ) (place end : ℕ) (text part : List ℕ) → SpellsText text part → Stands ds place part end → NumberStands ds place 2 (length text)

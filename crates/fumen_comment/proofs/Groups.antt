@@ -126,7 +126,7 @@ pub record TextStands (ds : List ℕ) (place left count : ℕ) (text : List ℕ)
 abbrev behind : List ℕ → ℕ → ℕ → ℕ → ℕ → Result (List ℕ × ℕ) FumenFault
 behind ds place left count group = text_at ds (place + 5) (left - 4) count >>= λ rest. Ok (take left (unpacked 4 group) ++ rest.0, rest.1)
 
-done_text : (x y : List ℕ × ℕ) → ◌≡◌ {A = Result (List ℕ × ℕ) FumenFault} (Ok x) (Ok y) → x ≡ y
+pub done_text : (x y : List ℕ × ℕ) → ◌≡◌ {A = Result (List ℕ × ℕ) FumenFault} (Ok x) (Ok y) → x ≡ y
 done_text x y e = cc
 
 pub text_from_read : (ds : List ℕ) (place left count : ℕ) (text : List ℕ) (end : ℕ) → place ≤ length ds → text_at ds place left count ≡ Ok (text, end) → TextStands ds place left count text end
