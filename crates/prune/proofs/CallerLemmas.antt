@@ -1,6 +1,6 @@
 -- What crates above cite: a tiling with one part more or fewer, one placement, a run that clears its rows, rows that are sent to others, counts, and what a mirror shows.
 pub use Rattle.prune.proofs.ColumnCounts.{all_empties, column_empties-le, column_empties-suc, column_empties-zero}
-pub use Rattle.prune.proofs.PartsOfTilings.{TakenPart, WithPart, is_empty-with_cells, no_parts, one_part_more, rises, rising-from_test, same_tiling, taken_part, tiling-intersection, with_part}
+pub use Rattle.prune.proofs.PartsOfTilings.{TakenPart, TilingOf, is_empty-with_cells, no_parts, one_part_more, rises, rising-from_test, same_tiling, taken_part, tiling-intersection, with_part}
 pub use Rattle.prune.proofs.MirrorLemmas.{cell_again, flips_in, kind_again, same_kind, tiling_mirrored}
 pub use Rattle.prune.proofs.RefusalLemmas.{no_uneven_part, none_refused}
 pub use Rattle.prune.proofs.UnevenParts.{Parts, parts-found, parts-next, parts-none, parts-start}

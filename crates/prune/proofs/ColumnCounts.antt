@@ -3,8 +3,9 @@ use Rattle.std.proofs.Common.{◌≡◌, ◌≢◌, ◌⊎◌, ℕ, zero, suc, �
 use Rattle.std.specs.Prelude.{sum_by, count_by}
 use Rattle.std.specs.List.{list_all, range_with_len}
 use Rattle.std.specs.Cmp.{both_ways}
-use Rattle.std.proofs.lemmas.Bool.{cases_Bool, cases_eq, cond-true, cond-false, and_parts, and_from, and_right, false_from_ne_true, ltb-true, lt-ltb, leb-true, le-leb, eqb-true, eq-eqb, or_cases, or_left, or_right, true≢false}
+use Rattle.std.proofs.lemmas.Bool.{cases_Bool, cases_eq, cond-true, cond-false, and_parts, and_from, and_right, false_from_ne_true, ltb-true, lt-ltb, leb-true, le-leb, eqb-true, eq-eqb, or_cases, or_left, or_right, true≢false, not-true}
 use Rattle.std.proofs.lemmas.List.Sums.{sum_by-cons, sum_by_push}
+use Rattle.std.proofs.Math.Bool.{and-true}
 use Rattle.lane_board.specs.Field.{Field}
 use Rattle.lane_board.specs.CellCount.{row_count, cell_count}
 use Rattle.srs.specs.Cells.{Cell}
@@ -134,11 +135,7 @@ module _ (F : Field) (rows : ℕ) (cells : List Cell) (empty : list_all (is_empt
           let column : x ≡ c.x = ap (λ (c : Cell). nat_abs c.0) c.is in
           let row : n ≡ c.y = ap (λ (c : Cell). nat_abs c.1) c.is in
           ap not (ap (λ x. F x n) column ∙ ap (F c.x) row ∙ c.empty))
-          (λ e. is_empty_at F rows x n column (omega arith) (not_not (F x n) e))
-        where
-          not_not : (b : Bool) → not b ≡ true → b ≡ false
-          not_not true e = sym e
-          not_not false e = refl
+          (λ e. is_empty_at F rows x n column (omega arith) (not-true (F x n) e))
 
       apart : (c : Cell) → (in_column x n c && cell_eq c (pos x, pos n)) ≡ false
       apart c = false_from_ne_true _ (λ both.
@@ -186,11 +183,7 @@ module _ (F : Field) (rows : ℕ) (cells : List Cell) (empty : list_all (is_empt
       agree c ok =
           let e = empty_cell F rows c ok in
           let row : row_of c ≡ e.y = ap (λ (c : Cell). nat_abs c.1) e.is in
-          sym (ap (λ b. column_of c == x && b) (lt-ltb (row_of c) rows (omega (arith, e.below))) ∙ and_true (column_of c == x))
-        where
-          and_true : (a : Bool) → (a && true) ≡ a
-          and_true true = refl
-          and_true false = refl
+          sym (ap (λ b. column_of c == x && b) (lt-ltb (row_of c) rows (omega (arith, e.below))) ∙ and-true (column_of c == x))
 
   -- as many of the cells stand in neighbouring columns as these have empty cells
   pub columns_count : (first n : ℕ) → first + n ≤ 10 → count_by (in_columns first n) cells ≡ sum_by (column_empties F rows) (range_with_len first n)

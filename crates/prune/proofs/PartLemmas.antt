@@ -9,7 +9,7 @@ use Rattle.srs.specs.declared.piece.Piece.{Piece}
 use Rattle.srs.specs.declared.rotation.Rotation.{Rotation}
 use Rattle.srs.specs.Cells.{Cell, shape}
 use Rattle.srs.specs.SameCells.{is_among}
-use Rattle.srs.proofs.CallerLemmas.{is_among-all, list_all-from_is_among, each_state}
+use Rattle.srs.proofs.CallerLemmas.{is_among-all, list_all-from_is_among, each_state, shape_length}
 use Rattle.lane_board.specs.Field.{Field}
 use Rattle.prune.specs.Tiling.{Part, sent, IsGeneralized, is_empty_below, covers}
 use Rattle.prune.proofs.CellCounts.{count_in, count_in-append, count_in-some, once_sent}
@@ -34,9 +34,6 @@ cells_empty F rows parts covered = list_all-from_is_among (is_empty_below F rows
 shape_once : (piece : Piece) (rotation : Rotation) → list_all (λ c. count_in (shape piece rotation) c == 1) (shape piece rotation) ≡ true
 unfolding count_in
 shape_once = each_state (λ p r. list_all (λ c. count_in (shape p r) c == 1) (shape p r)) refl
-
-shape_length : (piece : Piece) (rotation : Rotation) → length (shape piece rotation) ≡ 4
-shape_length piece rotation = eqb-true _ _ (each_state (λ p r. length (shape p r) == 4) refl piece rotation)
 
 pub part_length : (part : Part) → IsGeneralized part → length part.cells ≡ 4
 part_length part is = ap length is.cells ∙ length-map (shape part.piece is.rotation) (sent is.move is.row) ∙ shape_length part.piece is.rotation

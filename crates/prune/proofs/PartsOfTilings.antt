@@ -2,14 +2,15 @@
 use Rattle.std.proofs.Common.{◌≡◌, ℕ, suc, ◌+◌, ◌-◌, ◌<◌, ◌≤◌, Bool, true, false, not, cond, ◌&&◌, ◌||◌, ◌==◌, List, [], ◌∷◌, length, ℤ, pos, negsuc, nat_lt, refl, sym, ap, ◌∙◌, inl, inr, arith}
 use Rattle.std.specs.Prelude.{◌↔◌, All, int_lt}
 use Rattle.std.specs.List.{list_all}
-use Rattle.std.proofs.lemmas.Bool.{cases_Bool, cond-true, cond-false, true_from_ne_false, and_right, false≢true, ltb-true, eq-eqb, not_from_true}
+use Rattle.std.proofs.lemmas.Bool.{cases_Bool, cond-true, cond-false, true_from_ne_false, and_right, ltb-true, eq-eqb, not_from_true}
 use Rattle.std.proofs.lemmas.List.Elements.{All-cons, All-head, All-tail}
 use Rattle.std.proofs.lemmas.List.Sums.{sum_by-cons}
+use Rattle.std.proofs.Math.Bool.{and-true}
 use Rattle.srs.specs.declared.piece.Piece.{Piece}
 use Rattle.srs.specs.Piece.{piece_code}
 use Rattle.srs.specs.Cells.{Cell}
 use Rattle.srs.specs.SameCells.{is_among}
-use Rattle.srs.proofs.CallerLemmas.{has_cell-head, is_among-all, list_all-from_is_among}
+use Rattle.srs.proofs.CallerLemmas.{has_cell-head, is_among-all, list_all-from_is_among, implied}
 use Rattle.lane_board.specs.Field.{Field, intersection, rows_below}
 use Rattle.prune.specs.Tiling.{Part, IsGeneralized, is_empty_below, covers, parts_of, Tiling, Supply}
 use Rattle.prune.specs.Laws.{with_one}
@@ -30,21 +31,18 @@ is_empty-with_cells F cells rows (pos x, negsuc y) = refl
 is_empty-with_cells F cells rows (negsuc x, pos y) = refl
 is_empty-with_cells F cells rows (negsuc x, negsuc y) = refl
 
-and_true : (a : Bool) → (a && true) ≡ a
-and_true true = refl
-and_true false = refl
-
 -- how many parts of a kind there are with one part more
 pub parts_of-cons : (part : Part) (parts : List Part) (piece : Piece) → parts_of (part ∷ parts) piece ≡ cond (piece_code part.piece == piece_code piece) 1 0 + parts_of parts piece
 parts_of-cons part parts piece = sum_by-cons (λ part. cond (piece_code part.piece == piece_code piece) 1 0) part parts
 
--- a generalized piece on empty cells and a tiling of what it leaves are a tiling with one more piece
-pub record WithPart (F : Field) (rows : ℕ) (supply : Supply) (part : Part) (parts : List Part) : Type 0 where
-  pub tiling : Tiling F rows (with_one supply part.piece)
-  pub parts_are : tiling.parts ≡ part ∷ parts
+-- a tiling with these parts
+pub record TilingOf (F : Field) (rows : ℕ) (supply : Supply) (parts : List Part) : Type 0 where
+  pub tiling : Tiling F rows supply
+  pub parts_are : tiling.parts ≡ parts
 
+-- a generalized piece on empty cells and a tiling of what it leaves are a tiling with one more piece
 pub one_part_more : (F : Field) (rows : ℕ) (part : Part) (supply : Supply) → IsGeneralized part → list_all (is_empty_below F rows) part.cells ≡ true →
-    (t : Tiling (with_cells F part.cells) rows supply) → WithPart F rows supply part t.parts
+    (t : Tiling (with_cells F part.cells) rows supply) → TilingOf F rows (with_one supply part.piece) (part ∷ t.parts)
 unfolding with_one
 one_part_more F rows part supply is empty t = record {
   tiling = record {
@@ -62,7 +60,7 @@ one_part_more F rows part supply is empty t = record {
           let here : is_empty_below F rows cell ≡ true = is_among-all (is_empty_below F rows) part.cells cell empty has in
           omega (arith, part_once part is cell, count_in-some part.cells cell has, rest, cond-false {A = ℕ} _ 1 0 (and_right (is_empty_below F rows cell) _ (not_from_true _ has)), cond-true {A = ℕ} (is_empty_below F rows cell) 1 0 here)
       | inr none ↦
-          let same : (is_empty_below F rows cell && not (is_among part.cells cell)) ≡ is_empty_below F rows cell = ap (λ b. is_empty_below F rows cell && not b) none ∙ and_true (is_empty_below F rows cell) in
+          let same : (is_empty_below F rows cell && not (is_among part.cells cell)) ≡ is_empty_below F rows cell = ap (λ b. is_empty_below F rows cell && not b) none ∙ and-true (is_empty_below F rows cell) in
           omega (arith, count_in-none part.cells cell none, rest ∙ ap (λ b. cond b 1 0) same)
     ]
 
@@ -164,7 +162,7 @@ taken_part F rows supply cell here t = taken (split t.parts cell (omega (arith, 
         covered c = elim (cases_Bool (is_among s.part.cells c)) [
           | inl has ↦ omega (arith, s.covered c, count_in-some s.part.cells c has, t.covered c, cond-true {A = ℕ} _ 1 0 (empty c has), cond-false {A = ℕ} _ 1 0 (and_right (is_empty_below F rows c) _ (not_from_true _ has)))
           | inr none ↦
-              let same : (is_empty_below F rows c && not (is_among s.part.cells c)) ≡ is_empty_below F rows c = ap (λ b. is_empty_below F rows c && not b) none ∙ and_true (is_empty_below F rows c) in
+              let same : (is_empty_below F rows c && not (is_among s.part.cells c)) ≡ is_empty_below F rows c = ap (λ b. is_empty_below F rows c && not b) none ∙ and-true (is_empty_below F rows c) in
               let there : covers s.rest c ≡ covers t.parts c = omega (arith, s.covered c, count_in-none s.part.cells c none) in
               there ∙ t.covered c ∙ ap (λ b. cond b 1 0) (sym same)
         ]
@@ -183,10 +181,6 @@ pub rising-from_test : (row : ℤ → ℕ) (cells : List Cell) → rises row cel
     (c d : Cell) → is_among cells c ≡ true → is_among cells d ≡ true → int_lt c.1 d.1 ≡ true → row c.1 < row d.1
 rising-from_test row cells all c d has_c has_d lower =
     ltb-true (row c.1) (row d.1) (implied (int_lt c.1 d.1) _ lower (is_among-all (λ d. not (int_lt c.1 d.1) || nat_lt (row c.1) (row d.1)) cells d (is_among-all (λ c. list_all (λ d. not (int_lt c.1 d.1) || nat_lt (row c.1) (row d.1)) cells) cells c all has_c) has_d))
-  where
-    implied : (a b : Bool) → a ≡ true → (not a || b) ≡ true → b ≡ true
-    implied true b holds h = h
-    implied false b holds h = absurd (false≢true holds)
 
 -- fields with the same empty cells below their rows have the same tilings there
 pub same_tiling : (F G : Field) (n m : ℕ) (supply : Supply) → ((cell : Cell) → is_empty_below F n cell ≡ is_empty_below G m cell) → Tiling F n supply → Tiling G m supply

@@ -2,7 +2,7 @@
 use Rattle.std.proofs.Common.{◌≡◌, ℕ, suc, ◌-◌, ◌<◌, ◌≤◌, Bool, true, false, not, ◌==◌, List, [], ◌∷◌, map, ℤ, pos, negsuc, nat_abs, ◌+ℤ◌, ◌<ℤ◌, nat_le, refl, sym, ap, subst, ◌∙◌, inl, inr, arith}
 use Rattle.std.specs.Prelude.{int_lt}
 use Rattle.std.specs.List.{list_all}
-use Rattle.std.proofs.lemmas.Bool.{cases_Bool, cond-true, cond-false, false_from_ne_true, and_parts, or_from, false≢true, ltb-true, leb-true, not-true}
+use Rattle.std.proofs.lemmas.Bool.{cases_Bool, cond-true, cond-false, and_parts, false≢true, ltb-true, leb-true, not-true}
 use Rattle.std.proofs.lemmas.Int.{ints}
 use Rattle.srs.specs.declared.piece.Piece.{Piece}
 use Rattle.srs.specs.declared.placement.Placement.{Placement}
@@ -13,8 +13,8 @@ use Rattle.srs.proofs.CallerLemmas.{is_among-all, list_all-from_is_among, in_wel
 use Rattle.lane_board.specs.Field.{Field}
 use Rattle.well.specs.Free.{is_open, is_free_at, is_free}
 use Rattle.well.specs.Lock.{together, locked, rows_removed}
-use Rattle.well.specs.LockLaws.{LiesBelow, is_below}
-use Rattle.well.proofs.CallerLemmas.{free_inside, stays_below}
+use Rattle.well.specs.LockLaws.{is_below}
+use Rattle.well.proofs.CallerLemmas.{free_inside, stays_below, together_below}
 use Rattle.prune.specs.Tiling.{Part, sent, IsGeneralized, is_empty_below, covers, Tiling, Supply}
 use Rattle.prune.specs.Laws.{with_one, OnePlacement, FullRowsMayStand, MorePieces, kinds_placed, ClearedIsTiled}
 use Rattle.prune.specs.OnePart.{with_cells}
@@ -88,12 +88,6 @@ placed_empty F rows q free below = list_all-from_is_among (is_empty_below F rows
 pub together_is : (F : Field) (q : Placement) → together F q ≡ with_cells F (cells_of q)
 unfolding together with_cells
 together_is F q = refl
-
--- no cell stands above the height once the placement is there
-together_below : (F : Field) (q : Placement) (height : ℕ) → LiesBelow F height → is_below height q ≡ true → (x y : ℕ) → height ≤ y → together F q x y ≡ false
-unfolding together
-together_below F q height below placed x y above = or_from _ _ (below.none x y above) (false_from_ne_true _ (λ has.
-    omega (arith, ltb-true y height (is_among-all (λ cell. int_lt cell.1 (pos height)) (cells_of q) (pos x, pos y) placed has))))
 
 pub full_rows_may_stand : FullRowsMayStand
 unfolding locked rows_removed

@@ -6,6 +6,7 @@ use Rattle.std.specs.Cmp.{both_ways}
 use Rattle.std.proofs.lemmas.Bool.{cases_Bool, cond-true, cond-false, false_from_ne_true, true≢false, and_parts, cases_order}
 use Rattle.std.proofs.lemmas.List.Elements.{All-nil, All-cons, All-head, All-tail}
 use Rattle.std.proofs.lemmas.List.Folds.{list_all-append}
+use Rattle.std.proofs.lemmas.List.{map-append}
 use Rattle.srs.specs.declared.piece.Piece.{Piece}
 use Rattle.srs.specs.Piece.{piece_code}
 use Rattle.srs.specs.Cells.{Cell, shape}
@@ -45,10 +46,6 @@ pub record SendsRows (F : Field) (rows : ℕ) (G : Field) (left : ℕ) (f : ℕ 
   pub below : (x y : ℕ) → x < 10 → y < rows → F x y ≡ false → f y < left
   pub empty : (x y : ℕ) → x < 10 → y < rows → F x y ≡ false → G x (f y) ≡ false
   pub before : (x z : ℕ) → x < 10 → z < left → G x z ≡ false → Before F rows f x z
-
-map-append : (f : Cell → Cell) (xs ys : List Cell) → map f (xs ++ ys) ≡ map f xs ++ map f ys
-map-append f [] ys = refl
-map-append f (x ∷ xs) ys = ap (λ zs. f x ∷ zs) (map-append f xs ys)
 
 cells_in-to : (f : ℕ → ℕ) (parts : List Part) → cells_in (parts_to f parts) ≡ map (cell_to f) (cells_in parts)
 cells_in-to f [] = refl

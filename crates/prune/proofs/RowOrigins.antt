@@ -4,9 +4,10 @@ use Rattle.std.specs.Prelude.{◌↔◌}
 use Rattle.std.proofs.lemmas.Bool.{cases_Bool, cases_eq, cases_order, cond-true, cond-false, false_from_ne_true, false≢true, eq-eqb, ne_eqb}
 use Rattle.lane_board.specs.Field.{Field}
 use Rattle.lane_board.specs.FullRows.{is_full, full_below, without_full_rows}
-use Rattle.lane_board.proofs.CallerLemmas.{full_above, full_below-full, full_below-other, full_below-le, lowered_from, lowered_rises, lowered_to, not_full_from_cell, one_row}
+use Rattle.lane_board.proofs.CallerLemmas.{full_below-full, full_below-other, full_below-le, lowered_from, lowered_rises, lowered_to, not_full_from_cell, one_row}
 use Rattle.prune.specs.Tiling.{Supply, Tiling}
 use Rattle.prune.proofs.RowMaps.{Before, SendsRows, tiling_to}
+use Rattle.well.proofs.CallerLemmas.{full_below_height}
 
 -- the row of G that is lowered to row y, among the rows below n
 unfoldable origin : Field → ℕ → ℕ → ℕ
@@ -45,7 +46,7 @@ module _ (G : Field) (height : ℕ) (within : height ≤ 23) (none : (x y : ℕ)
   left = height - full_below G 23
 
   full_same : full_below G 23 ≡ full_below G height
-  full_same = let size : 23 ≡ height + (23 - height) = omega arith in ap (full_below G) size ∙ full_above G height (23 - height) (λ y above. not_full_from_cell G 0 y (omega arith) (none 0 y above))
+  full_same = full_below_height G height within none
 
   origin_in : (y : ℕ) → y < left → IsOrigin G height y (origin G height y)
   origin_in y below = origin_is G height y (omega (arith, full_same))

@@ -10,7 +10,7 @@ use Rattle.srs.specs.declared.piece.Piece.{Piece}
 use Rattle.srs.specs.declared.rotation.Rotation.{Rotation}
 use Rattle.srs.specs.Cells.{Cell, shape}
 use Rattle.srs.specs.SameCells.{is_among}
-use Rattle.srs.proofs.CallerLemmas.{is_among-all, has_cell-head, each_state}
+use Rattle.srs.proofs.CallerLemmas.{is_among-all, has_cell-head, each_state, implied}
 use Rattle.lane_board.specs.Field.{Field}
 use Rattle.prune.specs.Tiling.{Part, sent, IsGeneralized, is_empty_below}
 use Rattle.prune.specs.Walls.{IsWall}
@@ -44,10 +44,6 @@ beside_in (e ∷ es) all c some = elim (cases_Bool (int_eq e.0 c.0 && is_among a
       let rest = beside_in es all c (subst (λ b. (b || some_beside es all c) ≡ true) other some) in
       record { cell = rest.cell; listed = or_right _ _ rest.listed; column = rest.column; next = rest.next }
 ]
-
-implied : (a b : Bool) → a ≡ true → (not a || b) ≡ true → b ≡ true
-implied true b holds h = h
-implied false b holds h = absurd (false≢true holds)
 
 below_to : (a b : ℤ) → a <ℤ b → int_lt a b ≡ true
 below_to (pos a) (pos b) order = lt-ltb a b (omega (arith, ints))

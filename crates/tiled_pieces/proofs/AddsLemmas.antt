@@ -4,6 +4,7 @@ use Rattle.std.specs.List.{Contains}
 use Rattle.std.proofs.lemmas.Bool.{and_parts, both_ways, cases_eq, ne_eqb, eq-eqb, false_from_ne_true}
 use Rattle.std.proofs.lemmas.List.{append-nil, append_assoc}
 use Rattle.std.proofs.lemmas.List.Elements.{Contains-append_left, Contains-append_right, Contains-append_cases}
+use Rattle.std.proofs.Math.Bool.{and-false}
 use Rattle.lane_board.specs.Field.{Field}
 use Rattle.lane_board.specs.Lanes.{has_bit}
 use Rattle.lane_board.proofs.CallerLemmas.{has_bit-zero}
@@ -107,10 +108,6 @@ rows-start By All E x y floor span spans rows permitted old small has allowed = 
       both_ways _ gone.gone (bit_from_may E x y floor span rows permitted has allowed gone.row low gone.may));
 }
 
-and_none : (b : Bool) → (b && false) ≡ false
-and_none true = refl
-and_none false = refl
-
 module _ (E rest : Field) (x y floor : ℕ) (span : Span) (spans : List Span) (rows less row : ℕ) (small : IsSmall 8 E) (low : row < 8) (here : has_bit rows row ≡ true)
     (may : MayTake (is_allowed y) E x floor span row) (left : rest ≡ without_span E x span row) (others : (k : ℕ) → k < 8 → has_bit less k ≡ (has_bit rows k && not (k == row))) where
   before : (By : List LaidPiece → List LaidPiece → Field → Type 0) (path found : List LaidPiece) → StacksGone By E x y floor span spans rows path found → StacksGone By E x y floor span spans less path found
@@ -122,7 +119,7 @@ module _ (E rest : Field) (x y floor : ℕ) (span : Span) (spans : List Span) (r
   at_row By path found stacks = record {
     row = row;
     may = may;
-    gone = others row low ∙ ap (λ b. has_bit rows row && not b) (eq-eqb row row refl) ∙ and_none (has_bit rows row);
+    gone = others row low ∙ ap (λ b. has_bit rows row && not b) (eq-eqb row row refl) ∙ and-false (has_bit rows row);
     stacks = subst (λ (G : Field). Stacks (is_allowed y) (By path found) G x (row + 1) spans) left stacks;
   }
 

@@ -1,15 +1,14 @@
 -- What a list of all tilings says of one piece: it is in some of them where the others fill the rest, and those that have it are all tilings of the rest.
-use Rattle.std.proofs.Common.{◌≡◌, ◌<◌, ◌≤◌, true, cond, List, ◌∷◌, pos, sym, subst}
+use Rattle.std.proofs.Common.{◌≡◌, ◌<◌, true, cond, List, ◌∷◌, pos, sym, subst}
 use Rattle.std.proofs.Math.Path.{fun_ext}
 use Rattle.std.specs.List.{Contains, list_all}
 use Rattle.std.proofs.lemmas.List.Elements.{All-head, All-tail}
 use Rattle.lane_board.specs.Field.{Field, difference}
-use Rattle.srs.specs.declared.piece.Piece.{Piece}
 use Rattle.srs.specs.Cells.{Cell}
 use Rattle.srs.specs.SameCells.{is_among}
-use Rattle.prune.specs.Tiling.{IsGeneralized, Part, Supply, Tiling, covers, is_empty_below, parts_of}
+use Rattle.prune.specs.Tiling.{IsGeneralized, Part, Supply, Tiling, covers, is_empty_below}
 use Rattle.prune.specs.OnePart.{less_one, with_cells}
-use Rattle.prune.proofs.CallerLemmas.{WithPart, one_part_more}
+use Rattle.prune.proofs.CallerLemmas.{TilingOf, one_part_more}
 use Rattle.empty_cells.specs.Empties.{all_but, has_cell}
 use Rattle.empty_cells.proofs.CallerLemmas.{IsSmall, empty_within, not_without, one_back}
 use Rattle.tiled_pieces.specs.declared.listed.ListedTiling.{ListedTiling}
@@ -31,12 +30,10 @@ unfolding all_but difference with_cells
 left_is E part = sym (fun_ext (λ a. fun_ext (λ b. not_without (E a b) (is_among part.cells (pos a, pos b)))))
 
 -- a tiling with the piece and the parts of a tiling of the rest
-pub record TilingWith (E : Field) (supply : Supply) (part : Part) (parts : List Part) : Type 0 where
-  pub tiling : Tiling (all_but E) 8 supply
-  pub parts_are : tiling.parts ≡ part ∷ parts
-
-pub tiling_with : (E : Field) (supply : Supply) (part : Part) → LiesIn E supply part → (t : Tiling (all_but (left_by_part E part)) 8 (less_one supply part.piece)) → TilingWith E supply part t.parts
-tiling_with E supply part lies t = from (one_part_more (all_but E) 8 part (less_one supply part.piece) lies.generalized (empty_within 8 E part.cells lies.small lies.inside) rest)
+pub tiling_with : (E : Field) (supply : Supply) (part : Part) → LiesIn E supply part → (t : Tiling (all_but (left_by_part E part)) 8 (less_one supply part.piece)) → TilingOf (all_but E) 8 supply (part ∷ t.parts)
+tiling_with E supply part lies t =
+    subst (λ (s : Supply). TilingOf (all_but E) 8 s (part ∷ t.parts)) (one_back supply part.piece lies.some)
+    (one_part_more (all_but E) 8 part (less_one supply part.piece) lies.generalized (empty_within 8 E part.cells lies.small lies.inside) rest)
   where
     rest : Tiling (with_cells (all_but E) part.cells) 8 (less_one supply part.piece)
     rest = record {
@@ -44,17 +41,6 @@ tiling_with E supply part lies t = from (one_part_more (all_but E) 8 part (less_
       generalized = t.generalized;
       covered = subst (λ (F : Field). (cell : Cell) → covers t.parts cell ≡ cond (is_empty_below F 8 cell) 1 0) (left_is E part) t.covered;
       supplied = t.supplied;
-    }
-
-    from : WithPart (all_but E) 8 (less_one supply part.piece) part t.parts → TilingWith E supply part t.parts
-    from more = record {
-      tiling = record {
-        parts = more.tiling.parts;
-        generalized = more.tiling.generalized;
-        covered = more.tiling.covered;
-        supplied = subst (λ (s : Supply). (piece : Piece) → parts_of more.tiling.parts piece ≤ s piece) (one_back supply part.piece lies.some) more.tiling.supplied;
-      };
-      parts_are = more.parts_are;
     }
 
 -- a listed tiling has the piece and all parts of a tiling of the rest
