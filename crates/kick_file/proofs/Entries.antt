@@ -6,11 +6,10 @@ use Rattle.std.proofs.Math.Path.{fun_ext}
 use Rattle.std.proofs.lemmas.Bool.{and_parts}
 use Rattle.srs.specs.declared.piece.Piece.{Piece}
 use Rattle.srs.specs.declared.rotation.Rotation.{Rotation}
-use Rattle.srs.specs.declared.rotation.Rotation.TheVariants.{Spawn, Right, Reverse, Left}
 use Rattle.srs.specs.Cells.{Cell}
 use Rattle.srs.specs.Kick.{Table, table_with, turns_with, is_small_move}
 use Rattle.srs.specs.Piece.{piece_code, piece_with_letter}
-use Rattle.srs.specs.Rotation.{rotation_letter, rotation_place, rotation_with_letter}
+use Rattle.srs.specs.Rotation.{rotation_letter, rotation_place}
 use Rattle.kick_file.specs.declared.fault.KickFault.TheVariants.{RepeatedEntry}
 use Rattle.kick_file.specs.declared.turned.TurnedPiece.{TurnedPiece}
 use Rattle.kick_file.specs.declared.parser_state.ParserState.TheVariants.{Division, Letter, Letters, Columns}
@@ -18,6 +17,7 @@ use Rattle.kick_file.specs.Form.{Entry, SpellsEntry, offset_form, offsets_form, 
 use Rattle.kick_file.specs.Reading.{Reading, reading_at, after_byte, read_on, read_after}
 use Rattle.kick_file.proofs.Steps.{at, Passes, one_byte, both}
 use Rattle.kick_file.proofs.Numbers.{offset_passes, whole}
+use Rattle.srs.proofs.CallerLemmas.{rotation_with_letter-letter}
 
 -- five offsets that are put one after the other are those of an entry
 all_set : (cells : List Cell) (a b c d e : Cell) → length cells ≡ 5 → set (set (set (set (set cells 0 a) 1 b) 2 c) 3 d) 4 e ≡ a ∷ b ∷ c ∷ d ∷ e ∷ []
@@ -63,13 +63,6 @@ with_entry-five table entry entry_five five piece rotation = by (piece_code piec
     by true = entry_five
     by false = five piece rotation
 
--- the letters of an entry
-rotation_read : (rotation : Rotation) → rotation_with_letter (rotation_letter rotation) ≡ Some rotation
-rotation_read Spawn = refl
-rotation_read Right = refl
-rotation_read Reverse = refl
-rotation_read Left = refl
-
 pub letter_step : (given : List TurnedPiece) (table : Table) (place letter : ℕ) (piece : Piece) → piece_with_letter letter ≡ Some piece
     → after_byte (at given table Division) place letter ≡ Ok (at given table (Letter piece place))
 unfolding after_byte
@@ -79,7 +72,7 @@ letters_step : (given : List TurnedPiece) (table : Table) (place start : ℕ) (t
     → after_byte (at given table (Letter turned.piece start)) place (rotation_letter turned.rotation) ≡ reading_at (at given table (Letter turned.piece start)) place (Some (Letters turned start))
 unfolding after_byte
 letters_step given table place start turned =
-    ap (λ r. reading_at (at given table (Letter turned.piece start)) place (option_map (λ q. Letters (record { piece = turned.piece; rotation = q }) start) r)) (rotation_read turned.rotation)
+    ap (λ r. reading_at (at given table (Letter turned.piece start)) place (option_map (λ q. Letters (record { piece = turned.piece; rotation = q }) start) r)) (rotation_with_letter-letter turned.rotation)
 
 -- an entry that stood before is refused at its second letter
 pub repeated_entry : (given : List TurnedPiece) (table : Table) (place letter : ℕ) (turned : TurnedPiece) (rest : List ℕ) → piece_with_letter letter ≡ Some turned.piece

@@ -1,58 +1,34 @@
 -- The pieces and rotations that have an entry.
-use Rattle.std.proofs.Common.{◌≡◌, ℕ, ◌+◌, ◌-◌, ◌*◌, ◌<◌, ◌≤◌, Bool, true, false, not, ◌&&◌, ◌||◌, ◌==◌, eqb, eqb-true, List, [], ◌∷◌, ◌++◌, length, map, refl, sym, ◌∙◌, arith, inl, inr}
+use Rattle.std.proofs.Common.{◌≡◌, ℕ, ◌+◌, ◌-◌, ◌*◌, ◌<◌, ◌≤◌, true, false, not, ◌&&◌, ◌==◌, eqb, eqb-true, List, [], ◌∷◌, ◌++◌, length, map, refl, sym, ◌∙◌, arith, inl, inr}
 use Rattle.std.specs.List.{list_any, IsDistinct, AllByRecursion}
-use Rattle.std.proofs.lemmas.Bool.{and_parts, or_cases}
+use Rattle.std.proofs.lemmas.Bool.{and_parts, or_cases, or_parts, not-true}
 use Rattle.std.proofs.lemmas.Bool.Decides.{nat_tests}
 use Rattle.std.proofs.lemmas.List.{length-map}
 use Rattle.std.proofs.lemmas.List.Folds.{list_any-append}
 use Rattle.std.proofs.lemmas.Map.Steps.{length-le_from_distinct_below}
-use Rattle.srs.specs.declared.piece.Piece.{Piece}
-use Rattle.srs.specs.declared.piece.Piece.TheVariants.{I, L, O, Z, T, J, S}
-use Rattle.srs.specs.declared.rotation.Rotation.{Rotation}
-use Rattle.srs.specs.declared.rotation.Rotation.TheVariants.{Spawn, Right, Reverse, Left}
 use Rattle.srs.specs.Piece.{piece_code}
 use Rattle.srs.specs.Rotation.{rotation_place}
 use Rattle.kick_file.specs.declared.turned.TurnedPiece.{TurnedPiece}
 use Rattle.kick_file.specs.Form.{is_same, is_repeated, are_distinct}
+use Rattle.srs.proofs.CallerLemmas.{piece_code-some, piece_code-small, rotation_place-small}
 
 -- the number of a piece in a rotation, from 0 to 27
 number_of : TurnedPiece → ℕ
 number_of turned = 4 * (piece_code turned.piece - 1) + rotation_place turned.rotation
 
-record IsCode (code : ℕ) : Type 0 where
-  some : 1 ≤ code
-  most : code ≤ 7
-
-piece_code-within : (piece : Piece) → IsCode (piece_code piece)
-piece_code-within I = record { some = omega arith; most = omega arith }
-piece_code-within L = record { some = omega arith; most = omega arith }
-piece_code-within O = record { some = omega arith; most = omega arith }
-piece_code-within Z = record { some = omega arith; most = omega arith }
-piece_code-within T = record { some = omega arith; most = omega arith }
-piece_code-within J = record { some = omega arith; most = omega arith }
-piece_code-within S = record { some = omega arith; most = omega arith }
-
-rotation_place-within : (rotation : Rotation) → rotation_place rotation ≤ 3
-rotation_place-within Spawn = omega arith
-rotation_place-within Right = omega arith
-rotation_place-within Reverse = omega arith
-rotation_place-within Left = omega arith
-
 number_of-within : (turned : TurnedPiece) → number_of turned < 28
 unfolding number_of
 number_of-within turned =
-    let code = piece_code-within turned.piece in
-    omega (arith, code.some, code.most, rotation_place-within turned.rotation)
+    omega (arith, piece_code-some turned.piece, piece_code-small turned.piece, rotation_place-small turned.rotation)
 
-same_numbers : (a b r s : ℕ) → 1 ≤ a → 1 ≤ b → r ≤ 3 → s ≤ 3 → (a == b && r == s) ≡ (4 * (a - 1) + r == 4 * (b - 1) + s)
+same_numbers : (a b r s : ℕ) → 1 ≤ a → 1 ≤ b → r < 4 → s < 4 → (a == b && r == s) ≡ (4 * (a - 1) + r == 4 * (b - 1) + s)
 same_numbers a b r s a-some b-some r-most s-most = grind (arith, nat_tests)
 
 is_same-number : (one other : TurnedPiece) → is_same one other ≡ eqb (number_of one) (number_of other)
 unfolding number_of
 is_same-number one other =
     same_numbers (piece_code one.piece) (piece_code other.piece) (rotation_place one.rotation) (rotation_place other.rotation)
-    (piece_code-within one.piece).some (piece_code-within other.piece).some
-    (rotation_place-within one.rotation) (rotation_place-within other.rotation)
+    (piece_code-some one.piece) (piece_code-some other.piece) (rotation_place-small one.rotation) (rotation_place-small other.rotation)
 
 pub is_same-symmetric : (one other : TurnedPiece) → is_same one other ≡ is_same other one
 is_same-symmetric one other = is_same-number one other ∙ turned_round (number_of one) (number_of other) ∙ sym (is_same-number other one)
@@ -60,27 +36,19 @@ is_same-symmetric one other = is_same-number one other ∙ turned_round (number_
     turned_round : (m n : ℕ) → eqb m n ≡ eqb n m
     turned_round m n = grind (arith, nat_tests)
 
-pub neither : (a b : Bool) → (a || b) ≡ false → (a ≡ false) × (b ≡ false)
-neither true b h = cc
-neither false b h = (refl, h)
-
 apart : (turned : TurnedPiece) (given : List TurnedPiece) → is_repeated given turned ≡ false
     → AllByRecursion (λ n. eqb (number_of turned) n ≡ false) (map number_of given)
 apart turned [] none = tt
 apart turned (other ∷ given) none =
-    let parts = neither (is_same turned other) (is_repeated given turned) none in
+    let parts = or_parts (is_same turned other) (is_repeated given turned) none in
     (sym (is_same-number turned other) ∙ parts.0, apart turned given parts.1)
-
-pub not_true : (b : Bool) → not b ≡ true → b ≡ false
-not_true true h = cc
-not_true false h = refl
 
 numbers_distinct : (given : List TurnedPiece) → are_distinct given ≡ true → IsDistinct eqb (map number_of given)
 unfolding IsDistinct
 numbers_distinct [] distinct = tt
 numbers_distinct (turned ∷ given) distinct =
     let parts = and_parts (not (is_repeated given turned)) (are_distinct given) distinct in
-    (apart turned given (not_true (is_repeated given turned) parts.0), numbers_distinct given parts.1)
+    (apart turned given (not-true (is_repeated given turned) parts.0), numbers_distinct given parts.1)
 
 below : (given : List TurnedPiece) (n : ℕ) → list_any (eqb n) (map number_of given) ≡ true → n < 28
 below [] n has = cc
@@ -103,10 +71,10 @@ pub distinct_more : (given : List TurnedPiece) (turned : TurnedPiece) → are_di
 distinct_more [] turned distinct none = refl
 distinct_more (other ∷ given) turned distinct none =
     let parts = and_parts (not (is_repeated given other)) (are_distinct given) distinct in
-    let apart_from = neither (is_same turned other) (is_repeated given turned) none in
+    let apart_from = or_parts (is_same turned other) (is_repeated given turned) none in
     rw (
       list_any-append (is_same other) given (turned ∷ []),
-      not_true (is_repeated given other) parts.0,
+      not-true (is_repeated given other) parts.0,
       is_same-symmetric other turned ∙ apart_from.0,
       distinct_more given turned parts.1 apart_from.1,
     ) refl

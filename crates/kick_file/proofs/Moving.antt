@@ -1,7 +1,7 @@
 -- Where a text stands after one more byte.
 use Rattle.std.proofs.Common.{◌≡◌, ℕ, ◌+◌, ℤ, Bool, true, false, cond, not, ◌&&◌, ◌==◌, nat_lt, eqb-true, ltb-true, List, [], ◌∷◌, ◌++◌, length, refl, ap, sym, subst, ◌∙◌, arith, Option, Some, None, append_assoc, inl, inr}
 use Rattle.std.specs.Option.{option_map}
-use Rattle.std.proofs.lemmas.Bool.{and_parts, cases_Bool}
+use Rattle.std.proofs.lemmas.Bool.{and_parts, cases_Bool, not-true}
 use Rattle.std.proofs.lemmas.List.{append-nil, length_push, flat_map_more}
 use Rattle.std.proofs.lemmas.Option.{none-some, same_Some, cond_some}
 use Rattle.srs.specs.declared.piece.Piece.{Piece}
@@ -16,7 +16,6 @@ use Rattle.kick_file.specs.declared.parser_state.ParserState.TheVariants.{Beginn
 use Rattle.kick_file.specs.Form.{Entry, signed_digit, offset_form, turned_of, table_of_entries}
 use Rattle.kick_file.specs.Faults.{SpellsBefore}
 use Rattle.kick_file.specs.Reading.{is_small_number, number_with_digit, next_state}
-use Rattle.kick_file.proofs.GivenLemmas.{not_true}
 use Rattle.kick_file.proofs.Entries.{put_from}
 use Rattle.kick_file.proofs.ReadIsSpelled.{one_more_before, ended_offsets, all_small}
 use Rattle.kick_file.proofs.Standing.{Here, Kept, AfterLetter, AfterLetters, Part, WholePart, finished, sign, number_found, rotation_found, small_offset, part_longer, put_more}
@@ -111,7 +110,7 @@ record Signed (byte : ℕ) (is_negative : Bool) : Type 0 where
 signed : (byte : ℕ) (is_negative : Bool) → (byte == 45 && not is_negative) ≡ true → Signed byte is_negative
 signed byte is_negative h =
     let parts = and_parts (byte == 45) (not is_negative) h in
-    record { minus_sign = eqb-true byte 45 parts.0; none = not_true is_negative parts.1 }
+    record { minus_sign = eqb-true byte 45 parts.0; none = not-true is_negative parts.1 }
 
 columns_moved : (text : List ℕ) (byte place : ℕ) (turned : TurnedPiece) (test : ℕ) (is_negative : Bool) (entries : List Entry) (given : List TurnedPiece) (table : Table) (to : ParserState)
     → Part text entries given table turned test (sign is_negative)

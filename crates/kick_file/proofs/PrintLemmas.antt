@@ -7,6 +7,7 @@ use Rattle.std.proofs.lemmas.List.{append-nil, length_push, same_from_push, take
 use Rattle.std.proofs.Math.Seq.{take-append_seam}
 use Rattle.std.proofs.lemmas.List.Folds.{flat_map-map, list_all-map}
 use Rattle.std.proofs.lemmas.Grind.{flat_map-append}
+use Rattle.std.proofs.lemmas.Bool.{and_from}
 use Rattle.srs.specs.declared.piece.Piece.{Piece}
 use Rattle.srs.specs.declared.piece.Piece.TheVariants.{I, L, O, Z, T, J, S}
 use Rattle.srs.specs.declared.rotation.Rotation.{Rotation}
@@ -16,7 +17,7 @@ use Rattle.srs.specs.declared.offset.Offset.{Offset}
 use Rattle.srs.specs.Kick.{Table, IsSmallTable, is_small_move, kick_in, offset_in, pair_of}
 use Rattle.srs.specs.Piece.{all_pieces, piece_letter, piece_with_letter}
 use Rattle.srs.specs.Rotation.{all_rotations}
-use Rattle.srs.proofs.CallerLemmas.{and_both, and_first, and_second, list_all_each}
+use Rattle.srs.proofs.CallerLemmas.{and_first, and_second, list_all_each}
 use Rattle.kick_file.specs.Form.{Entry, SpellsEntries, offset_form, offsets_form, table_of_entries}
 use Rattle.kick_file.specs.Faults.{SpellsTable}
 use Rattle.kick_file.specs.Printed.{entry_form, entry_of, entries_of, table_form}
@@ -246,17 +247,17 @@ small_pair cell small =
     let r = int_le (minus 3) cell.1 in
     let s = int_le cell.1 (pos 3) in
     let front = and_first ((p && q) && r) s small in
-    record { columns = and_first (p && q) r front; rows = and_both r s (and_second (p && q) r front) (and_second ((p && q) && r) s small) }
+    record { columns = and_first (p && q) r front; rows = and_from r s (and_second (p && q) r front) (and_second ((p && q) && r) s small) }
 
 pub short_moves : (cells : List Cell) → list_all is_small_move cells ≡ true → list_all is_short_move cells ≡ true
 short_moves [] small = refl
-short_moves (cell ∷ cells) small = and_both (is_short_move cell) (list_all is_short_move cells) (short cell (and_first (is_small_move cell) (list_all is_small_move cells) small))
+short_moves (cell ∷ cells) small = and_from (is_short_move cell) (list_all is_short_move cells) (short cell (and_first (is_small_move cell) (list_all is_small_move cells) small))
     (short_moves cells (and_second (is_small_move cell) (list_all is_small_move cells) small))
   where
     short : (cell : Cell) → is_small_move cell ≡ true → is_short_move cell ≡ true
     short cell small =
         let both = small_pair cell small in
-        and_both (is_one_digit cell.0) (is_one_digit cell.1) (short_number cell.0 both.columns) (short_number cell.1 both.rows)
+        and_from (is_one_digit cell.0) (is_one_digit cell.1) (short_number cell.0 both.columns) (short_number cell.1 both.rows)
 
 -- kicks are short
 pub kick_short : (table : Table) (piece : Piece) (from to : Rotation) (test : ℕ) → IsSmallTable table → 1 ≤ test → test ≤ 5
@@ -267,6 +268,6 @@ kick_short table piece from to test small first last =
     (list_all_each is_small_move (table piece rotation) (test - 1) nothing (small.small piece rotation) (omega (arith, small.five piece rotation, first, last))) in
     let left = at from in
     let reached = at to in
-    and_both (is_one_digit (kick_in table piece from to test).0) (is_one_digit (kick_in table piece from to test).1)
+    and_from (is_one_digit (kick_in table piece from to test).0) (is_one_digit (kick_in table piece from to test).1)
     (short_difference (offset_in table piece from test).0 (offset_in table piece to test).0 left.columns reached.columns)
     (short_difference (offset_in table piece from test).1 (offset_in table piece to test).1 left.rows reached.rows)

@@ -1,7 +1,7 @@
 -- What a text spells is what is read of it.
 use Rattle.std.proofs.Common.{◌≡◌, ℕ, ◌+◌, ℤ, true, false, not, ◌||◌, ◌==◌, eqb-true, List, [], ◌∷◌, ◌++◌, length, refl, ap, sym, subst, ◌∙◌, arith, Result, Ok, Err, append_assoc, inl, inr}
 use Rattle.std.specs.List.{fold}
-use Rattle.std.proofs.lemmas.Bool.{and_parts, cases_Bool}
+use Rattle.std.proofs.lemmas.Bool.{and_parts, cases_Bool, or_parts, not-true}
 use Rattle.std.proofs.lemmas.List.{length-append, append-nil}
 use Rattle.std.proofs.lemmas.List.Folds.{list_any-append}
 use Rattle.srs.specs.Kick.{Table, srs_table}
@@ -16,7 +16,7 @@ use Rattle.kick_file.specs.Faults.{SpellsBefore, SpellsTable, Repeats}
 use Rattle.kick_file.specs.Reading.{beginning, kick_text, read_on, after_byte}
 use Rattle.kick_file.proofs.Steps.{at}
 use Rattle.kick_file.proofs.Numbers.{whole}
-use Rattle.kick_file.proofs.GivenLemmas.{is_same-symmetric, neither, not_true}
+use Rattle.kick_file.proofs.GivenLemmas.{is_same-symmetric}
 use Rattle.kick_file.proofs.Entries.{HasFive, with_entry-five, repeated_entry, reads_entry}
 
 -- the table of the Super Rotation System has five offsets for each
@@ -28,9 +28,9 @@ distinct_middle : (given : List TurnedPiece) (turned : TurnedPiece) (later : Lis
 distinct_middle [] turned later distinct = refl
 distinct_middle (other ∷ given) turned later distinct =
     let parts = and_parts (not (is_repeated (given ++ turned ∷ later) other)) (are_distinct (given ++ turned ∷ later)) distinct in
-    let apart = neither (is_repeated given other) (is_same other turned || is_repeated later other)
-    (sym (list_any-append (is_same other) given (turned ∷ later)) ∙ not_true (is_repeated (given ++ turned ∷ later) other) parts.0) in
-    let first = neither (is_same other turned) (is_repeated later other) apart.1 in
+    let apart = or_parts (is_repeated given other) (is_same other turned || is_repeated later other)
+    (sym (list_any-append (is_same other) given (turned ∷ later)) ∙ not-true (is_repeated (given ++ turned ∷ later) other) parts.0) in
+    let first = or_parts (is_same other turned) (is_repeated later other) apart.1 in
     rw (is_same-symmetric turned other ∙ first.0) (distinct_middle given turned later parts.1)
 
 joined : (given : List TurnedPiece) (turned : TurnedPiece) (later : List TurnedPiece) → are_distinct (given ++ turned ∷ later) ≡ true
