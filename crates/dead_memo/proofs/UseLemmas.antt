@@ -1,31 +1,13 @@
 -- What a look-up, a promotion and a put do to the list of what the entries are seen as.
-use Rattle.std.proofs.Common.{◌≡◌, ℕ, zero, suc, ◌-◌, Bool, true, false, List, [], ◌∷◌, ◌++◌, map, take, All, Contains, Decides, Some, None, is_some, refl, sym, ap, subst, ◌∙◌, ◌⊎◌, inl, inr, true≢false, arith}
+use Rattle.std.proofs.Common.{◌≡◌, ℕ, ◌-◌, Bool, true, false, List, [], ◌∷◌, ◌++◌, map, take, All, Contains, Decides, Some, None, is_some, refl, sym, ap, subst, ◌∙◌, ◌⊎◌, inl, inr, true≢false, arith}
 use Rattle.std.specs.Option.{option_map_or}
 use Rattle.std.specs.Map.{lookup, lookup_entry, remove_entry}
 use Rattle.std.proofs.lemmas.Bool.{cases_Bool, cond-true, cond-false, false≢true}
 use Rattle.std.proofs.lemmas.List.Elements.{All-cons, All-head, All-tail, All-take}
+use Rattle.std.proofs.lemmas.List.{map-append, take-map}
 use Rattle.lru.specs.LruCache.{LruCache, promoted, put_entries}
 use Rattle.dead_memo.specs.Use.{IsUsed, IsNoted, again, new}
-
--- an element of a list is the first or one of the others
-contains-cases : {X : Type 0} (x : X) (xs : List X) (y : X) → Contains (x ∷ xs) y → (x ≡ y) ⊎ Contains xs y
-contains-cases x xs y (zero, below, is) = inl is
-contains-cases x xs y (suc k, below, is) = inr (k, omega arith, is)
-
-contains-first : {X : Type 0} (x : X) (xs : List X) (y : X) → x ≡ y → Contains (x ∷ xs) y
-contains-first x xs y is = (0, omega arith, is)
-
-contains-later : {X : Type 0} (x : X) (xs : List X) (y : X) → Contains xs y → Contains (x ∷ xs) y
-contains-later x xs y (k, below, is) = (suc k, omega arith, is)
-
-map-append : {X Y : Type 0} (f : X → Y) (xs ys : List X) → map f (xs ++ ys) ≡ map f xs ++ map f ys
-map-append f [] ys = refl
-map-append f (x ∷ xs) ys = ap (λ zs. f x ∷ zs) (map-append f xs ys)
-
-map-take : {X Y : Type 0} (f : X → Y) (n : ℕ) (xs : List X) → map f (take n xs) ≡ take n (map f xs)
-map-take f zero xs = refl
-map-take f (suc n) [] = refl
-map-take f (suc n) (x ∷ xs) = ap (λ ys. f x ∷ ys) (map-take f n xs)
+use Rattle.srs.proofs.CallerLemmas.{Contains-cases, Contains-here, Contains-there}
 
 -- what holds of each element holds of each after a use, and after something is noted of which it holds
 all_split : {X : Type 0} (P : X → Type 0) (front : List X) (x : X) (back : List X) → All P (front ++ x ∷ back) → P x × All P (front ++ back)
@@ -89,7 +71,7 @@ module _ {K V Q : Type 0} (eq : K → K → Bool) (see : K → Q) (decides : (a 
           removed = cond-false _ _ _ other ∙ ap (λ rest. e ∷ rest) f.removed;
         })
         | inr a ↦ inr (record {
-          none = λ has. elim (contains-cases (see e.0) (seen es) (see k) has) [
+          none = λ has. elim (Contains-cases (see e.0) (seen es) (see k) has) [
             | inl same ↦ true≢false (sym ((decides k e.0).1 (sym same)) ∙ other)
             | inr later ↦ a.none later
           ];
@@ -103,8 +85,8 @@ module _ {K V Q : Type 0} (eq : K → K → Bool) (see : K → Q) (decides : (a 
     contains_found es f = subst (λ qs. Contains qs (see k)) (sym (ap seen f.was)) (at f.front)
       where
         at : (front : List (K × V)) → Contains (seen (front ++ f.entry ∷ f.back)) (see k)
-        at [] = contains-first (see f.entry.0) (seen f.back) (see k) f.same
-        at (e ∷ es) = contains-later (see e.0) (seen (es ++ f.entry ∷ f.back)) (see k) (at es)
+        at [] = subst (Contains (see f.entry.0 ∷ seen f.back)) f.same (Contains-here (see f.entry.0) (seen f.back))
+        at (e ∷ es) = Contains-there (see e.0) (seen (es ++ f.entry ∷ f.back)) (see k) (at es)
 
     -- the look-up finds something exactly where what the key is seen as is among what the entries are seen as
     pub found_kept : (es : List (K × V)) → Decides (is_some (lookup (eq k) es)) (Contains (seen es) (see k))
@@ -137,5 +119,5 @@ module _ {K V Q : Type 0} (eq : K → K → Bool) (see : K → Q) (decides : (a 
     pub noted_kept : (c : LruCache K V) (v : V) → IsNoted c.cap (seen c.entries) (see k) (seen (put_entries eq c k v))
     noted_kept c v = elim (look c.entries) [
       | inl f ↦ again (subst (λ o. IsUsed (seen c.entries) (see k) (seen (option_map_or (λ e. (e.0, v) ∷ remove_entry (eq k) c.entries) o ((k, v) ∷ take (c.cap - 1) c.entries)))) (sym f.looked_up) (used c.entries f v))
-      | inr a ↦ new a.none (ap (λ o. seen (option_map_or (λ e. (e.0, v) ∷ remove_entry (eq k) c.entries) o ((k, v) ∷ take (c.cap - 1) c.entries))) a.looked_up ∙ ap (λ rest. see k ∷ rest) (map-take (λ e. see e.0) (c.cap - 1) c.entries))
+      | inr a ↦ new a.none (ap (λ o. seen (option_map_or (λ e. (e.0, v) ∷ remove_entry (eq k) c.entries) o ((k, v) ∷ take (c.cap - 1) c.entries))) a.looked_up ∙ ap (λ rest. see k ∷ rest) (sym (take-map (λ e. see e.0) (c.cap - 1) c.entries)))
     ]
