@@ -18,13 +18,14 @@ use Rattle.moves.specs.Keys.{allows}
 use Rattle.moves.specs.Step.{state_at, first_free, shifted, turned, step_of}
 use Rattle.moves.specs.Walk.{led}
 use Rattle.moves.specs.Leads.{spawn_of, spawned, state_after}
-use Rattle.moves.proofs.CallerLemmas.{some_same, not_some, led_none}
+use Rattle.moves.proofs.CallerLemmas.{not_some, led_none}
 use Rattle.place_sets.specs.States.{States, has_state, has_pivot, no_states}
 use Rattle.whole_flood.specs.Started.{started}
 use Rattle.whole_flood.specs.Opened.{IsFreeMap}
 use Rattle.whole_flood.specs.Flood.{Ground, IsReached, first_in, shifted_in, turned_in, step_in}
 use Rattle.place_sets.proofs.CallerLemmas.{ChangedIn, with_cases, with_here}
 use Rattle.whole_flood.proofs.ReachedLemmas.{step_in-kind}
+use Rattle.srs.proofs.CallerLemmas.{some_same}
 
 -- where the free states are those of a field, a step is a step
 first_same : (F : Field) (free : States) (piece : Piece) (r : Rotation) (pivots : List Cell) → IsFreeMap F piece free → first_in free piece r pivots ≡ first_free F piece r pivots

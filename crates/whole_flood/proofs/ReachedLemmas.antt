@@ -16,10 +16,11 @@ use Rattle.moves.specs.declared.key.Key.TheVariants.{Left, Right, Down, Clockwis
 use Rattle.moves.specs.Keys.{allows}
 use Rattle.moves.specs.Step.{state_at}
 use Rattle.moves.specs.Walk.{led}
-use Rattle.moves.proofs.CallerLemmas.{some_same, not_some, led_none}
+use Rattle.moves.proofs.CallerLemmas.{not_some, led_none}
 use Rattle.place_sets.specs.States.{States, has_state, has_pivot, states_with}
 use Rattle.whole_flood.specs.Flood.{Ground, IsReached, AreReached, IsLeftWithin, first_in, shifted_in, turned_in, step_in}
 use Rattle.place_sets.proofs.CallerLemmas.{state_of, ChangedIn, with_cases, pivot_at, PivotAt}
+use Rattle.srs.proofs.CallerLemmas.{some_same}
 
 -- one more key
 pub one_more : (ground : Ground) (start : States) (s : Placement) (key : Key) (t : Placement) → IsReached ground start s → IsTrue (allows ground.mode key) → step_in ground.table ground.free s key ≡ Some t → IsReached ground start t

@@ -14,12 +14,13 @@ use Rattle.moves.specs.declared.key.DropMode.{DropMode}
 use Rattle.moves.specs.declared.key.DropMode.TheVariants.{Soft, Hard}
 use Rattle.moves.specs.Keys.{allows}
 use Rattle.moves.specs.Step.{state_at}
-use Rattle.moves.proofs.CallerLemmas.{some_same, not_some}
+use Rattle.moves.proofs.CallerLemmas.{not_some}
 use Rattle.place_sets.specs.States.{States, has_pivot}
 use Rattle.place_sets.specs.Shifts.{sideways, lower, neighbours, widened, widened_by, IsSpread}
 use Rattle.whole_flood.specs.Flood.{shifts_in, Ground, IsReached, first_in, shifted_in, step_in}
 use Rattle.place_sets.proofs.CallerLemmas.{LiesWithin, MovedFrom, moved_from, moved_to, state_of, PivotAt, pivot_at, has_pivot-at, still-has, widened-from}
 use Rattle.whole_flood.proofs.ReachedLemmas.{FieldReached, one_more}
+use Rattle.srs.proofs.CallerLemmas.{some_same}
 
 -- how a key moves the pivot within a rotation
 pub record Shifted (table : Table) (mode : DropMode) (S : Field) (x y : ℕ) : Type 0 where

@@ -8,11 +8,12 @@ use Rattle.srs.specs.declared.rotation.Rotation.{Rotation}
 use Rattle.srs.specs.declared.placement.Placement.{Placement}
 use Rattle.srs.specs.Cells.{Cell, moved}
 use Rattle.moves.specs.Step.{state_at}
-use Rattle.moves.proofs.CallerLemmas.{some_same, not_some}
+use Rattle.moves.proofs.CallerLemmas.{not_some}
 use Rattle.place_sets.specs.States.{States, has_pivot}
 use Rattle.whole_flood.specs.Flood.{first_in}
 use Rattle.whole_flood.specs.Kicks.{kicked_to, left_by, turned_from}
 use Rattle.place_sets.proofs.CallerLemmas.{LiesWithin, moved_from, moved_to, moved_back, moved_forth, state_of, PivotAt, pivot_at, has_pivot-at}
+use Rattle.srs.proofs.CallerLemmas.{some_same}
 
 module _ (free : States) (N : ℕ) (piece : Piece) (to : Rotation) (lies : LiesWithin (free to) N) where
   -- a pivot of the set that the tests take to a cell
