@@ -72,6 +72,14 @@ impl Well {
         self.board
     }
 
+    /// The same board, without a copy.
+    #[inline(always)]
+    pub fn as_board(&self) -> &LaneBoard<24>
+        ensures { field_of result.now ≡ filled self.now }
+    {
+        &self.board
+    }
+
     /// The well that a rows text spells: rows from the top one down to row 0, separated by `/`, each of ten characters.
     /// `_` and `.` are empty cells; `X` and the letters of the pieces, in either case, are filled ones. The empty text
     /// has no rows. Rows above those that are written are empty. A refusal is the first fault from the left.
