@@ -1,11 +1,12 @@
 -- The canonical placements that rest under an open sky are the places of a hard drop.
-use Rattle.std.proofs.Common.{◌≡◌, ◌↔◌, ℕ, ◌+◌, ◌<◌, ◌≤◌, true, pos, ◌+ℤ◌, refl, sym, ap, subst, ◌∙◌, inl, inr, arith}
-use Rattle.std.specs.Prelude.{neg_ℤ}
+use Rattle.std.proofs.Common.{◌≡◌, ◌↔◌, ℕ, ◌+◌, ◌<◌, ◌≤◌, ◌≤ℤ◌, true, pos, ◌+ℤ◌, refl, sym, ap, subst, ◌∙◌, inl, inr, arith}
+use Rattle.std.specs.Prelude.{neg_ℤ, Bool, false, if◌then◌else◌}
 use Rattle.std.proofs.lemmas.Int.{ints}
 use Rattle.std.proofs.lemmas.Bool.{and_parts, and_from, cases_Bool, cond-true, cond-false, false≢true}
-use Rattle.lane_board.specs.Field.{Field, empty_field, intersection, difference, rows_below}
+use Rattle.lane_board.specs.Field.{Field, empty_field, intersection, difference, moved_within, rows_below}
 use Rattle.srs.specs.declared.piece.Piece.{Piece}
 use Rattle.srs.specs.declared.rotation.Rotation.{Rotation}
+use Rattle.srs.specs.declared.rotation.Rotation.TheVariants.{Spawn, Right, Reverse, Left}
 use Rattle.srs.specs.declared.placement.Placement.{Placement}
 use Rattle.srs.specs.Cells.{Cell, moved, shape, pivot_of}
 use Rattle.srs.specs.Kick.{srs_table}
@@ -18,10 +19,12 @@ use Rattle.moves.specs.RestingStates.{IsResting, IsRestWhere}
 use Rattle.moves.specs.Lanes.{lowest, lane}
 use Rattle.moves.proofs.CallerLemmas.{hard_places, lowest_near, near, rest_lane, sky_free}
 use Rattle.low_flood.specs.LaneMap.{free_lanes, resting_lanes}
-use Rattle.low_flood.specs.LanePlaces.{lane_pivots, has_own_cells, hard_board}
+use Rattle.low_flood.specs.LanePlaces.{IsCut, lane_pivots, has_own_cells, hard_board}
+use Rattle.place_sets.specs.States.{HasExactly, IsUnder, States, has_state}
 use Rattle.low_flood.specs.SkyBoard.{IsLaneMap, inside_lanes, sky_board}
 use Rattle.low_flood.proofs.ClassLemmas.{rests_same, sky_same}
-use Rattle.place_sets.proofs.CallerLemmas.{LiesWithin, moved_from, moved_to}
+use Rattle.lane_board.proofs.CallerLemmas.{same_from_both}
+use Rattle.place_sets.proofs.CallerLemmas.{LiesWithin, moved_from, moved_to, same_fields}
 use Rattle.low_flood.proofs.LaneMaps.{free_lanes-exact, from_rows, in_rows, resting_lanes-exact}
 use Rattle.low_flood.proofs.LaneTurns.{free_lane}
 use Rattle.low_flood.proofs.SkyBoards.{sky_board-exact}
@@ -31,6 +34,35 @@ pub record HasPlace (S : Field) (s : Placement) : Type 0 where
   pub y : ℕ
   pub at : lane s ≡ pos y
   pub held : S s.x y ≡ true
+
+pub cut_of_none : (row : ℕ) → empty_field ≡ intersection empty_field (rows_below row)
+unfolding empty_field intersection
+cut_of_none row = refl
+
+-- the rows from row M on may be cut off before the cells are moved up, too
+pub cut_before : (piece : Piece) (rotation : Rotation) (M : ℕ) (S : Field) → M ≤ 24 → pos 0 ≤ℤ neg_ℤ (lowest (shape piece rotation)) →
+    moved_within (intersection S (rows_below M)) M (pos 0) (neg_ℤ (lowest (shape piece rotation))) ≡ intersection (lane_pivots piece rotation S) (rows_below M)
+unfolding lane_pivots intersection moved moved_within
+cut_before piece rotation M S few rises = same_fields _ _ (λ x y. same_from_both _ _ (there x y) (back x y))
+  where
+    there : (x y : ℕ) → moved_within (intersection S (rows_below M)) M (pos 0) (neg_ℤ (lowest (shape piece rotation))) x y ≡ true → intersection (lane_pivots piece rotation S) (rows_below M) x y ≡ true
+    there x y held =
+        let way = moved_from (intersection S (rows_below M)) M (pos 0, neg_ℤ (lowest (shape piece rotation))) x y held in
+        let parts = and_parts (S way.from_x way.from_y) _ way.filled in
+        let from = from_rows M way.from_x way.from_y parts.1 in
+        let place = from_rows M x y (and_parts (rows_below M x y) _ held).0 in
+        and_from _ _ (moved_to (intersection S (rows_below 24)) 24 (pos 0, neg_ℤ (lowest (shape piece rotation))) way.from_x way.from_y x y (and_from _ _ parts.0 (in_rows 24 _ _ from.0 (omega (arith, from.1)))) way.there place.0 (omega (arith, place.1))) (in_rows M x y place.0 place.1)
+
+    back : (x y : ℕ) → intersection (lane_pivots piece rotation S) (rows_below M) x y ≡ true → moved_within (intersection S (rows_below M)) M (pos 0) (neg_ℤ (lowest (shape piece rotation))) x y ≡ true
+    back x y held =
+        let both = and_parts (lane_pivots piece rotation S x y) _ held in
+        let place = from_rows M x y both.1 in
+        let way = moved_from (intersection S (rows_below 24)) 24 (pos 0, neg_ℤ (lowest (shape piece rotation))) x y both.0 in
+        let parts = and_parts (S way.from_x way.from_y) _ way.filled in
+        let e : pos way.from_y +ℤ (neg_ℤ (lowest (shape piece rotation))) ≡ pos y = ap (λ (c : Cell). c.1) way.there in
+        let from = from_rows 24 way.from_x way.from_y parts.1 in
+        let low : way.from_y < M = omega (arith, ints, place.1, rises) in
+        moved_to (intersection S (rows_below M)) M (pos 0, neg_ℤ (lowest (shape piece rotation))) way.from_x way.from_y x y (and_from _ _ parts.0 (in_rows M _ _ from.0 low)) way.there place.0 place.1
 
 pub lane_pivots-from : (S : Field) (q : Placement) → lane_pivots q.piece q.rotation S q.x q.y ≡ true → HasPlace S q
 unfolding lane_pivots intersection moved
@@ -54,6 +86,41 @@ lane_pivots-to S N q few lies here =
     let e : pos here.y +ℤ neg_ℤ (lowest (shape q.piece q.rotation)) ≡ pos q.y = omega (arith, ints) in
     let top : q.y < 24 = omega (arith, ints, place.1) in
     moved_to (intersection S (rows_below 24)) 24 (pos 0, up) q.x here.y q.x q.y (and_from (S q.x here.y) _ here.held (in_rows 24 q.x here.y place.0 (omega (arith, place.1)))) (λ i. (p i, e i)) place.0 top
+
+pub pivots_within : (piece : Piece) (rotation : Rotation) (S : Field) → LiesWithin (lane_pivots piece rotation S) 24
+unfolding lane_pivots moved_within
+pivots_within piece rotation S = record { inside = λ x y held. from_rows 24 x y (and_parts (rows_below 24 x y) _ held).0 }
+
+pub own_within : (own : Bool) (F : Field) → LiesWithin F 24 → LiesWithin (if own then F else empty_field) 24
+unfolding empty_field
+own_within true F lies = lies
+own_within false F lies = record { inside = λ x y held. absurd (false≢true held) }
+
+pub each_cut : (M : ℕ) (S T : States) → T Spawn ≡ intersection (S Spawn) (rows_below M) → T Right ≡ intersection (S Right) (rows_below M)
+    → T Reverse ≡ intersection (S Reverse) (rows_below M) → T Left ≡ intersection (S Left) (rows_below M) → IsCut M S T
+each_cut M S T spawn right reverse left = record { each = each }
+  where
+    each : (r : Rotation) → T r ≡ intersection (S r) (rows_below M)
+    each Spawn = spawn
+    each Right = right
+    each Reverse = reverse
+    each Left = left
+
+-- what is cut off leaves the states below row M
+pub cut_exact : (M : ℕ) (P : Placement → Type 0) (piece : Piece) (S T : States) → ((rotation : Rotation) → LiesWithin (S rotation) 24) → HasExactly P piece S → IsCut M S T → HasExactly (IsUnder M P) piece T
+unfolding has_state intersection
+cut_exact M P piece S T lies are cut = record { exact = each }
+  where
+    each : (q : Placement) → q.piece ≡ piece → (has_state T q ≡ true) ↔ IsUnder M P q
+    each q kind = (
+      λ held.
+          let parts = and_parts (S q.rotation q.x q.y) _ (sym (ap (λ (F : Field). F q.x q.y) (cut.each q.rotation)) ∙ held) in
+          record { below = (from_rows M q.x q.y parts.1).1; is = (are.exact q kind).0 parts.0 },
+      λ under.
+          let has = (are.exact q kind).1 under.is in
+          let place = (lies q.rotation).inside q.x q.y has in
+          ap (λ (F : Field). F q.x q.y) (cut.each q.rotation) ∙ and_from _ _ has (in_rows M q.x q.y place.0 under.below),
+    )
 
 -- the free places lie on the lanes, and what rests among places does so too
 pub free_within : (piece : Piece) (rotation : Rotation) (N : ℕ) (F : Field) → LiesWithin (free_lanes piece rotation N F) N
@@ -132,3 +199,7 @@ module _ (F : Field) (r N : ℕ) (clear : IsClearFrom r F) (over : r + 2 ≤ N) 
           let held = (rests_in_sky at.0 at.1 at.2).1 (rests, sky_same F found.state q found.same_cells found.holds) in
           ap (λ (G : Field). G q.x q.y) (cond-true _ board empty_field (is_canonical-from q found.canonical))
           ∙ lane_pivots-to (resting_lanes N free sky) N q few (resting_within N free sky (sky_within q.piece q.rotation N free)) (record { y = at.0; at = at.1; held = held })
+
+pub hard_within : (piece : Piece) (N : ℕ) (F : Field) (rotation : Rotation) → LiesWithin (hard_board piece N F rotation) 24
+unfolding hard_board
+hard_within piece N F rotation = own_within (has_own_cells piece rotation) _ (pivots_within piece rotation _)

@@ -2,6 +2,7 @@
 mod SkyBoards
 mod LaneTurns
 mod LaneClosed
+pub mod CallerLemmas
 mod ClassLemmas
 mod LaneMaps
 mod LanePlaceLemmas

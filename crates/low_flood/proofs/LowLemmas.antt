@@ -1,20 +1,25 @@
 -- A field of few rows lies whole on a board of few lanes.
 use Rattle.std.proofs.Common.{◌≡◌, ◌↔◌, ℕ, ◌+◌, ◌<◌, ◌≤◌, Bool, true, sym, ap, subst, ◌∙◌, inl, inr, arith}
 use Rattle.std.specs.Prelude.{IsTrue}
+use Rattle.std.proofs.lemmas.Int.{ints}
 use Rattle.std.proofs.lemmas.Bool.{and_parts, and_from, cases_lt, both_ways, not-true, not_from_false, false_from_ne_true}
 use Rattle.lane_board.specs.Field.{Field, empty_field, intersection, difference, rows_below}
 use Rattle.lane_board.proofs.CallerLemmas.{same_from_both}
 use Rattle.srs.specs.declared.piece.Piece.{Piece}
 use Rattle.srs.specs.declared.placement.Placement.{Placement}
 use Rattle.srs.specs.Kick.{srs_table}
+use Rattle.moves.specs.declared.key.DropMode.{DropMode}
 use Rattle.moves.specs.declared.key.DropMode.TheVariants.{Soft, Hard}
 use Rattle.moves.specs.Place.{IsPlace}
 use Rattle.moves.specs.Sky.{IsClearFrom}
-use Rattle.low_flood.specs.LanePlaces.{hard_board}
-use Rattle.place_sets.specs.States.{HasExactly, States, has_state}
+use Rattle.moves.specs.RestingStates.{IsRestWhere}
+use Rattle.moves.proofs.CallerLemmas.{hard_places, lowest_near, rest_lane, soft_places}
+use Rattle.low_flood.proofs.ClassLemmas.{rests_same}
+use Rattle.low_flood.specs.LanePlaces.{IsCut, hard_board}
+use Rattle.place_sets.specs.States.{HasExactly, IsUnder, States, has_state}
 use Rattle.place_sets.proofs.CallerLemmas.{LiesWithin, same_fields}
 use Rattle.low_flood.proofs.LaneMaps.{in_rows, from_rows}
-use Rattle.low_flood.proofs.LanePlaceLemmas.{hard_held}
+use Rattle.low_flood.proofs.LanePlaceLemmas.{cut_exact, hard_held, hard_within}
 
 -- a field is clear from a row on where it has no cell but below that row
 pub clear_by : (F rows rest : Field) (row : ℕ) (empty : Bool) → ((x y : ℕ) → F x y ≡ true → (x < 10) × (y < 24)) → rows ≡ rows_below row → rest ≡ difference F rows → (IsTrue empty ↔ (rest ≡ empty_field)) → IsTrue empty ↔ IsClearFrom row F
@@ -58,18 +63,19 @@ low_within F r N clear few lies = record {
       (place.0, elim (cases_lt y N) [ inl low ↦ low | inr high ↦ absurd (both_ways _ (clear.clear x y (omega arith)) filled) ]);
 }
 
-pub hard_by : (r N : ℕ) (F B : Field) (piece : Piece) (S : States) → IsClearFrom r F → r + 2 ≤ N → N ≤ 16 → LiesWithin F 24 → B ≡ intersection F (rows_below N) → S ≡ hard_board piece N B → HasExactly (IsPlace srs_table F Hard) piece S
+pub hard_by : (r N M : ℕ) (F B : Field) (piece : Piece) (S : States) → IsClearFrom r F → r + 2 ≤ N → N ≤ 16 → LiesWithin F 24 → B ≡ intersection F (rows_below N) → IsCut M (hard_board piece N B) S → HasExactly (IsUnder M (IsPlace srs_table F Hard)) piece S
 unfolding has_state
-hard_by r N F B piece S clear over few lies is_board is = record { exact = each }
+hard_by r N M F B piece S clear over few lies is_board cut =
+    cut_exact M (IsPlace srs_table F Hard) piece (hard_board piece N B) S (hard_within piece N B) (record { exact = each }) cut
   where
     same : B ≡ F
     same = is_board ∙ low_field F r N clear (omega arith) lies
 
-    each : (q : Placement) → q.piece ≡ piece → (has_state S q ≡ true) ↔ IsPlace srs_table F Hard q
+    each : (q : Placement) → q.piece ≡ piece → (has_state (hard_board piece N B) q ≡ true) ↔ IsPlace srs_table F Hard q
     each q kind =
         let law = hard_held F r N clear over few (low_within F r N clear (omega arith) lies) q in
-        let e : hard_board q.piece N F q.rotation q.x q.y ≡ has_state S q =
-        ap (λ (p : Piece). hard_board p N F q.rotation q.x q.y) kind ∙ ap (λ (G : Field). hard_board piece N G q.rotation q.x q.y) (sym same) ∙ ap (λ (T : States). T q.rotation q.x q.y) (sym is) in
+        let e : hard_board q.piece N F q.rotation q.x q.y ≡ hard_board piece N B q.rotation q.x q.y =
+        ap (λ (p : Piece). hard_board p N F q.rotation q.x q.y) kind ∙ ap (λ (G : Field). hard_board piece N G q.rotation q.x q.y) (sym same) in
         (λ held. law.0 (e ∙ held), λ place. sym e ∙ law.1 place)
 
 -- on the lanes it is the same field
@@ -77,5 +83,22 @@ pub lanes_clear : (r top N : ℕ) (F B : Field) → IsClearFrom r F → r ≤ to
 lanes_clear r top N F B clear low few lies is_board =
     subst (IsClearFrom top) (sym (is_board ∙ low_field F r N clear few lies)) (record { clear = λ x y high. clear.clear x y (omega arith) })
 
-pub soft_places_by : (r N : ℕ) (F B : Field) (piece : Piece) (S : States) → IsClearFrom r F → r ≤ N → LiesWithin F 24 → B ≡ intersection F (rows_below N) → HasExactly (IsPlace srs_table B Soft) piece S → HasExactly (IsPlace srs_table F Soft) piece S
-soft_places_by r N F B piece S clear few lies is_board are = subst (λ (F : Field). HasExactly (IsPlace srs_table F Soft) piece S) (is_board ∙ low_field F r N clear few lies) are
+pub soft_places_by : (r N M : ℕ) (F B : Field) (piece : Piece) (S : States) → IsClearFrom r F → r ≤ N → LiesWithin F 24 → B ≡ intersection F (rows_below N) → HasExactly (IsUnder M (IsPlace srs_table B Soft)) piece S → HasExactly (IsUnder M (IsPlace srs_table F Soft)) piece S
+soft_places_by r N M F B piece S clear few lies is_board are = subst (λ (F : Field). HasExactly (IsUnder M (IsPlace srs_table F Soft)) piece S) (is_board ∙ low_field F r N clear few lies) are
+
+-- a placement rests low in a low field
+rest_low : (F : Field) (P : Placement → Type 0) (q : Placement) → IsClearFrom 8 F → IsRestWhere F P q → q.y < 24
+rest_low F P q clear found =
+    let low = rest_lane F 8 clear q (rests_same F found.state q found.same_cells found.rests) in
+    let near = lowest_near q.piece q.rotation in
+    omega (arith, ints)
+
+pub place_low : (F : Field) (mode : DropMode) (q : Placement) → IsClearFrom 8 F → IsPlace srs_table F mode q → q.y < 24
+place_low F Soft q clear place = rest_low F _ q clear ((soft_places srs_table F q).0 place)
+place_low F Hard q clear place = rest_low F _ q clear ((hard_places F 8 q clear (omega arith)).0 place)
+
+-- so all places have the pivot below row 24
+pub places_under : (F : Field) (mode : DropMode) (piece : Piece) (S : States) → IsClearFrom 8 F → HasExactly (IsUnder 24 (IsPlace srs_table F mode)) piece S → HasExactly (IsPlace srs_table F mode) piece S
+places_under F mode piece S clear are = record {
+  exact = λ q kind. (λ held. ((are.exact q kind).0 held).is, λ place. (are.exact q kind).1 (record { below = place_low F mode q clear place; is = place }));
+}

@@ -27,16 +27,16 @@ use Rattle.moves.specs.RestingStates.{IsResting, IsKeyed}
 use Rattle.moves.specs.Lanes.{lowest, lane}
 use Rattle.moves.proofs.CallerLemmas.{soft_places, rest_lane, keyed_in}
 use Rattle.low_flood.specs.LaneFlood.{Lanes, IsInLanes, IsLanesClosed}
-use Rattle.low_flood.specs.LanePlaces.{lane_pivots, has_own_cells}
+use Rattle.low_flood.specs.LanePlaces.{IsCut, lane_pivots, has_own_cells}
 use Rattle.low_flood.specs.LaneTurns.{arrivals}
-use Rattle.place_sets.specs.States.{HasExactly, has_state}
+use Rattle.place_sets.specs.States.{HasExactly, IsUnder, has_state}
 use Rattle.low_flood.specs.SkyBoard.{IsLaneMap}
 use Rattle.low_flood.specs.SoftLanes.{free_boards, skies, places_of, rests_in, soft_board, HaveAllRests, AreSpread, IsTurnedInto, IsRound, Rounds, IsSoftFlood}
 use Rattle.low_flood.proofs.ClassLemmas.{class_lane, rests_same}
 use Rattle.place_sets.proofs.CallerLemmas.{LiesWithin}
 use Rattle.low_flood.proofs.LaneClosed.{lanes_flood}
 use Rattle.low_flood.proofs.LaneMaps.{free_lanes-exact, resting_lanes-exact, free_here}
-use Rattle.low_flood.proofs.LanePlaceLemmas.{lane_pivots-from, lane_pivots-to, free_within, resting_within}
+use Rattle.low_flood.proofs.LanePlaceLemmas.{cut_exact, lane_pivots-from, lane_pivots-to, free_within, own_within, pivots_within, resting_within}
 use Rattle.low_flood.proofs.LaneSound.{IsAt, IsSoundBoard, state_at_place, spread_sound, union_sound, sky_sound, arrivals_sound}
 use Rattle.low_flood.proofs.LaneTurns.{free_lane, clockwise_low, anti_low, is_low_move}
 use Rattle.low_flood.proofs.SoftLemmas.{begun_grows, round_closes, sky_is_free, IsPlaceOf, places_of-from, places_of-has, in_rotation}
@@ -248,18 +248,18 @@ module _ (F : Field) (rows N : ℕ) (clear : IsClearFrom rows F) (over : rows + 
     pub soft_held : (soft_board piece N free S q.rotation q.x q.y ≡ true) ↔ IsPlace srs_table F Soft q
     soft_held = (there, back)
 
-pub soft_by : (F : Field) (N : ℕ) (piece : Piece) (free S H : Lanes) → IsClearFrom (N - 2) F → 8 ≤ N → N ≤ 16 → LiesWithin F N → free ≡ free_boards piece N F → IsSoftFlood piece N free S → H ≡ soft_board piece N free S → HasExactly (IsPlace srs_table F Soft) piece H
+pub soft_within : (piece : Piece) (N : ℕ) (free S : Lanes) (rotation : Rotation) → LiesWithin (soft_board piece N free S rotation) 24
+unfolding soft_board
+soft_within piece N free S rotation = own_within (has_own_cells piece rotation) _ (pivots_within piece rotation _)
+
+pub soft_by : (F : Field) (N M : ℕ) (piece : Piece) (free S T : Lanes) → IsClearFrom (N - 2) F → 8 ≤ N → N ≤ 16 → LiesWithin F N → free ≡ free_boards piece N F → IsSoftFlood piece N free S → IsCut M (soft_board piece N free S) T → HasExactly (IsUnder M (IsPlace srs_table F Soft)) piece T
 unfolding has_state free_boards
-soft_by F N piece free S H clear many few lies is_free flood is = record { exact = each }
+soft_by F N M piece free S T clear many few lies is_free flood cut =
+    cut_exact M (IsPlace srs_table F Soft) piece (soft_board piece N free S) T (soft_within piece N free S)
+    (record { exact = λ q kind. soft_held F (N - 2) N clear (omega arith) few piece free maps inside S flood q kind }) cut
   where
     maps : (r : Rotation) → IsLaneMap F piece (canonical_rotation piece r) N (free r)
     maps r = subst (λ (B : Lanes). IsLaneMap F piece (canonical_rotation piece r) N (B r)) (sym is_free) (free_lanes-exact F N lies few piece (canonical_rotation piece r))
 
     inside : (r : Rotation) → LiesWithin (free r) N
     inside r = subst (λ (B : Lanes). LiesWithin (B r) N) (sym is_free) (free_within piece (canonical_rotation piece r) N F)
-
-    each : (q : Placement) → q.piece ≡ piece → (H q.rotation q.x q.y ≡ true) ↔ IsPlace srs_table F Soft q
-    each q kind =
-        let law = soft_held F (N - 2) N clear (omega arith) few piece free maps inside S flood q kind in
-        let e : H q.rotation q.x q.y ≡ soft_board piece N free S q.rotation q.x q.y = ap (λ (T : Lanes). T q.rotation q.x q.y) is in
-        (λ held. law.0 (sym e ∙ held), λ place. e ∙ law.1 place)

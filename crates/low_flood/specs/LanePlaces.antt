@@ -1,5 +1,5 @@
 -- The places of lanes as canonical placements.
-use Rattle.std.specs.Prelude.{ℕ, Bool, nat_lt, pos, neg_ℤ, if◌then◌else◌}
+use Rattle.std.specs.Prelude.{◌≡◌, ℕ, Bool, nat_lt, pos, neg_ℤ, if◌then◌else◌}
 use Rattle.lane_board.specs.Field.{Field, empty_field, intersection, moved_within, rows_below}
 use Rattle.srs.specs.declared.piece.Piece.{Piece}
 use Rattle.srs.specs.declared.rotation.Rotation.{Rotation}
@@ -7,6 +7,7 @@ use Rattle.srs.specs.Canonical.{rotation_count}
 use Rattle.srs.specs.Cells.{shape}
 use Rattle.srs.specs.Rotation.{rotation_place}
 use Rattle.moves.specs.Lanes.{lowest}
+use Rattle.place_sets.specs.States.{States}
 use Rattle.low_flood.specs.LaneMap.{free_lanes, resting_lanes}
 use Rattle.low_flood.specs.SkyBoard.{sky_board}
 
@@ -26,3 +27,7 @@ hard_board piece N cells rotation =
     if has_own_cells piece rotation
     then lane_pivots piece rotation (resting_lanes N free (sky_board piece rotation N free))
     else empty_field
+
+-- T has the states of S with the pivot below this row
+pub record IsCut (row : ℕ) (S T : States) : Type 0 where
+  pub each : (rotation : Rotation) → T rotation ≡ intersection (S rotation) (rows_below row)

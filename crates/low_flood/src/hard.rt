@@ -1,23 +1,27 @@
 // The places of a hard drop: the resting states under an open sky. They need no flood. `KIND` numbers the compiled
 // copies, as in `soft`.
-ghost use Rattle.std.specs.Prelude.{◌≡◌, ◌≤ℤ◌, pos, neg_ℤ};
+ghost use Rattle.std.specs.Prelude.{◌≡◌, ◌≤◌, ◌≤ℤ◌, pos, neg_ℤ, IsTrue};
 ghost use Rattle.lane_board.specs.Board.{field_of};
+ghost use Rattle.lane_board.specs.Field.{intersection, rows_below};
+ghost use Rattle.lane_board.specs.Lanes.{is_lane_count};
 ghost use Rattle.srs.specs.Cells.{shape};
 ghost use Rattle.moves.specs.Lanes.{lowest};
 ghost use Rattle.place_sets.specs.States.{states_of};
-ghost use Rattle.low_flood.specs.LanePlaces.{lane_pivots, has_own_cells, hard_board};
+ghost use Rattle.low_flood.specs.LanePlaces.{IsCut, lane_pivots, has_own_cells, hard_board};
 
 use crate::lane_map::{free_lanes, resting_lanes, sky_board};
 use lane_board::LaneBoard;
 use place_sets::Pivots;
 use srs::{Piece, Rotation};
 
-/// The canonical placements that have the cells of resting states under an open sky.
-pub(crate) fn hard_places<const KIND: u8, const N: usize>(
+/// The canonical placements that have the cells of resting states under an open sky, with the pivot below row `M`.
+pub(crate) fn hard_places<const KIND: u8, const N: usize, const M: usize>(
     filled: &LaneBoard<N>,
     piece: Piece,
-) -> Pivots<24>
-    ensures { states_of result ≡ hard_board piece N (field_of filled.now) }
+) -> Pivots<M>
+    requires lane_count { IsTrue (is_lane_count M) }
+    requires within { M ≤ 24 }
+    ensures { IsCut M (hard_board piece N (field_of filled.now)) (states_of result) }
 {
     Pivots {
         spawn: hard_board(filled, piece, Rotation::Spawn),
@@ -28,14 +32,16 @@ pub(crate) fn hard_places<const KIND: u8, const N: usize>(
 }
 
 /// Those in one rotation.
-#[tactic(auto, unfolding(crate::specs::LanePlaces::hard_board))]
+#[tactic(auto, unfolding(crate::specs::LanePlaces::hard_board), using(crate::proofs::LanePlaceLemmas::cut_of_none))]
 #[inline(always)]
-fn hard_board<const N: usize>(
+fn hard_board<const N: usize, const M: usize>(
     filled: &LaneBoard<N>,
     piece: Piece,
     rotation: Rotation,
-) -> LaneBoard<24>
-    ensures { field_of result ≡ hard_board piece N (field_of filled.now) rotation }
+) -> LaneBoard<M>
+    requires lane_count { IsTrue (is_lane_count M) }
+    requires within { M ≤ 24 }
+    ensures { field_of result ≡ intersection (hard_board piece N (field_of filled.now) rotation) (rows_below M) }
 {
     if !has_own_cells(piece, rotation) {
         return LaneBoard::empty();
@@ -59,18 +65,20 @@ pub(crate) fn has_own_cells(piece: Piece, rotation: Rotation) -> bool
     }
 }
 
-/// The pivots of places on lanes.
-#[tactic(auto, unfolding(crate::specs::LanePlaces::lane_pivots))]
+/// The pivots of places on lanes, below row `M`.
+#[tactic(auto, using(crate::proofs::LanePlaceLemmas::cut_before))]
 #[inline(always)]
-pub(crate) fn lane_pivots<const N: usize>(
+pub(crate) fn lane_pivots<const N: usize, const M: usize>(
     piece: Piece,
     rotation: Rotation,
     places: &LaneBoard<N>,
-) -> LaneBoard<24>
-    ensures { field_of result ≡ lane_pivots piece rotation (field_of places.now) }
+) -> LaneBoard<M>
+    requires lane_count { IsTrue (is_lane_count M) }
+    requires within { M ≤ 24 }
+    ensures { field_of result ≡ intersection (lane_pivots piece rotation (field_of places.now)) (rows_below M) }
 {
     let rows = rows_over_lane(piece, rotation);
-    places.resized::<24>().moved(0, rows)
+    places.resized::<M>().moved(0, rows)
 }
 
 /// How many rows the pivot lies above the lowest cell.

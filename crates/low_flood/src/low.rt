@@ -1,12 +1,13 @@
 // Places in low fields under the Super Rotation System: a board of eight or sixteen lanes is enough.
 ghost use Rattle.std.specs.Prelude.{◌≡◌, ◌-◌, ◌≤◌, ◌↔◌, IsTrue};
 ghost use Rattle.lane_board.specs.Board.{field_of};
+ghost use Rattle.lane_board.specs.Lanes.{is_lane_count};
 ghost use Rattle.srs.specs.Kick.{srs_table};
 ghost use Rattle.moves.specs.declared.key.DropMode.{DropMode};
 ghost use Rattle.moves.specs.Sky.{IsClearFrom};
 ghost use Rattle.moves.specs.Place.{IsPlace};
-ghost use Rattle.place_sets.specs.States.{HasExactly, states_of};
-ghost use Rattle.low_flood.specs.LanePlaces.{hard_board};
+ghost use Rattle.place_sets.specs.States.{HasExactly, IsUnder, states_of};
+ghost use Rattle.low_flood.specs.LanePlaces.{IsCut, hard_board};
 
 use crate::hard::hard_places;
 use crate::soft::soft_places;
@@ -15,10 +16,16 @@ use moves::DropMode;
 use place_sets::Pivots;
 use srs::Piece;
 
-/// The places of a piece, if all cells lie below row 8.
-pub fn low_places(filled: &LaneBoard<24>, piece: Piece, drop_mode: DropMode) -> Pivots<24>
-    requires { IsClearFrom 8 (field_of filled.now) }
-    ensures { HasExactly (IsPlace srs_table (field_of filled.now) drop_mode) piece (states_of result) }
+/// The places of a piece with the pivot below row `M`, which is 8, 16 or 24, if all cells lie below row 8.
+pub fn low_places<const M: usize>(
+    filled: &LaneBoard<24>,
+    piece: Piece,
+    drop_mode: DropMode,
+) -> Pivots<M>
+    requires clear { IsClearFrom 8 (field_of filled.now) }
+    requires lane_count { IsTrue (is_lane_count M) }
+    requires within { M ≤ 24 }
+    ensures { HasExactly (IsUnder M (IsPlace srs_table (field_of filled.now) drop_mode)) piece (states_of result) }
 {
     match drop_mode {
         DropMode::Soft => low_soft_places(filled, piece),
@@ -27,9 +34,11 @@ pub fn low_places(filled: &LaneBoard<24>, piece: Piece, drop_mode: DropMode) -> 
 }
 
 /// The places of a soft drop.
-fn low_soft_places(filled: &LaneBoard<24>, piece: Piece) -> Pivots<24>
-    requires { IsClearFrom 8 (field_of filled.now) }
-    ensures { HasExactly (IsPlace srs_table (field_of filled.now) DropMode.Soft) piece (states_of result) }
+fn low_soft_places<const M: usize>(filled: &LaneBoard<24>, piece: Piece) -> Pivots<M>
+    requires clear { IsClearFrom 8 (field_of filled.now) }
+    requires lane_count { IsTrue (is_lane_count M) }
+    requires within { M ≤ 24 }
+    ensures { HasExactly (IsUnder M (IsPlace srs_table (field_of filled.now) DropMode.Soft)) piece (states_of result) }
 {
     if is_clear_from(filled, 6) {
         return soft_copies(&filled.resized::<8>(), piece);
@@ -38,26 +47,30 @@ fn low_soft_places(filled: &LaneBoard<24>, piece: Piece) -> Pivots<24>
 }
 
 /// The places of a soft drop on lanes, by the copy of the flood that is compiled for the piece.
-fn soft_copies<const N: usize>(filled: &LaneBoard<N>, piece: Piece) -> Pivots<24>
+fn soft_copies<const N: usize, const M: usize>(filled: &LaneBoard<N>, piece: Piece) -> Pivots<M>
     requires clear { IsClearFrom (N - 2) (field_of filled.now) }
     requires few { N ≤ 16 }
-    ensures { HasExactly (IsPlace srs_table (field_of filled.now) DropMode.Soft) piece (states_of result) }
+    requires lane_count { IsTrue (is_lane_count M) }
+    requires within { M ≤ 24 }
+    ensures { HasExactly (IsUnder M (IsPlace srs_table (field_of filled.now) DropMode.Soft)) piece (states_of result) }
 {
     match piece {
-        Piece::I => soft_places::<0, N>(filled, Piece::I),
-        Piece::L => soft_places::<1, N>(filled, Piece::L),
-        Piece::O => soft_places::<2, N>(filled, Piece::O),
-        Piece::Z => soft_places::<3, N>(filled, Piece::Z),
-        Piece::T => soft_places::<4, N>(filled, Piece::T),
-        Piece::J => soft_places::<5, N>(filled, Piece::J),
-        Piece::S => soft_places::<6, N>(filled, Piece::S),
+        Piece::I => soft_places::<0, N, M>(filled, Piece::I),
+        Piece::L => soft_places::<1, N, M>(filled, Piece::L),
+        Piece::O => soft_places::<2, N, M>(filled, Piece::O),
+        Piece::Z => soft_places::<3, N, M>(filled, Piece::Z),
+        Piece::T => soft_places::<4, N, M>(filled, Piece::T),
+        Piece::J => soft_places::<5, N, M>(filled, Piece::J),
+        Piece::S => soft_places::<6, N, M>(filled, Piece::S),
     }
 }
 
 /// The places of a hard drop.
-fn low_hard_places(filled: &LaneBoard<24>, piece: Piece) -> Pivots<24>
-    requires { IsClearFrom 8 (field_of filled.now) }
-    ensures { HasExactly (IsPlace srs_table (field_of filled.now) DropMode.Hard) piece (states_of result) }
+fn low_hard_places<const M: usize>(filled: &LaneBoard<24>, piece: Piece) -> Pivots<M>
+    requires clear { IsClearFrom 8 (field_of filled.now) }
+    requires lane_count { IsTrue (is_lane_count M) }
+    requires within { M ≤ 24 }
+    ensures { HasExactly (IsUnder M (IsPlace srs_table (field_of filled.now) DropMode.Hard)) piece (states_of result) }
 {
     if is_clear_from(filled, 6) {
         return hard_copies(&filled.resized::<8>(), piece);
@@ -67,17 +80,19 @@ fn low_hard_places(filled: &LaneBoard<24>, piece: Piece) -> Pivots<24>
 
 /// The places of a hard drop on lanes, by the copy that is compiled for the piece: the canonical placements that have
 /// the cells of resting states under an open sky.
-fn hard_copies<const N: usize>(filled: &LaneBoard<N>, piece: Piece) -> Pivots<24>
-    ensures { states_of result ≡ hard_board piece N (field_of filled.now) }
+fn hard_copies<const N: usize, const M: usize>(filled: &LaneBoard<N>, piece: Piece) -> Pivots<M>
+    requires lane_count { IsTrue (is_lane_count M) }
+    requires within { M ≤ 24 }
+    ensures { IsCut M (hard_board piece N (field_of filled.now)) (states_of result) }
 {
     match piece {
-        Piece::I => hard_places::<0, N>(filled, Piece::I),
-        Piece::L => hard_places::<1, N>(filled, Piece::L),
-        Piece::O => hard_places::<2, N>(filled, Piece::O),
-        Piece::Z => hard_places::<3, N>(filled, Piece::Z),
-        Piece::T => hard_places::<4, N>(filled, Piece::T),
-        Piece::J => hard_places::<5, N>(filled, Piece::J),
-        Piece::S => hard_places::<6, N>(filled, Piece::S),
+        Piece::I => hard_places::<0, N, M>(filled, Piece::I),
+        Piece::L => hard_places::<1, N, M>(filled, Piece::L),
+        Piece::O => hard_places::<2, N, M>(filled, Piece::O),
+        Piece::Z => hard_places::<3, N, M>(filled, Piece::Z),
+        Piece::T => hard_places::<4, N, M>(filled, Piece::T),
+        Piece::J => hard_places::<5, N, M>(filled, Piece::J),
+        Piece::S => hard_places::<6, N, M>(filled, Piece::S),
     }
 }
 

@@ -2,11 +2,13 @@
 // for each piece and rotation, in which shapes and kicks are constants.
 ghost use Rattle.std.specs.Prelude.{◌≡◌, ◌-◌, ◌≤◌, IsTrue};
 ghost use Rattle.lane_board.specs.Board.{field_of};
+ghost use Rattle.lane_board.specs.Field.{intersection, rows_below};
+ghost use Rattle.lane_board.specs.Lanes.{is_lane_count};
 ghost use Rattle.srs.specs.Kick.{srs_table};
 ghost use Rattle.moves.specs.declared.key.DropMode.{DropMode};
 ghost use Rattle.moves.specs.Sky.{IsClearFrom};
 ghost use Rattle.moves.specs.Place.{IsPlace};
-ghost use Rattle.place_sets.specs.States.{HasExactly, states_of};
+ghost use Rattle.place_sets.specs.States.{HasExactly, IsUnder, states_of};
 ghost use Rattle.low_flood.specs.SoftLanes.{free_boards, skies, with_rotation, places_of, rests_in, lacking};
 ghost use Rattle.low_flood.specs.SoftLanes.{soft_board, HaveAllRests, AreSpread, IsTurnedInto, IsRound, IsSoftFlood};
 
@@ -18,14 +20,17 @@ use moves::DropMode;
 use place_sets::{Pivots, Shifts, spread};
 use srs::{Piece, Rotation};
 
-/// The canonical placements that have the cells of resting states that keys lead to, if two lanes lie above all cells.
-pub(crate) fn soft_places<const KIND: u8, const N: usize>(
+/// The canonical placements that have the cells of resting states that keys lead to, with the pivot below row `M`, if two
+/// lanes lie above all cells.
+pub(crate) fn soft_places<const KIND: u8, const N: usize, const M: usize>(
     filled: &LaneBoard<N>,
     piece: Piece,
-) -> Pivots<24>
+) -> Pivots<M>
     requires clear { IsClearFrom (N - 2) (field_of filled.now) }
     requires few { N ≤ 16 }
-    ensures { HasExactly (IsPlace srs_table (field_of filled.now) DropMode.Soft) piece (states_of result) }
+    requires lane_count { IsTrue (is_lane_count M) }
+    requires within { M ≤ 24 }
+    ensures { HasExactly (IsUnder M (IsPlace srs_table (field_of filled.now) DropMode.Soft)) piece (states_of result) }
 {
     let free = free_boards::<KIND, N>(filled, piece);
     let reached = flood::<KIND, N>(piece, &free);
@@ -49,7 +54,9 @@ fn free_boards<const KIND: u8, const N: usize>(filled: &LaneBoard<N>, piece: Pie
     }
 }
 
-/// The places that single moves and turns lead to from the sky, or enough of them to have every rest.
+/// The places that single moves and turns lead to from the sky, or enough of them to have every rest. It is inlined, so that
+/// its boards need no memory between it and what it is made for.
+#[inline(always)]
 fn flood<const KIND: u8, const N: usize>(piece: Piece, free: &Pivots<N>) -> Pivots<N>
     ensures { IsSoftFlood piece N (states_of free.now) (states_of result) }
 {
@@ -206,16 +213,19 @@ fn with_rotation<const N: usize>(
     board.or(places.board(rotation))
 }
 
-/// The canonical placements in a rotation that rest at one of the places.
-#[tactic(auto, unfolding(crate::specs::SoftLanes::soft_board))]
+/// The canonical placements in a rotation that rest at one of the places, with the pivot below row `M`.
+#[tactic(auto, unfolding(crate::specs::SoftLanes::soft_board), using(crate::proofs::LanePlaceLemmas::cut_of_none))]
 #[inline(always)]
-fn soft_board<const N: usize>(
+fn soft_board<const N: usize, const M: usize>(
     piece: Piece,
     rotation: Rotation,
     free: &Pivots<N>,
     places: &Pivots<N>,
-) -> LaneBoard<24>
-    ensures { field_of result ≡ soft_board piece N (states_of free.now) (states_of places.now) rotation }
+) -> LaneBoard<M>
+    requires lane_count { IsTrue (is_lane_count M) }
+    requires within { M ≤ 24 }
+    ensures { field_of result ≡ intersection
+        (soft_board piece N (states_of free.now) (states_of places.now) rotation) (rows_below M) }
 {
     if !has_own_cells(piece, rotation) {
         return LaneBoard::empty();

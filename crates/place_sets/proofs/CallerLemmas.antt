@@ -1,6 +1,6 @@
 -- Lemmas that the crates above cite.
 pub use Rattle.place_sets.proofs.FieldLemmas.{IsWithin, LiesWithin, cell_count-more, fields-same, same_fields, within_both}
-pub use Rattle.place_sets.proofs.LowPlaceLemmas.{low_places_held}
+pub use Rattle.place_sets.proofs.LowPlaceLemmas.{held_under, low_places_held}
 pub use Rattle.place_sets.proofs.MovedCells.{MovedFrom, moved_back, moved_forth, moved_from, moved_to, same_cell, same_column, same_row}
 pub use Rattle.place_sets.proofs.ScanLemmas.{holds-piece, places_held}
 pub use Rattle.place_sets.proofs.SpreadLemmas.{spread-has, still-has, widened-from}

@@ -15,7 +15,7 @@ use Rattle.srs.specs.Rotation.{rotation_place}
 use Rattle.srs.proofs.CallerLemmas.{piece_code-injective, rotation_place-injective}
 use Rattle.srs.specs.Rising.{IsNextAbove}
 use Rattle.well.specs.LockLaws.{is_below}
-use Rattle.place_sets.specs.States.{HasExactly, States, has_state}
+use Rattle.place_sets.specs.States.{HasExactly, IsUnder, States, has_state}
 use Rattle.place_sets.specs.declared.low_held.LowPlaces.{LowPlaces}
 use Rattle.place_sets.specs.LowestBit.{IsLowestBit}
 use Rattle.place_sets.specs.LowPlaces.{holds, piece_of}
@@ -210,7 +210,7 @@ abbrev pub CutFrom : States → Rotation → ℕ → ℕ → ℕ → Type 0
 CutFrom S r row limit word = (k : ℕ) → k < 64 → has_bit word k ≡ (S r (k % 16) (row + k / 16) && nat_lt k (16 * (limit - row)))
 
 -- two words that have the rows of a rotation below a limit
-pub cut_cells : (S : States) (words : List ℕ) (limit : ℕ) (r : Rotation) → LiesWithin (S r) 24 → limit ≤ 8 →
+pub cut_cells : {N : ℕ} (S : States) (words : List ℕ) (limit : ℕ) (r : Rotation) → LiesWithin (S r) N → limit ≤ 8 →
     CutFrom S r 0 limit (get_or words (2 * rotation_place r) 0) → CutFrom S r 4 limit (get_or words (2 * rotation_place r + 1) 0) → (x y : ℕ) →
     cells_of_words words (rotation_place r) x y ≡ (S r x y && nat_lt y limit)
 cut_cells S words limit r lies low first second x y = same_from_both _ _ there back
@@ -268,7 +268,7 @@ low_filled new piece S rows kind fills q = (there, back)
         low_holds-from new q (k ∙ sym kind) (fills q.rotation q.x q.y ∙ and_from _ _ has (same k ∙ (below_by_pivot rows q).1 low))
 
 -- eight words that have the states that lie so low
-module _ (new : LowPlaces) (piece : Piece) (S : States) (rows : ℕ) (left : List ℕ) (low : rows ≤ 8) (lies : (r : Rotation) → LiesWithin (S r) 24)
+module _ {N : ℕ} (new : LowPlaces) (piece : Piece) (S : States) (rows : ℕ) (left : List ℕ) (low : rows ≤ 8) (lies : (r : Rotation) → LiesWithin (S r) N)
     (limits : (r : Rotation) → get_or left (rotation_place r) 0 ≡ rows - rows_over_pivot piece r)
     (a : CutFrom S Spawn 0 (get_or left 0 0) (get_or new.words 0 0)) (b : CutFrom S Spawn 4 (get_or left 0 0) (get_or new.words 1 0))
     (c : CutFrom S Right 0 (get_or left 1 0) (get_or new.words 2 0)) (d : CutFrom S Right 4 (get_or left 1 0) (get_or new.words 3 0))
@@ -286,11 +286,21 @@ module _ (new : LowPlaces) (piece : Piece) (S : States) (rows : ℕ) (left : Lis
   pub eight_filled : piece_of new ≡ piece → (q : Placement) → IsTrue (holds new q) ↔ ((q.piece ≡ piece) × (has_state S q ≡ true) × IsTrue (is_below rows q))
   eight_filled kind = low_filled new piece S rows kind (λ r x y. cells r x y ∙ ap (λ limit. S r x y && nat_lt y limit) (limits r))
 
--- where a set has exactly the states of which P holds, places of its states so low hold those that lie so low
+-- where a set has exactly the states of which P holds, as far as these lie below row `rows`, places of its states so low hold
+-- those that lie so low
 pub low_places_held : (P : Placement → Type 0) (piece : Piece) (rows : ℕ) (places : LowPlaces) (S : States) →
-    ((q : Placement) → IsTrue (holds places q) ↔ ((q.piece ≡ piece) × (has_state S q ≡ true) × IsTrue (is_below rows q))) → HasExactly P piece S →
+    ((q : Placement) → IsTrue (holds places q) ↔ ((q.piece ≡ piece) × (has_state S q ≡ true) × IsTrue (is_below rows q))) →
+    ((q : Placement) → q.piece ≡ piece → IsTrue (is_below rows q) → (has_state S q ≡ true) ↔ P q) →
     (q : Placement) → IsTrue (holds places q) ↔ ((q.piece ≡ piece) × P q × IsTrue (is_below rows q))
 low_places_held P piece rows places S filled are q = (
-  λ held. let parts = (filled q).0 held in (parts.0, (are.exact q parts.0).0 parts.1, parts.2),
-  λ place. (filled q).1 (place.0, (are.exact q place.0).1 place.1, place.2),
+  λ held. let parts = (filled q).0 held in (parts.0, (are q parts.0 parts.2).0 parts.1, parts.2),
+  λ place. (filled q).1 (place.0, (are q place.0 place.2).1 place.1, place.2),
+)
+
+-- so does a set that has the states with the pivot below a row M that is no lower
+pub held_under : (P : Placement → Type 0) (piece : Piece) (M rows : ℕ) (S : States) → rows ≤ M → HasExactly (IsUnder M P) piece S →
+    (q : Placement) → q.piece ≡ piece → IsTrue (is_below rows q) → (has_state S q ≡ true) ↔ P q
+held_under P piece M rows S few are q kind low = (
+  λ held. ((are.exact q kind).0 held).is,
+  λ is. (are.exact q kind).1 (record { below = omega (arith, few, ltb-true q.y (rows - rows_over_pivot q.piece q.rotation) ((below_by_pivot rows q).1 low)); is = is }),
 )

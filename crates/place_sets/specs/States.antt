@@ -1,5 +1,5 @@
 -- Sets of states of one piece: a field of pivots for each rotation.
-use Rattle.std.specs.Prelude.{ℕ, Bool, true, ◌≡◌, ◌↔◌, ◌==◌, if◌then◌else◌}
+use Rattle.std.specs.Prelude.{ℕ, Bool, true, ◌≡◌, ◌<◌, ◌↔◌, ◌==◌, if◌then◌else◌}
 use Rattle.lane_board.specs.Field.{Field, empty_field, has_cell}
 use Rattle.lane_board.specs.Board.{field_of}
 use Rattle.srs.specs.declared.piece.Piece.{Piece}
@@ -40,6 +40,11 @@ states_of pivots Left = field_of pivots.left
 -- of the states of the piece S has those of which P holds, and no others
 pub record HasExactly (P : Placement → Type 0) (piece : Piece) (S : States) : Type 0 where
   pub exact : (state : Placement) → state.piece ≡ piece → (has_state S state ≡ true) ↔ P state
+
+-- P holds of the state, whose pivot lies below this row
+pub record IsUnder (row : ℕ) (P : Placement → Type 0) (state : Placement) : Type 0 where
+  pub below : state.y < row
+  pub is : P state
 
 -- S has all that R has
 pub record Includes (S R : States) : Type 0 where

@@ -8,7 +8,7 @@ ghost use Rattle.srs.specs.Rotation.{rotation_place};
 use crate::pivots::Pivots;
 use crate::scan::rotation_at;
 use crate::tops::rows_left;
-use crate::words::{bits_without, four_rows, in_low_rows, lowest_bit, without_lowest};
+use crate::words::{bits_under, bits_without, four_rows, lowest_bit, without_lowest};
 use lane_board::LaneBoard;
 use srs::{Piece, Placement};
 
@@ -31,14 +31,15 @@ fn kind_of(piece: Piece) -> u64
     u64::from(piece.code() - 1)
 }
 
-/// Four rows of a board from this row on, without those at or above row `rows`.
+/// The first or second four rows of a board, without those at or above row `rows`.
 #[inline(always)]
-fn rows_under(board: &LaneBoard<24>, row: u8, rows: u8) -> u64
-    requires { row + 4 ≤ 24 }
+fn rows_under<const N: usize>(board: &LaneBoard<N>, four: u8, rows: u8) -> u64
+    requires four { four ≤ 1 }
+    requires eight { rows ≤ 8 }
     ensures { (k : ℕ) → k < 64 → has_bit result k
-        ≡ (field_of board.now (k % 16) (row + k / 16) && nat_lt k (16 * (rows - row))) }
+        ≡ (field_of board.now (k % 16) (4 * four + k / 16) && nat_lt k (16 * (rows - 4 * four))) }
 {
-    in_low_rows(four_rows(board, row), rows.saturating_sub(row))
+    bits_under(four_rows(board, 4 * four), four, rows)
 }
 
 /// The placement whose pivot has this bit of this word.
@@ -87,7 +88,7 @@ impl LowPlaces {
 
     /// The placements of a piece with these pivots whose cells all lie below row `rows`.
     #[inline(always)]
-    pub fn of_states(piece: Piece, states: &Pivots<24>, rows: u8) -> LowPlaces
+    pub fn of_states<const N: usize>(piece: Piece, states: &Pivots<N>, rows: u8) -> LowPlaces
         requires { rows ≤ 8 }
         ensures piece { piece_of result ≡ piece }
         ensures held { (q : Placement) → IsTrue (holds result q)
@@ -97,13 +98,13 @@ impl LowPlaces {
         LowPlaces {
             words: [
                 rows_under(&states.spawn, 0, left[0]),
-                rows_under(&states.spawn, 4, left[0]),
+                rows_under(&states.spawn, 1, left[0]),
                 rows_under(&states.right, 0, left[1]),
-                rows_under(&states.right, 4, left[1]),
+                rows_under(&states.right, 1, left[1]),
                 rows_under(&states.reverse, 0, left[2]),
-                rows_under(&states.reverse, 4, left[2]),
+                rows_under(&states.reverse, 1, left[2]),
                 rows_under(&states.left, 0, left[3]),
-                rows_under(&states.left, 4, left[3]),
+                rows_under(&states.left, 1, left[3]),
             ],
             kind: kind_of(piece),
         }

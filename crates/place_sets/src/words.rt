@@ -1,5 +1,5 @@
 // Bits of words of 64 bits.
-ghost use Rattle.std.specs.Prelude.{◌≡◌, ℕ, ◌*◌, ◌+◌, ◌<◌, ◌≤◌, nat_le, nat_lt, ◌&&◌, ◌==◌, not};
+ghost use Rattle.std.specs.Prelude.{◌≡◌, ℕ, ◌*◌, ◌+◌, ◌-◌, ◌<◌, ◌≤◌, nat_le, nat_lt, ◌&&◌, ◌==◌, not};
 ghost use Rattle.lane_board.specs.Board.{field_of};
 ghost use Rattle.lane_board.specs.Lanes.{has_bit};
 ghost use Rattle.place_sets.specs.FourRows.{IsFourRows};
@@ -9,8 +9,8 @@ use lane_board::LaneBoard;
 
 /// Four rows of a board from this row on, sixteen bits each.
 #[inline(always)]
-pub(crate) fn four_rows(board: &LaneBoard<24>, row: u8) -> u64
-    requires { row + 4 ≤ 24 }
+pub(crate) fn four_rows<const N: usize>(board: &LaneBoard<N>, row: u8) -> u64
+    requires { row + 4 ≤ N }
     ensures { IsFourRows (field_of board.now) row result }
 {
     u64::from(board.row(row))
@@ -68,14 +68,43 @@ pub(crate) fn bits_without(word: u64, others: u64) -> u64
     word ^ (word & others)
 }
 
-/// All bits of the first rows of a word, for no row up to all four.
-const LOW_ROWS: [u64; 5] = [0, 0xffff, 0xffff_ffff, 0xffff_ffff_ffff, u64::MAX];
+/// For no row up to eight: all bits of these rows, in two words of four rows.
+const LOW_ROWS: [u64; 18] = [
+    0,
+    0,
+    0xffff,
+    0,
+    0xffff_ffff,
+    0,
+    0xffff_ffff_ffff,
+    0,
+    u64::MAX,
+    0,
+    u64::MAX,
+    0xffff,
+    u64::MAX,
+    0xffff_ffff,
+    u64::MAX,
+    0xffff_ffff_ffff,
+    u64::MAX,
+    u64::MAX,
+];
 
-/// The bits of the first `rows` of the four rows of a word. How many rows there are differs from word to word, so there
-/// is no branch.
+/// Of the first or second four rows of a board, the bits below row `rows`. How many rows that are differs from word to
+/// word, so there is no branch.
+#[inline(always)]
+pub(crate) fn bits_under(word: u64, four: u8, rows: u8) -> u64
+    requires four { four ≤ 1 }
+    requires eight { rows ≤ 8 }
+    ensures { (k : ℕ) → k < 64 → has_bit result k ≡ (has_bit word k && nat_lt k (16 * (rows - 4 * four))) }
+{
+    word & LOW_ROWS[usize::from(2 * rows + four)]
+}
+
+/// The bits of the first `rows` of the four rows of a word.
 #[inline(always)]
 pub(crate) fn in_low_rows(word: u64, rows: u8) -> u64
     ensures { (k : ℕ) → k < 64 → has_bit result k ≡ (has_bit word k && nat_lt k (16 * rows)) }
 {
-    word & LOW_ROWS[usize::from(rows.min(4))]
+    bits_under(word, 0, rows.min(4))
 }

@@ -1,5 +1,5 @@
 -- Where two tables have the same offsets for a piece, they have the same places of it.
-use Rattle.std.proofs.Common.{◌≡◌, ℕ, ◌≤◌, Some, None, List, [], ◌∷◌, Option, ◌-ℤ◌, refl, sym, ap, subst, ◌∙◌, arith}
+use Rattle.std.proofs.Common.{◌≡◌, ◌↔◌, ℕ, ◌≤◌, Some, None, List, [], ◌∷◌, Option, ◌-ℤ◌, refl, sym, ap, subst, ◌∙◌, arith}
 use Rattle.std.specs.Prelude.{fold}
 use Rattle.lane_board.specs.Field.{Field}
 use Rattle.srs.specs.declared.piece.Piece.{Piece}
@@ -66,10 +66,15 @@ place_same table other F mode q same place = record {
 }
 
 -- so the places by the one are the places by the other
+pub place_both : (table other : Table) (F : Field) (mode : DropMode) (piece : Piece) → HaveSameOffsets table other piece → (q : Placement) → q.piece ≡ piece → IsPlace other F mode q ↔ IsPlace table F mode q
+place_both table other F mode piece offsets q kind =
+    let same : HaveSameOffsets table other q.piece = subst (HaveSameOffsets table other) (sym kind) offsets in
+    (place_same other table F mode q (same_back table other q.piece same), place_same table other F mode q same)
+
 pub places_same : (table other : Table) (F : Field) (mode : DropMode) (piece : Piece) (S : States) → HaveSameOffsets table other piece → HasExactly (IsPlace other F mode) piece S → HasExactly (IsPlace table F mode) piece S
 places_same table other F mode piece S offsets are = record {
   exact = λ q kind.
-      let same : HaveSameOffsets table other q.piece = subst (HaveSameOffsets table other) (sym kind) offsets in
+      let both = place_both table other F mode piece offsets q kind in
       let exact = are.exact q kind in
-      (λ has. place_same other table F mode q (same_back table other q.piece same) (exact.0 has), λ place. exact.1 (place_same table other F mode q same place));
+      (λ has. both.0 (exact.0 has), λ place. exact.1 (both.1 place));
 }

@@ -72,7 +72,7 @@ fn pivots_where(
 {
     let filled = well.board();
     if srs && is_clear_from(&filled, 8) {
-        return low_places(&filled, piece, drop_mode);
+        return low_places::<24>(&filled, piece, drop_mode);
     }
     whole_places(&filled, rules, piece, drop_mode)
 }
@@ -101,6 +101,6 @@ pub fn window_places<L: Ledger>(
     ensures counted { steps.new ≡ steps.old + 1 }
 {
     steps.tick();
-    let held = low_places(&well.board(), piece, drop_mode);
+    let held = low_places::<24>(&well.board(), piece, drop_mode);
     Places::of_states(piece, &held)
 }

@@ -110,12 +110,13 @@ impl FloodRules {
         ensures counted { steps.new ≡ steps.old + 1 }
     {
         steps.tick();
-        let filled = well.board();
+        let filled = well.as_board();
         let srs = self.has_srs_offsets(piece);
-        if srs && is_clear_from(&filled, 8) {
-            return LowPlaces::of_states(piece, &low_places(&filled, piece, drop_mode), rows);
+        if srs && is_clear_from(filled, 8) {
+            let states = low_places::<8>(filled, piece, drop_mode);
+            return LowPlaces::of_states(piece, &states, rows);
         }
-        self.whole_places_below(&filled, piece, drop_mode, rows)
+        self.whole_places_below(filled, piece, drop_mode, rows)
     }
 
     #[tactic(auto, unfolding(crate::specs::FloodRules::flood_table))]

@@ -7,6 +7,6 @@ use Rattle.place_sets.proofs.WordLemmas.{four_rows-is}
 use Rattle.place_sets.proofs.words.four_rows.Goals as goal
 
 pub returns : goal.returns
-returns c =
-    four_rows-is (field_of c.args.board.now) 24 c.args.row c.from.result c.from-2.result c.from-3.result c.from-4.result (record { inside = field_of-within c.args.board.now })
+returns g c =
+    four_rows-is (field_of c.args.board.now) g.row.N c.args.row c.from.result c.from-2.result c.from-3.result c.from-4.result (record { inside = field_of-within c.args.board.now })
     (ap has_bit c.from.ensures ∙ c.row.ensures) (ap has_bit c.from-2.ensures ∙ c.row-2.ensures) (ap has_bit c.from-3.ensures ∙ c.row-3.ensures) (ap has_bit c.from-4.ensures ∙ c.row-4.ensures)

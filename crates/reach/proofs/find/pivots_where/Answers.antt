@@ -5,7 +5,9 @@ use Rattle.srs.specs.Kick.{srs_table}
 use Rattle.srs.specs.Rules.{table_of}
 use Rattle.well.specs.Well.{filled}
 use Rattle.moves.specs.Place.{IsPlace}
-use Rattle.place_sets.specs.States.{HasExactly, states_of}
+use Rattle.moves.specs.Sky.{IsClearFrom}
+use Rattle.low_flood.proofs.CallerLemmas.{places_under}
+use Rattle.place_sets.specs.States.{HasExactly, IsUnder, states_of}
 use Rattle.reach.proofs.SameOffsets.{places_same}
 use Rattle.reach.proofs.find.pivots_where.Goals as goal
 
@@ -14,5 +16,8 @@ returns c = subst (λ (F : Field). HasExactly (IsPlace (table_of c.args.rules.no
 
 pub returns-then-is_clear_from : goal.returns-then-is_clear_from
 returns-then-is_clear_from c =
-    places_same (table_of c.args.rules.now) srs_table (filled c.args.well.now) c.args.drop_mode c.args.piece (states_of c.low_places.result) (c.requires c.if-srs.true)
-    (subst (λ (F : Field). HasExactly (IsPlace srs_table F c.args.drop_mode) c.args.piece (states_of c.low_places.result)) c.board-filled.ensures c.low_places.ensures)
+    let F = filled c.args.well.now in
+    let clear = subst (IsClearFrom 8) c.board-filled.ensures (c.is_clear_from.ensures.0 c.if-is_clear_from.true) in
+    places_same (table_of c.args.rules.now) srs_table F c.args.drop_mode c.args.piece (states_of c.low_places.result) (c.requires c.if-srs.true)
+    (places_under F c.args.drop_mode c.args.piece (states_of c.low_places.result) clear
+    (subst (λ (F : Field). HasExactly (IsUnder 24 (IsPlace srs_table F c.args.drop_mode)) c.args.piece (states_of c.low_places.result)) c.board-filled.ensures c.low_places.ensures))

@@ -1,22 +1,25 @@
 -- What is held are the places, which are those of the window.
-use Rattle.std.proofs.Common.{sym, subst}
+use Rattle.std.proofs.Common.{refl, sym, subst, arith}
 use Rattle.lane_board.specs.Field.{Field}
 use Rattle.srs.specs.Kick.{srs_table}
 use Rattle.well.specs.Well.{filled}
 use Rattle.moves.specs.Sky.{IsClearFrom}
 use Rattle.moves.proofs.CallerLemmas.{window}
 use Rattle.moves.specs.Place.{IsPlace}
-use Rattle.place_sets.specs.States.{HasExactly, states_of}
+use Rattle.place_sets.specs.States.{HasExactly, IsUnder, states_of}
 use Rattle.place_sets.proofs.CallerLemmas.{places_held}
+use Rattle.low_flood.proofs.CallerLemmas.{places_under}
 use Rattle.reach.proofs.find.window_places.Goals as goal
 
 pub low_places-held-requires : goal.low_places-held-requires
-low_places-held-requires g c = subst (IsClearFrom 8) (sym c.board.ensures) c.requires
+low_places-held-requires g c = (omega arith, (subst (IsClearFrom 8) (sym c.board.ensures) c.requires, (refl, omega arith)))
 
 pub returns-clause-held : goal.returns-clause-held
 returns-clause-held g c =
-    places_held (IsPlace srs_table (filled c.args.well.now) c.args.drop_mode) c.args.piece (states_of c.low_places-held.result) c.of_states.result c.of_states.ensures.held
-    (subst (λ (F : Field). HasExactly (IsPlace srs_table F c.args.drop_mode) c.args.piece (states_of c.low_places-held.result)) c.board.ensures c.low_places-held.ensures)
+    let F = filled c.args.well.now in
+    places_held (IsPlace srs_table F c.args.drop_mode) c.args.piece (states_of c.low_places-held.result) c.of_states.result c.of_states.ensures.held
+    (places_under F c.args.drop_mode c.args.piece (states_of c.low_places-held.result) c.requires
+    (subst (λ (F : Field). HasExactly (IsUnder 24 (IsPlace srs_table F c.args.drop_mode)) c.args.piece (states_of c.low_places-held.result)) c.board.ensures c.low_places-held.ensures))
 
 pub returns-clause-window : goal.returns-clause-window
 returns-clause-window g c = λ r q clear low.

@@ -10,4 +10,4 @@ pub returns-clause-held : goal.returns-clause-held
 unfolding flood_table
 returns-clause-held c =
     low_places_held (IsPlace (flood_table c.args.self.now) (field_of c.args.filled.now) c.args.drop_mode) c.args.piece c.args.rows c.of_states.result (states_of c.whole_places-states.result)
-    c.of_states.ensures.held c.whole_places-states.ensures
+    c.of_states.ensures.held (λ q kind low. c.whole_places-states.ensures.exact q kind)
