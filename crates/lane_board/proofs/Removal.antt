@@ -1,5 +1,5 @@
 -- Which cells are left after full rows are removed.
-use Rattle.std.proofs.Common.{◌≡◌, ◌≢◌, ℕ, zero, suc, ◌+◌, ◌-◌, ◌<◌, ◌≤◌, true, false, not, cond, ◌&&◌, ◌==◌, ◌⊎◌, inl, inr, refl, ap, ◌∙◌, subst, arith}
+use Rattle.std.proofs.Common.{◌≡◌, ◌≢◌, ℕ, zero, suc, ◌+◌, ◌-◌, ◌<◌, ◌≤◌, true, false, not, cond, ◌&&◌, ◌==◌, ◌⊎◌, inl, inr, refl, sym, ap, ◌∙◌, subst, arith}
 use Rattle.std.proofs.Math.Path.{fun_ext}
 use Rattle.std.proofs.lemmas.Bool.{and_parts, and_from, or_cases, or_left, or_right, not-true, not_from_false, eqb-true, eq-eqb, cases_Bool, cases_eq, cases_order, ne_eqb, false≢true, and_left, and_right}
 use Rattle.lane_board.specs.Field.{Field}
@@ -79,6 +79,15 @@ without_full_rows-full F n full = left_same F n (λ x. and_right _ _ (ap not ful
 
 pub without_full_rows-empty : (F : Field) (n : ℕ) → ((x : ℕ) → F x n ≡ false) → without_full_rows F (suc n) ≡ without_full_rows F n
 without_full_rows-empty F n empty = left_same F n (λ x. and_left _ _ (empty x))
+
+-- empty rows at the top make no difference
+pub without_full_rows-above : (F : Field) (low high : ℕ) → low ≤ high → ((x y : ℕ) → low ≤ y → F x y ≡ false) → without_full_rows F low ≡ without_full_rows F high
+without_full_rows-above F low high few above = more (high - low) high (omega (arith, few))
+  where
+    more : (n top : ℕ) → top ≡ n + low → without_full_rows F low ≡ without_full_rows F top
+    more zero top is = ap (without_full_rows F) (omega (arith, is))
+    more (suc n) zero is = absurd (omega (arith, is))
+    more (suc n) (suc top) is = more n top (omega (arith, is)) ∙ sym (without_full_rows-empty F top (λ x. above x top (omega (arith, is))))
 
 pub full_below-empty : (F : Field) (n : ℕ) → ((x : ℕ) → F x n ≡ false) → full_below F (suc n) ≡ full_below F n
 unfolding is_full

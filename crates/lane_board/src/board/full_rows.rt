@@ -1,5 +1,5 @@
 // Full rows: which they are, and the board without them.
-ghost use Rattle.std.specs.Prelude.{◌≡◌, count_ones};
+ghost use Rattle.std.specs.Prelude.{◌≡◌, ℕ, ◌≤◌, false, count_ones};
 ghost use Rattle.lane_board.specs.Board.{field_of};
 ghost use Rattle.lane_board.specs.FullRows.{is_full, full_below, without_full_rows};
 ghost use Rattle.lane_board.specs.Lanes.{has_bit};
@@ -22,16 +22,25 @@ impl<const N: usize> LaneBoard<N> {
         full
     }
 
+    /// How many of the lowest rows may have cells: the first eight, or all of them.
+    fn used_rows(&self) -> usize
+        ensures within { result ≤ N }
+        ensures above { (x y : ℕ) → result ≤ y → field_of self.now x y ≡ false }
+    {
+        if self.minus(&LaneBoard::rows_below(8)).is_empty() {
+            return 8;
+        }
+        N
+    }
+
     /// The board without its full rows. Every other cell moves down by the number of full rows below it.
     pub fn without_full_rows(&self) -> LaneBoard<N>
         ensures { field_of result ≡ without_full_rows (field_of self.now) N }
     {
-        if self.full_rows() == 0 {
-            return *self;
-        }
+        let used = self.used_rows();
         let mut rows = [0; N];
         let mut kept = 0;
-        for y in 0..N {
+        for y in 0..used {
             let row = self.rows[y];
             if row != FULL {
                 rows[kept] = row;

@@ -1,21 +1,12 @@
--- One row more, and all of them; where no row is full the board stays.
-use Rattle.std.proofs.Common.{ℕ, Bool, refl, sym, ap, ◌∙◌, arith}
+-- One row more, and all that may have cells.
+use Rattle.std.proofs.Common.{refl, ap, ◌∙◌, arith}
 use Rattle.lane_board.specs.Board.{field_of}
 use Rattle.lane_board.specs.FullRows.{without_full_rows}
-use Rattle.lane_board.specs.Lanes.{has_bit, cells_of_bits}
-use Rattle.lane_board.proofs.BoardRows.{cell_within}
-use Rattle.lane_board.proofs.Removal.{without_full_rows-none}
-use Rattle.lane_board.proofs.RowBits.{has_bit-zero}
+use Rattle.lane_board.specs.Lanes.{cells_of_bits}
+use Rattle.lane_board.proofs.Removal.{without_full_rows-above}
 use Rattle.lane_board.proofs.RowRemoval.{copied_none, copied_full, copied_row}
 use Rattle.lane_board.proofs.board.LaneBoard.without_full_rows.Goals as goal
 use Rattle.lane_board.proofs.board.LaneBoard.without_full_rows.Goals.{then-row-ne-FULL, else-row-ne-FULL}
-
-pub returns-then-full_rows-eq0 : goal.returns-then-full_rows-eq0
-unfolding field_of
-returns-then-full_rows-eq0 g c =
-    let b = c.args.self.now in
-    let none = λ (y : ℕ). sym (ap (λ (full : ℕ → Bool). full y) c.full_rows.ensures.rows) ∙ ap (λ mask. has_bit mask y) c.if-full_rows-eq0.true ∙ has_bit-zero y in
-    without_full_rows-none (cells_of_bits b.rows) g.row.N (λ x y filled. (cell_within g.row.N b.rows x y b.size b.in_columns filled).1) none
 
 pub loop-y-init : goal.loop-y-init
 loop-y-init g c = copied_none c.args.self.now.rows g.row.N c.args.self.now.size
@@ -36,4 +27,7 @@ invariant_of-result-clause-size g c = c.loop-y.invariant.size ∙ c.args.self.no
 
 pub returns : goal.returns
 unfolding field_of
-returns g c = c.loop-y.invariant.cells ∙ ap (without_full_rows (cells_of_bits c.args.self.now.rows)) (omega arith)
+returns g c =
+    c.loop-y.invariant.cells
+    ∙ ap (without_full_rows (cells_of_bits c.args.self.now.rows)) (omega arith)
+    ∙ without_full_rows-above (cells_of_bits c.args.self.now.rows) c.used_rows-used.result g.row.N c.used_rows-used.ensures.within c.used_rows-used.ensures.above
