@@ -54,13 +54,23 @@ impl Frame {
         None
     }
 
-    /// Keeps the line after a piece of this kind, if a placement is to come after it.
+    /// Whether another place is still to be entered.
+    #[inline(always)]
+    fn has_places(&self) -> bool {
+        match &self.places {
+            None => false,
+            Some(places) => !places.is_empty(),
+        }
+    }
+
+    /// Keeps the line after a piece of this kind, if a placement is to come after it, and another place of its kind may
+    /// need the line.
     pub fn keep_line(&mut self, piece: Piece)
         requires { IsTrue (may_play (queues_in_play self.old.setup.line.queues) piece) }
         ensures same { self.new.setup ≡ self.old.setup }
         ensures places { SamePlaces self.old self.new }
     {
-        if self.setup.left == 0 || self.kept_line(piece).is_some() {
+        if self.setup.left == 0 || self.kept_line(piece).is_some() || !self.has_places() {
             return;
         }
         self.setup.lead_line(piece, None, &mut self.next_line);

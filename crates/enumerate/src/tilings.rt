@@ -182,8 +182,7 @@ impl Tilings {
         let mut open = *places;
         open.leave_out(&known.dead.words());
         open.leave_out(&known.live.words());
-        let mut rest = open;
-        if let None = rest.take_least() {
+        if open.is_empty() {
             return known.dead.words();
         }
         let mut answers = *known;

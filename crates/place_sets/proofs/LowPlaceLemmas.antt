@@ -1,7 +1,7 @@
 -- Placements in low rows, by the words that have their pivots.
-use Rattle.std.proofs.Common.{◌≡◌, ◌≢◌, ◌↔◌, ℕ, zero, suc, ◌+◌, ◌-◌, ◌*◌, ◌/◌, ◌%◌, ◌<◌, ◌≤◌, Bool, true, false, nat_lt, ◌&&◌, not, ◌==◌, Option, Some, None, List, length, set, get_or, get_or-set_other, get_or-set_same, ◌⊎◌, refl, sym, ap, ◌∙◌, inl, inr, arith}
+use Rattle.std.proofs.Common.{◌≡◌, ◌≢◌, ◌↔◌, ℕ, zero, suc, ◌+◌, ◌-◌, ◌*◌, ◌/◌, ◌%◌, ◌<◌, ◌≤◌, Bool, true, false, nat_lt, ◌&&◌, ◌||◌, not, ◌==◌, Option, Some, None, List, length, set, get_or, get_or-set_other, get_or-set_same, ◌⊎◌, refl, sym, ap, ◌∙◌, inl, inr, arith}
 use Rattle.std.specs.Prelude.{IsTrue}
-use Rattle.std.proofs.lemmas.Bool.{and_parts, and_from, both_ways, cases_Bool, cases_eq, cases_lt, cases_order, eq-eqb, eqb-true, lt-ltb, ltb-true, ne_eqb, not-true, not_from_false}
+use Rattle.std.proofs.lemmas.Bool.{and_parts, and_from, both_ways, cases_Bool, cases_eq, cases_lt, cases_order, eq-eqb, eqb-true, lt-ltb, ltb-true, ne_eqb, not-true, not_from_false, false_from_ne_true, false≢true}
 use Rattle.lane_board.specs.Lanes.{has_bit}
 use Rattle.lane_board.specs.Words.{cells_of_words}
 use Rattle.lane_board.proofs.CallerLemmas.{has_bit-zero, same_from_both}
@@ -304,3 +304,33 @@ held_under P piece M rows S few are q kind low = (
   λ held. ((are.exact q kind).0 held).is,
   λ is. (are.exact q kind).1 (record { below = omega (arith, few, ltb-true q.y (rows - rows_over_pivot q.piece q.rotation) ((below_by_pivot rows q).1 low)); is = is }),
 )
+
+-- none of two is true
+pub none_of_either : (a b : Bool) → (a || b) ≡ false → (a ≡ false) × (b ≡ false)
+none_of_either true b e = absurd (false≢true (sym e))
+none_of_either false b e = (refl, e)
+
+-- where no word has a bit, nothing is held
+pub held_none : (places : LowPlaces) → ((w k : ℕ) → w < 8 → k < 64 → has_bit (get_or places.words w 0) k ≡ false) → (q : Placement) → holds places q ≡ false
+held_none places none q = false_from_ne_true _ (λ held.
+    let cell = cell-parts places.words (rotation_place q.rotation) q.x q.y (low_holds-parts places q held).1 in
+    both_ways _ (none (word_of (rotation_place q.rotation) q.y) (bit_of q.x q.y) (omega (arith, few_places q.rotation, cell.1)) (omega (arith, cell.0))) cell.2)
+
+-- where nothing is held, no word has a bit
+pub no_bits : (places : LowPlaces) → ((q : Placement) → holds places q ≡ false) → (w k : ℕ) → w < 8 → k < 64 → has_bit (get_or places.words w 0) k ≡ false
+no_bits places none w k below within = false_from_ne_true _ (λ has.
+    let at = rotation_at (w / 2) (omega (arith, below)) in
+    let is = at.1 in
+    let word : word_of (rotation_place at.0) (4 * (w % 2) + k / 16) ≡ w = omega (arith, is, within) in
+    let bit : bit_of (k % 16) (4 * (w % 2) + k / 16) ≡ k = omega (arith, within) in
+    let q : Placement = record { piece = piece_of places; rotation = at.0; x = k % 16; y = 4 * (w % 2) + k / 16 } in
+    both_ways _ (none q)
+    (low_holds-from places q refl (cell-from places.words (rotation_place at.0) (k % 16) (4 * (w % 2) + k / 16) (omega arith) (omega (arith, within))
+    ((λ i. has_bit (get_or places.words (word i) 0) (bit i)) ∙ has))))
+  where
+    rotation_at : (place : ℕ) → place < 4 → (rotation : Rotation) × (rotation_place rotation ≡ place)
+    rotation_at zero small = (Spawn, refl)
+    rotation_at (suc zero) small = (Right, refl)
+    rotation_at (suc (suc zero)) small = (Reverse, refl)
+    rotation_at (suc (suc (suc zero))) small = (Left, refl)
+    rotation_at (suc (suc (suc (suc place)))) small = absurd (omega arith)

@@ -8,7 +8,9 @@ ghost use Rattle.srs.specs.Rotation.{rotation_place};
 use crate::pivots::Pivots;
 use crate::scan::rotation_at;
 use crate::tops::rows_left;
-use crate::words::{bits_under, bits_without, four_rows, lowest_bit, without_lowest};
+use crate::words::{
+    bits_of_both, bits_under, bits_without, four_rows, has_none, lowest_bit, without_lowest,
+};
 use lane_board::LaneBoard;
 use srs::{Piece, Placement};
 
@@ -61,7 +63,7 @@ fn placement_at(piece: Piece, word: usize, bit: u16) -> Placement
 }
 
 impl LowPlaces {
-    ghost use Rattle.std.specs.Prelude.{◌↔◌, ◌≢◌, not, IsTrue, MatchOption, None, Some, slice_index};
+    ghost use Rattle.std.specs.Prelude.{◌↔◌, ◌≢◌, not, false, IsTrue, MatchOption, None, Some, slice_index};
     ghost use Rattle.srs.specs.Order.{placement_cmp};
     ghost use Rattle.lane_board.specs.Words.{cells_of_words};
     ghost use Rattle.srs.specs.Rising.{IsNextAbove};
@@ -123,6 +125,17 @@ impl LowPlaces {
             }
         }
         None
+    }
+
+    /// Whether there is no placement.
+    #[inline(always)]
+    pub fn is_empty(&self) -> bool
+        ensures { IsTrue result ↔ ((q : Placement) → holds self.now q ≡ false) }
+    {
+        let [a, b, c, d, e, f, g, h] = self.words;
+        let four = bits_of_both(bits_of_both(bits_of_both(a, b), c), d);
+        let others = bits_of_both(bits_of_both(bits_of_both(e, f), g), h);
+        has_none(bits_of_both(four, others))
     }
 
     /// Removes the least placement and returns it. `None` exactly if there is none.

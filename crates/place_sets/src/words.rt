@@ -1,5 +1,5 @@
 // Bits of words of 64 bits.
-ghost use Rattle.std.specs.Prelude.{◌≡◌, ℕ, ◌*◌, ◌+◌, ◌-◌, ◌<◌, ◌≤◌, nat_le, nat_lt, ◌&&◌, ◌==◌, not};
+ghost use Rattle.std.specs.Prelude.{◌≡◌, ℕ, ◌*◌, ◌+◌, ◌-◌, ◌<◌, ◌≤◌, nat_le, nat_lt, ◌&&◌, ◌||◌, ◌==◌, ◌↔◌, IsTrue, not, false};
 ghost use Rattle.lane_board.specs.Board.{field_of};
 ghost use Rattle.lane_board.specs.Lanes.{has_bit};
 ghost use Rattle.place_sets.specs.FourRows.{IsFourRows};
@@ -66,6 +66,22 @@ pub(crate) fn bits_without(word: u64, others: u64) -> u64
     ensures nothing { word ≡ 0 → result ≡ 0 }
 {
     word ^ (word & others)
+}
+
+/// The bits of two words.
+#[inline(always)]
+pub(crate) fn bits_of_both(one: u64, other: u64) -> u64
+    ensures { (k : ℕ) → has_bit result k ≡ (has_bit one k || has_bit other k) }
+{
+    one | other
+}
+
+/// Whether a word has no bit.
+#[inline(always)]
+pub(crate) fn has_none(word: u64) -> bool
+    ensures { IsTrue result ↔ ((k : ℕ) → k < 64 → has_bit word k ≡ false) }
+{
+    word == 0
 }
 
 /// For no row up to eight: all bits of these rows, in two words of four rows.
