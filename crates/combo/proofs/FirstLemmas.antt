@@ -1,5 +1,5 @@
 -- The first of the runs of so many placements.
-use Rattle.std.proofs.Common.{◌≡◌, ◌≢◌, ℕ, ◌-◌, ◌≤◌, ◌<◌, false, List, [], ◌∷◌, length, map, refl, ap, sym, subst, ◌∙◌, arith, Option, Some, None, inl, inr, ◌⊎◌}
+use Rattle.std.proofs.Common.{◌≡◌, ◌≢◌, ℕ, ◌-◌, ◌≤◌, ◌<◌, false, List, [], ◌∷◌, length, refl, ap, sym, subst, ◌∙◌, arith, Option, Some, None, inl, inr, ◌⊎◌}
 use Rattle.std.specs.Ordering.{is_lt, ordering_then, ordering_reverse, nat_cmp}
 use Rattle.std.specs.declared.cmp.Ordering.{Ordering}
 use Rattle.std.specs.declared.cmp.Ordering.TheVariants.{Less, Equal, Greater}
@@ -26,6 +26,7 @@ use Rattle.hold_queue.specs.Hand.{AreAllTakes, AreInOrder, Leaves, pieces_at}
 use Rattle.hold_queue.proofs.CallerLemmas.{permits-of_takes, takes-of_permits}
 use Rattle.combo.specs.Longest.{IsPermittedRun, IsLongest}
 use Rattle.combo.specs.First.{IsFirst, IsTakenRun, AreShorter, RunsOn, RunsOnIf, RunsOnUpTo}
+use Rattle.problem.specs.Solution.{pieces_of}
 
 -- ---- one placement after the other
 
@@ -239,17 +240,14 @@ empty_first table mode F hold hand count run none is = subst (IsFirst (IsTakenRu
     first [] member long less = cc
     first (p ∷ other) member long less = absurd (omega (arith, long, none))
 
-abbrev pieces : List Placement → List Piece
-pieces run = map (λ placement. placement.piece) run
-
 -- the first of the longest runs
 pub is_longest : (table : Table) (mode : DropMode) (F : Field) (hold : Hold) (queue : List Piece) (held : Option Piece) (hand : List Piece) (count : ℕ) (run : List Placement) → hand ≡ at_hand hold held queue → 1 ≤ count
     → IsFirst (IsTakenRun table mode F hold hand) (count - 1) run → AreShorter (IsTakenRun table mode F hold hand) count → IsLongest table mode F hold queue held run
 is_longest table mode F hold queue held hand count run is some first short = record {
-  permitted = record { runs = first.member.runs; permitted = permits-of_takes hold queue held (pieces run) (subst (λ l. Takes hold l (pieces run)) is first.member.taken) };
+  permitted = record { runs = first.member.runs; permitted = permits-of_takes hold queue held (pieces_of run) (subst (λ l. Takes hold l (pieces_of run)) is first.member.taken) };
   longest = λ other member. omega (arith, some, first.long, short.each other (seen other member));
   least = λ other member long. first.first other (seen other member) (omega (arith, long, first.long));
 }
   where
     seen : (other : List Placement) → IsPermittedRun table mode F hold queue held other → IsTakenRun table mode F hold hand other
-    seen other member = record { runs = member.runs; taken = subst (λ l. Takes hold l (pieces other)) (sym is) (takes-of_permits hold queue held (pieces other) member.permitted) }
+    seen other member = record { runs = member.runs; taken = subst (λ l. Takes hold l (pieces_of other)) (sym is) (takes-of_permits hold queue held (pieces_of other) member.permitted) }

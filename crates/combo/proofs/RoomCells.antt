@@ -1,21 +1,17 @@
 -- Two cells of one placement, and a column in which it crosses a height.
-use Rattle.std.proofs.Common.{◌≡◌, ◌≢◌, ℕ, ◌+◌, ◌-◌, ◌<◌, ◌≤◌, ℤ, pos, ◌+ℤ◌, ◌-ℤ◌, ◌≤ℤ◌, Bool, true, ◌&&◌, ◌||◌, T, List, [], ◌∷◌, ◌⊎◌, refl, sym, subst, ap, ◌∙◌, inl, inr, arith}
+use Rattle.std.proofs.Common.{◌≡◌, ◌≢◌, ℕ, ◌+◌, ◌-◌, ◌<◌, ◌≤◌, ℤ, pos, ◌+ℤ◌, ◌-ℤ◌, ◌≤ℤ◌, Bool, true, ◌&&◌, ◌||◌, List, [], ◌∷◌, ◌⊎◌, refl, sym, subst, ap, ◌∙◌, inl, inr, arith}
 use Rattle.std.specs.Prelude.{int_le, nat_abs}
 use Rattle.std.specs.List.{list_all}
 use Rattle.std.specs.Ordering.{int_eq}
 use Rattle.std.specs.Cmp.{signed_Decides}
-use Rattle.std.specs.Int.Signed.{le_z_yes}
 use Rattle.std.proofs.lemmas.Bool.{or_cases, or_right, cases_eq, cases_order}
 use Rattle.std.proofs.lemmas.Int.{ints}
-use Rattle.srs.proofs.CallerLemmas.{and_first, and_second, less, cell_eq-decides, has_cell-head, is_among-moved, is_among-all, each_state, in_well-place, inside_cell}
+use Rattle.srs.proofs.CallerLemmas.{and_first, and_second, less, cell_eq-decides, has_cell-head, is_among-moved, is_among-all, each_state, in_well-place, inside_cell, int_le-true}
 use Rattle.srs.specs.declared.piece.Piece.{Piece}
 use Rattle.srs.specs.declared.rotation.Rotation.{Rotation}
 use Rattle.srs.specs.declared.placement.Placement.{Placement}
 use Rattle.srs.specs.Cells.{Cell, minus, shape, moved, cells_of, pivot_of, in_well, is_inside_of}
 use Rattle.srs.specs.SameCells.{cell_eq, is_among}
-
-yes : (a b : ℤ) → int_le a b ≡ true → a ≤ℤ b
-yes a b e = le_z_yes (subst T (sym e) tt)
 
 -- of two offsets of a shape, one is at most three columns to the right of the other, or two in another row
 abbrev near : Cell → Cell → Bool
@@ -63,7 +59,7 @@ module _ (q : Placement) where
   pub within_three : (x y u v : ℕ) → Has x y → Has u v → u ≤ x + 3
   unfolding less
   within_three x y u v one other =
-      let apart : (pos u -ℤ pos q.x) ≤ℤ ((pos x -ℤ pos q.x) +ℤ pos 3) = yes _ _ (and_first _ _ (both near x y u v (all_near q.piece q.rotation) one other)) in
+      let apart : (pos u -ℤ pos q.x) ≤ℤ ((pos x -ℤ pos q.x) +ℤ pos 3) = int_le-true _ _ (and_first _ _ (both near x y u v (all_near q.piece q.rotation) one other)) in
       omega (arith, ints, apart)
 
   -- and two columns if they lie in different rows
@@ -71,7 +67,7 @@ module _ (q : Placement) where
   unfolding less
   within_two x y u v one other rows = elim (or_cases _ _ (and_second _ _ (both near x y u v (all_near q.piece q.rotation) one other))) [
     | inl same ↦ let row : (pos y -ℤ pos q.y) ≡ (pos v -ℤ pos q.y) = (signed_Decides (pos y -ℤ pos q.y) (pos v -ℤ pos q.y)).0 same in absurd (rows (omega (arith, ints, row)))
-    | inr apart ↦ let two : (pos u -ℤ pos q.x) ≤ℤ ((pos x -ℤ pos q.x) +ℤ pos 2) = yes _ _ apart in omega (arith, ints, two)
+    | inr apart ↦ let two : (pos u -ℤ pos q.x) ≤ℤ ((pos x -ℤ pos q.x) +ℤ pos 2) = int_le-true _ _ apart in omega (arith, ints, two)
   ]
 
 -- a column in which a placement has a cell in the row below a height and one in the row at it
@@ -116,7 +112,7 @@ crossing q height some inside crossed = elim (or_cases _ _ crossed) [
 -- what is tried of a row that lies above the one cell
 tried : (q : Placement) (height y : ℕ) (t : ℤ) → y < height → t ≡ pos height -ℤ pos q.y → (int_le t (pos y -ℤ pos q.y) || crosses (its_shape q) t) ≡ true → crosses (its_shape q) (pos height -ℤ pos q.y) ≡ true
 tried q height y t above is test = elim (or_cases _ _ test) [
-  | inl low ↦ let under : t ≤ℤ (pos y -ℤ pos q.y) = yes _ _ low in absurd (omega (arith, ints, under, is, above))
+  | inl low ↦ let under : t ≤ℤ (pos y -ℤ pos q.y) = int_le-true _ _ low in absurd (omega (arith, ints, under, is, above))
   | inr crossed ↦ subst (λ r. crosses (its_shape q) r ≡ true) is crossed
 ]
 
@@ -131,7 +127,7 @@ crosses_height q height x y u v inside one other below above =
     let two_rows : Bool = int_le (up -ℤ pos 1) from || crosses (its_shape q) (up -ℤ pos 1) in
     let three_rows : Bool = int_le (up -ℤ pos 2) from || crosses (its_shape q) (up -ℤ pos 2) in
     let all : (steep && (one_row && (two_rows && three_rows))) ≡ true = both q (climbs (its_shape q)) x y u v (all_climb q.piece q.rotation) one other in
-    let high : up ≤ℤ (from +ℤ pos 3) = yes up (from +ℤ pos 3) (and_first steep (one_row && (two_rows && three_rows)) all) in
+    let high : up ≤ℤ (from +ℤ pos 3) = int_le-true up (from +ℤ pos 3) (and_first steep (one_row && (two_rows && three_rows)) all) in
     let tests : (one_row && (two_rows && three_rows)) ≡ true = and_second steep (one_row && (two_rows && three_rows)) all in
     let later : (two_rows && three_rows) ≡ true = and_second one_row (two_rows && three_rows) tests in
     crossing q height (omega (arith, below)) inside (elim (cases_eq v height) [

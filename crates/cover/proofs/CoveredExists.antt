@@ -1,13 +1,13 @@
 -- The rising list of the covered queues: those that a test passes.
-use Rattle.std.proofs.Common.{◌≡◌, ◌∙◌, ◌↔◌, ℕ, ◌-◌, Bool, true, false, ◌&&◌, ◌||◌, ◌==◌, eqb-true, eq-eqb, List, [], ◌∷◌, length, Option, Some, None, refl, sym, ap, subst, inl, inr, arith}
-use Rattle.std.specs.Prelude.{Contains, filter, slice_get}
+use Rattle.std.proofs.Common.{◌≡◌, ◌∙◌, ◌↔◌, ℕ, ◌-◌, Bool, true, false, ◌&&◌, ◌==◌, eqb-true, eq-eqb, List, [], ◌∷◌, length, Option, Some, None, refl, ap, arith}
+use Rattle.std.specs.Prelude.{filter, slice_get}
 use Rattle.std.specs.List.{list_any, range_with_len}
 use Rattle.std.specs.Ordering.{nat_cmp}
-use Rattle.std.proofs.lemmas.Bool.{and_from, and_parts, cases_Bool}
+use Rattle.std.proofs.lemmas.Bool.{and_from, and_parts}
 use Rattle.std.proofs.lemmas.List.Kept.{IsStrictlySortedBy-filter}
 use Rattle.std.proofs.lemmas.Option.{slice_get_within}
 use Rattle.lane_board.specs.Field.{Field}
-use Rattle.srs.proofs.CallerLemmas.{Contains-cases, Contains-filter, Contains-from_filter, Contains-here, Contains-none, Contains-range, Contains-there, rising-range}
+use Rattle.srs.proofs.CallerLemmas.{Contains-filter, Contains-from_filter, Contains-range, rising-range, some_passes, any_passes}
 use Rattle.srs.specs.declared.piece.Piece.{Piece}
 use Rattle.srs.specs.declared.placement.Placement.{Placement}
 use Rattle.srs.specs.Kick.{Table}
@@ -54,28 +54,6 @@ plays-decides table mode F rows (q ∷ rest) low = (
       ((plays-decides table mode (locked F q) (rows - rows_removed F q) rest (locked-low F rows q low played.1 (place-free table F mode q played.0))).1 played.2),
 )
 
--- ---- whether some of a list passes
-
-any-from : {A : Type 0} (test : A → Bool) (xs : List A) → list_any test xs ≡ true → (x : A) × Contains xs x × (test x ≡ true)
-any-from test [] is = cc
-any-from test (x ∷ xs) is = elim (cases_Bool (test x)) [
-  | inl passes ↦ (x, Contains-here x xs, passes)
-  | inr fails ↦
-      let later = any-from test xs (sym (ap (λ b. b || list_any test xs) fails) ∙ is) in
-      (later.0, Contains-there x xs later.0 later.1, later.2)
-]
-
-any-to : {A : Type 0} (test : A → Bool) (xs : List A) (x : A) → Contains xs x → test x ≡ true → list_any test xs ≡ true
-any-to test [] x among passes = absurd (Contains-none x among)
-any-to test (y ∷ xs) x among passes = elim (Contains-cases y xs x among) [
-  | inl here ↦ ap (λ b. b || list_any test xs) (subst (λ z. test z ≡ true) (sym here) passes)
-  | inr there ↦ either (test y) (list_any test xs) (any-to test xs x there passes)
-]
-  where
-    either : (a b : Bool) → b ≡ true → (a || b) ≡ true
-    either true b is = refl
-    either false b is = is
-
 -- ---- the covered queues
 
 module _ (problem : Problem) (fit : IsFit problem) (sequences : List (List Placement)) where
@@ -103,7 +81,7 @@ module _ (problem : Problem) (fit : IsFit problem) (sequences : List (List Place
   unfolding covers answers all_queues
   covers-is number None there is = cc
   covers-is number (Some queue) there is =
-      let one = any-from (λ sequence. clears sequence && permits problem.hold queue problem.held (pieces_of sequence)) sequences is in
+      let one = some_passes (λ sequence. clears sequence && permits problem.hold queue problem.held (pieces_of sequence)) sequences is in
       let parts = and_parts (clears one.0) (permits problem.hold queue problem.held (pieces_of one.0)) one.2 in
       record {
         queue = queue;
@@ -118,7 +96,7 @@ module _ (problem : Problem) (fit : IsFit problem) (sequences : List (List Place
   unfolding covers answers all_queues
   covers-from number is =
       ap covers is.there
-      ∙ any-to (λ sequence. clears sequence && permits problem.hold is.queue problem.held (pieces_of sequence)) sequences is.sequence is.given
+      ∙ any_passes (λ sequence. clears sequence && permits problem.hold is.queue problem.held (pieces_of sequence)) sequences is.sequence is.given
       (and_from (clears is.sequence) (permits problem.hold is.queue problem.held (pieces_of is.sequence))
       ((clears-decides is.sequence).1 is.plays)
       ((permits-decides problem.hold is.queue problem.held (pieces_of is.sequence)).1 is.permitted))

@@ -1,29 +1,16 @@
 -- The queues between two that begin alike begin so too.
-use Rattle.std.proofs.Common.{◌≡◌, ◌⊎◌, ℕ, zero, suc, ◌+◌, ◌<◌, ◌≤◌, List, [], ◌∷◌, length, take, get_or, Some, slice_get, refl, sym, ap, subst, ◌∙◌, inl, inr, arith}
-use Rattle.std.specs.Cmp.{nat_cmp_is}
+use Rattle.std.proofs.Common.{◌≡◌, ℕ, zero, suc, ◌+◌, ◌<◌, ◌≤◌, List, [], ◌∷◌, length, take, get_or, Some, slice_get, refl, sym, ap, subst, ◌∙◌, inl, inr, arith}
 use Rattle.std.specs.List.Sorted.{IsStrictlySortedBy}
-use Rattle.std.specs.Ordering.{nat_cmp, ordering_then}
-use Rattle.std.specs.declared.cmp.Ordering.{Ordering}
-use Rattle.std.specs.declared.cmp.Ordering.TheVariants.{Less, Equal, Greater}
-use Rattle.std.proofs.lemmas.Bool.{cases_eq, cases_lt, cases_order}
+use Rattle.std.specs.declared.cmp.Ordering.TheVariants.{Less}
+use Rattle.std.proofs.lemmas.Bool.{cases_eq, cases_lt}
 use Rattle.std.proofs.lemmas.Map.Keys.{Less-from_sorted}
 use Rattle.std.proofs.lemmas.Option.{get_or_from_slice_get, slice_get_within}
 use Rattle.srs.specs.declared.piece.Piece.{Piece}
 use Rattle.srs.specs.Piece.{piece_code}
-use Rattle.srs.proofs.CallerLemmas.{piece_code-injective}
+use Rattle.srs.proofs.CallerLemmas.{piece_code-injective, then_less}
 use Rattle.queue_pattern.specs.Order.{queue_cmp}
 use Rattle.hold_queue.specs.Hand.{HasSameFront}
 use Rattle.cover.specs.Fronts.{ShareFront}
-
--- what it means that the first difference is less
-cmp-less : (m n : ℕ) (rest : Ordering) → ordering_then (nat_cmp m n) rest ≡ Less → (m < n) ⊎ ((m ≡ n) × (rest ≡ Less))
-cmp-less m n rest less = elim (cases_order m n) [
-  | inl same ↦ inr (same, ap (λ o. ordering_then o rest) (nat_cmp_is m n Equal same) ∙ less)
-  | inr apart ↦ elim apart [
-    | inl below ↦ inl below
-    | inr above ↦ let both : Greater ≡ Less = ap (λ o. ordering_then o rest) (nat_cmp_is m n Greater above) ∙ less in cc
-  ]
-]
 
 between : (count : ℕ) (first middle last : List Piece) → queue_cmp first middle ≡ Less → queue_cmp middle last ≡ Less → take count last ≡ take count first → take count middle ≡ take count first
 between zero first middle last one two same = refl
@@ -36,12 +23,12 @@ between (suc count) (x ∷ first) (y ∷ middle) (z ∷ last) one two same =
     let head : z ≡ x = cc in
     let tail : take count last ≡ take count first = cc in
     let code : piece_code z ≡ piece_code x = ap piece_code head in
-    elim (cmp-less (piece_code x) (piece_code y) (queue_cmp first middle) one) [
-      | inl below ↦ elim (cmp-less (piece_code y) (piece_code z) (queue_cmp middle last) two) [
+    elim (then_less (piece_code x) (piece_code y) (queue_cmp first middle) one) [
+      | inl below ↦ elim (then_less (piece_code y) (piece_code z) (queue_cmp middle last) two) [
         | inl under ↦ absurd (omega (arith, below, under, code))
         | inr tied ↦ absurd (omega (arith, below, tied.0, code))
       ]
-      | inr tied ↦ elim (cmp-less (piece_code y) (piece_code z) (queue_cmp middle last) two) [
+      | inr tied ↦ elim (then_less (piece_code y) (piece_code z) (queue_cmp middle last) two) [
         | inl under ↦ absurd (omega (arith, tied.0, under, code))
         | inr also ↦
             ap (λ p. p ∷ take count middle) (sym (piece_code-injective x y tied.0))

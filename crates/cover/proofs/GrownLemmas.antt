@@ -1,14 +1,15 @@
 -- A tree with one node more below another one.
-use Rattle.std.proofs.Common.{◌≡◌, ℕ, zero, suc, ◌+◌, ◌-◌, ◌<◌, ◌≤◌, Bool, true, false, ◌&&◌, ◌||◌, ◌==◌, nat_lt, get_or, List, [], ◌∷◌, ◌++◌, length, Some, slice_get, set, refl, sym, ap, subst, ◌∙◌, inl, inr, arith, length-append}
+use Rattle.std.proofs.Common.{◌≡◌, ℕ, zero, suc, ◌+◌, ◌-◌, ◌<◌, ◌≤◌, true, false, ◌&&◌, ◌||◌, ◌==◌, nat_lt, get_or, List, [], ◌∷◌, ◌++◌, length, Some, slice_get, set, refl, sym, ap, subst, ◌∙◌, inl, inr, arith, length-append}
 use Rattle.std.proofs.lemmas.Bool.{cases_eq, cases_lt, eq-eqb, ne_eqb, and_right, or_right}
 use Rattle.std.proofs.lemmas.List.{length-set}
-use Rattle.std.proofs.lemmas.Option.{slice_get_read}
+use Rattle.std.proofs.lemmas.Option.{slice_get_read, slice_get_past}
 use Rattle.srs.specs.declared.piece.Piece.{Piece}
 use Rattle.srs.specs.Piece.{piece_code}
 use Rattle.srs.proofs.CallerLemmas.{piece_code-injective}
 use Rattle.cover.specs.declared.node.Node.{Node}
 use Rattle.cover.specs.Nodes.{child, child_of, ends_of, has_end, node_child, spells, Ends, HasGrown, IsBlank, IsTree, IsWith}
-use Rattle.cover.proofs.ReadLemmas.{get-written, get-others, get-before, get-pushed, get-past}
+use Rattle.cover.proofs.ReadLemmas.{get-written, get-others, get-before, get-pushed}
+use Rattle.lane_board.proofs.CallerLemmas.{or_none}
 
 pub child-at : (nodes : List Node) (at : ℕ) (node : Node) (kind : Piece) → slice_get nodes at ≡ Some node → child nodes at kind ≡ node_child node kind
 unfolding child
@@ -20,11 +21,11 @@ end-at nodes at node there = ap ends_of there
 
 child-past : (nodes : List Node) (at : ℕ) (kind : Piece) → length nodes ≤ at → child nodes at kind ≡ 0
 unfolding child
-child-past nodes at kind past = ap (λ o. child_of o kind) (get-past nodes at past)
+child-past nodes at kind past = ap (λ o. child_of o kind) (slice_get_past nodes at past)
 
 end-past : (nodes : List Node) (at : ℕ) → length nodes ≤ at → has_end nodes at ≡ false
 unfolding has_end
-end-past nodes at past = ap ends_of (get-past nodes at past)
+end-past nodes at past = ap ends_of (slice_get_past nodes at past)
 
 same-child : (old new : List Node) (at : ℕ) (kind : Piece) → slice_get new at ≡ slice_get old at → child new at kind ≡ child old at kind
 unfolding child
@@ -250,11 +251,7 @@ ended nodes at first last within there below ends = record {
         (end-at (set nodes at last) at last (get-written nodes at last within) ∙ ends ∙ sym (or_right (has_end nodes at) (at == at) (eq-eqb at at refl)))
     | inr apart ↦
         same-end nodes (set nodes at last) other (get-others nodes at other last apart)
-        ∙ sym (or_false (has_end nodes other) (other == at) (ne_eqb other at apart))
+        ∙ sym (or_none (has_end nodes other) (other == at) (ne_eqb other at apart))
   ];
   long = length-set nodes at last;
 }
-  where
-    or_false : (a b : Bool) → b ≡ false → (a || b) ≡ a
-    or_false true b e = refl
-    or_false false b e = e

@@ -1,10 +1,11 @@
 -- Lists of kinds that are the same, and a list that is kept.
 use Rattle.std.proofs.Common.{◌≡◌, ◌⊎◌, Bool, true, false, ◌||◌, ◌==◌, List, [], ◌∷◌, ◌++◌, Contains, map, if◌then◌else◌, refl, sym, ap, subst, ◌∙◌, inl, inr}
 use Rattle.std.specs.List.{list_any}
-use Rattle.std.proofs.lemmas.Bool.{and_parts, and_from, both_ways, eqb-true, eq-eqb, or_left, or_right}
+use Rattle.std.proofs.lemmas.Bool.{and_parts, and_from, both_ways, eqb-true, eq-eqb, or_left, or_right, or_cases}
 use Rattle.std.proofs.lemmas.List.Folds.{list_any-append}
 use Rattle.std.specs.Cmp.Lexicographic.{pointwise, pointwise_decides}
 use Rattle.std.proofs.lemmas.List.{map-append}
+use Rattle.std.proofs.Math.Bool.{or-false}
 use Rattle.arrayvec.specs.ArrayVec.{ArrayVec}
 use Rattle.indexmap.specs.IndexSet.{insert_key}
 use Rattle.indexmap.proofs.CallerLemmas.{Contains-list_any}
@@ -46,11 +47,7 @@ has_kinds-from (first ∷ lists) kinds among = elim (Contains-cases first lists 
 
 pub has_kinds-pushed : (lists : List (List Piece)) (last kinds : List Piece) → has_kinds (lists ++ last ∷ []) kinds ≡ (has_kinds lists kinds || same_kinds kinds last)
 unfolding has_kinds
-has_kinds-pushed lists last kinds = list_any-append (same_kinds kinds) lists (last ∷ []) ∙ ap (λ b. list_any (same_kinds kinds) lists || b) (or_none (same_kinds kinds last))
-  where
-    or_none : (b : Bool) → (b || false) ≡ b
-    or_none true = refl
-    or_none false = refl
+has_kinds-pushed lists last kinds = list_any-append (same_kinds kinds) lists (last ∷ []) ∙ ap (λ b. list_any (same_kinds kinds) lists || b) (or-false (same_kinds kinds last))
 
 -- equal vectors of pieces are those with the same kinds
 abbrev pub equal_kinds : ArrayVec Piece → ArrayVec Piece → Bool
@@ -82,11 +79,6 @@ keys-kept keys kinds = by (list_any (equal_kinds kinds) keys) refl
       λ among. both_ways _ absent (any-has keys kinds ∙ has_kinds-from (map listed_kinds keys) kinds.items among),
       ap (λ b. map listed_kinds (if b then keys else keys ++ kinds ∷ [])) absent ∙ map-append listed_kinds keys (kinds ∷ []),
     )
-
--- what is among lists of which one was kept
-or_cases : (a b : Bool) → (a || b) ≡ true → (a ≡ true) ⊎ (b ≡ true)
-or_cases true b e = inl refl
-or_cases false b e = inr e
 
 pub has-old : (old new : List (List Piece)) (kinds other : List Piece) → Keeps old new kinds → has_kinds old other ≡ true → has_kinds new other ≡ true
 has-old old new kinds other (inl there) has = ap (λ l. has_kinds l other) there.1 ∙ has

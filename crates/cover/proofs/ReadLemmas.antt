@@ -1,5 +1,5 @@
 -- What stands at a place of a list after a write and after a push.
-use Rattle.std.proofs.Common.{◌≡◌, ℕ, zero, suc, ◌<◌, ◌≤◌, List, [], ◌∷◌, ◌++◌, length, Some, None, slice_get, set, refl, ap, arith}
+use Rattle.std.proofs.Common.{◌≡◌, ℕ, zero, suc, ◌<◌, List, [], ◌∷◌, ◌++◌, length, Some, slice_get, set, refl, ap, arith}
 
 pub get-written : {A : Type 0} (xs : List A) (i : ℕ) (x : A) → i < length xs → slice_get (set xs i x) i ≡ Some x
 get-written [] i x within = absurd (omega arith)
@@ -23,8 +23,3 @@ get-pushed [] zero x is = refl
 get-pushed [] (suc j) x is = absurd (omega arith)
 get-pushed (y ∷ ys) zero x is = absurd (omega arith)
 get-pushed (y ∷ ys) (suc j) x is = get-pushed ys j x (omega arith)
-
-pub get-past : {A : Type 0} (xs : List A) (j : ℕ) → length xs ≤ j → slice_get xs j ≡ None
-get-past [] j past = refl
-get-past (y ∷ ys) zero past = absurd (omega arith)
-get-past (y ∷ ys) (suc j) past = get-past ys j (omega arith)

@@ -8,13 +8,13 @@ use Rattle.srs.specs.declared.placement.Placement.{Placement}
 use Rattle.srs.specs.Cells.{Cell, moved, pivot_of, cells_of, is_inside_of}
 use Rattle.srs.specs.SameCells.{HasSameCells, is_same_cells}
 use Rattle.srs.specs.Canonical.{IsCanonical, canonical_rotation, canonical_move}
-use Rattle.srs.proofs.CallerLemmas.{is_same_cells-decides, same_cells-sym, same_cells-trans, LiesAt, canonical_pivot, canonical_unique, found_cells, found_canonical}
+use Rattle.srs.proofs.CallerLemmas.{is_same_cells-decides, same_cells-sym, same_cells-trans, LiesAt, canonical_pivot, canonical_unique, found_cells, found_canonical, same_placement, some_same}
 use Rattle.well.specs.Free.{is_free_at, is_free}
 use Rattle.well.proofs.CallerLemmas.{free_inside}
 use Rattle.moves.specs.Rest.{lowered, IsRest, rest_of}
 use Rattle.moves.specs.Step.{state_at}
 use Rattle.moves.specs.PlaceTest.{comes_to_rest}
-use Rattle.moves.proofs.CallerLemmas.{some_same, not_some}
+use Rattle.moves.proofs.CallerLemmas.{not_some}
 
 -- the canonical placement of a state
 pub record IsCanonicalOf (low state : Placement) : Type 0 where
@@ -89,8 +89,5 @@ by_rows F aim above state low rest canonical kind up is below of turn column =
           not_apart low.y aim.y apart one))
     ])
   where
-    same_placement : (s t : Placement) → s.piece ≡ t.piece → s.rotation ≡ t.rotation → s.x ≡ t.x → s.y ≡ t.y → s ≡ t
-    same_placement s t p r x y = λ i. record { piece = p i; rotation = r i; x = x i; y = y i }
-
     not_apart : (m n : ℕ) → (m == n) ≡ false → m ≡ n → ⊥
     not_apart m n apart one = grind (arith, nat_tests)

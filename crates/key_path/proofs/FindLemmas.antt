@@ -9,7 +9,7 @@ use Rattle.lane_board.specs.Field.{Field}
 use Rattle.srs.specs.declared.placement.Placement.{Placement}
 use Rattle.srs.specs.Kick.{Table}
 use Rattle.srs.specs.SameCells.{HasSameCells}
-use Rattle.srs.proofs.CallerLemmas.{same_cells-sym, same_cells-trans, same_cells-piece, Contains-here, Contains-cases, Contains-none}
+use Rattle.srs.proofs.CallerLemmas.{same_cells-sym, same_cells-trans, same_cells-piece, Contains-here, Contains-cases, Contains-none, some_same}
 use Rattle.well.specs.Free.{is_free}
 use Rattle.moves.specs.declared.key.Key.{Key}
 use Rattle.moves.specs.declared.key.DropMode.{DropMode}
@@ -19,7 +19,7 @@ use Rattle.moves.specs.PlaceTest.{comes_to_rest}
 use Rattle.moves.specs.Place.{LeadsToRest}
 use Rattle.moves.specs.Step.{step_of}
 use Rattle.moves.specs.Walk.{led, Leads}
-use Rattle.moves.proofs.CallerLemmas.{IsFreeState, step_is_finite, step_of-free, pivot_of_free, one_state, led_good, led_none, some_same, not_some, from_tests, to_tests}
+use Rattle.moves.proofs.CallerLemmas.{IsFreeState, step_is_finite, step_of-free, pivot_of_free, one_state, led_good, led_none, not_some, from_tests, to_tests}
 use Rattle.circular_buffer.specs.Buffer.{Buffer, buffer, keep_last}
 use Rattle.key_path.specs.declared.marks.Mark.{Mark}
 use Rattle.key_path.specs.declared.marks.Mark.TheVariants.{Unseen, Start, From}

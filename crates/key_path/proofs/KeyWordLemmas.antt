@@ -10,7 +10,7 @@ use Rattle.lane_board.specs.Field.{Field}
 use Rattle.srs.specs.declared.placement.Placement.{Placement}
 use Rattle.srs.specs.Kick.{Table}
 use Rattle.srs.specs.Rising.{is_above, IsNextAbove, IsRisingListOf}
-use Rattle.srs.proofs.CallerLemmas.{Contains-here, Contains-cases, Contains-none, Contains-flat_map, Contains-from_flat_map, Contains-map, Contains-from_map, Contains-range, range-from, find-true, find-false, filter-true, filter-false, rising-none, rising-cons, rising-flat_map, rising-map, rising-range, find-next_of, IsNextAbove-unique, IsRisingListOf-filter}
+use Rattle.srs.proofs.CallerLemmas.{Contains-here, Contains-cases, Contains-none, Contains-flat_map, Contains-from_flat_map, Contains-map, Contains-from_map, Contains-range, range-from, find-true, find-false, filter-true, filter-false, rising-none, rising-cons, rising-flat_map, rising-map, rising-range, find-next_of, IsNextAbove-unique, IsRisingListOf-filter, less_is_below}
 use Rattle.moves.specs.declared.key.Key.{Key}
 use Rattle.moves.specs.declared.key.Key.TheVariants.{Left, Right, Down, Clockwise, Anti}
 use Rattle.moves.specs.declared.key.DropMode.{DropMode}
@@ -23,7 +23,7 @@ use Rattle.moves.proofs.CallerLemmas.{IsFreeState, leads_to_rest-decides, from_t
 use Rattle.moves.specs.States.{state_code}
 use Rattle.key_path.specs.KeyWords.{key_place, key_cmp, key_word_cmp, key_words_of, key_words_below}
 use Rattle.key_path.specs.LeastKeyWord.{IsLeastKeyWord, least_key_word}
-use Rattle.key_path.proofs.WordLemmas.{key_place-small, shorter_before, not_both, more_first, first_key, number_before, word_cmp-total, word_cmp-antisymmetric}
+use Rattle.key_path.proofs.WordLemmas.{key_place-small, shorter_before, not_both, more_first, first_key, word_cmp-total, word_cmp-antisymmetric}
 
 -- where a key word leads there, so does one with fewer keys than there are states
 pub few_keys : (table : Table) (F : Field) (mode : DropMode) (target : Placement) (word : List Key) → LeadsToRest table F mode word target →
@@ -93,7 +93,7 @@ words_below-list : (n : ℕ) → IsRisingListOf key_word_cmp (λ word. length wo
 unfolding key_words_below
 words_below-list n = record {
   rising = rising-flat_map nat_cmp key_word_cmp key_words_of (range_with_len 0 n) (rising-range 0 n) words_of-rising
-      (λ j k less x y first second. shorter_before x y (omega (arith, has_length j x first, has_length k y second, number_before j k less)));
+      (λ j k less x y first second. shorter_before x y (omega (arith, has_length j x first, has_length k y second, less_is_below j k less)));
   members = λ word. (
     λ among. let n' = Contains-from_flat_map key_words_of (range_with_len 0 n) word among in omega (arith, has_length n'.0 word n'.2, (range-from 0 n n'.0 n'.1).1),
     λ few. Contains-flat_map key_words_of (range_with_len 0 n) (length word) word (Contains-range 0 n (length word) (omega arith) (omega (arith, few))) (has_word word),

@@ -10,9 +10,10 @@ use Rattle.moves.specs.declared.key.Key.{Key}
 use Rattle.moves.specs.declared.key.DropMode.{DropMode}
 use Rattle.moves.specs.Keys.{allows}
 use Rattle.moves.specs.Step.{step_of}
-use Rattle.moves.proofs.CallerLemmas.{some_same, not_some}
+use Rattle.moves.proofs.CallerLemmas.{not_some}
 use Rattle.key_path.specs.declared.marks.Mark.{Mark}
 use Rattle.key_path.specs.Marks.{mark_at, is_unseen, new_state}
+use Rattle.srs.proofs.CallerLemmas.{some_same}
 
 module _ (table : Table) (F : Field) (mode : DropMode) (marks : List Mark) (s : Placement) (key : Key) where
   where_unseen : Placement → Option Placement

@@ -8,10 +8,10 @@ use Rattle.std.proofs.lemmas.List.{append-nil, append_assoc, length-append}
 use Rattle.std.proofs.lemmas.List.Sums.{fold-append}
 use Rattle.std.proofs.lemmas.List.Elements.{Contains-append_left, Contains-push, Contains-push_cases}
 use Rattle.srs.specs.declared.placement.Placement.{Placement}
-use Rattle.srs.proofs.CallerLemmas.{Contains-here, Contains-there, Contains-cases, Contains-none, rising-first, rising-rest, rising-none, rising-cons, rising-append}
+use Rattle.srs.proofs.CallerLemmas.{Contains-here, Contains-there, Contains-cases, Contains-none, rising-first, rising-rest, rising-none, rising-cons, rising-append, some_same}
 use Rattle.moves.specs.declared.key.Key.{Key}
 use Rattle.moves.specs.Walk.{led, Leads}
-use Rattle.moves.proofs.CallerLemmas.{some_same, not_some, led_none}
+use Rattle.moves.proofs.CallerLemmas.{not_some, led_none}
 use Rattle.key_path.specs.KeyWords.{key_place, key_word_cmp, NotAfter}
 use Rattle.key_path.specs.Search.{Item, item_cmp, HasBy, with_key, IsClosed, AreFound, IsAhead, IsPressed}
 use Rattle.key_path.proofs.WordLemmas.{key_place-injective, not_after-itself, not_after-trans, not_after-before, before_not_after, shorter_before, not_after-front, more_before, key_before, more_not_after, key_place-small}

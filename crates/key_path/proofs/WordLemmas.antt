@@ -9,7 +9,7 @@ use Rattle.std.specs.declared.cmp.Ordering.{Ordering}
 use Rattle.std.specs.declared.cmp.Ordering.TheVariants.{Less, Equal, Greater}
 use Rattle.std.proofs.lemmas.Cmp.{ranked, upto}
 use Rattle.std.proofs.lemmas.List.{length-append, append-nil}
-use Rattle.srs.proofs.CallerLemmas.{below_is_less}
+use Rattle.srs.proofs.CallerLemmas.{below_is_less, then_second}
 use Rattle.moves.specs.declared.key.Key.{Key}
 use Rattle.moves.specs.declared.key.Key.TheVariants.{Left, Right, Down, Clockwise, Anti}
 use Rattle.moves.specs.Keys.{all_keys}
@@ -53,13 +53,8 @@ key_cmp-antisymmetric key other e = key_place-injective key other (nat_cmp-IsAnt
 pub word_cmp-total : IsTotalOrder key_word_cmp
 word_cmp-total = then_total (on_total (λ (word : List Key). length word) nat_cmp_total) (lists_total key_cmp-total)
 
-second_tied : (a b : Ordering) → ordering_then a b ≡ Equal → b ≡ Equal
-second_tied Less b e = cc
-second_tied Equal b e = e
-second_tied Greater b e = cc
-
 pub word_cmp-antisymmetric : IsAntisymmetric key_word_cmp
-word_cmp-antisymmetric v w e = slice_cmp-IsAntisymmetric key_cmp-antisymmetric v w (second_tied (nat_cmp (length v) (length w)) (slice_cmp key_cmp v w) e)
+word_cmp-antisymmetric v w e = slice_cmp-IsAntisymmetric key_cmp-antisymmetric v w (then_second (nat_cmp (length v) (length w)) (slice_cmp key_cmp v w) e)
 
 pub not_after-itself : (v : List Key) → NotAfter v v
 not_after-itself v = ap is_gt (tied_itself word_cmp-total v)
@@ -171,6 +166,3 @@ more_first key v w less = elim (before_cases v w less) [
 
 pub first_key : (j k : Key) (v w : List Key) → key_cmp j k ≡ Less → length v ≡ length w → key_word_cmp (j ∷ v) (k ∷ w) ≡ Less
 first_key j k v w less same = as_long (j ∷ v) (k ∷ w) (ap suc same) ∙ ap (λ o. ordering_then o (slice_cmp key_cmp v w)) less
-
-pub number_before : (m n : ℕ) → nat_cmp m n ≡ Less → m < n
-number_before m n e = ranked m n Less (sym e)

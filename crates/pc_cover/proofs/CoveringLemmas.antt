@@ -1,6 +1,6 @@
 -- Kept lists, and the numbers of the queues that permit one.
-use Rattle.std.proofs.Common.{◌≡◌, ◌⊎◌, ◌↔◌, ℕ, zero, suc, ◌+◌, ◌-◌, ◌<◌, ◌≤◌, Bool, true, false, IsTrue, ◌||◌, List, [], ◌∷◌, ◌++◌, Contains, Option, Some, filter, length, map, sum_by, take, drop, take-append-drop, slice_get, get_or, refl, sym, ap, subst, ◌∙◌, inl, inr, arith}
-use Rattle.std.specs.List.{flat_map, list_any, range_with_len}
+use Rattle.std.proofs.Common.{◌≡◌, ◌⊎◌, ◌↔◌, ℕ, zero, suc, ◌+◌, ◌-◌, ◌<◌, ◌≤◌, Bool, true, false, IsTrue, List, [], ◌∷◌, ◌++◌, Contains, Option, Some, filter, length, map, sum_by, take, drop, take-append-drop, slice_get, get_or, refl, sym, ap, subst, ◌∙◌, inl, inr, arith}
+use Rattle.std.specs.List.{flat_map, range_with_len}
 use Rattle.std.specs.Ordering.{nat_cmp}
 use Rattle.std.proofs.lemmas.Bool.{cases_Bool, cases_eq, both_ways}
 use Rattle.std.proofs.lemmas.List.{map-append}
@@ -8,7 +8,7 @@ use Rattle.std.proofs.lemmas.List.Elements.{Contains-append_cases, Contains-appe
 use Rattle.std.proofs.lemmas.List.Kept.{IsStrictlySortedBy-filter}
 use Rattle.std.proofs.lemmas.List.Sums.{sum_by-append, sum_by-cons}
 use Rattle.std.proofs.lemmas.Option.{get_or_from_slice_get, slice_get-get_or, slice_get_within}
-use Rattle.srs.proofs.CallerLemmas.{Contains-cases, Contains-filter, Contains-from_filter, Contains-here, Contains-none, Contains-range, Contains-there, filter-false, filter-true, range-from, rising-range}
+use Rattle.srs.proofs.CallerLemmas.{Contains-cases, Contains-filter, Contains-from_filter, Contains-none, Contains-range, filter-false, filter-true, range-from, rising-range, some_passes, any_passes}
 use Rattle.arrayvec.specs.ArrayVec.{ArrayVec}
 use Rattle.srs.specs.declared.piece.Piece.{Piece}
 use Rattle.srs.specs.declared.placement.Placement.{Placement}
@@ -87,25 +87,6 @@ module _ (problem : Problem) (old new : List (List Piece)) (before : List (List 
 
 -- ---- a test of a list, and of a range
 
-any-contained : {A : Type 0} (test : A → Bool) (xs : List A) → list_any test xs ≡ true → (x : A) × Contains xs x × (test x ≡ true)
-any-contained test [] any = cc
-any-contained test (x ∷ xs) any = elim (cases_Bool (test x)) [
-  | inl passes ↦ (x, Contains-here x xs, passes)
-  | inr fails ↦
-      let rest = any-contained test xs (sym (ap (λ b. b || list_any test xs) fails) ∙ any) in
-      (rest.0, Contains-there x xs rest.0 rest.1, rest.2)
-]
-
-contained-any : {A : Type 0} (test : A → Bool) (xs : List A) (y : A) → Contains xs y → test y ≡ true → list_any test xs ≡ true
-contained-any test [] y among passes = absurd (Contains-none y among)
-contained-any test (x ∷ xs) y among passes = elim (Contains-cases x xs y among) [
-  | inl here ↦ ap (λ b. b || list_any test xs) (ap test here ∙ passes)
-  | inr there ↦ elim (cases_Bool (test x)) [
-    | inl first_does ↦ ap (λ b. b || list_any test xs) first_does
-    | inr fails ↦ ap (λ b. b || list_any test xs) fails ∙ contained-any test xs y there passes
-  ]
-]
-
 range-next : (test : ℕ → Bool) (from len number : ℕ) → from ≤ number → number < from + len → test number ≡ true → ((k : ℕ) → from ≤ k → k < number → test k ≡ false)
     → filter test (range_with_len from len) ≡ number ∷ filter test (range_with_len (number + 1) (from + len - (number + 1)))
 range-next test from zero number above below passes none = absurd (omega arith)
@@ -141,7 +122,7 @@ module _ (decides : (hold : Hold) (queue : List Piece) (held : Option Piece) (pi
   unfolding permits_one
   one-permitted number within passes =
       let queue = get_or all number [] in
-      let found = any-contained (permits problem.hold queue problem.held) lists passes in
+      let found = some_passes (permits problem.hold queue problem.held) lists passes in
       record {
         queue = queue;
         there = slice_get-get_or all number [] within;
@@ -154,7 +135,7 @@ module _ (decides : (hold : Hold) (queue : List Piece) (held : Option Piece) (pi
   unfolding permits_one
   permitted-one number permitted =
       let same : permitted.queue ≡ get_or all number [] = sym (get_or_from_slice_get all number permitted.queue [] permitted.there) in
-      contained-any (permits problem.hold (get_or all number []) problem.held) lists permitted.kinds permitted.listed
+      any_passes (permits problem.hold (get_or all number []) problem.held) lists permitted.kinds permitted.listed
       (subst (λ q. permits problem.hold q problem.held permitted.kinds ≡ true) same ((decides problem.hold permitted.queue problem.held permitted.kinds).1 permitted.permitted))
 
   not-one : (number : ℕ) → number < length all → (IsPermitted problem lists number → ⊥) → permits_one problem lists number ≡ false

@@ -2,6 +2,7 @@
 use Rattle.std.proofs.Common.{◌≡◌, ◌∙◌, ℕ, ◌+◌, ◌<◌, ◌≤◌, true, List, [], ◌∷◌, ◌++◌, get_or, take, refl, ap, sym, append_assoc, arith}
 use Rattle.std.specs.List.{flat_map, list_all}
 use Rattle.std.proofs.lemmas.List.{flat_map_more, take_more}
+use Rattle.std.proofs.lemmas.Bool.{and_from}
 use Rattle.srs.specs.declared.piece.Piece.{Piece}
 use Rattle.srs.specs.declared.piece.Piece.TheVariants.{I}
 use Rattle.srs.specs.declared.rotation.Rotation.{Rotation}
@@ -9,7 +10,6 @@ use Rattle.srs.specs.declared.rotation.Rotation.TheVariants.{Spawn}
 use Rattle.srs.specs.Kick.{Table, IsSmallTable, kick_in, kicks_of}
 use Rattle.srs.specs.Piece.{all_pieces}
 use Rattle.srs.specs.Rotation.{all_rotations, anticlockwise_of, clockwise_of}
-use Rattle.srs.proofs.CallerLemmas.{and_both}
 use Rattle.kick_file.specs.Printing.{is_short_move}
 use Rattle.kick_file.proofs.CallerLemmas.{kick_short}
 use Rattle.pc_kicks.specs.Lines.{both_turns, entry_line, entry_lines, kicks_form, turn_line, turn_lines}
@@ -22,11 +22,11 @@ kicks_short table piece from to small =
     let c = kick_in table piece from to 3 in
     let d = kick_in table piece from to 4 in
     let e = kick_in table piece from to 5 in
-    and_both (is_short_move a) (list_all is_short_move (b ∷ c ∷ d ∷ e ∷ [])) (at 1 (omega arith) (omega arith))
-    (and_both (is_short_move b) (list_all is_short_move (c ∷ d ∷ e ∷ [])) (at 2 (omega arith) (omega arith))
-    (and_both (is_short_move c) (list_all is_short_move (d ∷ e ∷ [])) (at 3 (omega arith) (omega arith))
-    (and_both (is_short_move d) (list_all is_short_move (e ∷ [])) (at 4 (omega arith) (omega arith))
-    (and_both (is_short_move e) true (at 5 (omega arith) (omega arith)) refl))))
+    and_from (is_short_move a) (list_all is_short_move (b ∷ c ∷ d ∷ e ∷ [])) (at 1 (omega arith) (omega arith))
+    (and_from (is_short_move b) (list_all is_short_move (c ∷ d ∷ e ∷ [])) (at 2 (omega arith) (omega arith))
+    (and_from (is_short_move c) (list_all is_short_move (d ∷ e ∷ [])) (at 3 (omega arith) (omega arith))
+    (and_from (is_short_move d) (list_all is_short_move (e ∷ [])) (at 4 (omega arith) (omega arith))
+    (and_from (is_short_move e) true (at 5 (omega arith) (omega arith)) refl))))
 
 pub entries_end : (now base : List ℕ) (table : Table) (piece : Piece) (index : ℕ) → 4 ≤ index → index ≤ 4
     → now ≡ base ++ flat_map (entry_line table piece) (take index all_rotations) → now ≡ base ++ entry_lines table piece

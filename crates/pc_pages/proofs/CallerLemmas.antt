@@ -1,5 +1,5 @@
 -- What crates above cite: one output, and no fault that is not found by a command.
-use Rattle.std.proofs.Common.{◌≡◌, ℕ, List, [], Option, Result, Ok, Err, refl}
+use Rattle.std.proofs.Common.{ℕ, List, [], Result, Ok, Err, refl}
 use Rattle.fumen_digits.specs.declared.dialect.Dialect.{Dialect}
 use Rattle.fumen_pages.specs.declared.page.Page.{Page}
 use Rattle.fumen_pages.specs.declared.list_fault.ListFault.{ListFault}
@@ -9,17 +9,7 @@ use Rattle.pc_faults.specs.declared.fault.Fault.TheVariants as faults
 use Rattle.pc_faults.specs.Inner.{IsInner}
 use Rattle.pc_faults.proofs.CallerLemmas.{inner_first, inner_map}
 use Rattle.pc_pages.specs.Faults.{encode_fault, lines_fault, unwritten_fault}
-use Rattle.pc_pages.specs.Output.{IsDecodeOutput, IsEncodeOutput, IsShowOutput}
-use Rattle.pc_pages.proofs.OneOutput as outputs
-
-pub one_decode_output : (bytes a b : List ℕ) → IsDecodeOutput bytes a → IsDecodeOutput bytes b → a ≡ b
-one_decode_output = outputs.one_decode_output
-
-pub one_encode_output : (dialect : Dialect) (bytes a b : List ℕ) → IsEncodeOutput dialect bytes a → IsEncodeOutput dialect bytes b → a ≡ b
-one_encode_output = outputs.one_encode_output
-
-pub one_show_output : (asked : Option ℕ) (bytes a b : List ℕ) → IsShowOutput asked bytes a → IsShowOutput asked bytes b → a ≡ b
-one_show_output = outputs.one_show_output
+pub use Rattle.pc_pages.proofs.OneOutput.{one_decode_output, one_encode_output, one_show_output}
 
 inner_lines : (read : Result (List Page) ListFault) → IsInner (lines_fault read)
 inner_lines (Ok pages) = tt

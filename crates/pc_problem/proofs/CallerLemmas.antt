@@ -9,21 +9,9 @@ use Rattle.queue_pattern.specs.declared.element.Element.{Element}
 use Rattle.queue_pattern.specs.declared.fault.PatternFault.{PatternFault}
 use Rattle.queue_pattern.specs.Pattern.{elements_of}
 use Rattle.problem.specs.declared.problem.Problem.{Problem}
-use Rattle.pc_faults.specs.Inner.{IsInner}
 use Rattle.pc_settings.specs.Request.{FieldRequest}
-use Rattle.pc_problem.specs.Faults.{full_row_fault, pattern_fault, problem_fault}
 use Rattle.pc_problem.specs.Problem.{IsProblemOf}
-use Rattle.pc_problem.proofs.InnerFaults.{inner_asked, inner_full}
-use Rattle.pc_problem.proofs.InnerFaults as faults
-
-pub inner_problem : (request : FieldRequest) (F : Field) → IsInner (problem_fault request F)
-inner_problem = inner_asked
-
-pub inner_full_row : (F : Field) → IsInner (full_row_fault F)
-inner_full_row = inner_full
-
-pub inner_pattern : (read : Result (List Element) PatternFault) → IsInner (pattern_fault read)
-inner_pattern = faults.inner_pattern
+pub use Rattle.pc_problem.proofs.InnerFaults.{inner_full_row, inner_pattern, inner_problem}
 
 same_ok : (xs ys : List Element) → ◌≡◌ {A = Result (List Element) PatternFault} (Ok xs) (Ok ys) → xs ≡ ys
 same_ok xs ys e = cc

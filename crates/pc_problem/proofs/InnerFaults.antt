@@ -12,14 +12,14 @@ use Rattle.pc_faults.proofs.CallerLemmas.{inner_first, inner_map, inner_test}
 use Rattle.pc_settings.specs.Request.{FieldRequest}
 use Rattle.pc_problem.specs.Faults.{elements_asked, full_row_fault, pattern_fault, pieces_fault, problem_fault, filled_rows_fault, too_few}
 
-pub inner_full : (F : Field) → IsInner (full_row_fault F)
-inner_full F = inner_map (λ row. faults.FullRow row) (lowest_full F) (λ row. refl)
+pub inner_full_row : (F : Field) → IsInner (full_row_fault F)
+inner_full_row F = inner_map (λ row. faults.FullRow row) (lowest_full F) (λ row. refl)
 
 inner_rows : (F : Field) (height : ℕ) → IsInner (filled_rows_fault F height)
 unfolding filled_rows_fault
 inner_rows F height =
     inner_first _ _ (inner_map (λ row. faults.FieldTooHigh row) (lowest_filled_from F height) (λ row. refl))
-    (inner_first _ [] (inner_full F) tt)
+    (inner_first _ [] (inner_full_row F) tt)
 
 pub inner_pattern : (read : Result (List Element) PatternFault) → IsInner (pattern_fault read)
 inner_pattern (Ok elements) = tt
@@ -32,9 +32,9 @@ inner_pieces : (empties held : ℕ) (read : Result (List Element) PatternFault) 
 inner_pieces empties held (Ok elements) = inner_few empties (queue_len elements + held)
 inner_pieces empties held (Err fault) = tt
 
-pub inner_asked : (request : FieldRequest) (F : Field) → IsInner (problem_fault request F)
+pub inner_problem : (request : FieldRequest) (F : Field) → IsInner (problem_fault request F)
 unfolding problem_fault
-inner_asked request F =
+inner_problem request F =
     inner_first _ _ (inner_rows F request.height)
     (inner_first _ _ (inner_pattern (elements_asked request))
     (inner_first _ [] (inner_pieces (empties_below F request.height) (held_count request.hold request.held) (elements_asked request)) tt))

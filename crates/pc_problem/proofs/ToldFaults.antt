@@ -1,7 +1,6 @@
 -- The first fault of a problem, told as the program's, is the first fault of what is asked.
 use Rattle.std.proofs.Common.{◌≡◌, ℕ, ◌+◌, ◌/◌, ◌%◌, ◌<◌, ◌&&◌, ◌==◌, nat_lt, [], ◌∷◌, Option, Some, None, option_map, Ok, sym, ap, subst, ◌∙◌, eq-eqb, lt-ltb}
-use Rattle.std.proofs.lemmas.Bool.{cond-true}
-use Rattle.srs.proofs.CallerLemmas.{and_both}
+use Rattle.std.proofs.lemmas.Bool.{cond-true, and_from}
 use Rattle.lane_board.specs.Field.{Field}
 use Rattle.well.specs.Well.{filled}
 use Rattle.well.specs.Counts.{empties_below, lowest_full, lowest_filled_from}
@@ -28,7 +27,7 @@ third (Some one) b c fault x y e = cc
 few : (empties have need : ℕ) → empties % 4 ≡ 0 → need ≡ empties / 4 → have < need → too_few empties have ≡ Some (faults.TooFewPieces have need)
 few empties have need even quarter less =
     cond-true (empties % 4 == 0 && nat_lt have (empties / 4)) _ _
-    (and_both (empties % 4 == 0) (nat_lt have (empties / 4)) (eq-eqb (empties % 4) 0 even) (lt-ltb have (empties / 4) (subst (λ n. have < n) quarter less)))
+    (and_from (empties % 4 == 0) (nat_lt have (empties / 4)) (eq-eqb (empties % 4) 0 even) (lt-ltb have (empties / 4) (subst (λ n. have < n) quarter less)))
     ∙ ap (λ n. Some (faults.TooFewPieces have n)) (sym quarter)
 
 no_row : (F : Field) (height row : ℕ) → filled_rows_fault F height ≡ None → lowest_filled_from F height ≡ Some row → ⊥

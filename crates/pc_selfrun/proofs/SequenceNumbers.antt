@@ -9,36 +9,13 @@ use Rattle.std.specs.declared.cmp.Ordering.TheVariants.{Less, Equal}
 use Rattle.std.proofs.lemmas.Bool.{ne_eqb, or_cases}
 use Rattle.std.proofs.lemmas.List.{length-map}
 use Rattle.std.proofs.lemmas.Map.Steps.{length-le_from_distinct_below}
-use Rattle.srs.proofs.CallerLemmas.{Contains-here, Contains-there, rising-first, rising-rest, PivotInside, piece_code-injective, rotation_place-injective, sequence_cmp-total}
-use Rattle.srs.specs.declared.piece.Piece.{Piece}
-use Rattle.srs.specs.declared.piece.Piece.TheVariants.{I, L, O, Z, T, J, S}
-use Rattle.srs.specs.declared.rotation.Rotation.{Rotation}
-use Rattle.srs.specs.declared.rotation.Rotation.TheVariants.{Spawn, Right, Reverse, Left}
+use Rattle.srs.proofs.CallerLemmas.{Contains-here, Contains-there, rising-first, rising-rest, PivotInside, piece_code-injective, rotation_place-injective, sequence_cmp-total, piece_code-some, piece_code-small, rotation_place-small, same_placement}
 use Rattle.srs.specs.declared.placement.Placement.{Placement}
 use Rattle.srs.specs.Piece.{piece_code}
 use Rattle.srs.specs.Rotation.{rotation_place}
 use Rattle.srs.specs.Order.{sequence_cmp}
 
 -- ---- the number of a sequence
-
-record IsCode (code : ℕ) : Type 0 where
-  some : 1 ≤ code
-  most : code ≤ 7
-
-piece_code-within : (piece : Piece) → IsCode (piece_code piece)
-piece_code-within I = record { some = omega arith; most = omega arith }
-piece_code-within L = record { some = omega arith; most = omega arith }
-piece_code-within O = record { some = omega arith; most = omega arith }
-piece_code-within Z = record { some = omega arith; most = omega arith }
-piece_code-within T = record { some = omega arith; most = omega arith }
-piece_code-within J = record { some = omega arith; most = omega arith }
-piece_code-within S = record { some = omega arith; most = omega arith }
-
-rotation_place-within : (rotation : Rotation) → rotation_place rotation ≤ 3
-rotation_place-within Spawn = omega arith
-rotation_place-within Right = omega arith
-rotation_place-within Reverse = omega arith
-rotation_place-within Left = omega arith
 
 -- the number of four coordinates, of a placement, and of a sequence
 number_with : (code rotation x y : ℕ) → ℕ
@@ -51,15 +28,14 @@ sequence_number : List Placement → ℕ
 sequence_number [] = 0
 sequence_number (q ∷ rest) = placement_number q + 6440 * sequence_number rest
 
-with_below : (code rotation x y : ℕ) → 1 ≤ code → code ≤ 7 → rotation ≤ 3 → x ≤ 9 → y ≤ 22 → number_with code rotation x y < 6440
+with_below : (code rotation x y : ℕ) → 1 ≤ code → code ≤ 7 → rotation < 4 → x ≤ 9 → y ≤ 22 → number_with code rotation x y < 6440
 unfolding number_with
 with_below code rotation x y some most few column row = omega arith
 
 number_below : (q : Placement) → PivotInside q → placement_number q < 6440
 unfolding placement_number
 number_below q inside =
-    let code = piece_code-within q.piece in
-    with_below (piece_code q.piece) (rotation_place q.rotation) q.x q.y code.some code.most (rotation_place-within q.rotation) inside.in_columns inside.in_rows
+    with_below (piece_code q.piece) (rotation_place q.rotation) q.x q.y (piece_code-some q.piece) (piece_code-small q.piece) (rotation_place-small q.rotation) inside.in_columns inside.in_rows
 
 record IsSameWith (a b r s x u y v : ℕ) : Type 0 where
   code : a ≡ b
@@ -67,7 +43,7 @@ record IsSameWith (a b r s x u y v : ℕ) : Type 0 where
   column : x ≡ u
   row : y ≡ v
 
-with_same : (a b r s x u y v : ℕ) → 1 ≤ a → 1 ≤ b → r ≤ 3 → s ≤ 3 → x ≤ 9 → u ≤ 9 → y ≤ 22 → v ≤ 22 → number_with a r x y ≡ number_with b s u v → IsSameWith a b r s x u y v
+with_same : (a b r s x u y v : ℕ) → 1 ≤ a → 1 ≤ b → r < 4 → s < 4 → x ≤ 9 → u ≤ 9 → y ≤ 22 → v ≤ 22 → number_with a r x y ≡ number_with b s u v → IsSameWith a b r s x u y v
 unfolding number_with
 with_same a b r s x u y v a-some b-some r-few s-few x-few u-few y-few v-few same =
     let column : x ≡ u = omega arith in
@@ -75,18 +51,11 @@ with_same a b r s x u y v a-some b-some r-few s-few x-few u-few y-few v-few same
     let rotation : r ≡ s = omega arith in
     record { code = omega arith; rotation = rotation; column = column; row = row }
 
-made : Piece → Rotation → ℕ → ℕ → Placement
-made piece rotation x y = record { piece = piece; rotation = rotation; x = x; y = y }
-
-same_placement : (q r : Placement) → PivotInside q → PivotInside r → placement_number q ≡ placement_number r → q ≡ r
-unfolding placement_number made
-same_placement q r one other same =
-    let code = piece_code-within q.piece in
-    let code' = piece_code-within r.piece in
-    let is = with_same _ _ _ _ _ _ _ _ code.some code'.some (rotation_place-within q.rotation) (rotation_place-within r.rotation) one.in_columns other.in_columns one.in_rows other.in_rows same in
-    let piece = piece_code-injective q.piece r.piece is.code in
-    let rotation = rotation_place-injective q.rotation r.rotation is.rotation in
-    λ i. made (piece i) (rotation i) (is.column i) (is.row i)
+same_number : (q r : Placement) → PivotInside q → PivotInside r → placement_number q ≡ placement_number r → q ≡ r
+unfolding placement_number
+same_number q r one other same =
+    let is = with_same _ _ _ _ _ _ _ _ (piece_code-some q.piece) (piece_code-some r.piece) (rotation_place-small q.rotation) (rotation_place-small r.rotation) one.in_columns other.in_columns one.in_rows other.in_rows same in
+    same_placement q r (piece_code-injective q.piece r.piece is.code) (rotation_place-injective q.rotation r.rotation is.rotation) is.column is.row
 
 -- four placements whose pivots lie in the well
 pub record AreFour (s : List Placement) : Type 0 where
@@ -103,7 +72,7 @@ same_sequence (q ∷ s) (r ∷ t) one other long same =
     let b = number_below r other.0 in
     let rest : sequence_number s ≡ sequence_number t = omega (arith, a, b, same) in
     let first : placement_number q ≡ placement_number r = omega (arith, same, rest) in
-    λ i. same_placement q r one.0 other.0 first i ∷ same_sequence s t one.1 other.1 (omega (arith, long)) rest i
+    λ i. same_number q r one.0 other.0 first i ∷ same_sequence s t one.1 other.1 (omega (arith, long)) rest i
 
 four_below : (s : List Placement) → AreFour s → sequence_number s < 2 ^ 63
 unfolding sequence_number

@@ -2,11 +2,7 @@
 use Rattle.std.proofs.Common.{◌≡◌, ◌≢◌, ℕ, ◌-◌, ◌<◌, ◌≤◌, length, List, Bool, true, false, Option, Some, None, Result, Ok, Err, refl, sym, subst, ap, arith, inl}
 use Rattle.std.proofs.lemmas.Bool.{lt-ltb, le-ltb}
 use Rattle.lane_board.specs.Field.{Field}
-use Rattle.fumen_digits.specs.declared.dialect.Dialect.{Dialect}
-use Rattle.fumen_digits.specs.declared.fault.FumenFault.{FumenFault}
 use Rattle.fumen_digits.specs.Framing.{digits_in}
-use Rattle.fumen_text.specs.Faults.{IsTextFault}
-use Rattle.fumen_text.specs.Texts.{ReadsAs}
 use Rattle.fumen_text.specs.Reading.{text_pages}
 use Rattle.fumen_pages.specs.declared.page.Page.{Page}
 use Rattle.pc_outside.specs.Counts.{HasCause}
@@ -16,21 +12,20 @@ use Rattle.pc_outside.specs.declared.answers.Refused.TheVariants as refused
 use Rattle.pc_faults.specs.declared.fault.Fault.{Fault}
 use Rattle.pc_faults.specs.declared.status.Status.{Status}
 use Rattle.pc_faults.specs.declared.status.Status.TheVariants.{Done, Input, SourceFault, SinkFault, NoMemory}
-use Rattle.pc_faults.specs.Inner.{IsInner}
-use Rattle.pc_faults.specs.declared.fault.Fault.TheVariants.{Fumen, SourceTooLong}
+use Rattle.pc_faults.specs.declared.fault.Fault.TheVariants.{SourceTooLong}
 use Rattle.pc_faults.proofs.CallerLemmas.{second_left}
 use Rattle.pc_faults.specs.Codes.{refused_status, written_status}
 use Rattle.pc_settings.specs.Request.{FieldText, fumen_text, rows_text}
 use Rattle.pc_source.specs.Answers.{IsAnswered}
-use Rattle.pc_source.specs.Faults.{cells_asked, cells_read, field_fault, page_fault, pages_fault, text_fault}
+use Rattle.pc_source.specs.Faults.{cells_asked, cells_read, field_fault, text_fault}
 use Rattle.pc_source.specs.FieldText.{IsFieldOf, IsFumenField, field_needs, is_of_source, text_given}
 use Rattle.pc_source.specs.Had.{HasText, IsRefusedInput}
 use Rattle.pc_source.specs.Sink.{SinkChange}
 use Rattle.pc_source.specs.Task.{Needs, Task, first_fault, is_source, memory, most_bytes, nothing, source_bytes, source_fault}
 use Rattle.pc_source.specs.Work.{Works}
-use Rattle.pc_source.proofs.FieldLaws as fields
-use Rattle.pc_source.proofs.InnerFaults as inner
-use Rattle.pc_source.proofs.TextFaults as texts
+pub use Rattle.pc_source.proofs.FieldLaws.{field_cells, one_field}
+pub use Rattle.pc_source.proofs.InnerFaults.{inner_field, inner_text}
+pub use Rattle.pc_source.proofs.TextFaults.{text_faulty, text_page, text_reads, text_refused}
 
 refusal_answers : (task : Task) (bytes : List ℕ) (sink : SinkChange) (Kept : Type 0) (floods : ℕ) (r : Refused Fault) → Kept → (r ≡ refused.NoMemory → task.needs ≢ nothing)
     → IsRefusedInput (task.fault bytes) r → IsAnswered task bytes sink Kept floods (refused_status r)
@@ -108,26 +103,6 @@ pub refusal_before : (one whole : Option Fault) (r : Refused Fault) → ((f : Fa
 refusal_before one whole (refused.Fault f) first is = first f is
 refusal_before one whole refused.NoMemory first is = tt
 
-pub text_refused : (asked : Option ℕ) (text : List ℕ) (r : Refused Fault) → IsRefusedInput (pages_fault (text_pages text)) r → IsRefusedInput (text_fault asked text) r
-text_refused = texts.text_refused
-
--- the cells of the field are those that faults speak of
-pub field_cells : (field : FieldText) (number : ℕ) (bytes : List ℕ) (F : Field) → IsFieldOf field number bytes F → cells_asked field number bytes ≡ F
-field_cells = fields.field_cells
-
-pub one_field : (field : FieldText) (number : ℕ) (bytes : List ℕ) (F G : Field) → IsFieldOf field number bytes F → IsFieldOf field number bytes G → F ≡ G
-one_field = fields.one_field
-
-pub text_reads : (asked : Option ℕ) (text : List ℕ) (pages : List Page) → HasText text pages → text_fault asked text ≡ page_fault asked pages
-text_reads = texts.text_reads
-
--- no command finds a fault of the words, or that the source is too long
-pub inner_text : (asked : Option ℕ) (text : List ℕ) → IsInner (text_fault asked text)
-inner_text = inner.inner_text
-
-pub inner_field : (field : FieldText) (number : ℕ) (bytes : List ℕ) → IsInner (field_fault field number bytes)
-inner_field = inner.inner_field
-
 -- more bytes than are read, and not as many
 pub too_long : (task : Task) (bytes : List ℕ) → task.needs ≡ source_bytes → most_bytes < length bytes → first_fault task bytes ≡ Some SourceTooLong
 unfolding first_fault
@@ -141,12 +116,6 @@ fits source_bytes bytes within = rw (le-ltb most_bytes (length bytes) within) re
 pub not_too_long : (task : Task) (bytes : List ℕ) → length bytes ≤ most_bytes → first_fault task bytes ≡ task.fault bytes
 unfolding first_fault
 not_too_long task bytes within = second_left (source_fault task.needs bytes) (task.fault bytes) (fits task.needs bytes within)
-
-pub text_faulty : (asked : Option ℕ) (text : List ℕ) (f : FumenFault) → IsTextFault text f → text_fault asked text ≡ Some (Fumen f)
-text_faulty = texts.text_faulty
-
-pub text_page : (asked : Option ℕ) (text : List ℕ) (dialect : Dialect) (pages : List Page) → ReadsAs text dialect pages → text_fault asked text ≡ page_fault asked pages
-text_page = texts.text_page
 
 -- the text of a word that isn't the source's
 own_text : (word one other : List ℕ) → is_source (field_needs (fumen_text word)) ≡ false → text_given word one ≡ text_given word other

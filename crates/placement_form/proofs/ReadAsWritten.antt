@@ -7,11 +7,10 @@ use Rattle.std.proofs.lemmas.Option.{none-some, same_Some, option_and_then_some}
 use Rattle.srs.specs.declared.piece.Piece.{Piece}
 use Rattle.srs.specs.declared.piece.Piece.TheVariants.{I, L, O, Z, T, J, S}
 use Rattle.srs.specs.declared.rotation.Rotation.{Rotation}
-use Rattle.srs.specs.declared.rotation.Rotation.TheVariants.{Spawn, Right, Reverse, Left}
 use Rattle.srs.specs.declared.placement.Placement.{Placement}
 use Rattle.srs.specs.Piece.{piece_letter, all_pieces}
 use Rattle.srs.specs.Rotation.{rotation_letter, all_rotations, rotation_with_letter}
-use Rattle.srs.proofs.CallerLemmas.{find-Contains}
+use Rattle.srs.proofs.CallerLemmas.{find-Contains, rotation_with_letter-letter}
 use Rattle.placement_form.specs.Form.{placement_form, IsPlacementText}
 use Rattle.placement_form.specs.Reading.{capital_piece, digit_in, row_in, placement_in}
 use Rattle.placement_form.proofs.Digits.{digit_read, digit_only, row_read, row_only}
@@ -26,12 +25,6 @@ piece_read T = refl
 piece_read J = refl
 piece_read S = refl
 
-pub rotation_read : (rotation : Rotation) → rotation_with_letter (rotation_letter rotation) ≡ Some rotation
-rotation_read Spawn = refl
-rotation_read Right = refl
-rotation_read Reverse = refl
-rotation_read Left = refl
-
 pub piece_only : (byte : ℕ) (piece : Piece) → capital_piece byte ≡ Some piece → piece_letter piece ≡ byte
 piece_only byte piece read = eqb-true (piece_letter piece) byte (find-Contains (λ p. piece_letter p == byte) all_pieces piece read).1
 
@@ -44,7 +37,7 @@ unfolding placement_form placement_in
 read-from_written text placement is =
     let column : decimal placement.x ≡ (48 + placement.x) ∷ [] = decimal_digit placement.x (omega (arith, is.column)) in
     let parts : text ≡ piece_letter placement.piece ∷ rotation_letter placement.rotation ∷ 58 ∷ (48 + placement.x) ∷ 44 ∷ decimal placement.y = is.written ∙ rw column refl in
-    rw (parts, piece_read placement.piece, rotation_read placement.rotation, digit_read placement.x is.column, row_read placement.y is.row) refl
+    rw (parts, piece_read placement.piece, rotation_with_letter-letter placement.rotation, digit_read placement.x is.column, row_read placement.y is.row) refl
 
 -- what is read was written
 parts_written : (a b c x d : ℕ) (row : List ℕ) (piece : Piece) (rotation : Rotation) (column y : ℕ) (placement : Placement)

@@ -8,21 +8,14 @@ use Rattle.std.proofs.lemmas.List.Elements.{All-cons, All-head, All-nil, All-tai
 use Rattle.std.proofs.lemmas.Option.{cond_some, none-some, option_and_then_some, same_Some}
 use Rattle.srs.specs.declared.piece.Piece.{Piece}
 use Rattle.srs.specs.declared.rotation.Rotation.{Rotation}
-use Rattle.srs.specs.declared.rotation.Rotation.TheVariants.{Spawn, Right, Reverse, Left}
 use Rattle.srs.specs.declared.placement.Placement.{Placement}
 use Rattle.srs.specs.Piece.{all_pieces, piece_code, piece_with_code}
 use Rattle.srs.specs.Rotation.{all_rotations, rotation_place}
-use Rattle.srs.proofs.CallerLemmas.{piece_with_code-code, find-Contains}
+use Rattle.srs.proofs.CallerLemmas.{piece_with_code-code, find-Contains, rotation_at-place}
 use Rattle.placement_numbers.specs.Numbers.{AreNumbersOf, HasPivotInWell, numbers_of, sequence_numbers}
 use Rattle.placement_numbers.specs.Reading.{placement_in, placements_in, rotation_at}
 
 -- ---- one placement
-
-rotation_read : (rotation : Rotation) → rotation_at (rotation_place rotation) ≡ Some rotation
-rotation_read Spawn = refl
-rotation_read Right = refl
-rotation_read Reverse = refl
-rotation_read Left = refl
 
 piece_only : (code : ℕ) (piece : Piece) → piece_with_code code ≡ Some piece → piece_code piece ≡ code
 piece_only code piece read = eqb-true (piece_code piece) code (find-Contains (λ p. piece_code p == code) all_pieces piece read).1
@@ -33,7 +26,7 @@ rotation_only place rotation read = eqb-true (rotation_place rotation) place (fi
 placement_read : (q : Placement) → HasPivotInWell q → placement_in (piece_code q.piece) (rotation_place q.rotation) q.x q.y ≡ Some q
 unfolding placement_in
 placement_read q within =
-    rw (piece_with_code-code q.piece, rotation_read q.rotation, le-leb q.x 9 within.column, le-leb q.y 22 within.row) refl
+    rw (piece_with_code-code q.piece, rotation_at-place q.rotation, le-leb q.x 9 within.column, le-leb q.y 22 within.row) refl
 
 -- the placement has these numbers
 record HasNumbers (code place column row : ℕ) (q : Placement) : Type 0 where

@@ -15,12 +15,13 @@ use Rattle.moves.specs.declared.key.Key.{Key}
 use Rattle.moves.specs.declared.key.Key.TheVariants as keys
 use Rattle.moves.specs.Keys.{key_letter}
 use Rattle.placement_form.specs.Form.{placement_form, IsPlacementText}
-use Rattle.placement_form.proofs.CallerLemmas.{two_digits, digit_read, two_read, piece_read, rotation_read}
+use Rattle.placement_form.proofs.CallerLemmas.{two_digits, digit_read, two_read, piece_read}
 use Rattle.sequence_text.specs.declared.reading.Due.{Due}
 use Rattle.sequence_text.specs.declared.reading.Due.TheVariants as due
 use Rattle.sequence_text.specs.declared.reading.Reading.{Reading}
 use Rattle.sequence_text.specs.Reading.{read_from, reading, step, may_end, unread, sequence_in}
 use Rattle.sequence_text.specs.Form.{alone, with_keys, none, SpellsPlacement, SpellsSequence, last, more, Spells}
+use Rattle.srs.proofs.CallerLemmas.{rotation_with_letter-letter}
 
 -- the bytes from here on are read as this sequence, wherever they stand
 pub record Reads (read : List Placement) (left : ℕ) (now : Reading) (bytes : List ℕ) (sequence : List Placement) : Type 0 where
@@ -77,7 +78,7 @@ piece_no_blank S = refl
 rotation_step : (placement : Placement) (rotation : Rotation)
     → step (reading due.RotationLetter placement) (rotation_letter rotation) ≡ Some (reading due.Colon (record placement { rotation = rotation }))
 unfolding step
-rotation_step placement rotation = rw (rotation_read rotation) refl
+rotation_step placement rotation = rw (rotation_with_letter-letter rotation) refl
 
 rotation_no_blank : (rotation : Rotation) → (rotation_letter rotation == 32) ≡ false
 rotation_no_blank Spawn = refl
