@@ -101,29 +101,29 @@ empty-more slots slot none found missed =
     let zero = none-counted slot found missed in
     omega (arith, both, one, zero, none)
 
-pub replaced : (slots : List Slot) (place : ℕ) (slot before : Slot) → place < length slots → before ≡ get_or slots place before
-    → answers_in (set slots place slot) + answers_of before ≡ answers_in slots + answers_of slot
+pub replaced : (slots : List Slot) (index : ℕ) (slot before : Slot) → index < length slots → before ≡ get_or slots index before
+    → answers_in (set slots index slot) + answers_of before ≡ answers_in slots + answers_of slot
 unfolding answers_in
-replaced slots place slot before within there =
-    subst (λ b. sum_by answers_of (set slots place slot) + answers_of b ≡ sum_by answers_of slots + answers_of slot) (sym there) (sum_by-set answers_of slots place slot before within)
+replaced slots index slot before within there =
+    subst (λ b. sum_by answers_of (set slots index slot) + answers_of b ≡ sum_by answers_of slots + answers_of slot) (sym there) (sum_by-set answers_of slots index slot before within)
 
 -- a slot has no more answers than there are
-pub one-of-all : (slots : List Slot) (place : ℕ) (before : Slot) → place < length slots → before ≡ get_or slots place before → answers_of before ≤ answers_in slots
+pub one-of-all : (slots : List Slot) (index : ℕ) (before : Slot) → index < length slots → before ≡ get_or slots index before → answers_of before ≤ answers_in slots
 unfolding answers_in
-one-of-all slots place before within there = let e = ap answers_of there in let le = get_or-le-sum_by answers_of slots place before within in omega (arith, e)
+one-of-all slots index before within there = let e = ap answers_of there in let le = get_or-le-sum_by answers_of slots index before within in omega (arith, e)
 
 pub none-in : (slots : List Slot) → slots ≡ [] → answers_in slots ≡ 0
 unfolding answers_in
 none-in slots nil = ap (sum_by answers_of) nil
 
--- where the slots before a place have no answers, an empty slot put there leaves none up to it
-pub emptied-more : (slots : List Slot) (place : ℕ) (slot : Slot) → place < length slots → answers_in (take place slots) ≡ 0 → slot.found.items ≡ [] → slot.missed.items ≡ []
-    → answers_in (take (place + 1) (set slots place slot)) ≡ 0
-emptied-more slots place slot within none found missed =
-    ap answers_in (take_more_set slots place slot within) ∙ empty-more (take place slots) slot none found missed
+-- where the slots before an index have no answers, an empty slot put there leaves none up to it
+pub emptied-more : (slots : List Slot) (index : ℕ) (slot : Slot) → index < length slots → answers_in (take index slots) ≡ 0 → slot.found.items ≡ [] → slot.missed.items ≡ []
+    → answers_in (take (index + 1) (set slots index slot)) ≡ 0
+emptied-more slots index slot within none found missed =
+    ap answers_in (take_more_set slots index slot within) ∙ empty-more (take index slots) slot none found missed
 
-pub emptied-all : (slots : List Slot) (place : ℕ) → length slots ≤ place → answers_in (take place slots) ≡ 0 → answers_in slots ≡ 0
-emptied-all slots place all none = ap answers_in (sym (take_all place slots all)) ∙ none
+pub emptied-all : (slots : List Slot) (index : ℕ) → length slots ≤ index → answers_in (take index slots) ≡ 0 → answers_in slots ≡ 0
+emptied-all slots index all none = ap answers_in (sym (take_all index slots all)) ∙ none
 
-pub set-among : (slots : List Slot) (place : ℕ) (slot : Slot) → place < length slots → Contains (set slots place slot) slot
-set-among slots place slot within = let long = length-set slots place slot in (place, omega (arith, long), get_or-set_same slots place slot slot within)
+pub set-among : (slots : List Slot) (index : ℕ) (slot : Slot) → index < length slots → Contains (set slots index slot) slot
+set-among slots index slot within = let long = length-set slots index slot in (index, omega (arith, long), get_or-set_same slots index slot slot within)

@@ -38,7 +38,7 @@ use Rattle.percent.specs.declared.position.Position.{Position}
 use Rattle.percent.specs.Children.{IsChild}
 use Rattle.percent.specs.Fitting.{codes_in, codes_with, supply_at, supply_by}
 use Rattle.percent.specs.GoodHands.{is_good}
-use Rattle.percent.specs.Marks.{ArePlaces, HasMarkAt, IsMarkOf, IsStanding, IsTrueMark}
+use Rattle.percent.specs.Marks.{AreIndexes, HasMarkAt, IsMarkOf, IsStanding, IsTrueMark}
 use Rattle.percent.specs.Spread.{IsSpread}
 use Rattle.percent.proofs.HandLemmas.{code-few}
 use Rattle.percent.proofs.FittingLemmas.{low-position}
@@ -185,48 +185,48 @@ after-listed F q height left rest rows counts fewer E list kept few small spread
     (lies F q height rows E (supply_by counts) few small spread free below (one_there q.piece (left + 1) rest counts most)) all
     (λ tiling listed has. keeps tiling listed (subst (HasPiece tiling) (laid-sent rows q) has))))
 
--- what holds of all marks holds of the one at a place
-marked_at : (P : Mark → Type 0) (known : List Mark) (place : ℕ) (counts : List ℕ) → All P known → (k : HasMarkAt known place counts) → P k.mark
-marked_at P known place counts all k =
-    let within = slice_get_within known place k.mark k.there in
-    subst P (get_or_from_slice_get known place k.mark k.mark k.there) (all place k.mark within)
+-- what holds of all marks holds of the one at an index
+marked_at : (P : Mark → Type 0) (known : List Mark) (index : ℕ) (counts : List ℕ) → All P known → (k : HasMarkAt known index counts) → P k.mark
+marked_at P known index counts all k =
+    let within = slice_get_within known index k.mark k.there in
+    subst P (get_or_from_slice_get known index k.mark k.mark k.there) (all index k.mark within)
 
 -- where the mark of a rest doesn't have it, the rest isn't good
-pub bad-placed : (game : Game) (p : Position) (known : List Mark) (rows : List ℕ) (cells : Empties) (q : Placement) (left rest place standing : ℕ) → IsSpread (filled p.well) p.rows rows (empty_cells cells)
-    → All (IsTrueMark (empty_cells cells)) known → is_free (filled p.well) q ≡ true → is_below p.rows q ≡ true → IsMarkOf known q.piece left rest place
-    → IsStanding known rows q standing → has_bit standing place ≡ false
+pub bad-placed : (game : Game) (p : Position) (known : List Mark) (rows : List ℕ) (cells : Empties) (q : Placement) (left rest index standing : ℕ) → IsSpread (filled p.well) p.rows rows (empty_cells cells)
+    → All (IsTrueMark (empty_cells cells)) known → is_free (filled p.well) q ≡ true → is_below p.rows q ≡ true → IsMarkOf known q.piece left rest index
+    → IsStanding known rows q standing → has_bit standing index ≡ false
     → is_good game (locked (filled p.well) q) (p.rows - rows_removed (filled p.well) q) left rest ≡ false
-bad-placed game p known rows cells q left rest place standing spread true_marks free below k stands unset =
+bad-placed game p known rows cells q left rest index standing spread true_marks free below k stands unset =
     let mark = k.there.mark in
     let most : (code : ℕ) → code < 8 → codes_with q.piece (left + 1) rest code ≤ get_or mark.counts code 0 =
     λ code few. subst (λ (counts : List ℕ). codes_with q.piece (left + 1) rest code ≤ get_or counts code 0) (sym k.there.same) (k.enough code few) in
     false_from_ne_true _ (λ good.
-    (marked_at (IsTrueMark (empty_cells cells)) known place k.counts true_marks k.there).each (λ all.
-    stands.none place k.there.few unset mark k.there.there
+    (marked_at (IsTrueMark (empty_cells cells)) known index k.counts true_marks k.there).each (λ all.
+    stands.none index k.there.few unset mark k.there.there
     (good-listed game p q left rest rows mark.counts (empty_cells cells) mark.tilings.tilings.items (cells_small cells) spread free below most all good)))
 
-pub bad-stand : (game : Game) (p : Position) (child : Child) (left rest place : ℕ) (known : List Mark) (rows : List ℕ) (cells : Empties) → IsSpread (filled p.well) p.rows rows (empty_cells cells)
-    → All (IsTrueMark (empty_cells cells)) known → IsChild (filled p.well) p.rows child.placement.piece child → IsMarkOf known child.placement.piece left rest place
-    → IsStanding known rows child.placement child.standing → has_bit child.standing place ≡ false
+pub bad-stand : (game : Game) (p : Position) (child : Child) (left rest index : ℕ) (known : List Mark) (rows : List ℕ) (cells : Empties) → IsSpread (filled p.well) p.rows rows (empty_cells cells)
+    → All (IsTrueMark (empty_cells cells)) known → IsChild (filled p.well) p.rows child.placement.piece child → IsMarkOf known child.placement.piece left rest index
+    → IsStanding known rows child.placement child.standing → has_bit child.standing index ≡ false
     → is_good game (filled child.position.well) child.position.rows left rest ≡ false
-bad-stand game p child left rest place known rows cells spread true_marks is k stands unset =
+bad-stand game p child left rest index known rows cells spread true_marks is k stands unset =
     (λ i. is_good game (is.field i) (is.left i) left rest)
-    ∙ bad-placed game p known rows cells child.placement left rest place child.standing spread true_marks is.free is.below k stands unset
+    ∙ bad-placed game p known rows cells child.placement left rest index child.standing spread true_marks is.free is.below k stands unset
 
 -- the tilings of a mark that have the placed piece are a mark for the rest
-pub mark-listed : (p : Position) (child : Child) (left rest place : ℕ) (known : List Mark) (rows : List ℕ) (cells : Empties) (taken : Field) (old new : Mark) → IsSpread (filled p.well) p.rows rows (empty_cells cells)
-    → All (IsTrueMark (empty_cells cells)) known → IsChild (filled p.well) p.rows child.placement.piece child → IsMarkOf known child.placement.piece left rest place → slice_get known place ≡ Some old
+pub mark-listed : (p : Position) (child : Child) (left rest index : ℕ) (known : List Mark) (rows : List ℕ) (cells : Empties) (taken : Field) (old new : Mark) → IsSpread (filled p.well) p.rows rows (empty_cells cells)
+    → All (IsTrueMark (empty_cells cells)) known → IsChild (filled p.well) p.rows child.placement.piece child → IsMarkOf known child.placement.piece left rest index → slice_get known index ≡ Some old
     → taken ≡ sent_cells rows child.placement
     → ((code : ℕ) → code < 8 → get_or new.counts code 0 ≡ codes_in (left + 1) rest code)
     → ((tiling : ListedTiling) → Contains new.tilings.tilings.items tiling ↔ (Contains old.tilings.tilings.items tiling × HasPiece tiling (record { piece = child.placement.piece; cells = taken })))
     → IsTrueMark (difference (empty_cells cells) (sent_cells rows child.placement)) new
-mark-listed p child left rest place known rows cells taken old new spread true_marks is k there same counts both =
+mark-listed p child left rest index known rows cells taken old new spread true_marks is k there same counts both =
     let mark = k.there.mark in
     let one : mark ≡ old = some_same (sym k.there.there ∙ there) in
     let most : (code : ℕ) → code < 8 → codes_with child.placement.piece (left + 1) rest code ≤ get_or mark.counts code 0 =
     λ code few. subst (λ (counts : List ℕ). codes_with child.placement.piece (left + 1) rest code ≤ get_or counts code 0) (sym k.there.same) (k.enough code few) in
     record {
-      each = λ none. (marked_at (IsTrueMark (empty_cells cells)) known place k.counts true_marks k.there).each (λ all.
+      each = λ none. (marked_at (IsTrueMark (empty_cells cells)) known index k.counts true_marks k.there).each (λ all.
           none (after-listed (filled p.well) child.placement p.rows left rest rows mark.counts new.counts (empty_cells cells) mark.tilings.tilings.items new.tilings.tilings.items p.few (cells_small cells) spread is.free is.below most counts all
           (λ tiling listed has. (both tiling).1 (subst (λ (mark : Mark). Contains mark.tilings.tilings.items tiling) one listed, subst (λ (E : Field). HasPiece tiling (record { piece = child.placement.piece; cells = E })) (sym same) has))));
     }
@@ -282,59 +282,59 @@ standing-ends known rows q standing i all state = record {
     before k low within (inl all) = omega arith
     before k low within (inr all) = omega arith
 
--- ---- places of marks
+-- ---- indexes of marks
 
--- a place for each of the first i rests
-pub record ArePlacesBefore (known : List Mark) (piece : Piece) (left : ℕ) (rests : List ℕ) (places : List (Option ℕ)) (i : ℕ) : Type 0 where
-  pub size : length places ≡ i
-  pub each : (k : ℕ) → k < i → IfSome (get_or places k None) (IsMarkOf known piece left (get_or rests k 0))
+-- an index for each of the first i rests
+pub record AreIndexesBefore (known : List Mark) (piece : Piece) (left : ℕ) (rests : List ℕ) (indexes : List (Option ℕ)) (i : ℕ) : Type 0 where
+  pub size : length indexes ≡ i
+  pub each : (k : ℕ) → k < i → IfSome (get_or indexes k None) (IsMarkOf known piece left (get_or rests k 0))
 
-pub places-start : (known : List Mark) (piece : Piece) (left : ℕ) (rests : List ℕ) (places : List (Option ℕ)) → places ≡ [] → ArePlacesBefore known piece left rests places 0
-places-start known piece left rests places nil = record { size = ap length nil; each = λ k low. absurd (omega arith) }
+pub indexes-start : (known : List Mark) (piece : Piece) (left : ℕ) (rests : List ℕ) (indexes : List (Option ℕ)) → indexes ≡ [] → AreIndexesBefore known piece left rests indexes 0
+indexes-start known piece left rests indexes nil = record { size = ap length nil; each = λ k low. absurd (omega arith) }
 
-pub places-more : (known : List Mark) (piece : Piece) (left : ℕ) (rests : List ℕ) (places : List (Option ℕ)) (i : ℕ) (place : Option ℕ) → ArePlacesBefore known piece left rests places i
-    → IfSome place (IsMarkOf known piece left (get_or rests i 0))
-    → ArePlacesBefore known piece left rests (places ++ place ∷ []) (i + 1)
-places-more known piece left rests places i place state here = record {
-  size = let long = length-append places (place ∷ []) in let size = state.size in omega (arith, long, size);
+pub indexes-more : (known : List Mark) (piece : Piece) (left : ℕ) (rests : List ℕ) (indexes : List (Option ℕ)) (i : ℕ) (index : Option ℕ) → AreIndexesBefore known piece left rests indexes i
+    → IfSome index (IsMarkOf known piece left (get_or rests i 0))
+    → AreIndexesBefore known piece left rests (indexes ++ index ∷ []) (i + 1)
+indexes-more known piece left rests indexes i index state here = record {
+  size = let long = length-append indexes (index ∷ []) in let size = state.size in omega (arith, long, size);
   each = λ k low. elim (cases_lt k i) [
     | inl before ↦
-        let old = get_or_append_left places (place ∷ []) None k (let size = state.size in omega (arith, size)) in
+        let old = get_or_append_left indexes (index ∷ []) None k (let size = state.size in omega (arith, size)) in
         subst (λ (o : Option ℕ). IfSome o (IsMarkOf known piece left (get_or rests k 0))) (sym old) (state.each k before)
     | inr past ↦
         let last : k ≡ i = omega arith in
-        let new = get_or_push places place None k (state.size ∙ sym last) in
+        let new = get_or_push indexes index None k (state.size ∙ sym last) in
         subst (λ (o : Option ℕ). IfSome o (IsMarkOf known piece left (get_or rests k 0))) (sym new)
-        (subst (λ j. IfSome place (IsMarkOf known piece left (get_or rests j 0))) (sym last) here)
+        (subst (λ j. IfSome index (IsMarkOf known piece left (get_or rests j 0))) (sym last) here)
   ];
 }
 
-pub places-end : (known : List Mark) (piece : Piece) (left : ℕ) (items rests : List ℕ) (places : List (Option ℕ)) (i : ℕ) → items ≡ rests → ArePlacesBefore known piece left items places i → i ≡ length items → ArePlaces known piece left rests places
-places-end known piece left items rests places i same state all =
-    subst (λ l. ArePlaces known piece left l places) same (record {
+pub indexes-end : (known : List Mark) (piece : Piece) (left : ℕ) (items rests : List ℕ) (indexes : List (Option ℕ)) (i : ℕ) → items ≡ rests → AreIndexesBefore known piece left items indexes i → i ≡ length items → AreIndexes known piece left rests indexes
+indexes-end known piece left items rests indexes i same state all =
+    subst (λ l. AreIndexes known piece left l indexes) same (record {
       size = state.size ∙ all;
       each = λ k low. state.each k (omega (arith, all));
     })
 
--- where each rest has a place each has a mark
-pub all-marked : (known : List Mark) (piece : Piece) (left : ℕ) (rests : List ℕ) (places : List (Option ℕ)) → ArePlaces known piece left rests places → ((k : ℕ) → k < length places → get_or places k None ≡ None → ⊥)
-    → (rest : ℕ) → has rests rest ≡ true → (place : ℕ) × IsMarkOf known piece left rest place
-all-marked known piece left rests places are some rest here =
+-- where each rest has an index each has a mark
+pub all-marked : (known : List Mark) (piece : Piece) (left : ℕ) (rests : List ℕ) (indexes : List (Option ℕ)) → AreIndexes known piece left rests indexes → ((k : ℕ) → k < length indexes → get_or indexes k None ≡ None → ⊥)
+    → (rest : ℕ) → has rests rest ≡ true → (index : ℕ) × IsMarkOf known piece left rest index
+all-marked known piece left rests indexes are some rest here =
     let at = has-at rests rest here in
-    subst (λ r. (place : ℕ) × IsMarkOf known piece left r place) at.2
-    (there (IsMarkOf known piece left (get_or rests at.0 0)) (get_or places at.0 None) (are.each at.0 at.1) (some at.0 (let size = are.size in omega (arith, size))))
+    subst (λ r. (index : ℕ) × IsMarkOf known piece left r index) at.2
+    (there (IsMarkOf known piece left (get_or rests at.0 0)) (get_or indexes at.0 None) (are.each at.0 at.1) (some at.0 (let size = are.size in omega (arith, size))))
   where
-    there : (P : ℕ → Type 0) (place : Option ℕ) → IfSome place P → (place ≡ None → ⊥) → (known_place : ℕ) × P known_place
+    there : (P : ℕ → Type 0) (index : Option ℕ) → IfSome index P → (index ≡ None → ⊥) → (known_index : ℕ) × P known_index
     there P None holds some = absurd (some refl)
-    there P (Some known_place) holds some = (known_place, holds)
+    there P (Some known_index) holds some = (known_index, holds)
 
 -- a mark of the counts of a rest and a piece more
-pub mark-with : (known : List Mark) (piece : Piece) (left rest : ℕ) (counts : List ℕ) (place : Option ℕ) → IfSome place (λ p. HasMarkAt known p counts)
-    → ((code : ℕ) → code < 8 → codes_with piece (left + 1) rest code ≤ get_or counts code 0) → IfSome place (IsMarkOf known piece left rest)
+pub mark-with : (known : List Mark) (piece : Piece) (left rest : ℕ) (counts : List ℕ) (index : Option ℕ) → IfSome index (λ p. HasMarkAt known p counts)
+    → ((code : ℕ) → code < 8 → codes_with piece (left + 1) rest code ≤ get_or counts code 0) → IfSome index (IsMarkOf known piece left rest)
 mark-with known piece left rest counts None there enough = tt
 mark-with known piece left rest counts (Some p) there enough = record { counts = counts; there = there; enough = enough }
 
--- the mark at a place of which something is known
-pub mark-there : (P Q : ℕ → Type 0) (place : Option ℕ) → IfSome place P → IsSomeAnd place Q → (known_place : ℕ) × P known_place × Q known_place
+-- the mark at an index of which something is known
+pub mark-there : (P Q : ℕ → Type 0) (index : Option ℕ) → IfSome index P → IsSomeAnd index Q → (known_index : ℕ) × P known_index × Q known_index
 mark-there P Q None holds is = absurd is
-mark-there P Q (Some known_place) holds is = (known_place, holds, is)
+mark-there P Q (Some known_index) holds is = (known_index, holds, is)

@@ -13,11 +13,11 @@ use Rattle.percent.specs.Fitting.{codes_with, supply_by}
 pub record IsTrueMark (E : Field) (mark : Mark) : Type 0 where
   pub each : (ListsAll E (supply_by mark.counts) mark.tilings.tilings.items → ⊥) → ⊥
 
--- the mark at this place is of pieces with these counts
-pub record HasMarkAt (known : List Mark) (place : ℕ) (counts : List ℕ) : Type 0 where
+-- the mark at this index is of pieces with these counts
+pub record HasMarkAt (known : List Mark) (index : ℕ) (counts : List ℕ) : Type 0 where
   pub mark : Mark
-  pub there : slice_get known place ≡ Some mark
-  pub few : place < 64
+  pub there : slice_get known index ≡ Some mark
+  pub few : index < 64
   pub same : mark.counts ≡ counts
 
 -- a placement stands in no tiling of the marks whose bits are not set
@@ -25,14 +25,14 @@ pub record IsStanding (known : List Mark) (rows : List ℕ) (q : Placement) (sta
   pub none : (k : ℕ) → k < 64 → has_bit standing k ≡ false → (mark : Mark) → slice_get known k ≡ Some mark
       → SomeHas mark.tilings.tilings.items (record { piece = q.piece; cells = sent_cells rows q }) → ⊥
 
--- the mark at this place is of enough pieces for a rest and a piece
-pub record IsMarkOf (known : List Mark) (piece : Piece) (left rest place : ℕ) : Type 0 where
+-- the mark at this index is of enough pieces for a rest and a piece
+pub record IsMarkOf (known : List Mark) (piece : Piece) (left rest index : ℕ) : Type 0 where
   pub counts : List ℕ
-  pub there : HasMarkAt known place counts
+  pub there : HasMarkAt known index counts
   pub enough : (code : ℕ) → code < 8 → codes_with piece (left + 1) rest code ≤ slice_index counts code
 
--- for each rest the place of the mark of its pieces, if there is one
-pub record ArePlaces (known : List Mark) (piece : Piece) (left : ℕ) (rests : List ℕ) (places : List (Option ℕ)) : Type 0 where
-  pub size : length places ≡ length rests
+-- for each rest the index of the mark of its pieces, if there is one
+pub record AreIndexes (known : List Mark) (piece : Piece) (left : ℕ) (rests : List ℕ) (indexes : List (Option ℕ)) : Type 0 where
+  pub size : length indexes ≡ length rests
   pub each : (k : ℕ) → k < length rests
-      → IfSome (slice_index_or places k None) (IsMarkOf known piece left (slice_index rests k))
+      → IfSome (slice_index_or indexes k None) (IsMarkOf known piece left (slice_index rests k))

@@ -4,7 +4,7 @@ ghost use Rattle.number_sets.specs.Rising.{IsRising, has};
 ghost use Rattle.well.specs.Well.{filled};
 ghost use Rattle.percent.specs.Children.{IsChild};
 ghost use Rattle.percent.specs.GoodHands.{is_good, is_good_after};
-ghost use Rattle.percent.specs.Marks.{ArePlaces};
+ghost use Rattle.percent.specs.Marks.{AreIndexes};
 
 use crate::hand::{not_leading_to, rests_of};
 use crate::kept::Kept;
@@ -44,10 +44,10 @@ fn less(
     requires few { left ≤ 20 }
     requires asked { IsRising asked.rests.items }
     requires found { IsRising found.now }
-    requires places { ArePlaces marks.now.known.items piece left asked.rests.items asked.places.items }
+    requires indexes { AreIndexes marks.now.known.items piece left asked.rests.items asked.indexes.items }
     ensures rises { IfOk result (λ asked. IsRising asked.rests.items) }
-    ensures places { IfOk result (λ asked. ArePlaces marks.now.known.items piece left asked.rests.items
-        asked.places.items) }
+    ensures indexes { IfOk result (λ asked. AreIndexes marks.now.known.items piece left asked.rests.items
+        asked.indexes.items) }
     ensures members { IfOk result (λ less. (rest : ℕ) →
         has less.rests.items rest ≡ (has asked.rests.items rest && not (has found.now rest))) }
 {

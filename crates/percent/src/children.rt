@@ -14,7 +14,7 @@ ghost use Rattle.number_sets.specs.Rising.{has};
 ghost use Rattle.percent.specs.declared.game.Game.{Game};
 ghost use Rattle.percent.specs.Children.{IsChild};
 ghost use Rattle.percent.specs.GoodHands.{is_good, is_good_after, is_good_at};
-ghost use Rattle.percent.specs.Marks.{ArePlaces, IsMarkOf, IsStanding};
+ghost use Rattle.percent.specs.Marks.{AreIndexes, IsMarkOf, IsStanding};
 
 use crate::game::Game;
 use crate::marks::{Asked, Marks};
@@ -30,12 +30,12 @@ use std::sync::ledger::Ledger;
 impl Marks {
     /// Whether each of the rests has a mark.
     fn knows_all(&self, piece: Piece, left: u8, asked: &Asked) -> bool
-        requires { ArePlaces self.now.known.items piece left asked.now.rests.items asked.now.places.items }
+        requires { AreIndexes self.now.known.items piece left asked.now.rests.items asked.now.indexes.items }
         ensures { IsTrue result → (rest : ℕ) → has asked.now.rests.items rest ≡ true
-            → (place : ℕ) × IsMarkOf self.now.known.items piece left rest place }
+            → (index : ℕ) × IsMarkOf self.now.known.items piece left rest index }
     {
-        for place in &asked.places {
-            if place.is_none() {
+        for index in &asked.indexes {
+            if index.is_none() {
                 return false;
             }
         }
@@ -79,7 +79,7 @@ impl Marks {
         requires taken { empty_cells taken.now ≡ sent_cells self.now.rows placement.now }
         requires standing { IsStanding self.now.known.items self.now.rows placement.now standing }
         requires known { IsTrue knows_all → (rest : ℕ) → has asked.now.rests.items rest ≡ true
-            → (place : ℕ) × IsMarkOf self.now.known.items placement.now.piece left rest place }
+            → (index : ℕ) × IsMarkOf self.now.known.items placement.now.piece left rest index }
         ensures { result ≡ false → (game : Game) (rest : ℕ) → has asked.now.rests.items rest ≡ true
             → is_good game (locked (filled self.now.position.well) placement.now)
             (self.now.position.rows - rows_removed (filled self.now.position.well) placement.now) left rest ≡ false }
@@ -103,7 +103,7 @@ impl Marks {
         steps: &mut Steps<L>,
     ) -> Result<Vec<Child>, NoMemory>
         requires few { left ≤ 20 }
-        requires places { ArePlaces self.now.known.items piece left asked.now.rests.items asked.now.places.items }
+        requires indexes { AreIndexes self.now.known.items piece left asked.now.rests.items asked.now.indexes.items }
         requires rules { flood_table rules.now ≡ table_of game.now.rules }
         ensures after { IfOk result (λ v. All (IsChild (filled self.now.position.well) self.now.position.rows piece)
             v.items) }

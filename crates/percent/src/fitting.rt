@@ -89,7 +89,7 @@ fn fills(tilings: &mut TilingStore, cells: &Empties, near: u8, counts: &Counts) 
 }
 
 /// The index of what was found about pieces with these counts.
-fn place_of(counts: &Counts) -> usize
+fn index_of(counts: &Counts) -> usize
     ensures { result < 64 }
 {
     let mixed = u64::from_le_bytes(*counts).wrapping_mul(0x9e37_79b9_7f4a_7c15);
@@ -117,13 +117,13 @@ impl Verdicts {
         ensures cells { self.new.cells ≡ self.old.cells }
         ensures none { result ≡ false → Tiling (all_but (empty_cells self.old.cells)) 8 (supply_by counts) → ⊥ }
     {
-        let place = place_of(&counts);
-        if !are_same(&self.known[place].counts, &counts) {
+        let index = index_of(&counts);
+        if !are_same(&self.known[index].counts, &counts) {
             let may_fit = fills(tilings, &self.cells, self.near, &counts);
-            self.known[place] = Verdict { counts, may_fit };
+            self.known[index] = Verdict { counts, may_fit };
             return may_fit;
         }
-        self.known[place].may_fit
+        self.known[index].may_fit
     }
 }
 

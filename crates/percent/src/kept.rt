@@ -101,7 +101,7 @@ impl Kept {
     }
 
     /// The index of the slot for these cells.
-    fn place_of(&self, cells: u128, left: u8) -> usize
+    fn index_of(&self, cells: u128, left: u8) -> usize
         ensures { result < length self.now.slots.items }
     {
         let low = (cells % (1 << 64)) as u64;
@@ -122,7 +122,7 @@ impl Kept {
             → is_good self.now.game (filled position.now.well) position.now.rows left hand ≡ false }
     {
         let cells = cells_below(&position.well, position.rows);
-        let slot = &self.slots[self.place_of(cells, left)];
+        let slot = &self.slots[self.index_of(cells, left)];
         if slot.cells == cells && slot.rows == position.rows && slot.left == left {
             return (slot.found.as_slice(), slot.missed.as_slice());
         }
@@ -156,15 +156,15 @@ impl Kept {
     }
 
     /// Puts an entry in the place of an earlier one. There must be room for it.
-    fn replace(&mut self, place: usize, slot: Slot)
-        requires place { place < length self.old.slots.items }
+    fn replace(&mut self, index: usize, slot: Slot)
+        requires index { index < length self.old.slots.items }
         requires holds { IsTrueSlot self.old.game slot }
         requires room { self.old.count + answers_of slot ≤ 4194304 }
         ensures game { self.new.game ≡ self.old.game }
-        ensures slots { self.new.slots.items ≡ set self.old.slots.items place slot }
+        ensures slots { self.new.slots.items ≡ set self.old.slots.items index slot }
     {
-        self.count = self.count - self.slots[place].len() + slot.len();
-        self.slots[place] = slot;
+        self.count = self.count - self.slots[index].len() + slot.len();
+        self.slots[index] = slot;
     }
 
     /// Evicts slot after slot, from the first one named, until there is room for `count` more answers.
@@ -174,12 +174,12 @@ impl Kept {
         ensures size { length self.new.slots.items ≡ length self.old.slots.items }
         ensures room { first ≡ 0 → self.new.count + count ≤ 4194304 }
     {
-        for place in first..self.slots.len() {
+        for index in first..self.slots.len() {
             if self.count <= MOST - count {
                 return;
             }
-            self.replace(place, Slot::empty(alloc));
-            self.next = place + 1;
+            self.replace(index, Slot::empty(alloc));
+            self.next = index + 1;
         }
     }
 
@@ -244,8 +244,8 @@ impl Kept {
             return false;
         }
         self.make_room(alloc, count);
-        let place = self.place_of(slot.cells, slot.left);
-        self.replace(place, slot);
+        let index = self.index_of(slot.cells, slot.left);
+        self.replace(index, slot);
         true
     }
 

@@ -68,21 +68,6 @@ fn holds_at(numbers: &[u64], index: usize, number: u64) -> bool
     holds(numbers, number)
 }
 
-/// The first index between two at which a rising list has no number below this one.
-fn first_from(numbers: &[u64], from: usize, to: usize, number: u64) -> usize {
-    let mut low = from;
-    let mut high = to.min(numbers.len());
-    while low < high {
-        let middle = low + (high - low) / 2;
-        if numbers[middle] < number {
-            low = middle + 1;
-        } else {
-            high = middle;
-        }
-    }
-    low
-}
-
 impl Starts {
     /// Where the numbers of a rising list start.
     pub fn new(alloc: Global, numbers: &[u64]) -> Result<Starts, NoMemory> {
@@ -123,8 +108,11 @@ impl Starts {
         ensures { result ≡ has numbers.now number }
     {
         let beginning = self.beginning(number);
-        let from = self.start(beginning);
-        let to = self.start(beginning.saturating_add(1));
-        holds_at(numbers, first_from(numbers, from, to, number), number)
+        let to = self.start(beginning.saturating_add(1)).min(numbers.len());
+        let from = self.start(beginning).min(to);
+        let after = match numbers[from..to].binary_search(&number) {
+            Ok(after) | Err(after) => after,
+        };
+        holds_at(numbers, from + after, number)
     }
 }

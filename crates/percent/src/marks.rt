@@ -13,7 +13,7 @@ ghost use Rattle.percent.specs.declared.game.Game.{Game};
 ghost use Rattle.percent.specs.Children.{IsChild};
 ghost use Rattle.percent.specs.Fitting.{codes_with};
 ghost use Rattle.percent.specs.GoodHands.{is_good};
-ghost use Rattle.percent.specs.Marks.{ArePlaces, HasMarkAt, IsMarkOf, IsStanding, IsTrueMark};
+ghost use Rattle.percent.specs.Marks.{AreIndexes, HasMarkAt, IsMarkOf, IsStanding, IsTrueMark};
 ghost use Rattle.percent.specs.Spread.{IsSpread};
 
 use crate::fitting::{Counts, are_same, counts_of, fitting};
@@ -50,11 +50,11 @@ pub struct Marks {
     ghost are_true: { All (IsTrueMark (empty_cells cells)) known.items },
 }
 
-/// Rests of hands, and for each the place of the mark of its pieces, if there is one.
+/// Rests of hands, and for each the index of the mark of its pieces, if there is one.
 #[derive(Drop)]
 pub struct Asked {
     pub rests: Vec<u64>,
-    pub places: Vec<Option<u8>>,
+    pub indexes: Vec<Option<u8>>,
 }
 
 /// The counts of the first `pieces` pieces of a hand and of one more piece.
@@ -105,19 +105,19 @@ pub fn index_of(known: &[Mark], counts: &Counts, likely: Option<u8>) -> Option<u
     None
 }
 
-/// Whether a placement may stand in a tiling of the mark at a place, given in which marks it does. If there is no mark, it
+/// Whether a placement may stand in a tiling of the mark at an index, given in which marks it does. If there is no mark, it
 /// may.
-fn may_stand(place: Option<u8>, standing: u64) -> bool
-    ensures { result ≡ false → IsSomeAnd place (λ known_place. (known_place < 64)
-        × (has_bit standing known_place ≡ false)) }
+fn may_stand(index: Option<u8>, standing: u64) -> bool
+    ensures { result ≡ false → IsSomeAnd index (λ known_index. (known_index < 64)
+        × (has_bit standing known_index ≡ false)) }
 {
-    let Some(known_place) = place else {
+    let Some(known_index) = index else {
         return true;
     };
-    if 63 < known_place {
+    if 63 < known_index {
         return true;
     }
-    standing >> known_place & 1 == 1
+    standing >> known_index & 1 == 1
 }
 
 impl Marks {
@@ -179,7 +179,7 @@ impl Marks {
         )
     }
 
-    /// These rests, with the places of their marks when a piece is placed first. Rests side by side often have the same
+    /// These rests, with the indexes of their marks when a piece is placed first. Rests side by side often have the same
     /// pieces.
     pub fn asked(
         &self,
@@ -190,31 +190,31 @@ impl Marks {
     ) -> Result<Asked, NoMemory>
         requires { left ≤ 20 }
         ensures rests { IfOk result (λ asked. asked.rests.items ≡ rests.items) }
-        ensures places { IfOk result (λ asked. ArePlaces self.now.known.items piece left asked.rests.items
-            asked.places.items) }
+        ensures indexes { IfOk result (λ asked. AreIndexes self.now.known.items piece left asked.rests.items
+            asked.indexes.items) }
     {
-        let mut places = Vec::with_capacity(alloc, rests.len())?;
-        let mut place = None;
+        let mut indexes = Vec::with_capacity(alloc, rests.len())?;
+        let mut index = None;
         for rest in &rests {
-            place = self.index_with(*rest, left, piece, place);
-            places.push(place)?;
+            index = self.index_with(*rest, left, piece, index);
+            indexes.push(index)?;
         }
-        Ok(Asked { rests, places })
+        Ok(Asked { rests, indexes })
     }
 
-    /// The place of the mark of a rest: the one that is known, if the rest stands at this index of those asked about.
-    fn place_of(&self, asked: &Asked, index: usize, rest: u64, left: u8, piece: Piece) -> Option<u8>
+    /// The index of the mark of a rest: the one that is known, if the rest stands there among those asked about.
+    fn index_for(&self, asked: &Asked, at: usize, rest: u64, left: u8, piece: Piece) -> Option<u8>
         requires few { left ≤ 20 }
-        requires places { ArePlaces self.now.known.items piece left asked.now.rests.items asked.now.places.items }
+        requires indexes { AreIndexes self.now.known.items piece left asked.now.rests.items asked.now.indexes.items }
         ensures { IfSome result (IsMarkOf self.now.known.items piece left rest) }
     {
-        if index < asked.rests.len() && asked.rests[index] == rest {
-            return asked.places[index];
+        if at < asked.rests.len() && asked.rests[at] == rest {
+            return asked.indexes[at];
         }
         self.index_with(rest, left, piece, None)
     }
 
-    /// Some of the rests asked about, with their places.
+    /// Some of the rests asked about, with their indexes.
     pub fn asked_of(
         &self,
         alloc: Global,
@@ -224,20 +224,20 @@ impl Marks {
         rests: Vec<u64>,
     ) -> Result<Asked, NoMemory>
         requires few { left ≤ 20 }
-        requires places { ArePlaces self.now.known.items piece left asked.now.rests.items asked.now.places.items }
+        requires indexes { AreIndexes self.now.known.items piece left asked.now.rests.items asked.now.indexes.items }
         ensures rests { IfOk result (λ asked. asked.rests.items ≡ rests.items) }
-        ensures places { IfOk result (λ asked. ArePlaces self.now.known.items piece left asked.rests.items
-            asked.places.items) }
+        ensures indexes { IfOk result (λ asked. AreIndexes self.now.known.items piece left asked.rests.items
+            asked.indexes.items) }
     {
-        let mut places = Vec::with_capacity(alloc, rests.len())?;
+        let mut indexes = Vec::with_capacity(alloc, rests.len())?;
         let mut next = 0;
         for rest in &rests {
             while next < asked.rests.len() && asked.rests[next] < *rest {
                 next += 1;
             }
-            places.push(self.place_of(asked, next, *rest, left, piece))?;
+            indexes.push(self.index_for(asked, next, *rest, left, piece))?;
         }
-        Ok(Asked { rests, places })
+        Ok(Asked { rests, indexes })
     }
 
     /// Those of the rests asked about with which a placement may stand in a tiling. The others are not good after it.
@@ -250,8 +250,8 @@ impl Marks {
     ) -> Result<Vec<u64>, NoMemory>
         requires few { left ≤ 20 }
         requires rises { IsRising asked.now.rests.items }
-        requires places { ArePlaces self.now.known.items child.now.placement.piece left asked.now.rests.items
-            asked.now.places.items }
+        requires indexes { AreIndexes self.now.known.items child.now.placement.piece left asked.now.rests.items
+            asked.now.indexes.items }
         requires child { IsChild (filled self.now.position.well) self.now.position.rows child.now.placement.piece
             child.now }
         requires standing { IsStanding self.now.known.items self.now.rows child.now.placement child.now.standing }
@@ -262,10 +262,10 @@ impl Marks {
             && is_good game (filled child.now.position.well) child.now.position.rows left rest)) }
     {
         let rests = asked.rests.as_slice();
-        let places = asked.places.as_slice();
+        let indexes = asked.indexes.as_slice();
         let mut v = Vec::with_capacity(alloc, rests.len())?;
         for index in 0..rests.len() {
-            if may_stand(places[index], child.standing) {
+            if may_stand(indexes[index], child.standing) {
                 v.push(rests[index])?;
             }
         }
@@ -284,8 +284,8 @@ pub fn fitting_after(
 ) -> Result<Vec<u64>, NoMemory>
     requires few { left ≤ 20 }
     requires rises { IsRising asked.now.rests.items }
-    requires places { ArePlaces marks.now.known.items child.now.placement.piece left asked.now.rests.items
-        asked.now.places.items }
+    requires indexes { AreIndexes marks.now.known.items child.now.placement.piece left asked.now.rests.items
+        asked.now.indexes.items }
     requires child { IsChild (filled marks.now.position.well) marks.now.position.rows child.now.placement.piece
         child.now }
     requires standing { IsStanding marks.now.known.items marks.now.rows child.now.placement child.now.standing }

@@ -12,7 +12,7 @@ use Rattle.number_sets.proofs.CallerLemmas.{has-none}
 use Rattle.percent.specs.declared.position.Child.{Child}
 use Rattle.percent.specs.declared.game.Game.{Game}
 use Rattle.percent.specs.Children.{IsChild}
-use Rattle.percent.specs.Marks.{ArePlaces, IsStanding}
+use Rattle.percent.specs.Marks.{AreIndexes, IsStanding}
 use Rattle.percent.specs.GoodHands.{is_good, is_good_after, is_good_at}
 use Rattle.percent.proofs.GoodSteps.{good-ends, answer-kept, answer-known, explore-open, explore-step, try-ends, try-step, try-starts, ok-map}
 use Rattle.percent.proofs.answered.+search.Goals as goal
@@ -104,7 +104,7 @@ pub tried-loop-child-init : goal.tried-loop-child-init
 tried-loop-child-init g t c = (
   try-starts c.args.kept.now.game c.args.left c.deref-child-items.result.now c.args.rests.now c.in_ok-asked.asked.rests.items c.args.steps.now c.children.new.steps
       (c.in_ok-asked.ensures.rests ∙ c.in_ok-all.ensures.items) c.requires.rises (omega (arith, c.in_ok-children.ensures.counted)),
-  c.in_ok-asked.ensures.places,
+  c.in_ok-asked.ensures.indexes,
 )
 
 -- what holds of all children holds of that of the iteration
@@ -124,12 +124,12 @@ tried-fitting_after-requires-clause-standing g t c =
     holds_of (λ child. IsStanding marks.known.items marks.rows child.placement child.standing) c.in_ok-children.children.items c.deref-child-items.result.now c.loop-child.child-index c.child-item.result
     c.deref-child-items.ensures.value c.in_ok-children.ensures.standing c.loop-child-test.true c.child-item.is
 
-pub tried-fitting_after-requires-clause-places : goal.tried-fitting_after-requires-clause-places
-tried-fitting_after-requires-clause-places g t c =
+pub tried-fitting_after-requires-clause-indexes : goal.tried-fitting_after-requires-clause-indexes
+tried-fitting_after-requires-clause-indexes g t c =
     let p = c.args.marks.now.position in
     let is = holds_of (IsChild (filled p.well) p.rows c.args.piece) c.in_ok-children.children.items c.deref-child-items.result.now c.loop-child.child-index c.child-item.result
     c.deref-child-items.ensures.value c.in_ok-children.ensures.after c.loop-child-test.true c.child-item.is in
-    subst (λ piece. ArePlaces c.args.marks.now.known.items piece c.args.left c.loop-child.asked.rests.items c.loop-child.asked.places.items) (sym is.kind) c.loop-child.invariant.1
+    subst (λ piece. AreIndexes c.args.marks.now.known.items piece c.args.left c.loop-child.asked.rests.items c.loop-child.asked.indexes.items) (sym is.kind) c.loop-child.invariant.1
 
 pub tried-loop-child-preserved : goal.tried-loop-child-preserved
 tried-loop-child-preserved g t c = (
@@ -145,7 +145,7 @@ tried-loop-child-preserved g t c = (
       c.as_slice.ensures.value (c.in_ok-fit.ensures.members c.loop-child.kept.game) rest)
       c.in_ok-good.ensures.game c.in_ok-good.ensures.counted
       c.in_ok-asked-2.ensures.rises refl c.as_slice-in-loop-child.ensures.value c.in_ok-asked-2.ensures.members,
-  c.in_ok-asked-2.ensures.places,
+  c.in_ok-asked-2.ensures.indexes,
 )
 
 pub tried-returns-clause-members : goal.tried-returns-clause-members

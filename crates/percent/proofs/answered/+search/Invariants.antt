@@ -1,6 +1,6 @@
 use Rattle.std.proofs.Common.{◌+◌, ◌*◌}
 use Rattle.well.specs.Well.{filled}
-use Rattle.percent.specs.Marks.{ArePlaces}
+use Rattle.percent.specs.Marks.{AreIndexes}
 use Rattle.percent.proofs.GoodSteps.{Exploring, Trying}
 use Rattle.percent.proofs.answered.+search.Given as goal
 
@@ -20,4 +20,4 @@ invariant-explored-loop-piece g l =
 abbrev pub invariant-tried-loop-child : goal.invariant-tried-loop-child
 invariant-tried-loop-child g l =
     Trying l.fn.kept.game l.kept.game l.left l.child-items l.rests l.asked.rests.items l.fn.steps l.steps l.child-index
-    × ArePlaces l.marks.known.items l.piece l.left l.asked.rests.items l.asked.places.items
+    × AreIndexes l.marks.known.items l.piece l.left l.asked.rests.items l.asked.indexes.items

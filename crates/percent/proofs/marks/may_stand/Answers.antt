@@ -8,5 +8,5 @@ use Rattle.percent.proofs.marks.may_stand.Goals as goal
 pub returns : goal.returns
 unfolding has_bit
 returns c = λ unset.
-    subst (λ o. IsSomeAnd o (λ place. (place < 64) × (has_bit c.args.standing place ≡ false))) (sym c.in-Some.is)
-    (omega (arith, c.if-known_place-gt63.false), sym (ap (λ b. b == 1) (shr_and_one c.args.standing c.in-Some.known_place)) ∙ unset)
+    subst (λ o. IsSomeAnd o (λ index. (index < 64) × (has_bit c.args.standing index ≡ false))) (sym c.in-Some.is)
+    (omega (arith, c.if-known_index-gt63.false), sym (ap (λ b. b == 1) (shr_and_one c.args.standing c.in-Some.known_index)) ∙ unset)

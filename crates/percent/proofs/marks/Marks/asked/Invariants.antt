@@ -1,5 +1,5 @@
-use Rattle.percent.proofs.MarkLemmas.{ArePlacesBefore}
+use Rattle.percent.proofs.MarkLemmas.{AreIndexesBefore}
 use Rattle.percent.proofs.marks.Marks.asked.Given as goal
 
 abbrev pub invariant-loop-rest : goal.invariant-loop-rest
-invariant-loop-rest l = ArePlacesBefore l.self.known.items l.piece l.left l.rest-items l.places.items l.rest-index
+invariant-loop-rest l = AreIndexesBefore l.self.known.items l.piece l.left l.rest-items l.indexes.items l.rest-index

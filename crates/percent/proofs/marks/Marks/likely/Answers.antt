@@ -4,7 +4,7 @@ use Rattle.std.specs.Prelude.{None}
 use Rattle.number_sets.specs.Rising.{IsRising, has}
 use Rattle.well.specs.Well.{filled}
 use Rattle.percent.specs.GoodHands.{is_good}
-use Rattle.percent.specs.Marks.{ArePlaces, IsMarkOf}
+use Rattle.percent.specs.Marks.{AreIndexes, IsMarkOf}
 use Rattle.percent.proofs.FittingLemmas.{sift-ends, sift-pass, sift-push, sift-starts}
 use Rattle.percent.proofs.MarkLemmas.{bad-stand, mark-there}
 use Rattle.percent.proofs.marks.Marks.likely.Goals as goal
@@ -28,10 +28,10 @@ loop-index-preserved c =
           rw (w.v-is, w.in_ok-push.ensures.items)
           (sift-push (λ game. is_good game (filled p.well) p.rows c.args.left) rests c.loop-index.v.items index rises c.loop-index.invariant within)
       | else-may_stand w ↦
-          let are : ArePlaces marks.known.items c.args.child.now.placement.piece c.args.left rests c.as_slice-places.result.now =
-          subst (λ l. ArePlaces marks.known.items c.args.child.now.placement.piece c.args.left l c.as_slice-places.result.now) (sym c.as_slice-rests.ensures.value)
-          (subst (λ l. ArePlaces marks.known.items c.args.child.now.placement.piece c.args.left c.args.asked.now.rests.items l) (sym c.as_slice-places.ensures.value) c.requires.places) in
-          let mark = mark-there (IsMarkOf marks.known.items c.args.child.now.placement.piece c.args.left (get_or rests index 0)) _ (get_or c.as_slice-places.result.now index None) (are.each index within) (c.may_stand.ensures w.if-may_stand.false) in
+          let are : AreIndexes marks.known.items c.args.child.now.placement.piece c.args.left rests c.as_slice-indexes.result.now =
+          subst (λ l. AreIndexes marks.known.items c.args.child.now.placement.piece c.args.left l c.as_slice-indexes.result.now) (sym c.as_slice-rests.ensures.value)
+          (subst (λ l. AreIndexes marks.known.items c.args.child.now.placement.piece c.args.left c.args.asked.now.rests.items l) (sym c.as_slice-indexes.ensures.value) c.requires.indexes) in
+          let mark = mark-there (IsMarkOf marks.known.items c.args.child.now.placement.piece c.args.left (get_or rests index 0)) _ (get_or c.as_slice-indexes.result.now index None) (are.each index within) (c.may_stand.ensures w.if-may_stand.false) in
           rw w.v-is
           (sift-pass (λ game. is_good game (filled p.well) p.rows c.args.left) rests c.loop-index.v.items index rises c.loop-index.invariant within
           (λ game. bad-stand game marks.position c.args.child.now c.args.left (get_or rests index 0) mark.0 marks.known.items marks.rows marks.cells marks.spread marks.are_true c.requires.child
