@@ -1,6 +1,7 @@
 -- A placement after which a rest is good stands in a listed tiling by the pieces of the rest and its own.
-use Rattle.std.proofs.Common.{ℕ, ◌≡◌, ◌↔◌, ◌∙◌, ◌+◌, ◌-◌, ◌*◌, ◌^◌, ◌%◌, ◌<◌, ◌≤◌, ◌⊎◌, Bool, true, false, not, ◌||◌, ◌==◌, bit_or, List, [], ◌∷◌, ◌++◌, length, get_or, map, ap, pos, negsuc, refl, sym, subst, inl, inr, arith}
+use Rattle.std.proofs.Common.{ℕ, ◌≡◌, ◌↔◌, ◌∙◌, ◌+◌, ◌-◌, ◌*◌, ◌^◌, ◌%◌, ◌<◌, ◌≤◌, ◌⊎◌, Bool, true, false, not, ◌&&◌, ◌||◌, ◌==◌, bit_and, bit_or, List, [], ◌∷◌, ◌++◌, length, get_or, map, ap, pos, negsuc, refl, sym, subst, inl, inr, arith}
 use Rattle.std.proofs.lemmas.List.Folds.{list_all-map}
+use Rattle.std.proofs.Math.Bool.{and-true, or-true, true-or}
 use Rattle.std.proofs.lemmas.Bool.{cases_Bool, cases_lt, cond-true, cond-false, both_ways, eq-eqb, false_from_ne_true, not-true, not_from_false}
 use Rattle.std.specs.Prelude.{All, Contains, Option, Some, None, IfSome, IsSomeAnd, slice_get}
 use Rattle.std.proofs.lemmas.Option.{slice_get_within, get_or_from_slice_get}
@@ -9,7 +10,7 @@ use Rattle.number_sets.specs.Rising.{has}
 use Rattle.problem.proofs.CallerLemmas.{locked-low}
 use Rattle.srs.proofs.CallerLemmas.{some_same, list_all-from_is_among}
 use Rattle.lane_board.specs.Lanes.{has_bit}
-use Rattle.lane_board.proofs.CallerLemmas.{has_bit-low, has_bit-or, has_bit-shifted_high}
+use Rattle.lane_board.proofs.CallerLemmas.{has_bit-and, has_bit-low, has_bit-or, has_bit-shifted_high, has_bit-zero}
 use Rattle.lane_board.specs.Field.{Field, difference}
 use Rattle.srs.specs.declared.piece.Piece.{Piece}
 use Rattle.srs.specs.declared.placement.Placement.{Placement}
@@ -40,6 +41,7 @@ use Rattle.percent.specs.Fitting.{codes_in, codes_with, supply_at, supply_by}
 use Rattle.percent.specs.GoodHands.{is_good}
 use Rattle.percent.specs.Marks.{AreIndexes, HasMarkAt, IsMarkOf, IsStanding, IsTrueMark}
 use Rattle.percent.specs.Spread.{IsSpread}
+use Rattle.percent.specs.Wanted.{IsWanted}
 use Rattle.percent.proofs.HandLemmas.{code-few}
 use Rattle.percent.proofs.FittingLemmas.{low-position}
 use Rattle.percent.proofs.TestLemmas.{not_false}
@@ -262,14 +264,14 @@ standing-more known rows q standing i low state = record {
 }
 
 -- or that doesn't
-pub standing-pass : (known : List Mark) (rows : List ℕ) (q : Placement) (standing i : ℕ) (mark : Mark) → slice_get known i ≡ Some mark → (SomeHas mark.tilings.tilings.items (laid rows q) → ⊥)
+pub standing-pass : (known : List Mark) (rows : List ℕ) (q : Placement) (standing i : ℕ) → ((mark : Mark) → slice_get known i ≡ Some mark → SomeHas mark.tilings.tilings.items (laid rows q) → ⊥)
     → StandingBefore known rows q standing i → StandingBefore known rows q standing (i + 1)
-standing-pass known rows q standing i mark here none state = record {
+standing-pass known rows q standing i none state = record {
   none = λ k below unset other there some. elim (cases_lt k i) [
     | inl before ↦ state.none k before unset other there some
     | inr past ↦
         let same : k ≡ i = omega arith in
-        none (subst (λ (mark : Mark). SomeHas mark.tilings.tilings.items (laid rows q)) (some_same (sym there ∙ ap (slice_get known) same ∙ here)) some)
+        none other (subst (λ n. slice_get known n ≡ Some other) same there) some
   ];
 }
 
@@ -316,18 +318,6 @@ indexes-end known piece left items rests indexes i same state all =
       each = λ k low. state.each k (omega (arith, all));
     })
 
--- where each rest has an index each has a mark
-pub all-marked : (known : List Mark) (piece : Piece) (left : ℕ) (rests : List ℕ) (indexes : List (Option ℕ)) → AreIndexes known piece left rests indexes → ((k : ℕ) → k < length indexes → get_or indexes k None ≡ None → ⊥)
-    → (rest : ℕ) → has rests rest ≡ true → (index : ℕ) × IsMarkOf known piece left rest index
-all-marked known piece left rests indexes are some rest here =
-    let at = has-at rests rest here in
-    subst (λ r. (index : ℕ) × IsMarkOf known piece left r index) at.2
-    (there (IsMarkOf known piece left (get_or rests at.0 0)) (get_or indexes at.0 None) (are.each at.0 at.1) (some at.0 (let size = are.size in omega (arith, size))))
-  where
-    there : (P : ℕ → Type 0) (index : Option ℕ) → IfSome index P → (index ≡ None → ⊥) → (known_index : ℕ) × P known_index
-    there P None holds some = absurd (some refl)
-    there P (Some known_index) holds some = (known_index, holds)
-
 -- a mark of the counts of a rest and a piece more
 pub mark-with : (known : List Mark) (piece : Piece) (left rest : ℕ) (counts : List ℕ) (index : Option ℕ) → IfSome index (λ p. HasMarkAt known p counts)
     → ((code : ℕ) → code < 8 → codes_with piece (left + 1) rest code ≤ get_or counts code 0) → IfSome index (IsMarkOf known piece left rest)
@@ -338,3 +328,54 @@ mark-with known piece left rest counts (Some p) there enough = record { counts =
 pub mark-there : (P Q : ℕ → Type 0) (index : Option ℕ) → IfSome index P → IsSomeAnd index Q → (known_index : ℕ) × P known_index × Q known_index
 mark-there P Q None holds is = absurd is
 mark-there P Q (Some known_index) holds is = (known_index, holds, is)
+
+-- ---- marks that are wanted
+
+-- a known index whose bit is set
+abbrev pub IsSet : ℕ → Option ℕ → Type 0
+IsSet wanted index = IsSomeAnd index (λ known_index. (known_index < 64) × (has_bit wanted known_index ≡ true))
+
+-- so is each of the first i indexes
+pub record AreSet (indexes : List (Option ℕ)) (wanted i : ℕ) : Type 0 where
+  pub each : (k : ℕ) → k < i → IsSet wanted (get_or indexes k None)
+
+pub set-starts : (indexes : List (Option ℕ)) (wanted : ℕ) → AreSet indexes wanted 0
+set-starts indexes wanted = record { each = λ k low. absurd (omega arith) }
+
+-- one bit more
+pub set-more : (indexes : List (Option ℕ)) (wanted i index : ℕ) → AreSet indexes wanted i → get_or indexes i None ≡ Some index → index < 64 → AreSet indexes (bit_or wanted (1 * 2 ^ index % 2 ^ 64)) (i + 1)
+set-more indexes wanted i index state here low = record { each = each }
+  where
+    kept : (o : Option ℕ) → IsSet wanted o → IsSet (bit_or wanted (1 * 2 ^ index % 2 ^ 64)) o
+    kept None is = absurd is
+    kept (Some j) is = (is.0, has_bit-or wanted (1 * 2 ^ index % 2 ^ 64) j ∙ ap (λ b. b || has_bit (1 * 2 ^ index % 2 ^ 64) j) is.1 ∙ true-or (has_bit (1 * 2 ^ index % 2 ^ 64) j))
+
+    own : IsSet (bit_or wanted (1 * 2 ^ index % 2 ^ 64)) (Some index)
+    own = (low, has_bit-or wanted (1 * 2 ^ index % 2 ^ 64) index ∙ ap (λ b. has_bit wanted index || b) (own_bit index low) ∙ or-true (has_bit wanted index))
+
+    each : (k : ℕ) → k < i + 1 → IsSet (bit_or wanted (1 * 2 ^ index % 2 ^ 64)) (get_or indexes k None)
+    each k below = elim (cases_lt k i) [
+      | inl before ↦ kept (get_or indexes k None) (state.each k before)
+      | inr past ↦
+          let same : k ≡ i = omega arith in
+          subst (IsSet (bit_or wanted (1 * 2 ^ index % 2 ^ 64))) (sym here ∙ ap (λ n. get_or indexes n None) (sym same)) own
+    ]
+
+-- where the bits of all indexes are set, the mark of each rest is wanted
+pub all-wanted : (known : List Mark) (piece : Piece) (left : ℕ) (rests : List ℕ) (indexes items : List (Option ℕ)) (wanted i : ℕ) → AreIndexes known piece left rests indexes → items ≡ indexes
+    → AreSet items wanted i → length items ≤ i → (rest : ℕ) → has rests rest ≡ true → IsWanted known piece left rest wanted
+all-wanted known piece left rests indexes items wanted i are same set all rest here =
+    let at = has-at rests rest here in
+    let bit : IsSet wanted (get_or indexes at.0 None) = subst (λ l. IsSet wanted (get_or l at.0 None)) same
+    (set.each at.0 (let size = are.size in let long = ap length same in omega (arith, at.1, size, long, all))) in
+    let mark = mark-there (IsMarkOf known piece left (get_or rests at.0 0)) (λ index. (index < 64) × (has_bit wanted index ≡ true)) (get_or indexes at.0 None) (are.each at.0 at.1) bit in
+    subst (λ r. IsWanted known piece left r wanted) at.2 (record { index = mark.0; mark = mark.1; set = mark.2.1 })
+
+-- a placement that stands in none of the marks that are wanted leaves no rest good
+pub bad-wanted : (game : Game) (p : Position) (known : List Mark) (rows : List ℕ) (cells : Empties) (q : Placement) (left rest wanted standing : ℕ) → IsSpread (filled p.well) p.rows rows (empty_cells cells)
+    → All (IsTrueMark (empty_cells cells)) known → is_free (filled p.well) q ≡ true → is_below p.rows q ≡ true → IsWanted known q.piece left rest wanted
+    → IsStanding known rows q standing → bit_and standing wanted ≡ 0
+    → is_good game (locked (filled p.well) q) (p.rows - rows_removed (filled p.well) q) left rest ≡ false
+bad-wanted game p known rows cells q left rest wanted standing spread true_marks free below is stands none =
+    bad-placed game p known rows cells q left rest is.index standing spread true_marks free below is.mark stands
+    (sym (and-true (has_bit standing is.index)) ∙ ap (λ b. has_bit standing is.index && b) (sym is.set) ∙ sym (has_bit-and standing wanted is.index) ∙ ap (λ n. has_bit n is.index) none ∙ has_bit-zero is.index)

@@ -10,3 +10,4 @@ pub mod Fitting
 pub mod Children
 pub mod Spread
 pub mod Marks
+pub mod Wanted

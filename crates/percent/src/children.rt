@@ -1,5 +1,5 @@
 // The positions that a piece leads to.
-ghost use Rattle.std.specs.Prelude.{◌≡◌, ◌≤◌, ◌+◌, ◌-◌, ℕ, IsTrue, IfOk, All, true, false};
+ghost use Rattle.std.specs.Prelude.{◌≡◌, ◌≤◌, ◌<◌, ◌+◌, ◌-◌, ℕ, IsTrue, IfOk, IfSome, All, Some, true, false, length, slice_get};
 ghost use Rattle.srs.specs.Rules.{table_of};
 ghost use Rattle.well.specs.Well.{filled};
 ghost use Rattle.well.specs.Free.{is_free};
@@ -9,12 +9,15 @@ ghost use Rattle.lane_board.specs.Field.{difference};
 ghost use Rattle.prune.specs.Tiling.{Supply, Tiling};
 ghost use Rattle.empty_cells.specs.Empties.{all_but, empty_cells};
 ghost use Rattle.empty_cells.specs.SentCells.{sent_cells};
+ghost use Rattle.tiled_pieces.specs.TilingLists.{SomeHas};
 ghost use Rattle.reach.specs.FloodRules.{flood_table};
 ghost use Rattle.number_sets.specs.Rising.{has};
 ghost use Rattle.percent.specs.declared.game.Game.{Game};
 ghost use Rattle.percent.specs.Children.{IsChild};
 ghost use Rattle.percent.specs.GoodHands.{is_good, is_good_after, is_good_at};
-ghost use Rattle.percent.specs.Marks.{AreIndexes, IsMarkOf, IsStanding};
+ghost use Rattle.percent.specs.declared.marks.Mark.{Mark};
+ghost use Rattle.percent.specs.Marks.{AreIndexes, IsStanding};
+ghost use Rattle.percent.specs.Wanted.{IsWanted};
 
 use crate::game::Game;
 use crate::marks::{Asked, Marks};
@@ -28,28 +31,47 @@ use std::alloc::Global;
 use std::sync::ledger::Ledger;
 
 impl Marks {
-    /// Whether each of the rests has a mark.
-    fn knows_all(&self, piece: Piece, left: u8, asked: &Asked) -> bool
+    /// The marks of the rests asked about: bit `k` stands for mark `k`. `None` if a rest has no mark.
+    fn wanted(&self, piece: Piece, left: u8, asked: &Asked) -> Option<u64>
         requires { AreIndexes self.now.known.items piece left asked.now.rests.items asked.now.indexes.items }
-        ensures { IsTrue result → (rest : ℕ) → has asked.now.rests.items rest ≡ true
-            → (index : ℕ) × IsMarkOf self.now.known.items piece left rest index }
+        ensures { IfSome result (λ wanted. (rest : ℕ) → has asked.now.rests.items rest ≡ true
+            → IsWanted self.now.known.items piece left rest wanted) }
     {
+        let mut wanted = 0u64;
         for index in &asked.indexes {
-            if index.is_none() {
-                return false;
+            let Some(known_index) = *index else {
+                return None;
+            };
+            if 63 < known_index {
+                return None;
             }
+            wanted |= 1 << known_index;
         }
-        true
+        Some(wanted)
     }
 
-    /// In which of the marks' tilings a placement with these cells stands. Bit `k` stands for mark `k`.
-    fn standing(&self, placement: &Placement, taken: &Empties) -> u64
+    /// Whether a piece with these cells may stand in a tiling of the mark at an index. It is not tried if the mark isn't
+    /// wanted.
+    fn may_be_in(&self, index: usize, piece: Piece, taken: &Empties, wanted: u64) -> bool
+        requires few { index < 64 }
+        requires known { index < length self.now.known.items }
+        ensures { result ≡ false → (mark : Mark) → slice_get self.now.known.items index ≡ Some mark
+            → SomeHas mark.tilings.tilings.items (record { piece = piece; cells = empty_cells taken.now }) → ⊥ }
+    {
+        if wanted >> index & 1 == 0 {
+            return true;
+        }
+        self.known[index].tilings.has(piece, taken)
+    }
+
+    /// In which of the marks' tilings a placement with these cells may stand. Bit `k` stands for mark `k`.
+    fn standing(&self, placement: &Placement, taken: &Empties, wanted: u64) -> u64
         requires { empty_cells taken.now ≡ sent_cells self.now.rows placement.now }
         ensures { IsStanding self.now.known.items self.now.rows placement.now result }
     {
         let mut standing = 0;
         for index in 0..self.known.len().min(64) {
-            if self.known[index].tilings.has(placement.piece, taken) {
+            if self.may_be_in(index, placement.piece, taken, wanted) {
                 standing |= 1 << index;
             }
         }
@@ -72,22 +94,22 @@ impl Marks {
         standing: u64,
         left: u8,
         asked: &Asked,
-        knows_all: bool,
+        wanted: Option<u64>,
     ) -> bool
         requires free { IsTrue (is_free (filled self.now.position.well) placement.now) }
         requires below { IsTrue (is_below self.now.position.rows placement.now) }
         requires taken { empty_cells taken.now ≡ sent_cells self.now.rows placement.now }
         requires standing { IsStanding self.now.known.items self.now.rows placement.now standing }
-        requires known { IsTrue knows_all → (rest : ℕ) → has asked.now.rests.items rest ≡ true
-            → (index : ℕ) × IsMarkOf self.now.known.items placement.now.piece left rest index }
+        requires wanted { IfSome wanted (λ wanted. (rest : ℕ) → has asked.now.rests.items rest ≡ true
+            → IsWanted self.now.known.items placement.now.piece left rest wanted) }
         ensures { result ≡ false → (game : Game) (rest : ℕ) → has asked.now.rests.items rest ≡ true
             → is_good game (locked (filled self.now.position.well) placement.now)
             (self.now.position.rows - rows_removed (filled self.now.position.well) placement.now) left rest ≡ false }
     {
-        if knows_all {
-            return standing != 0;
-        }
-        !self.leaves_uneven_part(taken)
+        let Some(wanted) = wanted else {
+            return !self.leaves_uneven_part(taken);
+        };
+        standing & wanted != 0
     }
 
     /// The positions after the places of a piece that lie below the rows left, but for some at which none of the rests
@@ -115,7 +137,8 @@ impl Marks {
         ensures counted { steps.new ≡ steps.old + 1 }
     {
         let position = &self.position;
-        let knows_all = self.knows_all(piece, left, asked);
+        let wanted = self.wanted(piece, left, asked);
+        let tried = wanted.unwrap_or(u64::MAX);
         let mut places = rules.places_below(
             &position.well,
             piece,
@@ -126,8 +149,8 @@ impl Marks {
         let mut children = Vec::new(alloc);
         while let Some(placement) = places.take_least() {
             let taken = self.taken(&placement);
-            let standing = self.standing(&placement, &taken);
-            if self.is_worth(&placement, &taken, standing, left, asked, knows_all) {
+            let standing = self.standing(&placement, &taken, tried);
+            if self.is_worth(&placement, &taken, standing, left, asked, wanted) {
                 children.push(Child {
                     placement,
                     position: position.after(&placement),

@@ -1,10 +1,13 @@
 -- The places come in order, and each that lies below the rows left is entered, or no rest is good after it.
-use Rattle.std.proofs.Common.{All, subst, sym, ◌∙◌}
+use Rattle.std.proofs.Common.{All, ◌≡◌, ℕ, true, subst, sym, ◌∙◌}
+use Rattle.std.specs.Prelude.{IfSome}
+use Rattle.number_sets.specs.Rising.{has}
 use Rattle.std.proofs.lemmas.List.Elements.{All-nil, All-push}
 use Rattle.std.proofs.lemmas.List.Sorted.{All-permutation}
 use Rattle.well.specs.Well.{filled}
 use Rattle.percent.specs.Children.{IsChild}
-use Rattle.percent.specs.Marks.{IsMarkOf, IsStanding}
+use Rattle.percent.specs.Marks.{IsStanding}
+use Rattle.percent.specs.Wanted.{IsWanted}
 use Rattle.percent.proofs.PlaceLemmas.{Entering, enter-ends, enter-more, enter-skip, enter-starts, in-any-order, low-free, taken, taken-fewer}
 use Rattle.percent.proofs.marks.Marks.children.Goals as goal
 
@@ -26,12 +29,11 @@ is_worth-requires-clause-below g c =
     let p = c.args.self.now.position in
     (taken c.args.game.now (filled p.well) p.rows c.args.piece c.args.left c.args.asked.now.rests.items c.loop-placement.children.items c.loop-placement.places c.take_least.new.self c.in-Some.placement c.loop-placement.invariant.0 c.in-Some.ensures.least c.in-Some.ensures.rest).below
 
-pub is_worth-requires-clause-known : goal.is_worth-requires-clause-known
-is_worth-requires-clause-known g c = λ knows rest here.
+pub is_worth-requires-clause-wanted : goal.is_worth-requires-clause-wanted
+is_worth-requires-clause-wanted g c =
     let p = c.args.self.now.position in
-    let known = c.knows_all-knows_all.ensures knows rest here in
     let low = taken c.args.game.now (filled p.well) p.rows c.args.piece c.args.left c.args.asked.now.rests.items c.loop-placement.children.items c.loop-placement.places c.take_least.new.self c.in-Some.placement c.loop-placement.invariant.0 c.in-Some.ensures.least c.in-Some.ensures.rest in
-    (known.0, subst (λ piece. IsMarkOf c.args.self.now.known.items piece c.args.left rest known.0) (sym low.kind) known.1)
+    subst (λ piece. IfSome c.wanted-wanted.result (λ wanted. (rest : ℕ) → has c.args.asked.now.rests.items rest ≡ true → IsWanted c.args.self.now.known.items piece c.args.left rest wanted)) (sym low.kind) c.wanted-wanted.ensures
 
 pub after-requires-clause-free : goal.after-requires-clause-free
 after-requires-clause-free g c =

@@ -1,25 +1,25 @@
--- It stands in no listed tiling, or walls show that what it leaves has none.
-use Rattle.std.proofs.Common.{◌≡◌, ◌==◌, ◌∙◌, ap, subst}
+-- It stands in no tiling of the marks that are wanted, or walls show that what it leaves has none.
+use Rattle.std.proofs.Common.{◌≡◌, ℕ, ◌==◌, true, bit_and, subst}
+use Rattle.std.specs.Prelude.{Option, IfSome}
 use Rattle.std.proofs.lemmas.Bool.{eqb-true}
 use Rattle.lane_board.specs.Field.{Field, difference}
-use Rattle.lane_board.specs.Lanes.{has_bit}
-use Rattle.lane_board.proofs.CallerLemmas.{has_bit-zero}
+use Rattle.number_sets.specs.Rising.{has}
 use Rattle.prune.specs.Tiling.{Supply, Tiling}
 use Rattle.empty_cells.specs.Empties.{all_but, empty_cells}
-use Rattle.percent.proofs.MarkLemmas.{bad-placed, walled-bad}
+use Rattle.percent.specs.Wanted.{IsWanted}
+use Rattle.percent.proofs.MarkLemmas.{bad-wanted, walled-bad}
 use Rattle.percent.proofs.TestLemmas.{not_false}
 use Rattle.percent.proofs.marks.Marks.is_worth.Goals as goal
 
-pub returns-then-knows_all : goal.returns-then-knows_all
-returns-then-knows_all c = λ no game rest here.
-    let marks = c.args.self.now in
-    let mark = c.requires.known c.if-knows_all.true rest here in
-    let none : c.args.standing ≡ 0 = eqb-true c.args.standing 0 (not_false (c.args.standing == 0) no) in
-    bad-placed game marks.position marks.known.items marks.rows marks.cells c.args.placement.now c.args.left rest mark.0 c.args.standing marks.spread marks.are_true c.requires.free c.requires.below mark.1 c.requires.standing
-    (ap (λ n. has_bit n mark.0) none ∙ has_bit-zero mark.0)
-
 pub returns : goal.returns
 returns c = λ no game rest here.
+    let marks = c.args.self.now in
+    let wanted = subst (λ (o : Option ℕ). IfSome o (λ wanted. (rest : ℕ) → has c.args.asked.now.rests.items rest ≡ true → IsWanted marks.known.items c.args.placement.now.piece c.args.left rest wanted)) c.in-Some.is c.requires.wanted in
+    bad-wanted game marks.position marks.known.items marks.rows marks.cells c.args.placement.now c.args.left rest c.in-Some.wanted c.args.standing marks.spread marks.are_true c.requires.free c.requires.below
+    (wanted rest here) c.requires.standing (eqb-true (bit_and c.args.standing c.in-Some.wanted) 0 (not_false (bit_and c.args.standing c.in-Some.wanted == 0) no))
+
+pub returns-in_default : goal.returns-in_default
+returns-in_default c = λ no game rest here.
     let marks = c.args.self.now in
     let q = c.args.placement.now in
     walled-bad game marks.position q c.args.left rest marks.rows (empty_cells marks.cells) marks.spread c.requires.free c.requires.below

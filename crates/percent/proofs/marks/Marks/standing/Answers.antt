@@ -1,12 +1,11 @@
 -- One mark after the other.
-use Rattle.std.proofs.Common.{◌≤◌, ◌⊎◌, length, refl, sym, subst, ◌∙◌, inl, inr, arith}
-use Rattle.std.proofs.lemmas.Bool.{cases_lt, false≢true}
-use Rattle.std.proofs.lemmas.Option.{slice_get_read}
+use Rattle.std.proofs.Common.{◌≤◌, ◌⊎◌, length, sym, subst, inl, inr, arith}
+use Rattle.std.proofs.lemmas.Bool.{cases_lt}
 use Rattle.lane_board.specs.Field.{Field}
 use Rattle.tiled_pieces.specs.TilingLists.{SomeHas}
 use Rattle.percent.proofs.MarkLemmas.{standing-ends, standing-more, standing-pass, standing-starts}
 use Rattle.percent.proofs.marks.Marks.standing.Goals as goal
-use Rattle.percent.proofs.marks.Marks.standing.Goals.{then-has, else-has}
+use Rattle.percent.proofs.marks.Marks.standing.Goals.{then-may_be_in, else-may_be_in}
 
 pub loop-index-init : goal.loop-index-init
 loop-index-init c = standing-starts c.args.self.now.known.items c.args.self.now.rows c.args.placement.now 0
@@ -17,12 +16,11 @@ loop-index-preserved c =
     let rows = c.args.self.now.rows in
     let q = c.args.placement.now in
     let index = c.loop-index.index in
-    elim c.if-has.branch [
-      | then-has w ↦ rw w.standing-is (standing-more known rows q c.loop-index.standing index (omega (arith, c.loop-index-test.true, c.min-index-end.ensures)) c.loop-index.invariant)
-      | else-has w ↦
-          rw w.standing-is (standing-pass known rows q c.loop-index.standing index c.index.result.now
-          (slice_get_read known _ index c.index.result.now refl (omega (arith, c.loop-index-test.true, c.min-index-end.ensures, c.len.ensures)) c.index.ensures)
-          (λ some. false≢true (sym w.if-has.false ∙ c.has.ensures.1 (subst (λ (E : Field). SomeHas c.index.result.now.tilings.tilings.items (record { piece = q.piece; cells = E })) (sym c.requires) some)))
+    elim c.if-may_be_in.branch [
+      | then-may_be_in w ↦ rw w.standing-is (standing-more known rows q c.loop-index.standing index (omega (arith, c.loop-index-test.true, c.min-index-end.ensures)) c.loop-index.invariant)
+      | else-may_be_in w ↦
+          rw w.standing-is (standing-pass known rows q c.loop-index.standing index
+          (λ mark there some. c.may_be_in.ensures w.if-may_be_in.false mark there (subst (λ (E : Field). SomeHas mark.tilings.tilings.items (record { piece = q.piece; cells = E })) (sym c.requires) some))
           c.loop-index.invariant)
     ]
 
