@@ -3,7 +3,7 @@ use Rattle.std.proofs.Common.{ℕ, ◌≡◌, ◌≢◌, ◌+◌, ◌*◌, ◌/�
 use Rattle.std.proofs.lemmas.Bool.{cases_eq, cases_lt}
 use Rattle.std.proofs.lemmas.Bool.Decides.{nat_tests}
 use Rattle.number_sets.specs.Rising.{IsRising, AllBelow, has}
-use Rattle.number_sets.proofs.CallerLemmas.{has-none, has-push, has-more, has-all, rising-none, rising-push, below-push, below-more}
+use Rattle.number_sets.proofs.CallerLemmas.{has-absent, has-none, has-push, has-more, has-all, rising-none, rising-push, below-push, below-more}
 use Rattle.percent.specs.Hands.{with_first, with_second}
 
 -- putting a piece back keeps the order of what was left
@@ -107,6 +107,10 @@ second_back code hand is = omega arith
 pub second_other : (code hand : ℕ) → code < 8 → (hand / 8 % 8 ≡ code → ⊥) → (rest : ℕ) → hand ≡ with_second code rest → ⊥
 unfolding with_second
 second_other code hand few other rest same = other (omega arith)
+
+-- where no hand comes from a rest, nothing is left of them
+pub none-left : (back : ℕ → ℕ) (hands v : List ℕ) → v ≡ [] → ((k : ℕ) → k < length hands → (rest : ℕ) → get_or hands k 0 ≡ back rest → ⊥) → (rest : ℕ) → has v rest ≡ has hands (back rest)
+none-left back hands v none other rest = ap (λ l. has l rest) none ∙ has-none rest ∙ sym (has-absent hands (back rest) (λ k low. other k low rest))
 
 -- those of the first i hands that pass a test
 pub record Keeping (test : ℕ → Bool) (hands v : List ℕ) (i : ℕ) : Type 0 where

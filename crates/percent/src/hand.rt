@@ -1,5 +1,5 @@
 // Pieces at hand as numbers: three bits for each piece, with the first piece in the lowest bits.
-ghost use Rattle.std.specs.Prelude.{◌≡◌, ℕ, ◌≤◌, ◌<◌, ◌+◌, ◌-◌, ◌*◌, ◌/◌, ◌%◌, ◌^◌, ◌==◌, ◌&&◌, ◌||◌, not, length, take, IfOk};
+ghost use Rattle.std.specs.Prelude.{◌≡◌, ℕ, ◌≤◌, ◌<◌, ◌+◌, ◌-◌, ◌*◌, ◌/◌, ◌%◌, ◌^◌, ◌==◌, ◌&&◌, ◌||◌, false, not, length, slice_index, take, IfOk};
 ghost use Rattle.srs.specs.Piece.{piece_code};
 ghost use Rattle.number_sets.specs.Rising.{IsRising, has};
 ghost use Rattle.percent.specs.Hands.{allows_hold, takes, with_first, with_second};
@@ -49,6 +49,20 @@ pub fn hand_of(hold: Hold, held: Option<Piece>, placements: u8, queue: &Queue) -
     }
 }
 
+/// Whether some hand has a code behind a piece (`unit` is 8), or at its beginning (1).
+#[inline(always)]
+fn some_has(hands: &[u64], unit: u64, code: u64) -> bool
+    requires { 0 < unit }
+    ensures { result ≡ false → (k : ℕ) → k < length hands.now → slice_index hands.now k / unit % 8 ≡ code → ⊥ }
+{
+    for hand in hands {
+        if *hand / unit % 8 == code {
+            return true;
+        }
+    }
+    false
+}
+
 /// The hands that begin with a piece, each without it.
 fn without_first(alloc: Global, code: u64, hands: &[u64]) -> Result<Vec<u64>, NoMemory>
     requires few { code < 8 }
@@ -56,6 +70,9 @@ fn without_first(alloc: Global, code: u64, hands: &[u64]) -> Result<Vec<u64>, No
     ensures rises { IfOk result (λ v. IsRising v.items) }
     ensures members { IfOk result (λ v. (rest : ℕ) → has v.items rest ≡ has hands.now (with_first code rest)) }
 {
+    if !some_has(hands, 1, code) {
+        return Ok(Vec::new(alloc));
+    }
     let mut v = Vec::with_capacity(alloc, hands.len())?;
     for hand in hands {
         if *hand % 8 == code {
@@ -72,6 +89,9 @@ fn without_second(alloc: Global, code: u64, hands: &[u64]) -> Result<Vec<u64>, N
     ensures rises { IfOk result (λ v. IsRising v.items) }
     ensures members { IfOk result (λ v. (rest : ℕ) → has v.items rest ≡ has hands.now (with_second code rest)) }
 {
+    if !some_has(hands, 8, code) {
+        return Ok(Vec::new(alloc));
+    }
     let mut v = Vec::with_capacity(alloc, hands.len())?;
     for hand in hands {
         if *hand / 8 % 8 == code {

@@ -1,9 +1,14 @@
 -- Each hand is a step.
-use Rattle.std.proofs.Common.{get_or}
+use Rattle.std.proofs.Common.{get_or, arith}
 use Rattle.percent.specs.Hands.{with_first}
-use Rattle.percent.proofs.RestSteps.{with_first-keeps, rest-starts, rest-push, rest-pass, rest-members, first_back, first_other}
+use Rattle.percent.proofs.RestSteps.{with_first-keeps, none-left, rest-starts, rest-push, rest-pass, rest-members, first_back, first_other}
 use Rattle.percent.proofs.hand.without_first.Goals as goal
 use Rattle.percent.proofs.hand.without_first.Goals.{then-hand-code+in_ok-push, else-hand-code}
+
+pub returns-then-not-some_has-clause-members : goal.returns-then-not-some_has-clause-members
+returns-then-not-some_has-clause-members c =
+    none-left (with_first c.args.code) c.args.hands.now c.new.result.items c.new.ensures.items
+    (λ k low. first_other c.args.code (get_or c.args.hands.now k 0) c.requires.few (λ is. c.some_has.ensures c.if-not-some_has.true k low (omega (arith, is))))
 
 pub loop-hand-init : goal.loop-hand-init
 loop-hand-init c = rw c.in_ok-v.ensures.items (rest-starts (with_first c.args.code) c.args.hands.now)
