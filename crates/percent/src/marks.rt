@@ -105,8 +105,8 @@ pub fn index_of(known: &[Mark], counts: &Counts, likely: Option<u8>) -> Option<u
     None
 }
 
-/// Whether a placement may stand in a tiling of the mark at an index, given in which marks it does. If there is no mark, it
-/// may.
+/// Whether a placement may stand in a tiling of the mark at an index, given in which marks it does. If there is no mark,
+/// it may.
 fn may_stand(index: Option<u8>, standing: u64) -> bool
     ensures { result ≡ false → IsSomeAnd index (λ known_index. (known_index < 64)
         × (has_bit standing known_index ≡ false)) }
@@ -179,8 +179,8 @@ impl Marks {
         )
     }
 
-    /// These rests, with the indexes of their marks when a piece is placed first. Rests side by side often have the same
-    /// pieces.
+    /// These rests, with the indexes of their marks when a piece is placed first. Rests side by side often have the
+    /// same pieces.
     pub fn asked(
         &self,
         alloc: Global,
