@@ -16,16 +16,6 @@ pub struct Starts {
     indexes: Vec<usize>,
 }
 
-/// Whether the list has the number at this index.
-fn is_at(numbers: &[u64], index: usize, number: u64) -> bool
-    ensures { IsTrue result → has numbers.now number ≡ true }
-{
-    if numbers.len() <= index {
-        return false;
-    }
-    numbers[index] == number
-}
-
 /// Whether all numbers before an index are below this one.
 fn are_below(numbers: &[u64], index: usize, number: u64) -> bool
     requires { IsRising numbers.now }
@@ -57,7 +47,7 @@ fn holds_at(numbers: &[u64], index: usize, number: u64) -> bool
     requires { IsRising numbers.now }
     ensures { result ≡ has numbers.now number }
 {
-    if is_at(numbers, index, number) {
+    if index < numbers.len() && numbers[index] == number {
         return true;
     }
     if are_below(numbers, index, number) {
