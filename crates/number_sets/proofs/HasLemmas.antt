@@ -1,22 +1,19 @@
 -- What rising lists have, one number on.
-use Rattle.std.proofs.Common.{ℕ, ◌≡◌, ◌≢◌, ◌+◌, ◌<◌, ◌≤◌, Bool, true, false, ◌||◌, ◌==◌, List, [], ◌∷◌, ◌++◌, length, get_or, take, refl, ap, ◌∙◌, arith}
+use Rattle.std.proofs.Common.{ℕ, ◌≡◌, ◌≢◌, ◌+◌, ◌<◌, ◌≤◌, true, false, ◌||◌, ◌==◌, List, [], ◌∷◌, ◌++◌, length, get_or, take, refl, ap, ◌∙◌, arith}
 use Rattle.std.proofs.lemmas.List.{take_all, get_or_default}
 use Rattle.std.proofs.lemmas.List.Folds.{list_any-append, list_any_more, list_any_none, list_any_at}
 use Rattle.std.proofs.lemmas.Bool.Decides.{nat_tests}
 use Rattle.std.proofs.lemmas.Grind.{common_steps}
+use Rattle.std.proofs.Math.Bool.{or-false}
 use Rattle.number_sets.specs.Rising.{IsRising, AllBelow, has}
 
 pub has-append : (xs ys : List ℕ) (number : ℕ) → has (xs ++ ys) number ≡ (has xs number || has ys number)
 unfolding has
 has-append xs ys number = list_any-append (λ x. x == number) xs ys
 
-or_false : (a : Bool) → (a || false) ≡ a
-or_false true = refl
-or_false false = refl
-
 pub has-push : (xs : List ℕ) (y number : ℕ) → has (xs ++ y ∷ []) number ≡ (has xs number || y == number)
 unfolding has
-has-push xs y number = list_any-append (λ x. x == number) xs (y ∷ []) ∙ ap (λ b. has xs number || b) (or_false (y == number))
+has-push xs y number = list_any-append (λ x. x == number) xs (y ∷ []) ∙ ap (λ b. has xs number || b) (or-false (y == number))
 
 pub has-more : (xs : List ℕ) (i number : ℕ) → i < length xs → has (take (i + 1) xs) number ≡ (has (take i xs) number || get_or xs i 0 == number)
 unfolding has

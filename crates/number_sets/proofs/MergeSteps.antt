@@ -2,8 +2,9 @@
 use Rattle.std.proofs.Common.{ℕ, ◌≡◌, ◌+◌, ◌-◌, ◌<◌, ◌≤◌, Bool, true, false, ◌||◌, ◌==◌, List, [], ◌∷◌, ◌++◌, length, get_or, take, drop, refl, ap, ◌∙◌, sym, arith, inl, inr}
 use Rattle.std.proofs.lemmas.Bool.{cases_lt}
 use Rattle.std.proofs.lemmas.List.{take-append-drop, get_or-drop, length-drop, length-append, get_or_append_left, get_or-append_right}
+use Rattle.std.proofs.Math.Bool.{or_assoc, or_comm}
 use Rattle.number_sets.specs.Rising.{IsRising, AllBelow, has}
-use Rattle.number_sets.proofs.HasLemmas.{has-append, has-push, has-more, has-none, has-all, rising-none, below-push, rising-push, below-more}
+use Rattle.number_sets.proofs.HasLemmas.{has-append, has-push, has-more, has-all, below-push, rising-push, below-more}
 
 -- v is merged from i numbers of a and j of b
 pub record Merging (a b v : List ℕ) (i j : ℕ) : Type 0 where
@@ -13,25 +14,9 @@ pub record Merging (a b v : List ℕ) (i j : ℕ) : Type 0 where
   pub below_b : j < length b → AllBelow v (get_or b j 0)
   pub within : j ≤ length b
 
-pub merge-starts : (a b : List ℕ) → Merging a b [] 0 0
-merge-starts a b = record {
-  rises = rising-none;
-  members = λ number. rw has-none refl;
-  below_a = λ _ k below. absurd (omega arith);
-  below_b = λ _ k below. absurd (omega arith);
-  within = omega arith;
-}
-
-or_second : (s t e : Bool) → ((s || t) || e) ≡ (s || (t || e))
-or_second true t e = refl
-or_second false t e = refl
-
 or_first : (s t e : Bool) → ((s || t) || e) ≡ ((s || e) || t)
 or_first true t e = refl
-or_first false true true = refl
-or_first false true false = refl
-or_first false false true = refl
-or_first false false false = refl
+or_first false t e = or_comm t e
 
 or_both : (s t e : Bool) → ((s || t) || e) ≡ ((s || e) || (t || e))
 or_both true t e = refl
@@ -45,7 +30,7 @@ pub merge-second : (a b v : List ℕ) (i j : ℕ) → IsRising b → Merging a b
 merge-second a b v i j up state in_a in_b less = record {
   rises = rising-push v (get_or b j 0) state.rises (state.below_b in_b);
   members = λ number. has-push v (get_or b j 0) number ∙ ap (λ x. x || get_or b j 0 == number) (state.members number)
-      ∙ or_second (has (take i a) number) (has (take j b) number) (get_or b j 0 == number) ∙ ap (λ x. has (take i a) number || x) (sym (has-more b j number in_b));
+      ∙ or_assoc (has (take i a) number) (has (take j b) number) (get_or b j 0 == number) ∙ ap (λ x. has (take i a) number || x) (sym (has-more b j number in_b));
   below_a = λ _. below-push v (get_or b j 0) (get_or a i 0) (state.below_a in_a) less;
   below_b = λ more. let step = up j (j + 1) (omega arith) more in
       below-push v (get_or b j 0) (get_or b (j + 1) 0) (below-more v (get_or b j 0) (get_or b (j + 1) 0) (state.below_b in_b) (omega arith)) step;
@@ -103,6 +88,6 @@ merge-rises a b v i j up state m n before below =
 pub merge-members : (a b v : List ℕ) (i j : ℕ) → length a ≤ i → Merging a b v i j → (number : ℕ) → has (v ++ drop j b) number ≡ (has a number || has b number)
 merge-members a b v i j all state number =
     has-append v (drop j b) number ∙ ap (λ x. x || has (drop j b) number) (state.members number)
-    ∙ or_second (has (take i a) number) (has (take j b) number) (has (drop j b) number)
+    ∙ or_assoc (has (take i a) number) (has (take j b) number) (has (drop j b) number)
     ∙ ap (λ x. has (take i a) number || x) (sym (has-append (take j b) (drop j b) number) ∙ ap (λ l. has l number) (take-append-drop j b))
     ∙ ap (λ x. x || has b number) (has-all a i number all)

@@ -6,7 +6,7 @@ use Rattle.std.specs.List.Sorted.{IsSorted}
 use Rattle.std.specs.Ordering.{nat_cmp}
 use Rattle.std.proofs.lemmas.Map.Keys.{ge_from_not_lt}
 use Rattle.number_sets.specs.Rising.{IsRising, AllBelow, has}
-use Rattle.number_sets.proofs.HasLemmas.{has-push, has-more, has-all, has-there, rising-none, below-push, rising-push}
+use Rattle.number_sets.proofs.HasLemmas.{has-push, has-more, has-all, has-there, below-push, rising-push}
 
 -- no number of a sorted list is above the next
 step : (xs : List ℕ) (i : ℕ) → IsSorted nat_cmp xs → i + 1 < length xs → get_or xs i 0 ≤ get_or xs (i + 1) 0
@@ -17,13 +17,6 @@ pub record Collecting (xs v : List ℕ) (i : ℕ) : Type 0 where
   pub rises : IsRising v
   pub members : (number : ℕ) → has v number ≡ has (take i xs) number
   pub low : i < length xs → (k : ℕ) → k < length v → get_or v k 0 ≤ get_or xs i 0
-
-pub collect-starts : (xs : List ℕ) → Collecting xs [] 0
-collect-starts xs = record {
-  rises = rising-none;
-  members = λ number. refl;
-  low = λ _ k below. absurd (omega arith);
-}
 
 pub collect-push : (xs v : List ℕ) (i : ℕ) → IsSorted nat_cmp xs → Collecting xs v i → i < length xs
     → (0 < length v → get_or v (length v - 1) 0 ≢ get_or xs i 0) → Collecting xs (v ++ get_or xs i 0 ∷ []) (i + 1)

@@ -2,7 +2,7 @@
 use Rattle.std.proofs.Common.{ℕ, ◌≡◌, ◌+◌, ◌<◌, ◌≤◌, Bool, true, false, not, ◌&&◌, ◌||◌, ◌==◌, List, [], ◌∷◌, ◌++◌, length, get_or, take, refl, ap, ◌∙◌, sym, arith}
 use Rattle.std.proofs.lemmas.Bool.Decides.{nat_tests}
 use Rattle.number_sets.specs.Rising.{IsRising, AllBelow, has}
-use Rattle.number_sets.proofs.HasLemmas.{has-push, has-more, has-none, has-all, has-absent, has-there, rising-none, below-push, rising-push, below-more}
+use Rattle.number_sets.proofs.HasLemmas.{has-push, has-more, has-none, has-absent, has-there, rising-none, below-push, rising-push, below-more}
 
 -- v has those of the first i numbers of a that b has not, and the first j numbers of b are below the next one
 pub record Leaving (a b v : List ℕ) (i j : ℕ) : Type 0 where
@@ -18,15 +18,6 @@ leave-starts a b = record {
   members = λ number. rw has-none refl;
   below = λ _ k below. absurd (omega arith);
   passed = λ _ k below. absurd (omega arith);
-  within = omega arith;
-}
-
-pub leave-pass : (a b v : List ℕ) (i j : ℕ) → Leaving a b v i j → i < length a → j < length b → get_or b j 0 < get_or a i 0 → Leaving a b v i (j + 1)
-leave-pass a b v i j state in_a in_b less = record {
-  rises = state.rises;
-  members = state.members;
-  below = state.below;
-  passed = λ _ k before. let old = state.passed in_a k in grind arith;
   within = omega arith;
 }
 
@@ -76,6 +67,3 @@ leave-skip a b v i j up state in_a in_b equal = record {
   passed = λ more k before. let step = up i (i + 1) (omega arith) more in let old = state.passed in_a k before in omega arith;
   within = state.within;
 }
-
-pub leave-members : (a b v : List ℕ) (i j : ℕ) → length a ≤ i → Leaving a b v i j → (number : ℕ) → has v number ≡ (has a number && not (has b number))
-leave-members a b v i j all state number = state.members number ∙ ap (λ x. x && not (has b number)) (has-all a i number all)
