@@ -3,11 +3,11 @@ use Rattle.std.proofs.Common.{◌≡◌, ℕ, zero, suc, ◌+◌, ◌-◌, ◌*�
 use Rattle.std.specs.List.{list_all}
 use Rattle.std.specs.Int.{bit_at}
 use Rattle.std.proofs.Math.Nat.{mul_assoc, mul-zero}
-use Rattle.std.proofs.lemmas.Bool.{agree_below_at, eqb-true, and_parts, and_from}
+use Rattle.std.proofs.lemmas.Bool.{agree_below_at, eqb-true, and_parts, and_from, not-true}
 use Rattle.srs.specs.declared.piece.Piece.{Piece}
 use Rattle.srs.specs.declared.piece.Piece.TheVariants.{I, L, O, Z, T, J, S}
 use Rattle.srs.specs.Piece.{all_pieces, piece_code}
-use Rattle.srs.proofs.CallerLemmas.{each_piece, Contains-cases, Contains-none, Contains-filter, Contains-from_filter, Contains-flat_map, Contains-from_flat_map, Contains-map, Contains-from_map}
+use Rattle.srs.proofs.CallerLemmas.{each_piece, Contains-cases, Contains-none, Contains-filter, Contains-from_filter, Contains-flat_map, Contains-from_flat_map, Contains-map, Contains-from_map, implied, or_second}
 use Rattle.queue_pattern.specs.declared.element.Element.{Element}
 use Rattle.queue_pattern.specs.Grammar.{set_of}
 use Rattle.queue_pattern.specs.Queues.{is_in, pieces_in, others, tails, falling_factor, queue_count}
@@ -16,7 +16,7 @@ use Rattle.hold_queue.specs.declared.family.Draw.{Draw}
 use Rattle.hold_queue.specs.declared.family.Family.{Family}
 use Rattle.hold_queue.specs.Family.{has_set, with_piece, any_below, after_draw, IsDrawn}
 use Rattle.hold_queue.specs.States.{in_progress, undrawn, rests, IsRemainder, IsRoomy}
-use Rattle.hold_queue.proofs.DrawLemmas.{any_below-from, any_below-to, not_true}
+use Rattle.hold_queue.proofs.DrawLemmas.{any_below-from, any_below-to}
 use Rattle.hold_queue.proofs.RestLemmas.{stands, rests-done, set_after}
 
 -- a set before a draw, and the set after it
@@ -49,15 +49,8 @@ record Out (piece : Piece) (set : ℕ) : Type 0 where
 
 out : (piece : Piece) (set : ℕ) → set < 128 → is_in piece set ≡ true → Out piece set
 out piece set within has =
-    let parts = and_parts _ _ (second (is_in piece set) _ has (each_piece (λ p. taken_out p set) (agree_below_at each_taken (λ _. true) 128 set refl within) piece)) in
-    record { lacks = flipped _ parts.0; whole = eqb-true _ _ parts.1 }
-  where
-    second : (a b : Bool) → a ≡ true → (not a || b) ≡ true → b ≡ true
-    second a b e h = cc
-
-    flipped : (b : Bool) → not b ≡ true → b ≡ false
-    flipped true h = sym h
-    flipped false h = refl
+    let parts = and_parts _ _ (implied (is_in piece set) _ has (each_piece (λ p. taken_out p set) (agree_below_at each_taken (λ _. true) 128 set refl within) piece)) in
+    record { lacks = not-true _ parts.0; whole = eqb-true _ _ parts.1 }
 
 record In (piece : Piece) (set : ℕ) : Type 0 where
   has : is_in piece (set + set_of piece) ≡ true
@@ -66,12 +59,9 @@ record In (piece : Piece) (set : ℕ) : Type 0 where
 
 put : (piece : Piece) (set : ℕ) → set < 128 → is_in piece set ≡ false → In piece set
 put piece set within lacks =
-    let parts = and_parts _ _ (second (is_in piece set) _ lacks (each_piece (λ p. put_in p set) (agree_below_at each_put (λ _. true) 128 set refl within) piece)) in
+    let parts = and_parts _ _ (or_second (is_in piece set) _ lacks (each_piece (λ p. put_in p set) (agree_below_at each_put (λ _. true) 128 set refl within) piece)) in
     let more = and_parts _ _ parts.1 in
     record { has = parts.0; within = ltb-true _ _ more.0; back = eqb-true _ _ more.1 }
-  where
-    second : (a b : Bool) → a ≡ false → (a || b) ≡ true → b ≡ true
-    second a b e h = cc
 
 -- the set of which a set is made by one more piece
 with_piece-from : (piece : Piece) (before : Family) (set : ℕ) → set < 128 → with_piece piece (has_set before) set ≡ true
@@ -173,7 +163,7 @@ unfolding undrawn pieces_in
 undrawn-from set drawn_set piece among =
     let one = Contains-from_filter (λ p. not (is_in p drawn_set)) (pieces_in set) piece among in
     let two = Contains-from_filter (λ p. bit_at set (piece_code p - 1) == 1) all_pieces piece one.0 in
-    (two.1, not_true _ one.1)
+    (two.1, not-true _ one.1)
 
 count_undrawn : (set drawn_set : ℕ) → IsSet (undrawn set drawn_set)
 unfolding undrawn

@@ -1,12 +1,12 @@
 -- The states stand for the played pieces: at the start, and after one more.
-use Rattle.std.proofs.Common.{◌≡◌, ℕ, ◌+◌, ◌*◌, ◌<◌, ◌≤◌, Bool, true, not, ◌&&◌, ◌||◌, ◌==◌, Option, Some, None, List, [], ◌∷◌, ◌++◌, length, length-append, append_assoc, Contains, set, refl, ap, ◌∙◌, sym, subst, inl, inr, arith, nat_le, leb-true}
+use Rattle.std.proofs.Common.{◌≡◌, ℕ, ◌+◌, ◌*◌, ◌<◌, ◌≤◌, Bool, true, not, ◌&&◌, ◌||◌, ◌==◌, Option, Some, None, List, [], ◌∷◌, ◌++◌, length, length-append, append_assoc, Contains, set, refl, ap, ◌∙◌, sym, subst, inl, inr, arith}
 use Rattle.std.specs.Cmp.Derive.{one_truth}
 use Rattle.std.specs.List.{list_any, list_all}
 use Rattle.std.proofs.lemmas.Bool.{agree_below_at, and_parts, and_from, eqb-true, or_cases, or_left, or_right}
 use Rattle.std.proofs.lemmas.List.Folds.{list_any_at}
 use Rattle.srs.specs.declared.piece.Piece.{Piece}
 use Rattle.srs.specs.Piece.{all_pieces, piece_code}
-use Rattle.srs.proofs.CallerLemmas.{piece_code-injective, each_piece}
+use Rattle.srs.proofs.CallerLemmas.{piece_code-injective, each_piece, implied, piece_code-some}
 use Rattle.queue_pattern.specs.declared.element.Element.{Element}
 use Rattle.queue_pattern.specs.Queues.{queues}
 use Rattle.hold_queue.specs.declared.hold.Hold.{Hold}
@@ -136,10 +136,7 @@ first_set start held set within = go start held
     go (Some p) (Some q) = each_piece (λ q. is_first (Some p) (Some q) set) (each_piece (λ p. list_all (λ q. is_first (Some p) (Some q) set) all_pieces) three.1 p) q
 
 held_code-none : (piece : Piece) → 0 ≡ piece_code piece → ⊥
-held_code-none piece e = absurd (omega (arith, some piece))
-  where
-    some : (piece : Piece) → 1 ≤ piece_code piece
-    some piece = leb-true _ _ (each_piece (λ p. nat_le 1 (piece_code p)) refl piece)
+held_code-none piece e = absurd (omega (arith, piece_code-some piece))
 
 held_code-injective : (start held : Option Piece) → held_code start ≡ held_code held → start ≡ held
 held_code-injective None None e = refl
@@ -154,11 +151,8 @@ record First (start held : Option Piece) (set : ℕ) : Type 0 where
 
 first : (start held : Option Piece) (set : ℕ) → set < 128 → has_set (family_at (first_states start) held) set ≡ true → First start held set
 first start held set within has =
-    let parts = and_parts _ _ (second _ _ has (first_set start held set within)) in
+    let parts = and_parts _ _ (implied _ _ has (first_set start held set within)) in
     record { held_is = held_code-injective start held (eqb-true _ _ parts.0); set_is = eqb-true set 0 parts.1 }
-  where
-    second : (a b : Bool) → a ≡ true → (not a || b) ≡ true → b ≡ true
-    second a b e h = cc
 
 first-there : (start : Option Piece) → has_set (family_at (first_states start) start) 0 ≡ true
 unfolding has_set family_at

@@ -5,7 +5,7 @@ use Rattle.std.proofs.lemmas.Bool.{agree_below_at, cases_lt, lt-ltb, le-ltb, eq-
 use Rattle.std.proofs.lemmas.Nat.Bits.{bit_at-zero}
 use Rattle.srs.specs.declared.piece.Piece.{Piece}
 use Rattle.srs.specs.Piece.{all_pieces, piece_code}
-use Rattle.srs.proofs.CallerLemmas.{each_piece}
+use Rattle.srs.proofs.CallerLemmas.{each_piece, or_second}
 use Rattle.queue_pattern.specs.declared.element.Element.{Element}
 use Rattle.queue_pattern.specs.Grammar.{set_of}
 use Rattle.queue_pattern.specs.Queues.{is_in, pieces_in, others, queues, tails}
@@ -18,9 +18,6 @@ adds set piece other = is_in piece set || same (not (is_in other (set + set_of p
 
 abbrev adds_all : ℕ → Bool
 adds_all set = list_all (λ piece. list_all (adds set piece) all_pieces) all_pieces
-
-or_second : (a b : Bool) → a ≡ false → (a || b) ≡ true → b ≡ true
-or_second a b e h = cc
 
 added : (set : ℕ) → set < 128 → (piece other : Piece) → is_in piece set ≡ false
     → not (is_in other (set + set_of piece)) ≡ (not (is_in other set) && not (piece_code other == piece_code piece))

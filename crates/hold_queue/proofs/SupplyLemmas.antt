@@ -1,10 +1,10 @@
 -- No permitted list has more of a kind than the elements with that kind and a piece that is held.
 use Rattle.std.proofs.Common.{◌≡◌, ℕ, zero, suc, ◌+◌, ◌-◌, ◌≤◌, Bool, true, false, not, cond, ◌==◌, Option, Some, List, [], ◌∷◌, ◌++◌, length, map, count_by, take, slice_get, Contains, refl, ap, ◌∙◌, sym, subst, arith, inl, inr, eqb-true, eq-eqb}
 use Rattle.std.specs.Int.{bit_at}
-use Rattle.std.proofs.lemmas.Bool.{cases_Bool}
+use Rattle.std.proofs.lemmas.Bool.{cases_Bool, both_ways, not-true}
 use Rattle.std.proofs.lemmas.List.{take_more}
 use Rattle.std.proofs.lemmas.Option.{get_or_from_slice_get, slice_get_within}
-use Rattle.std.proofs.lemmas.List.Sums.{sum_by-cons, sum_by-append}
+use Rattle.std.proofs.lemmas.List.Sums.{sum_by-cons, sum_by-append, sum_by_push, count_by-le-length}
 use Rattle.srs.specs.declared.piece.Piece.{Piece}
 use Rattle.srs.specs.Piece.{all_pieces, piece_code}
 use Rattle.srs.proofs.CallerLemmas.{piece_code-injective, Contains-none, Contains-cases, Contains-from_filter, Contains-from_flat_map, Contains-from_map}
@@ -24,9 +24,6 @@ one_if b = cond b 1 0
 count-cons : {X : Type 0} (test : X → Bool) (x : X) (xs : List X) → count_by test (x ∷ xs) ≡ one_if (test x) + count_by test xs
 count-cons test x xs = sum_by-cons (λ y. cond (test y) 1 0) x xs
 
-count-append : {X : Type 0} (test : X → Bool) (xs ys : List X) → count_by test (xs ++ ys) ≡ count_by test xs + count_by test ys
-count-append test xs ys = sum_by-append (λ y. cond (test y) 1 0) xs ys
-
 one_if-le : (b : Bool) → one_if b ≤ 1
 one_if-le true = omega arith
 one_if-le false = omega arith
@@ -36,7 +33,7 @@ pub count-more : {X : Type 0} (test : X → Bool) (xs : List X) (i : ℕ) (x : X
     → count + one_if (test x) ≡ count_by test (take (i + 1) xs)
 count-more test xs i x count there so_far =
     let more : take (i + 1) xs ≡ take i xs ++ x ∷ [] = take_more xs i x (slice_get_within xs i x there) ∙ ap (λ y. take i xs ++ y ∷ []) (get_or_from_slice_get xs i x x there) in
-    omega (arith, so_far, ap (count_by test) more, count-append test (take i xs) (x ∷ []), count-cons test x [])
+    omega (arith, so_far, ap (count_by test) more, sum_by_push (λ y. one_if (test y)) (take i xs) x)
 
 -- a choice has a piece at most once, and only where the set has it
 choice-none : (piece : Piece) (n : ℕ) (pieces choice : List Piece) → (Contains pieces piece → ⊥) → Contains (choices pieces n) choice → count_by (is piece) choice ≡ 0
@@ -59,11 +56,7 @@ others-lacks : (piece : Piece) (pieces : List Piece) → Contains (others piece 
 unfolding others
 others-lacks piece pieces there =
     let kept = (Contains-from_filter (λ p. not (piece_code p == piece_code piece)) pieces piece there).1 in
-    no_both (piece_code piece == piece_code piece) (eq-eqb (piece_code piece) (piece_code piece) refl) kept
-  where
-    no_both : (b : Bool) → b ≡ true → not b ≡ true → ⊥
-    no_both true h g = cc
-    no_both false h g = cc
+    both_ways _ (not-true _ kept) (eq-eqb (piece_code piece) (piece_code piece) refl)
 
 choice-once : (piece : Piece) (n : ℕ) (pieces choice : List Piece) → Contains (choices pieces n) choice → count_by (is piece) choice ≤ 1
 unfolding choices
@@ -108,7 +101,7 @@ queue-count piece (e ∷ elements) queue among =
     let found = Contains-from_flat_map (λ choice. map (λ rest. choice ++ rest) (queues elements)) (choices (pieces_in e.set) e.chosen) queue among in
     let tail = Contains-from_map (λ rest. found.0 ++ rest) (queues elements) queue found.2 in
     subst (λ q. count_by (is piece) q ≤ count_by (has piece) (e ∷ elements)) tail.2
-    (omega (arith, count-append (is piece) found.0 tail.0, choice-count piece e found.0 found.1, queue-count piece elements tail.0 tail.1, count-cons (has piece) e elements))
+    (omega (arith, sum_by-append (λ p. one_if (is piece p)) found.0 tail.0, choice-count piece e found.0 found.1, queue-count piece elements tail.0 tail.1, count-cons (has piece) e elements))
 
 way-count : (kind : Piece) {hold : Hold} {queue : List Piece} {held : Option Piece} {piece : Piece} {rest : List Piece} {after : Option Piece}
     → Way hold queue held piece rest after
@@ -124,16 +117,12 @@ permits-count kind hold [] queue held permitted = omega arith
 permits-count kind hold (piece ∷ pieces) queue held permitted =
     omega (arith, count-cons (is kind) piece pieces, way-count kind permitted.2, permits-count kind hold pieces permitted.0 permitted.1 permitted.3)
 
-count-le : {X : Type 0} (test : X → Bool) (xs : List X) → count_by test xs ≤ length xs
-count-le test [] = omega arith
-count-le test (x ∷ xs) = omega (arith, count-cons test x xs, one_if-le (test x), count-le test xs)
-
 pub supply-enough : (line : QueuesInPlay) (more : List Piece) (piece : Piece) → QueuesPermit line (line.played ++ more) → count_by (is piece) more ≤ supply_of line (length more) piece
 supply-enough line more piece permitted =
     omega (
       arith,
       permits-count piece line.hold (line.played ++ more) permitted.0 line.held permitted.2,
       queue-count piece line.elements permitted.0 permitted.1,
-      count-append (is piece) line.played more,
-      count-le (is piece) more,
+      sum_by-append (λ p. one_if (is piece p)) line.played more,
+      count_by-le-length (is piece) more,
     )
