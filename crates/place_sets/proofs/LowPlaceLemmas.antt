@@ -12,7 +12,7 @@ use Rattle.srs.specs.declared.placement.Placement.{Placement}
 use Rattle.srs.specs.Order.{placement_cmp}
 use Rattle.srs.specs.Piece.{piece_code}
 use Rattle.srs.specs.Rotation.{rotation_place}
-use Rattle.srs.proofs.CallerLemmas.{piece_code-injective, rotation_place-injective}
+use Rattle.srs.proofs.CallerLemmas.{piece_code-injective, rotation_place-injective, rotation_place-small}
 use Rattle.srs.specs.Rising.{IsNextAbove}
 use Rattle.well.specs.LockLaws.{is_below}
 use Rattle.place_sets.specs.States.{HasExactly, IsUnder, States, has_state}
@@ -22,7 +22,6 @@ use Rattle.place_sets.specs.LowPlaces.{holds, piece_of}
 use Rattle.place_sets.specs.Scan.{state_number}
 use Rattle.place_sets.specs.Tops.{rows_over_pivot}
 use Rattle.place_sets.proofs.FieldLemmas.{LiesWithin}
-use Rattle.place_sets.proofs.PlaceNumbers.{few_places}
 use Rattle.place_sets.proofs.ScanLemmas.{number_less}
 use Rattle.place_sets.proofs.TakeLemmas.{below_by_pivot}
 
@@ -72,7 +71,7 @@ module _ (places : LowPlaces) where
 pub low_none : (places : LowPlaces) → ((w : ℕ) → w < 8 → get_or places.words w 0 ≡ 0) → (q : Placement) → IsTrue (holds places q) → ⊥
 low_none places empty q held =
     let cell = cell-parts places.words (rotation_place q.rotation) q.x q.y (low_holds-parts places q held).1 in
-    both_ways _ (has_bit-zero (bit_of q.x q.y)) (ap (λ n. has_bit n (bit_of q.x q.y)) (sym (empty (word_of (rotation_place q.rotation) q.y) (omega (arith, few_places q.rotation, cell.1)))) ∙ cell.2)
+    both_ways _ (has_bit-zero (bit_of q.x q.y)) (ap (λ n. has_bit n (bit_of q.x q.y)) (sym (empty (word_of (rotation_place q.rotation) q.y) (omega (arith, rotation_place-small q.rotation, cell.1)))) ∙ cell.2)
 
 -- the placement of a bit
 pub record IsAt (piece : Piece) (at bit : ℕ) (s : Placement) : Type 0 where
@@ -314,7 +313,7 @@ none_of_either false b e = (refl, e)
 pub held_none : (places : LowPlaces) → ((w k : ℕ) → w < 8 → k < 64 → has_bit (get_or places.words w 0) k ≡ false) → (q : Placement) → holds places q ≡ false
 held_none places none q = false_from_ne_true _ (λ held.
     let cell = cell-parts places.words (rotation_place q.rotation) q.x q.y (low_holds-parts places q held).1 in
-    both_ways _ (none (word_of (rotation_place q.rotation) q.y) (bit_of q.x q.y) (omega (arith, few_places q.rotation, cell.1)) (omega (arith, cell.0))) cell.2)
+    both_ways _ (none (word_of (rotation_place q.rotation) q.y) (bit_of q.x q.y) (omega (arith, rotation_place-small q.rotation, cell.1)) (omega (arith, cell.0))) cell.2)
 
 -- where nothing is held, no word has a bit
 pub no_bits : (places : LowPlaces) → ((q : Placement) → holds places q ≡ false) → (w k : ℕ) → w < 8 → k < 64 → has_bit (get_or places.words w 0) k ≡ false

@@ -2,6 +2,7 @@
 use Rattle.std.proofs.Common.{◌≡◌, ℕ, zero, suc, ◌+◌, ◌-◌, ◌*◌, ◌/◌, ◌%◌, ◌<◌, ◌≤◌, Bool, true, false, not, ◌&&◌, ◌==◌, nat_lt, nat_le, List, length, length-set, set, get_or, Option, Some, None, refl, sym, ap, subst, ◌∙◌, inl, inr, arith, get_or-set_other, get_or-set_same, ◌≢◌}
 use Rattle.std.proofs.Math.Path.{fun_ext}
 use Rattle.std.proofs.lemmas.Bool.{cases_lt, cases_eq, and_parts, and_from, leb-true, le-leb, lt-ltb, le-ltb, ltb-true, eq-eqb, ne_eqb, both_ways}
+use Rattle.std.proofs.Math.Bool.{and-true}
 use Rattle.lane_board.specs.Lanes.{has_bit}
 use Rattle.lane_board.proofs.CallerLemmas.{same_from_both, has_bit-zero}
 use Rattle.srs.specs.declared.rotation.Rotation.{Rotation}
@@ -118,13 +119,9 @@ without_number old new at bit word size small within is bits n few = elim (cases
   | inr other ↦
       let apart : n / 64 ≢ at = other in
       let kept : get_or new.words (n / 64) 0 ≡ get_or old.words (n / 64) 0 = ap (λ (ws : List ℕ). get_or ws (n / 64) 0) is ∙ rw get_or-set_other in
-      ap (λ w. has_bit w (n % 64)) kept ∙ and_all _ ∙ ap (λ b. has_bit (get_or old.words (n / 64) 0) (n % 64) && not b) (sym (ne_eqb (64 * at + bit) n (λ e. other (omega arith))))
+      ap (λ w. has_bit w (n % 64)) kept ∙ sym (and-true _) ∙ ap (λ b. has_bit (get_or old.words (n / 64) 0) (n % 64) && not b) (sym (ne_eqb (64 * at + bit) n (λ e. other (omega arith))))
 ]
   where
-    and_all : (b : Bool) → b ≡ (b && true)
-    and_all true = refl
-    and_all false = refl
-
     same_test : n / 64 ≡ at → (n % 64 == bit) ≡ (64 * at + bit == n)
     same_test here = elim (cases_eq (n % 64) bit) [
       | inl same ↦ eq-eqb _ _ same ∙ sym (eq-eqb _ _ (omega arith))
@@ -254,66 +251,3 @@ keeps_rows old new rows keeps place y x few row column =
     same left = same_from_both _ _
         (λ is. let less = ltb-true _ _ is in lt-ltb y left (omega (arith, less)))
         (λ is. let less = ltb-true _ _ is in lt-ltb _ _ (omega (arith, less)))
-
--- the word has the four rows of its rotation that lie below some row
-abbrev pub CutRows : States → List ℕ → ℕ → ℕ → Type 0
-CutRows S rows w word = (r : Rotation) → rotation_place r ≡ w / 6 → (k : ℕ) → k < 64
-    → has_bit word k ≡ (S r (k % 16) (4 * (w % 6) + k / 16) && nat_lt k (16 * (get_or rows (w / 6) 0 - 4 * (w % 6))))
-
-pub cut_here : (S : States) (rows : List ℕ) (q : Rotation) (w at place word four left : ℕ) → w ≡ at + 6 * place → at < 6 → rotation_place q ≡ place → IsFourRows (S q) (4 * at) four → left ≡ get_or rows place 0 - 4 * at
-    → ((k : ℕ) → k < 64 → has_bit word k ≡ (has_bit four k && nat_lt k (16 * left))) → CutRows S rows w word
-cut_here S rows q w at place word four left is small here has is_left bits r turn k within =
-    let same : q ≡ r = rotation_place-injective q r (here ∙ sym (turn ∙ omega arith)) in
-    let row : at ≡ w % 6 = omega arith in
-    let place_is : place ≡ w / 6 = omega arith in
-    bits k within
-    ∙ (λ i. has.bits k within i && nat_lt k (16 * is_left i))
-    ∙ (λ i. S (same i) (k % 16) (4 * row i + k / 16) && nat_lt k (16 * (get_or rows (place_is i) 0 - 4 * row i)))
-
--- no row that lies so low is in a later word
-pub cut_none : (S : States) (rows : List ℕ) (w word : ℕ) → word ≡ 0 → get_or rows (w / 6) 0 ≤ 4 * (w % 6) → CutRows S rows w word
-cut_none S rows w word none low r turn k within =
-    let nothing : get_or rows (w / 6) 0 - 4 * (w % 6) ≡ 0 = omega (arith, low) in
-    ap (λ word. has_bit word k) none ∙ has_bit-zero k ∙ and_none (S r (k % 16) (4 * (w % 6) + k / 16)) ∙ ap (λ left. S r (k % 16) (4 * (w % 6) + k / 16) && nat_lt k (16 * left)) (sym nothing)
-  where
-    and_none : (b : Bool) → false ≡ (b && nat_lt k 0)
-    and_none true = sym (le-ltb k 0 (omega arith))
-    and_none false = refl
-
--- words that have these rows of the boards
-pub cut_states : (numbers : Numbers) (S : States) (rows : List ℕ) → ((r : Rotation) → LiesWithin (S r) 24) → ((w : ℕ) → w < 24 → CutRows S rows w (get_or numbers.words w 0)) → ((r : Rotation) → rotation_place r < 4)
-    → (r : Rotation) (x y : ℕ) → states_in numbers r x y ≡ (S r x y && nat_lt y (get_or rows (rotation_place r) 0))
-unfolding states_in has_number
-cut_states numbers S rows lies cut few r x y = same_from_both _ _ there back
-  where
-    same : x < 16 → (left : ℕ) → nat_lt (16 * (y % 4) + x) (16 * (left - 4 * (y / 4))) ≡ nat_lt y left
-    same column left = same_from_both _ _
-        (λ is. let less = ltb-true _ _ is in lt-ltb y left (omega (arith, less, column)))
-        (λ is. let less = ltb-true _ _ is in lt-ltb _ _ (omega (arith, less, column)))
-
-    at : x < 16 → y < 24 → has_bit (get_or numbers.words (number_of_state (rotation_place r) y x / 64) 0) (number_of_state (rotation_place r) y x % 64) ≡ (S r x y && nat_lt y (get_or rows (rotation_place r) 0))
-    at column row =
-        let n = number_of_state (rotation_place r) y x in
-        let place = few r in
-        let w : n / 64 < 24 = omega arith in
-        let turn : rotation_place r ≡ n / 64 / 6 = omega arith in
-        let p : n % 64 % 16 ≡ x = omega arith in
-        let q : 4 * (n / 64 % 6) + n % 64 / 16 ≡ y = omega arith in
-        let rest : n / 64 % 6 ≡ y / 4 = omega arith in
-        let bit : n % 64 ≡ 16 * (y % 4) + x = omega arith in
-        cut (n / 64) w r turn (n % 64) (omega arith)
-        ∙ (λ i. S r (p i) (q i) && nat_lt (bit i) (16 * (get_or rows (sym turn i) 0 - 4 * rest i)))
-        ∙ ap (λ b. S r x y && b) (same column (get_or rows (rotation_place r) 0))
-
-    there : states_in numbers r x y ≡ true → (S r x y && nat_lt y (get_or rows (rotation_place r) 0)) ≡ true
-    there held =
-        let parts = and_parts (nat_lt x 16 && nat_lt y 24) _ held in
-        let sides = and_parts (nat_lt x 16) (nat_lt y 24) parts.0 in
-        sym (at (ltb-true x 16 sides.0) (ltb-true y 24 sides.1)) ∙ parts.1
-
-    back : (S r x y && nat_lt y (get_or rows (rotation_place r) 0)) ≡ true → states_in numbers r x y ≡ true
-    back held =
-        let has = and_parts (S r x y) (nat_lt y (get_or rows (rotation_place r) 0)) held in
-        let place = (lies r).inside x y has.0 in
-        let column : x < 16 = omega (arith, place.0) in
-        and_from _ _ (and_from _ _ (lt-ltb x 16 column) (lt-ltb y 24 place.1)) (at column place.1 ∙ held)

@@ -3,20 +3,13 @@ use Rattle.std.proofs.Common.{◌≡◌, ◌↔◌, ℕ, ◌+◌, ◌*◌, ◌/�
 use Rattle.std.proofs.lemmas.Bool.{and_parts, and_from, cases_lt, cases_order, lt-ltb, ltb-true}
 use Rattle.srs.specs.declared.piece.Piece.{Piece}
 use Rattle.srs.specs.declared.rotation.Rotation.{Rotation}
-use Rattle.srs.specs.declared.rotation.Rotation.TheVariants.{Spawn, Right, Reverse, Left}
 use Rattle.srs.specs.declared.placement.Placement.{Placement}
 use Rattle.srs.specs.Rotation.{rotation_place}
-use Rattle.srs.proofs.CallerLemmas.{rotation_place-injective}
+use Rattle.srs.proofs.CallerLemmas.{rotation_place-injective, rotation_place-small}
 use Rattle.place_sets.specs.declared.numbers.Numbers.{Numbers}
 use Rattle.place_sets.specs.Numbers.{has_number, number_of_state, states_in, IsFirstNumber, NoNumber}
 use Rattle.place_sets.specs.Scan.{place_number, IsFirstState, NoState}
 use Rattle.place_sets.specs.States.{has_state}
-
-pub few_places : (r : Rotation) → rotation_place r < 4
-few_places Spawn = omega arith
-few_places Right = omega arith
-few_places Reverse = omega arith
-few_places Left = omega arith
 
 pub number-within : (numbers : Numbers) (r : Rotation) (x y : ℕ) → states_in numbers r x y ≡ true → (x < 16) × (y < 24)
 unfolding states_in
@@ -90,7 +83,7 @@ first_state-some numbers piece from start n s begins is kind at =
       after = (begins (rotation_place s.rotation) s.y s.x small_y small_x).1 (omega (arith, is.after));
       first = λ other after held.
           let within = number-within numbers other.rotation other.x other.y held in
-          let few = few_places other.rotation in
+          let few = rotation_place-small other.rotation in
           let m = number_of_state (rotation_place other.rotation) other.y other.x in
           let later : start ≤ m = (begins (rotation_place other.rotation) other.y other.x within.1 within.0).0 after in
           let least = is.first m (omega (arith, within.0, within.1)) later (number-has numbers other.rotation other.x other.y held) in
@@ -102,6 +95,6 @@ unfolding has_state
 first_state-none numbers from start begins is = record {
   none = λ other after held.
       let within = number-within numbers other.rotation other.x other.y held in
-      let few = few_places other.rotation in
+      let few = rotation_place-small other.rotation in
       is.none (number_of_state (rotation_place other.rotation) other.y other.x) (omega (arith, within.0, within.1)) ((begins (rotation_place other.rotation) other.y other.x within.1 within.0).0 after) (number-has numbers other.rotation other.x other.y held);
 }

@@ -1,17 +1,18 @@
 -- The order of placements is that of their numbers, and a scan begins where the numbers do.
-use Rattle.std.proofs.Common.{◌≡◌, ◌↔◌, ℕ, ◌+◌, ◌<◌, ◌≤◌, true, ◌==◌, ◌&&◌, cond, Option, Some, None, refl, sym, ap, subst, ◌∙◌, inl, inr, ◌⊎◌, arith}
+use Rattle.std.proofs.Common.{◌≡◌, ◌↔◌, ℕ, ◌+◌, ◌<◌, ◌≤◌, true, ◌==◌, ◌&&◌, Option, Some, None, refl, sym, ap, subst, ◌∙◌, inl, inr, ◌⊎◌, arith}
 use Rattle.std.specs.Prelude.{IsTrue, IfSome}
 use Rattle.std.specs.Ordering.{ordering_then, nat_cmp}
 use Rattle.std.specs.declared.cmp.Ordering.{Ordering}
-use Rattle.std.specs.declared.cmp.Ordering.TheVariants.{Less, Equal, Greater}
-use Rattle.std.proofs.lemmas.Bool.{cases_order, cond-true, cond-false, le-ltb, eq-eqb, ne_eqb, eqb-true, and_parts, and_from}
+use Rattle.std.specs.declared.cmp.Ordering.TheVariants.{Less, Equal}
+use Rattle.std.proofs.lemmas.Bool.{cases_order, eq-eqb, eqb-true, and_parts, and_from}
+use Rattle.std.specs.Cmp.{nat_cmp_is}
 use Rattle.srs.specs.declared.piece.Piece.{Piece}
 use Rattle.srs.specs.declared.placement.Placement.{Placement}
 use Rattle.srs.specs.Piece.{piece_code}
 use Rattle.srs.specs.Rotation.{rotation_place}
 use Rattle.srs.specs.Order.{placement_cmp}
 use Rattle.srs.specs.Rising.{is_before, IsNextAbove}
-use Rattle.srs.proofs.CallerLemmas.{piece_code-injective, below_is_less, is_before-decides}
+use Rattle.srs.proofs.CallerLemmas.{piece_code-injective, below_is_less, is_before-decides, less_is_below, then_less}
 use Rattle.place_sets.specs.declared.held.Places.{Places}
 use Rattle.place_sets.specs.Places.{holds, piece_of}
 use Rattle.place_sets.specs.States.{HasExactly, States, has_state}
@@ -19,37 +20,9 @@ use Rattle.place_sets.specs.Numbers.{states_in}
 use Rattle.place_sets.specs.Scan.{state_number, IsStateFrom}
 use Rattle.place_sets.proofs.PlaceNumbers.{number-within}
 
-same_is_equal : (m n : ℕ) → m ≡ n → nat_cmp m n ≡ Equal
-same_is_equal m n e = cond-false _ Less (cond (m == n) Equal Greater) (le-ltb m n (omega arith)) ∙ cond-true _ Equal Greater (eq-eqb m n e)
-
-above_is_greater : (m n : ℕ) → n < m → nat_cmp m n ≡ Greater
-above_is_greater m n above = cond-false _ Less (cond (m == n) Equal Greater) (le-ltb m n (omega arith)) ∙ cond-false _ Equal Greater (ne_eqb m n (λ e. omega arith))
-
--- the first comparison decides, or else the next
-then_less : (m n : ℕ) (o : Ordering) → ordering_then (nat_cmp m n) o ≡ Less → (m < n) ⊎ ((m ≡ n) × (o ≡ Less))
-then_less m n o less = elim (cases_order m n) [
-  | inl same ↦ inr (same, sym (ap (λ (a : Ordering). ordering_then a o) (same_is_equal m n same)) ∙ less)
-  | inr apart ↦ elim apart [
-    | inl below ↦ inl below
-    | inr above ↦ absurd (not_less (sym (ap (λ (a : Ordering). ordering_then a o) (above_is_greater m n above)) ∙ less))
-  ]
-]
-  where
-    not_less : Greater ≡ Less → ⊥
-    not_less e = cc
-
 less_then : (m n : ℕ) (o : Ordering) → (m < n) ⊎ ((m ≡ n) × (o ≡ Less)) → ordering_then (nat_cmp m n) o ≡ Less
 less_then m n o (inl below) = ap (λ (a : Ordering). ordering_then a o) (below_is_less m n below)
-less_then m n o (inr same) = ap (λ (a : Ordering). ordering_then a o) (same_is_equal m n same.0) ∙ same.1
-
-less_is_below : (m n : ℕ) → nat_cmp m n ≡ Less → m < n
-less_is_below m n less = elim (then_less m n Equal (ap (λ (a : Ordering). ordering_then a Equal) less)) [
-  | inl below ↦ below
-  | inr same ↦ absurd (not_less same.1)
-]
-  where
-    not_less : Equal ≡ Less → ⊥
-    not_less e = cc
+less_then m n o (inr same) = ap (λ (a : Ordering). ordering_then a o) (sym (nat_cmp_is m n Equal same.0)) ∙ same.1
 
 -- a state whose column and row are bytes
 pub record IsByte (s : Placement) : Type 0 where

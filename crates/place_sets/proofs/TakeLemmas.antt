@@ -14,14 +14,14 @@ use Rattle.srs.specs.declared.placement.Placement.{Placement}
 use Rattle.srs.specs.Cells.{Cell, minus, moved, shape, pivot_of}
 use Rattle.srs.specs.SameCells.{is_among}
 use Rattle.srs.specs.Rotation.{rotation_place}
-use Rattle.srs.proofs.CallerLemmas.{is_among-all, list_all-from_is_among, each_state}
+use Rattle.srs.proofs.CallerLemmas.{is_among-all, list_all-from_is_among, each_state, rotation_place-small}
 use Rattle.well.specs.LockLaws.{is_below}
 use Rattle.place_sets.specs.declared.held.Places.{Places}
 use Rattle.place_sets.specs.Numbers.{has_number, number_of_state, states_in}
 use Rattle.place_sets.specs.Places.{holds}
 use Rattle.place_sets.specs.States.{States, has_state}
 use Rattle.place_sets.specs.Tops.{rows_over_pivot}
-use Rattle.place_sets.proofs.PlaceNumbers.{few_places, number-within, number-has, has-number, HasNumber, number_is, same_number}
+use Rattle.place_sets.proofs.PlaceNumbers.{number-within, number-has, has-number, HasNumber, number_is, same_number}
 use Rattle.place_sets.proofs.ScanLemmas.{holds-parts, holds-from}
 
 -- sets of one piece of which one has those of the other's numbers that pass a test
@@ -50,7 +50,7 @@ module _ (old new : Places) (kind : new.piece ≡ old.piece) where
       IsTrue (holds new q) ↔ (IsTrue (holds old q) × (Some s ≢ Some q))
   unfolding has_state
   taken_one n s small at kind_s taken q =
-      let few = few_places q.rotation in
+      let few = rotation_place-small q.rotation in
       let iff = held_where q (not (n == number_of_state (rotation_place q.rotation) q.y q.x)) (λ column row. taken (number_of_state (rotation_place q.rotation) q.y q.x) (omega arith)) in (
         λ held. let parts = iff.0 held in (parts.0, λ e. both_ways _ (not-true _ parts.1) (eq-eqb n _ (sym (ap (λ (o : Option Placement). n_of o) (sym e) ∙ number_is n s small at)))),
         λ found. iff.1 (found.0, other found.0 found.1 (cases_Bool (n == number_of_state (rotation_place q.rotation) q.y q.x))),
@@ -70,7 +70,7 @@ module _ (old new : Places) (kind : new.piece ≡ old.piece) where
   -- nothing is taken out
   pub taken_none : ((m : ℕ) → m < 1536 → has_number new.numbers m ≡ (has_number old.numbers m && true)) → (q : Placement) → IsTrue (holds new q) ↔ (IsTrue (holds old q) × (None ≢ Some q))
   taken_none taken q =
-      let few = few_places q.rotation in
+      let few = rotation_place-small q.rotation in
       let iff = held_where q true (λ column row. taken (number_of_state (rotation_place q.rotation) q.y q.x) (omega arith)) in
       (λ held. ((iff.0 held).0, no_none), λ found. iff.1 (found.0, refl))
     where
@@ -129,7 +129,7 @@ pub below_held : (old new : Places) (rows : ℕ) (left : List ℕ) → new.piece
     ((place y x : ℕ) → place < 4 → y < 24 → x < 16 → has_number new.numbers (number_of_state place y x) ≡ (has_number old.numbers (number_of_state place y x) && nat_lt y (get_or left place 0))) → (q : Placement) →
     IsTrue (holds new q) ↔ (IsTrue (holds old q) × IsTrue (is_below rows q))
 below_held old new rows left kind is keeps q =
-    let iff = held_where old new kind q (nat_lt q.y (get_or left (rotation_place q.rotation) 0)) (λ column row. keeps (rotation_place q.rotation) q.y q.x (few_places q.rotation) row column) in
+    let iff = held_where old new kind q (nat_lt q.y (get_or left (rotation_place q.rotation) 0)) (λ column row. keeps (rotation_place q.rotation) q.y q.x (rotation_place-small q.rotation) row column) in
     let exact = below_by_pivot rows q in (
       λ held. let parts = iff.0 held in let k = (holds-parts old q parts.0).0 in (parts.0, exact.0 (sym (same k) ∙ parts.1)),
       λ found. let k = (holds-parts old q found.0).0 in iff.1 (found.0, same k ∙ exact.1 found.1),

@@ -1,8 +1,9 @@
 -- The bits of words after shifts and masks.
-use Rattle.std.proofs.Common.{◌≡◌, ℕ, zero, suc, ◌+◌, ◌-◌, ◌*◌, ◌/◌, ◌%◌, ◌^◌, ◌<◌, ◌≤◌, Bool, true, false, not, ◌&&◌, ◌||◌, ◌==◌, nat_le, nat_lt, bit_and, bit_or, w64, refl, sym, ap, ◌∙◌, inl, inr, arith}
+use Rattle.std.proofs.Common.{◌≡◌, ℕ, zero, suc, ◌+◌, ◌-◌, ◌*◌, ◌/◌, ◌%◌, ◌^◌, ◌<◌, ◌≤◌, Bool, true, false, not, ◌&&◌, ◌||◌, ◌==◌, nat_le, nat_lt, bit_and, bit_or, w64, sym, ap, ◌∙◌, inl, inr, arith}
 use Rattle.std.specs.Int.{trailing_zeros}
 use Rattle.std.proofs.lemmas.Bool.{cases_lt, cases_eq, cases_Bool, lt-leb, le-leb, lt-ltb, le-ltb, eq-eqb, eqb-true, ne_eqb, both_ways}
 use Rattle.std.proofs.lemmas.Nat.Bits.{bit_at-trailing_zeros, bit_at-suc, bit_at_lowest, bit_at_ones, bit_at_ones_above}
+use Rattle.std.proofs.Math.Bool.{and_self, and-true, or-false}
 use Rattle.lane_board.specs.Field.{Field}
 use Rattle.lane_board.specs.Lanes.{has_bit}
 use Rattle.lane_board.proofs.CallerLemmas.{true_from_bit, false_from_bit, has_bit-and, has_bit-or, has_bit-low, has_bit-shifted_low, has_bit-shifted_high, has_bit-shifted_right}
@@ -87,7 +88,7 @@ has_bit-without n bit k lowest = has_bit-and n (n - 1) k ∙ elim (cases_eq k bi
         ap (λ b. b && has_bit (n - 1) k) none ∙ ap (λ b. b && not (k == bit)) (sym none)
     | inr above ↦
         ap (λ b. has_bit n k && b) ((one_less bit n lowest).same k (omega (arith, other, above)))
-        ∙ twice (has_bit n k) ∙ sym (and_all (has_bit n k)) ∙ ap (λ b. has_bit n k && not b) (sym (ne_eqb k bit other))
+        ∙ and_self (has_bit n k) ∙ sym (and-true (has_bit n k)) ∙ ap (λ b. has_bit n k && not b) (sym (ne_eqb k bit other))
   ]
 ]
   where
@@ -96,14 +97,6 @@ has_bit-without n bit k lowest = has_bit-and n (n - 1) k ∙ elim (cases_eq k bi
       | inl has ↦ absurd (let least = lowest.first k has in omega (arith, least, below))
       | inr none ↦ none
     ]
-
-    twice : (b : Bool) → (b && b) ≡ b
-    twice true = refl
-    twice false = refl
-
-    and_all : (b : Bool) → (b && true) ≡ b
-    and_all true = refl
-    and_all false = refl
 
 -- the lowest bits, so many of them
 pub has_bit-ones : (n count k : ℕ) → has_bit (bit_and n (2 ^ count - 1)) k ≡ (has_bit n k && nat_lt k count)
@@ -145,10 +138,6 @@ module _ (F : Field) (N y a b c d : ℕ) (lies : LiesWithin F N)
     | inr none ↦ none
   ]
 
-  or_end : (t : Bool) → (t || false) ≡ t
-  or_end true = refl
-  or_end false = refl
-
   pub four_rows-is : IsFourRows F y word
   four_rows-is = record { bits = bits }
     where
@@ -167,15 +156,15 @@ module _ (F : Field) (N y a b c d : ℕ) (lies : LiesWithin F N)
                 let p : k ≡ k % 16 = omega arith in
                 let q : y ≡ y + k / 16 = omega arith in
                 (λ i. ((F k y || (lt-leb 16 k one i && F (k - 16) (y + 1))) || (lt-leb 32 k (omega arith) i && F (k - 32) (y + 2))) || (lt-leb 48 k (omega arith) i && F (k - 48) (y + 3)))
-                ∙ (or_end _ ∙ or_end _ ∙ or_end _) ∙ (λ i. F (p i) (q i))
+                ∙ (or-false _ ∙ or-false _ ∙ or-false _) ∙ (λ i. F (p i) (q i))
             | inr past_one ↦ elim (cases_lt k 32) [
               | inl two ↦
                   (λ i. ((none_past k y (omega arith) i || (le-leb 16 k past_one i && F (k - 16) (y + 1))) || (lt-leb 32 k two i && F (k - 32) (y + 2))) || (lt-leb 48 k (omega arith) i && F (k - 48) (y + 3)))
-                  ∙ (or_end _ ∙ or_end _) ∙ at_row k 1 past_one (omega arith)
+                  ∙ (or-false _ ∙ or-false _) ∙ at_row k 1 past_one (omega arith)
               | inr past_two ↦ elim (cases_lt k 48) [
                 | inl three ↦
                     (λ i. ((none_past k y (omega arith) i || (le-leb 16 k past_one i && none_past (k - 16) (y + 1) (omega arith) i)) || (le-leb 32 k past_two i && F (k - 32) (y + 2))) || (lt-leb 48 k three i && F (k - 48) (y + 3)))
-                    ∙ or_end _ ∙ at_row k 2 past_two (omega arith)
+                    ∙ or-false _ ∙ at_row k 2 past_two (omega arith)
                 | inr past_three ↦
                     (λ i. ((none_past k y (omega arith) i || (le-leb 16 k past_one i && none_past (k - 16) (y + 1) (omega arith) i)) || (le-leb 32 k past_two i && none_past (k - 32) (y + 2) (omega arith) i)) || (le-leb 48 k past_three i && F (k - 48) (y + 3)))
                     ∙ at_row k 3 past_three (omega arith)

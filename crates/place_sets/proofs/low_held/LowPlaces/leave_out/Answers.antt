@@ -1,11 +1,11 @@
 -- Each word loses these bits.
 use Rattle.std.proofs.Common.{◌≡◌, ℕ, Bool, true, false, not, ◌&&◌, ◌==◌, get_or, refl, ap, ◌∙◌}
+use Rattle.srs.proofs.CallerLemmas.{rotation_place-small}
 use Rattle.srs.specs.Piece.{piece_code}
 use Rattle.srs.specs.Rotation.{rotation_place}
 use Rattle.lane_board.specs.Lanes.{has_bit}
 use Rattle.place_sets.specs.LowPlaces.{holds, piece_of}
 use Rattle.place_sets.proofs.LowPlaceLemmas.{cells-lost, each_word}
-use Rattle.place_sets.proofs.PlaceNumbers.{few_places}
 use Rattle.place_sets.proofs.low_held.LowPlaces.leave_out.Goals as goal
 
 and_joined : (a b c : Bool) → (a && (b && c)) ≡ ((a && b) && c)
@@ -24,5 +24,5 @@ returns-clause-held c = λ q.
     (each_word (λ w. (k : ℕ) → _ ≡ (has_bit (get_or c.args.self.now.words w 0) k && not (has_bit (get_or c.args.pivots.now w 0) k)))
     c.bits_without.ensures.bits c.bits_without-2.ensures.bits c.bits_without-3.ensures.bits c.bits_without-4.ensures.bits
     c.bits_without-5.ensures.bits c.bits_without-6.ensures.bits c.bits_without-7.ensures.bits c.bits_without-8.ensures.bits)
-    (rotation_place q.rotation) q.x q.y (few_places q.rotation))
+    (rotation_place q.rotation) q.x q.y (rotation_place-small q.rotation))
     ∙ and_joined (piece_code q.piece == piece_code (piece_of c.args.self.now)) _ _

@@ -1,18 +1,12 @@
 -- One word more of each rotation; all words have all rows.
 use Rattle.std.proofs.Common.{◌+◌, ◌<◌, refl, arith}
+use Rattle.srs.proofs.CallerLemmas.{rotation_place-small}
 use Rattle.srs.specs.declared.rotation.Rotation.{Rotation}
 use Rattle.srs.specs.declared.rotation.Rotation.TheVariants.{Spawn, Right, Reverse, Left}
-use Rattle.srs.specs.Rotation.{rotation_place}
 use Rattle.place_sets.specs.States.{states_of}
 use Rattle.place_sets.proofs.NumberLemmas.{HasRows, states_by, four_more, four_set-length, rows_here}
 use Rattle.place_sets.proofs.StateSets.{states_within}
 use Rattle.place_sets.proofs.numbers.Numbers.of_states.Goals as goal
-
-few_places : (r : Rotation) → rotation_place r < 4
-few_places Spawn = omega arith
-few_places Right = omega arith
-few_places Reverse = omega arith
-few_places Left = omega arith
 
 pub loop-at-preserved : goal.loop-at-preserved
 unfolding states_of
@@ -28,4 +22,4 @@ loop-at-preserved c =
     )
 
 pub returns : goal.returns
-returns c = states_by _ (states_of c.args.states.now) (λ (r : Rotation). states_within c.args.states.now r) (λ w below. c.loop-at.invariant.1 w below (omega arith)) few_places
+returns c = states_by _ (states_of c.args.states.now) (λ (r : Rotation). states_within c.args.states.now r) (λ w below. c.loop-at.invariant.1 w below (omega arith)) rotation_place-small
