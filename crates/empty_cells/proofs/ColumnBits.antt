@@ -12,7 +12,7 @@ use Rattle.std.proofs.lemmas.List.Sums.{sum_by_push}
 use Rattle.lane_board.proofs.CallerLemmas.{has_bit-low, has_bit-shifted_right, has_bit-zero}
 use Rattle.prune.specs.Counts.{column_empties}
 use Rattle.prune.specs.Walls.{IsWall}
-use Rattle.prune.proofs.CallerLemmas.{column_empties-suc, column_empties-zero}
+use Rattle.prune.proofs.CallerLemmas.{column_empties-suc, column_empties-zero, range_more}
 use Rattle.empty_cells.specs.declared.span.Span.TheVariants.{FirstTwo}
 use Rattle.empty_cells.specs.Empties.{all_but}
 use Rattle.empty_cells.specs.Spans.{has_span}
@@ -43,9 +43,6 @@ ones_column F x (suc n) mask small told =
     )
 
 -- several columns have as many as theirs together
-range_more : (from n : ℕ) → range_with_len from (suc n) ≡ range_with_len from n ++ (from + n) ∷ []
-range_more from zero = let e : from + 0 ≡ from = omega arith in ap (λ k. k ∷ []) (sym e)
-range_more from (suc n) = let e : from + 1 + n ≡ from + suc n = omega arith in ap (λ rest. from ∷ rest) (range_more (from + 1) n) ∙ ap (λ k. from ∷ (range_with_len (from + 1) n ++ k ∷ [])) e
 
 pub ones_columns : (F : Field) (n cells : ℕ) → cells < 2 ^ (8 * n) → ((a b : ℕ) → a < n → b < 8 → has_bit cells (8 * a + b) ≡ not (F a b)) → count_ones cells ≡ sum_by (column_empties F 8) (range_with_len 0 n)
 ones_columns F zero cells small told = ap count_ones {y = 0} (omega arith) ∙ one_bit 0 (omega arith)

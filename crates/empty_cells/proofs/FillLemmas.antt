@@ -2,20 +2,21 @@
 use Rattle.std.proofs.Common.{◌≡◌, ℕ, suc, ◌+◌, ◌<◌, ◌≤◌, Bool, true, false, not, cond, ◌&&◌, ◌||◌, ◌==◌, nat_lt, ℤ, pos, negsuc, ◌+ℤ◌, ◌-ℤ◌, List, [], ◌∷◌, length, map, refl, sym, ap, subst, ◌∙◌, inl, inr, arith}
 use Rattle.std.proofs.Math.Path.{fun_ext}
 use Rattle.std.specs.List.{list_all}
-use Rattle.std.proofs.lemmas.Bool.{cases_Bool, cases_lt, both_ways, and_from, or_cases, or_left, or_right, cond-true, cond-false, eqb-true, lt-ltb, false≢true}
+use Rattle.std.proofs.lemmas.Bool.{cases_Bool, cases_lt, both_ways, and_from, cond-true, cond-false, eqb-true, lt-ltb}
 use Rattle.std.proofs.lemmas.List.Elements.{All-nil}
 use Rattle.std.proofs.lemmas.Int.{ints}
+use Rattle.std.proofs.Math.Bool.{not-not}
 use Rattle.lane_board.specs.Field.{Field, rows_below}
 use Rattle.srs.specs.declared.piece.Piece.{Piece}
 use Rattle.srs.specs.declared.rotation.Rotation.{Rotation}
 use Rattle.srs.specs.Piece.{piece_code}
 use Rattle.srs.specs.Cells.{Cell, shape}
-use Rattle.srs.specs.SameCells.{cell_eq, is_among}
-use Rattle.srs.proofs.CallerLemmas.{cell_eq-decides, is_among-all, has_cell-head, list_all-from_is_among, piece_code-injective}
+use Rattle.srs.specs.SameCells.{is_among}
+use Rattle.srs.proofs.CallerLemmas.{is_among-all, list_all-from_is_among, piece_code-injective}
 use Rattle.prune.specs.Tiling.{Part, IsGeneralized, sent, is_empty_below, covers, Tiling, Supply}
 use Rattle.prune.specs.Laws.{with_one}
 use Rattle.prune.specs.OnePart.{with_cells, less_one}
-use Rattle.prune.proofs.CallerLemmas.{with_part, TakenPart, taken_part}
+use Rattle.prune.proofs.CallerLemmas.{with_part, TakenPart, taken_part, has_cell-map, source_of}
 use Rattle.empty_cells.specs.declared.span.Span.{Span}
 use Rattle.empty_cells.specs.Empties.{all_but, has_cell}
 use Rattle.empty_cells.specs.Spans.{HasNoCell, IsFirst}
@@ -25,14 +26,10 @@ use Rattle.empty_cells.proofs.StackLemmas.{Rises, IsWithin, IsSmall, Follows, Ch
 use Rattle.empty_cells.proofs.ChosenLemmas.{chosen, stacked, follows-first}
 use Rattle.empty_cells.proofs.FormLemmas.{leftmost, lowest, form_at, form, distance, place_in, rotation_at, Matches, sent_column, same_cells, left_cell, left_in_stack, stack_right_of, level_within, level_up, row_up, cell_at_level, row_by_level, form_within, form_of_place}
 
-not_not : (p : Bool) → not (not p) ≡ p
-not_not true = refl
-not_not false = refl
-
 -- which cells are empty where all but those of a set are filled
 pub empty_is : (height : ℕ) (E : Field) (a b : ℕ) → IsSmall height E → is_empty_below (all_but E) height (pos a, pos b) ≡ E a b
 unfolding is_empty_below all_but rows_below
-empty_is height E a b small = ap (λ t. (nat_lt a 10 && nat_lt b height) && t) (not_not (E a b)) ∙ inside (E a b) (nat_lt a 10 && nat_lt b height) (λ here. and_from _ _ (lt-ltb a 10 (small.column a b here)) (lt-ltb b height (small.row a b here)))
+empty_is height E a b small = ap (λ t. (nat_lt a 10 && nat_lt b height) && t) (not-not (E a b)) ∙ inside (E a b) (nat_lt a 10 && nat_lt b height) (λ here. and_from _ _ (lt-ltb a 10 (small.column a b here)) (lt-ltb b height (small.row a b here)))
   where
     inside : (p q : Bool) → (p ≡ true → q ≡ true) → (q && p) ≡ p
     inside true q one = ap (λ t. t && true) (one refl)
@@ -57,7 +54,7 @@ fills_nothing height E supply none = record {
     covered (pos x, pos y) = sym (cond-false (rows_below height x y && not (not (E x y))) 1 0 (nothing (rows_below height x y)))
       where
         nothing : (p : Bool) → (p && not (not (E x y))) ≡ false
-        nothing true = not_not (E x y) ∙ none.none x y
+        nothing true = not-not (E x y) ∙ none.none x y
         nothing false = refl
     covered (pos x, negsuc y) = refl
     covered (negsuc x, pos y) = refl
@@ -65,20 +62,7 @@ fills_nothing height E supply none = record {
 
 -- a cell of sent cells comes from one of them
 pub sent_from : (f : Cell → Cell) (cells : List Cell) (d : Cell) → is_among (map f cells) d ≡ true → (c : Cell) × (is_among cells c ≡ true) × (f c ≡ d)
-unfolding is_among
-sent_from f [] d has = absurd (false≢true has)
-sent_from f (c ∷ cells) d has = elim (or_cases (cell_eq (f c) d) _ has) [
-  | inl here ↦ (c, has_cell-head c cells, (cell_eq-decides (f c) d).0 here)
-  | inr later ↦ let found = sent_from f cells d later in (found.0, or_right (cell_eq c found.0) _ found.1, found.2)
-]
-
-pub sent_has : (f : Cell → Cell) (cells : List Cell) (c : Cell) → is_among cells c ≡ true → is_among (map f cells) (f c) ≡ true
-unfolding is_among
-sent_has f [] c has = absurd (false≢true has)
-sent_has f (d ∷ cells) c has = elim (or_cases (cell_eq d c) _ has) [
-  | inl here ↦ or_left (cell_eq (f d) (f c)) _ ((cell_eq-decides (f d) (f c)).1 (ap f ((cell_eq-decides d c).0 here)))
-  | inr later ↦ or_right (cell_eq (f d) (f c)) _ (sent_has f cells c later)
-]
+sent_from f cells d has = let source = source_of f cells d has in (source.from, source.listed, source.sent)
 
 pub not_without : (p q : Bool) → (not p || q) ≡ not (p && not q)
 not_without true true = refl
@@ -219,7 +203,7 @@ stack_of height E part small g inside = at_column (leftmost part.piece g.rotatio
         let c = left_cell part.piece g.rotation in
         absurd (both_ways _ (negative_column height E n (g.row c.0.1))
         (subst (λ (d : Cell). is_empty_below (all_but E) height d ≡ true) (negative_at part.piece g.rotation g.move g.row n c.0 (ap (λ z. z +ℤ g.move) c.2 ∙ moved))
-        (empty (sent g.move g.row c.0) (sent_has (sent g.move g.row) (shape part.piece g.rotation) c.0 c.1))))
+        (empty (sent g.move g.row c.0) (has_cell-map (sent g.move g.row) (shape part.piece g.rotation) c.0 c.1))))
 
 -- a piece of the supply that has a cell of a set that is filled, by its spans
 pub record FilledBy (height : ℕ) (E : Field) (supply : Supply) (x0 y0 : ℕ) : Type 0 where

@@ -14,7 +14,7 @@ use Rattle.srs.specs.declared.rotation.Rotation.{Rotation}
 use Rattle.srs.specs.declared.rotation.Rotation.TheVariants.{Spawn, Right, Reverse, Left}
 use Rattle.srs.specs.Cells.{Cell, minus, shape}
 use Rattle.srs.specs.SameCells.{cell_eq, is_among}
-use Rattle.srs.proofs.CallerLemmas.{each_state, is_among-all, has_cell-head, list_all_each}
+use Rattle.srs.proofs.CallerLemmas.{each_state, is_among-all, has_cell-head, list_all_each, implied}
 use Rattle.prune.specs.Tiling.{sent}
 use Rattle.lane_board.proofs.CallerLemmas.{same_from_both}
 use Rattle.empty_cells.specs.declared.span.Span.{Span}
@@ -286,10 +286,6 @@ stack_right_of x rows (span ∷ spans) a b here = elim (or_cases (list_any (λ c
   | inl first ↦ right_of (columns_of span) x a (and_parts (list_any (λ column. x + column == a) (columns_of span)) _ first).0
   | inr later ↦ stack_right_of x (λ k. rows (suc k)) spans a b later
 ]
-
-implied : (p q : Bool) → p ≡ true → (not p || q) ≡ true → q ≡ true
-implied true q holds then = then
-implied false q holds then = absurd (false≢true holds)
 
 level_rise : (piece : Piece) (rotation : Rotation) (c d : Cell) → is_among (shape piece rotation) c ≡ true → is_among (shape piece rotation) d ≡ true → level_rises piece rotation c d ≡ true
 unfolding rises_in

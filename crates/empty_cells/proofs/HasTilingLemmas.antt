@@ -2,23 +2,23 @@
 use Rattle.std.proofs.Common.{◌≡◌, ℕ, zero, suc, ◌+◌, ◌-◌, ◌<◌, ◌≤◌, Bool, true, false, not, ◌&&◌, ◌==◌, nat_lt, nat_le, List, [], ◌∷◌, length, get_or, ◌↔◌, refl, sym, ap, subst, ◌∙◌, inl, inr, arith}
 use Rattle.std.specs.Prelude.{sum_by}
 use Rattle.std.specs.List.{list_any, list_all, range_with_len}
-use Rattle.std.proofs.lemmas.Bool.{cases_Bool, both_ways, and_parts, and_from, and_cases, or_cases, or_left, or_right, not-true, not-false, false≢true, true≢false, false_from_ne_true, leb-true, le-leb, ltb-true, lt-ltb, eqb-true, agree_below_at}
+use Rattle.std.proofs.lemmas.Bool.{cases_Bool, both_ways, and_parts, and_from, and_cases, or_cases, or_left, or_right, not-true, not-false, false≢true, true≢false, false_from_ne_true, leb-true, le-leb, ltb-true, lt-ltb}
 use Rattle.std.proofs.lemmas.List.Folds.{list_any_at}
 use Rattle.std.proofs.lemmas.List.FromFn.{get_or-range_with_len, length-range_with_len}
 use Rattle.lane_board.specs.Field.{Field, rows_below, difference}
 use Rattle.lane_board.specs.FullRows.{columns}
-use Rattle.lane_board.proofs.CallerLemmas.{same_from_both}
+use Rattle.lane_board.proofs.CallerLemmas.{same_from_both, column_is}
 use Rattle.srs.specs.declared.piece.Piece.{Piece}
 use Rattle.srs.specs.declared.piece.Piece.TheVariants.{I, L, O, Z, T, J, S}
 use Rattle.srs.specs.Piece.{all_pieces, piece_code}
-use Rattle.srs.proofs.CallerLemmas.{list_all_each}
+use Rattle.srs.proofs.CallerLemmas.{list_all_each, piece_code-some, piece_code-small}
 use Rattle.prune.specs.Tiling.{Tiling, Supply}
 use Rattle.prune.specs.OnePart.{less_one}
 use Rattle.empty_cells.specs.declared.span.Span.{Span}
 use Rattle.empty_cells.specs.Spans.{forms_of, has_span, without_span, HasNoCell}
 use Rattle.empty_cells.specs.Stacks.{Stacks, CanFill, without_stack}
 use Rattle.empty_cells.specs.HasTiling.{is_empty, can_stack, can_fill, has_tiling}
-use Rattle.empty_cells.proofs.SupplyLemmas.{code_from_one, code_to_seven, piece_in_all, total, total-less_one}
+use Rattle.empty_cells.proofs.SupplyLemmas.{piece_in_all, total, total-less_one}
 use Rattle.empty_cells.proofs.StackLemmas.{IsSmall, Chosen, some_in_span}
 use Rattle.empty_cells.proofs.ChosenLemmas.{was_there, chosen, stacked, follows-all}
 use Rattle.empty_cells.proofs.FormLemmas.{form, form_at, rotation_at, form_within, form_of_place, left_in_stack}
@@ -50,9 +50,6 @@ at_number : (test : ℕ → Bool) (n i : ℕ) → i < n → test i ≡ true → 
 at_number test n i below here =
     list_any_at test (range_with_len 0 n) i 0 (omega (arith, length-range_with_len 0 n)) (ap test {y = i} (get_or-range_with_len 0 n i 0 below ∙ omega arith) ∙ here)
 
-pub column_at : (x : ℕ) → x < 10 → get_or columns x 0 ≡ x
-column_at x below = eqb-true _ _ (agree_below_at (λ k. get_or columns k 0 == k) (λ k. true) 10 x refl below)
-
 -- a set with no cell below the row that bounds it has none
 empty-from_test : (height : ℕ) (E : Field) → IsSmall height E → is_empty height E ≡ true → HasNoCell E
 unfolding is_empty
@@ -60,7 +57,7 @@ empty-from_test height E small empty = record { none = λ x y. false_from_ne_tru
   where
     none : (x y : ℕ) → x < 10 → y < height → E x y ≡ false
     none x y near low =
-        let column = subst (λ k. list_all (λ y. not (E k y)) (range_with_len 0 height) ≡ true) (column_at x near) (list_all_each (λ x. list_all (λ y. not (E x y)) (range_with_len 0 height)) columns x 0 empty (omega arith)) in
+        let column = subst (λ k. list_all (λ y. not (E k y)) (range_with_len 0 height) ≡ true) (column_is x near) (list_all_each (λ x. list_all (λ y. not (E x y)) (range_with_len 0 height)) columns x 0 empty (omega arith)) in
         let row = list_all_each (λ y. not (E x y)) (range_with_len 0 height) y 0 column (omega (arith, length-range_with_len 0 height)) in
         not-true (E x y) (subst (λ k. not (E x k) ≡ true) (get_or-range_with_len 0 height y 0 low ∙ omega arith) row)
 
@@ -165,10 +162,10 @@ test-from_fill (suc n) height supply E enough small filling = elim (cases_Bool (
         let near : by.x < 10 = small.column by.x left.0 (by.within.inside by.x left.0 left.1) in
         let rest = later (less_one supply by.piece) (without_stack E by.x by.rows spans) (omega (arith, total-less_one supply by.piece by.some)) (smaller_by_stack height E by.x by.rows spans small) by.rest in
         let stacks = stacked Any (λ G. test G ≡ true) E by.x 0 by.rows spans by.rises (λ k below. omega arith) by.within (follows-all 0 by.rows spans) rest in
-        let at_column = list_any_at (λ x. can_stack height test E x 0 spans) columns by.x 0 (omega arith) (ap (λ k. can_stack height test E k 0 spans) (column_at by.x near) ∙ test-from_stacks height test E by.x 0 spans small stacks) in
+        let at_column = list_any_at (λ x. can_stack height test E x 0 spans) columns by.x 0 (omega arith) (ap (λ k. can_stack height test E k 0 spans) (column_is by.x near) ∙ test-from_stacks height test E by.x 0 spans small stacks) in
         let at_form = list_any_at (λ spans. list_any (λ x. can_stack height test E x 0 spans) columns) (forms_of by.piece) (form_at by.piece by.rotation) [] (form_within by.piece by.rotation) at_column in
         list_any_at (λ piece. nat_lt 0 (supply piece) && list_any (λ spans. list_any (λ x. can_stack height (can_fill n height (less_one supply piece)) E x 0 spans) columns) (forms_of piece)) all_pieces (piece_code by.piece - 1) I
-        (omega (arith, code_from_one by.piece, code_to_seven by.piece))
+        (omega (arith, piece_code-some by.piece, piece_code-small by.piece))
         (ap (λ piece. nat_lt 0 (supply piece) && list_any (λ spans. list_any (λ x. can_stack height (can_fill n height (less_one supply piece)) E x 0 spans) columns) (forms_of piece)) (piece_in_all by.piece)
         ∙ and_from _ _ (lt-ltb 0 _ by.some) at_form)
 

@@ -1,8 +1,9 @@
 -- The bits of a set whose columns are counted from the right, and the tilings of such a set.
-use Rattle.std.proofs.Common.{◌≡◌, ◌↔◌, ℕ, ◌+◌, ◌-◌, ◌*◌, ◌%◌, ◌^◌, ◌<◌, ◌≤◌, Bool, true, false, not, ◌&&◌, ◌||◌, nat_lt, bit_or, pos, negsuc, refl, sym, ap, subst, ◌∙◌, inl, inr, arith}
+use Rattle.std.proofs.Common.{◌≡◌, ◌↔◌, ℕ, ◌+◌, ◌-◌, ◌*◌, ◌%◌, ◌^◌, ◌<◌, ◌≤◌, false, not, ◌&&◌, ◌||◌, nat_lt, bit_or, pos, negsuc, refl, sym, ap, subst, ◌∙◌, inl, inr, arith}
 use Rattle.std.proofs.Math.Path.{fun_ext}
 use Rattle.std.proofs.lemmas.Bool.{and_left, cases_lt, le-ltb, lt-ltb}
 use Rattle.std.proofs.lemmas.Nat.{or_lt, pow-add, pow_below, pow_pos}
+use Rattle.std.proofs.Math.Bool.{or-false}
 use Rattle.lane_board.specs.Field.{Field, rows_below}
 use Rattle.lane_board.specs.Lanes.{has_bit}
 use Rattle.lane_board.proofs.CallerLemmas.{has_bit-or, has_bit-past, has_bit-shifted_high, has_bit-shifted_low}
@@ -21,10 +22,6 @@ pub record IsTurned (E : Field) (cells x : ℕ) : Type 0 where
 pub turned-start : (E : Field) → IsTurned E 0 0
 turned-start E = record { small = omega arith; bits = λ a b before low. absurd (omega arith) }
 
-or_none : (p : Bool) → (p || false) ≡ p
-or_none true = refl
-or_none false = refl
-
 pub turned-next : (E : Field) (cells x rows : ℕ) → x < 10 → rows < 256 → ((b : ℕ) → b < 8 → has_bit rows b ≡ E x b) → IsTurned E cells x → IsTurned E (bit_or (cells * 2 ^ 8 % 2 ^ 128) rows) (x + 1)
 turned-next E cells x rows near small here t = record {
   small = subst (λ n. bit_or n rows < 2 ^ (8 * (x + 1))) (sym whole) (or_lt (8 * (x + 1)) (cells * 2 ^ 8) rows moved few);
@@ -35,7 +32,7 @@ turned-next E cells x rows near small here t = record {
             ap (λ k. has_bit (cells * 2 ^ 8) k || has_bit rows k) at ∙ ap (λ p. p || has_bit rows b) (has_bit-shifted_low cells 8 b low) ∙ here b low
             ∙ ap (λ k. E k b) {y = x + 1 - 1 - a} (omega arith)
         | inr later ↦
-            ap (λ p. has_bit (cells * 2 ^ 8) (8 * a + b) || p) (has_bit-past rows 8 (8 * a + b) small (omega arith)) ∙ or_none _
+            ap (λ p. has_bit (cells * 2 ^ 8) (8 * a + b) || p) (has_bit-past rows 8 (8 * a + b) small (omega arith)) ∙ or-false _
             ∙ has_bit-shifted_high cells 8 (8 * a + b) (omega arith)
             ∙ ap (has_bit cells) {y = 8 * (a - 1) + b} (omega arith) ∙ t.bits (a - 1) b (omega arith) low
             ∙ ap (λ k. E k b) {x = x - 1 - (a - 1)} {y = x + 1 - 1 - a} (omega arith)

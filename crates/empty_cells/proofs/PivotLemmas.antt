@@ -7,18 +7,11 @@ use Rattle.lane_board.specs.Words.{cells_of_words}
 use Rattle.lane_board.proofs.CallerLemmas.{has_bit-or, has_bit-zero}
 use Rattle.srs.specs.declared.placement.Placement.{Placement}
 use Rattle.srs.specs.declared.rotation.Rotation.{Rotation}
-use Rattle.srs.specs.declared.rotation.Rotation.TheVariants.{Spawn, Right, Reverse, Left}
 use Rattle.srs.specs.Rotation.{rotation_place}
-use Rattle.srs.proofs.CallerLemmas.{rotation_place-injective}
+use Rattle.srs.proofs.CallerLemmas.{rotation_place-injective, rotation_place-small}
 use Rattle.empty_cells.specs.declared.pivots.Pivots.{Pivots}
 use Rattle.empty_cells.specs.Pivots.{has_pivot}
 use Rattle.empty_cells.proofs.SentLemmas.{one_bit}
-
-pub place_small : (rotation : Rotation) → rotation_place rotation ≤ 3
-place_small Spawn = omega arith
-place_small Right = omega arith
-place_small Reverse = omega arith
-place_small Left = omega arith
 
 -- the word of a placement, and the place of its bit there
 abbrev pub word_of : Placement → ℕ
@@ -40,7 +33,7 @@ module _ (p : Pivots) (whole : length p.rotations ≡ 8) (q : Placement) (column
   after = record { rotations = with_bit p.rotations word bit }
 
   within : word < length p.rotations
-  within = omega (arith, whole, is_word, place_small q.rotation)
+  within = omega (arith, whole, is_word, rotation_place-small q.rotation)
 
   in_reach : (r : Placement) → (nat_lt r.x 16 && nat_lt r.y 8) ≡ true → (r.x < 16) × (r.y < 8)
   in_reach r is = let sides = and_parts (nat_lt r.x 16) (nat_lt r.y 8) is in (ltb-true r.x 16 sides.0, ltb-true r.y 8 sides.1)

@@ -1,7 +1,7 @@
 -- The bits that stand for the cells of a span.
 use Rattle.std.proofs.Common.{◌≡◌, ℕ, ◌+◌, ◌-◌, ◌*◌, ◌%◌, ◌^◌, ◌<◌, ◌≤◌, Bool, true, false, ◌&&◌, ◌||◌, ◌==◌, bit_and, bit_xor, List, [], ◌∷◌, refl, ap, ◌∙◌, sym, inl, inr, arith}
 use Rattle.std.specs.List.{list_any}
-use Rattle.std.proofs.lemmas.Bool.{agree_below_at, cases_lt, eqb-true, eq-eqb, ne_eqb, and_parts, and_from}
+use Rattle.std.proofs.lemmas.Bool.{cases_lt, eqb-true, eq-eqb, ne_eqb, and_parts, and_from}
 use Rattle.std.proofs.lemmas.Bool.Decides.{nat_tests}
 use Rattle.std.proofs.lemmas.Nat.{xor_lt, and_le_l, mul-lt, pow-add, pow_below}
 use Rattle.std.proofs.Math.Nat.{mul_assoc}
@@ -94,18 +94,6 @@ moved_bit span m x y a b bits small_y small_b = elim (cases_lt (8 * a + b) (8 * 
   | inl low ↦ has_bit-shifted_low m (8 * x + y) (8 * a + b) low ∙ sym (above_all (columns_of span) (8 * x + y) (8 * a + b) low)
   | inr high ↦ has_bit-shifted_high m (8 * x + y) (8 * a + b) high ∙ bits ((8 * a + b) - (8 * x + y)) ∙ moved_elem (columns_of span) (8 * x + y) (8 * a + b) high
 ] ∙ each_elem (columns_of span) x y a b small_y small_b
-
--- the bit of one cell
-pub one_bit : (x y a b : ℕ) → 1 * 2 ^ (8 * x + y) % 2 ^ 128 ≡ 2 ^ (8 * x + y) → y < 8 → b < 8 → has_bit (1 * 2 ^ (8 * x + y) % 2 ^ 128) (8 * a + b) ≡ ((x == a) && (y == b))
-unfolding has_bit
-one_bit x y a b whole small_y small_b =
-    ap (λ n. has_bit n (8 * a + b)) {y = 1 * 2 ^ (8 * x + y)} (whole ∙ omega arith)
-    ∙ moved_bit First 1 x y a b (λ k. each_column_bit First 1 k (omega arith) (λ j. agree_below_at (has_bit 1) (is_column_bit First) 32 j refl)) small_y small_b
-    ∙ ap (λ t. t && (y == b)) (or_none (x + 0 == a) ∙ ap (λ k. k == a) {x = x + 0} (omega arith))
-  where
-    or_none : (p : Bool) → (p || false) ≡ p
-    or_none true = refl
-    or_none false = refl
 
 -- the same where bits past the highest are lost
 pub taken_bit : (span : Span) (m x y a b : ℕ) → ((k : ℕ) → has_bit m k ≡ is_column_bit span k) → y < 8 → b < 8 → a < 10 →

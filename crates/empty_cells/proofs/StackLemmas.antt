@@ -3,6 +3,7 @@ use Rattle.std.proofs.Common.{◌≡◌, ℕ, zero, suc, ◌+◌, ◌<◌, ◌�
 use Rattle.std.proofs.Math.Path.{fun_ext}
 use Rattle.std.specs.List.{list_any, list_all}
 use Rattle.std.proofs.lemmas.Bool.{and_parts, and_from, or_cases, or_left, or_right, eqb-true, eq-eqb, false≢true}
+use Rattle.std.proofs.Math.Bool.{and-true}
 use Rattle.lane_board.specs.Field.{Field}
 use Rattle.empty_cells.specs.declared.span.Span.{Span}
 use Rattle.empty_cells.specs.declared.span.Span.TheVariants.{First, Second, Third, FirstTwo, SecondTwo, FirstThree, AllFour}
@@ -108,11 +109,7 @@ without_each E x rows span spans = fun_ext (λ a. fun_ext (λ b. apart (E a b) (
 
 pub without_none : (E : Field) (x : ℕ) (rows : ℕ → ℕ) → without_stack E x rows [] ≡ E
 unfolding without_stack in_stack
-without_none E x rows = fun_ext (λ a. fun_ext (λ b. and_true (E a b)))
-  where
-    and_true : (p : Bool) → (p && true) ≡ p
-    and_true true = refl
-    and_true false = refl
+without_none E x rows = fun_ext (λ a. fun_ext (λ b. and-true (E a b)))
 
 -- a row below other rows
 abbrev pub first_then : ℕ → (ℕ → ℕ) → ℕ → ℕ

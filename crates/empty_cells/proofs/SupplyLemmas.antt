@@ -6,24 +6,6 @@ use Rattle.srs.specs.Piece.{all_pieces, piece_code}
 use Rattle.prune.specs.Tiling.{Supply}
 use Rattle.prune.specs.OnePart.{less_one}
 
-pub code_from_one : (piece : Piece) → 1 ≤ piece_code piece
-code_from_one I = omega arith
-code_from_one L = omega arith
-code_from_one O = omega arith
-code_from_one Z = omega arith
-code_from_one T = omega arith
-code_from_one J = omega arith
-code_from_one S = omega arith
-
-pub code_to_seven : (piece : Piece) → piece_code piece ≤ 7
-code_to_seven I = omega arith
-code_to_seven L = omega arith
-code_to_seven O = omega arith
-code_to_seven Z = omega arith
-code_to_seven T = omega arith
-code_to_seven J = omega arith
-code_to_seven S = omega arith
-
 pub piece_in_all : (piece : Piece) → get_or all_pieces (piece_code piece - 1) I ≡ piece
 piece_in_all I = refl
 piece_in_all L = refl

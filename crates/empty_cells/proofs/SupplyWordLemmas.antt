@@ -8,13 +8,12 @@ use Rattle.std.proofs.lemmas.Nat.{and_mask, one_shl, pow-add, pow_pos, shr-shr}
 use Rattle.srs.specs.declared.piece.Piece.{Piece}
 use Rattle.srs.specs.declared.piece.Piece.TheVariants.{I, L, O, Z, T, J, S}
 use Rattle.srs.specs.Piece.{piece_code}
-use Rattle.srs.proofs.CallerLemmas.{piece_code-injective}
+use Rattle.srs.proofs.CallerLemmas.{piece_code-injective, piece_code-some, piece_code-small}
 use Rattle.prune.specs.Tiling.{Supply, supply_in}
 use Rattle.prune.specs.Mirror.{mirrored_supply}
 use Rattle.prune.specs.OnePart.{less_one}
 use Rattle.empty_cells.specs.declared.supply.SupplyWord.{SupplyWord}
 use Rattle.empty_cells.specs.SupplyWords.{supply_of}
-use Rattle.empty_cells.proofs.SupplyLemmas.{code_from_one, code_to_seven}
 
 -- the byte of a kind
 byte_of : (n : ℕ) (piece : Piece) → n / 2 ^ (8 * (piece_code piece - 1)) % 256 ≡ supply_in (to_le_bytes w64 n) piece
@@ -87,7 +86,7 @@ one_less_byte n piece other some =
           ∙ ap (λ code. n / 2 ^ (8 * (code - 1)) % 256 - 1) (sym same) ∙ ap (λ count. count - 1) (byte_of n other)
           ∙ sym (cond-true _ _ _ (eq-eqb _ _ (sym same)))
       | inr different ↦
-          sym (byte_of fewer other) ∙ other_byte n place here (piece_code other - 1) (λ e. different (omega (arith, e, code_from_one piece, code_from_one other)))
+          sym (byte_of fewer other) ∙ other_byte n place here (piece_code other - 1) (λ e. different (omega (arith, e, piece_code-some piece, piece_code-some other)))
           ∙ byte_of n other ∙ sym (cond-false _ _ _ (ne_eqb _ _ (λ e. different (sym e))))
     ]
 
@@ -110,7 +109,7 @@ less_none supply piece none = fun_ext (λ other. elim (cases_Bool (piece_code pi
 
 -- one piece of a kind, as a word
 pub counted_once : (code : ℕ) (piece : Piece) → code ≡ piece_code piece → 1 * 2 ^ (8 * (code - 1)) % 2 ^ 64 ≡ 2 ^ (8 * (piece_code piece - 1))
-counted_once code piece is = ap (λ code. 1 * 2 ^ (8 * (code - 1)) % 2 ^ 64) is ∙ one_shl (8 * (piece_code piece - 1)) 64 (omega (arith, code_to_seven piece))
+counted_once code piece is = ap (λ code. 1 * 2 ^ (8 * (code - 1)) % 2 ^ 64) is ∙ one_shl (8 * (piece_code piece - 1)) 64 (omega (arith, piece_code-small piece))
 
 -- seven entries and a zero
 abbrev pub word_bytes : List ℕ → List ℕ

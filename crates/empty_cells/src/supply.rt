@@ -87,9 +87,6 @@ impl SupplyWord {
     pub fn at_most(self, most: u8) -> SupplyWord
         ensures { (piece : Piece) → supply_of result piece ≡ min most (supply_of self piece) }
     {
-        if most == 0 {
-            return SupplyWord::new(&[0; 7]);
-        }
         let [i, l, o, z, t, j, s, _] = self.counts.to_le_bytes();
         SupplyWord::new(&[
             most.min(i),

@@ -1,30 +1,17 @@
 -- Each entry is at most so many.
-use Rattle.std.proofs.Common.{◌≡◌, ℕ, min, ◌∙◌, arith}
+use Rattle.std.proofs.Common.{◌≡◌, min, ◌∙◌, arith}
 use Rattle.std.specs.Int.{to_le_bytes}
 use Rattle.srs.specs.declared.piece.Piece.TheVariants.{I, L, O, Z, T, J, S}
 use Rattle.prune.specs.Tiling.{supply_in}
 use Rattle.empty_cells.specs.SupplyWords.{supply_of}
 use Rattle.empty_cells.proofs.supply.SupplyWord.at_most.Goals as goal
 
-none : (most count : ℕ) → most ≡ 0 → 0 ≡ min most count
-none most count is = omega (arith, is)
-
-pub returns-then-most-eq0 : goal.returns-then-most-eq0
-unfolding supply_in
-returns-then-most-eq0 c I = (λ i. c.new.ensures i I) ∙ none c.args.most _ c.if-most-eq0.true
-returns-then-most-eq0 c L = (λ i. c.new.ensures i L) ∙ none c.args.most _ c.if-most-eq0.true
-returns-then-most-eq0 c O = (λ i. c.new.ensures i O) ∙ none c.args.most _ c.if-most-eq0.true
-returns-then-most-eq0 c Z = (λ i. c.new.ensures i Z) ∙ none c.args.most _ c.if-most-eq0.true
-returns-then-most-eq0 c T = (λ i. c.new.ensures i T) ∙ none c.args.most _ c.if-most-eq0.true
-returns-then-most-eq0 c J = (λ i. c.new.ensures i J) ∙ none c.args.most _ c.if-most-eq0.true
-returns-then-most-eq0 c S = (λ i. c.new.ensures i S) ∙ none c.args.most _ c.if-most-eq0.true
-
 pub returns : goal.returns
 unfolding supply_in supply_of
-returns c I = (λ i. c.new-2.ensures i I) ∙ c.min.ensures ∙ (λ i. min c.args.most (supply_in (c.to_le_bytes.ensures i) I))
-returns c L = (λ i. c.new-2.ensures i L) ∙ c.min-2.ensures ∙ (λ i. min c.args.most (supply_in (c.to_le_bytes.ensures i) L))
-returns c O = (λ i. c.new-2.ensures i O) ∙ c.min-3.ensures ∙ (λ i. min c.args.most (supply_in (c.to_le_bytes.ensures i) O))
-returns c Z = (λ i. c.new-2.ensures i Z) ∙ c.min-4.ensures ∙ (λ i. min c.args.most (supply_in (c.to_le_bytes.ensures i) Z))
-returns c T = (λ i. c.new-2.ensures i T) ∙ c.min-5.ensures ∙ (λ i. min c.args.most (supply_in (c.to_le_bytes.ensures i) T))
-returns c J = (λ i. c.new-2.ensures i J) ∙ c.min-6.ensures ∙ (λ i. min c.args.most (supply_in (c.to_le_bytes.ensures i) J))
-returns c S = (λ i. c.new-2.ensures i S) ∙ c.min-7.ensures ∙ (λ i. min c.args.most (supply_in (c.to_le_bytes.ensures i) S))
+returns c I = (λ i. c.new.ensures i I) ∙ c.min.ensures ∙ (λ i. min c.args.most (supply_in (c.to_le_bytes.ensures i) I))
+returns c L = (λ i. c.new.ensures i L) ∙ c.min-2.ensures ∙ (λ i. min c.args.most (supply_in (c.to_le_bytes.ensures i) L))
+returns c O = (λ i. c.new.ensures i O) ∙ c.min-3.ensures ∙ (λ i. min c.args.most (supply_in (c.to_le_bytes.ensures i) O))
+returns c Z = (λ i. c.new.ensures i Z) ∙ c.min-4.ensures ∙ (λ i. min c.args.most (supply_in (c.to_le_bytes.ensures i) Z))
+returns c T = (λ i. c.new.ensures i T) ∙ c.min-5.ensures ∙ (λ i. min c.args.most (supply_in (c.to_le_bytes.ensures i) T))
+returns c J = (λ i. c.new.ensures i J) ∙ c.min-6.ensures ∙ (λ i. min c.args.most (supply_in (c.to_le_bytes.ensures i) J))
+returns c S = (λ i. c.new.ensures i S) ∙ c.min-7.ensures ∙ (λ i. min c.args.most (supply_in (c.to_le_bytes.ensures i) S))
