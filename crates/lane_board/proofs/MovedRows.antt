@@ -1,5 +1,5 @@
 -- Rows moved by columns, and boards moved by columns and rows.
-use Rattle.std.proofs.Common.{◌≡◌, ℕ, suc, ◌+◌, ◌-◌, ◌*◌, ◌^◌, ◌<◌, ℤ, pos, negsuc, ◌+ℤ◌, ◌-ℤ◌, Bool, true, false, ◌&&◌, nat_lt, List, length, get_or, refl, ap, ◌∙◌, sym, inl, inr, arith}
+use Rattle.std.proofs.Common.{◌≡◌, ℕ, suc, ◌+◌, ◌-◌, ◌*◌, ◌^◌, ◌<◌, ℤ, pos, negsuc, ◌-ℤ◌, Bool, true, false, ◌&&◌, nat_lt, List, length, get_or, refl, ap, ◌∙◌, sym, inl, inr, arith}
 use Rattle.std.proofs.Math.Path.{fun_ext}
 use Rattle.std.proofs.lemmas.Bool.{cases_lt, and_left, and_right, le-ltb, lt-ltb}
 use Rattle.std.proofs.lemmas.Int.{ints}
@@ -79,20 +79,3 @@ moved_cells dx dy n xs rows size small moved = fun_ext (λ x. fun_ext (λ y. eli
 pub moved_in_columns : (dx dy : ℤ) (n : ℕ) (xs rows : List ℕ) → length rows ≡ n → ((z : ℕ) → get_or xs z 0 < 1024) →
     ((y : ℕ) → y < n → get_or rows y 0 ≡ moved_row dx (row_at xs (pos y -ℤ dy))) → (y : ℕ) → get_or rows y 0 < 1024
 moved_in_columns dx dy n xs rows size small moved = each_in_columns n rows size (λ y below. omega (arith, moved y below, moved_row-small dx (row_at xs (pos y -ℤ dy)) (row_at-small xs (pos y -ℤ dy) small)))
-
--- the rows of a board that is moved one row down
-pub lowered_rows : (dx passed dy : ℤ) (n : ℕ) (xs rows : List ℕ) → dy ≡ negsuc 0 → passed ≡ dx →
-    ((y : ℕ) → y < n → get_or rows y 0 ≡ moved_row passed (get_or xs (y + 1) 0)) →
-    (y : ℕ) → y < n → get_or rows y 0 ≡ moved_row dx (row_at xs (pos y -ℤ dy))
-unfolding row_at
-lowered_rows dx passed dy n xs rows down same lowered y below =
-    let from : pos y -ℤ dy ≡ pos (y + 1) = omega (arith, ints) in
-    lowered y below ∙ ap (λ d. moved_row d (get_or xs (y + 1) 0)) same ∙ sym (ap (λ z. moved_row dx (row_at xs z)) from)
-
--- the rows of a board that are read from its frame
-pub window_rows : (dx passed dy : ℤ) (n from : ℕ) (xs framed rows : List ℕ) → pos from +ℤ dy ≡ pos 9 → passed ≡ dx →
-    ((z : ℕ) → get_or framed z 0 ≡ moved_row passed (row_at xs (pos z -ℤ pos 9))) → ((y : ℕ) → y < n → get_or rows y 0 ≡ get_or framed (from + y) 0) →
-    (y : ℕ) → y < n → get_or rows y 0 ≡ moved_row dx (row_at xs (pos y -ℤ dy))
-window_rows dx passed dy n from xs framed rows start same in_frame window y below =
-    let at : pos (from + y) -ℤ pos 9 ≡ pos y -ℤ dy = omega (arith, ints) in
-    window y below ∙ in_frame (from + y) ∙ ap (λ d. moved_row d (row_at xs (pos (from + y) -ℤ pos 9))) same ∙ ap (λ z. moved_row dx (row_at xs z)) at

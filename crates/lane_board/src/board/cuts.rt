@@ -1,5 +1,5 @@
-// The rows below a height, and boards with another number of rows.
-ghost use Rattle.std.specs.Prelude.{◌≡◌, ◌≤◌, IsTrue};
+// The rows below a height, whether others have cells, and boards with another number of rows.
+ghost use Rattle.std.specs.Prelude.{◌≡◌, ◌↔◌, ℕ, ◌≤◌, IsTrue, false};
 ghost use Rattle.lane_board.specs.Board.{field_of};
 ghost use Rattle.lane_board.specs.Field.{intersection, rows_below};
 ghost use Rattle.lane_board.specs.Lanes.{is_lane_count};
@@ -19,6 +19,15 @@ impl<const N: usize> LaneBoard<N> {
             rows[y] = FULL;
         }
         LaneBoard { rows }
+    }
+
+    /// Whether no cell lies at or above a row.
+    #[inline(always)]
+    pub fn is_clear_from(&self, row: u8) -> bool
+        requires { row ≤ N }
+        ensures { IsTrue result ↔ ((x y : ℕ) → row ≤ y → field_of self.now x y ≡ false) }
+    {
+        self.minus(&LaneBoard::rows_below(row)).is_empty()
     }
 
     /// The same cells on a board of `M` rows. Cells in row `M` and above are dropped.

@@ -27,7 +27,7 @@ impl<const N: usize> LaneBoard<N> {
         ensures within { result ≤ N }
         ensures above { (x y : ℕ) → result ≤ y → field_of self.now x y ≡ false }
     {
-        if self.minus(&LaneBoard::rows_below(8)).is_empty() {
+        if self.is_clear_from(8) {
             return 8;
         }
         N
