@@ -1,5 +1,5 @@
 -- Boards that are closed are a flood below their lanes.
-use Rattle.std.proofs.Common.{◌≡◌, ℕ, ◌+◌, ◌<◌, ◌≤◌, true, pos, ◌+ℤ◌, ◌-ℤ◌, ◌≤ℤ◌, Some, refl, sym, ap, subst, ◌∙◌, arith, map}
+use Rattle.std.proofs.Common.{◌≡◌, ℕ, ◌+◌, ◌<◌, ◌≤◌, true, pos, ◌+ℤ◌, ◌-ℤ◌, Some, refl, sym, ap, subst, ◌∙◌, arith, map}
 use Rattle.std.specs.Prelude.{◌<ℤ◌}
 use Rattle.std.specs.List.{list_all}
 use Rattle.std.proofs.lemmas.Int.{ints}
@@ -36,10 +36,6 @@ use Rattle.low_flood.proofs.LaneTurns.{free_lane, inside_lane, is_low_move, cloc
 turned-rotation : (F : Field) (s : Placement) (to : Rotation) (t : Placement) → turned srs_table F s to ≡ Some t → t.rotation ≡ to
 unfolding turned
 turned-rotation F s to t e = (lifts_by F s.piece to (pivot_of s) (λ (c : Cell). true) (kicks_of srs_table s.piece s.rotation to) t refl e).lifts.turn
-
--- the lane of a state that is inside is a row
-lowest_over : (F : Field) (s : Placement) → IsUnderSky F s → pos 0 ≤ℤ lane s
-lowest_over F s sky = let n = inside_lane s sky.inside in let is = n.is in omega (arith, ints)
 
 module _ (F : Field) (r N : ℕ) (clear : IsClearFrom r F) (over : r + 2 ≤ N) (few : N ≤ 16) (piece : Piece) (free S : Lanes)
     (is : (rotation : Rotation) → IsLaneMap F piece (canonical_rotation piece rotation) N (free rotation)) (closed : IsLanesClosed piece N free S) (lies : (rotation : Rotation) → LiesWithin (S rotation) N) where

@@ -5,20 +5,21 @@ use Rattle.std.specs.List.{list_all}
 use Rattle.std.proofs.lemmas.Int.{ints}
 use Rattle.std.proofs.lemmas.Bool.{and_parts, and_from, or_left, or_right, or_from, both_ways, lt-ltb, ltb-true, le-leb, not-true, not_from_false, false_from_ne_true}
 use Rattle.std.proofs.lemmas.List.Folds.{list_all-map}
+use Rattle.std.proofs.Math.Bool.{and-true, and_assoc}
 use Rattle.lane_board.specs.Field.{Field, empty_field, intersection, union, difference, moved_within, rows_below}
 use Rattle.lane_board.proofs.CallerLemmas.{same_from_both}
 use Rattle.srs.specs.declared.piece.Piece.{Piece}
 use Rattle.srs.specs.declared.rotation.Rotation.{Rotation}
 use Rattle.srs.specs.declared.placement.Placement.{Placement}
 use Rattle.srs.specs.Cells.{Cell, minus, moved, shape}
-use Rattle.srs.proofs.CallerLemmas.{each_state}
+use Rattle.srs.proofs.CallerLemmas.{each_state, int_le-true}
 use Rattle.well.specs.Free.{is_open, is_free_at, is_free}
 use Rattle.well.proofs.CallerLemmas.{open_at, free_pivot}
 use Rattle.moves.specs.Rest.{lowered}
 use Rattle.moves.specs.Height.{is_column, fits_column}
 use Rattle.moves.specs.RestingStates.{IsResting}
 use Rattle.moves.specs.Lanes.{lowest, lane}
-use Rattle.moves.proofs.CallerLemmas.{yes, column, natural, free_fits}
+use Rattle.moves.proofs.CallerLemmas.{column, natural, free_fits}
 use Rattle.low_flood.specs.LaneShapes.{from_lane, lane_cells, is_near_lane}
 use Rattle.low_flood.specs.LaneMap.{fitting, fitting_all, hit, hit_all, free_lanes, resting_lanes}
 use Rattle.low_flood.specs.SkyBoard.{IsLaneMap, inside_lanes}
@@ -36,7 +37,7 @@ near_lane cell near =
     let three = and_parts (int_le (minus 2) cell.0 && int_le cell.0 (pos 2) && int_le (pos 0) cell.1) (int_le cell.1 (pos 3)) near in
     let two = and_parts (int_le (minus 2) cell.0 && int_le cell.0 (pos 2)) (int_le (pos 0) cell.1) three.0 in
     let one = and_parts (int_le (minus 2) cell.0) (int_le cell.0 (pos 2)) two.0 in
-    record { left = yes (minus 2) cell.0 one.0; right = yes cell.0 (pos 2) one.1; low = yes (pos 0) cell.1 two.1; high = yes cell.1 (pos 3) three.1 }
+    record { left = int_le-true (minus 2) cell.0 one.0; right = int_le-true cell.0 (pos 2) one.1; low = int_le-true (pos 0) cell.1 two.1; high = int_le-true cell.1 (pos 3) three.1 }
 
 -- the cells of a piece lie in the lane and up to three rows above
 shape_near_lane : (p : Piece) (r : Rotation) → list_all (λ c. is_near_lane (from_lane p r c)) (shape p r) ≡ true
@@ -75,19 +76,11 @@ module _ (N : ℕ) where
   fits_all : (piece : Piece) (rotation : Rotation) (cells : List Cell) (S : Field) (x y : ℕ) → x < 10 → y < N →
       fitting_all N (map (from_lane piece rotation) cells) S x y ≡ (S x y && list_all (λ (c : Cell). is_column (pos x +ℤ c.0)) cells)
   unfolding fitting_all fitting intersection
-  fits_all piece rotation [] S x y col row = sym (and_end (S x y))
-    where
-      and_end : (b : Bool) → (b && true) ≡ b
-      and_end true = refl
-      and_end false = refl
+  fits_all piece rotation [] S x y col row = sym (and-true (S x y))
   fits_all piece rotation (c ∷ cs) S x y col row =
       fits_all piece rotation cs (fitting N (from_lane piece rotation c) S) x y col row
       ∙ ap (λ b. (S x y && b) && list_all (λ (c : Cell). is_column (pos x +ℤ c.0)) cs) (one_fits x y c.0 col row)
       ∙ and_assoc (S x y) (is_column (pos x +ℤ c.0)) (list_all (λ (c : Cell). is_column (pos x +ℤ c.0)) cs)
-    where
-      and_assoc : (a b c : Bool) → ((a && b) && c) ≡ (a && (b && c))
-      and_assoc true b c = refl
-      and_assoc false b c = refl
 
   fits_within : (cells : List Cell) (S : Field) → LiesWithin S N → LiesWithin (fitting_all N cells S) N
   unfolding fitting_all fitting intersection
@@ -109,13 +102,6 @@ abbrev pub place_pivot : Piece → Rotation → ℕ → ℕ → Cell
 place_pivot piece rotation x y = (pos x, pos y -ℤ lowest (shape piece rotation))
 
 module _ (F : Field) (N : ℕ) (lies : LiesWithin F N) (few : N ≤ 16) (piece : Piece) (rotation : Rotation) where
-  -- a cell of the piece at a place
-  cell_there : (x y : ℕ) (c : Cell) → moved (pos x, pos y) (from_lane piece rotation c) ≡ moved (place_pivot piece rotation x y) c
-  unfolding moved
-  cell_there x y c =
-      let row : pos y +ℤ (c.1 -ℤ lowest (shape piece rotation)) ≡ (pos y -ℤ lowest (shape piece rotation)) +ℤ c.1 = omega (arith, ints) in
-      λ i. (pos x +ℤ c.0, row i)
-
   is_hit : Cell → ℕ → ℕ → Bool
   is_hit c x y = moved_within F N (neg_ℤ (from_lane piece rotation c).0) (neg_ℤ (from_lane piece rotation c).1) x y
 
@@ -174,9 +160,6 @@ module _ (F : Field) (N : ℕ) (lies : LiesWithin F N) (few : N ≤ 16) (piece :
   unfolding free_lanes difference inside_lanes is_free_at empty_field
   free_lanes-exact = record { exact = λ x y row. same_from_both _ _ (there x y row) (back x y row) }
     where
-      opens : ℕ → ℕ → Cell → Bool
-      opens x y c = is_open F (moved (place_pivot piece rotation x y) c)
-
       there : (x y : ℕ) → y < N → free_lanes piece rotation N F x y ≡ true → is_free_at F piece rotation (place_pivot piece rotation x y) ≡ true
       there x y row held =
           let parts = and_parts (inside_lanes piece rotation N x y) (not (hit_all F N (lane_cells piece rotation) empty_field x y)) held in

@@ -7,6 +7,7 @@ use Rattle.std.specs.Cmp.{signed_Decides}
 use Rattle.std.proofs.lemmas.Int.{ints}
 use Rattle.std.proofs.lemmas.Bool.{and_parts, and_from, or_cases, or_left, or_right, cases_Bool, cases_lt, cond-true, cond-false, not-true, both_ways, false_from_ne_true}
 use Rattle.std.proofs.lemmas.List.Folds.{list_all-map}
+use Rattle.std.proofs.Math.Bool.{and-false}
 use Rattle.lane_board.specs.Field.{Field, has_cell, union, difference, moved_within}
 use Rattle.lane_board.proofs.CallerLemmas.{same_from_both}
 use Rattle.srs.specs.declared.piece.Piece.{Piece}
@@ -17,11 +18,11 @@ use Rattle.srs.specs.SameCells.{is_among as cells_have}
 use Rattle.srs.specs.Canonical.{canonical_rotation, canonical_move}
 use Rattle.srs.specs.Kick.{srs_table, kicks_of}
 use Rattle.srs.specs.Rotation.{clockwise_of, anticlockwise_of}
-use Rattle.srs.proofs.CallerLemmas.{LiesAt, in_well-place, inside_cell, is_among-all, each_state}
+use Rattle.srs.proofs.CallerLemmas.{LiesAt, in_well-place, inside_cell, is_among-all, each_state, int_le-true, some_same}
 use Rattle.well.specs.Free.{is_open, is_free_at}
 use Rattle.well.proofs.CallerLemmas.{open_in_well, free_pivot}
 use Rattle.moves.specs.Step.{state_at, first_free}
-use Rattle.moves.proofs.CallerLemmas.{some_same, not_some, yes, natural, IsNatural, open_height, IsOpenHeight, open_free, free_fits, lane_near}
+use Rattle.moves.proofs.CallerLemmas.{not_some, natural, IsNatural, open_height, IsOpenHeight, open_free, free_fits, lane_near}
 use Rattle.place_sets.proofs.CallerLemmas.{LiesWithin, moved_from, moved_to, MovedFrom}
 use Rattle.moves.specs.Height.{rise, fits_column}
 use Rattle.moves.specs.Sky.{IsClearFrom}
@@ -65,8 +66,8 @@ module _ (F : Field) (r N : ℕ) (clear : IsClearFrom r F) (over : r + 2 ≤ N) 
   unfolding pivot_at
   above x y high low =
       let parts = and_parts (int_le (minus 2) (lowest (shape piece to) -ℤ rise piece to)) (int_le (lowest (shape piece to) -ℤ rise piece to) (pos 0)) (lane_near piece to) in
-      let a = yes (minus 2) (lowest (shape piece to) -ℤ rise piece to) parts.0 in
-      let b = yes (lowest (shape piece to) -ℤ rise piece to) (pos 0) parts.1 in
+      let a = int_le-true (minus 2) (lowest (shape piece to) -ℤ rise piece to) parts.0 in
+      let b = int_le-true (lowest (shape piece to) -ℤ rise piece to) (pos 0) parts.1 in
       let h = natural ((pos y -ℤ lowest (shape piece to)) +ℤ rise piece to) (omega (arith, ints)) in
       let height = h.is in
       let room : IsOpenHeight piece r h.n = open_height piece r h.n (omega (arith, ints)) (omega (arith, ints)) in
@@ -108,10 +109,6 @@ class_place F piece rotation x y =
     let row : (y -ℤ lowest (shape piece rotation)) +ℤ m.1 ≡ y -ℤ lowest (shape piece (canonical_rotation piece rotation)) = omega (arith, ints) in
     sym (class_free F piece rotation (class_pivot piece rotation x y) ∙ (λ i. is_free_at F piece (canonical_rotation piece rotation) (column i, row i)))
 
-and_false : (b : Bool) → (b && false) ≡ false
-and_false true = refl
-and_false false = refl
-
 -- what is reached before stays
 turned_keeps : (O : Field) (N : ℕ) (moves : List Cell) (S before : Field) (x y : ℕ) → before x y ≡ true → lane_turned O N moves S before x y ≡ true
 unfolding lane_turned union
@@ -146,7 +143,7 @@ module _ (F : Field) (r N : ℕ) (clear : IsClearFrom r F) (over : r + 2 ≤ N) 
       has_cell O (pos x +ℤ (lane_move piece from to kick).0) (pos y +ℤ (lane_move piece from to kick).1) ≡ is_free_at F piece to (moved (pivot x y) kick)
   unfolding is_low_move moved
   hit_is x y kick below small =
-      let low = yes (kick.1 +ℤ (lowest (shape piece to) -ℤ lowest (shape piece from))) (pos 3) small in
+      let low = int_le-true (kick.1 +ℤ (lowest (shape piece to) -ℤ lowest (shape piece from))) (pos 3) small in
       let move = lane_move piece from to kick in
       let column : (pos x +ℤ move.0) -ℤ (canonical_move piece to).0 ≡ (pos x -ℤ (canonical_move piece from).0) +ℤ kick.0 = omega (arith, ints) in
       let row : (pos y +ℤ move.1) -ℤ lowest (shape piece to) ≡ (pos y -ℤ lowest (shape piece from)) +ℤ kick.1 = omega (arith, ints) in
@@ -182,7 +179,7 @@ module _ (F : Field) (r N : ℕ) (clear : IsClearFrom r F) (over : r + 2 ≤ N) 
       ]
     where
       missed : (move : Cell) → has_cell O (pos x +ℤ move.0) (pos y +ℤ move.1) ≡ false → (S x y && has_cell O (pos x +ℤ move.0) (pos y +ℤ move.1)) ≡ false
-      missed move none = ap (λ b. S x y && b) none ∙ and_false (S x y)
+      missed move none = ap (λ b. S x y && b) none ∙ and-false (S x y)
 
       arrives : hits O (lane_move piece from to k) S x y ≡ true → state_at piece to (moved (pivot x y) k) ≡ Some (record { piece = piece; rotation = to; x = col; y = row }) → LiesAt (moved (pivot x y) k) → lane_turned O N (map (lane_move piece from to) (k ∷ ks)) S before a b ≡ true
       arrives hit lands lies =

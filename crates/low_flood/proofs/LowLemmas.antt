@@ -1,9 +1,8 @@
 -- A field of few rows lies whole on a board of few lanes.
-use Rattle.std.proofs.Common.{◌≡◌, ◌↔◌, ℕ, ◌+◌, ◌<◌, ◌≤◌, Bool, true, sym, ap, subst, ◌∙◌, inl, inr, arith}
-use Rattle.std.specs.Prelude.{IsTrue}
+use Rattle.std.proofs.Common.{◌≡◌, ◌↔◌, ℕ, ◌+◌, ◌<◌, ◌≤◌, true, sym, ap, subst, ◌∙◌, inl, inr, arith}
 use Rattle.std.proofs.lemmas.Int.{ints}
-use Rattle.std.proofs.lemmas.Bool.{and_parts, and_from, cases_lt, both_ways, not-true, not_from_false, false_from_ne_true}
-use Rattle.lane_board.specs.Field.{Field, empty_field, intersection, difference, rows_below}
+use Rattle.std.proofs.lemmas.Bool.{and_parts, and_from, cases_lt, both_ways}
+use Rattle.lane_board.specs.Field.{Field, intersection, rows_below}
 use Rattle.lane_board.proofs.CallerLemmas.{same_from_both}
 use Rattle.srs.specs.declared.piece.Piece.{Piece}
 use Rattle.srs.specs.declared.placement.Placement.{Placement}
@@ -18,31 +17,8 @@ use Rattle.low_flood.proofs.ClassLemmas.{rests_same}
 use Rattle.low_flood.specs.LanePlaces.{IsCut, hard_board}
 use Rattle.place_sets.specs.States.{HasExactly, IsUnder, States, has_state}
 use Rattle.place_sets.proofs.CallerLemmas.{LiesWithin, same_fields}
-use Rattle.low_flood.proofs.LaneMaps.{in_rows, from_rows}
+use Rattle.low_flood.proofs.LaneMaps.{in_rows}
 use Rattle.low_flood.proofs.LanePlaceLemmas.{cut_exact, hard_held, hard_within}
-
--- a field is clear from a row on where it has no cell but below that row
-pub clear_by : (F rows rest : Field) (row : ℕ) (empty : Bool) → ((x y : ℕ) → F x y ≡ true → (x < 10) × (y < 24)) → rows ≡ rows_below row → rest ≡ difference F rows → (IsTrue empty ↔ (rest ≡ empty_field)) → IsTrue empty ↔ IsClearFrom row F
-unfolding difference empty_field
-clear_by F rows rest row empty lies is_rows is_rest test = (λ yes. clear (test.0 yes), λ is. test.1 (is_none is))
-  where
-    same : rest ≡ difference F (rows_below row)
-    same = is_rest ∙ ap (difference F) is_rows
-
-    clear : rest ≡ empty_field → IsClearFrom row F
-    clear e = record {
-      clear = λ x y high. false_from_ne_true _ (λ filled. both_ways _ (ap (λ (G : Field). G x y) (sym same ∙ e))
-          (and_from _ _ filled (not_from_false _ (false_from_ne_true _ (λ below. let place = from_rows row x y below in absurd (omega (arith, place.1)))))));
-    }
-
-    is_none : IsClearFrom row F → rest ≡ empty_field
-    is_none is = same ∙ same_fields _ _ (λ x y. false_from_ne_true _ (λ held.
-        let parts = and_parts (F x y) _ held in
-        let place = lies x y parts.0 in
-        elim (cases_lt y row) [
-          | inl below ↦ both_ways _ (not-true _ parts.1) (in_rows row x y place.0 below)
-          | inr high ↦ both_ways _ (is.clear x y high) parts.0
-        ]))
 
 pub low_field : (F : Field) (r N : ℕ) → IsClearFrom r F → r ≤ N → LiesWithin F 24 → intersection F (rows_below N) ≡ F
 unfolding intersection

@@ -102,5 +102,5 @@ pub fn is_clear_from(filled: &LaneBoard<24>, row: u8) -> bool
     requires { row ≤ 24 }
     ensures { IsTrue result ↔ IsClearFrom row (field_of filled.now) }
 {
-    filled.minus(&LaneBoard::rows_below(row)).is_empty()
+    filled.is_clear_from(row)
 }

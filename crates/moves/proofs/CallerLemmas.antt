@@ -1,5 +1,4 @@
 -- Lemmas that the crates above cite.
-pub use Rattle.srs.proofs.CallerLemmas.{some_same, int_le-true as yes}
 pub use Rattle.moves.proofs.HardPlaces.{hard_places}
 pub use Rattle.moves.proofs.LaneFacts.{lane_near, lowest_near, near, rest_lane, sky_from}
 pub use Rattle.moves.proofs.LaneLemmas.{Lifts, keyed_in, lifts_by, shift_lifts}

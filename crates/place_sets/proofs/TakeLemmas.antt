@@ -17,9 +17,9 @@ use Rattle.srs.specs.Rotation.{rotation_place}
 use Rattle.srs.proofs.CallerLemmas.{is_among-all, list_all-from_is_among, each_state, rotation_place-small}
 use Rattle.well.specs.LockLaws.{is_below}
 use Rattle.place_sets.specs.declared.held.Places.{Places}
-use Rattle.place_sets.specs.Numbers.{has_number, number_of_state, states_in}
+use Rattle.place_sets.specs.Numbers.{has_number, number_of_state}
 use Rattle.place_sets.specs.Places.{holds}
-use Rattle.place_sets.specs.States.{States, has_state}
+use Rattle.place_sets.specs.States.{has_state}
 use Rattle.place_sets.specs.Tops.{rows_over_pivot}
 use Rattle.place_sets.proofs.PlaceNumbers.{number-within, number-has, has-number, HasNumber, number_is, same_number}
 use Rattle.place_sets.proofs.ScanLemmas.{holds-parts, holds-from}
@@ -137,24 +137,3 @@ below_held old new rows left kind is keeps q =
   where
     same : q.piece ≡ old.piece → nat_lt q.y (get_or left (rotation_place q.rotation) 0) ≡ nat_lt q.y (rows - rows_over_pivot q.piece q.rotation)
     same k = ap (nat_lt q.y) (is q.rotation ∙ ap (λ (p : Piece). rows - rows_over_pivot p q.rotation) (sym k))
-
--- the states that lie so low
-pub filled_below : (new : Places) (piece : Piece) (S : States) (rows : ℕ) (left : List ℕ) → new.piece ≡ piece → ((r : Rotation) → get_or left (rotation_place r) 0 ≡ rows - rows_over_pivot piece r) →
-    ((r : Rotation) (x y : ℕ) → states_in new.numbers r x y ≡ (S r x y && nat_lt y (get_or left (rotation_place r) 0))) → (q : Placement) →
-    IsTrue (holds new q) ↔ ((q.piece ≡ piece) × (has_state S q ≡ true) × IsTrue (is_below rows q))
-unfolding has_state
-filled_below new piece S rows left kind is fills q = (there, back)
-  where
-    same : q.piece ≡ piece → nat_lt q.y (get_or left (rotation_place q.rotation) 0) ≡ nat_lt q.y (rows - rows_over_pivot q.piece q.rotation)
-    same k = ap (nat_lt q.y) (is q.rotation ∙ ap (λ (p : Piece). rows - rows_over_pivot p q.rotation) (sym k))
-
-    there : IsTrue (holds new q) → (q.piece ≡ piece) × (has_state S q ≡ true) × IsTrue (is_below rows q)
-    there held =
-        let parts = holds-parts new q held in
-        let k = parts.0 ∙ kind in
-        let both = and_parts (S q.rotation q.x q.y) _ (sym (fills q.rotation q.x q.y) ∙ parts.1) in
-        (k, both.0, (below_by_pivot rows q).0 (sym (same k) ∙ both.1))
-
-    back : (q.piece ≡ piece) × (has_state S q ≡ true) × IsTrue (is_below rows q) → IsTrue (holds new q)
-    back (k, has, low) =
-        holds-from new q (k ∙ sym kind) (fills q.rotation q.x q.y ∙ and_from _ _ has (same k ∙ (below_by_pivot rows q).1 low))
