@@ -1,5 +1,5 @@
 -- A column has as many cells as its byte has ones; and a wall stands behind it where no row has a cell there and in the next one.
-use Rattle.std.proofs.Common.{◌≡◌, ℕ, zero, suc, ◌+◌, ◌*◌, ◌++◌, ◌∷◌, [], ◌/◌, ◌%◌, ◌^◌, ◌<◌, ◌-◌, true, not, cond, ◌&&◌, ◌==◌, count_ones, w8, ◌↔◌, refl, sym, ap, ◌∙◌, inl, inr, arith}
+use Rattle.std.proofs.Common.{◌≡◌, ℕ, zero, suc, ◌+◌, ◌*◌, ◌++◌, ◌∷◌, [], ◌/◌, ◌%◌, ◌^◌, ◌<◌, ◌-◌, true, not, cond, ◌&&◌, ◌==◌, count_ones, w8, ◌↔◌, sym, ap, ◌∙◌, inl, inr, arith}
 use Rattle.std.specs.Int.Count.{ones}
 use Rattle.std.specs.Prelude.{sum_by}
 use Rattle.std.specs.List.{range_with_len}
@@ -9,7 +9,7 @@ use Rattle.lane_board.specs.Lanes.{has_bit}
 use Rattle.std.proofs.lemmas.Bool.{and_parts, both_ways, cases_eq, eq-eqb, eqb-true, not-false}
 use Rattle.std.proofs.lemmas.Nat.Bits.{bit_at-trailing_zeros}
 use Rattle.std.proofs.lemmas.List.Sums.{sum_by_push}
-use Rattle.lane_board.proofs.CallerLemmas.{has_bit-low, has_bit-shifted_right, has_bit-zero}
+use Rattle.lane_board.proofs.CallerLemmas.{has_bit-low, has_bit-shifted_right, has_bit-zero, one_bit}
 use Rattle.prune.specs.Counts.{column_empties}
 use Rattle.prune.specs.Walls.{IsWall}
 use Rattle.prune.proofs.CallerLemmas.{column_empties-suc, column_empties-zero, range_more}
@@ -17,12 +17,6 @@ use Rattle.empty_cells.specs.declared.span.Span.TheVariants.{FirstTwo}
 use Rattle.empty_cells.specs.Empties.{all_but}
 use Rattle.empty_cells.specs.Spans.{has_span}
 use Rattle.empty_cells.proofs.StackLemmas.{IsSmall}
-
-one_bit : (q : ℕ) → q < 2 → ones q ≡ cond (q % 2 == 1) 1 0
-unfolding ones
-one_bit zero small = refl
-one_bit (suc zero) small = refl
-one_bit (suc (suc q)) small = absurd (omega arith)
 
 pub ones_column : (F : Field) (x n mask : ℕ) → mask < 2 ^ n → ((y : ℕ) → y < n → has_bit mask y ≡ not (F x y)) → count_ones mask ≡ column_empties F n x
 unfolding has_bit

@@ -1,5 +1,5 @@
 -- The shape of a piece in a rotation, by its rows: which spans they are, and where the lowest row and the leftmost column lie.
-use Rattle.std.proofs.Common.{◌≡◌, ℕ, zero, suc, ◌+◌, ◌<◌, ◌≤◌, Bool, true, false, not, ◌&&◌, ◌||◌, ◌==◌, nat_lt, ℤ, pos, negsuc, ◌+ℤ◌, ◌-ℤ◌, List, [], ◌∷◌, ◌++◌, length, map, get_or, refl, sym, ap, ap₂, subst, ◌∙◌, inl, inr, arith}
+use Rattle.std.proofs.Common.{◌≡◌, ℕ, zero, suc, ◌+◌, ◌<◌, ◌≤◌, Bool, true, not, ◌&&◌, ◌||◌, ◌==◌, nat_lt, ℤ, pos, negsuc, ◌+ℤ◌, ◌-ℤ◌, List, [], ◌∷◌, ◌++◌, length, map, get_or, refl, sym, ap, ap₂, subst, ◌∙◌, inl, inr, arith}
 use Rattle.std.specs.Prelude.{int_lt}
 use Rattle.std.specs.List.{list_any, list_all, range_with_len}
 use Rattle.std.specs.Ordering.{int_eq}
@@ -8,6 +8,7 @@ use Rattle.std.proofs.lemmas.List.Folds.{list_any-append}
 use Rattle.std.proofs.lemmas.List.FromFn.{get_or-range_with_len, length-range_with_len}
 use Rattle.std.proofs.lemmas.Bool.{and_parts, and_from, or_cases, or_left, or_right, eqb-true, eq-eqb, ltb-true, lt-ltb, false≢true}
 use Rattle.std.proofs.lemmas.Int.{ints}
+use Rattle.std.proofs.Math.Bool.{and-or_distrib_right}
 use Rattle.srs.specs.declared.piece.Piece.{Piece}
 use Rattle.srs.specs.declared.piece.Piece.TheVariants.{I, L, O, Z, T, J, S}
 use Rattle.srs.specs.declared.rotation.Rotation.{Rotation}
@@ -159,14 +160,7 @@ any_map test f (x ∷ xs) = ap (λ t. test (f x) || t) (any_map test f xs)
 
 any_and : (test : ℕ → Bool) (q : Bool) (xs : List ℕ) → list_any (λ c. test c && q) xs ≡ (list_any test xs && q)
 any_and test q [] = refl
-any_and test q (x ∷ xs) = ap (λ t. (test x && q) || t) (any_and test q xs) ∙ over (test x) (list_any test xs) q
-  where
-    over : (p r q : Bool) → ((p && q) || (r && q)) ≡ ((p || r) && q)
-    over true true true = refl
-    over true true false = refl
-    over true false true = refl
-    over true false false = refl
-    over false r q = refl
+any_and test q (x ∷ xs) = ap (λ t. (test x && q) || t) (any_and test q xs) ∙ sym (and-or_distrib_right (test x) (list_any test xs) q)
 
 -- a cell of spans stands at one of their places
 pub stack_by_places : (x : ℕ) (rows : ℕ → ℕ) (spans : List Span) (a b : ℕ) → in_stack x rows spans a b ≡ list_any (at_place x rows a b) (places_of spans)

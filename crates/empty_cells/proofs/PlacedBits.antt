@@ -5,6 +5,7 @@ use Rattle.std.specs.Ordering.{int_eq}
 use Rattle.std.proofs.lemmas.Bool.{agree_below, agree_below_at, and_from, and_parts, cases_lt, eq-eqb, eqb-true, false_from_ne_true, le-leb, leb-true, ltb-true, ne_eqb}
 use Rattle.std.proofs.lemmas.Bool.Decides.{Decides-int_eq}
 use Rattle.std.proofs.lemmas.Int.{ints}
+use Rattle.std.proofs.Math.Bool.{and-or_distrib_right}
 use Rattle.lane_board.specs.Lanes.{has_bit}
 use Rattle.lane_board.proofs.CallerLemmas.{has_bit-and, has_bit-low, has_bit-past, has_bit-shifted_high, has_bit-shifted_low, has_bit-shifted_right, same_from_both}
 use Rattle.srs.specs.declared.piece.Piece.{Piece}
@@ -13,7 +14,6 @@ use Rattle.srs.specs.Cells.{Cell, minus, moved, shape, is_near}
 use Rattle.srs.specs.SameCells.{cell_eq, is_among}
 use Rattle.srs.proofs.CallerLemmas.{each_state, near_within, shape_near}
 use Rattle.empty_cells.specs.ShapeBits.{bit_place, shape_bits}
-use Rattle.empty_cells.proofs.SpanBits.{and_over}
 
 -- the bits of a shape
 abbrev has_shape_bit : List Cell → ℕ → Bool
@@ -85,7 +85,7 @@ bits_here : (rows x y a b k : ℕ) (cells : List Cell) → list_all is_near cell
 bits_here rows x y a b k [] near keeps low at = refl
 bits_here rows x y a b k (c ∷ cells) near keeps low at =
     let parts = and_parts (is_near c) (list_all is_near cells) near in
-    sym (and_over (bit_place c == k) (has_shape_bit cells k) (has_bit rows k))
+    and-or_distrib_right (bit_place c == k) (has_shape_bit cells k) (has_bit rows k)
     ∙ ap₂ ◌||◌ (bit_here rows x y a b k c parts.0 keeps low at) (bits_here rows x y a b k cells parts.1 keeps low at)
 
 none_past : (k : ℕ) (cells : List Cell) → list_all is_near cells ≡ true → 40 ≤ k → has_shape_bit cells k ≡ false

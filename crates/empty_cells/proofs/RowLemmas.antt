@@ -1,12 +1,17 @@
 -- The rows that the lowest span may take, as bits.
 use Rattle.std.proofs.Common.{◌≡◌, ℕ, ◌<◌, bit_and, Bool, true, false, not, ◌&&◌, nat_le, refl, sym, ap, ap₂, ◌∙◌}
-use Rattle.std.proofs.lemmas.Bool.{and_from, and_parts, both_ways, le-leb, leb-true}
+use Rattle.std.proofs.lemmas.Bool.{and_from, and_parts, both_ways, le-leb, leb-true, agree_below_at}
 use Rattle.lane_board.specs.Field.{Field}
 use Rattle.lane_board.specs.Lanes.{has_bit}
 use Rattle.lane_board.proofs.CallerLemmas.{has_bit-and}
 use Rattle.empty_cells.specs.declared.span.Span.{Span}
 use Rattle.empty_cells.specs.Spans.{has_span}
 use Rattle.empty_cells.specs.Stacks.{MayTake, is_allowed}
+
+-- a byte of ones
+pub ones : (k : ℕ) → k < 8 → has_bit 255 k ≡ true
+unfolding has_bit
+ones k low = agree_below_at (has_bit 255) (λ k. true) 8 k refl low
 
 module _ (E : Field) (x y floor : ℕ) (span : Span) (rows permitted : ℕ) (has : (row : ℕ) → row < 8 → has_bit rows row ≡ has_span E x span row)
     (allowed : (row : ℕ) → row < 8 → has_bit permitted row ≡ (nat_le floor row && is_allowed y floor span row)) where

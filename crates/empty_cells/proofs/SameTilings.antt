@@ -10,6 +10,7 @@ use Rattle.srs.specs.declared.placement.Placement.{Placement}
 use Rattle.srs.specs.SameCells.{is_among}
 use Rattle.well.specs.Lock.{together}
 use Rattle.empty_cells.specs.Empties.{all_but, without_placement}
+use Rattle.empty_cells.proofs.StackLemmas.{apart}
 
 empties_same : (F : Field) (rows height : ℕ) → rows ≤ height → (cell : Cell) → is_empty_below (all_but (difference (rows_below rows) F)) height cell ≡ is_empty_below F rows cell
 unfolding is_empty_below all_but difference rows_below
@@ -36,8 +37,3 @@ tiling_below F rows height supply few = (
 pub left_by_placement : (F : Field) (rows : ℕ) (q : Placement) → without_placement (difference (rows_below rows) F) q ≡ difference (rows_below rows) (together F q)
 unfolding without_placement difference together
 left_by_placement F rows q = fun_ext (λ x. fun_ext (λ y. apart (rows_below rows x y) (F x y) (is_among (cells_of q) (pos x, pos y))))
-  where
-    apart : (p q r : Bool) → ((p && not q) && not r) ≡ (p && not (q || r))
-    apart true true r = refl
-    apart true false r = refl
-    apart false q r = refl

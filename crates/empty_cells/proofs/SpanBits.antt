@@ -5,6 +5,7 @@ use Rattle.std.proofs.lemmas.Bool.{cases_lt, eqb-true, eq-eqb, ne_eqb, and_parts
 use Rattle.std.proofs.lemmas.Bool.Decides.{nat_tests}
 use Rattle.std.proofs.lemmas.Nat.{xor_lt, and_le_l, mul-lt, pow-add, pow_below}
 use Rattle.std.proofs.Math.Nat.{mul_assoc}
+use Rattle.std.proofs.Math.Bool.{and-true, and-or_distrib_right}
 use Rattle.lane_board.specs.Lanes.{has_bit}
 use Rattle.lane_board.proofs.CallerLemmas.{same_from_both, has_bit-past, has_bit-low, has_bit-shifted_low, has_bit-shifted_high}
 use Rattle.empty_cells.specs.declared.span.Span.{Span}
@@ -32,12 +33,9 @@ each_column_bit span n k small below = elim (cases_lt k 32) [
 ]
 
 -- bits further up, taken together
-pub and_one : (b : Bool) → b ≡ (b && true)
-and_one true = refl
-and_one false = refl
 
 pub and_two : (a b : Bool) → (a && b) ≡ (a && (b && true))
-and_two true b = and_one b
+and_two true b = sym (and-true b)
 and_two false b = refl
 
 pub and_three : (a b c : Bool) → ((a && b) && c) ≡ (a && (b && (c && true)))
@@ -60,20 +58,12 @@ elem c x y a b small_y small_b = same_from_both _ _
     let row : y ≡ b = eqb-true _ _ parts.1 in
     eq-eqb (8 * c + (8 * x + y)) (8 * a + b) (omega arith))
 
-pub and_over : (p q r : Bool) → ((p && r) || (q && r)) ≡ ((p || q) && r)
-and_over true true true = refl
-and_over true true false = refl
-and_over true false true = refl
-and_over true false false = refl
-and_over false true r = refl
-and_over false false r = refl
-
 each_elem : (columns : List ℕ) (x y a b : ℕ) → y < 8 → b < 8 → list_any (λ c. 8 * c + (8 * x + y) == 8 * a + b) columns ≡ (list_any (λ c. x + c == a) columns && (y == b))
 each_elem [] x y a b small_y small_b = refl
 each_elem (c ∷ columns) x y a b small_y small_b =
     ap (λ t. t || list_any (λ c. 8 * c + (8 * x + y) == 8 * a + b) columns) (elem c x y a b small_y small_b)
     ∙ ap (λ t. ((x + c == a) && (y == b)) || t) (each_elem columns x y a b small_y small_b)
-    ∙ and_over (x + c == a) (list_any (λ c. x + c == a) columns) (y == b)
+    ∙ sym (and-or_distrib_right (x + c == a) (list_any (λ c. x + c == a) columns) (y == b))
 
 above_all : (columns : List ℕ) (k j : ℕ) → j < k → list_any (λ c. 8 * c + k == j) columns ≡ false
 above_all [] k j below = refl

@@ -96,7 +96,7 @@ cell_in_row x rows (span ∷ spans) (suc k) below =
     let found = cell_in_row x (λ k. rows (suc k)) spans k (omega arith) in
     (found.0, or_right (list_any (λ column. x + column == found.0) (columns_of span) && (rows 0 == rows (suc k))) _ found.1)
 
-apart : (p q r : Bool) → ((p && not q) && not r) ≡ (p && not (q || r))
+pub apart : (p q r : Bool) → ((p && not q) && not r) ≡ (p && not (q || r))
 apart true true r = refl
 apart true false r = refl
 apart false q r = refl

@@ -1,6 +1,6 @@
 -- The families after a draw, case by case.
-use Rattle.std.proofs.Common.{◌≡◌, ℕ, zero, suc, ◌-◌, ◌<◌, if◌then◌else◌, Bool, true, false, not, ◌&&◌, ◌||◌, ◌==◌, Option, Some, None, refl, ap, ◌∙◌, sym, subst, inl, inr, arith}
-use Rattle.std.proofs.lemmas.Bool.{cases_Bool, cases_lt, or_cases, or_left, or_right}
+use Rattle.std.proofs.Common.{◌≡◌, ℕ, zero, suc, ◌-◌, ◌<◌, if◌then◌else◌, Bool, true, false, not, ◌&&◌, ◌||◌, ◌==◌, Option, Some, None, refl, ap, ◌∙◌, sym, subst, inl, inr, arith, ap₂}
+use Rattle.std.proofs.lemmas.Bool.{cases_Bool, cases_lt, or_cases, or_left, or_right, and_right}
 use Rattle.srs.specs.declared.piece.Piece.{Piece}
 use Rattle.queue_pattern.specs.Grammar.{set_of}
 use Rattle.queue_pattern.specs.Queues.{is_in}
@@ -32,10 +32,6 @@ any_below-none test n none = elim (cases_Bool (any_below test n)) [
   | inr fails ↦ fails
 ]
 
-no_second : (b c : Bool) → c ≡ false → false ≡ (b && c)
-no_second true c e = sym e
-no_second false c e = refl
-
 fails : (inside last : Bool) (b c : Bool) → b ≡ false → c ≡ false → (if inside then (if last then b else c) else false) ≡ false
 fails true true b c e f = e
 fails true false b c e f = f
@@ -54,12 +50,12 @@ unfolding after_draw with_piece
 drawn_from_empty draw piece before none = record { each = λ set within. has_set-empty set ∙ sym (at draw set within) }
   where
     moved : (set : ℕ) → set < 128 → with_piece piece (has_set before) set ≡ false
-    moved set within = sym (no_second (is_in piece set) _ (none (set - set_of piece) (omega (arith, within))))
+    moved set within = and_right (is_in piece set) _ (none (set - set_of piece) (omega (arith, within)))
 
     at : (draw : Option Draw) (set : ℕ) → set < 128 → after_draw draw piece (has_set before) set ≡ false
     at None set within = refl
     at (Some d) set within = fails (is_in piece d.element.set) d.is_last _ _
-        (sym (no_second (set == 0) _ (any_below-none (with_piece piece (has_set before)) 128 moved))) (moved set within)
+        (and_right (set == 0) _ (any_below-none (with_piece piece (has_set before)) 128 moved)) (moved set within)
 
 pub drawn_outside : (draw : Option Draw) (d : Draw) (piece : Piece) (before : Family) → draw ≡ Some d → is_in piece d.element.set ≡ false → IsDrawn draw piece before empty
 unfolding after_draw
@@ -73,10 +69,7 @@ drawn_within draw d piece before after is inside more each = record { each = λ 
 same_below : (f g : ℕ → Bool) (n : ℕ) → ((k : ℕ) → k < n → f k ≡ g k) → any_below f n ≡ any_below g n
 unfolding any_below
 same_below f g zero same = refl
-same_below f g (suc n) same = joined (same n (omega arith)) (same_below f g n (λ k within. same k (omega arith)))
-  where
-    joined : {a b c d : Bool} → a ≡ b → c ≡ d → (a || c) ≡ (b || d)
-    joined e h = cc
+same_below f g (suc n) same = ap₂ ◌||◌ (same n (omega arith)) (same_below f g n (λ k within. same k (omega arith)))
 
 pub drawn_last : (draw : Option Draw) (d : Draw) (piece : Piece) (before moved after : Family) → draw ≡ Some d → is_in piece d.element.set ≡ true → d.is_last ≡ true
     → ((set : ℕ) → set < 128 → has_set moved set ≡ with_piece piece (has_set before) set)
@@ -91,7 +84,7 @@ drawn_last draw d piece before moved after is inside last each begins = record {
 -- at the end of an element no set is left where none was
 pub begins_none : (moved : Family) → ((set : ℕ) → set < 128 → has_set moved set ≡ false) → (set : ℕ) → set < 128
     → has_set empty set ≡ (set == 0 && any_below (has_set moved) 128)
-begins_none moved none set within = has_set-empty set ∙ no_second (set == 0) _ (any_below-none (has_set moved) 128 none)
+begins_none moved none set within = has_set-empty set ∙ sym (and_right (set == 0) _ (any_below-none (has_set moved) 128 none))
 
 and_true : (b c : Bool) → c ≡ true → b ≡ (b && c)
 and_true true c e = sym e

@@ -1,5 +1,5 @@
 -- The bits of a family's two numbers.
-use Rattle.std.proofs.Common.{◌≡◌, ℕ, ◌+◌, ◌-◌, ◌*◌, ◌/◌, ◌%◌, ◌^◌, ◌<◌, ◌≤◌, lit<, min, max, Bool, true, false, ◌&&◌, ◌||◌, ◌==◌, eqb, eq-eqb, nat_eq, IsTrue, ◌↔◌, nat_lt, nat_le, bit_and, bit_or, refl, ap, ◌∙◌, sym, subst, inl, inr, arith, List, [], ◌∷◌, get_or}
+use Rattle.std.proofs.Common.{◌≡◌, ℕ, ◌+◌, ◌-◌, ◌*◌, ◌/◌, ◌%◌, ◌^◌, ◌<◌, ◌≤◌, lit<, min, max, Bool, true, false, ◌&&◌, ◌||◌, ◌==◌, eqb, eq-eqb, nat_eq, IsTrue, ◌↔◌, nat_lt, nat_le, bit_and, bit_or, refl, ap, ◌∙◌, sym, subst, inl, inr, arith, List, [], ◌∷◌, get_or, ap₂}
 use Rattle.std.specs.Int.{bit_at}
 use Rattle.std.proofs.lemmas.Bool.{agree_below_at, cases_Bool, cases_lt, eqb-true, lt-ltb, le-ltb}
 use Rattle.std.proofs.lemmas.Bool.Decides.{nat_tests}
@@ -35,13 +35,10 @@ has_set-high family set above = rw (le-ltb set 64 above) refl
 pub has_set-or : (f g : Family) (set : ℕ) → has_set (made (bit_or f.low g.low) (bit_or f.high g.high)) set ≡ (has_set f set || has_set g set)
 has_set-or f g set = elim (cases_lt set 64) [
   | inl below ↦ has_set-low (made (bit_or f.low g.low) (bit_or f.high g.high)) set below ∙ word_or f.low g.low set
-      ∙ either (sym (has_set-low f set below)) (sym (has_set-low g set below))
+      ∙ ap₂ ◌||◌ (sym (has_set-low f set below)) (sym (has_set-low g set below))
   | inr above ↦ has_set-high (made (bit_or f.low g.low) (bit_or f.high g.high)) set above ∙ word_or f.high g.high (set - 64)
-      ∙ either (sym (has_set-high f set above)) (sym (has_set-high g set above))
+      ∙ ap₂ ◌||◌ (sym (has_set-high f set above)) (sym (has_set-high g set above))
 ]
-  where
-    either : {a b c d : Bool} → a ≡ b → c ≡ d → (a || c) ≡ (b || d)
-    either e h = cc
 
 no_bit : (k : ℕ) → (bit_at 0 k == 1) ≡ false
 no_bit k = ap (λ n. n == 1) (bit_at-zero k)

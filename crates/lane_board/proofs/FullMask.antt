@@ -37,7 +37,7 @@ eight_more full m at rows next next_is so_far told small told_new room = (bound,
           ∙ ap (λ k. get_or rows k 0 == 1023) (omega arith)
     ]
 
-one_bit : (q : ℕ) → q < 2 → ones q ≡ cond (q % 2 == 1) 1 0
+pub one_bit : (q : ℕ) → q < 2 → ones q ≡ cond (q % 2 == 1) 1 0
 unfolding ones
 one_bit zero small = refl
 one_bit (suc zero) small = refl

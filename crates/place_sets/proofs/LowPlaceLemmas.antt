@@ -1,7 +1,8 @@
 -- Placements in low rows, by the words that have their pivots.
 use Rattle.std.proofs.Common.{◌≡◌, ◌≢◌, ◌↔◌, ℕ, zero, suc, ◌+◌, ◌-◌, ◌*◌, ◌/◌, ◌%◌, ◌<◌, ◌≤◌, Bool, true, false, nat_lt, ◌&&◌, ◌||◌, not, ◌==◌, Option, Some, None, List, length, set, get_or, get_or-set_other, get_or-set_same, ◌⊎◌, refl, sym, ap, ◌∙◌, inl, inr, arith}
 use Rattle.std.specs.Prelude.{IsTrue}
-use Rattle.std.proofs.lemmas.Bool.{and_parts, and_from, both_ways, cases_Bool, cases_eq, cases_lt, cases_order, eq-eqb, eqb-true, lt-ltb, ltb-true, ne_eqb, not-true, not_from_false, false_from_ne_true, false≢true}
+use Rattle.std.proofs.lemmas.Bool.{and_parts, and_from, both_ways, cases_Bool, cases_eq, cases_lt, cases_order, eq-eqb, eqb-true, lt-ltb, ltb-true, ne_eqb, not-true, not_from_false, false_from_ne_true}
+use Rattle.std.proofs.Math.Bool.{and-true}
 use Rattle.lane_board.specs.Lanes.{has_bit}
 use Rattle.lane_board.specs.Words.{cells_of_words}
 use Rattle.lane_board.proofs.CallerLemmas.{has_bit-zero, same_from_both}
@@ -138,12 +139,8 @@ module _ (places : LowPlaces) (at bit : ℕ) (small : at < 8) (within : bit < 64
           ∙ (λ i. has_bit (get_or places.words (sym same i) 0) k && not (sym (eq-eqb w at same) i && (k == bit)))
       | inr other ↦
           ap (λ (ws : List ℕ). has_bit (get_or ws w 0) k) changed ∙ ap (λ n. has_bit n k) (get_or-set_other places.words at w word 0 other)
-          ∙ all_stay _ ∙ ap (λ b. has_bit (get_or places.words w 0) k && not (b && (k == bit))) (sym (ne_eqb w at other))
+          ∙ sym (and-true _) ∙ ap (λ b. has_bit (get_or places.words w 0) k && not (b && (k == bit))) (sym (ne_eqb w at other))
     ]
-      where
-        all_stay : (b : Bool) → b ≡ (b && true)
-        all_stay true = refl
-        all_stay false = refl
 
     pub low_rest : (q : Placement) → IsTrue (holds new q) ↔ (IsTrue (holds places q) × (Some s ≢ Some q))
     low_rest q = (there, back)
@@ -305,9 +302,6 @@ held_under P piece M rows S few are q kind low = (
 )
 
 -- none of two is true
-pub none_of_either : (a b : Bool) → (a || b) ≡ false → (a ≡ false) × (b ≡ false)
-none_of_either true b e = absurd (false≢true (sym e))
-none_of_either false b e = (refl, e)
 
 -- where no word has a bit, nothing is held
 pub held_none : (places : LowPlaces) → ((w k : ℕ) → w < 8 → k < 64 → has_bit (get_or places.words w 0) k ≡ false) → (q : Placement) → holds places q ≡ false

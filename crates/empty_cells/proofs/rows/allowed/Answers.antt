@@ -1,13 +1,10 @@
 -- The three sets of rows.
-use Rattle.std.proofs.Common.{◌≡◌, ℕ, ◌+◌, ◌<◌, ◌≤◌, Bool, true, false, not, ◌&&◌, ◌==◌, nat_le, nat_lt, if◌then◌else◌, ap, ap₂, sym, refl, ◌∙◌, arith}
+use Rattle.std.proofs.Common.{◌≡◌, ℕ, ◌+◌, ◌<◌, ◌≤◌, Bool, true, false, not, ◌&&◌, ◌==◌, nat_le, nat_lt, if◌then◌else◌, ap, ap₂, sym, ◌∙◌, arith}
 use Rattle.std.proofs.lemmas.Bool.{lt-ltb, le-ltb}
 use Rattle.std.proofs.lemmas.Bool.Decides.{nat_tests}
+use Rattle.std.proofs.Math.Bool.{and-true}
 use Rattle.empty_cells.specs.Spans.{has_first}
 use Rattle.empty_cells.proofs.rows.allowed.Goals as goal
-
-and_all : (b : Bool) → b ≡ (b && true)
-and_all true = refl
-and_all false = refl
 
 past : (y floor row : ℕ) (first : Bool) → y < floor → (if nat_lt y floor then true else (if first then row == y else nat_lt row y)) ≡ true
 past y floor row first below = ap (λ t. if t then true else (if first then row == y else nat_lt row y)) (lt-ltb y floor below)
@@ -27,7 +24,7 @@ below_row y floor row first from is =
     here = grind (arith, nat_tests)
 
 pub returns-then-y-floor : goal.returns-then-y-floor
-returns-then-y-floor c = λ row low. c.rows_from-rows.ensures row low ∙ and_all _ ∙ ap (λ t. nat_le c.args.floor row && t) (sym (past c.args.y c.args.floor row (has_first c.args.span) (omega arith)))
+returns-then-y-floor c = λ row low. c.rows_from-rows.ensures row low ∙ sym (and-true _) ∙ ap (λ t. nat_le c.args.floor row && t) (sym (past c.args.y c.args.floor row (has_first c.args.span) (omega arith)))
 
 pub returns-then-has_first : goal.returns-then-has_first
 returns-then-has_first c = λ row low. c.rows_without.ensures row ∙ ap₂ (λ a b. a && not b) (c.rows_from.ensures row low) (c.rows_from-then-has_first.ensures row low)

@@ -1,13 +1,10 @@
 -- A shifted row of ones.
-use Rattle.std.proofs.Common.{◌≡◌, ℕ, ◌*◌, ◌-◌, ◌^◌, ◌<◌, true, nat_le, refl, sym, ◌∙◌, inl, inr, arith}
-use Rattle.std.proofs.lemmas.Bool.{agree_below_at, cases_lt, le-leb, lt-leb}
+use Rattle.std.proofs.Common.{◌≡◌, ℕ, ◌*◌, ◌-◌, ◌^◌, ◌<◌, nat_le, sym, ◌∙◌, inl, inr, arith}
+use Rattle.std.proofs.lemmas.Bool.{cases_lt, le-leb, lt-leb}
 use Rattle.lane_board.specs.Lanes.{has_bit}
 use Rattle.lane_board.proofs.CallerLemmas.{and_true, has_bit-and, has_bit-low, has_bit-shifted_high, has_bit-shifted_low}
+use Rattle.empty_cells.proofs.RowLemmas.{ones}
 use Rattle.empty_cells.proofs.rows.rows_from.Goals as goal
-
-ones : (k : ℕ) → k < 8 → has_bit 255 k ≡ true
-unfolding has_bit
-ones k low = agree_below_at (has_bit 255) (λ k. true) 8 k refl low
 
 shifted : (row y : ℕ) → y < 8 → has_bit (255 * 2 ^ row) y ≡ nat_le row y
 shifted row y low = elim (cases_lt y row) [

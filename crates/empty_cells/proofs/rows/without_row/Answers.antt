@@ -1,29 +1,22 @@
 -- One bit is cleared.
-use Rattle.std.proofs.Common.{◌≡◌, ℕ, ◌<◌, Bool, true, false, not, ◌&&◌, ◌==◌, bit_and, w8, refl, sym, ap, ◌∙◌, ◌*◌, ◌^◌, ◌%◌, inl, inr, arith}
+use Rattle.std.proofs.Common.{◌≡◌, ℕ, ◌<◌, not, ◌&&◌, ◌==◌, bit_and, w8, sym, ap, ◌∙◌, ◌*◌, ◌^◌, ◌%◌, inl, inr, arith}
 use Rattle.std.specs.Int.{bit_not}
 use Rattle.std.proofs.lemmas.Bool.{both_ways, cases_eq, eq-eqb, ne_eqb}
 use Rattle.std.proofs.lemmas.Nat.{and_le_l}
 use Rattle.std.proofs.lemmas.Nat.Bits.{bit_at_clear_other, bit_at_clear_same}
+use Rattle.std.proofs.Math.Bool.{and-false, and-true}
 use Rattle.lane_board.specs.Lanes.{has_bit}
 use Rattle.empty_cells.proofs.rows.without_row.Goals as goal
-
-and_none : (b : Bool) → false ≡ (b && false)
-and_none true = refl
-and_none false = refl
-
-and_all : (b : Bool) → b ≡ (b && true)
-and_all true = refl
-and_all false = refl
 
 left : (rows row y : ℕ) → row < 8 → y < 8 → has_bit (bit_and rows (bit_not w8 (1 * 2 ^ row % 2 ^ 8))) y ≡ (has_bit rows y && not (y == row))
 unfolding has_bit
 left rows row y within low = elim (cases_eq y row) [
   | inl same ↦
       ap (λ k. has_bit (bit_and rows (bit_not w8 (1 * 2 ^ row % 2 ^ 8))) k) same ∙ ap (λ b. b == 1) (bit_at_clear_same w8 rows row within)
-      ∙ and_none (has_bit rows y) ∙ ap (λ b. has_bit rows y && not b) (sym (eq-eqb y row same))
+      ∙ sym (and-false (has_bit rows y)) ∙ ap (λ b. has_bit rows y && not b) (sym (eq-eqb y row same))
   | inr other ↦
       ap (λ b. b == 1) (bit_at_clear_other w8 rows row within y low other)
-      ∙ and_all (has_bit rows y) ∙ ap (λ b. has_bit rows y && not b) (sym (ne_eqb y row other))
+      ∙ sym (and-true (has_bit rows y)) ∙ ap (λ b. has_bit rows y && not b) (sym (ne_eqb y row other))
 ]
 
 pub returns-clause-others : goal.returns-clause-others

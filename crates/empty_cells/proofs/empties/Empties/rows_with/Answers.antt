@@ -1,16 +1,13 @@
 -- The lowest eight bits of the shifted set.
-use Rattle.std.proofs.Common.{ℕ, ◌+◌, ◌*◌, ◌<◌, ◌≡◌, true, ◌&&◌, nat_lt, List, [], ◌∷◌, refl, sym, ap, ap₂, ◌∙◌, ◌/◌, ◌^◌, arith}
+use Rattle.std.proofs.Common.{ℕ, ◌+◌, ◌*◌, ◌<◌, ◌≡◌, ◌&&◌, nat_lt, List, [], ◌∷◌, refl, sym, ap, ap₂, ◌∙◌, ◌/◌, ◌^◌, arith}
 use Rattle.std.specs.List.{list_all}
-use Rattle.std.proofs.lemmas.Bool.{agree_below_at, lt-ltb}
+use Rattle.std.proofs.lemmas.Bool.{lt-ltb}
 use Rattle.lane_board.specs.Lanes.{has_bit}
 use Rattle.lane_board.proofs.CallerLemmas.{and_true, has_bit-and, has_bit-shifted_right}
 use Rattle.empty_cells.specs.Empties.{empty_cells}
 use Rattle.empty_cells.specs.Spans.{columns_of, has_span}
+use Rattle.empty_cells.proofs.RowLemmas.{ones}
 use Rattle.empty_cells.proofs.empties.Empties.rows_with.Goals as goal
-
-low_bit : (y : ℕ) → y < 8 → has_bit 255 y ≡ true
-unfolding has_bit
-low_bit y low = agree_below_at (has_bit 255) (λ k. true) 8 y refl low
 
 each_column : (columns : List ℕ) (n x y : ℕ) → y < 8 → list_all (λ c. has_bit (n / 2 ^ (8 * x)) (8 * c + y)) columns ≡ list_all (λ c. nat_lt y 8 && has_bit n (8 * (x + c) + y)) columns
 each_column [] n x y low = refl
@@ -21,5 +18,5 @@ each_column (c ∷ columns) n x y low = ap₂ ◌&&◌
 pub returns : goal.returns
 unfolding empty_cells has_span
 returns c = λ y low.
-    has_bit-and c.starts.result 255 y ∙ and_true _ _ (low_bit y low)
+    has_bit-and c.starts.result 255 y ∙ and_true _ _ (ones y low)
     ∙ c.starts.ensures y ∙ each_column (columns_of c.args.span) c.args.self.now.cells c.args.x y low

@@ -2,6 +2,7 @@
 use Rattle.std.proofs.Common.{◌≡◌, ℕ, ◌+◌, ◌-◌, ◌*◌, ◌%◌, ◌^◌, ◌<◌, Bool, true, false, ◌&&◌, nat_le, nat_lt, bit_and, refl, sym, ap, ◌∙◌, inl, inr, arith}
 use Rattle.std.proofs.lemmas.Bool.{and_left, and_right, cases_lt, false_from_ne_true, le-leb, le-ltb, leb-true}
 use Rattle.std.proofs.lemmas.Nat.{and_mask}
+use Rattle.std.proofs.Math.Bool.{and-false}
 use Rattle.lane_board.specs.Lanes.{has_bit}
 use Rattle.lane_board.proofs.CallerLemmas.{has_bit-low, has_bit-past, has_bit-shifted_high, has_bit-shifted_low}
 use Rattle.empty_cells.specs.Empties.{empty_cells}
@@ -28,14 +29,10 @@ bits n x a b low = ap (λ m. has_bit m (8 * a + b)) (masked (n * 2 ^ (8 * x) % 2
       ]
 ]
 
-both_false : (p : Bool) → (p && false) ≡ false
-both_false true = refl
-both_false false = refl
-
 swapped : (p q r s : Bool) → (p && (q && (r && s))) ≡ (q && (r && (p && s)))
 swapped p true true s = refl
-swapped p true false s = both_false p
-swapped p false r s = both_false p
+swapped p true false s = and-false p
+swapped p false r s = and-false p
 
 pub returns : goal.returns
 unfolding empty_cells to_column

@@ -1,15 +1,16 @@
 -- Shifted bits, taken together.
-use Rattle.std.proofs.Common.{◌+◌, ◌*◌, ◌/◌, bit_and, ap₂, ◌&&◌, ◌∙◌}
+use Rattle.std.proofs.Common.{◌+◌, ◌*◌, ◌/◌, bit_and, ap₂, ◌&&◌, ◌∙◌, sym}
+use Rattle.std.proofs.Math.Bool.{and-true}
 use Rattle.lane_board.specs.Lanes.{has_bit}
 use Rattle.lane_board.proofs.CallerLemmas.{has_bit-and, has_bit-shifted_right}
-use Rattle.empty_cells.proofs.SpanBits.{and_one, and_two, and_three, and_four, bit_here}
+use Rattle.empty_cells.proofs.SpanBits.{and_two, and_three, and_four, bit_here}
 use Rattle.empty_cells.proofs.span.Span.starts.Goals as goal
 
 pub returns-in-Second : goal.returns-in-Second
-returns-in-Second c = rw c.in-Second.is (λ k. has_bit-shifted_right c.args.cells 8 k ∙ and_one _)
+returns-in-Second c = rw c.in-Second.is (λ k. has_bit-shifted_right c.args.cells 8 k ∙ sym (and-true _))
 
 pub returns-in-Third : goal.returns-in-Third
-returns-in-Third c = rw c.in-Third.is (λ k. has_bit-shifted_right c.args.cells 16 k ∙ and_one _)
+returns-in-Third c = rw c.in-Third.is (λ k. has_bit-shifted_right c.args.cells 16 k ∙ sym (and-true _))
 
 pub returns-in-FirstTwo : goal.returns-in-FirstTwo
 returns-in-FirstTwo c = rw c.in-FirstTwo.is (λ k. let n = c.args.cells in

@@ -1,5 +1,6 @@
 -- Each word loses these bits.
-use Rattle.std.proofs.Common.{◌≡◌, ℕ, Bool, true, false, not, ◌&&◌, ◌==◌, get_or, refl, ap, ◌∙◌}
+use Rattle.std.proofs.Common.{◌≡◌, ℕ, not, ◌&&◌, ◌==◌, get_or, refl, ap, ◌∙◌, sym}
+use Rattle.std.proofs.Math.Bool.{and_assoc}
 use Rattle.srs.proofs.CallerLemmas.{rotation_place-small}
 use Rattle.srs.specs.Piece.{piece_code}
 use Rattle.srs.specs.Rotation.{rotation_place}
@@ -7,10 +8,6 @@ use Rattle.lane_board.specs.Lanes.{has_bit}
 use Rattle.place_sets.specs.LowPlaces.{holds, piece_of}
 use Rattle.place_sets.proofs.LowPlaceLemmas.{cells-lost, each_word}
 use Rattle.place_sets.proofs.low_held.LowPlaces.leave_out.Goals as goal
-
-and_joined : (a b c : Bool) → (a && (b && c)) ≡ ((a && b) && c)
-and_joined true b c = refl
-and_joined false b c = refl
 
 pub returns-clause-piece : goal.returns-clause-piece
 unfolding piece_of
@@ -25,4 +22,4 @@ returns-clause-held c = λ q.
     c.bits_without.ensures.bits c.bits_without-2.ensures.bits c.bits_without-3.ensures.bits c.bits_without-4.ensures.bits
     c.bits_without-5.ensures.bits c.bits_without-6.ensures.bits c.bits_without-7.ensures.bits c.bits_without-8.ensures.bits)
     (rotation_place q.rotation) q.x q.y (rotation_place-small q.rotation))
-    ∙ and_joined (piece_code q.piece == piece_code (piece_of c.args.self.now)) _ _
+    ∙ sym (and_assoc (piece_code q.piece == piece_code (piece_of c.args.self.now)) _ _)

@@ -1,6 +1,7 @@
 -- The first word in use has the least number, and loses that bit.
-use Rattle.std.proofs.Common.{◌≡◌, Bool, true, false, ◌==◌, ◌&&◌, not, get_or, set, refl, ap, ◌∙◌}
+use Rattle.std.proofs.Common.{◌≡◌, ◌==◌, ◌&&◌, not, get_or, set, ap, ◌∙◌, sym}
 use Rattle.std.proofs.lemmas.Bool.{both_ways}
+use Rattle.std.proofs.Math.Bool.{and-true}
 use Rattle.lane_board.specs.Lanes.{has_bit}
 use Rattle.lane_board.proofs.CallerLemmas.{has_bit-zero}
 use Rattle.place_sets.specs.Numbers.{has_number}
@@ -27,10 +28,6 @@ invariant_of-self-clause-few c = λ w small has. absurd (both_ways _ (has_bit-ze
 pub invariant_of-self-clause-none_else : goal.invariant_of-self-clause-none_else
 invariant_of-self-clause-none_else c = λ w small none. empty_unless c.args.self.now w small (c.in-None.ensures.none w small)
 
-all_stay : (b : Bool) → b ≡ (b && true)
-all_stay true = refl
-all_stay false = refl
-
 pub returns-in-None-clause-rest : goal.returns-in-None-clause-rest
 unfolding has_number
-returns-in-None-clause-rest c = λ n small. all_stay _
+returns-in-None-clause-rest c = λ n small. sym (and-true _)
