@@ -2,7 +2,7 @@
 use Rattle.std.proofs.Common.{◌≡◌, ℕ, ◌+◌, ◌-◌, ◌≤◌, Bool, true, false, not, ◌&&◌, List, [], ◌∷◌, ◌++◌, refl, sym, ap, subst, ◌∙◌, inl, inr, arith}
 use Rattle.std.specs.Prelude.{Some, filter, if◌then◌else◌, min}
 use Rattle.std.specs.List.{flat_map}
-use Rattle.std.proofs.lemmas.Bool.{cases_Bool}
+use Rattle.std.proofs.lemmas.Bool.{cases_Bool, cond-true, cond-false}
 use Rattle.srs.specs.declared.piece.Piece.{Piece}
 use Rattle.srs.specs.declared.placement.Placement.{Placement}
 use Rattle.srs.specs.Kick.{Table}
@@ -31,7 +31,6 @@ use Rattle.enumerate.specs.Setups.{LeadsOn, position_of}
 use Rattle.enumerate.specs.Standing.{may_lock}
 use Rattle.enumerate.specs.Position.{after_of, is_live}
 use Rattle.enumerate.specs.Turns.{AreDead}
-use Rattle.enumerate.proofs.Choices.{if_false, if_true}
 use Rattle.enumerate.proofs.PlaceLaws.{lockable-free, lockable-piece}
 use Rattle.enumerate.proofs.TilingLaws.{left-tiled, live-after}
 use Rattle.enumerate.proofs.TurnLemmas.{enters-dead}
@@ -39,8 +38,8 @@ use Rattle.enumerate.proofs.TurnLemmas.{enters-dead}
 module _ (f : Placement → List Event) (a b : Placement → Bool) (same : (q : Placement) → (if a q then f q else []) ≡ (if b q then f q else [])) where
   first : (c : Placement → Bool) (q : Placement) (qs : List Placement) → flat_map f (filter c (q ∷ qs)) ≡ (if c q then f q else []) ++ flat_map f (filter c qs)
   first c q qs = elim (cases_Bool (c q)) [
-    | inl e ↦ ap (flat_map f) (filter-true c q qs e) ∙ ap (λ l. l ++ flat_map f (filter c qs)) (sym (if_true (c q) (f q) [] e))
-    | inr e ↦ ap (flat_map f) (filter-false c q qs e) ∙ ap (λ l. l ++ flat_map f (filter c qs)) (sym (if_false (c q) (f q) [] e))
+    | inl e ↦ ap (flat_map f) (filter-true c q qs e) ∙ ap (λ l. l ++ flat_map f (filter c qs)) (sym (cond-true (c q) (f q) [] e))
+    | inr e ↦ ap (flat_map f) (filter-false c q qs e) ∙ ap (λ l. l ++ flat_map f (filter c qs)) (sym (cond-false (c q) (f q) [] e))
   ]
 
   flat_map-filters : (qs : List Placement) → flat_map f (filter a qs) ≡ flat_map f (filter b qs)

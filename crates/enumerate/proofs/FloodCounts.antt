@@ -2,7 +2,7 @@
 use Rattle.std.proofs.Common.{◌≡◌, ℕ, zero, suc, ◌+◌, ◌≤◌, Bool, true, false, ◌&&◌, List, [], ◌∷◌, ◌++◌, refl, sym, ap, subst, ◌∙◌, inl, inr, arith}
 use Rattle.std.specs.Prelude.{Contains, Some, filter, drop, take, ◌-◌, if◌then◌else◌, sum_by}
 use Rattle.std.specs.List.{flat_map}
-use Rattle.std.proofs.lemmas.Bool.{cases_Bool}
+use Rattle.std.proofs.lemmas.Bool.{cases_Bool, cond-true}
 use Rattle.std.proofs.lemmas.List.Sums.{sum_by-append, sum_by-cons}
 use Rattle.srs.specs.declared.piece.Piece.{Piece}
 use Rattle.srs.specs.declared.placement.Placement.{Placement}
@@ -17,7 +17,6 @@ use Rattle.well.specs.LockLaws.{is_below}
 use Rattle.enumerate.specs.Position.{Position, after_of, may_play, places_at, is_live}
 use Rattle.enumerate.specs.Events.{Event, Tick, Flood, floods, Walk, entered, tried, tried_in_turn, enter, sought}
 use Rattle.enumerate.proofs.Resumed.{kinds-split, placed-there}
-use Rattle.enumerate.proofs.Choices.{if_true}
 use Rattle.enumerate.proofs.Walks.{floods-append}
 
 pub floods-flat_map : {A : Type 0} (f : A → List Event) (xs : List A) → floods (flat_map f xs) ≡ sum_by (λ x. floods (f x)) xs
@@ -76,7 +75,7 @@ module _ (left : ℕ) (prefix : List Placement) (n : Position) (q : Placement) (
   floods-first true is =
       let placed : is_place n.table n.field n.mode q ≡ true = and_first (is_place n.table n.field n.mode q) (is_below n.rows q) (sym is) in
       let below : is_below n.rows q ≡ true = and_second (is_place n.table n.field n.mode q) (is_below n.rows q) (sym is) in
-      let this : entered (enter left) prefix n q ≡ enter left (prefix ++ q ∷ []) (after_of n q) = if_true (is_below n.rows q) (enter left (prefix ++ q ∷ []) (after_of n q)) [] below in
+      let this : entered (enter left) prefix n q ≡ enter left (prefix ++ q ∷ []) (after_of n q) = cond-true (is_below n.rows q) (enter left (prefix ++ q ∷ []) (after_of n q)) [] below in
       let counted : floods (entered (enter left) prefix n q) ≡ floods (enter left (prefix ++ q ∷ []) (after_of n q)) = ap floods this in
       omega (
         arith,

@@ -1,6 +1,5 @@
 -- Lemmas on the search: the solutions of a position, and the events of a walk.
 mod Noted
-mod Choices
 mod Solutions
 mod PermitLaws
 mod PlaceLaws

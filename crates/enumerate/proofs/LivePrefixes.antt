@@ -2,11 +2,11 @@
 use Rattle.std.proofs.Common.{◌≡◌, ℕ, ◌+◌, ◌-◌, true, ◌&&◌, List, [], ◌∷◌, ◌++◌, length, refl, sym, subst, arith, append_assoc}
 use Rattle.std.specs.Prelude.{Option, Some, None}
 use Rattle.std.proofs.lemmas.List.{length-append, map-append}
+use Rattle.std.proofs.lemmas.Bool.{and_from}
 use Rattle.lane_board.specs.Field.{Field}
 use Rattle.srs.specs.declared.piece.Piece.{Piece}
 use Rattle.srs.specs.declared.placement.Placement.{Placement}
 use Rattle.srs.specs.Kick.{Table}
-use Rattle.srs.proofs.CallerLemmas.{and_both}
 use Rattle.well.specs.Lock.{locked, rows_removed}
 use Rattle.well.specs.LockLaws.{is_below}
 use Rattle.moves.specs.declared.key.DropMode.{DropMode}
@@ -31,8 +31,8 @@ stands-front : (table : Table) (mode : DropMode) (F : Field) (rows : ℕ) (front
 unfolding can_stand
 stands-front table mode F rows [] rest plays = refl
 stands-front table mode F rows (q ∷ front) rest plays =
-    and_both (is_place table F mode q && is_below rows q) (can_stand table mode (locked F q) (rows - rows_removed F q) front)
-    (and_both (is_place table F mode q) (is_below rows q) ((is_place-decides table F mode q).1 plays.0) plays.1)
+    and_from (is_place table F mode q && is_below rows q) (can_stand table mode (locked F q) (rows - rows_removed F q) front)
+    (and_from (is_place table F mode q) (is_below rows q) ((is_place-decides table F mode q).1 plays.0) plays.1)
     (stands-front table mode (locked F q) (rows - rows_removed F q) front rest plays.2)
 
 -- where front and rest play to the end and are permitted, each prefix of the front leaves a tiling
@@ -40,7 +40,7 @@ tiled-front : (n : Position) (front rest : List Placement) → IsLow n.field n.r
 unfolding stays_tiled after_of
 tiled-front n [] rest low plays permitted = played-tiled n rest low plays permitted
 tiled-front n (q ∷ front) rest low plays permitted =
-    and_both (can_be_tiled (length rest + length (q ∷ front)) n) (stays_tiled (length rest) (after_of n q) front)
+    and_from (can_be_tiled (length rest + length (q ∷ front)) n) (stays_tiled (length rest) (after_of n q) front)
     (subst (λ k. can_be_tiled k n ≡ true) whole (played-tiled n (q ∷ front ++ rest) low plays permitted))
     (tiled-front (after_of n q) front rest (low-after n q low plays.1 plays.0) plays.2
     (subst (QueuesPermit n.line) (sym (append_assoc n.line.played (q.piece ∷ []) (pieces_of (front ++ rest)))) permitted))
@@ -59,8 +59,8 @@ live-front problem queue front rest fit solution =
     let root = root_of problem queue in
     let solved = from-solution problem fit queue (front ++ rest) solution in
     let permitted : QueuesPermit root.line (pieces_of front ++ pieces_of rest) = subst (QueuesPermit root.line) (map-append (λ q. q.piece) front rest) (subst (λ played. QueuesPermit root.line (played ++ pieces_of (front ++ rest))) (unplayed problem queue) solved.permitted) in
-    and_both (can_be_played root front) (stays_tiled (length rest) root front)
-    (and_both _ (can_stand root.table root.mode root.field root.rows front)
+    and_from (can_be_played root front) (stays_tiled (length rest) root front)
+    (and_from _ (can_stand root.table root.mode root.field root.rows front)
     ((queues_permit-decides root.line (pieces_of front)).1 (line_permits-front root.line (pieces_of front) (pieces_of rest) permitted))
     (stands-front root.table root.mode root.field root.rows front rest solved.plays))
     (tiled-front root front rest (root-low problem fit queue) solved.plays solved.permitted)

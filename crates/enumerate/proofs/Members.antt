@@ -2,7 +2,7 @@
 use Rattle.std.proofs.Common.{◌≡◌, ℕ, zero, suc, Bool, true, List, [], ◌∷◌, ◌++◌, length, refl, sym, subst, inl, inr, arith, append_assoc, eq-eqb}
 use Rattle.std.specs.Prelude.{Contains, ◌==◌, if◌then◌else◌}
 use Rattle.std.specs.List.{flat_map}
-use Rattle.std.proofs.lemmas.Bool.{eqb-true}
+use Rattle.std.proofs.lemmas.Bool.{eqb-true, cond_both}
 use Rattle.std.proofs.lemmas.List.{append-nil}
 use Rattle.srs.specs.declared.piece.Piece.{Piece}
 use Rattle.srs.specs.declared.placement.Placement.{Placement}
@@ -20,7 +20,6 @@ use Rattle.enumerate.proofs.PermitLaws.{line_permits-front}
 use Rattle.enumerate.proofs.PlaceLaws.{lockable-listed, place-lockable}
 use Rattle.moves.proofs.CallerLemmas.{is_place-decides, place-free}
 use Rattle.enumerate.proofs.Solutions.{in_kind, of_kind, sols, to_kind, to_place}
-use Rattle.enumerate.proofs.Choices.{by_test}
 use Rattle.enumerate.proofs.TilingLaws.{played-tiled}
 
 -- with so many placements, a sequence plays to the end, and some queue permits its pieces after those that were played
@@ -68,14 +67,14 @@ permitted-after n piece q kind played = subst (λ p. QueuesPermit n.line (n.line
 pub sound : (left : ℕ) (n : Position) → IsLow n.field n.rows → (n.rows ≡ 0 → QueuesPermit n.line n.line.played) → (s : List Placement) → Contains (sols left n) s → IsSolved left n s
 unfolding sols
 sound zero n low permitted s =
-    by_test (λ l. Contains l s → IsSolved 0 n s) (n.rows == 0) ([] ∷ []) []
+    cond_both (n.rows == 0) ([] ∷ []) [] (λ l. Contains l s → IsSolved 0 n s)
     (λ none among. elim (Contains-cases [] [] s among) [
       | inl here ↦ subst (IsSolved 0 n) here (solved-nil n low permitted (eqb-true n.rows 0 none))
       | inr there ↦ absurd (Contains-none s there)
     ])
     (λ _ among. absurd (Contains-none s among))
 sound (suc left) n low permitted s =
-    by_test (λ l. Contains l s → IsSolved (suc left) n s) (is_live left n) (flat_map (of_kind (sols left) n) all_pieces) []
+    cond_both (is_live left n) (flat_map (of_kind (sols left) n) all_pieces) [] (λ l. Contains l s → IsSolved (suc left) n s)
     (λ _ among.
     let found = Contains-from_flat_map (of_kind (sols left) n) all_pieces s among in
     let first = in_kind (sols left) n found.0 s found.2 in

@@ -3,14 +3,15 @@ use Rattle.std.proofs.Common.{◌≡◌, ℕ, zero, suc, ◌+◌, Bool, true, fa
 use Rattle.std.specs.Prelude.{Contains, filter, ◌==◌, if◌then◌else◌, sum_by}
 use Rattle.std.specs.List.{flat_map}
 use Rattle.std.specs.Bool.{one_answer}
-use Rattle.std.proofs.lemmas.Bool.{cases_Bool}
+use Rattle.std.proofs.lemmas.Bool.{cases_Bool, cond-true, cond-false, and_from, and_left, and_right}
 use Rattle.std.proofs.lemmas.List.{append-nil, map-append}
 use Rattle.std.proofs.lemmas.List.Sums.{sum_by-cons}
+use Rattle.std.proofs.Math.Bool.{and-true}
 use Rattle.srs.specs.declared.piece.Piece.{Piece}
 use Rattle.srs.specs.declared.placement.Placement.{Placement}
 use Rattle.srs.specs.Piece.{all_pieces}
 use Rattle.srs.specs.Placements.{placements_of}
-use Rattle.srs.proofs.CallerLemmas.{and_both, Contains-here, Contains-there, filter-false, filter-true, placements_of-list}
+use Rattle.srs.proofs.CallerLemmas.{Contains-here, Contains-there, filter-false, filter-true, placements_of-list}
 use Rattle.moves.specs.PlaceTest.{is_place}
 use Rattle.hold_queue.specs.QueueSet.{QueuesInPlay, QueuesPermit, queues_permit}
 use Rattle.well.specs.LockLaws.{is_below}
@@ -22,7 +23,6 @@ use Rattle.enumerate.specs.Work.{can_stand, can_be_played, stays_tiled, is_live_
 use Rattle.enumerate.proofs.FloodCounts.{floods-flat_map, floods-tried_in_turn}
 use Rattle.enumerate.proofs.Walks.{floods-tick}
 use Rattle.enumerate.proofs.PermitLaws.{line_permits-front}
-use Rattle.enumerate.proofs.Choices.{if_false, if_true}
 
 -- the played pieces of a line have no part in what it permits
 line_permits-played : (line : QueuesInPlay) (played pieces : List Piece) → queues_permit (record line { played = played }) pieces ≡ queues_permit line pieces
@@ -42,7 +42,7 @@ IsAt-next left root prefix n at alive q placed below = record {
   stands = λ s.
       ap (can_stand root.table root.mode root.field root.rows) (append_assoc prefix (q ∷ []) s)
       ∙ at.stands (q ∷ s)
-      ∙ ap (λ b. b && can_stand n.table n.mode (after_of n q).field (after_of n q).rows s) (and_both (is_place n.table n.field n.mode q) (is_below n.rows q) placed below);
+      ∙ ap (λ b. b && can_stand n.table n.mode (after_of n q).field (after_of n q).rows s) (and_from (is_place n.table n.field n.mode q) (is_below n.rows q) placed below);
   permits = λ pieces.
       ap (λ l. queues_permit root.line (l ++ pieces)) (map-append (λ p. p.piece) prefix (q ∷ []))
       ∙ ap (queues_permit root.line) (append_assoc (pieces_of prefix) (q.piece ∷ []) pieces)
@@ -64,25 +64,13 @@ module _ (left : ℕ) (root : Position) (prefix : List Placement) (n : Position)
       permitted : queues_permit root.line (pieces_of (prefix ++ q ∷ [])) ≡ queues_permit n.line (n.line.played ++ q.piece ∷ [])
       permitted = ap (queues_permit root.line) (map-append (λ p. p.piece) prefix (q ∷ [])) ∙ at.permits (q.piece ∷ [])
 
-      and_true : (b : Bool) → (b && true) ≡ b
-      and_true true = refl
-      and_true false = refl
-
       stands : can_stand root.table root.mode root.field root.rows (prefix ++ q ∷ []) ≡ (is_place n.table n.field n.mode q && is_below n.rows q)
-      stands = at.stands (q ∷ []) ∙ and_true (is_place n.table n.field n.mode q && is_below n.rows q)
-
-and_none : (a b : Bool) → b ≡ false → (a && b) ≡ false
-and_none true b e = e
-and_none false b e = refl
-
-and_none_first : (a b : Bool) → a ≡ false → (a && b) ≡ false
-and_none_first true b e = cc
-and_none_first false b e = refl
+      stands = at.stands (q ∷ []) ∙ and-true (is_place n.table n.field n.mode q && is_below n.rows q)
 
 work-unplayed : (left : ℕ) (root : Position) (prefix : List Placement) → can_be_played root prefix ≡ false → work_from left root prefix ≡ 0
 unfolding work_from is_live_prefix
 work-unplayed zero root prefix unplayed = refl
-work-unplayed (suc left) root prefix unplayed = if_false (is_live_prefix (suc left) root prefix) _ 0 (and_none_first (can_be_played root prefix) (stays_tiled (suc left) root prefix) unplayed)
+work-unplayed (suc left) root prefix unplayed = cond-false (is_live_prefix (suc left) root prefix) _ 0 (and_left (can_be_played root prefix) (stays_tiled (suc left) root prefix) unplayed)
 
 sum_by-same : {A : Type 0} (f g : A → ℕ) (xs : List A) → ((x : A) → Contains xs x → f x ≡ g x) → sum_by f xs ≡ sum_by g xs
 sum_by-same f g [] each = refl
@@ -112,12 +100,12 @@ place-floods : (left : ℕ) (root : Position) (prefix : List Placement) (n : Pos
 unfolding entered floods
 place-floods left root prefix n at alive below q played placed = elim (cases_Bool (is_below n.rows q)) [
   | inl e ↦
-      ap floods (if_true (is_below n.rows q) (enter left (prefix ++ q ∷ []) (after_of n q)) [] e)
+      ap floods (cond-true (is_below n.rows q) (enter left (prefix ++ q ∷ []) (after_of n q)) [] e)
       ∙ below (prefix ++ q ∷ []) (after_of n q) (IsAt-next left root prefix n at alive q placed e)
-      (played-next (suc left) root prefix n at q ∙ and_both (may_play n.line q.piece) (is_place n.table n.field n.mode q && is_below n.rows q) played (and_both (is_place n.table n.field n.mode q) (is_below n.rows q) placed e))
+      (played-next (suc left) root prefix n at q ∙ and_from (may_play n.line q.piece) (is_place n.table n.field n.mode q && is_below n.rows q) played (and_from (is_place n.table n.field n.mode q) (is_below n.rows q) placed e))
   | inr e ↦
-      ap floods (if_false (is_below n.rows q) (enter left (prefix ++ q ∷ []) (after_of n q)) [] e)
-      ∙ sym (work-unplayed left root (prefix ++ q ∷ []) (played-next (suc left) root prefix n at q ∙ and_none (may_play n.line q.piece) _ (and_none (is_place n.table n.field n.mode q) (is_below n.rows q) e)))
+      ap floods (cond-false (is_below n.rows q) (enter left (prefix ++ q ∷ []) (after_of n q)) [] e)
+      ∙ sym (work-unplayed left root (prefix ++ q ∷ []) (played-next (suc left) root prefix n at q ∙ and_right (may_play n.line q.piece) _ (and_right (is_place n.table n.field n.mode q) (is_below n.rows q) e)))
 ]
 
 kind-floods : (left : ℕ) (root : Position) (prefix : List Placement) (n : Position) (at : IsAt (suc left) root prefix n) (alive : can_be_tiled (suc left) n ≡ true)
@@ -126,16 +114,16 @@ kind-floods : (left : ℕ) (root : Position) (prefix : List Placement) (n : Posi
 unfolding tried floods may_play places_at
 kind-floods left root prefix n at alive below c = elim (cases_Bool (may_play n.line c)) [
   | inl e ↦
-      ap floods (if_true (may_play n.line c) (Flood ∷ flat_map (entered (enter left) prefix n) (places_at n c)) [] e)
+      ap floods (cond-true (may_play n.line c) (Flood ∷ flat_map (entered (enter left) prefix n) (places_at n c)) [] e)
       ∙ ap (λ k. k + 1) (floods-flat_map (entered (enter left) prefix n) (places_at n c)
       ∙ sum_by-filtered (is_place n.table n.field n.mode) (λ q. floods (entered (enter left) prefix n q)) (λ q. work_from left root (prefix ++ q ∷ [])) (placements_of c)
       (λ q among placed. place-floods left root prefix n at alive below q (subst (λ p. may_play n.line p ≡ true) (sym (((placements_of-list c).members q).0 among).kind) e) placed)
-      (λ q among not_placed. work-unplayed left root (prefix ++ q ∷ []) (played-next (suc left) root prefix n at q ∙ and_none (may_play n.line q.piece) _ (and_none_first (is_place n.table n.field n.mode q) (is_below n.rows q) not_placed))))
+      (λ q among not_placed. work-unplayed left root (prefix ++ q ∷ []) (played-next (suc left) root prefix n at q ∙ and_right (may_play n.line q.piece) _ (and_left (is_place n.table n.field n.mode q) (is_below n.rows q) not_placed))))
       ∙ one_more (sum_by (λ q. work_from left root (prefix ++ q ∷ [])) (placements_of c))
-      ∙ sym (if_true (queues_permit root.line (pieces_of prefix ++ c ∷ [])) _ 0 (at.permits (c ∷ []) ∙ e))
+      ∙ sym (cond-true (queues_permit root.line (pieces_of prefix ++ c ∷ [])) _ 0 (at.permits (c ∷ []) ∙ e))
   | inr e ↦
-      ap floods (if_false (may_play n.line c) (Flood ∷ flat_map (entered (enter left) prefix n) (places_at n c)) [] e)
-      ∙ sym (if_false (queues_permit root.line (pieces_of prefix ++ c ∷ [])) _ 0 (at.permits (c ∷ []) ∙ e))
+      ap floods (cond-false (may_play n.line c) (Flood ∷ flat_map (entered (enter left) prefix n) (places_at n c)) [] e)
+      ∙ sym (cond-false (queues_permit root.line (pieces_of prefix ++ c ∷ [])) _ 0 (at.permits (c ∷ []) ∙ e))
 ]
   where
     one_more : (k : ℕ) → k + 1 ≡ 1 + k
@@ -152,14 +140,14 @@ unfolding enter work_from floods is_live
 floods-enter zero root prefix n at played = leaf-floods (n.rows == 0) prefix
 floods-enter (suc left) root prefix n at played = elim (cases_Bool (can_be_tiled (suc left) n)) [
   | inl alive ↦
-      ap floods (if_true (can_be_tiled (suc left) n) (Tick ∷ tried_in_turn (enter left) prefix n all_pieces) [] alive)
+      ap floods (cond-true (can_be_tiled (suc left) n) (Tick ∷ tried_in_turn (enter left) prefix n all_pieces) [] alive)
       ∙ floods-tried_in_turn (enter left) prefix n all_pieces
       ∙ sum_by-same (λ c. floods (tried (enter left) prefix n c)) (λ c. if queues_permit root.line (pieces_of prefix ++ c ∷ []) then 1 + sum_by (λ q. work_from left root (prefix ++ q ∷ [])) (placements_of c) else 0) all_pieces
       (λ c _. kind-floods left root prefix n at alive (floods-enter left root) c)
-      ∙ sym (if_true (is_live_prefix (suc left) root prefix) _ 0 (live-prefix (suc left) root prefix n at played ∙ alive))
+      ∙ sym (cond-true (is_live_prefix (suc left) root prefix) _ 0 (live-prefix (suc left) root prefix n at played ∙ alive))
   | inr dead ↦
-      ap floods (if_false (can_be_tiled (suc left) n) (Tick ∷ tried_in_turn (enter left) prefix n all_pieces) [] dead)
-      ∙ sym (if_false (is_live_prefix (suc left) root prefix) _ 0 (live-prefix (suc left) root prefix n at played ∙ dead))
+      ap floods (cond-false (can_be_tiled (suc left) n) (Tick ∷ tried_in_turn (enter left) prefix n all_pieces) [] dead)
+      ∙ sym (cond-false (is_live_prefix (suc left) root prefix) _ 0 (live-prefix (suc left) root prefix n at played ∙ dead))
 ]
 
 -- at the start
@@ -176,14 +164,14 @@ root-dead root none dead c = elim (cases_Bool (queues_permit root.line (root.lin
   | inl e ↦
       let permitted : QueuesPermit root.line ([] ++ c ∷ []) = subst (λ l. QueuesPermit root.line (l ++ c ∷ [])) none ((queues_permit-decides root.line (root.line.played ++ c ∷ [])).0 e) in
       let start : queues_permit root.line [] ≡ true = (queues_permit-decides root.line []).1 (line_permits-front root.line [] (c ∷ []) permitted) in
-      let live : (queues_permit root.line [] && true) ≡ true = and_both (queues_permit root.line []) true start refl in
+      let live : (queues_permit root.line [] && true) ≡ true = and_from (queues_permit root.line []) true start refl in
       cc
   | inr e ↦ e
 ]
 
 none_tried : (left : ℕ) (root : Position) (c : Piece) → may_play root.line c ≡ false → floods (tried (enter left) [] root c) ≡ 0
 unfolding tried floods
-none_tried left root c e = ap floods (if_false (may_play root.line c) _ [] e)
+none_tried left root c e = ap floods (cond-false (may_play root.line c) _ [] e)
 
 pub floods-begun : (left : ℕ) (root : Position) → root.line.played ≡ [] → floods (begun left root) ≡ work_from left root []
 unfolding begun enter floods is_live

@@ -9,8 +9,8 @@ use Rattle.srs.specs.Kick.{Table}
 use Rattle.srs.specs.Cells.{is_inside_of}
 use Rattle.srs.specs.Canonical.{is_canonical}
 use Rattle.srs.specs.Placements.{IsCanonicalInside, is_canonical_inside}
-use Rattle.srs.proofs.CallerLemmas.{is_canonical-from, IsCanonical-from_test, piece_code-injective, and_both, and_first, and_second}
-use Rattle.std.proofs.lemmas.Bool.{eqb-true}
+use Rattle.srs.proofs.CallerLemmas.{is_canonical-from, IsCanonical-from_test, piece_code-injective, and_first, and_second}
+use Rattle.std.proofs.lemmas.Bool.{eqb-true, and_from}
 use Rattle.well.specs.Free.{is_free}
 use Rattle.well.proofs.CallerLemmas.{free_inside}
 use Rattle.moves.specs.declared.key.DropMode.{DropMode}
@@ -22,9 +22,9 @@ pub place-lockable : (table : Table) (F : Field) (mode : DropMode) (piece : Piec
 unfolding may_lock
 place-lockable table F mode piece q kind place =
     let free = place-free table F mode q place in
-    and_both (piece_code q.piece == piece_code piece) (is_canonical_inside q && is_free F q) (eq-eqb (piece_code q.piece) (piece_code piece) (ap piece_code kind))
-    (and_both (is_canonical_inside q) (is_free F q)
-    (and_both (is_canonical q) (is_inside_of q) (is_canonical-from q place.canonical) (free_inside F q free)) free)
+    and_from (piece_code q.piece == piece_code piece) (is_canonical_inside q && is_free F q) (eq-eqb (piece_code q.piece) (piece_code piece) (ap piece_code kind))
+    (and_from (is_canonical_inside q) (is_free F q)
+    (and_from (is_canonical q) (is_inside_of q) (is_canonical-from q place.canonical) (free_inside F q free)) free)
 
 -- what may lock
 module _ (F : Field) (piece : Piece) (q : Placement) (lockable : may_lock F piece q ≡ true) where

@@ -1,13 +1,13 @@
 -- What a search holds: its first frame, and the list of what is still to come.
 use Rattle.std.proofs.Common.{◌≡◌, ◌⊎◌, inl, inr, lt-ltb, ℕ, zero, suc, ◌+◌, ◌-◌, ◌<◌, ◌≤◌, Bool, true, false, ◌&&◌, List, [], ◌∷◌, length, get_or, set, take, refl, sym, ap, subst, ◌∙◌, arith}
 use Rattle.std.specs.Prelude.{Option, Some, None, nat_le, nat_lt}
-use Rattle.std.proofs.lemmas.Bool.{le-leb}
+use Rattle.std.proofs.lemmas.Bool.{le-leb, cond-false, and_from}
 use Rattle.std.proofs.lemmas.List.{get_or-set_same, take_more_set}
 use Rattle.srs.specs.declared.piece.Piece.{Piece}
 use Rattle.srs.specs.declared.placement.Placement.{Placement}
 use Rattle.srs.specs.Kick.{Table}
 use Rattle.srs.specs.Rules.{table_of}
-use Rattle.srs.proofs.CallerLemmas.{and_both, and_second}
+use Rattle.srs.proofs.CallerLemmas.{and_second}
 use Rattle.well.specs.Well.{filled}
 use Rattle.moves.specs.declared.key.DropMode.{DropMode}
 use Rattle.hold_queue.specs.declared.set.QueueSet.{QueueSet}
@@ -24,7 +24,6 @@ use Rattle.enumerate.specs.Seeks.{IsFresh, SkipsTo}
 use Rattle.enumerate.specs.Walks.{Finds}
 use Rattle.enumerate.proofs.SeekLemmas.{fresh-events}
 use Rattle.enumerate.proofs.SkipLemmas.{skips-same}
-use Rattle.enumerate.proofs.Choices.{if_false}
 
 pub first-position : (problem : Problem) (queue : Option (List Piece)) (queues : QueueSet) → queues_in_play queues ≡ line_at problem queue →
     ◌≡◌ {A = Position} (record { table = table_of problem.rules; mode = problem.drop_mode; field = filled problem.well; rows = problem.height; line = queues_in_play queues }) (root_of problem queue)
@@ -51,7 +50,7 @@ begun-zero n = refl
 
 begun-dead : (left : ℕ) (n : Position) → is_live left n ≡ false → begun (suc left) n ≡ []
 unfolding begun
-begun-dead left n dead = if_false (is_live left n) _ [] dead
+begun-dead left n dead = cond-false (is_live left n) _ [] dead
 
 begun-sought : (left : ℕ) (n : Position) → begun (suc left) n ≡ sought (suc left) [] n []
 unfolding begun sought
@@ -63,8 +62,8 @@ sought-zero n given = refl
 
 sought-dead : (left : ℕ) (n : Position) (given : List Placement) → is_live left n ≡ false → sought (suc left) [] n given ≡ []
 unfolding sought
-sought-dead left n [] dead = if_false (is_live left n) _ [] dead
-sought-dead left n (q ∷ given) dead = if_false (is_live left n) _ [] dead
+sought-dead left n [] dead = cond-false (is_live left n) _ [] dead
+sought-dead left n (q ∷ given) dead = cond-false (is_live left n) _ [] dead
 
 module _ (problem : Problem) (queue : Option (List Piece)) (f : Frame) (position : position_of (table_of problem.rules) problem.drop_mode f.setup ≡ root_of problem queue) (left : f.setup.left ≡ needed_of problem - 1) where
   abbrev here : Position
@@ -106,7 +105,7 @@ take-first frames f some = take_more_set frames 0 f some
 
 pub first-room : (frames : List Frame) (f : Frame) → 0 < length frames → f.setup.left ≤ 19 → has_room 0 (take 1 (set frames 0 f)) ≡ true
 unfolding has_room
-first-room frames f some few = subst (λ l. has_room 0 l ≡ true) (sym (take-first frames f some)) (and_both (nat_le (f.setup.left + 0) 19) true (le-leb (f.setup.left + 0) 19 (omega arith)) refl)
+first-room frames f some few = subst (λ l. has_room 0 l ≡ true) (sym (take-first frames f some)) (and_from (nat_le (f.setup.left + 0) 19) true (le-leb (f.setup.left + 0) 19 (omega arith)) refl)
 
 pub nothing-room : has_room 0 [] ≡ true
 unfolding has_room

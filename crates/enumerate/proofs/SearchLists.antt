@@ -1,7 +1,7 @@
 -- The list of what a search has still to give.
 use Rattle.std.proofs.Common.{◌≡◌, ℕ, zero, suc, ◌≤◌, Bool, List, [], ◌∷◌, ◌++◌, refl, sym, ap, subst, ◌∙◌, inl, inr, arith}
 use Rattle.std.specs.Prelude.{Option, Some, None, filter, find, ◌==◌}
-use Rattle.std.proofs.lemmas.Bool.{cases_Bool}
+use Rattle.std.proofs.lemmas.Bool.{cases_Bool, cond-false}
 use Rattle.srs.specs.declared.piece.Piece.{Piece}
 use Rattle.srs.specs.Piece.{all_pieces}
 use Rattle.srs.specs.declared.placement.Placement.{Placement}
@@ -26,7 +26,6 @@ use Rattle.problem.proofs.CallerLemmas.{long-needed}
 use Rattle.enumerate.proofs.Pairs.{floods-begun}
 use Rattle.enumerate.proofs.Solutions.{sols, sols-rising}
 use Rattle.enumerate.proofs.Sought.{found-sought}
-use Rattle.enumerate.proofs.Choices.{if_false}
 use Rattle.enumerate.proofs.TurnLemmas.{not-zero}
 use Rattle.enumerate.proofs.Walks.{finds-enter, floods-tick, found-tick, prefixed-nil}
 
@@ -72,7 +71,7 @@ head-found test (x ∷ xs) y ys e = elim (cases_Bool (test x)) [
 
 rows-left : (n : Position) → (n.rows ≡ 0 → ⊥) → sols zero n ≡ []
 unfolding sols
-rows-left n some = if_false (n.rows == 0) ([] ∷ []) [] (not-zero n.rows some)
+rows-left n some = cond-false (n.rows == 0) ([] ∷ []) [] (not-zero n.rows some)
 
 -- ---- the whole list
 

@@ -17,8 +17,8 @@ use Rattle.enumerate.specs.Seeks.{IsDeeper, IsFresh, IsSought, IsThere, Skips, S
 use Rattle.enumerate.proofs.SkipLemmas.{skips-before, skips-same}
 use Rattle.std.proofs.lemmas.List.{get_or-take, length-take-le, take-take}
 use Rattle.enumerate.proofs.Stacks.{path-last, room-last, room-more, stacked-last, walked-last, written-child, written-deeper, written-top}
-use Rattle.enumerate.proofs.Choices.{if_true}
 use Rattle.std.proofs.Common.{append_assoc, append-nil}
+use Rattle.std.proofs.lemmas.Bool.{cond-true}
 
 -- within a list the default has no part
 pub read-any : (xs : List Frame) (i : ℕ) (d e : Frame) → i < length xs → get_or xs i d ≡ get_or xs i e
@@ -116,7 +116,7 @@ module _ (table : Table) (mode : DropMode) (frames walked : List Frame) (top : �
 pub fresh-events : (table : Table) (mode : DropMode) (prefix : List Placement) (frame : Frame) → IsFresh table mode frame → sought (suc frame.setup.left) prefix (position_of table mode frame.setup) [] ≡ events_of table mode prefix frame
 unfolding sought events_of places_left
 fresh-events table mode prefix frame fresh =
-    if_true (is_live frame.setup.left (position_of table mode frame.setup)) _ [] fresh.live
+    cond-true (is_live frame.setup.left (position_of table mode frame.setup)) _ [] fresh.live
     ∙ ap (λ k. tried_in_turn (enter frame.setup.left) prefix (position_of table mode frame.setup) (drop k all_pieces)) (sym fresh.tried)
     ∙ ap (λ p. flat_map (entered (enter frame.setup.left) prefix (position_of table mode frame.setup)) (places_left p frame.entered) ++ tried_in_turn (enter frame.setup.left) prefix (position_of table mode frame.setup) (drop frame.tried all_pieces)) (sym fresh.places)
 

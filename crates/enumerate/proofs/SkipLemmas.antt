@@ -6,8 +6,9 @@ use Rattle.std.specs.Option.{option_to_list}
 use Rattle.std.specs.List.Sorted.{IsStrictlySortedBy}
 use Rattle.std.specs.declared.cmp.Ordering.TheVariants.{Less, Equal, Greater}
 use Rattle.std.specs.Cmp.{tied_itself}
-use Rattle.std.proofs.lemmas.Bool.{and_parts, cases_Bool}
+use Rattle.std.proofs.lemmas.Bool.{and_parts, cases_Bool, cond-true, cond-false}
 use Rattle.std.proofs.lemmas.List.Kept.{IsStrictlySortedBy-filter}
+use Rattle.std.proofs.Math.Bool.{and-true, and_comm}
 use Rattle.srs.specs.declared.placement.Placement.{Placement}
 use Rattle.srs.specs.Kick.{Table}
 use Rattle.srs.specs.Piece.{all_pieces, piece_code}
@@ -35,7 +36,6 @@ use Rattle.enumerate.proofs.FloodCounts.{floods-sought}
 use Rattle.enumerate.proofs.Resumed.{past, placed-there, there-placed}
 use Rattle.enumerate.proofs.Solutions.{sols}
 use Rattle.enumerate.proofs.Sought.{found-sought}
-use Rattle.enumerate.proofs.Choices.{if_false, if_true}
 use Rattle.enumerate.proofs.TurnLemmas.{entered-below, filter-both, filter-same}
 use Rattle.enumerate.proofs.Walks.{finds-enter, found-append, floods-append, prefixed}
 
@@ -50,21 +50,11 @@ unfolding places_left
 places_left-above None q = refl
 places_left-above (Some places) q =
     filter-both (holds places) (is_above placement_cmp (Some q)) (placements_of (piece_of places))
-    ∙ ap (filter (is_above placement_cmp (Some q))) (filter-same (holds places) (λ p. holds places p && true) (placements_of (piece_of places)) (λ p _. sym (and_true (holds places p))))
-  where
-    and_true : (b : Bool) → (b && true) ≡ b
-    and_true true = refl
-    and_true false = refl
+    ∙ ap (filter (is_above placement_cmp (Some q))) (filter-same (holds places) (λ p. holds places p && true) (placements_of (piece_of places)) (λ p _. sym (and-true (holds places p))))
 
 -- the order of two tests does not matter
 filters-swap : (a b : Placement → Bool) (qs : List Placement) → filter a (filter b qs) ≡ filter b (filter a qs)
-filters-swap a b qs = sym (filter-both b a qs) ∙ filter-same (λ q. b q && a q) (λ q. a q && b q) qs (λ q _. and_swap (b q) (a q)) ∙ filter-both a b qs
-  where
-    and_swap : (p q : Bool) → (p && q) ≡ (q && p)
-    and_swap true true = refl
-    and_swap true false = refl
-    and_swap false true = refl
-    and_swap false false = refl
+filters-swap a b qs = sym (filter-both b a qs) ∙ filter-same (λ q. b q && a q) (λ q. a q && b q) qs (λ q _. and_comm (b q) (a q)) ∙ filter-both a b qs
 
 -- ---- looking for a placement in a rising list
 
@@ -115,8 +105,8 @@ module _ (table : Table) (mode : DropMode) (old new : Frame) (same : new.setup �
       sought (suc old.setup.left) prefix here (q ∷ given) ≡ events_of table mode prefix new
   unfolding sought events_of position_of
   passes-kind not_played none prefix given =
-      if_true (is_live old.setup.left here) _ [] live
-      ∙ ap (λ l. l ++ rest prefix) (if_false (may_play (queues_in_play old.setup.line.queues) q.piece) _ [] not_played)
+      cond-true (is_live old.setup.left here) _ [] live
+      ∙ ap (λ l. l ++ rest prefix) (cond-false (may_play (queues_in_play old.setup.line.queues) q.piece) _ [] not_played)
       ∙ sym (rest-same prefix)
       ∙ ap (λ l. flat_map (entered (enter new.setup.left) prefix (position_of table mode new.setup)) l ++ tried_in_turn (enter new.setup.left) prefix (position_of table mode new.setup) (drop new.tried all_pieces)) (sym none)
 
@@ -128,8 +118,8 @@ module _ (table : Table) (mode : DropMode) (old new : Frame) (same : new.setup �
     pub floods-kind : (prefix given : List Placement) → sought (suc old.setup.left) prefix here (q ∷ given) ≡ Flood ∷ (first prefix given ++ events_of table mode prefix new)
     unfolding sought events_of position_of
     floods-kind prefix given =
-        if_true (is_live old.setup.left here) _ [] live
-        ∙ ap (λ l. l ++ rest prefix) (if_true (may_play (queues_in_play old.setup.line.queues) q.piece) _ [] played)
+        cond-true (is_live old.setup.left here) _ [] live
+        ∙ ap (λ l. l ++ rest prefix) (cond-true (may_play (queues_in_play old.setup.line.queues) q.piece) _ [] played)
         ∙ ap (λ l. Flood ∷ l)
         (append_assoc (first prefix given) (flat_map (entered (enter old.setup.left) prefix here) (filter (is_above placement_cmp (Some q)) (places_at here q.piece))) (rest prefix)
         ∙ ap (λ l. first prefix given ++ (l ++ rest prefix))
@@ -157,7 +147,7 @@ module _ (table : Table) (mode : DropMode) (old new : Frame) (same : new.setup �
         (floods-kind prefix given
         ∙ ap (λ l. Flood ∷ (l ++ events_of table mode prefix new))
         (ap (λ b. if b && is_below old.setup.rows q then sought old.setup.left (prefix ++ q ∷ []) (after_of here q) given else []) placed
-        ∙ if_true (is_below old.setup.rows q) _ [] below
+        ∙ cond-true (is_below old.setup.rows q) _ [] below
         ∙ (λ i. sought (depth i) (prefix ++ step_is i) (at_child i) given))) steps
 
     -- a place at which nothing more is to be done
@@ -216,11 +206,11 @@ module _ (table : Table) (mode : DropMode) (old new : Setup) (same : new ≡ old
   first-dead false events enters dead prefix given = (refl, refl)
   first-dead true events enters dead prefix given = elim (cases_Bool (is_below old.rows q)) [
     | inl below ↦
-        let e = dead prefix given (sym (if_true (is_below old.rows q) (enter old.left (prefix ++ q ∷ []) (after_of there q)) [] below) ∙ at-old events enters prefix) in
-        let is = if_true (is_below old.rows q) (sought old.left (prefix ++ q ∷ []) (after_of there q) given) [] below in
+        let e = dead prefix given (sym (cond-true (is_below old.rows q) (enter old.left (prefix ++ q ∷ []) (after_of there q)) [] below) ∙ at-old events enters prefix) in
+        let is = cond-true (is_below old.rows q) (sought old.left (prefix ++ q ∷ []) (after_of there q) given) [] below in
         (ap found is ∙ e.0, ap floods is ∙ e.1)
     | inr blocked ↦
-        let is = if_false (is_below old.rows q) (sought old.left (prefix ++ q ∷ []) (after_of there q) given) [] blocked in
+        let is = cond-false (is_below old.rows q) (sought old.left (prefix ++ q ∷ []) (after_of there q) given) [] blocked in
         (ap found is, ap floods is)
   ]
 

@@ -3,11 +3,11 @@ use Rattle.std.proofs.Common.{◌≡◌, ℕ, zero, suc, ◌<◌, true, List, []
 use Rattle.std.specs.Prelude.{Contains, ◌==◌, if◌then◌else◌}
 use Rattle.std.specs.List.{flat_map}
 use Rattle.std.specs.List.Sorted.{IsStrictlySortedBy}
-use Rattle.std.specs.Ordering.{nat_cmp}
-use Rattle.std.specs.declared.cmp.Ordering.{Ordering}
 use Rattle.std.specs.declared.cmp.Ordering.TheVariants.{Less}
 use Rattle.std.proofs.lemmas.Cmp.{ranked}
 use Rattle.std.proofs.lemmas.List.Kept.{IsStrictlySortedBy-filter}
+use Rattle.std.proofs.lemmas.Bool.{cond_both}
+use Rattle.queue_pattern.specs.Order.{piece_cmp}
 use Rattle.srs.specs.declared.piece.Piece.{Piece}
 use Rattle.srs.specs.declared.placement.Placement.{Placement}
 use Rattle.srs.specs.Piece.{all_pieces, piece_code}
@@ -17,7 +17,6 @@ use Rattle.srs.proofs.CallerLemmas.{Contains-filter, Contains-from_filter, Conta
 use Rattle.moves.specs.PlaceTest.{is_place}
 use Rattle.well.specs.LockLaws.{is_below}
 use Rattle.enumerate.specs.Position.{Position, after_of, may_play, places_at, is_live}
-use Rattle.enumerate.proofs.Choices.{by_test}
 
 abbrev pub Sequences : Type 0
 Sequences = Position → List (List Placement)
@@ -43,7 +42,7 @@ pub record InPlace (S : Sequences) (n : Position) (q : Placement) (s : List Plac
 pub in_place : (S : Sequences) (n : Position) (q : Placement) (s : List Placement) → Contains (of_place S n q) s → InPlace S n q s
 unfolding of_place
 in_place S n q s =
-    by_test (λ l. Contains l s → InPlace S n q s) (is_below n.rows q) (map (λ s. q ∷ s) (S (after_of n q))) []
+    cond_both (is_below n.rows q) (map (λ s. q ∷ s) (S (after_of n q))) [] (λ l. Contains l s → InPlace S n q s)
     (λ below among. let found = Contains-from_map (λ s. q ∷ s) (S (after_of n q)) s among in record { below = below; rest = found.0; among = found.1; is = found.2 })
     (λ _ among. absurd (Contains-none s among))
 
@@ -63,7 +62,7 @@ pub record InKind (S : Sequences) (n : Position) (piece : Piece) (s : List Place
 pub in_kind : (S : Sequences) (n : Position) (piece : Piece) (s : List Placement) → Contains (of_kind S n piece) s → InKind S n piece s
 unfolding of_kind places_at
 in_kind S n piece s =
-    by_test (λ l. Contains l s → InKind S n piece s) (may_play n.line piece) (flat_map (of_place S n) (places_at n piece)) []
+    cond_both (may_play n.line piece) (flat_map (of_place S n) (places_at n piece)) [] (λ l. Contains l s → InKind S n piece s)
     (λ played among.
     let found = Contains-from_flat_map (of_place S n) (places_at n piece) s among in
     let kept = Contains-from_filter (is_place n.table n.field n.mode) (placements_of piece) found.0 found.1 in
@@ -94,7 +93,7 @@ module _ (S : Sequences) (rises : (n : Position) → Rises (S n)) (n : Position)
   pub of_place-rising : (q : Placement) → Rises (of_place S n q)
   unfolding of_place
   of_place-rising q =
-      by_test Rises (is_below n.rows q) (map (λ s. q ∷ s) (S (after_of n q))) []
+      cond_both (is_below n.rows q) (map (λ s. q ∷ s) (S (after_of n q))) [] Rises
       (λ _. prefixed-rising q (S (after_of n q)) (rises (after_of n q))) (λ _. rising-none sequence_cmp)
 
   pub places-rising : (qs : List Placement) → IsStrictlySortedBy placement_cmp qs → Rises (flat_map (of_place S n) qs)
@@ -106,11 +105,8 @@ module _ (S : Sequences) (rises : (n : Position) → Rises (S n)) (n : Position)
   pub of_kind-rising : (piece : Piece) → Rises (of_kind S n piece)
   unfolding of_kind
   of_kind-rising piece =
-      by_test Rises (may_play n.line piece) (flat_map (of_place S n) (places_at n piece)) []
+      cond_both (may_play n.line piece) (flat_map (of_place S n) (places_at n piece)) [] Rises
       (λ _. places-rising (places_at n piece) (places_at-rising n piece)) (λ _. rising-none sequence_cmp)
-
-abbrev pub piece_cmp : Piece → Piece → Ordering
-piece_cmp p q = nat_cmp (piece_code p) (piece_code q)
 
 pub earlier_kind : (S : Sequences) (n : Position) (p q : Piece) → piece_cmp p q ≡ Less → (x y : List Placement) → Contains (of_kind S n p) x → Contains (of_kind S n q) y → sequence_cmp x y ≡ Less
 earlier_kind S n p q e x y in_p in_q =
@@ -147,8 +143,8 @@ pieces-rising = (
 pub sols-rising : (left : ℕ) (n : Position) → Rises (sols left n)
 unfolding sols
 sols-rising zero n =
-    by_test Rises (n.rows == 0) ([] ∷ []) [] (λ _. rising-cons sequence_cmp [] [] (λ y among. absurd (Contains-none y among)) (rising-none sequence_cmp)) (λ _. rising-none sequence_cmp)
+    cond_both (n.rows == 0) ([] ∷ []) [] Rises (λ _. rising-cons sequence_cmp [] [] (λ y among. absurd (Contains-none y among)) (rising-none sequence_cmp)) (λ _. rising-none sequence_cmp)
 sols-rising (suc left) n =
-    by_test Rises (is_live left n) (flat_map (of_kind (sols left) n) all_pieces) []
+    cond_both (is_live left n) (flat_map (of_kind (sols left) n) all_pieces) [] Rises
     (λ _. rising-flat_map piece_cmp sequence_cmp (of_kind (sols left) n) all_pieces pieces-rising (of_kind-rising (sols left) (sols-rising left) n) (earlier_kind (sols left) n))
     (λ _. rising-none sequence_cmp)

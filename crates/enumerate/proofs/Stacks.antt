@@ -3,12 +3,12 @@ use Rattle.std.proofs.Common.{◌≡◌, ℕ, suc, ◌+◌, ◌<◌, ◌≤◌, 
 use Rattle.std.specs.Prelude.{nat_le, ◌-◌}
 use Rattle.std.proofs.Math.Seq.{take-append-add, take-suc}
 use Rattle.std.specs.List.{flat_map}
-use Rattle.std.proofs.lemmas.Bool.{leb-true, le-leb}
+use Rattle.std.proofs.lemmas.Bool.{leb-true, le-leb, and_from}
 use Rattle.std.proofs.lemmas.List.{append-nil, get_or-append_right, length-take-le, take-append-le, take-set, take_all, take_at, take_more_set}
 use Rattle.std.proofs.lemmas.Grind.{flat_map-append}
 use Rattle.srs.specs.declared.placement.Placement.{Placement}
 use Rattle.srs.specs.Kick.{Table}
-use Rattle.srs.proofs.CallerLemmas.{and_both, and_first, and_second}
+use Rattle.srs.proofs.CallerLemmas.{and_first, and_second}
 use Rattle.moves.specs.declared.key.DropMode.{DropMode}
 use Rattle.enumerate.specs.declared.frame.Frame.{Frame}
 use Rattle.enumerate.specs.Events.{Event, Tick, Flood, Found, found, floods}
@@ -36,13 +36,13 @@ unfolding has_room
 room-last depth [] frame room = let fits = leb-true (frame.setup.left + depth) 19 (and_first (nat_le (frame.setup.left + depth) 19) true room) in (refl, omega (arith, fits))
 room-last depth (f ∷ frames) frame room =
     let rest = room-last (suc depth) frames frame (and_second (nat_le (f.setup.left + depth) 19) _ room) in
-    (and_both (nat_le (f.setup.left + depth) 19) (has_room (suc depth) frames) (and_first (nat_le (f.setup.left + depth) 19) _ room) rest.0, omega (arith, rest.1))
+    (and_from (nat_le (f.setup.left + depth) 19) (has_room (suc depth) frames) (and_first (nat_le (f.setup.left + depth) 19) _ room) rest.0, omega (arith, rest.1))
 
 pub room-more : (depth : ℕ) (frames : List Frame) (frame : Frame) → has_room depth frames ≡ true → frame.setup.left + (depth + length frames) ≤ 19 → has_room depth (frames ++ frame ∷ []) ≡ true
 unfolding has_room
-room-more depth [] frame room fits = and_both (nat_le (frame.setup.left + depth) 19) true (le-leb (frame.setup.left + depth) 19 (omega (arith, fits))) refl
+room-more depth [] frame room fits = and_from (nat_le (frame.setup.left + depth) 19) true (le-leb (frame.setup.left + depth) 19 (omega (arith, fits))) refl
 room-more depth (f ∷ frames) frame room fits =
-    and_both (nat_le (f.setup.left + depth) 19) (has_room (suc depth) (frames ++ frame ∷ [])) (and_first (nat_le (f.setup.left + depth) 19) _ room)
+    and_from (nat_le (f.setup.left + depth) 19) (has_room (suc depth) (frames ++ frame ∷ [])) (and_first (nat_le (f.setup.left + depth) 19) _ room)
     (room-more (suc depth) frames frame (and_second (nat_le (f.setup.left + depth) 19) _ room) (omega (arith, fits)))
 
 module _ (table : Table) (mode : DropMode) (fs : List Frame) (old new : Frame) (room : has_room 0 (fs ++ old ∷ []) ≡ true) (left : new.setup.left ≡ old.setup.left) where

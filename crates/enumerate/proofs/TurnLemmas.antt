@@ -4,7 +4,8 @@ use Rattle.std.specs.Prelude.{Contains, Some, None, filter, drop, ◌==◌}
 use Rattle.std.specs.List.{flat_map}
 use Rattle.std.specs.Bool.{one_answer}
 use Rattle.std.specs.Option.{option_to_list}
-use Rattle.std.proofs.lemmas.Bool.{and_from, and_parts, cases_Bool, eqb-true}
+use Rattle.std.proofs.lemmas.Bool.{and_from, and_parts, cases_Bool, eqb-true, cond-true, cond-false}
+use Rattle.std.proofs.Math.Bool.{and-true}
 use Rattle.lane_board.specs.Field.{Field}
 use Rattle.srs.specs.declared.piece.Piece.{Piece}
 use Rattle.srs.specs.declared.placement.Placement.{Placement}
@@ -34,7 +35,6 @@ use Rattle.enumerate.specs.declared.turn.Turn.{Turn}
 use Rattle.enumerate.specs.declared.turn.Turn.TheVariants.{Passed, Flooded, Entered, Full, Over}
 use Rattle.enumerate.specs.Turns.{Enters, EntersAs, GoesAs, IsChild, SamePlaces, Turns}
 use Rattle.enumerate.proofs.PlaceLaws.{place-lockable}
-use Rattle.enumerate.proofs.Choices.{if_false, if_true}
 
 pub filter-both : {A : Type 0} (a b : A → Bool) (xs : List A) → filter (λ x. a x && b x) xs ≡ filter b (filter a xs)
 filter-both a b [] = refl
@@ -80,14 +80,10 @@ module _ (table : Table) (F : Field) (mode : DropMode) (piece : Piece) (places :
       ∙ filter-both (is_place table F mode) (is_below rows) (placements_of piece)
       ∙ ap (filter (is_below rows)) (sym (λ i. filter (is_place (t i) (f i) (m i)) (placements_of piece)))
     where
-      and_true : (b : Bool) → (b && true) ≡ b
-      and_true true = refl
-      and_true false = refl
-
       each : (q : Placement) → Contains (placements_of piece) q → (holds places q && true) ≡ (is_place table F mode q && is_below rows q)
       each q among =
           let of_kind : q.piece ≡ piece = (((placements_of-list piece).members q).0 among).kind in
-          and_true (holds places q)
+          and-true (holds places q)
           ∙ one_answer {P = IsPlace table F mode q × (is_below rows q ≡ true)} (holds places q) (is_place table F mode q && is_below rows q)
           (λ h. let all = (held q).0 h in (all.1, all.2), λ p. (held q).1 (of_kind, p.0, p.1)) (
             λ h. let both = and_parts (is_place table F mode q) (is_below rows q) h in ((is_place-decides table F mode q).0 both.0, both.1),
@@ -116,18 +112,18 @@ module _ (setup : Setup) (q : Placement) (below : is_below setup.rows q ≡ true
   unfolding entered position_of enter after_of
   enters-full none done = record {
     same = λ table mode prefix.
-        if_true (is_below setup.rows q) (enter setup.left (prefix ++ q ∷ []) (after_of (position_of table mode setup) q)) [] below
+        cond-true (is_below setup.rows q) (enter setup.left (prefix ++ q ∷ []) (after_of (position_of table mode setup) q)) [] below
         ∙ ap (λ left. enter left (prefix ++ q ∷ []) (after_of (position_of table mode setup) q)) none
-        ∙ ap (λ e. e ∷ []) (if_true (setup.rows - rows_removed (filled setup.well) q == 0) (Found (prefix ++ q ∷ [])) Tick (eq-eqb _ 0 done));
+        ∙ ap (λ e. e ∷ []) (cond-true (setup.rows - rows_removed (filled setup.well) q == 0) (Found (prefix ++ q ∷ [])) Tick (eq-eqb _ 0 done));
   }
 
   pub enters-rows_left : setup.left ≡ 0 → (setup.rows - rows_removed (filled setup.well) q == 0) ≡ false → EntersAs setup q (λ table mode prefix. Tick ∷ [])
   unfolding entered position_of enter after_of
   enters-rows_left none more = record {
     same = λ table mode prefix.
-        if_true (is_below setup.rows q) (enter setup.left (prefix ++ q ∷ []) (after_of (position_of table mode setup) q)) [] below
+        cond-true (is_below setup.rows q) (enter setup.left (prefix ++ q ∷ []) (after_of (position_of table mode setup) q)) [] below
         ∙ ap (λ left. enter left (prefix ++ q ∷ []) (after_of (position_of table mode setup) q)) none
-        ∙ ap (λ e. e ∷ []) (if_false (setup.rows - rows_removed (filled setup.well) q == 0) (Found (prefix ++ q ∷ [])) Tick more);
+        ∙ ap (λ e. e ∷ []) (cond-false (setup.rows - rows_removed (filled setup.well) q == 0) (Found (prefix ++ q ∷ [])) Tick more);
   }
 
   -- the frame after a placement
@@ -149,9 +145,9 @@ module _ (setup : Setup) (q : Placement) (below : is_below setup.rows q ≡ true
       same = λ table mode prefix.
           let next : Position = after_of (position_of table mode setup) q in
           let depth : setup.left ≡ suc child.setup.left = omega (arith, left) in
-          if_true (is_below setup.rows q) (enter setup.left (prefix ++ q ∷ []) next) [] below
+          cond-true (is_below setup.rows q) (enter setup.left (prefix ++ q ∷ []) next) [] below
           ∙ ap (λ left. enter left (prefix ++ q ∷ []) next) depth
-          ∙ if_true (is_live child.setup.left next) (Tick ∷ tried_in_turn (enter child.setup.left) (prefix ++ q ∷ []) next all_pieces) [] (live table mode)
+          ∙ cond-true (is_live child.setup.left next) (Tick ∷ tried_in_turn (enter child.setup.left) (prefix ++ q ∷ []) next all_pieces) [] (live table mode)
           ∙ ap (λ l. Tick ∷ l)
           (sym (λ i. tried_in_turn (enter child.setup.left) (prefix ++ q ∷ []) (position table mode i) all_pieces)
           ∙ ap (λ k. tried_in_turn (enter child.setup.left) (prefix ++ q ∷ []) (position_of table mode child.setup) (drop k all_pieces)) (sym tried)
@@ -167,9 +163,9 @@ module _ (setup : Setup) (q : Placement) (below : is_below setup.rows q ≡ true
     same = λ table mode prefix.
         let next : Position = after_of (position_of table mode setup) q in
         let depth : setup.left ≡ suc left = omega (arith, less) in
-        if_true (is_below setup.rows q) (enter setup.left (prefix ++ q ∷ []) next) [] below
+        cond-true (is_below setup.rows q) (enter setup.left (prefix ++ q ∷ []) next) [] below
         ∙ ap (λ left. enter left (prefix ++ q ∷ []) next) depth
-        ∙ if_false (is_live left next) (Tick ∷ tried_in_turn (enter left) (prefix ++ q ∷ []) next all_pieces) [] (dead table mode);
+        ∙ cond-false (is_live left next) (Tick ∷ tried_in_turn (enter left) (prefix ++ q ∷ []) next all_pieces) [] (dead table mode);
   }
 
 -- ---- trying kinds, and a whole turn
@@ -186,7 +182,7 @@ entered-below walk prefix n (q ∷ qs) = elim (cases_Bool (is_below n.rows q)) [
 ]
   where
     nothing : is_below n.rows q ≡ false → entered walk prefix n q ≡ []
-    nothing e = if_false (is_below n.rows q) (walk (prefix ++ q ∷ []) (after_of n q)) [] e
+    nothing e = cond-false (is_below n.rows q) (walk (prefix ++ q ∷ []) (after_of n q)) [] e
 
 events-shape : (table : Table) (mode : DropMode) (frame : Frame) (prefix : List Placement) → places_left frame.places frame.entered ≡ [] →
     events_of table mode prefix frame ≡ tried_in_turn (enter frame.setup.left) prefix (position_of table mode frame.setup) (drop frame.tried all_pieces)
@@ -245,7 +241,7 @@ module _ (table : Table) (mode : DropMode) (old new : Frame) (same : new.setup �
   unfolding tried position_of
   goes-past_kind not_played none_new prefix =
       begins prefix
-      ∙ ap (λ l. l ++ tried_in_turn (enter old.setup.left) prefix (position_of table mode old.setup) (drop new.tried all_pieces)) (if_false (may_play (queues_in_play old.setup.line.queues) c) _ [] not_played)
+      ∙ ap (λ l. l ++ tried_in_turn (enter old.setup.left) prefix (position_of table mode old.setup) (drop new.tried all_pieces)) (cond-false (may_play (queues_in_play old.setup.line.queues) c) _ [] not_played)
       ∙ sym (events-shape table mode new prefix none_new ∙ rest-same prefix)
 
   pub goes-flooded : may_play (queues_in_play old.setup.line.queues) c ≡ true → places_left new.places new.entered ≡ filter (is_below old.setup.rows) (places_at (position_of table mode old.setup) c) → GoesAs table mode old (λ prefix. Flood ∷ events_of table mode prefix new)
@@ -254,7 +250,7 @@ module _ (table : Table) (mode : DropMode) (old new : Frame) (same : new.setup �
     same = λ prefix.
         begins prefix
         ∙ ap (λ l. l ++ tried_in_turn (enter old.setup.left) prefix (position_of table mode old.setup) (drop new.tried all_pieces))
-        (if_true (may_play (queues_in_play old.setup.line.queues) c) (Flood ∷ flat_map (entered (enter old.setup.left) prefix (position_of table mode old.setup)) (places_at (position_of table mode old.setup) c)) [] played)
+        (cond-true (may_play (queues_in_play old.setup.line.queues) c) (Flood ∷ flat_map (entered (enter old.setup.left) prefix (position_of table mode old.setup)) (places_at (position_of table mode old.setup) c)) [] played)
         ∙ ap (λ l. Flood ∷ (l ++ tried_in_turn (enter old.setup.left) prefix (position_of table mode old.setup) (drop new.tried all_pieces)))
         (sym (entered-below (enter old.setup.left) prefix (position_of table mode old.setup) (places_at (position_of table mode old.setup) c)))
         ∙ ap (λ l. Flood ∷ l)
