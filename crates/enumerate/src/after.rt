@@ -1,5 +1,5 @@
 // What placements leave at a position, and the position after one.
-ghost use Rattle.std.specs.Prelude.{◌≡◌, ◌↔◌, ◌+◌, ◌-◌, ◌≤◌, IfSome, IsTrue, true, false, []};
+ghost use Rattle.std.specs.Prelude.{◌≡◌, ◌↔◌, ◌+◌, ◌-◌, ◌<◌, ◌≤◌, IfSome, IsTrue, true, false, []};
 ghost use Rattle.lane_board.specs.Field.{difference, rows_below};
 ghost use Rattle.srs.specs.declared.placement.Placement.{Placement};
 ghost use Rattle.srs.specs.Kick.{Table};
@@ -22,7 +22,7 @@ ghost use Rattle.enumerate.specs.declared.frame.Frame.{Frame};
 
 use crate::line::Line;
 use crate::setup::Setup;
-use crate::tilings::Tilings;
+use crate::tilings::{Found, Tilings};
 use crate::turn::Turn;
 use empty_cells::{Empties, SupplyWord};
 use moves::DropMode;
@@ -59,6 +59,23 @@ impl Setup {
         ensures counted { steps.new ≡ steps.old + 1 }
     {
         rules.places_below(&self.well, piece, drop_mode, self.rows, steps)
+    }
+
+    /// Whether all places of a kind are asked about at once: not where none or many placements are to come.
+    #[inline(always)]
+    pub fn asks_at_once(&self) -> bool
+        ensures { IsTrue result ↔ (0 < self.now.left × self.now.left < 8) }
+    {
+        0 < self.left && self.left < MANY
+    }
+
+    /// Looks for answers about what the placements of a piece leave, where all its places are asked about at once.
+    #[inline(always)]
+    pub fn find(&self, piece: Piece, tilings: &Tilings) -> Found {
+        if !self.asks_at_once() {
+            return Found::nothing();
+        }
+        tilings.find(&self.empties, self.supply_after(piece), piece)
     }
 
     /// Whether what a placement leaves has a tiling by this many pieces of each kind.

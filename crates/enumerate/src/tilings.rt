@@ -1,5 +1,5 @@
 // What a search knows of tilings.
-ghost use Rattle.std.specs.Prelude.{◌≡◌, ◌≤◌, ◌||◌, Contains, [], true, false, IfOk, IsTrue};
+ghost use Rattle.std.specs.Prelude.{◌≡◌, ◌≤◌, ◌||◌, Contains, [], true, false, IfOk, IfSome, IsTrue};
 ghost use Rattle.lane_board.specs.Words.{cells_of_words};
 ghost use Rattle.srs.specs.declared.placement.Placement.{Placement};
 ghost use Rattle.srs.specs.Placements.{placements_of};
@@ -16,7 +16,7 @@ ghost use Rattle.enumerate.specs.Settled.{IsSettled};
 
 use dead_memo::DeadMemo;
 use empty_cells::{Empties, SupplyWord};
-use packing::{PlaceAnswers, PlaceMemory, TilingStore};
+use packing::{PlaceAnswers, PlaceMemory, TilingStore, place_hash};
 use pc_outside::NoMemory;
 use prune::cheap_no;
 use reach::LowPlaces;
@@ -29,6 +29,24 @@ const DECIDED: usize = 16384;
 
 /// How many questions without a tiling a search keeps.
 const DEAD: usize = 65_536;
+
+/// Where answers about the placements of a piece are looked for, and whether some are there.
+#[derive(Clone, Copy)]
+pub struct Found {
+    hash: u64,
+    is_known: bool,
+}
+
+impl Found {
+    /// Answers that aren't looked for.
+    #[inline(always)]
+    pub fn nothing() -> Found {
+        Found {
+            hash: 0,
+            is_known: false,
+        }
+    }
+}
 
 /// What a search knows of tilings.
 #[derive(Drop)]
@@ -133,7 +151,12 @@ impl Tilings {
 
     /// Adds the answers for some places of a piece, keeps them all, and returns the pivots of placements that leave no
     /// tiling.
-    fn completed(&mut self, answers: &mut PlaceAnswers, places: LowPlaces) -> [u64; 8]
+    fn completed(
+        &mut self,
+        found: &Found,
+        answers: &mut PlaceAnswers,
+        places: LowPlaces,
+    ) -> [u64; 8]
         requires listed { (q : Placement) → IsTrue (holds places q) → Contains (placements_of (piece_of places)) q }
         requires inside { (q : Placement) → IsTrue (holds places q)
             → (q.piece ≡ answers.old.piece) × (q.x ≤ 9) × (q.y ≤ 7) }
@@ -149,8 +172,38 @@ impl Tilings {
             → leaves_tiling (empty_cells answers.old.cells) q (supply_of answers.old.supply) ≡ true }
     {
         self.answer(answers, places);
-        self.left.keep(answers);
+        self.left.keep(found.hash, answers);
         answers.dead.words()
+    }
+
+    /// Looks for answers about the placements of a piece. They are read only once their places are known: memory that
+    /// isn't at hand by then takes a good part of the time of a flood.
+    #[inline(always)]
+    pub fn find(&self, cells: &Empties, supply: SupplyWord, piece: Piece) -> Found {
+        let hash = place_hash(cells, supply, piece);
+        Found {
+            hash,
+            is_known: self.left.known(hash, cells, supply, piece).is_some(),
+        }
+    }
+
+    /// The answers that were found about the placements of a piece.
+    #[inline(always)]
+    fn answers(
+        &self,
+        found: &Found,
+        cells: &Empties,
+        supply: SupplyWord,
+        piece: Piece,
+    ) -> Option<&PlaceAnswers>
+        ensures cells { IfSome result (λ known. empty_cells known.now.cells ≡ empty_cells cells.now) }
+        ensures supply { IfSome result (λ known. known.now.supply ≡ supply) }
+        ensures piece { IfSome result (λ known. known.now.piece ≡ piece) }
+    {
+        if !found.is_known {
+            return None;
+        }
+        self.left.known(found.hash, cells, supply, piece)
     }
 
     /// The pivots in rows 0 to 7 of placements of a piece that leave no tiling of a set of cells by the supply: two words
@@ -162,6 +215,7 @@ impl Tilings {
         cells: &Empties,
         supply: SupplyWord,
         piece: Piece,
+        found: &Found,
         places: &LowPlaces,
     ) -> [u64; 8]
         requires listed { (q : Placement) → IsTrue (holds places.now q)
@@ -175,9 +229,9 @@ impl Tilings {
             → cells_of_words result (rotation_place q.rotation) q.x q.y ≡ false
             → leaves_tiling (empty_cells cells.now) q (supply_of supply) ≡ true }
     {
-        let Some(known) = self.left.known(cells, supply, piece) else {
+        let Some(known) = self.answers(found, cells, supply, piece) else {
             let mut none = PlaceAnswers::none(cells, supply, piece);
-            return self.completed(&mut none, *places);
+            return self.completed(found, &mut none, *places);
         };
         let mut open = *places;
         open.leave_out(&known.dead.words());
@@ -186,6 +240,6 @@ impl Tilings {
             return known.dead.words();
         }
         let mut answers = *known;
-        self.completed(&mut answers, open)
+        self.completed(found, &mut answers, open)
     }
 }

@@ -19,11 +19,10 @@ ghost use Rattle.enumerate.specs.Setups.{LeadsOn, position_of};
 ghost use Rattle.enumerate.specs.Turns.{AreDead, AreLiveBut, Enters, EntersAs, GoesOn, Turns};
 ghost use Rattle.enumerate.specs.declared.frame.Frame.{Frame};
 
-use crate::after::MANY;
 use crate::frame::Frame;
 use crate::left::take_above;
 use crate::notes::Notes;
-use crate::tilings::Tilings;
+use crate::tilings::{Found, Tilings};
 use moves::DropMode;
 use reach::{FloodRules, Steps};
 use srs::{Piece, Placement};
@@ -178,18 +177,24 @@ impl Frame {
     /// rotation, four rows in each word, and sixteen bits for each row. The other places leave one. `None` if no places
     /// are asked about at once: where none or many placements are to come.
     #[inline(always)]
-    fn dead_pivots(&self, piece: Piece, tilings: &mut Tilings) -> Option<[u64; 8]>
+    fn dead_pivots(&self, piece: Piece, found: &Found, tilings: &mut Tilings) -> Option<[u64; 8]>
         requires { ForSome self.now.places (λ p. piece_of p ≡ piece) }
         ensures dead { IfSome result (λ dead. AreDead self.now.setup piece dead) }
         ensures live { IfSome result (λ dead. ForSome self.now.places (λ p. AreLiveBut self.now.setup p dead)) }
     {
-        if self.setup.left == 0 || MANY <= self.setup.left {
+        if !self.setup.asks_at_once() {
             return None;
         }
         let supply = self.setup.supply_after(piece);
         match &self.places {
             None => None,
-            Some(places) => Some(tilings.dead_pivots(&self.setup.empties, supply, piece, places)),
+            Some(places) => Some(tilings.dead_pivots(
+                &self.setup.empties,
+                supply,
+                piece,
+                found,
+                places,
+            )),
         }
     }
 
@@ -211,14 +216,14 @@ impl Frame {
 
     /// Leaves out the places of a piece that leave no tiling, if all are asked about at once.
     #[inline(always)]
-    fn leave_out_dead(&mut self, piece: Piece, tilings: &mut Tilings)
+    fn leave_out_dead(&mut self, piece: Piece, found: &Found, tilings: &mut Tilings)
         requires { ForSome self.old.places (λ p. piece_of p ≡ piece) }
         ensures goes { (table : Table) (mode : DropMode) (prefix : List Placement) →
             events_of table mode prefix self.new ≡ events_of table mode prefix self.old }
         ensures same { self.new.setup ≡ self.old.setup }
         ensures tried { self.new.tried ≡ self.old.tried }
     {
-        if let Some(dead) = self.dead_pivots(piece, tilings) {
+        if let Some(dead) = self.dead_pivots(piece, found, tilings) {
             self.leave_out(&dead);
         }
     }
@@ -262,8 +267,9 @@ impl Frame {
             Some(piece) => piece,
         };
         self.tried += 1;
+        let found = self.setup.find(piece, &notes.tilings);
         self.flood(piece, rules, drop_mode, &mut notes.floods, steps);
-        self.leave_out_dead(piece, &mut notes.tilings);
+        self.leave_out_dead(piece, &found, &mut notes.tilings);
         Turn::Flooded
     }
 

@@ -10,7 +10,7 @@ mod store;
 mod wells;
 
 pub use empty_cells::Empties;
-pub use memory::{PlaceAnswers, PlaceMemory};
+pub use memory::{PlaceAnswers, PlaceMemory, place_hash};
 pub use search::has_tiling;
 pub use store::TilingStore;
 pub use wells::tiles;

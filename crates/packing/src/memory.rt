@@ -93,7 +93,7 @@ impl Entry for PlaceAnswers {
 /// The hash of a question about a piece. For the same cells and the same supply the seven kinds have different places:
 /// the first seven multiples of 583 differ, and each is less than 4,096.
 #[inline(always)]
-fn hash_for(cells: &Empties, supply: SupplyWord, piece: Piece) -> u64 {
+pub fn place_hash(cells: &Empties, supply: SupplyWord, piece: Piece) -> u64 {
     hash_of(cells, supply) ^ 583 * u64::from(piece.code())
 }
 
@@ -110,24 +110,30 @@ impl PlaceMemory {
         Ok(PlaceMemory { sets })
     }
 
-    /// What is remembered about these cells, this supply and this piece, if anything is.
+    /// What is remembered about these cells, this supply and this piece, if anything is. With another hash than theirs
+    /// it isn't found.
     #[inline(always)]
-    pub fn known(&self, cells: &Empties, supply: SupplyWord, piece: Piece) -> Option<&PlaceAnswers>
+    pub fn known(
+        &self,
+        hash: u64,
+        cells: &Empties,
+        supply: SupplyWord,
+        piece: Piece,
+    ) -> Option<&PlaceAnswers>
         ensures cells { IfSome result (λ known. empty_cells known.now.cells ≡ empty_cells cells.now) }
         ensures supply { IfSome result (λ known. known.now.supply ≡ supply) }
         ensures piece { IfSome result (λ known. known.now.piece ≡ piece) }
     {
-        let known = self.sets.entry(hash_for(cells, supply, piece))?;
+        let known = self.sets.entry(hash)?;
         if known.are_about(cells, supply, piece) {
             return Some(known);
         }
         None
     }
 
-    /// Remembers answers, in the place of those before.
+    /// Remembers answers, in the place of those before. The hash is that of their question.
     #[inline(always)]
-    pub fn keep(&mut self, answers: &PlaceAnswers) {
-        let hash = hash_for(&answers.cells, answers.supply, answers.piece);
+    pub fn keep(&mut self, hash: u64, answers: &PlaceAnswers) {
         self.sets.put(hash, *answers);
     }
 }

@@ -1,5 +1,5 @@
 // Writing the text of a placement.
-ghost use Rattle.std.specs.Prelude.{◌≡◌, ◌+◌, ◌≤◌, ◌++◌, [], ◌∷◌, length};
+ghost use Rattle.std.specs.Prelude.{◌≡◌, ◌+◌, ◌≤◌, ◌++◌, ◌∷◌, [], decimal};
 ghost use Rattle.arrayvec.specs.ArrayVec.{array_vec_len};
 ghost use Rattle.srs.specs.Piece.{piece_letter};
 ghost use Rattle.srs.specs.Rotation.{rotation_letter};
@@ -12,12 +12,19 @@ use srs::Placement;
 /// The bytes of a placement's text.
 pub type PlacementText = ArrayVec<u8, 10>;
 
-fn push(text: &mut PlacementText, bytes: &[u8])
-    requires { array_vec_len text.old + length bytes.now ≤ 10 }
-    ensures items { text.new.items ≡ text.old.items ++ bytes.now }
-    ensures len { array_vec_len text.new ≡ array_vec_len text.old + length bytes.now }
+/// Appends the digits of a number. Nearly all columns and rows have one digit, which is written without a buffer.
+fn push_number(text: &mut PlacementText, number: u8)
+    requires { array_vec_len text.old ≤ 7 }
+    ensures items { text.new.items ≡ text.old.items ++ decimal number }
+    ensures len { array_vec_len text.new ≤ array_vec_len text.old + 3 }
 {
-    text.try_extend_from_slice(bytes).unwrap()
+    if number < 10 {
+        text.push(b'0' + number);
+        return;
+    }
+    let mut digits = Buffer::new();
+    text.try_extend_from_slice(digits.format(number).as_bytes())
+        .unwrap()
 }
 
 /// The letters of the piece and the rotation, and a colon.
@@ -26,10 +33,9 @@ fn letters(placement: &Placement) -> PlacementText
     ensures len { array_vec_len result ≡ 3 }
 {
     let mut text = PlacementText::new();
-    push(
-        &mut text,
-        &[placement.piece.letter(), placement.rotation.letter(), b':'],
-    );
+    text.push(placement.piece.letter());
+    text.push(placement.rotation.letter());
+    text.push(b':');
     text
 }
 
@@ -41,10 +47,8 @@ pub fn placement_text(placement: &Placement) -> PlacementText
     ensures len { array_vec_len result ≤ 10 }
 {
     let mut text = letters(placement);
-    let mut column = Buffer::new();
-    let mut row = Buffer::new();
-    push(&mut text, column.format(placement.x).as_bytes());
-    push(&mut text, b",");
-    push(&mut text, row.format(placement.y).as_bytes());
+    push_number(&mut text, placement.x);
+    text.push(b',');
+    push_number(&mut text, placement.y);
     text
 }

@@ -43,7 +43,7 @@ fn push_sequence(text: &mut SequenceText, placements: &[Placement])
     };
     push_placement(text, first);
     for placement in rest {
-        push(text, b" ");
+        text.push(b' ');
         push_placement(text, placement);
     }
 }
