@@ -40,6 +40,10 @@ use Rattle.percent.specs.Children.{IsChild}
 use Rattle.percent.specs.Fitting.{codes_in, codes_with, supply_at, supply_by}
 use Rattle.percent.specs.GoodHands.{is_good}
 use Rattle.percent.specs.Marks.{AreIndexes, HasMarkAt, IsMarkOf, IsStanding, IsTrueMark}
+use Rattle.percent.specs.declared.children.Standing.{Standing}
+use Rattle.percent.specs.Standing.{AreStandingBefore}
+use Rattle.tiled_pieces.specs.declared.standing.StandingPieces.{StandingPieces}
+use Rattle.tiled_pieces.specs.Standing.{GrowsBy, Stands}
 use Rattle.percent.specs.Spread.{IsSpread}
 use Rattle.percent.specs.Wanted.{IsWanted}
 use Rattle.percent.proofs.HandLemmas.{code-few}
@@ -235,13 +239,6 @@ mark-listed p child left rest index known rows cells taken old new spread true_m
 
 -- ---- in which marks a placement stands
 
--- it stands in no tiling of the first i marks whose bits are not set
-pub record StandingBefore (known : List Mark) (rows : List ℕ) (q : Placement) (standing i : ℕ) : Type 0 where
-  pub none : (k : ℕ) → k < i → has_bit standing k ≡ false → (mark : Mark) → slice_get known k ≡ Some mark → SomeHas mark.tilings.tilings.items (laid rows q) → ⊥
-
-pub standing-starts : (known : List Mark) (rows : List ℕ) (q : Placement) (standing : ℕ) → StandingBefore known rows q standing 0
-standing-starts known rows q standing = record { none = λ k below. absurd (omega arith) }
-
 own_bit : (k : ℕ) → k < 64 → has_bit (1 * 2 ^ k % 2 ^ 64) k ≡ true
 unfolding has_bit
 own_bit k low = has_bit-low (1 * 2 ^ k) 64 k low ∙ has_bit-shifted_high 1 k k (omega arith) ∙ ap (has_bit 1) {x = k - k} {y = 0} (omega arith) ∙ refl
@@ -250,39 +247,57 @@ neither : (a b : Bool) → (a || b) ≡ false → (a ≡ false) × (b ≡ false)
 neither false b h = (refl, h)
 neither true b h = cc
 
--- one mark more that has it
-pub standing-more : (known : List Mark) (rows : List ℕ) (q : Placement) (standing i : ℕ) → i < 64 → StandingBefore known rows q standing i → StandingBefore known rows q (bit_or standing (1 * 2 ^ i % 2 ^ 64)) (i + 1)
-standing-more known rows q standing i low state = record {
-  none = λ k below unset mark there some.
-      let both = neither (has_bit standing k) (has_bit (1 * 2 ^ i % 2 ^ 64) k) (sym (has_bit-or standing (1 * 2 ^ i % 2 ^ 64) k) ∙ unset) in
+pub standing-starts : (known : List Mark) (standing : Standing) → AreStandingBefore known standing 0
+standing-starts known standing = record { each = λ k below. absurd (omega arith) }
+
+-- the pieces of one mark more are added
+pub standing-more : (known : List Mark) (before after : StandingPieces) (others i : ℕ) (mark : Mark) → slice_get known i ≡ Some mark → after.piece ≡ before.piece
+    → GrowsBy before.pieces.items after.pieces.items i (λ cells. SomeHas mark.tilings.tilings.items (record { piece = before.piece; cells = cells }))
+    → AreStandingBefore known (record { pieces = before; others = others }) i → AreStandingBefore known (record { pieces = after; others = others }) (i + 1)
+standing-more known before after others i mark at same grows state = record {
+  each = λ k below unset other there cells some.
+      let has = subst (λ p. SomeHas other.tilings.tilings.items (record { piece = p; cells = cells })) same some in
+      (grows.both cells k).1 (elim (cases_lt k i) as (λ _. Stands before.pieces.items cells k ⊎ ((k ≡ i) × SomeHas mark.tilings.tilings.items (record { piece = before.piece; cells = cells }))) [
+        | inl earlier ↦ inl (state.each k earlier unset other there cells has)
+        | inr past ↦
+            let here : k ≡ i = omega arith in
+            let one : other ≡ mark = some_same (sym there ∙ ap (slice_get known) here ∙ at) in
+            inr (here, subst (λ (m : Mark). SomeHas m.tilings.tilings.items (record { piece = before.piece; cells = cells })) one has)
+      ]);
+}
+
+-- or it is one of the others
+pub standing-pass : (known : List Mark) (pieces : StandingPieces) (others i : ℕ) → i < 64
+    → AreStandingBefore known (record { pieces = pieces; others = others }) i → AreStandingBefore known (record { pieces = pieces; others = bit_or others (1 * 2 ^ i % 2 ^ 64) }) (i + 1)
+standing-pass known pieces others i low state = record {
+  each = λ k below unset mark there cells some.
+      let both = neither (has_bit others k) (has_bit (1 * 2 ^ i % 2 ^ 64) k) (sym (has_bit-or others (1 * 2 ^ i % 2 ^ 64) k) ∙ unset) in
       elim (cases_lt k i) [
-        | inl before ↦ state.none k before both.0 mark there some
+        | inl before ↦ state.each k before both.0 mark there cells some
         | inr past ↦
             let same : k ≡ i = omega arith in
-            both_ways _ both.1 (ap (has_bit (1 * 2 ^ i % 2 ^ 64)) same ∙ own_bit i low)
+            absurd (both_ways _ both.1 (ap (has_bit (1 * 2 ^ i % 2 ^ 64)) same ∙ own_bit i low))
       ];
 }
 
--- or that doesn't
-pub standing-pass : (known : List Mark) (rows : List ℕ) (q : Placement) (standing i : ℕ) → ((mark : Mark) → slice_get known i ≡ Some mark → SomeHas mark.tilings.tilings.items (laid rows q) → ⊥)
-    → StandingBefore known rows q standing i → StandingBefore known rows q standing (i + 1)
-standing-pass known rows q standing i none state = record {
-  none = λ k below unset other there some. elim (cases_lt k i) [
-    | inl before ↦ state.none k before unset other there some
-    | inr past ↦
-        let same : k ≡ i = omega arith in
-        none other (subst (λ n. slice_get known n ≡ Some other) same there) some
-  ];
-}
-
-pub standing-ends : (known : List Mark) (rows : List ℕ) (q : Placement) (standing i : ℕ) → (length known ≤ i) ⊎ (64 ≤ i) → StandingBefore known rows q standing i → IsStanding known rows q standing
-standing-ends known rows q standing i all state = record {
-  none = λ k low unset mark there some. state.none k (before k low (slice_get_within known k mark there) all) unset mark there some;
+pub standing-ends : (known : List Mark) (standing : Standing) (i : ℕ) → (length known ≤ i) ⊎ (64 ≤ i) → AreStandingBefore known standing i → AreStandingBefore known standing 64
+standing-ends known standing i all state = record {
+  each = λ k low unset mark there cells some. state.each k (before k low (slice_get_within known k mark there) all) unset mark there cells some;
 }
   where
     before : (k : ℕ) → k < 64 → k < length known → (length known ≤ i) ⊎ (64 ≤ i) → k < i
     before k low within (inl all) = omega arith
     before k low within (inr all) = omega arith
+
+-- a placement stands in no tiling of the marks under whose indexes it isn't found
+pub standing-found : (known : List Mark) (rows : List ℕ) (q : Placement) (standing : Standing) (lists : ℕ) (taken : Field) → taken ≡ sent_cells rows q → standing.pieces.piece ≡ q.piece
+    → AreStandingBefore known standing 64 → ((k : ℕ) → k < 64 → (has_bit lists k ≡ true) ↔ Stands standing.pieces.pieces.items taken k) → IsStanding known rows q (bit_or lists standing.others)
+standing-found known rows q standing lists taken same kind all found = record {
+  none = λ k low unset mark there some.
+      let both = neither (has_bit lists k) (has_bit standing.others k) (sym (has_bit-or lists standing.others k) ∙ unset) in
+      let has = subst (λ p. SomeHas mark.tilings.tilings.items (record { piece = p; cells = taken })) (sym kind) (subst (λ (E : Field). SomeHas mark.tilings.tilings.items (record { piece = q.piece; cells = E })) (sym same) some) in
+      both_ways _ both.0 ((found k low).1 (all.each k low both.1 mark there taken has));
+}
 
 -- ---- indexes of marks
 

@@ -11,3 +11,4 @@ pub mod Children
 pub mod Spread
 pub mod Marks
 pub mod Wanted
+pub mod Standing

@@ -1,5 +1,5 @@
 // The positions that a piece leads to.
-ghost use Rattle.std.specs.Prelude.{◌≡◌, ◌≤◌, ◌<◌, ◌+◌, ◌-◌, ℕ, IsTrue, IfOk, IfSome, All, Some, true, false, length, slice_get};
+ghost use Rattle.std.specs.Prelude.{◌≡◌, ◌≤◌, ◌+◌, ◌-◌, ℕ, IsTrue, IfOk, IfSome, All, true, false};
 ghost use Rattle.srs.specs.Rules.{table_of};
 ghost use Rattle.well.specs.Well.{filled};
 ghost use Rattle.well.specs.Free.{is_free};
@@ -9,14 +9,13 @@ ghost use Rattle.lane_board.specs.Field.{difference};
 ghost use Rattle.prune.specs.Tiling.{Supply, Tiling};
 ghost use Rattle.empty_cells.specs.Empties.{all_but, empty_cells};
 ghost use Rattle.empty_cells.specs.SentCells.{sent_cells};
-ghost use Rattle.tiled_pieces.specs.TilingLists.{SomeHas};
 ghost use Rattle.reach.specs.FloodRules.{flood_table};
 ghost use Rattle.number_sets.specs.Rising.{has};
 ghost use Rattle.percent.specs.declared.game.Game.{Game};
 ghost use Rattle.percent.specs.Children.{IsChild};
 ghost use Rattle.percent.specs.GoodHands.{is_good, is_good_after, is_good_at};
-ghost use Rattle.percent.specs.declared.marks.Mark.{Mark};
 ghost use Rattle.percent.specs.Marks.{AreIndexes, IsStanding};
+ghost use Rattle.percent.specs.Standing.{AreStanding};
 ghost use Rattle.percent.specs.Wanted.{IsWanted};
 
 use crate::game::Game;
@@ -29,6 +28,15 @@ use reach::{FloodRules, Steps};
 use srs::{Piece, Placement};
 use std::alloc::Global;
 use std::sync::ledger::Ledger;
+use tiled_pieces::StandingPieces;
+
+/// The pieces of one kind in the tilings of the wanted marks, under their indexes.
+#[derive(Drop)]
+struct Standing {
+    pieces: StandingPieces,
+    /// The other marks, in whose tilings each piece may stand. Bit `k` stands for mark `k`.
+    others: u64,
+}
 
 impl Marks {
     /// The marks of the rests asked about: bit `k` stands for mark `k`. `None` if a rest has no mark.
@@ -50,32 +58,37 @@ impl Marks {
         Some(wanted)
     }
 
-    /// Whether a piece with these cells may stand in a tiling of the mark at an index. It is not tried if the mark isn't
-    /// wanted.
-    fn may_be_in(&self, index: usize, piece: Piece, taken: &Empties, wanted: u64) -> bool
-        requires few { index < 64 }
-        requires known { index < length self.now.known.items }
-        ensures { result ≡ false → (mark : Mark) → slice_get self.now.known.items index ≡ Some mark
-            → SomeHas mark.tilings.tilings.items (record { piece = piece; cells = empty_cells taken.now }) → ⊥ }
+    /// The pieces of a kind in the tilings of the wanted marks.
+    fn standing_pieces(
+        &self,
+        alloc: Global,
+        piece: Piece,
+        wanted: u64,
+    ) -> Result<Standing, NoMemory>
+        ensures kind { IfOk result (λ standing. standing.pieces.piece ≡ piece) }
+        ensures each { IfOk result (AreStanding self.now.known.items) }
     {
-        if wanted >> index & 1 == 0 {
-            return true;
+        let mut pieces = StandingPieces::new(alloc, piece)?;
+        let mut others = 0;
+        for index in 0..self.known.len().min(64) {
+            if wanted >> index & 1 == 1 {
+                pieces.add(&self.known[index].tilings, index as u8)?;
+            } else {
+                others |= 1 << index;
+            }
         }
-        self.known[index].tilings.has(piece, taken)
+        Ok(Standing { pieces, others })
     }
 
     /// In which of the marks' tilings a placement with these cells may stand. Bit `k` stands for mark `k`.
-    fn standing(&self, placement: &Placement, taken: &Empties, wanted: u64) -> u64
-        requires { empty_cells taken.now ≡ sent_cells self.now.rows placement.now }
+    #[inline(always)]
+    fn standing(&self, placement: &Placement, taken: &Empties, standing: &Standing) -> u64
+        requires taken { empty_cells taken.now ≡ sent_cells self.now.rows placement.now }
+        requires kind { standing.now.pieces.piece ≡ placement.now.piece }
+        requires each { AreStanding self.now.known.items standing.now }
         ensures { IsStanding self.now.known.items self.now.rows placement.now result }
     {
-        let mut standing = 0;
-        for index in 0..self.known.len().min(64) {
-            if self.may_be_in(index, placement.piece, taken, wanted) {
-                standing |= 1 << index;
-            }
-        }
-        standing
+        standing.pieces.lists_with(taken) | standing.others
     }
 
     /// Whether walls show that no pieces can fill what is left without these cells.
@@ -138,7 +151,6 @@ impl Marks {
     {
         let position = &self.position;
         let wanted = self.wanted(piece, left, asked);
-        let tried = wanted.unwrap_or(u64::MAX);
         let mut places = rules.places_below(
             &position.well,
             piece,
@@ -146,10 +158,11 @@ impl Marks {
             position.rows,
             steps,
         );
+        let pieces = self.standing_pieces(alloc, piece, wanted.unwrap_or(u64::MAX))?;
         let mut children = Vec::new(alloc);
         while let Some(placement) = places.take_least() {
             let taken = self.taken(&placement);
-            let standing = self.standing(&placement, &taken, tried);
+            let standing = self.standing(&placement, &taken, &pieces);
             if self.is_worth(&placement, &taken, standing, left, asked, wanted) {
                 children.push(Child {
                     placement,

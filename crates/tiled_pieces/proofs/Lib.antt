@@ -8,5 +8,6 @@ mod AddsLemmas
 mod LaidLemmas
 mod StepLemmas
 mod StandsLemmas
+mod StandingLemmas
 mod ListedAll
 pub mod CallerLemmas

@@ -1,5 +1,5 @@
 -- Listed tilings, and lists of them.
-use Rattle.std.proofs.Common.{◌≡◌, ◌↔◌, ℕ, ◌+◌, ◌<◌, ◌≤◌, Bool, true, false, ◌&&◌, ◌==◌, List, [], ◌∷◌, ◌++◌, length, get_or, map, take, sym, ap, subst, ◌∙◌, inl, inr, arith}
+use Rattle.std.proofs.Common.{◌≡◌, ◌↔◌, ℕ, ◌+◌, ◌<◌, ◌≤◌, Bool, true, false, ◌&&◌, ◌==◌, List, [], ◌∷◌, ◌++◌, length, get_or, map, take, refl, sym, ap, subst, ◌∙◌, inl, inr, arith}
 use Rattle.std.specs.List.{Contains}
 use Rattle.std.proofs.lemmas.Bool.{and_parts, and_from, eqb-true, eq-eqb, cases_eq, false≢true}
 use Rattle.std.proofs.lemmas.List.{get_or-map, take_all, take_more}
@@ -29,6 +29,16 @@ laid_is tiling place e piece kind cells same equal known kind_at both is = (
   where
     cells_at : get_or (map empty_cells tiling.cells) place empty_field ≡ empty_cells (get_or tiling.cells place e)
     cells_at = get_or-map empty_cells tiling.cells place e empty_field known
+
+pub laid_kind : (tiling : ListedTiling) (place : ℕ) → (laid_at tiling place).piece ≡ get_or tiling.kinds place I
+unfolding laid_at
+laid_kind tiling place = refl
+
+pub laid_of : (tiling : ListedTiling) (place : ℕ) (e : Empties) (piece : Piece) → place < length tiling.cells → get_or tiling.kinds place I ≡ piece → laid_at tiling place ≡ record { piece = piece; cells = empty_cells (get_or tiling.cells place e) }
+unfolding laid_at
+laid_of tiling place e piece known kind =
+    let cells = get_or-map empty_cells tiling.cells place e empty_field known in
+    (λ i. record { piece = kind i; cells = cells i })
 
 -- no place before this one has the piece
 pub record NoneBefore (tiling : ListedTiling) (laid : LaidPiece) (place : ℕ) : Type 0 where
@@ -72,7 +82,7 @@ have_next list laid index x answer below at before both none_here = record { non
 pub have_none : (list : List ListedTiling) (laid : LaidPiece) (index : ℕ) → length list ≤ index → NoneHave list laid index → SomeHas list laid → ⊥
 have_none list laid index last before some = before.none some.tiling (subst (λ l. Contains l some.tiling) (sym (take_all index list last)) some.listed) some.has
 
-one_further : (list : List ListedTiling) (index : ℕ) (x : ListedTiling) → index < length list → x ≡ get_or list index x → take (index + 1) list ≡ take index list ++ x ∷ []
+pub one_further : (list : List ListedTiling) (index : ℕ) (x : ListedTiling) → index < length list → x ≡ get_or list index x → take (index + 1) list ≡ take index list ++ x ∷ []
 one_further list index x below at = take_more list index x below ∙ ap (λ t. take index list ++ t ∷ []) (sym at)
 
 -- the tilings before this one that have the piece

@@ -2,3 +2,4 @@
 pub mod TilingLists
 -- What serves proofs alone
 pub mod Listings
+pub mod Standing

@@ -8,10 +8,12 @@ mod listed;
 mod lister;
 mod listing;
 mod path;
+mod standing;
 
 pub use list::TilingList;
 pub use listed::ListedTiling;
 pub use lister::Lister;
+pub use standing::{StandingPiece, StandingPieces};
 
 #[cfg(test)]
 mod tests;

@@ -1,5 +1,5 @@
 // A tiling in a list.
-ghost use Rattle.std.specs.Prelude.{◌≡◌, ◌↔◌, ◌<◌, IsTrue};
+ghost use Rattle.std.specs.Prelude.{◌≡◌, ◌↔◌, ◌<◌, IsTrue, MatchOption};
 ghost use Rattle.empty_cells.specs.Empties.{empty_cells};
 
 use empty_cells::Empties;
@@ -27,6 +27,19 @@ impl ListedTiling {
             }
         }
         false
+    }
+
+    /// The cells of the piece at this place. `None` exactly if it is of another kind.
+    #[inline(always)]
+    pub fn cells_at(&self, place: usize, piece: Piece) -> Option<Empties>
+        requires { place < 8 }
+        ensures { MatchOption result ((laid_at self.now place).piece ≡ piece → ⊥)
+            (λ cells. laid_at self.now place ≡ record { piece = piece; cells = empty_cells cells }) }
+    {
+        if self.kinds[place].code() != piece.code() {
+            return None;
+        }
+        Some(self.cells[place])
     }
 
     /// Whether the piece at this place is of this kind and has these cells.
