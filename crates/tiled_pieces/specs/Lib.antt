@@ -1,5 +1,5 @@
 -- What a reader must believe
 pub mod TilingLists
+pub mod Standing
 -- What serves proofs alone
 pub mod Listings
-pub mod Standing

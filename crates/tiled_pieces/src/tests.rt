@@ -1,5 +1,5 @@
 // The tilings of small fields, and their pieces.
-use crate::Lister;
+use crate::{Lister, StandingPieces};
 use empty_cells::Empties;
 use srs::{Piece, Placement, Rotation};
 use std::alloc::Global;
@@ -48,6 +48,14 @@ fn tilings_with_a_piece(rt: HostRuntime) {
     let t = cells.without_cells(&cells.without(&placement));
     assert!(rt; list.has(Piece::T, &t));
     assert!(rt; !list.has(Piece::O, &t));
+    let mut standing = StandingPieces::new(rt.alloc(), Piece::T).expect(&rt, "memory");
+    standing.add(&list, 3).expect(&rt, "memory");
+    standing.add(&list, 5).expect(&rt, "memory");
+    assert!(rt; standing.lists_with(&t) == 0b10_1000);
+    assert!(rt; standing.lists_with(&cells) == 0);
+    let mut others = StandingPieces::new(rt.alloc(), Piece::O).expect(&rt, "memory");
+    others.add(&list, 3).expect(&rt, "memory");
+    assert!(rt; others.lists_with(&t) == 0);
     let with = list.with(rt.alloc(), Piece::T, &t).expect(&rt, "memory");
     assert!(rt; with.tilings.len() == 1);
     let without = list.with(rt.alloc(), Piece::I, &t).expect(&rt, "memory");
