@@ -1,16 +1,14 @@
 -- What a number says is what its parts give, both ways.
-use Rattle.std.proofs.Common.{◌≡◌, ℕ, ◌*◌, ◌/◌, ◌%◌, ◌<◌, ◌≤◌, Bool, true, false, cond, eqb, ℤ, pos, negsuc, ◌+ℤ◌, ◌-ℤ◌, ◌≤ℤ◌, to_z, of_z, w8, Option, Some, None, Result, Ok, Err, refl, sym, ap, subst, ◌∙◌, ◌⊎◌, inl, inr, arith}
+use Rattle.std.proofs.Common.{◌≡◌, ℕ, ◌*◌, ◌/◌, ◌%◌, ◌<◌, ◌≤◌, Bool, true, false, cond, eqb, ℤ, pos, negsuc, ◌+ℤ◌, ◌-ℤ◌, ◌≤ℤ◌, to_z, of_z, w8, Option, Some, None, Result, Ok, Err, refl, sym, ap, subst, ◌∙◌, ◌⊎◌, inl, inr, arith, rules}
 use Rattle.std.specs.Option.{ForSome}
 use Rattle.std.specs.List.{list_all}
 use Rattle.std.proofs.lemmas.Bool.{agree_below_at, eqb-true, lt-ltb, le-ltb, false_from_ne_true, cases_lt}
 use Rattle.std.proofs.lemmas.Int.{ints}
+use Rattle.std.proofs.lemmas.Grind.{common_steps}
 use Rattle.fumen_digits.specs.declared.dialect.Dialect.{Dialect}
-use Rattle.fumen_digits.specs.declared.dialect.Dialect.TheVariants.{V110, V115}
 use Rattle.fumen_digits.specs.Dialect.{page_cell_count}
 use Rattle.srs.specs.declared.piece.Piece.{Piece}
-use Rattle.srs.specs.declared.piece.Piece.TheVariants.{I, L, O, Z, T, J, S}
 use Rattle.srs.specs.declared.rotation.Rotation.{Rotation}
-use Rattle.srs.specs.declared.rotation.Rotation.TheVariants.{Spawn, Right, Reverse, Left}
 use Rattle.srs.specs.declared.placement.Placement.{Placement}
 use Rattle.srs.specs.Piece.{piece_code, piece_with_code}
 use Rattle.srs.specs.Cells.{Cell, minus, moved, cells_at, is_near, pivot_of}
@@ -32,53 +30,33 @@ record PartsAre (dialect : Dialect) (number piece rotation place flags : ℕ) : 
   flags_is : number / (32 * page_cell_count dialect) ≡ flags
 
 parts_are : (dialect : Dialect) (number piece rotation place flags : ℕ) → piece < 8 → rotation < 4 → place < page_cell_count dialect → number ≡ number_of_parts dialect piece rotation place flags → PartsAre dialect number piece rotation place flags
-parts_are V110 number piece rotation place flags p r w is =
-    record { piece_is = omega arith; rotation_is = omega arith; place_is = omega arith; flags_is = omega arith }
-parts_are V115 number piece rotation place flags p r w is =
-    record { piece_is = omega arith; rotation_is = omega arith; place_is = omega arith; flags_is = omega arith }
+parts_are dialect number piece rotation place flags p r w is = search rules
 
 number_of_its_parts : (dialect : Dialect) (number : ℕ) → number ≡ number_of_parts dialect (number % 8) (number / 8 % 4) (number / 32 % page_cell_count dialect) (number / (32 * page_cell_count dialect))
-number_of_its_parts V110 number = omega arith
-number_of_its_parts V115 number = omega arith
+number_of_its_parts dialect number = search rules
 
 place_below : (dialect : Dialect) (number : ℕ) → number / 32 % page_cell_count dialect < page_cell_count dialect
-place_below V110 number = omega arith
-place_below V115 number = omega arith
+place_below dialect number = search rules
 
 flags_below : (dialect : Dialect) (number : ℕ) → number < action_end dialect → number / (32 * page_cell_count dialect) < 32
-flags_below V110 number below = omega arith
-flags_below V115 number below = omega arith
+flags_below dialect number below = search rules
 
 below_end : (dialect : Dialect) (number piece rotation place flags : ℕ) → piece < 8 → rotation < 4 → place < page_cell_count dialect → flags < 32 → number ≡ number_of_parts dialect piece rotation place flags → number < action_end dialect
-below_end V110 number piece rotation place flags p r w f is = omega arith
-below_end V115 number piece rotation place flags p r w f is = omega arith
+below_end dialect number piece rotation place flags p r w f is = search rules
 
 piece_code-below : (piece : Piece) → piece_code piece < 8
-piece_code-below I = omega arith
-piece_code-below L = omega arith
-piece_code-below O = omega arith
-piece_code-below Z = omega arith
-piece_code-below T = omega arith
-piece_code-below J = omega arith
-piece_code-below S = omega arith
+piece_code-below piece = search rules
 
 rotation_code-below : (rotation : Rotation) → rotation_code rotation < 4
-rotation_code-below Spawn = omega arith
-rotation_code-below Right = omega arith
-rotation_code-below Reverse = omega arith
-rotation_code-below Left = omega arith
+rotation_code-below rotation = search rules
 
 -- ---- codes
 
 rotation_with_code-code : (rotation : Rotation) → rotation_with_code (rotation_code rotation) ≡ rotation
-rotation_with_code-code Spawn = refl
-rotation_with_code-code Right = refl
-rotation_with_code-code Reverse = refl
-rotation_with_code-code Left = refl
+rotation_with_code-code rotation = search rules
 
 rotation_code-with_code : (code : ℕ) → code < 4 → rotation_code (rotation_with_code code) ≡ code
-rotation_code-with_code code below =
-    eqb-true (rotation_code (rotation_with_code code)) code (agree_below_at (λ k. eqb (rotation_code (rotation_with_code k)) k) (λ _. true) 4 code refl below)
+rotation_code-with_code code below = search (rules, eqb-true, agree_below_at)
 
 -- a piece has this code, or none is named by 0
 abbrev has_code : Option Piece → ℕ → Bool
@@ -103,11 +81,7 @@ back_in_byte a b k l = omega (arith, ints)
 -- to move by the pair with both signs turned is to move back
 pub moved-turned : (cell by : Cell) → is_near by ≡ true → moved cell (turned_in_byte by.0, turned_in_byte by.1) ≡ moved_back cell by
 unfolding moved moved_back
-moved-turned cell by small =
-    let near = near_within by small in
-    let x = back_in_byte cell.0 by.0 near.left near.right in
-    let y = back_in_byte cell.1 by.1 near.down near.up in
-    λ i. (x i, y i)
+moved-turned cell by small = search (rules, near_within, back_in_byte)
 
 -- the pair with both signs turned is small too
 pub written_by-turned : (piece : Piece) (rotation : Rotation) → is_near (turned_in_byte (written_by piece rotation).0, turned_in_byte (written_by piece rotation).1) ≡ true
@@ -115,17 +89,11 @@ written_by-turned = each_state (λ p r. is_near (turned_in_byte (written_by p r)
 
 moved_back-moved : (cell move : Cell) → moved_back (moved cell move) move ≡ cell
 unfolding moved moved_back
-moved_back-moved cell move =
-    let x : (cell.0 +ℤ move.0) -ℤ move.0 ≡ cell.0 = omega (arith, ints) in
-    let y : (cell.1 +ℤ move.1) -ℤ move.1 ≡ cell.1 = omega (arith, ints) in
-    λ i. (x i, y i)
+moved_back-moved cell move = search (rules, common_steps)
 
 moved-moved_back : (cell move : Cell) → moved (moved_back cell move) move ≡ cell
 unfolding moved moved_back
-moved-moved_back cell move =
-    let x : (cell.0 -ℤ move.0) +ℤ move.0 ≡ cell.0 = omega (arith, ints) in
-    let y : (cell.1 -ℤ move.1) +ℤ move.1 ≡ cell.1 = omega (arith, ints) in
-    λ i. (x i, y i)
+moved-moved_back cell move = search (rules, common_steps)
 
 -- ---- a placement at a cell
 
@@ -139,12 +107,10 @@ record IsPlacedAt (dialect : Dialect) (piece : Piece) (rotation : Rotation) (piv
   inside : is_inside_in dialect placement ≡ true
 
 chosen : (b : Bool) (p : Placement) (o : Option Placement) → ◌≡◌ {A = Result (Option Placement) ActionFault} (cond b (Ok (Some p)) (Err fault.Outside)) (Ok o) → (b ≡ true) × (o ≡ Some p)
-chosen true p o e = (refl, cc)
-chosen false p o e = absurd cc
+chosen b p o e = search rules
 
 refused : (b : Bool) (p : Placement) (f : ActionFault) → ◌≡◌ {A = Result (Option Placement) ActionFault} (cond b (Ok (Some p)) (Err fault.Outside)) (Err f) → (b ≡ false) × (f ≡ fault.Outside)
-refused true p f e = absurd cc
-refused false p f e = (refl, let is : f ≡ fault.Outside = cc in is)
+refused b p f e = search rules
 
 placed_ok : (dialect : Dialect) (piece : Piece) (rotation : Rotation) (pivot : Cell) (operation : Option Placement) → placed dialect piece rotation pivot ≡ Ok operation → IsPlacedAt dialect piece rotation pivot operation
 placed_ok dialect piece rotation (pos x, pos y) operation e =
@@ -157,23 +123,16 @@ placed_ok dialect piece rotation (negsuc x, negsuc y) operation e = absurd cc
 
 -- the pivot is among the cells
 left_of : (dialect : Dialect) (piece : Piece) (rotation : Rotation) (x : ℕ) (y : ℤ) → list_all (in_rows dialect) (cells_at piece rotation (negsuc x, y)) ≡ false
-left_of dialect piece rotation x y =
-    false_from_ne_true (list_all (in_rows dialect) (cells_at piece rotation (negsuc x, y))) (λ inside.
-    let at = pivot_inside_in dialect piece rotation (negsuc x, y) inside in
-    let column : negsuc x ≡ pos at.x = ap (λ (c : Cell). c.0) at.is in cc)
+left_of dialect piece rotation x y = search (rules, false_from_ne_true, pivot_inside_in)
 
 under : (dialect : Dialect) (piece : Piece) (rotation : Rotation) (x : ℤ) (y : ℕ) → list_all (in_rows dialect) (cells_at piece rotation (x, negsuc y)) ≡ false
-under dialect piece rotation x y =
-    false_from_ne_true (list_all (in_rows dialect) (cells_at piece rotation (x, negsuc y))) (λ inside.
-    let at = pivot_inside_in dialect piece rotation (x, negsuc y) inside in
-    let row : negsuc y ≡ pos at.y = ap (λ (c : Cell). c.1) at.is in cc)
+under dialect piece rotation x y = search (rules, false_from_ne_true, pivot_inside_in)
 
 other_fault : (f : ActionFault) → ◌≡◌ {A = Result (Option Placement) ActionFault} (Err fault.Outside) (Err f) → f ≡ fault.Outside
 other_fault f e = cc
 
 placed_err : (dialect : Dialect) (piece : Piece) (rotation : Rotation) (pivot : Cell) (f : ActionFault) → placed dialect piece rotation pivot ≡ Err f → (list_all (in_rows dialect) (cells_at piece rotation pivot) ≡ false) × (f ≡ fault.Outside)
-placed_err dialect piece rotation (pos x, pos y) f e =
-    refused (list_all (in_rows dialect) (cells_at piece rotation (pos x, pos y))) (record { piece = piece; rotation = rotation; x = x; y = y }) f e
+placed_err dialect piece rotation (pos x, pos y) f e = search (rules, refused)
 placed_err dialect piece rotation (pos x, negsuc y) f e = (under dialect piece rotation (pos x) y, other_fault f e)
 placed_err dialect piece rotation (negsuc x, pos y) f e = (left_of dialect piece rotation x (pos y), other_fault f e)
 placed_err dialect piece rotation (negsuc x, negsuc y) f e = (left_of dialect piece rotation x (negsuc y), other_fault f e)
@@ -182,12 +141,7 @@ placed_inside : (dialect : Dialect) (p : Placement) → is_inside_in dialect p �
 placed_inside dialect p inside = ap (λ (b : Bool). cond b (Ok (Some p)) (Err fault.Outside)) inside
 
 placed_outside : (dialect : Dialect) (piece : Piece) (rotation : Rotation) (pivot : Cell) → list_all (in_rows dialect) (cells_at piece rotation pivot) ≡ false → placed dialect piece rotation pivot ≡ Err fault.Outside
-placed_outside dialect piece rotation (pos x, pos y) outside =
-    let p : Placement = record { piece = piece; rotation = rotation; x = x; y = y } in
-    ap (λ (b : Bool). cond b (Ok (Some p)) (Err fault.Outside)) outside
-placed_outside dialect piece rotation (pos x, negsuc y) outside = refl
-placed_outside dialect piece rotation (negsuc x, pos y) outside = refl
-placed_outside dialect piece rotation (negsuc x, negsuc y) outside = refl
+placed_outside dialect piece rotation pivot outside = search rules
 
 -- ---- the operation of a number
 
@@ -202,27 +156,14 @@ flags_in dialect number = number / (32 * page_cell_count dialect)
 names_from_parts : (dialect : Dialect) (number : ℕ) (piece : Piece) (pivot : Cell) → piece_with_code (number % 8) ≡ Some piece → moved_back (numbered_cell dialect (number / 32 % page_cell_count dialect)) (written_by piece (rotation_with_code (number / 8 % 4))) ≡ pivot
     → Names dialect number piece (rotation_with_code (number / 8 % 4)) pivot (flags_in dialect number)
 names_from_parts dialect number piece pivot named there =
-    let rotation = rotation_with_code (number / 8 % 4) in
-    let place = number / 32 % page_cell_count dialect in
-    let by = written_by piece rotation in
-    let code : piece_code piece ≡ number % 8 = eqb-true (piece_code piece) (number % 8) (ap (λ (o : Option Piece). has_code o (number % 8)) (sym named) ∙ named_code (number % 8) (omega arith)) in
-    let turn : rotation_code rotation ≡ number / 8 % 4 = rotation_code-with_code (number / 8 % 4) (omega arith) in
-    record {
-      place = place;
-      within = place_below dialect number;
-      written = sym (moved-moved_back (numbered_cell dialect place) by) ∙ ap (λ (c : Cell). moved c by) there;
-      number_is = number_of_its_parts dialect number ∙ (ap (λ (k : ℕ). number_of_parts dialect k (number / 8 % 4) place (flags_in dialect number)) (sym code) ∙ ap (λ (k : ℕ). number_of_parts dialect (piece_code piece) k place (flags_in dialect number)) (sym turn));
-    }
+    search (rules, eqb-true, named_code, rotation_code-with_code, place_below, moved-moved_back, number_of_its_parts)
 
 record IsReadAs (dialect : Dialect) (number flags : ℕ) (operation : Result (Option Placement) ActionFault) : Type 0 where
   gives : operation_in dialect number ≡ operation
   flags_are : flags_in dialect number ≡ flags
 
 read_parts : (dialect : Dialect) (number piece rotation place flags : ℕ) → PartsAre dialect number piece rotation place flags → operation_in dialect number ≡ operation_of dialect (piece_with_code piece) (rotation_with_code rotation) place
-read_parts dialect number piece rotation place flags parts =
-    ap (λ (k : ℕ). operation_of dialect (piece_with_code k) (rotation_with_code (number / 8 % 4)) (number / 32 % page_cell_count dialect)) parts.piece_is
-    ∙ (ap (λ (k : ℕ). operation_of dialect (piece_with_code piece) (rotation_with_code k) (number / 32 % page_cell_count dialect)) parts.rotation_is
-    ∙ ap (λ (k : ℕ). operation_of dialect (piece_with_code piece) (rotation_with_code rotation) k) parts.place_is)
+read_parts dialect number piece rotation place flags parts = search rules
 
 parts_of_names : (dialect : Dialect) (number : ℕ) (piece : Piece) (rotation : Rotation) (pivot : Cell) (flags : ℕ) (n : Names dialect number piece rotation pivot flags) → PartsAre dialect number (piece_code piece) (rotation_code rotation) n.place flags
 parts_of_names dialect number piece rotation pivot flags n =
@@ -273,42 +214,33 @@ says_from_operation dialect number operation e = go (piece_with_code (number % 8
         subst (λ (o : Option Placement). SaysOperation dialect number o (flags_in dialect number)) (sym p.is) (kind, p.inside)
 
 operation_from_says : (dialect : Dialect) (number : ℕ) (operation : Option Placement) (flags : ℕ) → SaysOperation dialect number operation flags → IsReadAs dialect number flags (Ok operation)
-operation_from_says dialect number None flags n =
-    let parts = parts_are dialect number 0 n.rotation n.place flags (omega arith) n.turned n.within n.number_is in
-    record { gives = read_parts dialect number 0 n.rotation n.place flags parts; flags_are = parts.flags_is }
+operation_from_says dialect number None flags n = search (rules, parts_are, read_parts, flags_are)
 operation_from_says dialect number (Some p) flags says =
     let read = read_from_names dialect number p.piece p.rotation (pivot_of p) flags says.0 in
     record { gives = read.gives ∙ placed_inside dialect p says.1; flags_are = read.flags_are }
 
 number_below : (dialect : Dialect) (number : ℕ) (operation : Option Placement) (flags : ℕ) → flags < 32 → SaysOperation dialect number operation flags → number < action_end dialect
-number_below dialect number None flags below n =
-    below_end dialect number 0 n.rotation n.place flags (omega arith) n.turned n.within below n.number_is
-number_below dialect number (Some p) flags below says =
-    let n = says.0 in below_end dialect number (piece_code p.piece) (rotation_code p.rotation) n.place flags (piece_code-below p.piece) (rotation_code-below p.rotation) n.within below n.number_is
+number_below dialect number operation flags below n = search (rules, below_end, piece_code-below, rotation_code-below)
 
 -- ---- the action of a number
 
 action_below : (dialect : Dialect) (number : ℕ) → number < action_end dialect → action_in dialect number ≡ with_flags (flags_in dialect number) (operation_in dialect number)
 unfolding action_in
-action_below dialect number below =
-    ap (λ (b : Bool). cond b (with_flags (flags_in dialect number) (operation_in dialect number)) (Err fault.TooLarge)) (lt-ltb number (action_end dialect) below)
+action_below dialect number below = search (rules, lt-ltb)
 
 pub read_from_large : (dialect : Dialect) (number : ℕ) → action_end dialect ≤ number → action_in dialect number ≡ Err fault.TooLarge
 unfolding action_in
-read_from_large dialect number large =
-    ap (λ (b : Bool). cond b (with_flags (flags_in dialect number) (operation_in dialect number)) (Err fault.TooLarge)) (le-ltb number (action_end dialect) large)
+read_from_large dialect number large = search (rules, le-ltb)
 
 -- a number of the dialect, or a larger one
 below_from_ok : (dialect : Dialect) (number : ℕ) (action : Action) → action_in dialect number ≡ Ok action → number < action_end dialect
 below_from_ok dialect number action e = elim (cases_lt number (action_end dialect)) [ inl below ↦ below | inr large ↦ absurd (let bad = sym (read_from_large dialect number large) ∙ e in cc) ]
 
 with_flags_ok : (flags : ℕ) (operation : Result (Option Placement) ActionFault) (action : Action) → with_flags flags operation ≡ Ok action → (o : Option Placement) × (operation ≡ Ok o) × (action_with flags o ≡ action)
-with_flags_ok flags (Ok o) action e = (o, refl, cc)
-with_flags_ok flags (Err f) action e = absurd cc
+with_flags_ok flags operation action e = search rules
 
 with_flags_err : (flags : ℕ) (operation : Result (Option Placement) ActionFault) (f : ActionFault) → with_flags flags operation ≡ Err f → operation ≡ Err f
-with_flags_err flags (Ok o) f e = absurd cc
-with_flags_err flags (Err g) f e = cc
+with_flags_err flags operation f e = search rules
 
 pub says_from_read : (dialect : Dialect) (number : ℕ) (action : Action) → action_in dialect number ≡ Ok action → SaysAction dialect number action
 says_from_read dialect number action e =
@@ -320,13 +252,7 @@ says_from_read dialect number action e =
     subst (λ (a : Action). SaysAction dialect number a) o.2 (subst (λ (k : ℕ). SaysOperation dialect number o.0 k) (sym same_flags) says)
 
 pub read_from_says : (dialect : Dialect) (number : ℕ) (action : Action) → SaysAction dialect number action → action_in dialect number ≡ Ok action
-read_from_says dialect number action says =
-    let flags = flags_are action in
-    let below = number_below dialect number action.operation (flags_of action) flags.below says in
-    let read = operation_from_says dialect number action.operation (flags_of action) says in
-    action_below dialect number below
-    ∙ (ap (λ (k : ℕ). with_flags k (operation_in dialect number)) read.flags_are
-    ∙ (ap (λ (o : Result (Option Placement) ActionFault). with_flags (flags_of action) o) read.gives ∙ ap (λ (a : Action). Ok a) flags.whole))
+read_from_says dialect number action says = search (rules, flags_are, number_below, operation_from_says, action_below)
 
 -- ---- why a number says no action
 
@@ -373,29 +299,18 @@ read_from_outside dialect number s =
     ∙ ap (λ (o : Result (Option Placement) ActionFault). with_flags (flags_in dialect number) o) (read.gives ∙ placed_outside dialect s.piece s.rotation s.pivot s.outside)
 
 pub large_from_read : (dialect : Dialect) (number : ℕ) → action_in dialect number ≡ Err fault.TooLarge → action_end dialect ≤ number
-large_from_read dialect number e =
-    elim (why_not dialect number fault.TooLarge e) [ inl large ↦ large.0 | inr outside ↦ absurd (let bad = outside.1 in cc) ]
+large_from_read dialect number e = search (rules, why_not)
 
 pub outside_from_read : (dialect : Dialect) (number : ℕ) → action_in dialect number ≡ Err fault.Outside → SaysOutside dialect number
-outside_from_read dialect number e =
-    elim (why_not dialect number fault.Outside e) [ inl large ↦ absurd (let bad = large.1 in cc) | inr outside ↦ outside.0 ]
+outside_from_read dialect number e = search (rules, why_not)
 
 -- ---- what follows from what a number says
 
 pub says_below : (dialect : Dialect) (number : ℕ) (action : Action) → SaysAction dialect number action → number < 245760
-says_below dialect number action says =
-    let below = number_below dialect number action.operation (flags_of action) (flags_are action).below says in
-    let most = end_most dialect in
-    omega arith
-  where
-    end_most : (d : Dialect) → action_end d ≤ 245760
-    end_most V110 = omega arith
-    end_most V115 = omega arith
+says_below dialect number action says = search (rules, number_below, flags_are)
 
 operation_inside : (dialect : Dialect) (number : ℕ) (operation : Option Placement) (flags : ℕ) → SaysOperation dialect number operation flags → ForSome operation (λ p. is_inside_in dialect p ≡ true)
-operation_inside dialect number None flags says = λ p is. absurd cc
-operation_inside dialect number (Some q) flags says = λ p is.
-    let same : q ≡ p = cc in subst (λ (x : Placement). is_inside_in dialect x ≡ true) same says.1
+operation_inside dialect number operation flags says = search rules
 
 pub says_inside : (dialect : Dialect) (number : ℕ) (action : Action) → SaysAction dialect number action → ForSome action.operation (λ p. is_inside_in dialect p ≡ true)
 says_inside dialect number action says = operation_inside dialect number action.operation (flags_of action) says

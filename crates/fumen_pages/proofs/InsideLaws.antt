@@ -1,23 +1,20 @@
 -- Cells in the rows of a dialect.
-use Rattle.std.proofs.Common.{◌≡◌, ℕ, ◌<◌, ◌≤◌, true, false, ltb, leb, pos, negsuc, List, [], ◌∷◌, refl, sym, ap, subst, ◌∙◌, ◌⊎◌, inl, inr, arith}
-use Rattle.std.specs.Prelude.{nat_abs}
+use Rattle.std.proofs.Common.{◌≡◌, ℕ, ◌<◌, ◌≤◌, true, false, pos, negsuc, List, [], ◌∷◌, refl, subst, ◌⊎◌, rules}
 use Rattle.std.specs.List.{list_all}
 use Rattle.std.proofs.lemmas.Bool.{ltb-true, leb-true, le-leb, and_parts, and_from, false_from_ne_true}
 use Rattle.std.proofs.lemmas.List.Folds.{list_all-map}
 use Rattle.fumen_digits.specs.declared.dialect.Dialect.{Dialect}
-use Rattle.fumen_digits.specs.declared.dialect.Dialect.TheVariants.{V110, V115}
 use Rattle.fumen_digits.specs.Dialect.{page_row_count}
 use Rattle.srs.specs.declared.piece.Piece.{Piece}
 use Rattle.srs.specs.declared.rotation.Rotation.{Rotation}
 use Rattle.srs.specs.declared.placement.Placement.{Placement}
-use Rattle.srs.specs.Cells.{Cell, moved, shape, cells_at, cells_of, pivot_of, in_well, is_inside_of}
+use Rattle.srs.specs.Cells.{Cell, moved, shape, cells_at, cells_of, in_well, is_inside_of}
 use Rattle.srs.specs.SameCells.{is_among}
 use Rattle.srs.proofs.CallerLemmas.{is_among-all, moved-origin, origin, pivot_in_shape}
 use Rattle.fumen_pages.specs.Action.{in_rows, is_inside_in}
 
 pub page_row_count-most : (dialect : Dialect) → page_row_count dialect ≤ 23
-page_row_count-most V110 = omega arith
-page_row_count-most V115 = omega arith
+page_row_count-most dialect = search rules
 
 -- where a cell in the rows lies
 pub record LiesIn (dialect : Dialect) (cell : Cell) : Type 0 where
@@ -28,21 +25,17 @@ pub record LiesIn (dialect : Dialect) (cell : Cell) : Type 0 where
   pub row : y < page_row_count dialect
 
 pub in_rows-place : (dialect : Dialect) (cell : Cell) → in_rows dialect cell ≡ true → LiesIn dialect cell
-in_rows-place dialect (pos x, pos y) h =
-    let parts = and_parts (leb x 9) (ltb y (page_row_count dialect)) h in
-    record { x = x; y = y; is = refl; column = leb-true x 9 parts.0; row = ltb-true y (page_row_count dialect) parts.1 }
+in_rows-place dialect (pos x, pos y) h = search (rules, and_parts, leb-true, ltb-true)
 in_rows-place dialect (pos x, negsuc y) h = absurd cc
 in_rows-place dialect (negsuc x, pos y) h = absurd cc
 in_rows-place dialect (negsuc x, negsuc y) h = absurd cc
 
 -- each cell of a piece that is inside
 pub cell_in_rows : (dialect : Dialect) (piece : Piece) (rotation : Rotation) (pivot move : Cell) → list_all (in_rows dialect) (cells_at piece rotation pivot) ≡ true → is_among (shape piece rotation) move ≡ true → in_rows dialect (moved pivot move) ≡ true
-cell_in_rows dialect piece rotation pivot move inside has =
-    is_among-all (λ c. in_rows dialect (moved pivot c)) (shape piece rotation) move (sym (list_all-map (in_rows dialect) (moved pivot) (shape piece rotation)) ∙ inside) has
+cell_in_rows dialect piece rotation pivot move inside has = search (rules, is_among-all, list_all-map)
 
 pub cell_inside : (dialect : Dialect) (piece : Piece) (rotation : Rotation) (pivot move : Cell) → list_all (in_rows dialect) (cells_at piece rotation pivot) ≡ true → is_among (shape piece rotation) move ≡ true → LiesIn dialect (moved pivot move)
-cell_inside dialect piece rotation pivot move inside has =
-    in_rows-place dialect (moved pivot move) (cell_in_rows dialect piece rotation pivot move inside has)
+cell_inside dialect piece rotation pivot move inside has = search (rules, in_rows-place, cell_in_rows)
 
 -- so does its pivot
 pub pivot_inside_in : (dialect : Dialect) (piece : Piece) (rotation : Rotation) (pivot : Cell) → list_all (in_rows dialect) (cells_at piece rotation pivot) ≡ true → LiesIn dialect pivot
@@ -51,21 +44,12 @@ pivot_inside_in dialect piece rotation pivot inside =
 
 -- a pivot far away is that of no placement inside
 pub far_outside : (dialect : Dialect) (p : Placement) → (31 < p.x) ⊎ (31 < p.y) → false ≡ is_inside_in dialect p
-far_outside dialect p far =
-    sym (false_from_ne_true (is_inside_in dialect p) (λ inside.
-    let at = pivot_inside_in dialect p.piece p.rotation (pivot_of p) inside in
-    let x : p.x ≡ at.x = ap (λ (c : Cell). nat_abs c.0) at.is in
-    let y : p.y ≡ at.y = ap (λ (c : Cell). nat_abs c.1) at.is in
-    let most = page_row_count-most dialect in
-    elim far [ inl column ↦ omega (arith, at.column) | inr row ↦ omega (arith, at.row) ]))
+far_outside dialect p far = search (rules, false_from_ne_true, pivot_inside_in, page_row_count-most)
 
 -- ---- in the well of 23 rows
 
 in_rows-in_well : (dialect : Dialect) (cell : Cell) → in_rows dialect cell ≡ true → in_well cell ≡ true
-in_rows-in_well dialect cell h =
-    let at = in_rows-place dialect cell h in
-    let most = page_row_count-most dialect in
-    subst (λ (c : Cell). in_well c ≡ true) (sym at.is) (and_from (leb at.x 9) (leb at.y 22) (le-leb at.x 9 at.column) (le-leb at.y 22 (omega (arith, at.row))))
+in_rows-in_well dialect cell h = search (rules, in_rows-place, page_row_count-most, and_from, le-leb)
 
 all_in_well : (dialect : Dialect) (cells : List Cell) → list_all (in_rows dialect) cells ≡ true → list_all in_well cells ≡ true
 all_in_well dialect [] all = refl

@@ -1,13 +1,14 @@
 -- What a page leaves: filled cells, rows without the full ones, risen and mirrored rows, and that they are cells again.
-use Rattle.std.proofs.Common.{◌≡◌, ℕ, suc, ◌+◌, ◌-◌, ◌*◌, ◌<◌, ◌≤◌, Bool, true, false, not, cond, List, [], ◌∷◌, ◌++◌, length, get_or, set, take, drop, map, refl, sym, ap, subst, ◌∙◌, append_assoc, arith}
-use Rattle.std.specs.Prelude.{filter, fold, replicate, reverse}
+use Rattle.std.proofs.Common.{◌≡◌, ℕ, suc, ◌+◌, ◌-◌, ◌*◌, ◌<◌, ◌≤◌, Bool, true, false, not, cond, List, [], ◌∷◌, ◌++◌, length, get_or, set, take, drop, map, refl, sym, ap, subst, ◌∙◌, append_assoc, arith, rules}
+use Rattle.std.specs.Prelude.{filter, fold, reverse}
 use Rattle.std.specs.List.{between}
 use Rattle.std.proofs.lemmas.List.Elements.{filter-append}
 use Rattle.std.proofs.lemmas.List.Filters.{length-filter_both}
 use Rattle.std.proofs.lemmas.List.{take-take, append-nil, take-append-drop, drop-append-le, drop-drop, drop_at, take_at, drop_all, take_all, length-append, length-drop, length-take-le, length-reverse, map-append}
+use Rattle.std.proofs.lemmas.Grind.{common_steps}
 use borrow.Rule.Slice.PartMut.{put_mid, mid_of}
 use Rattle.fumen_digits.specs.declared.dialect.Dialect.{Dialect}
-use Rattle.fumen_digits.specs.declared.dialect.Dialect.TheVariants.{V110, V115}
+use Rattle.fumen_digits.specs.declared.dialect.Dialect.TheVariants.{V115}
 use Rattle.fumen_digits.specs.Dialect.{page_row_count}
 use Rattle.srs.specs.declared.placement.Placement.{Placement}
 use Rattle.srs.specs.Cells.{Cell, cells_of}
@@ -22,21 +23,13 @@ abbrev written_at : ℕ → List ℕ → Cell → List ℕ
 written_at value before cell = set before (place_of V115 cell) value
 
 fold_four : (f : List ℕ → Cell → List ℕ) (a : List ℕ) (cells : List Cell) (d : Cell) → length cells ≡ 4 → f (f (f (f a (get_or cells 0 d)) (get_or cells 1 d)) (get_or cells 2 d)) (get_or cells 3 d) ≡ fold f a cells
-fold_four f a (x ∷ y ∷ z ∷ w ∷ []) d four = refl
-fold_four f a [] d four = absurd (omega arith)
-fold_four f a (x ∷ []) d four = absurd (omega arith)
-fold_four f a (x ∷ y ∷ []) d four = absurd (omega arith)
-fold_four f a (x ∷ y ∷ z ∷ []) d four = absurd (omega arith)
-fold_four f a (x ∷ y ∷ z ∷ w ∷ v ∷ cells) d four = absurd (omega arith)
+fold_four f a cells d four = search (rules, common_steps)
 
 pub marked_four : (p : Placement) (cells : List Cell) (value : ℕ) (d : Cell) (a b c e f : List ℕ) → cells ≡ cells_of p
     → b ≡ set a (place_of V115 (get_or cells 0 d)) value → c ≡ set b (place_of V115 (get_or cells 1 d)) value → e ≡ set c (place_of V115 (get_or cells 2 d)) value → f ≡ set e (place_of V115 (get_or cells 3 d)) value
     → f ≡ marked p value a
 unfolding marked
-marked_four p cells value d a b c e f there one two three four =
-    let set_at = written_at value in
-    four ∙ (ap (λ (x : List ℕ). set_at x (get_or cells 3 d)) (three ∙ ap (λ (x : List ℕ). set_at x (get_or cells 2 d)) (two ∙ ap (λ (x : List ℕ). set_at x (get_or cells 1 d)) one))
-    ∙ (fold_four set_at a cells d (ap length there ∙ cells_length p) ∙ ap (λ (xs : List Cell). fold set_at a xs) there))
+marked_four p cells value d a b c e f there one two three four = search (rules, fold_four, cells_length)
 
 -- ---- rows that move
 
@@ -50,22 +43,12 @@ lowered rows turned first room is none =
 pub lifted : (rows turned last : List ℕ) → 10 ≤ length rows → turned ≡ drop 10 rows ++ take 10 rows → last ≡ empty_row
     → put_mid (length turned - 10) (length turned - (length turned - 10)) turned last ≡ drop 10 rows ++ empty_row
 lifted rows turned last room is none =
-    let n = length turned - 10 in
-    let k = length turned - n in
-    let whole = ap length is ∙ length-append (drop 10 rows) (take 10 rows) in
-    let front = length-drop 10 rows in
-    let ten = length-take-le 10 rows room in
-    let there : length (drop 10 rows) ≡ n = omega arith in
-    let first : take n turned ≡ drop 10 rows = ap (λ (xs : List ℕ). take n xs) is ∙ take_at (drop 10 rows) (take 10 rows) n there in
-    let left = length-drop n turned in
-    let gone : drop k (drop n turned) ≡ [] = drop_all k (drop n turned) (omega arith) in
-    ap (λ (xs : List ℕ). xs ++ (last ++ drop k (drop n turned))) first ∙ ap (λ (xs : List ℕ). drop 10 rows ++ xs) (ap (λ (xs : List ℕ). last ++ xs) gone ∙ (append-nil last ∙ none))
+    search (rules, length-append, length-drop, length-take-le, take_at, drop_all, append-nil)
 
 -- ---- the rows of a page
 
 pub rows_end : (dialect : Dialect) → missing_count dialect + 10 * page_row_count dialect ≡ 230
-rows_end V110 = refl
-rows_end V115 = refl
+rows_end dialect = search rules
 
 same_rows : (a b : List (List ℕ)) (c d : List ℕ) → a ≡ b → c ≡ d → ◌≡◌ {A = Rows} (record { field = a; garbage = c }) (record { field = b; garbage = d })
 same_rows a b c d e f = λ i. record { field = e i; garbage = f i }
@@ -94,8 +77,7 @@ unfolding rows_in
 first_row n xs = refl
 
 row_count-least : (dialect : Dialect) → 1 ≤ page_row_count dialect
-row_count-least V110 = omega arith
-row_count-least V115 = omega arith
+row_count-least dialect = search rules
 
 pub risen_rows : (dialect : Dialect) (old page : List ℕ) → length old ≡ 240 → page ≡ take (missing_count dialect) old ++ (drop 10 (drop (missing_count dialect) old) ++ empty_row)
     → (rows_of dialect page ≡ risen true (rows_of dialect old)) × (take (missing_count dialect) page ≡ take (missing_count dialect) old)
@@ -124,27 +106,16 @@ risen_rows dialect old page size is =
 pub risen_from : (dialect : Dialect) (rise : Bool) (old lifted_rows : List ℕ) (top k : ℕ) → length old ≡ 240 → rise ≡ true → top ≡ missing_count dialect → k ≡ 240 - top → lifted_rows ≡ drop 10 (mid_of top k old) ++ empty_row
     → rows_of dialect (put_mid top k old lifted_rows) ≡ risen rise (rows_of dialect old)
 risen_from dialect rise old lifted_rows top k size rises at rest is =
-    let left = length-drop top old in
-    let all : mid_of top k old ≡ drop top old = take_all k (drop top old) (omega arith) in
-    let none : drop k (drop top old) ≡ [] = drop_all k (drop top old) (omega arith) in
-    let written : put_mid top k old lifted_rows ≡ take top old ++ (drop 10 (drop top old) ++ empty_row) = ap (λ (xs : List ℕ). take top old ++ xs) (ap (λ (xs : List ℕ). lifted_rows ++ xs) none ∙ (append-nil lifted_rows ∙ (is ∙ ap (λ (xs : List ℕ). drop 10 xs ++ empty_row) all))) in
-    let there : put_mid top k old lifted_rows ≡ take (missing_count dialect) old ++ (drop 10 (drop (missing_count dialect) old) ++ empty_row) = written ∙ ap (λ (n : ℕ). take n old ++ (drop 10 (drop n old) ++ empty_row)) at in
-    (risen_rows dialect old (put_mid top k old lifted_rows) size there).0 ∙ ap (λ (b : Bool). risen b (rows_of dialect old)) (sym rises)
+    search (rules, length-drop, take_all, drop_all, append-nil, risen_rows)
 
 -- ---- mirror
 
 -- a row of the page is among its cells
 pub row_room : (dialect : Dialect) (old : List ℕ) (i : ℕ) → length old ≡ 240 → i < page_row_count dialect → (missing_count dialect ≤ length old) × (10 * (i + 1) ≤ length (drop (missing_count dialect) old))
-row_room dialect old i size lt =
-    let end = rows_end dialect in
-    let left = length-drop (missing_count dialect) old in
-    (omega arith, omega arith)
+row_room dialect old i size lt = search (rules, rows_end, length-drop)
 
 pub old_row-length : (dialect : Dialect) (old : List ℕ) (i : ℕ) → length old ≡ 240 → i < page_row_count dialect → IsRow (old_row old (missing_count dialect) i)
-old_row-length dialect old i size lt =
-    let room = (row_room dialect old i size lt).1 in
-    let left = length-drop (10 * i) (drop (missing_count dialect) old) in
-    length-take-le 10 (drop (10 * i) (drop (missing_count dialect) old)) (omega arith)
+old_row-length dialect old i size lt = search (rules, row_room, length-drop, length-take-le)
 
 -- the rows so far, and one more
 rows_so_far : (old : List ℕ) (m i : ℕ) → rows_in (i + 1) (drop m old) ≡ rows_in i (drop m old) ++ old_row old m i ∷ []
@@ -183,28 +154,18 @@ kept_least rows = let both = length-filter_both (λ r. not (is_full_page_row r))
 
 pub without_full_kept : (row : List ℕ) (rows : List (List ℕ)) → is_full_page_row row ≡ false → without_full (rows ++ row ∷ []) ≡ without_full rows ++ row ∷ []
 unfolding without_full
-without_full_kept row rows gap =
-    let kept = filter (λ r. not (is_full_page_row r)) rows in
-    let same : length (rows ++ row ∷ []) - length (kept ++ row ∷ []) ≡ length rows - length kept = omega (arith, length-append rows (row ∷ []), length-append kept (row ∷ [])) in
-    ap (λ (xs : List (List ℕ)). replicate (length (rows ++ row ∷ []) - length xs) empty_row ++ xs) (all_kept row rows gap)
-    ∙ (ap (λ (n : ℕ). replicate n empty_row ++ (kept ++ row ∷ [])) same ∙ sym (append_assoc (replicate (length rows - length kept) empty_row) kept (row ∷ [])))
+without_full_kept row rows gap = search (rules, length-append, all_kept, append_assoc)
 
 pub without_full_gone : (row : List ℕ) (rows : List (List ℕ)) → is_full_page_row row ≡ true → without_full (rows ++ row ∷ []) ≡ empty_row ∷ without_full rows
 unfolding without_full
-without_full_gone row rows full =
-    let kept = filter (λ r. not (is_full_page_row r)) rows in
-    let more : length (rows ++ row ∷ []) - length kept ≡ suc (length rows - length kept) = omega (arith, length-append rows (row ∷ []), kept_least rows) in
-    ap (λ (xs : List (List ℕ)). replicate (length (rows ++ row ∷ []) - length xs) empty_row ++ xs) (none_kept row rows full)
-    ∙ ap (λ (n : ℕ). replicate n empty_row ++ kept) more
+without_full_gone row rows full = search (rules, length-append, kept_least, none_kept)
 
 abbrev pub cleared_so_far : Dialect → List ℕ → ℕ → List (List ℕ)
 cleared_so_far dialect old i = without_full (rows_in i (drop (missing_count dialect) old))
 
 -- the row that is looked at
 pub looked_at : (dialect : Dialect) (old page : List ℕ) (i start end : ℕ) (done : List (List ℕ)) → length old ≡ 240 → i < page_row_count dialect → start ≡ missing_count dialect + 10 * i → end ≡ start + 10 → IsDone old page (missing_count dialect) i done → between start end page ≡ old_row old (missing_count dialect) i
-looked_at dialect old page i start end done size lt at ten s =
-    let k : end - start ≡ 10 = omega arith in
-    ap (λ (n : ℕ). take n (drop start page)) k ∙ row_there old page (missing_count dialect) i start done (row_room dialect old i size lt).0 at s
+looked_at dialect old page i start end done size lt at ten s = search (rules, row_there, row_room)
 
 pub cleared_kept : (dialect : Dialect) (old page : List ℕ) (i : ℕ) → length old ≡ 240 → i < page_row_count dialect → is_full_page_row (old_row old (missing_count dialect) i) ≡ false → IsDone old page (missing_count dialect) i (cleared_so_far dialect old i)
     → IsDone old page (missing_count dialect) (i + 1) (cleared_so_far dialect old (i + 1))
@@ -252,14 +213,8 @@ field_is dialect old i all = ap (λ (n : ℕ). rows_in n (drop (missing_count di
 
 pub mirrored_all : (dialect : Dialect) (old page : List ℕ) (i : ℕ) → length old ≡ 240 → i ≡ page_row_count dialect → IsDone old page (missing_count dialect) i (mirrored_so_far dialect old i)
     → (rows_of dialect page ≡ mirrored_rows true (rows_of dialect old)) × (take (missing_count dialect) page ≡ take (missing_count dialect) old)
-mirrored_all dialect old page i size all s =
-    let done = rows_done dialect old page i (mirrored_so_far dialect old i) size all s in
-    let garbage = (rows_of dialect old).garbage in
-    (done.0 ∙ same_rows (mirrored_so_far dialect old i) (map reverse (rows_of dialect old).field) garbage garbage (ap (λ (xs : List (List ℕ)). map reverse xs) (field_is dialect old i all)) refl, done.1)
+mirrored_all dialect old page i size all s = grind (arith, common_steps, rows_done, same_rows, field_is)
 
 pub cleared_all : (dialect : Dialect) (old page : List ℕ) (i : ℕ) → length old ≡ 240 → i ≡ page_row_count dialect → IsDone old page (missing_count dialect) i (cleared_so_far dialect old i)
     → (rows_of dialect page ≡ cleared (rows_of dialect old)) × (take (missing_count dialect) page ≡ take (missing_count dialect) old)
-cleared_all dialect old page i size all s =
-    let done = rows_done dialect old page i (cleared_so_far dialect old i) size all s in
-    let garbage = (rows_of dialect old).garbage in
-    (done.0 ∙ same_rows (cleared_so_far dialect old i) (without_full (rows_of dialect old).field) garbage garbage (ap without_full (field_is dialect old i all)) refl, done.1)
+cleared_all dialect old page i size all s = grind (arith, common_steps, rows_done, same_rows, field_is)

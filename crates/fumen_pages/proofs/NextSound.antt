@@ -1,16 +1,15 @@
 -- What a page leaves are cells of the dialect again, and its rows come one after the other.
-use Rattle.std.proofs.Common.{◌≡◌, ℕ, zero, suc, ◌+◌, ◌-◌, ◌*◌, ◌<◌, ◌≤◌, Bool, true, false, not, cond, List, [], ◌∷◌, ◌++◌, length, set, take, drop, All, Option, Some, None, refl, sym, ap, subst, ◌∙◌, arith}
-use Rattle.std.specs.Prelude.{filter, fold, replicate, reverse}
+use Rattle.std.proofs.Common.{◌≡◌, ℕ, zero, suc, ◌+◌, ◌-◌, ◌*◌, ◌≤◌, Bool, true, false, List, [], ◌∷◌, ◌++◌, length, set, take, drop, All, Option, Some, None, refl, sym, ap, subst, ◌∙◌, arith, rules}
+use Rattle.std.specs.Prelude.{fold, replicate, reverse}
 use Rattle.std.specs.List.{list_all}
 use Rattle.std.specs.Option.{ForSome}
 use Rattle.std.proofs.lemmas.Bool.{and_parts}
 use Rattle.std.proofs.lemmas.List.{take-append-drop, take_at, drop-drop, length-set, take-set-le, length-append, length-drop, length-take-le, length-map, length-reverse, length-replicate, get_or-reverse}
 use Rattle.std.proofs.lemmas.List.Elements.{All-nil, All-cons, All-head, All-tail, All-replicate, All-get_or, All-from_get_or, All-append, All-set, All-weaker, All-take, All-drop, All-map, All-filter}
 use Rattle.fumen_digits.specs.declared.dialect.Dialect.{Dialect}
-use Rattle.fumen_digits.specs.declared.dialect.Dialect.TheVariants.{V110, V115}
+use Rattle.fumen_digits.specs.declared.dialect.Dialect.TheVariants.{V115}
 use Rattle.fumen_digits.specs.Dialect.{page_row_count}
 use Rattle.srs.specs.declared.piece.Piece.{Piece}
-use Rattle.srs.specs.declared.piece.Piece.TheVariants.{I, L, O, Z, T, J, S}
 use Rattle.srs.specs.declared.placement.Placement.{Placement}
 use Rattle.srs.specs.Piece.{piece_code}
 use Rattle.srs.specs.Cells.{Cell, cells_of}
@@ -18,7 +17,7 @@ use Rattle.fumen_pages.specs.declared.page.Page.{Page}
 use Rattle.fumen_pages.specs.Cells.{IsColour, missing_count, shown, AreCells, place_of}
 use Rattle.fumen_pages.specs.Action.{in_rows, is_inside_in}
 use Rattle.fumen_pages.specs.Sound.{IsSound}
-use Rattle.fumen_pages.specs.Next.{Rows, rows_in, rows_of, cells_of_rows, empty_row, marked, operation_filled, is_full_page_row, without_full, cleared, risen, mirrored_rows, next}
+use Rattle.fumen_pages.specs.Next.{Rows, rows_in, rows_of, cells_of_rows, empty_row, marked, operation_filled, without_full, cleared, risen, mirrored_rows, next}
 use Rattle.fumen_pages.proofs.InsideLaws.{in_rows-place}
 use Rattle.fumen_pages.proofs.RowLaws.{flat, flat-rows_in, length-rows_in}
 use Rattle.fumen_pages.proofs.NextLaws.{rows_end, kept_least}
@@ -57,26 +56,17 @@ rows_of-good dialect cells size colours =
 
 without_full-good : (rows : List (List ℕ)) → All IsGoodRow rows → All IsGoodRow (without_full rows)
 unfolding without_full
-without_full-good rows good =
-    let kept = filter (λ row. not (is_full_page_row row)) rows in
-    All-append IsGoodRow (replicate (length rows - length kept) empty_row) kept (All-replicate IsGoodRow (length rows - length kept) empty_row empty_row-good) (All-filter (λ row. not (is_full_page_row row)) IsGoodRow rows good)
+without_full-good rows good = search (rules, All-append, All-replicate, empty_row-good, All-filter)
 
 length-without_full : (rows : List (List ℕ)) → length (without_full rows) ≡ length rows
 unfolding without_full
-length-without_full rows =
-    let kept = filter (λ row. not (is_full_page_row row)) rows in
-    let all = length-append (replicate (length rows - length kept) empty_row) kept in
-    let empties = length-replicate (length rows - length kept) empty_row in
-    let least = kept_least rows in
-    omega arith
+length-without_full rows = search (rules, length-append, length-replicate, kept_least)
 
 cleared-good : (dialect : Dialect) (rows : Rows) → AreRowsOf dialect rows → AreRowsOf dialect (cleared rows)
-cleared-good dialect rows good =
-    record { field = without_full-good rows.field good.field; count = length-without_full rows.field ∙ good.count; last = good.last }
+cleared-good dialect rows good = search (rules, without_full-good, length-without_full)
 
 row_count-positive : (dialect : Dialect) → 1 ≤ page_row_count dialect
-row_count-positive V110 = omega arith
-row_count-positive V115 = omega arith
+row_count-positive dialect = search rules
 
 risen-good : (dialect : Dialect) (rise : Bool) (rows : Rows) → AreRowsOf dialect rows → AreRowsOf dialect (risen rise rows)
 risen-good dialect false rows good = good
@@ -92,23 +82,11 @@ risen-good dialect true rows good =
     }
 
 reverse-good : (row : List ℕ) → IsGoodRow row → IsGoodRow (reverse row)
-reverse-good row good = (
-  length-reverse row ∙ good.0,
-  All-from_get_or IsColour (reverse row) 0 (λ i lt.
-      let len = length-reverse row in
-      let inside : i < length row = omega arith in
-      let there : length row - 1 - i < length row = omega arith in
-      subst IsColour (sym (get_or-reverse row i 0 inside)) (All-get_or IsColour row (length row - 1 - i) 0 there good.1)),
-)
+reverse-good row good = search (rules, length-reverse, All-from_get_or, get_or-reverse, All-get_or)
 
 mirrored-good : (dialect : Dialect) (mirror : Bool) (rows : Rows) → AreRowsOf dialect rows → AreRowsOf dialect (mirrored_rows mirror rows)
 mirrored-good dialect false rows good = good
-mirrored-good dialect true rows good =
-    record {
-      field = All-map IsGoodRow reverse rows.field (All-weaker IsGoodRow (λ row. IsGoodRow (reverse row)) reverse-good rows.field good.field);
-      count = length-map rows.field reverse ∙ good.count;
-      last = good.last;
-    }
+mirrored-good dialect true rows good = search (rules, All-map, All-weaker, reverse-good, length-map)
 
 -- ---- rows as cells
 
@@ -153,21 +131,11 @@ cells_of_rows-rows_of dialect cells size empty =
 -- ---- filled cells
 
 piece_code-colour : (piece : Piece) → piece_code piece ≤ 8
-piece_code-colour I = omega arith
-piece_code-colour L = omega arith
-piece_code-colour O = omega arith
-piece_code-colour Z = omega arith
-piece_code-colour T = omega arith
-piece_code-colour J = omega arith
-piece_code-colour S = omega arith
+piece_code-colour piece = search rules
 
 -- the cells of the operation lie among those of the dialect
 place_of-shown : (dialect : Dialect) (cell : Cell) → in_rows dialect cell ≡ true → missing_count dialect ≤ place_of V115 cell
-place_of-shown dialect cell inside =
-    let at = in_rows-place dialect cell inside in
-    let row = at.row in
-    let end = rows_end dialect in
-    subst (λ (c : Cell). missing_count dialect ≤ place_of V115 c) (sym at.is) (omega arith)
+place_of-shown dialect cell inside = search (rules, in_rows-place, rows_end)
 
 -- some cells are painted
 record ArePainted (dialect : Dialect) (before after : List ℕ) : Type 0 where
@@ -193,20 +161,17 @@ marked-painted dialect p colour before good inside = painted_cells dialect colou
 filled-painted : (dialect : Dialect) (operation : Option Placement) (before : List ℕ) → ForSome operation (λ p. is_inside_in dialect p ≡ true) → ArePainted dialect before (operation_filled operation before)
 unfolding operation_filled
 filled-painted dialect None before inside = record { size = refl; colours = λ all. all; missing = refl }
-filled-painted dialect (Some p) before inside =
-    marked-painted dialect p (piece_code p.piece) before (piece_code-colour p.piece) (inside p refl)
+filled-painted dialect (Some p) before inside = search (rules, marked-painted, piece_code-colour)
 
 -- ---- what a page leaves
 
 next_kept : (dialect : Dialect) (page : Page) → page.lock ≡ false → next dialect page ≡ page.cells
 unfolding next
-next_kept dialect page open_page =
-    ap (λ (b : Bool). cond b (cells_of_rows dialect (mirrored_rows page.mirror (risen page.rise (cleared (rows_of dialect (operation_filled page.operation page.cells)))))) page.cells) open_page
+next_kept dialect page open_page = search rules
 
 next_locked : (dialect : Dialect) (page : Page) → page.lock ≡ true → next dialect page ≡ cells_of_rows dialect (mirrored_rows page.mirror (risen page.rise (cleared (rows_of dialect (operation_filled page.operation page.cells)))))
 unfolding next
-next_locked dialect page locked =
-    ap (λ (b : Bool). cond b (cells_of_rows dialect (mirrored_rows page.mirror (risen page.rise (cleared (rows_of dialect (operation_filled page.operation page.cells)))))) page.cells) locked
+next_locked dialect page locked = search rules
 
 -- a sound page leaves cells of the dialect
 pub next_cells_sound : (dialect : Dialect) (page : Page) → IsSound dialect page → AreCells dialect (next dialect page)
@@ -230,7 +195,4 @@ pub left_locked : (dialect : Dialect) (page : Page) (a b c d : List ℕ) → IsS
     → rows_of dialect c ≡ risen page.rise (rows_of dialect b) → take (missing_count dialect) c ≡ take (missing_count dialect) b
     → rows_of dialect d ≡ mirrored_rows page.mirror (rows_of dialect c) → take (missing_count dialect) d ≡ take (missing_count dialect) c → d ≡ next dialect page
 left_locked dialect page a b c d sound locked size fill clear clear_kept rise rise_kept mirror mirror_kept =
-    let painted = filled-painted dialect page.operation page.cells sound.inside in
-    let empty : take (missing_count dialect) d ≡ replicate (missing_count dialect) 0 = mirror_kept ∙ (rise_kept ∙ (clear_kept ∙ (ap (λ (xs : List ℕ). take (missing_count dialect) xs) fill ∙ (painted.missing ∙ sound.cells.missing)))) in
-    let rows : rows_of dialect d ≡ mirrored_rows page.mirror (risen page.rise (cleared (rows_of dialect (operation_filled page.operation page.cells)))) = mirror ∙ ap (λ (r : Rows). mirrored_rows page.mirror r) (rise ∙ ap (λ (r : Rows). risen page.rise r) (clear ∙ ap (λ (xs : List ℕ). cleared (rows_of dialect xs)) fill)) in
-    cells_of_rows-rows_of dialect d size empty ∙ (ap (λ (r : Rows). cells_of_rows dialect r) rows ∙ sym (next_locked dialect page locked))
+    search (rules, filled-painted, cells_of_rows-rows_of, next_locked)

@@ -1,5 +1,5 @@
 -- A page whose tail is read stands there, and what stands there is read; a fault is the first one there.
-use Rattle.std.proofs.Common.{◌≡◌, ℕ, ◌+◌, ◌≤◌, Bool, true, false, List, [], ◌++◌, length, Option, Some, None, Result, Ok, Err, refl, sym, ap, subst, ◌∙◌, inl, inr, arith}
+use Rattle.std.proofs.Common.{◌≡◌, ℕ, ◌+◌, ◌≤◌, Bool, true, false, List, ◌++◌, length, Option, Some, None, Result, Ok, Err, refl, sym, ap, subst, ◌∙◌, inl, inr, arith, rules}
 use Rattle.std.specs.Prelude.{IsTrue, is_some}
 use Rattle.std.specs.Option.{ForSome}
 use Rattle.fumen_digits.specs.declared.dialect.Dialect.{Dialect}
@@ -30,12 +30,10 @@ record ActionStands (dialect : Dialect) (ds : List ℕ) (place : ℕ) (action : 
   says : SaysAction dialect number action
 
 seen_ok : (place page : ℕ) (read : Result Action ActionFault) (action : Action) → seen_action place page read ≡ Ok action → read ≡ Ok action
-seen_ok place page (Ok a) action e = let same : a ≡ action = cc in ap (λ (x : Action). Ok x) same
-seen_ok place page (Err f) action e = absurd cc
+seen_ok place page read action e = search rules
 
 seen_err : (place page : ℕ) (read : Result Action ActionFault) (f : FumenFault) → seen_action place page read ≡ Err f → (g : ActionFault) × (read ≡ Err g) × (f ≡ action_fault place page g)
-seen_err place page (Ok a) f e = absurd cc
-seen_err place page (Err g) f e = (g, refl, let same : f ≡ action_fault place page g = cc in same)
+seen_err place page read f e = search rules
 
 abbrev seen_at : Dialect → ℕ → ℕ → ℕ → Result Action FumenFault
 seen_at dialect page place number = seen_action place page (action_in dialect number)
@@ -54,9 +52,7 @@ comment_due dialect page ds place action le read flagged =
 
 read_from_action : (dialect : Dialect) (page : ℕ) (ds : List ℕ) (place : ℕ) (action : Action) → ActionStands dialect ds place action → action_at dialect page ds place ≡ Ok action
 unfolding action_at
-read_from_action dialect page ds place action s =
-    ok_bind (number_at ds place 3) (λ number. seen_at dialect page place number) s.number (read_from_stands ds place place 3 s.number s.stands)
-    ∙ ap (λ (r : Result Action ActionFault). seen_action place page r) (read_from_says dialect s.number action s.says)
+read_from_action dialect page ds place action s = search (rules, ok_bind, read_from_stands, read_from_says)
 
 -- ---- the comment
 
@@ -72,8 +68,7 @@ done_part x y e = cc
 
 part_from_read : (has : Bool) (ds : List ℕ) (place : ℕ) (part : Option (List ℕ) × ℕ) → place ≤ length ds → part_at has ds place ≡ Ok part → PartStands has ds place part.0 part.1
 unfolding part_at
-part_from_read false ds place part le e =
-    subst (λ (x : Option (List ℕ) × ℕ). PartStands false ds place x.0 x.1) (done_part (None, place) part e) (record { text = []; stands = Stands-nil ds place le; spells = refl; flagged = refl })
+part_from_read false ds place part le e = search (rules, done_part, Stands-nil)
 part_from_read true ds place part le e =
     let x = bind_ok (comment_at ds place) (λ comment. Ok (Some comment.0, comment.1)) part e in
     let c = comment_from_read ds place x.0.0 x.0.1 le x.1 in
@@ -81,21 +76,13 @@ part_from_read true ds place part le e =
 
 read_from_part : (comment : Option (List ℕ)) (ds : List ℕ) (place end : ℕ) (text : List ℕ) → Stands ds place text end → SpellsPart comment text → part_at (is_some comment) ds place ≡ Ok (comment, end)
 unfolding part_at
-read_from_part None ds place end text stands spells =
-    let none : length text ≡ 0 = ap length spells in
-    let same : place ≡ end = omega (arith, stands.upto) in
-    ap (λ (k : ℕ). Ok (None, k)) same
+read_from_part None ds place end text stands spells = search rules
 read_from_part (Some units) ds place end text stands spells =
     ok_bind (comment_at ds place) (λ comment. Ok (Some comment.0, comment.1)) (units, end) (read_from_comment ds place units end (record { text = text; stands = stands; spells = spells }))
 
 part_fault_from_read : (has : Bool) (ds : List ℕ) (place : ℕ) (f : FumenFault) → place ≤ length ds → part_at has ds place ≡ Err f → (has ≡ true) × IsCommentFault ds place f
 unfolding part_at
-part_fault_from_read false ds place f le e = absurd cc
-part_fault_from_read true ds place f le e =
-    elim (bind_err (comment_at ds place) (λ comment. Ok (Some comment.0, comment.1)) f e) [
-      | inl bad ↦ (refl, comment_fault_from_read ds place f le bad)
-      | inr x ↦ absurd (let never = x.2 in cc)
-    ]
+part_fault_from_read has ds place f le e = search (rules, bind_err, comment_fault_from_read)
 
 read_from_part_fault : (has : Bool) (ds : List ℕ) (place : ℕ) (f : FumenFault) → has ≡ true → IsCommentFault ds place f → part_at has ds place ≡ Err f
 unfolding part_at
@@ -114,15 +101,7 @@ abbrev then_part : List ℕ → List ℕ → ℕ → Action → Result (Page × 
 then_part cells ds place action = part_at action.comment ds (place + 3) >>= λ part. then_page cells action part
 
 same_action : (cells : List ℕ) (action : Action) (comment : Option (List ℕ)) → is_some comment ≡ action.comment → action_of (page_of cells action comment) ≡ action
-same_action cells action comment e = λ i.
-    record {
-      operation = action.operation;
-      rise = action.rise;
-      mirror = action.mirror;
-      colour = action.colour;
-      lock = action.lock;
-      comment = e i;
-    }
+same_action cells action comment e = search rules
 
 tail_stands : (dialect : Dialect) (cells ds : List ℕ) (place : ℕ) (action : Action) (comment : Option (List ℕ)) (end : ℕ) → ActionStands dialect ds place action → PartStands action.comment ds (place + 3) comment end → TailStands dialect ds place (page_of cells action comment) end
 tail_stands dialect cells ds place action comment end a p =
@@ -184,11 +163,7 @@ read_from_page dialect cells number ds place page end same t =
 -- ---- faults
 
 fault_of_action : (dialect : Dialect) (page : ℕ) (ds : List ℕ) (place number : ℕ) (f : FumenFault) (g : ActionFault) → NumberStands ds place 3 number → action_in dialect number ≡ Err g → f ≡ action_fault place page g → IsTailFault dialect page ds place f
-fault_of_action dialect page ds place number f g stands e is =
-    elim (why_not dialect number g e) [
-      | inl large ↦ inr (inl (record { number = number; stands = stands; large = large.0 }, is ∙ ap (λ (h : ActionFault). action_fault place page h) large.1))
-      | inr outside ↦ inr (inr (inl (record { number = number; stands = stands; outside = outside.0 }, is ∙ ap (λ (h : ActionFault). action_fault place page h) outside.1)))
-    ]
+fault_of_action dialect page ds place number f g stands e is = search (rules, why_not)
 
 action_fault_from_read : (dialect : Dialect) (page : ℕ) (ds : List ℕ) (place : ℕ) (f : FumenFault) → place ≤ length ds → action_at dialect page ds place ≡ Err f → IsTailFault dialect page ds place f
 unfolding action_at
@@ -217,15 +192,11 @@ tail_fault_from_read dialect cells number ds place f le e =
 
 number_fault_read : (dialect : Dialect) (cells : List ℕ) (number : ℕ) (ds : List ℕ) (place n : ℕ) (g : ActionFault) → NumberStands ds place 3 n → action_in dialect n ≡ Err g → page_at dialect cells number ds place ≡ Err (action_fault place number g)
 unfolding page_at action_at
-number_fault_read dialect cells number ds place n g stands e =
-    err_bind (action_at dialect number ds place) (λ action. then_part cells ds place action) (action_fault place number g)
-    (ok_bind (number_at ds place 3) (λ k. seen_at dialect number place k) n (read_from_stands ds place place 3 n stands) ∙ ap (λ (r : Result Action ActionFault). seen_action place number r) e)
+number_fault_read dialect cells number ds place n g stands e = search (rules, err_bind, ok_bind, read_from_stands)
 
 pub read_from_tail_fault : (dialect : Dialect) (cells : List ℕ) (number : ℕ) (ds : List ℕ) (place : ℕ) (f : FumenFault) → IsTailFault dialect number ds place f → page_at dialect cells number ds place ≡ Err f
 unfolding page_at action_at
-read_from_tail_fault dialect cells number ds place f (inl bad) =
-    err_bind (action_at dialect number ds place) (λ action. then_part cells ds place action) f
-    (err_bind (number_at ds place 3) (λ k. seen_at dialect number place k) f (read_from_number_fault ds place 3 f bad))
+read_from_tail_fault dialect cells number ds place f (inl bad) = search (rules, err_bind, read_from_number_fault)
 read_from_tail_fault dialect cells number ds place f (inr (inl large)) =
     number_fault_read dialect cells number ds place large.0.number fault.TooLarge large.0.stands (read_from_large dialect large.0.number large.0.large) ∙ ap (λ (g : FumenFault). Err g) (sym large.1)
 read_from_tail_fault dialect cells number ds place f (inr (inr (inl outside))) =

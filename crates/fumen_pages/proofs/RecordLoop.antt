@@ -1,11 +1,12 @@
 -- Reading a record run by run, and moving the cells of a run, as loops do.
-use Rattle.std.proofs.Common.{◌≡◌, ℕ, zero, suc, ◌+◌, ◌-◌, ◌<◌, ◌≤◌, Bool, true, leb, List, [], ◌++◌, length, get_or, set, take, drop, All, Result, Ok, Err, refl, sym, ap, subst, ◌∙◌, append_assoc, arith}
+use Rattle.std.proofs.Common.{◌≡◌, ℕ, zero, suc, ◌+◌, ◌-◌, ◌<◌, ◌≤◌, Bool, true, leb, List, [], ◌++◌, length, get_or, set, take, drop, All, Result, Ok, Err, refl, sym, ap, subst, ◌∙◌, append_assoc, arith, rules}
 use Rattle.std.specs.Prelude.{replicate, nat_eq}
 use Rattle.std.specs.List.{list_all, starts_with}
 use Rattle.std.proofs.lemmas.Bool.{and_parts, leb-true}
 use Rattle.std.proofs.lemmas.List.{append-nil, take_rest, take_all, drop_more, drop_all, drop_at, drop-append-le, take_at, take-append-drop, take-append-le, take-take, length-append, length-drop, length-map, length-take-le, get_or_at, get_or_default}
 use Rattle.std.proofs.lemmas.List.Edits.{map_over_more}
 use Rattle.std.proofs.lemmas.List.Elements.{All-drop}
+use Rattle.std.proofs.lemmas.Grind.{common_steps}
 use borrow.Rule.Slice.PartMut.{put_mid, mid_of}
 use Rattle.srs.proofs.CallerLemmas.{list_all_each}
 use Rattle.fumen_digits.specs.declared.dialect.Dialect.{Dialect}
@@ -29,10 +30,7 @@ AreMoved shift old i cells = cells ≡ moved_by shift (take i old) ++ drop i old
 
 -- the next one still stands
 pub moved_next : (shift : ℕ) (old : List ℕ) (i : ℕ) (cells : List ℕ) → i < length old → AreMoved shift old i cells → get_or cells i 0 ≡ get_or old i 0
-moved_next shift old i cells lt is =
-    let front = moved_by shift (take i old) in
-    let len : length front ≡ i = length-map (take i old) _ ∙ length-take-le i old (omega arith) in
-    ap (λ (xs : List ℕ). get_or xs i 0) (is ∙ ap (λ (xs : List ℕ). front ++ xs) (drop_more old i 0 lt)) ∙ get_or_at front (get_or old i 0) (drop (i + 1) old) 0 i len
+moved_next shift old i cells lt is = search (rules, length-map, length-take-le, drop_more, get_or_at)
 
 -- with its difference it is a colour
 pub moved_fits : (shift : ℕ) (old : List ℕ) (i : ℕ) (cells : List ℕ) → i < length old → list_all (stays_colour shift) old ≡ true → AreMoved shift old i cells → (8 ≤ get_or cells i 0 + shift) × (get_or cells i 0 + shift ≤ 16)
@@ -144,8 +142,7 @@ read_more dialect ds place old cells start behind count shift moved k lt behind_
 
 -- whether the record begins with the run that changes no cell
 pub same_front : (dialect : Dialect) (ds : List ℕ) (place : ℕ) (text : List ℕ) → text ≡ unchanged dialect → starts_with nat_eq (take (length ds - place) (drop place ds)) text ≡ starts_with nat_eq (drop place ds) (unchanged dialect)
-same_front dialect ds place text is =
-    ap (λ (xs : List ℕ). starts_with nat_eq xs text) (take_rest ds place) ∙ ap (λ (xs : List ℕ). starts_with nat_eq (drop place ds) xs) is
+same_front dialect ds place text is = search (rules, take_rest)
 
 abbrev pub read_of : Dialect → List ℕ → ℕ → List ℕ × ℕ → Result CellsRead FumenFault
 read_of dialect ds place new =
@@ -166,11 +163,4 @@ pub read_ends : (dialect : Dialect) (ds : List ℕ) (place : ℕ) (old cells : L
     → record_at dialect ds place old ≡ Ok (record { cells = cells; place = behind; unchanged = same })
 unfolding record_at with_front
 read_ends dialect ds place old cells start behind same end is s =
-    let m = missing_count dialect in
-    let n = page_cell_count dialect in
-    let none : length (drop start cells) ≡ 0 = length-drop start cells ∙ omega (arith, s.size) in
-    let all : take start cells ≡ cells = sym (append-nil (take start cells)) ∙ (ap (λ (xs : List ℕ). take start cells ++ xs) (sym (drop_all start cells (omega (arith, s.size)))) ∙ take-append-drop start cells) in
-    let done : runs_at n ds place n (shown dialect old) ≡ Ok (drop m cells, behind) = sym s.completes ∙ (ap (λ (r : Result (List ℕ × ℕ) FumenFault). with_front (drop m (take start cells)) r) (runs_none n ds behind s.most (drop start cells) none) ∙ ap (λ (xs : List ℕ). Ok (xs, behind)) (append-nil (drop m (take start cells)) ∙ ap (λ (xs : List ℕ). drop m xs) all)) in
-    let whole : replicate m 0 ++ drop m cells ≡ cells = ap (λ (xs : List ℕ). xs ++ drop m cells) (sym s.missing) ∙ take-append-drop m cells in
-    ok_bind (runs_at n ds place n (shown dialect old)) (λ new. read_of dialect ds place new) (drop m cells, behind) done
-    ∙ (ap (λ (b : Bool). Ok (record { cells = replicate m 0 ++ drop m cells; place = behind; unchanged = b })) (sym is) ∙ ap (λ (xs : List ℕ). Ok (record { cells = xs; place = behind; unchanged = same })) whole)
+    grind (arith, common_steps, length-drop, append-nil, drop_all, take-append-drop, with_front, runs_none, ok_bind)

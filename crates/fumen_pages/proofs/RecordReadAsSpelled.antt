@@ -1,15 +1,15 @@
 -- A record that is read stands there, and what stands there is read; a fault is the first one there.
-use Rattle.std.proofs.Common.{◌≡◌, ℕ, ◌+◌, ◌-◌, ◌*◌, ◌≤◌, Bool, true, false, leb, List, [], ◌∷◌, ◌++◌, length, take, drop, All, Result, Ok, Err, refl, sym, ap, subst, ◌∙◌, inl, inr, arith}
+use Rattle.std.proofs.Common.{◌≡◌, ℕ, ◌+◌, ◌-◌, ◌*◌, ◌≤◌, Bool, true, false, leb, List, [], ◌∷◌, ◌++◌, length, take, drop, All, Result, Ok, Err, refl, sym, ap, subst, ◌∙◌, inl, inr, arith, rules}
 use Rattle.std.specs.Prelude.{replicate, nat_eq}
 use Rattle.std.specs.List.{list_all, flat_map, starts_with, AllByRecursion}
 use Rattle.std.specs.Cmp.Lexicographic.{pointwise_decides}
 use Rattle.std.proofs.lemmas.Bool.{eqb-true, eq-eqb, le-leb, and_from, and_parts, leb-true, cases_Bool, both_ways}
 use Rattle.std.proofs.lemmas.List.{append-nil, take_at, drop_at, drop-drop, take-append-drop, length-append, length-drop, length-map, length-replicate, length-take}
 use Rattle.std.proofs.lemmas.List.Elements.{All-nil, All-cons, All-head, All-tail, All-append, All-replicate, All-drop}
+use Rattle.std.proofs.lemmas.Grind.{common_steps}
 use Rattle.fumen_digits.specs.declared.dialect.Dialect.{Dialect}
-use Rattle.fumen_digits.specs.declared.dialect.Dialect.TheVariants.{V110, V115}
 use Rattle.fumen_digits.specs.Dialect.{page_cell_count}
-use Rattle.fumen_digits.specs.Number.{digits, Stands}
+use Rattle.fumen_digits.specs.Number.{Stands}
 use Rattle.fumen_digits.specs.declared.fault.FumenFault.{FumenFault}
 use Rattle.fumen_digits.proofs.CallerLemmas.{bind_ok, bind_err, ok_bind, err_bind, length-digits, Stands-is, Stands-same}
 use Rattle.fumen_pages.specs.declared.record.CellsRead.{CellsRead}
@@ -22,18 +22,14 @@ use Rattle.fumen_pages.proofs.RunsReadAsSpelled.{RunsStand, old_cells, new_cells
 -- ---- how many cells
 
 pub cell_count-most : (dialect : Dialect) → (1 ≤ page_cell_count dialect) × (page_cell_count dialect ≤ 240) × (missing_count dialect + page_cell_count dialect ≡ 240)
-cell_count-most V110 = (omega arith, omega arith, refl)
-cell_count-most V115 = (omega arith, omega arith, refl)
+cell_count-most dialect = search rules
 
 pub shown-length : (dialect : Dialect) (cells : List ℕ) → AreCells dialect cells → length (shown dialect cells) ≡ page_cell_count dialect
-shown-length dialect cells sound =
-    let most = cell_count-most dialect in
-    length-drop (missing_count dialect) cells ∙ omega (arith, sound.size)
+shown-length dialect cells sound = search (rules, cell_count-most, length-drop)
 
 -- cells are the empty ones of missing rows, and those that are shown
 pub whole_cells : (dialect : Dialect) (cells : List ℕ) → AreCells dialect cells → replicate (missing_count dialect) 0 ++ shown dialect cells ≡ cells
-whole_cells dialect cells sound =
-    ap (λ (xs : List ℕ). xs ++ shown dialect cells) (sym sound.missing) ∙ take-append-drop (missing_count dialect) cells
+whole_cells dialect cells sound = search (rules, take-append-drop)
 
 -- ---- moved cells
 
@@ -62,14 +58,12 @@ runs_make n (run ∷ runs) each =
 -- cells that are not moved
 moved-none : (cells : List ℕ) → moved_by 8 cells ≡ cells
 moved-none [] = refl
-moved-none (cell ∷ cells) =
-    let same : cell + 8 - 8 ≡ cell = omega arith in λ i. same i ∷ moved-none cells i
+moved-none (cell ∷ cells) = search (rules, moved-none cells)
 
 none-colours : (cells : List ℕ) → All IsColour cells → list_all (stays_colour 8) cells ≡ true
 none-colours [] all = refl
 none-colours (cell ∷ cells) all =
-    let low = All-head IsColour cell cells all in
-    and_from (stays_colour 8 cell) (list_all (stays_colour 8) cells) (and_from (leb 8 (cell + 8)) (leb (cell + 8) 16) (le-leb 8 (cell + 8) (omega arith)) (le-leb (cell + 8) 16 (omega arith))) (none-colours cells (All-tail IsColour cell cells all))
+    search (rules, All-head, and_from, le-leb, All-tail, none-colours cells (All-tail IsColour cell cells all))
 
 -- ---- the run that changes no cell
 
@@ -78,15 +72,11 @@ whole_run dialect old = record { old = shown dialect old; shift = 8 }
 
 whole_run-is : (dialect : Dialect) (old : List ℕ) → AreCells dialect old → IsCellRun (page_cell_count dialect) (whole_run dialect old)
 unfolding whole_run
-whole_run-is dialect old sound =
-    let len = shown-length dialect old sound in
-    let most = cell_count-most dialect in
-    record { some = omega arith; most = omega arith; colours = none-colours (shown dialect old) (All-drop IsColour (missing_count dialect) old sound.colours) }
+whole_run-is dialect old sound = search (rules, shown-length, cell_count-most, none-colours, All-drop)
 
 pub whole_run-digits : (dialect : Dialect) (old : List ℕ) → AreCells dialect old → flat_map (run_digits (page_cell_count dialect)) (whole_run dialect old ∷ []) ≡ unchanged dialect
 unfolding whole_run
-whole_run-digits dialect old sound =
-    append-nil (run_digits (page_cell_count dialect) (whole_run dialect old)) ∙ ap (λ (k : ℕ). digits 2 (8 * page_cell_count dialect + (k - 1))) (shown-length dialect old sound)
+whole_run-digits dialect old sound = search (rules, append-nil, shown-length)
 
 -- where it stands, it is read
 pub read_unchanged : (dialect : Dialect) (ds : List ℕ) (place end : ℕ) (old : List ℕ) → AreCells dialect old → Stands ds place (unchanged dialect) end → runs_at (page_cell_count dialect) ds place (page_cell_count dialect) (shown dialect old) ≡ Ok (shown dialect old, end)
@@ -149,16 +139,7 @@ done_pair x y e = cc
 -- new cells of the dialect
 made-sound : (dialect : Dialect) (old : List ℕ) (new : List ℕ) → AreCells dialect old → length new ≡ length (shown dialect old) → All IsColour new → AreCells dialect (replicate (missing_count dialect) 0 ++ new)
 made-sound dialect old new sound size colours =
-    let m = missing_count dialect in
-    let empties : length (replicate m 0) ≡ m = length-replicate m 0 in
-    let most = cell_count-most dialect in
-    let len = shown-length dialect old sound in
-    let total : length (replicate m 0) + length new ≡ 240 = omega arith in
-    record {
-      size = length-append (replicate m 0) new ∙ total;
-      colours = All-append IsColour (replicate m 0) new (All-replicate IsColour m 0 (omega arith)) colours;
-      missing = take_at (replicate m 0) new m empties;
-    }
+    grind (arith, common_steps, length-replicate, cell_count-most, shown-length, length-append, All-append, All-replicate, take_at)
 
 shown-made : (dialect : Dialect) (new : List ℕ) → shown dialect (replicate (missing_count dialect) 0 ++ new) ≡ new
 shown-made dialect new = drop_at (replicate (missing_count dialect) 0) new (missing_count dialect) (length-replicate (missing_count dialect) 0)
@@ -221,9 +202,7 @@ record_from_read dialect ds place old read le sound e = (read_from_ok dialect ds
 -- the runs of a record are read
 pub read_new : (dialect : Dialect) (ds : List ℕ) (place : ℕ) (old : List ℕ) (new : List ℕ) (end : ℕ) (read : CellsRead) → runs_at (page_cell_count dialect) ds place (page_cell_count dialect) (shown dialect old) ≡ Ok (new, end) → replicate (missing_count dialect) 0 ++ new ≡ read.cells → end ≡ read.place → is_unchanged dialect ds place ≡ read.unchanged → record_at dialect ds place old ≡ Ok read
 unfolding record_at made
-read_new dialect ds place old new end read e cells place_is same =
-    ok_bind (runs_at (page_cell_count dialect) ds place (page_cell_count dialect) (shown dialect old)) (λ x. Ok (made dialect ds place x)) (new, end) e
-    ∙ ap (λ (x : CellsRead). Ok x) (same_read (made dialect ds place (new, end)) read cells place_is same)
+read_new dialect ds place old new end read e cells place_is same = search (rules, ok_bind, made, same_read)
 
 read_from_spelled : (dialect : Dialect) (ds : List ℕ) (place : ℕ) (old : List ℕ) (read : CellsRead) (text : List ℕ) (b : Bool) → AreCells dialect old → Stands ds place text read.place → read.unchanged ≡ b → IsRecord dialect old read.cells b text → record_at dialect ds place old ≡ Ok read
 read_from_spelled dialect ds place old read text true sound stands flag spells =
@@ -258,13 +237,7 @@ read_from_record dialect ds place old read sound s = read_from_spelled dialect d
 pub record_fault_from_read : (dialect : Dialect) (ds : List ℕ) (place : ℕ) (old : List ℕ) (f : FumenFault) → place ≤ length ds → AreCells dialect old → record_at dialect ds place old ≡ Err f → IsRecordFault dialect ds place old f
 unfolding record_at made
 record_fault_from_read dialect ds place old f le sound e =
-    let n = page_cell_count dialect in
-    let most = cell_count-most dialect in
-    let len = shown-length dialect old sound in
-    elim (bind_err (runs_at n ds place n (shown dialect old)) (λ x. Ok (made dialect ds place x)) f e) [
-      | inl bad ↦ runs_fault_from_read n ds place n (shown dialect old) f (omega arith) le (omega arith) bad
-      | inr x ↦ absurd (let never = x.2 in cc)
-    ]
+    search (rules, cell_count-most, shown-length, bind_err, made, runs_fault_from_read)
 
 pub read_from_record_fault : (dialect : Dialect) (ds : List ℕ) (place : ℕ) (old : List ℕ) (f : FumenFault) → AreCells dialect old → IsRecordFault dialect ds place old f → record_at dialect ds place old ≡ Err f
 unfolding record_at made

@@ -1,8 +1,9 @@
 -- Cells as rows of ten: one row after the other, all in one list, and rows that are rewritten one by one.
-use Rattle.std.proofs.Common.{◌≡◌, ℕ, zero, suc, ◌+◌, ◌*◌, ◌≤◌, List, [], ◌∷◌, ◌++◌, length, take, drop, refl, sym, ap, ◌∙◌, append_assoc, arith}
+use Rattle.std.proofs.Common.{◌≡◌, ℕ, zero, suc, ◌+◌, ◌*◌, ◌≤◌, List, [], ◌∷◌, ◌++◌, length, take, drop, refl, sym, ap, ◌∙◌, append_assoc, arith, rules}
 use Rattle.std.specs.List.{flat_map, AllByRecursion}
 use Rattle.std.proofs.lemmas.List.{append-nil, take-append-drop, drop-drop, drop_at, take_at, length-append, length-drop, length-take-le}
 use Rattle.std.proofs.lemmas.List.Concat.{flat_map-append}
+use Rattle.std.proofs.lemmas.Grind.{common_steps}
 use Rattle.fumen_pages.specs.Next.{rows_in}
 
 -- rows in one list
@@ -16,15 +17,11 @@ abbrev pub AreRows : List (List ℕ) → Type 0
 AreRows rows = AllByRecursion IsRow rows
 
 pub AreRows-append : (rows others : List (List ℕ)) → AreRows rows → AreRows others → AreRows (rows ++ others)
-AreRows-append [] others one other = other
-AreRows-append (row ∷ rows) others one other = (one.0, AreRows-append rows others one.1 other)
+AreRows-append rows others one other = search (rules, common_steps)
 
 pub length-flat : (rows : List (List ℕ)) → AreRows rows → length (flat rows) ≡ 10 * length rows
 length-flat [] each = refl
-length-flat (row ∷ rows) each =
-    let rest = length-flat rows each.1 in
-    let one = each.0 in
-    length-append row (flat rows) ∙ omega arith
+length-flat (row ∷ rows) each = search (rules, length-append, length-flat rows each.1)
 
 pub length-rows_in : (count : ℕ) (cells : List ℕ) → length (rows_in count cells) ≡ count
 unfolding rows_in
@@ -92,26 +89,11 @@ abbrev front_of : List ℕ → ℕ → List (List ℕ) → List ℕ
 front_of old m done = take m old ++ flat done
 
 length-front : (old page : List ℕ) (m i : ℕ) (done : List (List ℕ)) → m ≤ length old → IsDone old page m i done → length (front_of old m done) ≡ m + 10 * i
-length-front old page m i done room s =
-    let all = length-append (take m old) (flat done) in
-    let one = length-take-le m old room in
-    let other = length-flat done s.rows in
-    let same = s.count in
-    omega arith
+length-front old page m i done room s = search (rules, length-append, length-take-le, length-flat)
 
 -- no cell comes or goes
 pub length-done : (old page : List ℕ) (m i : ℕ) (done : List (List ℕ)) → m ≤ length old → 10 * i ≤ length (drop m old) → IsDone old page m i done → length page ≡ length old
-length-done old page m i done room more s =
-    let rest = drop (10 * i) (drop m old) in
-    let all = ap length s.parts in
-    let whole = length-append (take m old) (flat done ++ rest) in
-    let others = length-append (flat done) rest in
-    let one = length-take-le m old room in
-    let rows = length-flat done s.rows in
-    let left = length-drop (10 * i) (drop m old) in
-    let shown = length-drop m old in
-    let same = s.count in
-    omega arith
+length-done old page m i done room more s = search (rules, length-append, length-take-le, length-flat, length-drop)
 
 -- the cells from the next row on
 from_row : (old page : List ℕ) (m i start : ℕ) (done : List (List ℕ)) → m ≤ length old → start ≡ m + 10 * i → IsDone old page m i done → (take start page ≡ front_of old m done) × (drop start page ≡ drop (10 * i) (drop m old))

@@ -1,12 +1,12 @@
 -- Runs one after the other: what they spell, what is read, and the first fault among them.
-use Rattle.std.proofs.Common.{◌≡◌, ℕ, zero, suc, ◌+◌, ◌-◌, ◌*◌, ◌/◌, ◌%◌, ◌<◌, ◌≤◌, Bool, true, false, cond, ltb, leb, List, [], ◌∷◌, ◌++◌, length, get_or, take, drop, Result, Ok, Err, refl, sym, ap, subst, ◌∙◌, ◌⊎◌, inl, inr, append_assoc, arith}
+use Rattle.std.proofs.Common.{◌≡◌, ℕ, zero, suc, ◌+◌, ◌-◌, ◌*◌, ◌/◌, ◌%◌, ◌<◌, ◌≤◌, true, false, leb, List, [], ◌∷◌, ◌++◌, length, get_or, take, drop, Result, Ok, Err, refl, sym, ap, subst, ◌∙◌, ◌⊎◌, inl, inr, append_assoc, arith, rules}
 use Rattle.std.specs.List.{list_all, flat_map, AllByRecursion}
 use Rattle.std.proofs.Math.Nat.{mul-le-mul_right, mod-lt}
 use Rattle.std.proofs.lemmas.Bool.{and_parts, leb-true, ltb-true, ltb-false, lt-ltb, le-ltb}
 use Rattle.std.proofs.lemmas.List.{length-take-le, length-drop, length-append, take_at, drop_at, take-append-drop, nil_from_length}
 use Rattle.std.proofs.lemmas.Nat.{div-add-mod', mod-mul-add, div-mul-add}
 use Rattle.srs.proofs.CallerLemmas.{list_all_each}
-use Rattle.fumen_digits.specs.Number.{digits, Stands, NumberStands}
+use Rattle.fumen_digits.specs.Number.{Stands, NumberStands}
 use Rattle.fumen_digits.specs.declared.fault.FumenFault.{FumenFault}
 use Rattle.fumen_digits.specs.declared.fault.FumenFault.TheVariants.{RunPastEnd, BadCell}
 use Rattle.fumen_digits.specs.Reading.{◌>>=◌, number_at}
@@ -25,40 +25,19 @@ pub record RunFits (n : ℕ) (ds : List ℕ) (place : ℕ) (left : List ℕ) (co
 
 -- the number of a run, from its parts, and the other way round
 run_stands : (n : ℕ) (ds : List ℕ) (place number : ℕ) → 0 < n → NumberStands ds place 2 number → RunStands n ds place (number % n + 1) (number / n)
-run_stands n ds place number some stands =
-    let parts : number / n * n + (number % n + 1 - 1) ≡ number = omega (arith, div-add-mod' number n) in
-    let less : number % n < n = omega (arith, mod_below number n some) in
-    record { some = omega arith; most = omega arith; stands = subst (λ (k : ℕ). NumberStands ds place 2 k) (sym parts) stands }
-  where
-    mod_below : (a m : ℕ) → 0 < m → a % m < m
-    mod_below a m h = mod-lt a h
+run_stands n ds place number some stands = search (rules, div-add-mod', mod-lt)
 
 abbrev run_number : ℕ → ℕ → ℕ → ℕ
 run_number n count shift = shift * n + (count - 1)
 
 count_of : (n : ℕ) (ds : List ℕ) (place count shift : ℕ) → RunStands n ds place count shift → run_number n count shift % n + 1 ≡ count
-count_of n ds place count shift s =
-    let some = s.some in
-    let most = s.most in
-    let less : count - 1 < n = omega arith in
-    let is = mod-mul-add shift n (count - 1) less in
-    omega arith
+count_of n ds place count shift s = search (rules, mod-mul-add)
 
 shift_of : (n : ℕ) (ds : List ℕ) (place count shift : ℕ) → RunStands n ds place count shift → run_number n count shift / n ≡ shift
-shift_of n ds place count shift s =
-    let some = s.some in
-    let most = s.most in
-    let less : count - 1 < n = omega arith in
-    div-mul-add shift n (count - 1) less
+shift_of n ds place count shift s = search (rules, div-mul-add)
 
 checked_ok : (place : ℕ) (left : List ℕ) (count shift : ℕ) (run : ℕ × ℕ) → checked_run place left count shift ≡ Ok run → (count ≤ length left) × (list_all (stays_colour shift) (take count left) ≡ true) × (◌≡◌ {A = ℕ × ℕ} run (count, shift))
-checked_ok place left count shift run e = go (ltb (length left) count) (list_all (stays_colour shift) (take count left)) refl refl e
-  where
-    go : (long good : Bool) → ltb (length left) count ≡ long → list_all (stays_colour shift) (take count left) ≡ good → ◌≡◌ {A = Result (ℕ × ℕ) FumenFault} (cond long (Err (RunPastEnd place)) (cond good (Ok (count, shift)) (Err (BadCell place)))) (Ok run)
-        → (count ≤ length left) × (list_all (stays_colour shift) (take count left) ≡ true) × (◌≡◌ {A = ℕ × ℕ} run (count, shift))
-    go true good l g r = absurd cc
-    go false false l g r = absurd cc
-    go false true l g r = (ltb-false (length left) count l, g, cc)
+checked_ok place left count shift run e = search (rules, ltb-false)
 
 -- why a run is refused
 abbrev RunRefused : ℕ → List ℕ → ℕ → ℕ → FumenFault → Type 0
@@ -66,26 +45,16 @@ RunRefused place left count shift f =
     ((length left < count) × (f ≡ RunPastEnd place)) ⊎ ((count ≤ length left) × (list_all (stays_colour shift) (take count left) ≡ false) × (f ≡ BadCell place))
 
 checked_err : (place : ℕ) (left : List ℕ) (count shift : ℕ) (f : FumenFault) → checked_run place left count shift ≡ Err f → RunRefused place left count shift f
-checked_err place left count shift f e = go (ltb (length left) count) (list_all (stays_colour shift) (take count left)) refl refl e
-  where
-    go : (long good : Bool) → ltb (length left) count ≡ long → list_all (stays_colour shift) (take count left) ≡ good → ◌≡◌ {A = Result (ℕ × ℕ) FumenFault} (cond long (Err (RunPastEnd place)) (cond good (Ok (count, shift)) (Err (BadCell place)))) (Err f) → RunRefused place left count shift f
-    go true good l g r = inl (ltb-true (length left) count l, cc)
-    go false false l g r = inr (ltb-false (length left) count l, g, cc)
-    go false true l g r = absurd cc
+checked_err place left count shift f e = search (rules, ltb-true, ltb-false)
 
 checked_fits : (place : ℕ) (left : List ℕ) (count shift : ℕ) → count ≤ length left → list_all (stays_colour shift) (take count left) ≡ true → checked_run place left count shift ≡ Ok (count, shift)
-checked_fits place left count shift fits good =
-    ap (λ (b : Bool). cond b (Err (RunPastEnd place)) (cond (list_all (stays_colour shift) (take count left)) (Ok (count, shift)) (Err (BadCell place)))) (le-ltb (length left) count fits)
-    ∙ ap (λ (b : Bool). cond b (Ok (count, shift)) (Err (BadCell place))) good
+checked_fits place left count shift fits good = search (rules, le-ltb)
 
 checked_long : (place : ℕ) (left : List ℕ) (count shift : ℕ) → length left < count → checked_run place left count shift ≡ Err (RunPastEnd place)
-checked_long place left count shift long =
-    ap (λ (b : Bool). cond b (Err (RunPastEnd place)) (cond (list_all (stays_colour shift) (take count left)) (Ok (count, shift)) (Err (BadCell place)))) (lt-ltb (length left) count long)
+checked_long place left count shift long = search (rules, lt-ltb)
 
 checked_bad : (place : ℕ) (left : List ℕ) (count shift : ℕ) → count ≤ length left → list_all (stays_colour shift) (take count left) ≡ false → checked_run place left count shift ≡ Err (BadCell place)
-checked_bad place left count shift fits bad =
-    ap (λ (b : Bool). cond b (Err (RunPastEnd place)) (cond (list_all (stays_colour shift) (take count left)) (Ok (count, shift)) (Err (BadCell place)))) (le-ltb (length left) count fits)
-    ∙ ap (λ (b : Bool). cond b (Ok (count, shift)) (Err (BadCell place))) bad
+checked_bad place left count shift fits bad = search (rules, le-ltb)
 
 abbrev checked_number : ℕ → ℕ → List ℕ → ℕ → Result (ℕ × ℕ) FumenFault
 checked_number n place left number = checked_run place left (number % n + 1) (number / n)
@@ -93,9 +62,7 @@ checked_number n place left number = checked_run place left (number % n + 1) (nu
 -- what stands is read as a run that is then checked
 read_run : (n : ℕ) (ds : List ℕ) (place : ℕ) (left : List ℕ) (count shift : ℕ) → RunStands n ds place count shift → run_at n ds place left ≡ checked_run place left count shift
 unfolding run_at
-read_run n ds place left count shift s =
-    ok_bind (number_at ds place 2) (λ number. checked_number n place left number) (run_number n count shift) (read_from_stands ds place place 2 (run_number n count shift) s.stands)
-    ∙ (ap (λ (k : ℕ). checked_run place left k (run_number n count shift / n)) (count_of n ds place count shift s) ∙ ap (λ (k : ℕ). checked_run place left count k) (shift_of n ds place count shift s))
+read_run n ds place left count shift s = search (rules, ok_bind, read_from_stands, count_of, shift_of)
 
 pub run_from_read : (n : ℕ) (ds : List ℕ) (place : ℕ) (left : List ℕ) (run : ℕ × ℕ) → 0 < n → place ≤ length ds → run_at n ds place left ≡ Ok run → RunFits n ds place left run.0 run.1
 unfolding run_at
@@ -123,8 +90,7 @@ run_fault_from_read n ds place left f some le e =
 
 read_from_run_fault : (n : ℕ) (ds : List ℕ) (place : ℕ) (left : List ℕ) (f : FumenFault) → IsRunFault n ds place left f → run_at n ds place left ≡ Err f
 unfolding run_at
-read_from_run_fault n ds place left f (inl bad) =
-    err_bind (number_at ds place 2) (λ number. checked_number n place left number) f (read_from_number_fault ds place 2 f bad)
+read_from_run_fault n ds place left f (inl bad) = search (rules, err_bind, read_from_number_fault)
 read_from_run_fault n ds place left f (inr (inl long)) =
     let r = long.0 in
     read_run n ds place left r.count r.shift r.stands ∙ (checked_long place left r.count r.shift r.long ∙ ap (λ (g : FumenFault). Err g) (sym long.1))
@@ -152,14 +118,11 @@ rest_of n ds place most left run = runs_at n ds (place + 2) most (drop run.0 lef
 
 pub runs_more : (n : ℕ) (ds : List ℕ) (place most : ℕ) (left : List ℕ) → 1 ≤ length left → runs_at n ds place (suc most) left ≡ (run_at n ds place left >>= λ run. rest_of n ds place most left run)
 unfolding runs_at
-runs_more n ds place most [] some = absurd (omega arith)
-runs_more n ds place most (cell ∷ others) some = refl
+runs_more n ds place most left some = search rules
 
 pub runs_none : (n : ℕ) (ds : List ℕ) (place most : ℕ) (left : List ℕ) → length left ≡ 0 → runs_at n ds place most left ≡ Ok ([], place)
 unfolding runs_at
-runs_none n ds place zero left none = refl
-runs_none n ds place (suc most) [] none = refl
-runs_none n ds place (suc most) (cell ∷ others) none = absurd (omega arith)
+runs_none n ds place most left none = search rules
 
 -- the run of the first cells that are left
 first_run : List ℕ → ℕ → ℕ → Run
@@ -167,17 +130,11 @@ first_run left count shift = record { old = take count left; shift = shift }
 
 is_run : (n : ℕ) (ds : List ℕ) (place : ℕ) (left : List ℕ) (count shift : ℕ) → RunFits n ds place left count shift → IsCellRun n (first_run left count shift)
 unfolding first_run
-is_run n ds place left count shift r =
-    let len : length (take count left) ≡ count = length-take-le count left r.fits in
-    let some = r.stands.some in
-    let most = r.stands.most in
-    record { some = omega arith; most = omega arith; colours = r.colours }
+is_run n ds place left count shift r = search (rules, length-take-le)
 
 run_text : (n : ℕ) (ds : List ℕ) (place : ℕ) (left : List ℕ) (count shift : ℕ) → RunFits n ds place left count shift → Stands ds place (run_digits n (first_run left count shift)) (place + 2)
 unfolding first_run
-run_text n ds place left count shift r =
-    let len : length (take count left) ≡ count = length-take-le count left r.fits in
-    subst (λ (k : ℕ). Stands ds place (digits 2 (shift * n + (k - 1))) (place + 2)) (sym len) r.stands.stands.stands
+run_text n ds place left count shift r = search (rules, length-take-le)
 
 runs_cons : (n : ℕ) (ds : List ℕ) (place : ℕ) (left : List ℕ) (count shift : ℕ) (new : List ℕ) (end : ℕ) → RunFits n ds place left count shift → RunsStand n ds (place + 2) (drop count left) new end
     → RunsStand n ds place left (moved_by shift (take count left) ++ new) end
@@ -197,18 +154,14 @@ runs_cons n ds place left count shift new end r rest =
     }
 
 no_runs : (n : ℕ) (ds : List ℕ) (place : ℕ) (left : List ℕ) → place ≤ length ds → length left ≡ 0 → RunsStand n ds place left [] place
-no_runs n ds place left le none =
-    record { runs = []; text = []; stands = Stands-nil ds place le; cut = record { each = tt; from = nil_from_length left none; to = refl; spelled = refl } }
+no_runs n ds place left le none = search (rules, Stands-nil, nil_from_length)
 
 done_runs : (x y : List ℕ × ℕ) → ◌≡◌ {A = Result (List ℕ × ℕ) FumenFault} (Ok x) (Ok y) → x ≡ y
 done_runs x y e = cc
 
 pub runs_from_read : (n : ℕ) (ds : List ℕ) (place most : ℕ) (left : List ℕ) (read : List ℕ × ℕ) → 0 < n → place ≤ length ds → length left ≤ most → runs_at n ds place most left ≡ Ok read → RunsStand n ds place left read.0 read.1
-runs_from_read n ds place zero left read some le room e =
-    let none : length left ≡ 0 = omega arith in
-    subst (λ (x : List ℕ × ℕ). RunsStand n ds place left x.0 x.1) (done_runs ([], place) read (sym (runs_none n ds place zero left none) ∙ e)) (no_runs n ds place left le none)
-runs_from_read n ds place (suc most) [] read some le room e =
-    subst (λ (x : List ℕ × ℕ). RunsStand n ds place [] x.0 x.1) (done_runs ([], place) read (sym (runs_none n ds place (suc most) [] refl) ∙ e)) (no_runs n ds place [] le refl)
+runs_from_read n ds place zero left read some le room e = search (rules, done_runs, runs_none, no_runs)
+runs_from_read n ds place (suc most) [] read some le room e = search (rules, done_runs, runs_none, no_runs)
 runs_from_read n ds place (suc most) (cell ∷ others) read some le room e =
     let left : List ℕ = cell ∷ others in
     let x = bind_ok (run_at n ds place left) (λ run. rest_of n ds place most left run) read (sym (runs_more n ds place most left (omega arith)) ∙ e) in
@@ -242,11 +195,8 @@ run_fits n ds place run rest end small is stands =
 
 pub read_from_runs : (n : ℕ) (ds : List ℕ) (runs : List Run) (place end most : ℕ) → n ≤ 240 → AllByRecursion (IsCellRun n) runs → length (old_cells runs) ≤ most → Stands ds place (flat_map (run_digits n) runs) end
     → runs_at n ds place most (old_cells runs) ≡ Ok (new_cells runs, end)
-read_from_runs n ds [] place end most small each room stands =
-    let same : place ≡ end = omega (arith, stands.upto) in
-    runs_none n ds place most [] refl ∙ ap (λ (k : ℕ). Ok ([], k)) same
-read_from_runs n ds (run ∷ runs) place end zero small each room stands =
-    absurd (omega (arith, each.0.some, length-append run.old (old_cells runs)))
+read_from_runs n ds [] place end most small each room stands = search (rules, runs_none)
+read_from_runs n ds (run ∷ runs) place end zero small each room stands = search (rules, length-append)
 read_from_runs n ds (run ∷ runs) place end (suc most) small each room stands =
     let count = length run.old in
     let left = run.old ++ old_cells runs in
@@ -280,10 +230,8 @@ due_more n ds place old count shift k left r due =
     }
 
 pub runs_fault_from_read : (n : ℕ) (ds : List ℕ) (place most : ℕ) (left : List ℕ) (f : FumenFault) → 0 < n → place ≤ length ds → length left ≤ most → runs_at n ds place most left ≡ Err f → IsRunsFault n ds place left f
-runs_fault_from_read n ds place zero left f some le room e =
-    absurd (let bad = sym (runs_none n ds place zero left (omega arith)) ∙ e in cc)
-runs_fault_from_read n ds place (suc most) [] f some le room e =
-    absurd (let bad = sym (runs_none n ds place (suc most) [] refl) ∙ e in cc)
+runs_fault_from_read n ds place zero left f some le room e = search (rules, runs_none)
+runs_fault_from_read n ds place (suc most) [] f some le room e = search (rules, runs_none)
 runs_fault_from_read n ds place (suc most) (cell ∷ others) f some le room e =
     let left : List ℕ = cell ∷ others in
     elim (bind_err (run_at n ds place left) (λ run. rest_of n ds place most left run) f (sym (runs_more n ds place most left (omega arith)) ∙ e)) [

@@ -1,5 +1,5 @@
 -- The rows that are left from a row on, and those that are shown.
-use Rattle.std.proofs.Common.{◌≡◌, ℕ, zero, suc, ◌+◌, ◌-◌, ◌*◌, ◌<◌, ◌≤◌, true, false, List, [], ◌∷◌, take, drop, refl, add-one, ap, sym, subst, ◌∙◌, arith}
+use Rattle.std.proofs.Common.{◌≡◌, ℕ, suc, ◌+◌, ◌-◌, ◌*◌, ◌<◌, ◌≤◌, true, false, List, [], ◌∷◌, take, drop, refl, add-one, ap, sym, ◌∙◌, arith, rules}
 use Rattle.std.specs.List.{prefix_len}
 use Rattle.std.proofs.lemmas.List.{drop-drop}
 use Rattle.fumen_pages.specs.Next.{rows_in}
@@ -36,10 +36,7 @@ rows_left-more letters index within =
 
 -- the rows that are left after a number of them are dropped
 pub rows_left-drop : (letters : List ℕ) (index : ℕ) → index ≤ 23 → drop index (rows_in 23 letters) ≡ rows_left letters index
-rows_left-drop letters zero within = rows_left-start letters
-rows_left-drop letters (suc index) within = subst (λ n. drop n (rows_in 23 letters) ≡ rows_left letters n) (add-one index) (dropped (rows_left-drop letters index (omega arith))) where
-  dropped : drop index (rows_in 23 letters) ≡ rows_left letters index → drop (index + 1) (rows_in 23 letters) ≡ rows_left letters (index + 1)
-  dropped so_far = sym (drop-drop 1 index (rows_in 23 letters)) ∙ ap (drop 1) (so_far ∙ rows_left-more letters index (omega arith))
+rows_left-drop letters index within = search (rules, rows_left-start, add-one, drop-drop, rows_left-more)
 
 -- one more row at the top is blank
 pub first-goes_on : (letters : List ℕ) (index : ℕ) → index < 23 → is_blank (row_at letters index) ≡ true

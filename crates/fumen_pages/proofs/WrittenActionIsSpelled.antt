@@ -1,9 +1,7 @@
 -- The number that is written for a page's action says it.
-use Rattle.std.proofs.Common.{◌≡◌, ℕ, ◌+◌, ◌-◌, ◌*◌, ◌/◌, ◌%◌, ◌<◌, ◌≤◌, true, pos, ◌-ℤ◌, to_z, w8, Option, Some, None, Ok, refl, sym, ap, subst, ◌∙◌, arith}
+use Rattle.std.proofs.Common.{◌≡◌, ℕ, ◌+◌, ◌*◌, ◌<◌, ◌≤◌, true, pos, to_z, w8, Option, Ok, refl, sym, subst, rules}
 use Rattle.std.specs.Option.{ForSome}
-use Rattle.std.proofs.lemmas.Int.{ints}
 use Rattle.fumen_digits.specs.declared.dialect.Dialect.{Dialect}
-use Rattle.fumen_digits.specs.declared.dialect.Dialect.TheVariants.{V110, V115}
 use Rattle.fumen_digits.specs.Dialect.{page_row_count, page_cell_count}
 use Rattle.srs.specs.declared.piece.Piece.{Piece}
 use Rattle.srs.specs.declared.rotation.Rotation.{Rotation}
@@ -29,20 +27,14 @@ abbrev pub written_pivot : Placement → Cell
 written_pivot p = moved (pivot_of p) (written_by p.piece p.rotation)
 
 pub written_in_rows : (dialect : Dialect) (p : Placement) → is_inside_in dialect p ≡ true → in_rows dialect (written_pivot p) ≡ true
-written_in_rows dialect p inside =
-    cell_in_rows dialect p.piece p.rotation (pivot_of p) (written_by p.piece p.rotation) inside (written_in_shape p.piece p.rotation)
+written_in_rows dialect p inside = search (rules, cell_in_rows, written_in_shape)
 
 pub written_lies : (dialect : Dialect) (p : Placement) → is_inside_in dialect p ≡ true → LiesIn dialect (written_pivot p)
-written_lies dialect p inside =
-    cell_inside dialect p.piece p.rotation (pivot_of p) (written_by p.piece p.rotation) inside (written_in_shape p.piece p.rotation)
+written_lies dialect p inside = search (rules, cell_inside, written_in_shape)
 
 -- small bytes are their own signed numbers
 pub written_there : (dialect : Dialect) (p : Placement) (cell by : Cell) → is_inside_in dialect p ≡ true → cell ≡ moved (to_z w8 p.x, to_z w8 p.y) by → by ≡ written_by p.piece p.rotation → cell ≡ written_pivot p
-written_there dialect p cell by inside there is =
-    let at = pivot_inside p (inside_well dialect p inside) in
-    let x : to_z w8 p.x ≡ pos p.x = omega (arith, ints) in
-    let y : to_z w8 p.y ≡ pos p.y = omega (arith, ints) in
-    there ∙ (λ i. moved (x i, y i) (is i))
+written_there dialect p cell by inside there is = search (rules, pivot_inside, inside_well)
 
 -- the number of a cell is that under which it is numbered
 pub record IsNumbered (dialect : Dialect) (cell : Cell) : Type 0 where
@@ -50,28 +42,13 @@ pub record IsNumbered (dialect : Dialect) (cell : Cell) : Type 0 where
   pub back : numbered_cell dialect (place_of dialect cell) ≡ cell
 
 numbered : (dialect : Dialect) (x y : ℕ) → x ≤ 9 → y < page_row_count dialect → IsNumbered dialect (pos x, pos y)
-numbered dialect x y column row =
-    let above = page_row_count dialect - 1 - y in
-    let right : (above * 10 + x) % 10 ≡ x = omega arith in
-    let down : (above * 10 + x) / 10 ≡ above = omega arith in
-    let low : pos (page_row_count dialect - 1) -ℤ pos above ≡ pos y = omega (arith, ints) in
-    let high : pos (page_row_count dialect - 1) -ℤ pos ((above * 10 + x) / 10) ≡ pos y = ap (λ (k : ℕ). pos (page_row_count dialect - 1) -ℤ pos k) down ∙ low in
-    let wide : pos ((above * 10 + x) % 10) ≡ pos x = ap (λ (k : ℕ). pos k) right in
-    record { within = omega arith; back = λ i. (wide i, high i) }
+numbered dialect x y column row = search rules
 
 pub numbered_lies : (dialect : Dialect) (cell : Cell) → LiesIn dialect cell → IsNumbered dialect cell
 numbered_lies dialect cell at = subst (λ (c : Cell). IsNumbered dialect c) (sym at.is) (numbered dialect at.x at.y at.column at.row)
 
 says_number : (dialect : Dialect) (operation : Option Placement) (flags : ℕ) → ForSome operation (λ p. is_inside_in dialect p ≡ true) → SaysOperation dialect (operation_number dialect operation + 32 * page_cell_count dialect * flags) operation flags
-says_number dialect None flags inside =
-    record { rotation = 0; place = 0; turned = omega arith; within = some dialect; number_is = refl }
-  where
-    some : (d : Dialect) → 0 < page_cell_count d
-    some V110 = omega arith
-    some V115 = omega arith
-says_number dialect (Some p) flags inside =
-    let there = numbered_lies dialect (written_pivot p) (written_lies dialect p (inside p refl)) in
-    (record { place = place_of dialect (written_pivot p); within = there.within; written = there.back; number_is = refl }, inside p refl)
+says_number dialect operation flags inside = search (rules, numbered_lies, written_lies)
 
 pub number_says : (dialect : Dialect) (page : Page) → IsSound dialect page → SaysAction dialect (action_number_of dialect page) (action_of page)
 unfolding action_number_of

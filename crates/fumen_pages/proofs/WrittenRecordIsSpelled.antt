@@ -1,7 +1,7 @@
 -- The longest runs cut the cells, and are read again.
-use Rattle.std.proofs.Common.{◌≡◌, ℕ, zero, suc, ◌+◌, ◌-◌, ◌*◌, ◌≤◌, Bool, true, false, cond, eqb, leb, List, [], ◌∷◌, ◌++◌, length, take, drop, All, Ok, refl, sym, ap, subst, ◌∙◌, arith}
+use Rattle.std.proofs.Common.{◌≡◌, ℕ, zero, suc, ◌+◌, ◌-◌, ◌≤◌, Bool, true, false, cond, eqb, List, [], ◌∷◌, ◌++◌, length, take, drop, All, Ok, refl, sym, ap, subst, ◌∙◌, arith, rules}
 use Rattle.std.specs.Prelude.{replicate}
-use Rattle.std.specs.List.{list_all, flat_map, AllByRecursion}
+use Rattle.std.specs.List.{AllByRecursion}
 use Rattle.std.proofs.lemmas.Bool.{eqb-true, eqb-false, eq-eqb, le-leb, and_from}
 use Rattle.std.proofs.lemmas.List.{append-nil, drop_all}
 use Rattle.std.proofs.lemmas.List.Elements.{All-head, All-tail, All-drop}
@@ -10,9 +10,8 @@ use Rattle.fumen_digits.specs.Dialect.{page_cell_count}
 use Rattle.fumen_digits.specs.Digit.{AreDigits}
 use Rattle.fumen_digits.specs.Number.{Stands}
 use Rattle.fumen_digits.proofs.CallerLemmas.{AreDigits-digits, AreDigits-flat_map}
-use Rattle.fumen_pages.specs.declared.record.CellsRead.{CellsRead}
 use Rattle.fumen_pages.specs.Cells.{IsColour, missing_count, shown, AreCells}
-use Rattle.fumen_pages.specs.Record.{Run, IsCellRun, moved_by, stays_colour, run_digits, Cuts, unchanged, CutsOther}
+use Rattle.fumen_pages.specs.Record.{Run, IsCellRun, stays_colour, Cuts, unchanged, CutsOther}
 use Rattle.fumen_pages.specs.Reading.{runs_at, record_at}
 use Rattle.fumen_pages.specs.Written.{colour_difference, extended, longest, same_count, AreApart, written_record}
 use Rattle.fumen_pages.proofs.RunsReadAsSpelled.{old_cells, new_cells, read_from_runs}
@@ -57,28 +56,16 @@ single_run : (n cell shift : ℕ) → stays_colour shift cell ≡ true → IsCel
 single_run n cell shift good = record { some = omega arith; most = omega arith; colours = and_from (stays_colour shift cell) true good refl }
 
 longer_run : (n cell shift : ℕ) (run : Run) → run.shift ≡ shift → stays_colour shift cell ≡ true → IsCellRun n run → IsCellRun (suc n) (longer cell shift run)
-longer_run n cell shift run same good r =
-    let some = r.some in
-    let most = r.most in
-    let others : list_all (stays_colour shift) run.old ≡ true = ap (λ (k : ℕ). list_all (stays_colour k) run.old) (sym same) ∙ r.colours in
-    record { some = omega arith; most = omega arith; colours = and_from (stays_colour shift cell) (list_all (stays_colour shift) run.old) good others }
+longer_run n cell shift run same good r = search (rules, and_from)
 
 apart_longer : (cell shift : ℕ) (run : Run) (runs : List Run) → run.shift ≡ shift → AreApart (run ∷ runs) → AreApart (longer cell shift run ∷ runs)
-apart_longer cell shift run [] same apart = tt
-apart_longer cell shift run (next ∷ runs) same apart = (λ e. apart.0 (same ∙ e), apart.1)
+apart_longer cell shift run runs same apart = search rules
 
 is_single : (n cell shift : ℕ) (runs : List Run) → stays_colour shift cell ≡ true → (AreApart runs → AreApart (single cell shift ∷ runs)) → IsExtended n cell shift runs (single cell shift ∷ runs)
-is_single n cell shift runs good apart =
-    record { old_is = refl; new_is = refl; each = λ each. (single_run n cell shift good, runs_longer n runs each); apart = apart }
+is_single n cell shift runs good apart = search (rules, single_run, runs_longer)
 
 is_longer : (n cell shift : ℕ) (run : Run) (runs : List Run) → stays_colour shift cell ≡ true → run.shift ≡ shift → IsExtended n cell shift (run ∷ runs) (longer cell shift run ∷ runs)
-is_longer n cell shift run runs good same =
-    record {
-      old_is = refl;
-      new_is = ap (λ (k : ℕ). (cell + shift - 8) ∷ (moved_by k run.old ++ new_cells runs)) (sym same);
-      each = λ each. (longer_run n cell shift run same good each.0, runs_longer n runs each.1);
-      apart = apart_longer cell shift run runs same;
-    }
+is_longer n cell shift run runs good same = search (rules, longer_run, runs_longer, apart_longer)
 
 is_extended : (n cell shift : ℕ) (runs : List Run) → stays_colour shift cell ≡ true → IsExtended n cell shift runs (extended cell shift runs)
 is_extended n cell shift [] good =
@@ -105,8 +92,7 @@ unfolding longest
 longest_cons cell value old new = refl
 
 stays : (cell value : ℕ) → cell ≤ 8 → value ≤ 8 → stays_colour (colour_difference cell value) cell ≡ true
-stays cell value low high =
-    and_from (leb 8 (cell + colour_difference cell value)) (leb (cell + colour_difference cell value) 16) (le-leb 8 (cell + colour_difference cell value) (omega arith)) (le-leb (cell + colour_difference cell value) 16 (omega arith))
+stays cell value low high = search (rules, and_from, le-leb)
 
 pub are_longest : (n : ℕ) (old new : List ℕ) → length old ≡ length new → length old ≤ n → All IsColour old → All IsColour new → AreLongest n old new (longest old new)
 unfolding longest
@@ -130,12 +116,8 @@ are_longest (suc n) (cell ∷ old) (value ∷ new) same room colours values =
 -- cells that don't change are one run
 longest_same : (cell : ℕ) (old : List ℕ) → longest (cell ∷ old) (cell ∷ old) ≡ record { old = cell ∷ old; shift = 8 } ∷ []
 unfolding longest
-longest_same cell [] =
-    let none : colour_difference cell cell ≡ 8 = omega arith in extended_none cell (colour_difference cell cell) ∙ ap (λ (k : ℕ). single cell k ∷ []) none
-longest_same cell (next ∷ old) =
-    let none : colour_difference cell cell ≡ 8 = omega arith in
-    let rest : Run = record { old = next ∷ old; shift = 8 } in
-    ap (λ (runs : List Run). extended cell (colour_difference cell cell) runs) (longest_same next old) ∙ (ap (λ (k : ℕ). extended cell k (rest ∷ [])) none ∙ extended_same cell 8 rest [] refl)
+longest_same cell [] = search (rules, extended_none)
+longest_same cell (next ∷ old) = search (rules, extended_same, longest_same next old)
 
 -- ---- the first run
 
@@ -197,11 +179,7 @@ longest_first cell value (next ∷ old) (new_next ∷ new) same =
 -- ---- the record that is written
 
 written_runs : (dialect : Dialect) (old new : List ℕ) → AreCells dialect old → AreCells dialect new → AreLongest (page_cell_count dialect) (shown dialect old) (shown dialect new) (longest (shown dialect old) (shown dialect new))
-written_runs dialect old new sound made =
-    let m = missing_count dialect in
-    let len = shown-length dialect old sound in
-    let new_len = shown-length dialect new made in
-    are_longest (page_cell_count dialect) (shown dialect old) (shown dialect new) (len ∙ sym new_len) (omega arith) (All-drop IsColour m old sound.colours) (All-drop IsColour m new made.colours)
+written_runs dialect old new sound made = search (rules, shown-length, are_longest, All-drop)
 
 pub written_cuts : (dialect : Dialect) (old new : List ℕ) → AreCells dialect old → AreCells dialect new → Cuts dialect old new (written_record dialect old new)
 unfolding written_record
@@ -224,10 +202,7 @@ some_longest (cell ∷ cells) some = longest_same cell cells
 -- cells that don't change are written as the run that changes none
 pub written_same : (dialect : Dialect) (old : List ℕ) → AreCells dialect old → written_record dialect old old ≡ unchanged dialect
 unfolding written_record whole_run
-written_same dialect old sound =
-    let len = shown-length dialect old sound in
-    let most = cell_count-most dialect in
-    ap (λ (runs : List Run). flat_map (run_digits (page_cell_count dialect)) runs) (some_longest (shown dialect old) (omega arith)) ∙ whole_run-digits dialect old sound
+written_same dialect old sound = search (rules, shown-length, cell_count-most, some_longest, whole_run-digits)
 
 -- where it stands, it is read
 read_written : (dialect : Dialect) (ds : List ℕ) (place end : ℕ) (old new : List ℕ) → AreCells dialect old → AreCells dialect new → Stands ds place (written_record dialect old new) end
@@ -244,14 +219,11 @@ read_written dialect ds place end old new sound made stands =
 
 pub written_read : (dialect : Dialect) (ds : List ℕ) (place end : ℕ) (old new : List ℕ) → AreCells dialect old → AreCells dialect new → Stands ds place (written_record dialect old new) end
     → record_at dialect ds place old ≡ Ok (record { cells = new; place = end; unchanged = is_unchanged dialect ds place })
-written_read dialect ds place end old new sound made stands =
-    let read : CellsRead = record { cells = new; place = end; unchanged = is_unchanged dialect ds place } in
-    read_new dialect ds place old (shown dialect new) end read (read_written dialect ds place end old new sound made stands) (whole_cells dialect new made) refl refl
+written_read dialect ds place end old new sound made stands = search (rules, read_new, read_written, whole_cells)
 
 -- a text stands in itself
 stands_in_itself : (ds : List ℕ) → Stands ds 0 ds (length ds)
-stands_in_itself ds =
-    record { here = sym (append-nil ds) ∙ ap (λ (xs : List ℕ). ds ++ xs) (sym (drop_all (length ds) ds (omega arith))); upto = omega arith; within = omega arith }
+stands_in_itself ds = search (rules, append-nil, drop_all)
 
 -- cells that change are not written as the run that changes none
 pub written_other : (dialect : Dialect) (old new : List ℕ) → AreCells dialect old → AreCells dialect new → (new ≡ old → ⊥) → CutsOther dialect old new (written_record dialect old new)
@@ -270,5 +242,4 @@ written_other dialect old new sound made differ =
 
 pub written_digits : (dialect : Dialect) (old new : List ℕ) → AreDigits (written_record dialect old new)
 unfolding written_record
-written_digits dialect old new =
-    AreDigits-flat_map (run_digits (page_cell_count dialect)) (λ run. AreDigits-digits 2 (run.shift * page_cell_count dialect + (length run.old - 1))) (longest (shown dialect old) (shown dialect new))
+written_digits dialect old new = search (rules, AreDigits-flat_map, AreDigits-digits)

@@ -162,6 +162,7 @@ fn placed(
 }
 
 /// The number of a page's action. Without an operation, rotation and place are 0.
+#[tactic(auto, unfolding(crate::specs::Written::action_number_of))]
 pub fn action_number(dialect: Dialect, page: &Page) -> u32
     requires { IsSound dialect page.now }
     ensures exact { result ≡ action_number_of dialect page.now }
@@ -211,7 +212,7 @@ fn written_place(dialect: Dialect, placement: &Placement) -> u8
 }
 
 /// A cell moved by a number of columns and rows.
-#[tactic(auto, unfolding(srs::specs::Cells::moved))]
+#[tactic(auto, using(srs::proofs::CallerLemmas::near_within, crate::proofs::ActionReadAsSpelled::forth_in_byte), unfolding(srs::specs::Cells::moved))]
 fn moved(cell: (i8, i8), by: (i8, i8)) -> (i8, i8)
     requires right { cell.0 ≤ℤ pos 31 }
     requires left { minus 31 ≤ℤ cell.0 }

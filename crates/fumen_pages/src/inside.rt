@@ -6,6 +6,7 @@ use fumen_digits::Dialect;
 use srs::{Placement, cells};
 
 /// Whether all four cells of a placement lie in columns 0 to 9 and in the dialect's rows: 0 to 20, or 0 to 22.
+#[tactic(auto, using(crate::proofs::InsideLaws::far_outside))]
 pub fn is_inside(dialect: Dialect, placement: &Placement) -> bool
     ensures { result ≡ is_inside_in dialect placement.now }
 {

@@ -31,6 +31,7 @@ pub fn write_cells_undone()
 
 /// What is written is read back: the action number of a sound page stands for its operation, its flags and whether it
 /// has a comment, and is read as these.
+#[tactic(auto, using(crate::proofs::WrittenActionIsSpelled::number_says, crate::proofs::WrittenActionIsSpelled::number_read))]
 pub fn action_number_undone()
     ensures says { (dialect : Dialect) (page : Page) → IsSound dialect page →
         SaysAction dialect (action_number_of dialect page) (action_of page) }

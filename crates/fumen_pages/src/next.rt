@@ -16,6 +16,7 @@ use srs::{Placement, cells};
 /// If it locks, this happens in order. The cells of its operation take the piece's colour. Full rows are removed, the
 /// rows above them move down, and empty rows come in at the top. With rise, each row moves up by one, and the garbage
 /// row becomes row 0 and is empty afterwards. With mirror, each row except the garbage row is reversed.
+#[tactic(auto, using(crate::proofs::NextSound::next_cells_sound))]
 pub fn next_cells(dialect: Dialect, page: &Page) -> [u8; 240]
     requires { IsSound dialect page.now }
     ensures cells { result ≡ next dialect page.now }
@@ -103,6 +104,7 @@ fn lower(rows: &mut [u8])
 }
 
 /// With rise, removes the top row, moves each row up by one, and empties the garbage row.
+#[tactic(auto, using(crate::proofs::NextLaws::risen_from))]
 fn rise(dialect: Dialect, rise: bool, page: &mut [u8; 240])
     ensures rows { rows_of dialect page.new ≡ risen rise (rows_of dialect page.old) }
     ensures missing { take (missing_count dialect) page.new ≡ take (missing_count dialect) page.old }
@@ -115,6 +117,7 @@ fn rise(dialect: Dialect, rise: bool, page: &mut [u8; 240])
 }
 
 /// Removes the first row. The others move up by one, and an empty row comes in at the end.
+#[tactic(auto, using(crate::proofs::NextLaws::lifted))]
 fn lift(rows: &mut [u8])
     requires { 10 ≤ length rows.old }
     ensures { rows.new ≡ drop 10 rows.old ++ replicate 10 0 }

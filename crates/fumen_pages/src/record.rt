@@ -194,6 +194,7 @@ fn stay_colours(cells: &[u8], shift: u8) -> bool
 }
 
 /// Adds the difference to all cells.
+#[tactic(auto, using(crate::proofs::RecordLoop::moved_fits, crate::proofs::RecordLoop::moved_more))]
 fn move_by(cells: &mut [u8], shift: u8)
     requires { IsTrue (list_all (stays_colour shift) cells.old) }
     ensures { cells.new ≡ moved_by shift cells.old }

@@ -57,7 +57,7 @@ pub fn read_page(
     read_tail(alloc, digits, place, dialect, cells, page)
 }
 
-#[tactic(auto, unfolding(crate::specs::Reading::page_at))]
+#[tactic(auto, using(std::proofs::lemmas::Result::err_from_is_err_and, fumen_digits::proofs::CallerLemmas::err_passed, crate::proofs::PageReadAsSpelled::comment_due), unfolding(crate::specs::Reading::page_at))]
 fn read_tail(
     alloc: Global,
     digits: &[u8],

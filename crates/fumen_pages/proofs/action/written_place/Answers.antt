@@ -10,24 +10,20 @@ use Rattle.fumen_pages.proofs.WrittenActionIsSpelled.{written_in_rows, written_t
 use Rattle.fumen_pages.proofs.action.written_place.Goals as goal
 
 pub overflow_cast-pivot : goal.overflow_cast-pivot
-overflow_cast-pivot c =
-    let p = pivot_inside c.args.placement.now (inside_well c.args.dialect c.args.placement.now c.requires) in omega (arith, ints)
+overflow_cast-pivot c = grind (arith, ints, pivot_inside, inside_well)
 
 pub overflow_cast-pivot-2 : goal.overflow_cast-pivot-2
-overflow_cast-pivot-2 c =
-    let p = pivot_inside c.args.placement.now (inside_well c.args.dialect c.args.placement.now c.requires) in omega (arith, ints)
+overflow_cast-pivot-2 c = grind (arith, ints, pivot_inside, inside_well)
 
 pub moved-written-requires-clause-right : goal.moved-written-requires-clause-right
-moved-written-requires-clause-right c =
-    let p = pivot_inside c.args.placement.now (inside_well c.args.dialect c.args.placement.now c.requires) in omega (arith, ints)
+moved-written-requires-clause-right c = grind (arith, ints, pivot_inside, inside_well)
 
 pub moved-written-requires-clause-left : goal.moved-written-requires-clause-left
 moved-written-requires-clause-left c =
     let p = pivot_inside c.args.placement.now (inside_well c.args.dialect c.args.placement.now c.requires) in omega (arith, ints)
 
 pub moved-written-requires-clause-high : goal.moved-written-requires-clause-high
-moved-written-requires-clause-high c =
-    let p = pivot_inside c.args.placement.now (inside_well c.args.dialect c.args.placement.now c.requires) in omega (arith, ints)
+moved-written-requires-clause-high c = grind (arith, ints, pivot_inside, inside_well)
 
 pub moved-written-requires-clause-low : goal.moved-written-requires-clause-low
 moved-written-requires-clause-low c =

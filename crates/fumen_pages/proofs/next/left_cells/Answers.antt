@@ -1,4 +1,5 @@
 -- Where the page locks, its cells are filled, cleared, risen and mirrored.
+use Rattle.std.proofs.Common.{rules}
 use Rattle.fumen_pages.proofs.InsideLaws.{inside_well}
 use Rattle.fumen_pages.proofs.NextSound.{left_open, left_locked}
 use Rattle.fumen_pages.proofs.next.left_cells.Goals as goal
@@ -10,5 +11,4 @@ pub fill-requires : goal.fill-requires
 fill-requires c = λ p is. inside_well c.args.dialect p (c.requires.inside p is)
 
 pub returns : goal.returns
-returns c =
-    left_locked c.args.dialect c.args.page.now c.fill.new.page c.clear.new.page c.rise.new.page c.mirror.new.page c.requires c.if-not-page.false c.mirror.array_long c.fill.ensures c.clear.ensures.rows c.clear.ensures.missing c.rise.ensures.rows c.rise.ensures.missing c.mirror.ensures.rows c.mirror.ensures.missing
+returns c = search (rules, left_locked)

@@ -1,5 +1,5 @@
 -- Four cells are written one after another.
-use Rattle.std.proofs.Common.{arith}
+use Rattle.std.proofs.Common.{arith, rules}
 use Rattle.srs.proofs.CallerLemmas.{pivot_inside}
 use Rattle.fumen_pages.proofs.NextLaws.{marked_four}
 use Rattle.fumen_pages.proofs.next.mark.Goals as goal
@@ -11,5 +11,4 @@ pub cells-requires-clause-row : goal.cells-requires-clause-row
 cells-requires-clause-row c = omega (arith, (pivot_inside c.args.placement.now c.requires).in_rows)
 
 pub returns : goal.returns
-returns c =
-    marked_four c.args.placement.now c.cells.result c.args.value _ c.args.page.now c.set_cell.new.page c.set_cell-2.new.page c.set_cell-3.new.page c.set_cell-4.new.page c.cells.ensures c.set_cell.ensures c.set_cell-2.ensures c.set_cell-3.ensures c.set_cell-4.ensures
+returns c = search (rules, marked_four)

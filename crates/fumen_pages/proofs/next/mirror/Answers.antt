@@ -1,6 +1,5 @@
 -- One more row is mirrored, and then all are.
-use Rattle.std.proofs.Common.{Bool, ap, sym, ◌∙◌, arith}
-use Rattle.fumen_pages.specs.Next.{mirrored_rows, rows_of}
+use Rattle.std.proofs.Common.{arith, rules}
 use Rattle.fumen_pages.proofs.NextLaws.{mirrored_starts, mirrored_more, mirrored_all}
 use Rattle.fumen_pages.proofs.next.mirror.Goals as goal
 
@@ -12,9 +11,7 @@ loop-i-preserved c =
     mirrored_more c.args.dialect c.args.page.now c.loop-i.page c.reverse.new.self c.loop-i.i _ _ c.told-page (omega arith) (omega arith) (omega arith) c.reverse.ensures.after c.loop-i.invariant
 
 pub returns-clause-rows : goal.returns-clause-rows
-returns-clause-rows c =
-    (mirrored_all c.args.dialect c.args.page.now c.loop-i.page c.loop-i.i c.told-page (omega arith) c.loop-i.invariant).0
-    ∙ ap (λ (b : Bool). mirrored_rows b (rows_of c.args.dialect c.args.page.now)) (sym c.if-not-mirror.false)
+returns-clause-rows c = search (rules, mirrored_all)
 
 pub returns-clause-missing : goal.returns-clause-missing
 returns-clause-missing c =

@@ -1,5 +1,5 @@
 -- One more run is read, or has a fault; and then all are read.
-use Rattle.std.proofs.Common.{◌∙◌, arith}
+use Rattle.std.proofs.Common.{◌∙◌, arith, rules}
 use Rattle.std.proofs.lemmas.Result.{err_from_is_err_and}
 use Rattle.fumen_pages.specs.Faults.{cells_fault}
 use Rattle.fumen_pages.proofs.RecordLoop.{read_starts, read_more, read_stops, read_ends, same_front}
@@ -14,9 +14,7 @@ returns-in_err-count c =
     rw (p.1, p.2) (read_stops c.args.dialect c.args.digits.now c.args.place c.args.old.now c.loop-start.cells c.loop-start.start c.loop-start.behind (cells_fault c.in_err-count.field-0.0) c.loop-start-test.true c.in_err-count.ensures.exact c.loop-start.invariant)
 
 pub loop-start-preserved : goal.loop-start-preserved
-loop-start-preserved c =
-    let run = c.in_ok-count.ensures in
-    read_more c.args.dialect c.args.digits.now c.args.place c.args.old.now c.loop-start.cells c.loop-start.start c.loop-start.behind c.in_ok-count.count c.in_ok-count.shift c.move_by.new.cells _ c.loop-start-test.true run.within run.some run.fits (omega arith) run.exact c.move_by.ensures c.loop-start.invariant
+loop-start-preserved c = search (rules, read_more)
 
 pub returns : goal.returns
 returns c =

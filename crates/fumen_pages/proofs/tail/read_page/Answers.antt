@@ -1,5 +1,5 @@
 -- The page that stands there and the first fault there, from what reading gives.
-use Rattle.std.proofs.Common.{◌≡◌, ℕ, ◌≤◌, length, Ok, Err}
+use Rattle.std.proofs.Common.{◌≡◌, ℕ, ◌≤◌, length, rules}
 use Rattle.std.specs.Prelude.{IsTrue}
 use Rattle.std.specs.Option.{ForSome}
 use Rattle.fumen_digits.specs.declared.fault.FumenFault.{FumenFault}
@@ -7,7 +7,6 @@ use Rattle.fumen_digits.proofs.CallerLemmas.{gives_found, gives_fault, gives_sam
 use Rattle.fumen_pages.specs.declared.page.Page.{Page}
 use Rattle.fumen_pages.specs.Action.{is_inside_in}
 use Rattle.fumen_pages.specs.Reading.{page_at}
-use Rattle.fumen_pages.specs.Faults.{TailStands}
 use Rattle.fumen_pages.proofs.PageReadAsSpelled.{page_from_read, read_from_page, tail_fault_from_read, read_from_tail_fault}
 use Rattle.fumen_pages.proofs.tail.read_page.Goals as goal
 
@@ -35,23 +34,13 @@ returns-clause-cells c =
     gives_found pair (λ (f : FumenFault). f) (λ x. x.0.cells ≡ cells) c.read_tail.result read (λ x e. (page_from_read c.args.dialect cells c.args.page ds c.args.place x.0 x.1 c.requires e).same_cells) c.read_tail.ensures.exact
 
 pub returns-clause-found : goal.returns-clause-found
-returns-clause-found c =
-    let ds = c.args.digits.now in
-    let dialect = c.args.dialect in
-    let read = page_at dialect c.args.cells.now c.args.page ds c.args.place in
-    gives_found pair (λ (f : FumenFault). f) (λ x. TailStands dialect ds c.args.place x.0 x.1) c.read_tail.result read (λ x e. (page_from_read dialect c.args.cells.now c.args.page ds c.args.place x.0 x.1 c.requires e).stands) c.read_tail.ensures.exact
+returns-clause-found c = search (rules, gives_found, page_from_read)
 
 pub returns-clause-only : goal.returns-clause-only
-returns-clause-only c = λ page end same stands.
-    let read = page_at c.args.dialect c.args.cells.now c.args.page c.args.digits.now c.args.place in
-    gives_same pair (λ (f : FumenFault). f) c.read_tail.result read (Ok (page, end)) (read_from_page c.args.dialect c.args.cells.now c.args.page c.args.digits.now c.args.place page end same stands) c.read_tail.ensures.exact
+returns-clause-only c = search (rules, gives_same, read_from_page)
 
 pub returns-clause-fault : goal.returns-clause-fault
-returns-clause-fault c = λ f e.
-    let read = page_at c.args.dialect c.args.cells.now c.args.page c.args.digits.now c.args.place in
-    tail_fault_from_read c.args.dialect c.args.cells.now c.args.page c.args.digits.now c.args.place f c.requires (gives_fault pair (λ (f : FumenFault). f) c.read_tail.result read f c.read_tail.ensures.exact e)
+returns-clause-fault c = search (rules, tail_fault_from_read, gives_fault)
 
 pub returns-clause-fault_only : goal.returns-clause-fault_only
-returns-clause-fault_only c = λ f bad.
-    let read = page_at c.args.dialect c.args.cells.now c.args.page c.args.digits.now c.args.place in
-    gives_same pair (λ (f : FumenFault). f) c.read_tail.result read (Err f) (read_from_tail_fault c.args.dialect c.args.cells.now c.args.page c.args.digits.now c.args.place f bad) c.read_tail.ensures.exact
+returns-clause-fault_only c = search (rules, gives_same, read_from_tail_fault)
