@@ -1,5 +1,5 @@
 -- The form of the cells field and the function that reads it agree.
-use Rattle.std.proofs.Common.{◌≡◌, ℕ, ◌+◌, ◌-◌, ◌*◌, ◌<◌, ◌≤◌, true, false, ◌==◌, nat_le, List, [], ◌∷◌, ◌++◌, length, length-append, map, replicate, codes, Option, Some, None, option_and_then, All, refl, ap, sym, subst, ◌∙◌, append-nil, inl, inr, ne_eqb, eqb-true, leb-true, le-leb, arith}
+use Rattle.std.proofs.Common.{◌≡◌, ℕ, ◌+◌, ◌-◌, ◌*◌, ◌≤◌, true, false, ◌==◌, nat_le, List, [], ◌∷◌, ◌++◌, length, length-append, map, replicate, codes, Option, Some, option_and_then, All, refl, ap, sym, subst, ◌∙◌, append-nil, inl, inr, ne_eqb, eqb-true, leb-true, le-leb, arith, rules}
 use Rattle.std.specs.List.{flat_map, join_with_byte, AllByRecursion}
 use Rattle.std.proofs.lemmas.Bool.{agree_below_at, cases_Bool}
 use Rattle.std.proofs.lemmas.Bool.Decides.{nat_tests}
@@ -24,15 +24,11 @@ record IsLetterOf (byte colour : ℕ) : Type 0 where
 
 letter_read : (byte colour : ℕ) → colour_in byte ≡ Some colour → IsLetterOf byte colour
 unfolding colour_letter
-letter_read byte colour is =
-    let p = position-Some (λ c. c == byte) (codes "_ILOZTJSX") colour 0 is in
-    let within : colour < 9 = p.0 in
-    record { small = omega arith; is = eqb-true _ byte p.1 }
+letter_read byte colour is = search (rules, position-Some, codes, eqb-true)
 
 colour_read : (colour : ℕ) → colour ≤ 8 → colour_in (colour_letter colour) ≡ Some colour
 unfolding colour_letter
-colour_read colour small =
-    same_option-true (colour_in (colour_letter colour)) (Some colour) (agree_below_at (λ k. same_option (colour_in (colour_letter k)) (Some k)) (λ _. true) 9 colour refl (omega arith))
+colour_read colour small = search (rules, same_option-true, agree_below_at, same_option)
 
 -- a letter is no bar
 no_bar : (colour : ℕ) → colour ≤ 8 → (colour_letter colour == 124) ≡ false
@@ -52,9 +48,7 @@ joined row (next ∷ rows) = ap (λ (l : List ℕ). letters_of row ++ 47 ∷ l) 
 length-slash_rows : (rows : List (List ℕ)) → All IsPageRow rows → length (slash_rows rows) ≡ 11 * length rows
 length-slash_rows [] each = refl
 length-slash_rows (row ∷ rows) each =
-    let later = length-slash_rows rows (All-tail IsPageRow row rows each) in
-    let size = (All-head IsPageRow row rows each).size in
-    omega (arith, length-append (letters_of row) (slash_rows rows), length-map row colour_letter, later, size)
+    search (rules, All-tail, All-head, length-append, length-map, length-slash_rows rows (All-tail IsPageRow row rows each))
 
 pub length_of_rows : (rows : List (List ℕ)) → All IsPageRow rows → length (flat rows) ≡ 10 * length rows
 length_of_rows rows each = length-flat rows (tens rows each)
@@ -121,8 +115,7 @@ rows_spelled (byte ∷ rest) column colours within is = elim (cases_Bool (column
 -- ---- rows are read
 
 no_front : (read : Option (List ℕ)) → with_front [] read ≡ read
-no_front None = refl
-no_front (Some colours) = refl
+no_front read = search rules
 
 read_row : (first behind : List ℕ) (column : ℕ) → column + length first ≡ 10 → All IsColour first → rows_at column (letters_of first ++ behind) ≡ with_front first (rows_at 10 behind)
 unfolding rows_at
@@ -136,8 +129,7 @@ read_rows : (rows : List (List ℕ)) → All IsPageRow rows → rows_at 10 (slas
 unfolding rows_at
 read_rows [] each = refl
 read_rows (row ∷ rows) each =
-    let is = All-head IsPageRow row rows each in
-    read_row row (slash_rows rows) 0 (let size = is.size in omega arith) is.colours ∙ ap (with_front row) (read_rows rows (All-tail IsPageRow row rows each))
+    search (rules, All-head, read_row, All-tail, read_rows rows (All-tail IsPageRow row rows each))
 
 read_all : (row : List ℕ) (rows : List (List ℕ)) → All IsPageRow (row ∷ rows) → rows_at 0 (letters_of row ++ slash_rows rows) ≡ Some (flat (row ∷ rows))
 read_all row rows each =

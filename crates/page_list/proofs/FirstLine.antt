@@ -1,11 +1,11 @@
 -- The first line of a text, as a relation and as it is read.
-use Rattle.std.proofs.Common.{◌≡◌, ℕ, suc, ◌+◌, ◌-◌, ◌<◌, Bool, true, false, ◌==◌, ◌&&◌, nat_lt, List, [], ◌∷◌, ◌++◌, length, length-append, take, drop, get_or, slice_index, take-append-drop, drop-cons, Some, None, refl, ap, sym, subst, ◌∙◌, ◌⊎◌, inl, inr, append_assoc, eqb-true, ltb-true, ltb-false, lt-ltb, true≢false, arith}
-use Rattle.std.specs.List.{position_or_len}
+use Rattle.std.proofs.Common.{◌≡◌, ℕ, ◌+◌, ◌-◌, ◌<◌, Bool, true, false, ◌==◌, ◌&&◌, nat_lt, List, [], ◌∷◌, ◌++◌, length, length-append, get_or, slice_index, take-append-drop, drop-cons, Some, None, refl, ap, sym, subst, ◌∙◌, ◌⊎◌, inl, inr, append_assoc, eqb-true, ltb-true, ltb-false, lt-ltb, true≢false, arith, rules}
 use Rattle.std.proofs.Math.Seq.{get_or-append_seam}
 use Rattle.std.proofs.lemmas.Bool.{cases_Bool, and_parts, and_from}
 use Rattle.std.proofs.lemmas.List.{take_at, drop_all}
 use Rattle.std.proofs.lemmas.List.Elements.{All-nil, All-cons, All-append, All-take}
 use Rattle.std.proofs.lemmas.List.Sums.{fails_before_first}
+use Rattle.std.proofs.lemmas.Grind.{common_steps}
 use Rattle.page_list.specs.CellsReading.{cut_at}
 use Rattle.page_list.specs.ListReading.{without_return, first_line}
 use Rattle.page_list.specs.LineSpelling.{HasNoNewline, EndsWithoutReturn, IsFirstLine, newline, return_newline, unended}
@@ -18,18 +18,11 @@ ends_with_return line = nat_lt 0 (length line) && slice_index line (length line 
 
 -- the test at a line with a last byte
 ends : (front : List ℕ) → ends_with_return (front ++ 13 ∷ []) ≡ true
-ends front =
-    let size : length (front ++ 13 ∷ []) ≡ length front + 1 = length-append front (13 ∷ []) in
-    let last : length (front ++ 13 ∷ []) - 1 ≡ length front = omega arith in
-    and_from (nat_lt 0 (length (front ++ 13 ∷ []))) (slice_index (front ++ 13 ∷ []) (length (front ++ 13 ∷ []) - 1) == 13) (lt-ltb 0 (length (front ++ 13 ∷ [])) (omega arith))
-    (ap (λ n. slice_index (front ++ 13 ∷ []) n == 13) last ∙ ap (λ b. b == 13) (get_or-append_seam front 13 [] 0))
+ends front = grind (arith, common_steps, length-append, and_from, nat_lt, slice_index, lt-ltb, get_or-append_seam)
 
 return_dropped : (front : List ℕ) → without_return (front ++ 13 ∷ []) ≡ front
 unfolding without_return
-return_dropped front =
-    let size : length (front ++ 13 ∷ []) ≡ length front + 1 = length-append front (13 ∷ []) in
-    let last : length front ≡ length (front ++ 13 ∷ []) - 1 = omega arith in
-    rw (ends front) (take_at front (13 ∷ []) (length (front ++ 13 ∷ []) - 1) last)
+return_dropped front = search (rules, length-append, ends, take_at)
 
 -- a line that ends with `\r`, or one that stays as it is
 abbrev IsEnd : List ℕ → Type 0
@@ -37,23 +30,11 @@ IsEnd line = ((front : List ℕ) × (line ≡ front ++ 13 ∷ [])) ⊎ (EndsWith
 
 end_is : (line : List ℕ) → IsEnd line
 unfolding without_return
-end_is line = elim (cases_Bool (ends_with_return line)) [
-  | inl is ↦
-      let both = and_parts (nat_lt 0 (length line)) (slice_index line (length line - 1) == 13) is in
-      inl (take (length line - 1) line, parts (length line - 1) (ltb-true 0 (length line) both.0) (eqb-true _ 13 both.1) refl)
-  | inr other ↦ inr (λ front is. true≢false (sym (ends front) ∙ ap ends_with_return (sym is) ∙ other), rw other refl)
-] where
-  parts : (last : ℕ) → 0 < length line → slice_index line last ≡ 13 → last ≡ length line - 1 → line ≡ take last line ++ 13 ∷ []
-  parts last some here is =
-      let within : last < length line = omega arith in
-      let none : drop (suc last) line ≡ [] = drop_all (suc last) line (omega arith) in
-      sym (take-append-drop last line) ∙ ap (λ (l : List ℕ). take last line ++ l) (drop-cons line last 0 within ∙ ap (λ b. b ∷ drop (suc last) line) here ∙ ap (λ (l : List ℕ). 13 ∷ l) none)
+end_is line =
+    grind (arith, common_steps, cases_Bool, and_parts, nat_lt, slice_index, ltb-true, eqb-true, true≢false, ends, drop_all, take-append-drop, drop-cons)
 
 stays : (line : List ℕ) → EndsWithoutReturn line → without_return line ≡ line
-stays line without = elim (end_is line) [
-  | inl is ↦ absurd (without is.0 is.1)
-  | inr is ↦ is.1
-]
+stays line without = search (rules, end_is)
 
 -- ---- texts with no newline
 
@@ -63,15 +44,7 @@ IsCutOrWhole text = ((cut : List ℕ × List ℕ) × (cut_at 10 text ≡ Some cu
 
 cut_or_whole : (text : List ℕ) → IsCutOrWhole text
 unfolding cut_at
-cut_or_whole text =
-    let at = position_or_len (λ byte. byte == 10) text in
-    elim (cases_Bool (nat_lt at (length text))) [
-      | inl found ↦ inl ((take at text, drop (at + 1) text), rw found refl)
-      | inr none ↦ inr (λ k d within. fails_before_first (λ byte. byte == 10) text k d (before at none k within), rw none refl)
-    ]
-  where
-    before : (at : ℕ) → nat_lt at (length text) ≡ false → (k : ℕ) → k < length text → k < at
-    before at none k within = let past = ltb-false at (length text) none in omega arith
+cut_or_whole text = search (rules, cases_Bool, nat_lt, fails_before_first, ltb-false)
 
 uncut : (text : List ℕ) → HasNoNewline text → cut_at 10 text ≡ None
 uncut text plain = elim (cut_or_whole text) [
@@ -104,9 +77,7 @@ first_line_read text line behind (return_newline plain) =
 first_line_read text line behind (unended plain some) = whole_line line plain
 
 pub first_line_some : (text line behind : List ℕ) → IsFirstLine text line behind → 0 < length text
-first_line_some text line behind (newline plain without) = omega (arith, length-append line (10 ∷ behind))
-first_line_some text line behind (return_newline plain) = omega (arith, length-append line (13 ∷ 10 ∷ behind))
-first_line_some text line behind (unended plain some) = some
+first_line_some text line behind first = search (rules, length-append)
 
 -- a text with any byte has a first line
 pub first_line_is : (text : List ℕ) → 0 < length text → IsFirstLine text (first_line text).0 (first_line text).1

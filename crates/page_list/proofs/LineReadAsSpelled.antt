@@ -1,11 +1,10 @@
 -- The form of a line and the function that reads it agree, in the pages that are read and in the faults.
-use Rattle.std.proofs.Common.{◌≡◌, ℕ, false, List, [], Option, Some, None, Result, Ok, Err, refl, ap, sym, subst, ◌∙◌, ◌⊎◌, inl, inr}
+use Rattle.std.proofs.Common.{◌≡◌, ℕ, List, [], Option, Some, None, Result, Ok, Err, refl, ap, sym, subst, ◌∙◌, ◌⊎◌, inl, inr, rules}
 use Rattle.std.specs.Option.{ok_or}
 use Rattle.std.proofs.lemmas.Bool.{cases_Bool}
 use Rattle.std.proofs.lemmas.Option.{none-some, option_and_then_some, same_Some}
 use Rattle.srs.specs.declared.placement.Placement.{Placement}
 use Rattle.placement_form.specs.Form.{placement_form}
-use Rattle.placement_form.specs.Reading.{placement_in}
 use Rattle.placement_form.proofs.CallerLemmas.{read-from_written, written-from_read}
 use Rattle.fumen_pages.specs.declared.page.Page.{Page}
 use Rattle.fumen_pages.specs.declared.list_fault.ListKind.{ListKind}
@@ -25,22 +24,12 @@ use Rattle.page_list.proofs.FieldsReadAsSpelled.{dash_is, flags_spelled, spelled
 
 operation_spelled : (text : List ℕ) (operation : Option Placement) → operation_in text ≡ Some operation → SpellsLineOperation text operation
 unfolding operation_in
-operation_spelled text operation is = elim (cases_Bool (is_dash text)) [
-  | inl dash ↦ subst (SpellsLineOperation text) (same_Some None operation (rw dash at is)) (dash_is text dash)
-  | inr plain ↦
-      option_and_then_some (λ (p : Placement). Some (Some p)) (placement_in text) operation (rw plain at is) (λ placement read made.
-      subst (SpellsLineOperation text) (same_Some (Some placement) operation made) (written-from_read text placement read))
-]
+operation_spelled text operation is =
+    search (rules, cases_Bool, same_Some, dash_is, option_and_then_some, written-from_read)
 
 spelled_operation_read : (text : List ℕ) (operation : Option Placement) → SpellsLineOperation text operation → operation_in text ≡ Some operation
 unfolding operation_in is_dash placement_form
-spelled_operation_read text None s = rw s refl
-spelled_operation_read text (Some placement) s =
-    let plain : is_dash text ≡ false = ap is_dash s.written ∙ no_dash placement in
-    rw (plain, read-from_written text placement s) refl
-  where
-    no_dash : (placement : Placement) → is_dash (placement_form placement) ≡ false
-    no_dash placement = refl
+spelled_operation_read text operation s = search (rules, read-from_written)
 
 -- ---- steps
 
@@ -51,16 +40,14 @@ record Taken {A B : Type 0} (read : Option A) (next : A → Result B ListKind) (
   gives : next value ≡ answer
 
 taken : {A B : Type 0} (read : Option A) (kind : ListKind) (next : A → Result B ListKind) (answer : B) → (ok_or read kind >>= next) ≡ Ok answer → Taken read next (Ok answer)
-taken None kind next answer is = cc
-taken (Some value) kind next answer is = record { value = value; is = refl; gives = is }
+taken A kind next answer is = search rules
 
 -- a step that failed with its kind, or one that was taken before a fault
 abbrev Stops : {A B : Type 0} → Option A → ListKind → (A → Result B ListKind) → ListKind → Type 0
 Stops read kind next fault = ((read ≡ None) × (kind ≡ fault)) ⊎ Taken read next (Err fault)
 
 stops : {A B : Type 0} (read : Option A) (kind : ListKind) (next : A → Result B ListKind) (fault : ListKind) → (ok_or read kind >>= next) ≡ Err fault → Stops read kind next fault
-stops None kind next fault is = inl (refl, cc)
-stops (Some value) kind next fault is = inr (record { value = value; is = refl; gives = is })
+stops A kind next fault is = search rules
 
 -- what isn't read, the text doesn't spell; and the other way round
 unspelled_from : {A : Type 0} (Spells : A → Type 0) (read : Option A) → read ≡ None → ((value : A) → Spells value → read ≡ Some value) → (value : A) → Spells value → ⊥

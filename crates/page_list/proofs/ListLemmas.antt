@@ -1,7 +1,7 @@
 -- Lines that are read one after the other.
-use Rattle.std.proofs.Common.{◌≡◌, ℕ, ◌+◌, ◌-◌, ◌<◌, ◌==◌, Bool, false, List, [], ◌∷◌, ◌++◌, length, length-drop, take, drop, refl, ap, sym, subst, ◌∙◌, append_assoc, append-nil, inl, inr, lt-ltb, le-ltb, ne_eqb, if◌then◌else◌, arith}
-use Rattle.std.specs.Prelude.{All, IsOk, ◌⊎◌, nat_lt, Result, Ok, Err}
-use Rattle.std.specs.List.{slice_split, position_or_len}
+use Rattle.std.proofs.Common.{◌≡◌, ℕ, ◌+◌, ◌-◌, ◌<◌, ◌==◌, Bool, false, List, [], ◌∷◌, ◌++◌, length, length-drop, take, drop, refl, ap, append_assoc, append-nil, lt-ltb, le-ltb, ne_eqb, if◌then◌else◌, arith, rules}
+use Rattle.std.specs.Prelude.{IsOk, ◌⊎◌, nat_lt, Result, Ok, Err}
+use Rattle.std.specs.List.{position_or_len}
 use Rattle.std.proofs.lemmas.Bool.{cases_lt}
 use Rattle.std.proofs.lemmas.List.Splits.{slice_split_none, slice_split_first, length-slice_split}
 use Rattle.std.proofs.lemmas.List.Sums.{fails_before_first}
@@ -23,8 +23,7 @@ place text = position_or_len is_newline text
 
 whole-more : (line : List ℕ) (parts : List (List ℕ)) → 0 < length parts → whole_lines (line ∷ parts) ≡ without_return line ∷ whole_lines parts
 unfolding whole_lines
-whole-more line [] some = absurd (omega arith)
-whole-more line (next ∷ parts) some = refl
+whole-more line parts some = search rules
 
 whole-last : (last : List ℕ) → 0 < length last → whole_lines (last ∷ []) ≡ last ∷ []
 unfolding whole_lines
@@ -44,25 +43,15 @@ cut-missing text missing = rw (missing) refl
 
 -- the first line, and those behind it
 pub lines-more : (text : List ℕ) → 0 < length text → lines_of text ≡ (first_line text).0 ∷ lines_of (first_line text).1
-lines-more text some = elim (cases_lt (place text) (length text)) [
-  | inl found ↦
-      let parts = slice_split is_newline (drop (place text + 1) text) in
-      let more : 0 < length parts = omega (arith, length-slice_split is_newline (drop (place text + 1) text)) in
-      ap whole_lines (slice_split_first is_newline text 0 found) ∙ whole-more (take (place text) text) parts more
-      ∙ sym (ap (λ (l : List ℕ × List ℕ). l.0 ∷ lines_of l.1) (cut-found text found))
-  | inr past ↦
-      let plain : All (λ byte. is_newline byte ≡ false) text = λ k d within. fails_before_first is_newline text k d (omega arith) in
-      ap whole_lines (slice_split_none is_newline text plain) ∙ whole-last text some
-      ∙ sym (ap (λ (l : List ℕ × List ℕ). l.0 ∷ lines_of l.1) (cut-missing text (le-ltb (place text) (length text) past)) ∙ ap (λ (l : List (List ℕ)). text ∷ l) none-left)
-]
+lines-more text some =
+    search (rules, cases_lt, length-slice_split, slice_split_first, whole-more, cut-found, fails_before_first, slice_split_none, whole-last, cut-missing, le-ltb, none-left)
 
 -- these pages stand in front
 abbrev pub behind : List Page → Result (List Page) ListFault → Result (List Page) ListFault
 behind done read = read >>= (λ pages. Ok (done ++ pages))
 
 behind-more : (done : List Page) (page : Page) (read : Result (List Page) ListFault) → behind done (read >>= (λ pages. Ok (page ∷ pages))) ≡ behind (done ++ page ∷ []) read
-behind-more done page (Ok pages) = ap Ok (sym (append_assoc done (page ∷ []) pages))
-behind-more done page (Err fault) = refl
+behind-more done page read = search (rules, append_assoc)
 
 step : (done : List Page) (number : ℕ) (line : List ℕ) (lines : List (List ℕ)) (page : Page) → numbered_page number line ≡ Ok page
     → behind done (pages_from number (line ∷ lines)) ≡ behind (done ++ page ∷ []) (pages_from (number + 1) lines)
@@ -77,17 +66,12 @@ stop done number line lines fault is = rw (is) refl
 -- one more page is read
 pub page_read : (done : List Page) (number next : ℕ) (text line rest : List ℕ) (page : Page) (all : Result (List Page) ListFault) → 0 < length text → first_line text ≡ (line, rest)
     → numbered_page number line ≡ Ok page → next ≡ number + 1 → behind done (pages_from number (lines_of text)) ≡ all → behind (done ++ page ∷ []) (pages_from next (lines_of rest)) ≡ all
-page_read done number next text line rest page all some cut is following so_far =
-    let lines = lines-more text some ∙ ap (λ (l : List ℕ × List ℕ). l.0 ∷ lines_of l.1) cut in
-    ap (λ n. behind (done ++ page ∷ []) (pages_from n (lines_of rest))) following
-    ∙ sym (step done number line (lines_of rest) page is) ∙ sym (ap (λ (l : List (List ℕ)). behind done (pages_from number l)) lines) ∙ so_far
+page_read done number next text line rest page all some cut is following so_far = search (rules, lines-more, step)
 
 -- a line has a fault
 pub page_missing : (done : List Page) (number : ℕ) (text line rest : List ℕ) (fault : ListFault) (all : Result (List Page) ListFault) → 0 < length text → first_line text ≡ (line, rest)
     → numbered_page number line ≡ Err fault → behind done (pages_from number (lines_of text)) ≡ all → all ≡ Err fault
-page_missing done number text line rest fault all some cut is so_far =
-    let lines = lines-more text some ∙ ap (λ (l : List ℕ × List ℕ). l.0 ∷ lines_of l.1) cut in
-    sym so_far ∙ ap (λ (l : List (List ℕ)). behind done (pages_from number l)) lines ∙ stop done number line (lines_of rest) fault is
+page_missing done number text line rest fault all some cut is so_far = search (rules, lines-more, stop)
 
 -- a line is refused
 pub page_refused : {X : Type 0} (view : X → List Page) (refusal : Refused ListFault) (done : List Page) (number : ℕ) (text line rest : List ℕ) (all : Result (List Page) ListFault)
@@ -103,22 +87,15 @@ from-none done number = ap Ok (append-nil done)
 -- the text ends
 pub pages_read : (done : List Page) (number : ℕ) (text : List ℕ) (all : Result (List Page) ListFault) → text ≡ []
     → behind done (pages_from number (lines_of text)) ≡ all → all ≡ Ok done
-pages_read done number text all none so_far =
-    sym so_far ∙ ap (λ (l : List ℕ). behind done (pages_from number (lines_of l))) none ∙ ap (λ (l : List (List ℕ)). behind done (pages_from number l)) none-left ∙ from-none done number
+pages_read done number text all none so_far = search (rules, none-left, from-none)
 
 -- no page stands in front
 pub from_start : (read : Result (List Page) ListFault) → behind [] read ≡ read
-from_start (Ok pages) = refl
-from_start (Err fault) = refl
+from_start read = search rules
 
 -- what is behind a line is shorter
 pub behind_shorter : (text line rest : List ℕ) → 0 < length text → first_line text ≡ (line, rest) → length rest < length text
-behind_shorter text line rest some cut = elim (cases_lt (place text) (length text)) [
-  | inl found ↦ let is = ap (λ (l : List ℕ × List ℕ). length l.1) (sym cut ∙ cut-found text found) in omega (arith, is, dropped text (place text + 1))
-  | inr past ↦ let is = ap (λ (l : List ℕ × List ℕ). length l.1) (sym cut ∙ cut-missing text (le-ltb (place text) (length text) past)) in omega arith
-] where
-  dropped : (l : List ℕ) (n : ℕ) → length (drop n l) ≡ length l - n
-  dropped l n = length-drop n l
+behind_shorter text line rest some cut = search (rules, cases_lt, cut-found, cut-missing, le-ltb, length-drop)
 
 -- no page is read yet, or the first line was read as one
 abbrev pub HasBegun : List ℕ → List Page → List ℕ → Type 0
@@ -127,8 +104,4 @@ HasBegun text done rest = ((length done ≡ 0) × (rest ≡ text)) ⊎ HasFirstP
 -- where a line is that of a page, the first one is
 pub first_page : (text rest line later : List ℕ) (done : List Page) (number : ℕ) → number ≡ length done + 1 → 0 < length rest → first_line rest ≡ (line, later) → IsOk (numbered_page number line)
     → HasBegun text done rest → HasFirstPage text
-first_page text rest line later done number count some cut read (inl begun) =
-    let start : number ≡ 1 = count ∙ ap (λ n. n + 1) begun.0 in
-    let here : (first_line text).0 ≡ line = ap (λ (l : List ℕ). (first_line l).0) (sym begun.1) ∙ ap (λ (l : List ℕ × List ℕ). l.0) cut in
-    (subst (λ (t : List ℕ). 0 < length t) begun.1 some, subst (λ (l : List ℕ). IsOk (numbered_page 1 l)) (sym here) (subst (λ (n : ℕ). IsOk (numbered_page n line)) start read))
-first_page text rest line later done number count some cut read (inr has) = has
+first_page text rest line later done number count some cut read begins = search rules

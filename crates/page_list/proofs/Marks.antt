@@ -1,5 +1,5 @@
 -- Each byte of a field that spells something is a character from `!` to `~`.
-use Rattle.std.proofs.Common.{ℕ, ◌<◌, ◌≤◌, Bool, true, false, ◌&&◌, List, [], ◌∷◌, ◌++◌, length, length-append, map, Option, Some, None, All, refl, sym, subst, ne_eqb, arith}
+use Rattle.std.proofs.Common.{ℕ, ◌<◌, ◌≤◌, Bool, true, ◌&&◌, List, [], ◌∷◌, ◌++◌, length, length-append, map, Option, All, refl, sym, subst, ne_eqb, arith, rules}
 use Rattle.std.specs.Prelude.{decimal}
 use Rattle.std.specs.Fmt.{digits}
 use Rattle.std.specs.List.{list_all, join_with_byte}
@@ -75,29 +75,20 @@ placement_marks placement column row =
     comma = All-cons IsMark 44 [] (mark_is 44 refl) (All-nil IsMark)
 
 pub operation_marks : (text : List ℕ) (operation : Option Placement) → SpellsLineOperation text operation → HasMarks text
-operation_marks text None s = subst HasMarks (sym s) dash
-operation_marks text (Some placement) s = subst HasMarks (sym s.written) (placement_marks placement s.column s.row)
+operation_marks text operation s = search (rules, dash, placement_marks)
 
 -- ---- flags
 
 flag_mark : (letter : ℕ) (is_set : Bool) → IsMark letter → IsMark (flag_form letter is_set)
-flag_mark letter true mark = mark
-flag_mark letter false mark = mark_is 45 refl
+flag_mark letter is_set mark = search (rules, mark_is)
 
 four_marks : (a b c d : ℕ) → IsMark a → IsMark b → IsMark c → IsMark d → All IsMark (a ∷ b ∷ c ∷ d ∷ [])
-four_marks a b c d first second third fourth =
-    All-cons IsMark a (b ∷ c ∷ d ∷ []) first (All-cons IsMark b (c ∷ d ∷ []) second (All-cons IsMark c (d ∷ []) third (All-cons IsMark d [] fourth (All-nil IsMark))))
+four_marks a b c d first second third fourth = search (rules, All-cons, All-nil)
 
 pub flags_marks : (text : List ℕ) (page : Page) → SpellsLineFlags text page → HasMarks text
-flags_marks text page s =
-    subst HasMarks (sym s) (record {
-      some = omega arith;
-      marks = four_marks (flag_form 114 page.rise) (flag_form 109 page.mirror) (flag_form 99 page.colour) (flag_form 108 page.lock) (flag_mark 114 page.rise (mark_is 114 refl)) (flag_mark 109 page.mirror (mark_is 109 refl))
-          (flag_mark 99 page.colour (mark_is 99 refl)) (flag_mark 108 page.lock (mark_is 108 refl));
-    })
+flags_marks text page s = search (rules, four_marks, flag_mark, mark_is)
 
 -- ---- comments
 
 pub comment_marks : (text : List ℕ) (comment : Option (List ℕ)) → SpellsLineComment text comment → HasMarks text
-comment_marks text None s = subst HasMarks (sym s) dash
-comment_marks text (Some units) s = subst HasMarks (sym s.spelled) (record { some = omega arith; marks = All-cons IsMark 35 s.escaped (mark_is 35 refl) s.marks })
+comment_marks text comment s = search (rules, dash, All-cons, mark_is)

@@ -1,13 +1,11 @@
 -- Texts of many lines and the function that reads them agree, in the pages that are read and in the first fault.
-use Rattle.std.proofs.Common.{◌≡◌, ℕ, suc, ◌+◌, ◌<◌, ◌≤◌, nat_lt, List, [], ◌∷◌, length, Result, Ok, Err, refl, ap, sym, subst, ◌∙◌, ◌⊎◌, inl, inr, ltb-true, ltb-false, lt-ltb, le-ltb, append-nil, arith}
+use Rattle.std.proofs.Common.{◌≡◌, ℕ, suc, ◌+◌, ◌<◌, ◌≤◌, nat_lt, List, [], ◌∷◌, length, Result, Ok, Err, refl, ap, sym, subst, ◌∙◌, ◌⊎◌, inl, inr, ltb-true, ltb-false, lt-ltb, le-ltb, append-nil, arith, rules}
 use Rattle.std.specs.Prelude.{IsOk}
 use Rattle.std.proofs.lemmas.Bool.{cases_Bool}
 use Rattle.fumen_pages.specs.declared.page.Page.{Page}
 use Rattle.fumen_pages.specs.declared.list_fault.ListFault.{ListFault}
 use Rattle.fumen_pages.specs.declared.list_fault.ListKind.{ListKind}
-use Rattle.fumen_pages.specs.declared.list_fault.ListKind.TheVariants.{TooManyPages}
 use Rattle.page_list.specs.ListReading.{lines_of, first_line, numbered, numbered_page, pages_from, pages_in}
-use Rattle.page_list.specs.LineReading.{line_in}
 use Rattle.fumen_digits.specs.Reading.{◌>>=◌}
 use Rattle.page_list.specs.LineSpelling.{SpellsPage, IsFirstLine, SpellsFirst, none, more, SpellsPages, IsFaultBehind, IsListFault, Spelled}
 use Rattle.page_list.proofs.ListLemmas.{behind, from_start, none-left}
@@ -33,8 +31,7 @@ same_fault : (one other : ListFault) → ◌≡◌ {A = Result Page ListFault} (
 same_fault one other e = cc
 
 numbered_ok : (number : ℕ) (read : Result Page ListKind) (page : Page) → numbered number read ≡ Ok page → read ≡ Ok page
-numbered_ok number (Ok one) page is = ap Ok (same_page one page is)
-numbered_ok number (Err kind) page is = cc
+numbered_ok number read page is = search (rules, same_page)
 
 -- the fault of a line
 record IsNumbered (number : ℕ) (read : Result Page ListKind) (fault : ListFault) : Type 0 where
@@ -43,8 +40,7 @@ record IsNumbered (number : ℕ) (read : Result Page ListKind) (fault : ListFaul
   made : fault_at number kind ≡ fault
 
 numbered_err : (number : ℕ) (read : Result Page ListKind) (fault : ListFault) → numbered number read ≡ Err fault → IsNumbered number read fault
-numbered_err number (Ok page) fault is = cc
-numbered_err number (Err kind) fault is = record { kind = kind; is = refl; made = same_fault (fault_at number kind) fault is }
+numbered_err number read fault is = search (rules, same_fault)
 
 -- a page that was read as the line of a number
 record IsPageOf (number : ℕ) (line : List ℕ) (page : Page) : Type 0 where
@@ -53,12 +49,7 @@ record IsPageOf (number : ℕ) (line : List ℕ) (page : Page) : Type 0 where
 
 page_is : (number : ℕ) (line : List ℕ) (page : Page) → numbered_page number line ≡ Ok page → IsPageOf number line page
 unfolding numbered_page
-page_is number line page is = elim (cases_Bool (nat_lt 10000 number)) [
-  | inl past ↦ no_page (rw past at is)
-  | inr few ↦ record { few = ltb-false 10000 number few; spelled = line_spelled line page (numbered_ok number (line_in line) page (rw few at is)) }
-] where
-  no_page : {fault : ListFault} → ◌≡◌ {A = Result Page ListFault} (Err fault) (Ok page) → IsPageOf number line page
-  no_page e = cc
+page_is number line page is = search (rules, cases_Bool, nat_lt, ltb-false, line_spelled, numbered_ok)
 
 page_read : (number : ℕ) (line : List ℕ) (page : Page) → number ≤ 10000 → SpellsPage line page → numbered_page number line ≡ Ok page
 unfolding numbered_page
@@ -71,22 +62,12 @@ record IsFaultOf (count : ℕ) (line : List ℕ) (fault : ListFault) : Type 0 wh
 
 faulty : (count : ℕ) (line : List ℕ) (fault : ListFault) → count ≤ 10000 → numbered_page (count + 1) line ≡ Err fault → IsFaultOf count line fault
 unfolding numbered_page
-faulty count line fault most is = elim (cases_Bool (nat_lt 10000 (count + 1))) [
-  | inl past ↦
-      let last : count ≡ 10000 = omega (arith, most, ltb-true 10000 (count + 1) past) in
-      subst (IsFaultOf count line) (same_fault (fault_at (count + 1) TooManyPages) fault (rw past at is)) (record { number = refl; kind = inl (last, refl) })
-  | inr few ↦
-      let less : count < 10000 = omega (arith, ltb-false 10000 (count + 1) few) in
-      let one = numbered_err (count + 1) (line_in line) fault (rw few at is) in
-      subst (IsFaultOf count line) one.made (record { number = refl; kind = inr (less, line_fault line one.kind one.is) })
-]
+faulty count line fault most is =
+    search (rules, cases_Bool, nat_lt, ltb-true, same_fault, ltb-false, numbered_err, line_fault)
 
 fault_read : (count : ℕ) (line : List ℕ) (fault : ListFault) → fault.line ≡ count + 1 → IsFaultBehind count line fault.kind → numbered_page (count + 1) line ≡ Err fault
 unfolding numbered_page
-fault_read count line fault number (inl last) =
-    rw (lt-ltb 10000 (count + 1) (omega (arith, last.0))) (ap (λ (f : ListFault). Err f) (fault_is (count + 1) TooManyPages fault number last.1))
-fault_read count line fault number (inr less) =
-    rw (le-ltb 10000 (count + 1) (omega (arith, less.0)), faulty_line_read line fault.kind less.1) (ap (λ (f : ListFault). Err f) (fault_is (count + 1) fault.kind fault number refl))
+fault_read count line fault number behind = search (rules, lt-ltb, fault_is, le-ltb, faulty_line_read)
 
 -- ---- many lines
 
@@ -174,16 +155,13 @@ fault_from (line ∷ lines) count text fault most whole is =
 -- ---- lines that are spelled are read
 
 in_front : (page : Page) (pages : List Page) (read : Read) → (behind pages read >>= (λ others. Ok (page ∷ others))) ≡ behind (page ∷ pages) read
-in_front page pages (Ok others) = refl
-in_front page pages (Err fault) = refl
+in_front page pages read = search rules
 
 -- pages are read up to what stands behind them
 read_on : (text rest : List ℕ) (pages : List Page) (count : ℕ) → SpellsFirst text pages rest → count + length pages ≤ 10000
     → pages_from (count + 1) (lines_of text) ≡ behind pages (pages_from (count + length pages + 1) (lines_of rest))
 unfolding pages_from
-read_on text rest [] count none few =
-    let size : count + 1 ≡ count + 0 + 1 = omega arith in
-    ap (λ n. pages_from n (lines_of text)) size ∙ sym (from_start (pages_from (count + 0 + 1) (lines_of text)))
+read_on text rest [] count none few = search (rules, from_start)
 read_on text rest (page ∷ pages) count (more {line = line} {behind = later} first s others) few =
     let size : count + 1 + length pages + 1 ≡ count + suc (length pages) + 1 = omega arith in
     let lines = ap (pages_from (count + 1)) (lines_at text line later first) in

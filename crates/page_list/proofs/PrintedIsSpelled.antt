@@ -1,5 +1,5 @@
 -- Lines that are printed spell their pages.
-use Rattle.std.proofs.Common.{◌≡◌, ℕ, zero, suc, ◌+◌, ◌-◌, ◌*◌, ◌≤◌, true, ◌==◌, List, [], ◌∷◌, ◌++◌, length, length-drop, length-take-le, take, drop, map, replicate, take-append-drop, Option, Some, None, All, refl, ap, sym, subst, ◌∙◌, inl, inr, append_assoc, eqb-true, ne_eqb, arith}
+use Rattle.std.proofs.Common.{◌≡◌, ℕ, zero, suc, ◌+◌, ◌-◌, ◌*◌, ◌≤◌, true, ◌==◌, List, [], ◌∷◌, ◌++◌, length, length-drop, length-take-le, take, drop, map, replicate, take-append-drop, Option, Some, None, All, refl, ap, sym, subst, ◌∙◌, inl, inr, append_assoc, eqb-true, ne_eqb, arith, rules}
 use Rattle.std.specs.Option.{ForSome}
 use Rattle.std.specs.Prelude.{nat_abs}
 use Rattle.std.specs.List.{flat_map, join_with_byte, prefix_len, list_all}
@@ -11,7 +11,7 @@ use Rattle.std.proofs.lemmas.List.Sums.{prefix_len-le-length}
 use Rattle.fumen_digits.specs.declared.dialect.Dialect.{Dialect}
 use Rattle.srs.specs.declared.placement.Placement.{Placement}
 use Rattle.srs.specs.Cells.{Cell, pivot_of}
-use Rattle.fumen_comment.specs.Escape.{escaped, HasUnits}
+use Rattle.fumen_comment.specs.Escape.{HasUnits}
 use Rattle.fumen_comment.proofs.CallerLemmas.{escaped_marks, unescaped-escaped}
 use Rattle.fumen_pages.specs.declared.page.Page.{Page}
 use Rattle.fumen_pages.specs.Action.{is_inside_in}
@@ -69,11 +69,8 @@ one_blank row rows count next is zeros rest =
 
 blank_front : (rows : List (List ℕ)) → All IsPageRow rows → flat (take (blank_count rows) rows) ≡ replicate (10 * blank_count rows) 0
 blank_front [] each = refl
-blank_front (row ∷ rows) each = elim (cases_Bool (is_blank (letters_of row))) [
-  | inl blank ↦
-      rw blank (one_blank row rows (blank_count rows) (1 + blank_count rows) (omega arith) (ten_zeros row (All-head IsPageRow row rows each) blank) (blank_front rows (All-tail IsPageRow row rows each)))
-  | inr shown ↦ rw shown refl
-]
+blank_front (row ∷ rows) each =
+    search (rules, cases_Bool, one_blank, ten_zeros, All-head, All-tail, blank_front rows (All-tail IsPageRow row rows each))
 
 -- ---- the cells field
 
@@ -134,8 +131,7 @@ printed_operation dialect (Some p) inside =
     record { written = refl; column = omega (arith, at.column, x); row = omega (arith, at.row, y, page_row_count-most dialect) }
 
 printed_comment : (comment : Option (List ℕ)) → HasUnits comment → SpellsLineComment (comment_form comment) comment
-printed_comment None fits = refl
-printed_comment (Some units) fits = record { escaped = escaped units; marks = escaped_marks units (fits units refl); spelled = refl; means = sym (unescaped-escaped units (fits units refl)) }
+printed_comment comment fits = search (rules, escaped_marks, unescaped-escaped)
 
 -- ---- lines
 

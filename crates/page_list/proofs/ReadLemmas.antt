@@ -1,6 +1,7 @@
 -- Rows that are read letter by letter.
-use Rattle.std.proofs.Common.{◌≡◌, ℕ, ◌+◌, ◌<◌, ◌≤◌, ◌==◌, true, false, List, [], ◌∷◌, ◌++◌, length, drop, get_or, Option, Some, None, refl, ap, sym, ◌∙◌, append_assoc, append-nil}
+use Rattle.std.proofs.Common.{◌≡◌, ℕ, ◌+◌, ◌<◌, ◌≤◌, ◌==◌, true, false, List, [], ◌∷◌, ◌++◌, length, drop, get_or, Option, Some, None, refl, ap, sym, ◌∙◌, append_assoc, append-nil, arith, rules}
 use Rattle.std.proofs.lemmas.List.{at_drop_more, at_drop_all}
+use Rattle.std.proofs.lemmas.Grind.{common_steps}
 use Rattle.page_list.specs.CellsReading.{colour_in, rows_at, with_front}
 
 -- the rows from a place on, and the letter there
@@ -10,8 +11,7 @@ at front text place column within = at_drop_more (λ rest. with_front front (row
 
 -- colours in front of colours
 pub fronts : (front more : List ℕ) (behind : Option (List ℕ)) → with_front front (with_front more behind) ≡ with_front (front ++ more) behind
-fronts front more None = refl
-fronts front more (Some colours) = ap Some (sym (append_assoc front more colours))
+fronts front more behind = search (rules, append_assoc)
 
 slash : (front rest : List ℕ) (column byte : ℕ) → (column == 10) ≡ true → (byte == 47) ≡ true → with_front front (rows_at column (byte ∷ rest)) ≡ with_front front (rows_at 0 rest)
 unfolding rows_at
@@ -62,11 +62,9 @@ ends_short front column goes = rw (goes) refl
 -- the text ends after ten letters
 pub end_read : (front text : List ℕ) (place column : ℕ) (all : Option (List ℕ)) → length text ≤ place → (column == 10) ≡ true
     → with_front front (rows_at column (drop place text)) ≡ all → all ≡ Some front
-end_read front text place column all past ends so_far =
-    sym so_far ∙ at_drop_all (λ rest. with_front front (rows_at column rest)) text place past ∙ ends_whole front column ends
+end_read front text place column all past ends so_far = grind (arith, common_steps, at_drop_all, ends_whole)
 
 -- the text ends within a row
 pub end_missing : (front text : List ℕ) (place column : ℕ) (all : Option (List ℕ)) → length text ≤ place → (column == 10) ≡ false
     → with_front front (rows_at column (drop place text)) ≡ all → all ≡ None
-end_missing front text place column all past goes so_far =
-    sym so_far ∙ at_drop_all (λ rest. with_front front (rows_at column rest)) text place past ∙ ends_short front column goes
+end_missing front text place column all past goes so_far = grind (arith, common_steps, at_drop_all, ends_short)

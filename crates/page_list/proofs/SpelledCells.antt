@@ -1,5 +1,5 @@
 -- Cells that a text spells are a page's, and so are the units of its comment.
-use Rattle.std.proofs.Common.{◌≡◌, ℕ, ◌-◌, ◌*◌, ◌^◌, ◌<◌, List, [], ◌∷◌, ◌++◌, length, length-append, replicate, All, Option, Some, None, refl, ap, sym, subst, ◌∙◌, arith}
+use Rattle.std.proofs.Common.{◌≡◌, ℕ, ◌-◌, ◌*◌, List, [], ◌∷◌, ◌++◌, length, length-append, replicate, All, Option, refl, ap, sym, subst, ◌∙◌, arith, rules}
 use Rattle.std.proofs.lemmas.List.{length-replicate}
 use Rattle.std.proofs.lemmas.List.Elements.{All-nil, All-cons, All-head, All-tail, All-append, All-replicate}
 use Rattle.std.proofs.lemmas.Option.{none-some, same_Some}
@@ -41,10 +41,7 @@ cells_of_pages text pages s = spelled_first text [] pages s.spelled
 
 -- and the units of their comments have 16 bits
 comment_units : (text : List ℕ) (comment : Option (List ℕ)) → SpellsLineComment text comment → HasUnits comment
-comment_units text None s = λ units is. absurd (none-some units is)
-comment_units text (Some own) s = λ units is.
-    subst (All (λ unit. unit < 2 ^ 16)) (sym s.means ∙ same_Some own units is)
-    (unescaped_fits s.escaped (λ k d lt. let mark = s.marks k d lt in omega (arith, mark)))
+comment_units text comment s = search (rules, none-some, same_Some, unescaped_fits)
 
 first_units : (text rest : List ℕ) (pages : List Page) → SpellsFirst text pages rest → All (λ page. HasUnits page.comment) pages
 first_units text rest [] none = All-nil (λ (page : Page). HasUnits page.comment)

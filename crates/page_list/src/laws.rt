@@ -43,6 +43,7 @@ pub fn printed_lines_spell_their_pages()
 {}
 
 /// Each page that a text spells has 240 cells, each with a colour, and the units of its comment have 16 bits.
+#[tactic(auto, using(crate::proofs::SpelledCells::cells_of_pages, crate::proofs::SpelledCells::units_of_pages))]
 pub fn spelled_pages_have_cells()
     ensures cells { (text : List ℕ) (pages : List Page) → SpellsPages text pages →
         All (λ page. AreCells V115 page.cells) pages }

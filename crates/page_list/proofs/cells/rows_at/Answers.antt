@@ -1,14 +1,12 @@
 -- A letter or a `/` is read, or is missing, or the text ends.
-use Rattle.std.proofs.Common.{◌≡◌, ◌∙◌, sym, ap, arith, length, length-append, [], ◌∷◌, eq-eqb, ne_eqb}
+use Rattle.std.proofs.Common.{◌≡◌, ◌∙◌, sym, ap, arith, length, length-append, [], ◌∷◌, eq-eqb, ne_eqb, rules}
 use Rattle.page_list.specs.CellsReading.{rows_at}
 use Rattle.page_list.proofs.ReadLemmas.{slash_read, slash_missing, letter_read, letter_missing, end_read, end_missing}
 use Rattle.page_list.proofs.cells.rows_at.Goals as goal
 use Rattle.page_list.proofs.cells.rows_at.Goals.{then-column-eq10+else-text-place-ne47, else-column-eq10+in_ok-colour_in}
 
 pub returns-then-text-place-ne47-clause-value : goal.returns-then-text-place-ne47-clause-value
-returns-then-text-place-ne47-clause-value c =
-    slash_missing c.loop-place.colours.items c.args.text.now c.loop-place.place c.loop-place.column (rows_at 0 c.args.text.now) c.loop-place-test.true
-    (eq-eqb c.loop-place.column 10 c.if-column-eq10.true) (ne_eqb _ 47 c.if-text-place-ne47.true) c.loop-place.invariant.0
+returns-then-text-place-ne47-clause-value c = search (rules, slash_missing, eq-eqb, ne_eqb)
 
 pub returns-in_err-colour_in-clause-value : goal.returns-in_err-colour_in-clause-value
 returns-in_err-colour_in-clause-value c =
@@ -42,9 +40,7 @@ loop-place-preserved c = elim c.if-column-eq10.branch [
 ]
 
 pub returns-then-column-eq10-2-clause-value : goal.returns-then-column-eq10-2-clause-value
-returns-then-column-eq10-2-clause-value c =
-    end_read c.loop-place.colours.items c.args.text.now c.loop-place.place c.loop-place.column (rows_at 0 c.args.text.now) c.loop-place-test.false (eq-eqb c.loop-place.column 10 c.if-column-eq10-2.true) c.loop-place.invariant.0
+returns-then-column-eq10-2-clause-value c = search (rules, end_read, eq-eqb)
 
 pub returns-else-column-eq10-2-clause-value : goal.returns-else-column-eq10-2-clause-value
-returns-else-column-eq10-2-clause-value c =
-    end_missing c.loop-place.colours.items c.args.text.now c.loop-place.place c.loop-place.column (rows_at 0 c.args.text.now) c.loop-place-test.false (ne_eqb c.loop-place.column 10 c.if-column-eq10-2.false) c.loop-place.invariant.0
+returns-else-column-eq10-2-clause-value c = search (rules, end_missing, ne_eqb)

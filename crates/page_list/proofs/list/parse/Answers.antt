@@ -1,5 +1,5 @@
 -- What the text spells, and its fault, from what reading gives.
-use Rattle.std.proofs.Common.{◌≡◌, ◌<◌, ℕ, arith, length, [], ◌∷◌, List, Result, Ok, Err, Vec, Global, subst}
+use Rattle.std.proofs.Common.{◌≡◌, ◌<◌, ℕ, arith, length, [], ◌∷◌, List, Result, Ok, Err, Vec, Global, subst, rules}
 use Rattle.std.specs.Prelude.{IfOk}
 use Rattle.pc_outside.specs.declared.answers.Refused.{Refused}
 use Rattle.pc_outside.specs.declared.answers.Refused.TheVariants as refused
@@ -7,7 +7,6 @@ use Rattle.fumen_pages.specs.declared.page.Page.{Page}
 use Rattle.fumen_pages.specs.declared.list_fault.ListFault.{ListFault}
 use Rattle.fumen_digits.specs.Answers.{Gives}
 use Rattle.page_list.specs.ListReading.{pages_in}
-use Rattle.page_list.specs.LineSpelling.{SpellsPages}
 use Rattle.page_list.proofs.PagesReadAsSpelled.{pages_spelled, spelled_pages_read, fault_spelled, later_fault, spelled_fault_read}
 use Rattle.page_list.proofs.list.parse.Goals as goal
 
@@ -29,8 +28,7 @@ some_byte [] some empty = absurd (omega (arith, some))
 some_byte (byte ∷ text) some empty = cc
 
 pub returns-clause-found : goal.returns-clause-found
-returns-clause-found c =
-    found c.read_pages.result (pages_in c.args.text.now) (SpellsPages c.args.text.now) (pages_spelled c.args.text.now) c.read_pages.ensures.exact
+returns-clause-found c = search (rules, found, pages_spelled)
 
 pub returns-clause-only : goal.returns-clause-only
 returns-clause-only c = λ pages s. subst (Given c.read_pages.result) (spelled_pages_read c.args.text.now pages s) c.read_pages.ensures.exact

@@ -1,11 +1,11 @@
 -- One more page is read, or a line has a fault, or the text ends.
 use Rattle.std.specs.Prelude.{IsOk}
 use Rattle.fumen_digits.proofs.CallerLemmas.{err_passed}
-use Rattle.std.proofs.Common.{◌≡◌, Result, Ok, inr, refl, subst, ◌+◌, ◌∙◌, ◌<◌, ◌++◌, sym, ap, arith, length, length-append, [], ◌∷◌, Vec, Global}
+use Rattle.std.proofs.Common.{◌≡◌, Result, Ok, refl, subst, ◌+◌, ◌∙◌, ◌<◌, sym, ap, arith, length, length-append, Vec, Global, rules}
 use Rattle.std.proofs.lemmas.List.{nil_from_length}
 use Rattle.std.proofs.lemmas.Result.{err_from_is_err_and}
 use Rattle.fumen_pages.specs.declared.page.Page.{Page}
-use Rattle.page_list.specs.ListReading.{lines_of, numbered_page, pages_from, pages_in}
+use Rattle.page_list.specs.ListReading.{lines_of, pages_from, pages_in}
 use Rattle.page_list.proofs.ListLemmas.{behind, behind_shorter, first_page, page_read, page_refused, pages_read}
 use Rattle.page_list.proofs.list.read_pages.Goals as goal
 
@@ -25,25 +25,13 @@ loop-rest-smaller c =
     behind_shorter c.loop-rest.rest.now c.first_line.result.0.now c.first_line.result.1.now some c.first_line.ensures
 
 pub loop-rest-preserved : goal.loop-rest-preserved
-loop-rest-preserved c =
-    let some : 0 < length c.loop-rest.rest.now = grind (arith, c.is_empty.ensures, c.loop-rest-test.true) in
-    rw (c.in_ok-push.ensures.items) (
-      page_read c.loop-rest.pages.items (length c.loop-rest.pages.items + 1) (length (c.loop-rest.pages.items ++ c.in_ok-page.page ∷ []) + 1) c.loop-rest.rest.now c.first_line.result.0.now c.first_line.result.1.now c.in_ok-page.page (pages_in c.args.text.now) some c.first_line.ensures
-          (ap (λ n. numbered_page (n + 1) c.first_line.result.0.now) (sym (c.len.ensures ∙ c.loop-rest.pages.ok.0)) ∙ c.in_ok-page.ensures.exact) (omega (arith, length-append c.loop-rest.pages.items (c.in_ok-page.page ∷ []))) c.loop-rest.invariant.0,
-      omega (arith, length-append c.loop-rest.pages.items (c.in_ok-page.page ∷ []), c.in_ok-page.ensures.few),
-      inr (first_page c.args.text.now c.loop-rest.rest.now c.first_line.result.0.now c.first_line.result.1.now c.loop-rest.pages.items (c.len.result + 1) (ap (λ n. n + 1) (c.len.ensures ∙ c.loop-rest.pages.ok.0)) some c.first_line.ensures (was_ok c.in_ok-page.ensures.exact) c.loop-rest.invariant.2),
-    )
+loop-rest-preserved c = search (rules, page_read, length-append, first_page, was_ok)
 
 pub returns-clause-exact : goal.returns-clause-exact
 returns-clause-exact c = pages_read c.loop-rest.pages.items (length c.loop-rest.pages.items + 1) c.loop-rest.rest.now (pages_in c.args.text.now) (nil_from_length c.loop-rest.rest.now (grind (arith, c.is_empty.ensures, c.loop-rest-test.false))) c.loop-rest.invariant.0
 
 pub returns-in_err-page-clause-memory : goal.returns-in_err-page-clause-memory
-returns-in_err-page-clause-memory c = λ none.
-    let some : 0 < length c.loop-rest.rest.now = grind (arith, c.is_empty.ensures, c.loop-rest-test.true) in
-    let p = err_from_is_err_and c.from_residual.result c.from_residual.ensures.1 in
-    first_page c.args.text.now c.loop-rest.rest.now c.first_line.result.0.now c.first_line.result.1.now c.loop-rest.pages.items (c.len.result + 1) (ap (λ n. n + 1) (c.len.ensures ∙ c.loop-rest.pages.ok.0)) some c.first_line.ensures (c.in_err-page.ensures.memory (err_passed p.1 p.2 none)) c.loop-rest.invariant.2
+returns-in_err-page-clause-memory c = search (rules, err_from_is_err_and, first_page, err_passed)
 
 pub returns-in_err-push-clause-memory : goal.returns-in_err-push-clause-memory
-returns-in_err-push-clause-memory c = λ _.
-    let some : 0 < length c.loop-rest.rest.now = grind (arith, c.is_empty.ensures, c.loop-rest-test.true) in
-    first_page c.args.text.now c.loop-rest.rest.now c.first_line.result.0.now c.first_line.result.1.now c.loop-rest.pages.items (c.len.result + 1) (ap (λ n. n + 1) (c.len.ensures ∙ c.loop-rest.pages.ok.0)) some c.first_line.ensures (was_ok c.in_ok-page.ensures.exact) c.loop-rest.invariant.2
+returns-in_err-push-clause-memory c = search (rules, first_page, was_ok)
