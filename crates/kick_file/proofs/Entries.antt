@@ -1,20 +1,19 @@
 -- An entry is read as it is written.
-use Rattle.std.proofs.Common.{◌≡◌, ℕ, ◌+◌, Bool, true, false, cond, ◌&&◌, ◌==◌, List, [], ◌∷◌, ◌++◌, length, set, refl, ap, sym, ◌∙◌, arith, nat_lt, Some, None, Ok, Err}
+use Rattle.std.proofs.Common.{◌≡◌, ℕ, ◌+◌, Bool, true, false, cond, ◌&&◌, ◌==◌, List, [], ◌∷◌, ◌++◌, length, set, refl, ap, sym, ◌∙◌, arith, nat_lt, Some, Err, rules}
 use Rattle.std.specs.List.{list_all}
-use Rattle.std.specs.Option.{option_map}
 use Rattle.std.proofs.Math.Path.{fun_ext}
 use Rattle.std.proofs.lemmas.Bool.{and_parts}
 use Rattle.srs.specs.declared.piece.Piece.{Piece}
 use Rattle.srs.specs.declared.rotation.Rotation.{Rotation}
 use Rattle.srs.specs.Cells.{Cell}
 use Rattle.srs.specs.Kick.{Table, table_with, turns_with, is_small_move}
-use Rattle.srs.specs.Piece.{piece_code, piece_with_letter}
+use Rattle.srs.specs.Piece.{piece_with_letter}
 use Rattle.srs.specs.Rotation.{rotation_letter, rotation_place}
 use Rattle.kick_file.specs.declared.fault.KickFault.TheVariants.{RepeatedEntry}
 use Rattle.kick_file.specs.declared.turned.TurnedPiece.{TurnedPiece}
 use Rattle.kick_file.specs.declared.parser_state.ParserState.TheVariants.{Division, Letter, Letters, Columns}
 use Rattle.kick_file.specs.Form.{Entry, SpellsEntry, offset_form, offsets_form, is_repeated, table_with_entry}
-use Rattle.kick_file.specs.Reading.{Reading, reading_at, after_byte, read_on, read_after}
+use Rattle.kick_file.specs.Reading.{Reading, reading_at, after_byte, read_on}
 use Rattle.kick_file.proofs.Steps.{at, Passes, one_byte, both}
 use Rattle.kick_file.proofs.Numbers.{offset_passes, whole}
 use Rattle.srs.proofs.CallerLemmas.{rotation_with_letter-letter}
@@ -41,8 +40,7 @@ HasFive table = (piece : Piece) (rotation : Rotation) → length (table piece ro
 by_rotation : (b : Bool) (cells : List Cell) (a c d e f : Cell) → length cells ≡ 5
     → (let one : ℕ → Cell → List Cell → List Cell = λ i cell xs. cond b (set xs i cell) xs in one 4 f (one 3 e (one 2 d (one 1 c (one 0 a cells)))))
     ≡ cond b (a ∷ c ∷ d ∷ e ∷ f ∷ []) cells
-by_rotation true cells a c d e f five = all_set cells a c d e f five
-by_rotation false cells a c d e f five = refl
+by_rotation b cells a c d e f five = search (rules, all_set)
 
 by_piece : (q : Bool) (turns : Rotation → List Cell) (turned rotation : Rotation) (a c d e f : Cell) → length (turns rotation) ≡ 5
     → (let one : ℕ → Cell → (Rotation → List Cell) → (Rotation → List Cell) = λ i cell ts. cond q (turns_with ts turned i cell) ts in one 5 f (one 4 e (one 3 d (one 2 c (one 1 a turns)))) rotation)
@@ -52,56 +50,36 @@ by_piece false turns turned rotation a c d e f five = refl
 
 pub put_five : (table : Table) (turned : TurnedPiece) (a b c d e : Cell) → HasFive table
     → put_from table turned 1 (a ∷ b ∷ c ∷ d ∷ e ∷ []) ≡ table_with_entry table (record { turned = turned; offsets = a ∷ b ∷ c ∷ d ∷ e ∷ [] })
-put_five table turned a b c d e five = fun_ext (λ piece. fun_ext (λ rotation.
-    by_piece (piece_code piece == piece_code turned.piece) (table piece) turned.rotation rotation a b c d e (five piece rotation)))
+put_five table turned a b c d e five = search (rules, fun_ext, by_piece)
 
 -- an entry's five offsets leave five
 pub with_entry-five : (table : Table) (entry : Entry) → length entry.offsets ≡ 5 → HasFive table → HasFive (table_with_entry table entry)
-with_entry-five table entry entry_five five piece rotation = by (piece_code piece == piece_code entry.turned.piece && rotation_place rotation == rotation_place entry.turned.rotation)
-  where
-    by : (b : Bool) → length (cond b entry.offsets (table piece rotation)) ≡ 5
-    by true = entry_five
-    by false = five piece rotation
-
-pub letter_step : (given : List TurnedPiece) (table : Table) (place letter : ℕ) (piece : Piece) → piece_with_letter letter ≡ Some piece
-    → after_byte (at given table Division) place letter ≡ Ok (at given table (Letter piece place))
-unfolding after_byte
-letter_step given table place letter piece named = ap (λ p. reading_at (at given table Division) place (option_map (λ q. Letter q place) p)) named
+with_entry-five table entry entry_five five piece rotation = search rules
 
 letters_step : (given : List TurnedPiece) (table : Table) (place start : ℕ) (turned : TurnedPiece)
     → after_byte (at given table (Letter turned.piece start)) place (rotation_letter turned.rotation) ≡ reading_at (at given table (Letter turned.piece start)) place (Some (Letters turned start))
 unfolding after_byte
-letters_step given table place start turned =
-    ap (λ r. reading_at (at given table (Letter turned.piece start)) place (option_map (λ q. Letters (record { piece = turned.piece; rotation = q }) start) r)) (rotation_with_letter-letter turned.rotation)
+letters_step given table place start turned = search (rules, rotation_with_letter-letter)
 
 -- an entry that stood before is refused at its second letter
 pub repeated_entry : (given : List TurnedPiece) (table : Table) (place letter : ℕ) (turned : TurnedPiece) (rest : List ℕ) → piece_with_letter letter ≡ Some turned.piece
     → is_repeated given turned ≡ true
     → read_on (at given table Division) place (letter ∷ rotation_letter turned.rotation ∷ rest) ≡ Err (RepeatedEntry place)
-unfolding read_on
-repeated_entry given table place letter turned rest named stood =
-    ap (λ r. read_after r (λ now. read_on now (place + 1) (rotation_letter turned.rotation ∷ rest))) (letter_step given table place letter turned.piece named)
-    ∙ ap (λ r. read_after r (λ now. read_on now (place + 1 + 1) rest))
-    (letters_step given table (place + 1) place turned
-    ∙ ap (λ b. cond b (Err (RepeatedEntry place)) (Ok (at (given ++ turned ∷ []) table (Letters turned place)))) stood)
+unfolding read_on after_byte
+repeated_entry given table place letter turned rest named stood = search (rules, letters_step)
 
 -- another one is begun
 begun : (given : List TurnedPiece) (table : Table) (place letter : ℕ) (turned : TurnedPiece) (rest : List ℕ) → piece_with_letter letter ≡ Some turned.piece
     → is_repeated given turned ≡ false
     → read_on (at given table Division) place (letter ∷ rotation_letter turned.rotation ∷ rest) ≡ read_on (at (given ++ turned ∷ []) table (Letters turned place)) (place + 1 + 1) rest
-unfolding read_on
-begun given table place letter turned rest named fresh =
-    ap (λ r. read_after r (λ now. read_on now (place + 1) (rotation_letter turned.rotation ∷ rest))) (letter_step given table place letter turned.piece named)
-    ∙ ap (λ r. read_after r (λ now. read_on now (place + 1 + 1) rest))
-    (letters_step given table (place + 1) place turned
-    ∙ ap (λ b. cond b (Err (RepeatedEntry place)) (Ok (at (given ++ turned ∷ []) table (Letters turned place)))) fresh)
+unfolding read_on after_byte
+begun given table place letter turned rest named fresh = search (rules, letters_step)
 
 -- five offsets and what stands between them
 slash : (given : List TurnedPiece) (table : Table) (turned : TurnedPiece) (test : ℕ) (cell : Cell) → nat_lt test 5 ≡ true
     → Passes (at given table (whole turned test cell)) (47 ∷ []) (at given table (Columns turned (test + 1) false))
 unfolding after_byte
-slash given table turned test cell more =
-    one_byte _ 47 _ (λ place. ap (λ b. reading_at (at given table (whole turned test cell)) place (cond b (Some (Columns turned (test + 1) false)) None)) more)
+slash given table turned test cell more = search (rules, one_byte)
 
 offsets_pass : (given : List TurnedPiece) (table : Table) (turned : TurnedPiece) (start : ℕ) (a b c d e : Cell)
     → is_small_move a ≡ true → is_small_move b ≡ true → is_small_move c ≡ true → is_small_move d ≡ true → is_small_move e ≡ true
@@ -144,13 +122,7 @@ five_of (v ∷ []) five small = absurd (omega (arith, five))
 five_of (v ∷ w ∷ []) five small = absurd (omega (arith, five))
 five_of (v ∷ w ∷ x ∷ []) five small = absurd (omega (arith, five))
 five_of (v ∷ w ∷ x ∷ y ∷ []) five small = absurd (omega (arith, five))
-five_of (v ∷ w ∷ x ∷ y ∷ z ∷ []) five small =
-    let one = and_parts (is_small_move v) _ small in
-    let two = and_parts (is_small_move w) _ one.1 in
-    let three = and_parts (is_small_move x) _ two.1 in
-    let four = and_parts (is_small_move y) _ three.1 in
-    let last = and_parts (is_small_move z) _ four.1 in
-    record { a = v; b = w; c = x; d = y; e = z; are = refl; a-small = one.0; b-small = two.0; c-small = three.0; d-small = four.0; e-small = last.0 }
+five_of (v ∷ w ∷ x ∷ y ∷ z ∷ []) five small = search (rules, and_parts)
 five_of (u ∷ v ∷ w ∷ x ∷ y ∷ z ∷ more) five small = absurd (omega (arith, five))
 
 -- where reading stands after an entry

@@ -1,5 +1,5 @@
 -- The pieces and rotations that have an entry.
-use Rattle.std.proofs.Common.{◌≡◌, ℕ, ◌+◌, ◌-◌, ◌*◌, ◌<◌, ◌≤◌, true, false, not, ◌&&◌, ◌==◌, eqb, eqb-true, List, [], ◌∷◌, ◌++◌, length, map, refl, sym, ◌∙◌, arith, inl, inr}
+use Rattle.std.proofs.Common.{◌≡◌, ℕ, ◌+◌, ◌-◌, ◌*◌, ◌<◌, true, false, not, eqb, eqb-true, List, [], ◌∷◌, ◌++◌, length, map, refl, sym, ◌∙◌, arith, inl, inr, rules}
 use Rattle.std.specs.List.{list_any, IsDistinct, AllByRecursion}
 use Rattle.std.proofs.lemmas.Bool.{and_parts, or_cases, or_parts, not-true}
 use Rattle.std.proofs.lemmas.Bool.Decides.{nat_tests}
@@ -18,23 +18,14 @@ number_of turned = 4 * (piece_code turned.piece - 1) + rotation_place turned.rot
 
 number_of-within : (turned : TurnedPiece) → number_of turned < 28
 unfolding number_of
-number_of-within turned =
-    omega (arith, piece_code-some turned.piece, piece_code-small turned.piece, rotation_place-small turned.rotation)
-
-same_numbers : (a b r s : ℕ) → 1 ≤ a → 1 ≤ b → r < 4 → s < 4 → (a == b && r == s) ≡ (4 * (a - 1) + r == 4 * (b - 1) + s)
-same_numbers a b r s a-some b-some r-most s-most = grind (arith, nat_tests)
+number_of-within turned = search (rules, piece_code-some, piece_code-small, rotation_place-small)
 
 is_same-number : (one other : TurnedPiece) → is_same one other ≡ eqb (number_of one) (number_of other)
 unfolding number_of
-is_same-number one other =
-    same_numbers (piece_code one.piece) (piece_code other.piece) (rotation_place one.rotation) (rotation_place other.rotation)
-    (piece_code-some one.piece) (piece_code-some other.piece) (rotation_place-small one.rotation) (rotation_place-small other.rotation)
+is_same-number one other = search (rules, nat_tests, piece_code-some, rotation_place-small)
 
 pub is_same-symmetric : (one other : TurnedPiece) → is_same one other ≡ is_same other one
-is_same-symmetric one other = is_same-number one other ∙ turned_round (number_of one) (number_of other) ∙ sym (is_same-number other one)
-  where
-    turned_round : (m n : ℕ) → eqb m n ≡ eqb n m
-    turned_round m n = grind (arith, nat_tests)
+is_same-symmetric one other = search (rules, is_same-number, number_of, nat_tests)
 
 apart : (turned : TurnedPiece) (given : List TurnedPiece) → is_repeated given turned ≡ false
     → AllByRecursion (λ n. eqb (number_of turned) n ≡ false) (map number_of given)

@@ -1,5 +1,5 @@
 -- Where a text stands after one more byte.
-use Rattle.std.proofs.Common.{◌≡◌, ℕ, ◌+◌, ℤ, Bool, true, false, cond, not, ◌&&◌, ◌==◌, nat_lt, eqb-true, ltb-true, List, [], ◌∷◌, ◌++◌, length, refl, ap, sym, subst, ◌∙◌, arith, Option, Some, None, append_assoc, inl, inr}
+use Rattle.std.proofs.Common.{◌≡◌, ℕ, ◌+◌, ℤ, Bool, true, false, cond, not, ◌&&◌, ◌==◌, nat_lt, eqb-true, ltb-true, List, [], ◌∷◌, ◌++◌, length, refl, ap, sym, subst, ◌∙◌, arith, Option, Some, None, append_assoc, inl, inr, rules}
 use Rattle.std.specs.Option.{option_map}
 use Rattle.std.proofs.lemmas.Bool.{and_parts, cases_Bool, not-true}
 use Rattle.std.proofs.lemmas.List.{append-nil, length_push, flat_map_more}
@@ -39,8 +39,7 @@ record Mapped {A B : Type 0} (f : A → B) (o : Option A) (b : B) : Type 0 where
   to : f a ≡ b
 
 mapped : {A B : Type 0} (f : A → B) (o : Option A) (b : B) → option_map f o ≡ Some b → Mapped f o b
-mapped f None b h = absurd (none-some b h)
-mapped f (Some a) b h = record { a = a; is = refl; to = same_Some (f a) b h }
+mapped f B b h = search (rules, none-some, same_Some)
 
 letter_moved : (text : List ℕ) (byte place : ℕ) (entries : List Entry) (given : List TurnedPiece) (table : Table) (to : ParserState) → SpellsBefore text entries → Kept entries given table
     → place ≡ length text → option_map (λ piece. Letter piece place) (piece_with_letter byte) ≡ Some to → Moved (text ++ byte ∷ []) given table to
@@ -108,9 +107,7 @@ record Signed (byte : ℕ) (is_negative : Bool) : Type 0 where
   none : is_negative ≡ false
 
 signed : (byte : ℕ) (is_negative : Bool) → (byte == 45 && not is_negative) ≡ true → Signed byte is_negative
-signed byte is_negative h =
-    let parts = and_parts (byte == 45) (not is_negative) h in
-    record { minus_sign = eqb-true byte 45 parts.0; none = not-true is_negative parts.1 }
+signed byte is_negative h = search (rules, and_parts, eqb-true, not-true)
 
 columns_moved : (text : List ℕ) (byte place : ℕ) (turned : TurnedPiece) (test : ℕ) (is_negative : Bool) (entries : List Entry) (given : List TurnedPiece) (table : Table) (to : ParserState)
     → Part text entries given table turned test (sign is_negative)

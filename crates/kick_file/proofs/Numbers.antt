@@ -1,5 +1,5 @@
 -- Numbers and offsets are read as they are written.
-use Rattle.std.proofs.Common.{◌≡◌, ℕ, zero, suc, ◌≤◌, Bool, true, false, ◌&&◌, nat_le, leb-true, ℤ, pos, negsuc, List, [], ◌∷◌, refl, arith, Ok}
+use Rattle.std.proofs.Common.{◌≡◌, ℕ, ◌≤◌, Bool, true, false, ◌&&◌, nat_le, leb-true, ℤ, pos, List, [], ◌∷◌, refl, Ok, rules}
 use Rattle.std.specs.Prelude.{int_le}
 use Rattle.std.proofs.lemmas.Bool.{false≢true}
 use Rattle.srs.specs.Cells.{Cell, minus}
@@ -12,24 +12,13 @@ use Rattle.kick_file.specs.Form.{signed_digit, offset_form}
 use Rattle.kick_file.specs.Reading.{is_small_number, after_byte, Reading}
 use Rattle.kick_file.proofs.Steps.{at, Passes, one_byte, both}
 
-below_four : (P : ℕ → Type 0) → P 0 → P 1 → P 2 → P 3 → (n : ℕ) → n ≤ 3 → P n
-below_four P a b c d zero within = a
-below_four P a b c d (suc zero) within = b
-below_four P a b c d (suc (suc zero)) within = c
-below_four P a b c d (suc (suc (suc zero))) within = d
-below_four P a b c d (suc (suc (suc (suc n)))) within = absurd (omega (arith, within))
-
 below_three : (P : ℕ → Type 0) → P 0 → P 1 → P 2 → (n : ℕ) → n ≤ 2 → P n
-below_three P a b c zero within = a
-below_three P a b c (suc zero) within = b
-below_three P a b c (suc (suc zero)) within = c
-below_three P a b c (suc (suc (suc n))) within = absurd (omega (arith, within))
+below_three P a b c n within = search rules
 
 -- a fact of each small number
 pub each_small : (P : ℤ → Type 0) → P (pos 0) → P (pos 1) → P (pos 2) → P (pos 3) → P (minus 1) → P (minus 2) → P (minus 3)
     → (z : ℤ) → is_small_number z ≡ true → P z
-each_small P a b c d x y z (pos n) small = below_four (λ n. P (pos n)) a b c d n (leb-true n 3 (and_second true (nat_le n 3) small))
-each_small P a b c d x y z (negsuc n) small = below_three (λ n. P (negsuc n)) x y z n (leb-true n 2 (and_first (nat_le n 2) true small))
+each_small P a b c d x y z value small = search (rules, leb-true, and_second, nat_le, below_three, and_first)
 
 -- the columns of an offset
 pub columns_pass : (given : List TurnedPiece) (table : Table) (turned : TurnedPiece) (test : ℕ) (z : ℤ) → is_small_number z ≡ true
@@ -77,9 +66,7 @@ rows_pass given table turned test dx = each_small P (plain 48 (pos 0) (λ place.
 
 -- columns and rows are small
 pub small_parts : (a b c d : Bool) → (a && b && c && d) ≡ true → ((a && b) ≡ true) × ((c && d) ≡ true)
-small_parts a b true true small = (and_first (a && b) true (and_first (a && b && true) true small), refl)
-small_parts a b true false small = absurd (false≢true (and_second (a && b && true) false small))
-small_parts a b false d small = absurd (false≢true (and_second (a && b) false (and_first (a && b && false) d small)))
+small_parts a b c d small = search (rules, and_first, false≢true, and_second)
 
 -- a whole offset
 pub offset_passes : (given : List TurnedPiece) (table : Table) (turned : TurnedPiece) (test : ℕ) (cell : Cell) → is_small_move cell ≡ true

@@ -1,5 +1,5 @@
 -- A text is read as it spells, and as nothing else.
-use Rattle.std.proofs.Common.{◌≡◌, ℕ, ◌+◌, ◌<◌, true, cond, nat_lt, List, [], ◌∷◌, ◌++◌, length, drop, get_or, refl, ap, sym, subst, ◌∙◌, ◌↔◌, arith, Option, Some, None, Result, Ok, Err, append_assoc, inl, inr}
+use Rattle.std.proofs.Common.{◌≡◌, ℕ, ◌+◌, ◌<◌, true, cond, nat_lt, List, [], ◌∷◌, ◌++◌, length, drop, refl, ap, sym, subst, ◌∙◌, ◌↔◌, arith, Option, Some, None, Result, Ok, Err, append_assoc, inl, inr, rules}
 use Rattle.std.proofs.lemmas.Bool.{cases_Bool, cases_lt}
 use Rattle.std.proofs.lemmas.List.{append-nil, length_push, same_from_push}
 use Rattle.srs.specs.declared.offset.Offset.{Offset}
@@ -9,7 +9,7 @@ use Rattle.kick_file.specs.declared.fault.KickFault.TheVariants.{Unexpected, Rep
 use Rattle.kick_file.specs.declared.turned.TurnedPiece.{TurnedPiece}
 use Rattle.kick_file.specs.declared.parser_state.ParserState.{ParserState}
 use Rattle.kick_file.specs.declared.parser_state.ParserState.TheVariants.{Beginning, Division, Letter, Letters, Columns, Comma, Rows, Whole}
-use Rattle.kick_file.specs.Form.{Entry, SpellsEntries, is_repeated, are_distinct, turned_of, table_of_entries}
+use Rattle.kick_file.specs.Form.{Entry, SpellsEntries, is_repeated, are_distinct, turned_of}
 use Rattle.srs.specs.Rotation.{rotation_letter}
 use Rattle.srs.specs.Forms.{IsFront, IsStopped, LeavesForm}
 use Rattle.kick_file.specs.Faults.{Repeats, SpellsSome, IsUnexpected, IsReadAs}
@@ -97,12 +97,7 @@ whole_end text given table turned test offset stands = elim (cases_Bool (nat_lt 
 
 at_the_end : (text : List ℕ) (given : List TurnedPiece) (table : Table) (state : ParserState) → At text (at given table state)
     → IsReadAs (text ++ []) (ended table (length text) state)
-at_the_end text given table Beginning stands = record {
-  entries = [];
-  spelled = append-nil text ∙ stands.here.0;
-  distinct = refl;
-  is = stands.here.2.is ∙ ap table_of_entries stands.here.1;
-}
+at_the_end text given table Beginning stands = search (rules, append-nil)
 at_the_end text given table Division stands = end_unexpected text _ stands refl
 at_the_end text given table (Letter piece start) stands = end_unexpected text _ stands refl
 at_the_end text given table (Letters turned start) stands = end_unexpected text _ stands refl
@@ -200,9 +195,7 @@ goes_on_from [] rest [] later same short = absurd (omega (arith, short))
 goes_on_from [] rest (byte ∷ longer) later same short = record { byte = byte; more = longer; after = longer ++ later; rest_is = same; longer_is = refl }
 goes_on_from (first ∷ front) rest [] later same short = absurd (omega (arith, short))
 goes_on_from (first ∷ front) rest (byte ∷ longer) later same short =
-    let on = goes_on_from front rest longer later (ap (drop 1) same) (omega (arith, short)) in
-    let head : byte ≡ first = sym (ap (λ t. get_or t 0 0) same) in
-    record { byte = on.byte; more = on.more; after = on.after; rest_is = on.rest_is; longer_is = (λ i. head i ∷ on.longer_is i) }
+    search (rules, goes_on_from front rest longer later (ap (drop 1) same) (omega (arith, short)))
 
 -- a text that can go on beyond a front isn't stopped there
 beyond : (front rest longer later : List ℕ) → front ++ rest ≡ longer ++ later → length front < length longer → IsFront SpellsSome longer → IsStopped SpellsSome front rest → ⊥
@@ -226,13 +219,7 @@ unexpected_unspelled text place entries is spelled = by left.rest (subst SpellsS
     by (byte ∷ rest) whole stops = stops (record { rest = rest; form = subst SpellsSome (sym (append_assoc left.front (byte ∷ []) rest)) whole })
 
 one_place : (text : List ℕ) (place other : ℕ) → LeavesForm SpellsSome text place → LeavesForm SpellsSome text other → place ≡ other
-one_place text place other one two = elim (cases_lt (length one.front) (length two.front)) [
-  | inl less ↦ absurd (beyond one.front one.rest two.front two.rest (sym one.whole ∙ two.whole) less two.begins one.stops)
-  | inr le ↦ elim (cases_lt (length two.front) (length one.front)) [
-    | inl less ↦ absurd (beyond two.front two.rest one.front one.rest (sym two.whole ∙ one.whole) less one.begins two.stops)
-    | inr ge ↦ omega (arith, le, ge, one.stands, two.stands)
-  ]
-]
+one_place text place other one two = search (rules, cases_lt, beyond)
 
 unexpected_read : (text : List ℕ) (place : ℕ) (read : Result Table KickFault) → IsReadAs text read → IsUnexpected text place → read ≡ Err (Unexpected place)
 unexpected_read text place (Ok table) spells is = absurd (unexpected_unspelled text place spells.entries is spells.spelled)

@@ -1,18 +1,17 @@
 -- What is printed of a table spells it.
-use Rattle.std.proofs.Common.{◌≡◌, ℕ, ℤ, pos, ◌<◌, ◌-◌, ◌-ℤ◌, ◌≤◌, true, ◌&&◌, List, [], ◌∷◌, ◌++◌, length, map, take, drop, get_or, refl, ap, sym, subst, ◌∙◌, arith, Option, Some, None, Ok, append_assoc}
+use Rattle.std.proofs.Common.{◌≡◌, ℕ, ℤ, pos, ◌<◌, ◌-◌, ◌≤◌, true, List, [], ◌∷◌, ◌++◌, length, map, take, drop, get_or, refl, ap, sym, ◌∙◌, arith, Option, Some, Ok, append_assoc, rules}
 use Rattle.std.specs.List.{list_all, flat_map, AllByRecursion, join_with_byte}
-use Rattle.std.specs.Prelude.{option_to_list, IsSome, slice_index_or, int_le}
+use Rattle.std.specs.Prelude.{option_to_list, IsSome}
 use Rattle.std.proofs.Math.Path.{fun_ext}
 use Rattle.std.proofs.lemmas.List.{append-nil, length_push, same_from_push, take-append-drop, take_all}
 use Rattle.std.proofs.Math.Seq.{take-append_seam}
 use Rattle.std.proofs.lemmas.List.Folds.{flat_map-map, list_all-map}
-use Rattle.std.proofs.lemmas.Grind.{flat_map-append}
+use Rattle.std.proofs.lemmas.Grind.{flat_map-append, common_steps}
 use Rattle.std.proofs.lemmas.Bool.{and_from}
 use Rattle.srs.specs.declared.piece.Piece.{Piece}
-use Rattle.srs.specs.declared.piece.Piece.TheVariants.{I, L, O, Z, T, J, S}
 use Rattle.srs.specs.declared.rotation.Rotation.{Rotation}
 use Rattle.srs.specs.declared.rotation.Rotation.TheVariants.{Spawn, Right, Reverse, Left}
-use Rattle.srs.specs.Cells.{Cell, minus}
+use Rattle.srs.specs.Cells.{Cell}
 use Rattle.srs.specs.declared.offset.Offset.{Offset}
 use Rattle.srs.specs.Kick.{Table, IsSmallTable, is_small_move, kick_in, offset_in, pair_of}
 use Rattle.srs.specs.Piece.{all_pieces, piece_letter, piece_with_letter}
@@ -38,9 +37,7 @@ offsets_join first (next ∷ rest) = ap (λ t. offset_form first ++ 47 ∷ t) (o
 pub piece_ends : (now base : List ℕ) (table : Table) (piece : Piece) (index : ℕ) → 4 ≤ index → index ≤ 4
     → now ≡ base ++ flat_map (ended_entry table piece) (take index all_rotations) → now ≡ base ++ piece_form table piece
 unfolding piece_form
-piece_ends now base table piece index low high is =
-    let all : index ≡ 4 = omega (arith, low, high) in
-    is ∙ ap (λ n. base ++ flat_map (ended_entry table piece) (take n all_rotations)) all
+piece_ends now base table piece index low high is = search rules
 
 -- entries, with a `;` after each
 abbrev ended : Entry → List ℕ
@@ -48,10 +45,7 @@ ended entry = entry_form entry ++ 59 ∷ []
 
 ended_join : (entry : Entry) (entries : List Entry) → flat_map ended (entry ∷ entries) ≡ join_with_byte 59 (map entry_form (entry ∷ entries)) ++ 59 ∷ []
 ended_join entry [] = append-nil (ended entry)
-ended_join entry (next ∷ entries) =
-    ap (λ t. ended entry ++ t) (ended_join next entries)
-    ∙ append_assoc (entry_form entry) (59 ∷ []) (join_with_byte 59 (map entry_form (next ∷ entries)) ++ 59 ∷ [])
-    ∙ sym (append_assoc (entry_form entry) (59 ∷ join_with_byte 59 (map entry_form (next ∷ entries))) (59 ∷ []))
+ended_join entry (next ∷ entries) = search (rules, append_assoc, ended_join next entries)
 
 ended_joined : (entries : List Entry) → 0 < length entries → flat_map ended entries ≡ join_with_byte 59 (map entry_form entries) ++ 59 ∷ []
 ended_joined [] some = absurd (omega (arith, some))
@@ -63,34 +57,17 @@ entries_at table piece = map (entry_of table piece) all_rotations
 pieces_join : (table : Table) (pieces : List Piece) → flat_map (piece_form table) pieces ≡ flat_map ended (flat_map (entries_at table) pieces)
 unfolding piece_form entries_at
 pieces_join table [] = refl
-pieces_join table (piece ∷ pieces) =
-    ap (λ t. piece_form table piece ++ t) (pieces_join table pieces)
-    ∙ ap (λ t. t ++ flat_map ended (flat_map (entries_at table) pieces))
-    (sym (flat_map-map ended (entry_of table piece) all_rotations))
-    ∙ sym (flat_map-append ended (entries_at table piece) (flat_map (entries_at table) pieces))
+pieces_join table (piece ∷ pieces) = search (rules, entries_at, flat_map-map, flat_map-append, pieces_join table pieces)
 
 pub table_ends : (now popped : List ℕ) (last : Option ℕ) (table : Table) (index : ℕ) → 7 ≤ index → index ≤ 7
     → now ≡ flat_map (piece_form table) (take index all_pieces) → now ≡ popped ++ option_to_list last → (0 < length now → IsSome last) → popped ≡ table_form table
 unfolding table_form entries_at
 table_ends now popped last table index low high is rest some =
-    let all : index ≡ 7 = omega (arith, low, high) in
-    let whole : now ≡ table_form table ++ 59 ∷ [] =
-    is ∙ ap (λ n. flat_map (piece_form table) (take n all_pieces)) all ∙ pieces_join table all_pieces ∙ ended_joined (entries_of table) (omega arith) in
-    by last rest (some (omega (arith, ap length whole, length_push (table_form table) 59))) whole
-  where
-    by : (last : Option ℕ) → now ≡ popped ++ option_to_list last → IsSome last → now ≡ table_form table ++ 59 ∷ [] → popped ≡ table_form table
-    by None rest some whole = cc
-    by (Some byte) rest some whole = (same_from_push popped (table_form table) byte 59 (sym rest ∙ whole)).0
+    search (rules, pieces_join, ended_joined, length_push, same_from_push)
 
 -- capital letters name their pieces
 letter_named : (piece : Piece) → piece_with_letter (piece_letter piece) ≡ Some piece
-letter_named I = refl
-letter_named L = refl
-letter_named O = refl
-letter_named Z = refl
-letter_named T = refl
-letter_named J = refl
-letter_named S = refl
+letter_named piece = search rules
 
 abbrev IsWhole : Entry → Type 0
 IsWhole entry = (length entry.offsets ≡ 5) × (list_all is_small_move entry.offsets ≡ true)
@@ -111,37 +88,7 @@ all_spell [] whole = refl
 all_spell (entry ∷ entries) whole = forms_spell entry entries whole
 
 table_is : (table : Table) → table ≡ table_of_entries (entries_of table)
-table_is table = fun_ext (λ piece. fun_ext (λ rotation. at piece rotation))
-  where
-    at : (piece : Piece) (rotation : Rotation) → table piece rotation ≡ table_of_entries (entries_of table) piece rotation
-    at I Spawn = refl
-    at I Right = refl
-    at I Reverse = refl
-    at I Left = refl
-    at L Spawn = refl
-    at L Right = refl
-    at L Reverse = refl
-    at L Left = refl
-    at O Spawn = refl
-    at O Right = refl
-    at O Reverse = refl
-    at O Left = refl
-    at Z Spawn = refl
-    at Z Right = refl
-    at Z Reverse = refl
-    at Z Left = refl
-    at T Spawn = refl
-    at T Right = refl
-    at T Reverse = refl
-    at T Left = refl
-    at J Spawn = refl
-    at J Right = refl
-    at J Reverse = refl
-    at J Left = refl
-    at S Spawn = refl
-    at S Right = refl
-    at S Reverse = refl
-    at S Left = refl
+table_is table = search (rules, fun_ext)
 
 each_whole : (table : Table) → IsSmallTable table → (pieces : List Piece) → AllByRecursion IsWhole (flat_map (entries_at table) pieces)
 unfolding entries_at
@@ -163,23 +110,11 @@ printed_spells table small = record {
 pub printed_read : (table : Table) (text : List ℕ) → IsSmallTable table → text ≡ table_form table → kick_text text ≡ Ok table
 printed_read table text small is = ap kick_text is ∙ table_read (table_form table) table (printed_spells table small)
 
--- five offsets are those of the tests
-five_of : (cells : List Cell) → length cells ≡ 5 → ◌≡◌ {A = List Cell}
-    (slice_index_or cells 0 nothing ∷ slice_index_or cells 1 nothing ∷ slice_index_or cells 2 nothing ∷ slice_index_or cells 3 nothing ∷ slice_index_or cells 4 nothing ∷ []) cells
-five_of [] five = absurd (omega (arith, five))
-five_of (v ∷ []) five = absurd (omega (arith, five))
-five_of (v ∷ w ∷ []) five = absurd (omega (arith, five))
-five_of (v ∷ w ∷ x ∷ []) five = absurd (omega (arith, five))
-five_of (v ∷ w ∷ x ∷ y ∷ []) five = absurd (omega (arith, five))
-five_of (v ∷ w ∷ x ∷ y ∷ z ∷ []) five = refl
-five_of (u ∷ v ∷ w ∷ x ∷ y ∷ z ∷ more) five = absurd (omega (arith, five))
-
 pub tests_of : (table : Table) (piece : Piece) (rotation : Rotation) (a b c d e : Cell) → IsSmallTable table
     → a ≡ offset_in table piece rotation 1 → b ≡ offset_in table piece rotation 2 → c ≡ offset_in table piece rotation 3
     → d ≡ offset_in table piece rotation 4 → e ≡ offset_in table piece rotation 5
     → ◌≡◌ {A = List Cell} (a ∷ b ∷ c ∷ d ∷ e ∷ []) (table piece rotation)
-tests_of table piece rotation a b c d e small p q r s t =
-    (λ i. p i ∷ q i ∷ r i ∷ s i ∷ t i ∷ []) ∙ five_of (table piece rotation) (small.five piece rotation)
+tests_of table piece rotation a b c d e small p q r s t = grind (arith, common_steps)
 
 -- the offsets after the first one, as code has them
 rest_of : (first : Offset) (rest : List Offset) → take (length (first ∷ rest) - 1) (drop 1 (first ∷ rest)) ≡ rest
@@ -187,13 +122,7 @@ rest_of first rest = take_all (length (first ∷ rest) - 1) rest (omega arith)
 
 pub short_in_rest : (offsets : List Offset) (i : ℕ) (d : Offset) → list_all is_short_move (map pair_of offsets) ≡ true
     → i < length (take (length offsets - 1) (drop 1 offsets)) → is_short_move (pair_of (get_or (take (length offsets - 1) (drop 1 offsets)) i d)) ≡ true
-short_in_rest [] i d short within = absurd (omega (arith, within))
-short_in_rest (first ∷ rest) i d short within =
-    let is = rest_of first rest in
-    let inside : i < length rest = subst (λ xs. i < length xs) is within in
-    let each : list_all (λ offset. is_short_move (pair_of offset)) rest ≡ true =
-    sym (list_all-map is_short_move pair_of rest) ∙ and_second (is_short_move (pair_of first)) (list_all is_short_move (map pair_of rest)) short in
-    subst (λ xs. is_short_move (pair_of (get_or xs i d)) ≡ true) (sym is) (list_all_each (λ offset. is_short_move (pair_of offset)) rest i d each inside)
+short_in_rest offsets i d short within = grind (arith, common_steps, rest_of, list_all-map, and_second, list_all_each)
 
 -- all offsets are written
 pub offsets_end : (now before base : List ℕ) (offsets : List Offset) (first d : Offset) (index : ℕ) → 1 ≤ length offsets → first ≡ get_or offsets 0 d
@@ -224,30 +153,13 @@ front_kept base mid text before now f g h first second third kept =
 short_number : (z : ℤ) → is_small_number z ≡ true → is_one_digit z ≡ true
 short_number = each_small (λ z. is_one_digit z ≡ true) refl refl refl refl refl refl refl
 
-short_difference : (a b : ℤ) → is_small_number a ≡ true → is_small_number b ≡ true → is_one_digit (a -ℤ b) ≡ true
-short_difference a b small = each_small (λ a. (b : ℤ) → is_small_number b ≡ true → is_one_digit (a -ℤ b) ≡ true)
-    (each_small (λ b. is_one_digit (pos 0 -ℤ b) ≡ true) refl refl refl refl refl refl refl)
-    (each_small (λ b. is_one_digit (pos 1 -ℤ b) ≡ true) refl refl refl refl refl refl refl)
-    (each_small (λ b. is_one_digit (pos 2 -ℤ b) ≡ true) refl refl refl refl refl refl refl)
-    (each_small (λ b. is_one_digit (pos 3 -ℤ b) ≡ true) refl refl refl refl refl refl refl)
-    (each_small (λ b. is_one_digit (minus 1 -ℤ b) ≡ true) refl refl refl refl refl refl refl)
-    (each_small (λ b. is_one_digit (minus 2 -ℤ b) ≡ true) refl refl refl refl refl refl refl)
-    (each_small (λ b. is_one_digit (minus 3 -ℤ b) ≡ true) refl refl refl refl refl refl refl)
-    a small b
-
 -- both numbers of a small move
 record IsSmallPair (cell : Cell) : Type 0 where
   pub columns : is_small_number cell.0 ≡ true
   pub rows : is_small_number cell.1 ≡ true
 
 small_pair : (cell : Cell) → is_small_move cell ≡ true → IsSmallPair cell
-small_pair cell small =
-    let p = int_le (minus 3) cell.0 in
-    let q = int_le cell.0 (pos 3) in
-    let r = int_le (minus 3) cell.1 in
-    let s = int_le cell.1 (pos 3) in
-    let front = and_first ((p && q) && r) s small in
-    record { columns = and_first (p && q) r front; rows = and_from r s (and_second (p && q) r front) (and_second ((p && q) && r) s small) }
+small_pair cell small = search (rules, and_first, and_from, and_second)
 
 pub short_moves : (cells : List Cell) → list_all is_small_move cells ≡ true → list_all is_short_move cells ≡ true
 short_moves [] small = refl
@@ -262,12 +174,4 @@ short_moves (cell ∷ cells) small = and_from (is_short_move cell) (list_all is_
 -- kicks are short
 pub kick_short : (table : Table) (piece : Piece) (from to : Rotation) (test : ℕ) → IsSmallTable table → 1 ≤ test → test ≤ 5
     → is_short_move (kick_in table piece from to test) ≡ true
-kick_short table piece from to test small first last =
-    let at : (rotation : Rotation) → IsSmallPair (offset_in table piece rotation test) =
-    λ rotation. small_pair (offset_in table piece rotation test)
-    (list_all_each is_small_move (table piece rotation) (test - 1) nothing (small.small piece rotation) (omega (arith, small.five piece rotation, first, last))) in
-    let left = at from in
-    let reached = at to in
-    and_from (is_one_digit (kick_in table piece from to test).0) (is_one_digit (kick_in table piece from to test).1)
-    (short_difference (offset_in table piece from test).0 (offset_in table piece to test).0 left.columns reached.columns)
-    (short_difference (offset_in table piece from test).1 (offset_in table piece to test).1 left.rows reached.rows)
+kick_short table piece from to test small first last = search (rules, small_pair, list_all_each, and_from, each_small)

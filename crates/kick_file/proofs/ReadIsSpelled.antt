@@ -1,8 +1,9 @@
 -- What is read of a text is what it spells.
-use Rattle.std.proofs.Common.{◌≡◌, ℕ, zero, suc, ◌-◌, ◌≤◌, pos, true, List, [], ◌∷◌, ◌++◌, length, replicate, refl, ap, sym, subst, ◌∙◌, arith, Some, append_assoc}
+use Rattle.std.proofs.Common.{◌≡◌, ℕ, zero, suc, ◌-◌, ◌≤◌, pos, true, List, [], ◌∷◌, ◌++◌, length, replicate, refl, ap, sym, subst, ◌∙◌, arith, Some, append_assoc, rules}
 use Rattle.std.specs.List.{fold, list_all, flat_map}
 use Rattle.std.proofs.lemmas.Bool.{and_parts}
 use Rattle.std.proofs.lemmas.List.{length-append, length-replicate, append-nil}
+use Rattle.std.proofs.lemmas.Grind.{common_steps}
 use Rattle.srs.specs.Cells.{Cell}
 use Rattle.srs.specs.Kick.{Table, is_small_move}
 use Rattle.srs.specs.Piece.{piece_with_letter}
@@ -25,13 +26,8 @@ one_more front text (first ∷ next ∷ entries) entry before spelled =
 pub one_more_before : (front text : List ℕ) (entries : List Entry) (entry : Entry) → SpellsBefore front entries → SpellsEntry text entry
     → SpellsBefore (front ++ (text ++ 59 ∷ [])) (entries ++ entry ∷ [])
 one_more_before front text [] entry before spelled = (text, [], ap (λ f. f ++ (text ++ 59 ∷ [])) before, spelled, refl)
-one_more_before front text (first ∷ entries) entry before spelled = (
-  before.0,
-  before.1 ++ (text ++ 59 ∷ []),
-  ap (λ t. t ++ (text ++ 59 ∷ [])) before.2 ∙ append_assoc before.0 (59 ∷ before.1) (text ++ 59 ∷ []),
-  before.3,
-  one_more_before before.1 text entries entry before.4 spelled,
-)
+one_more_before front text (first ∷ entries) entry before spelled =
+    search (rules, append_assoc, one_more_before before.1 text entries entry before.4 spelled)
 
 -- their table has five offsets for each
 pub before_five : (front : List ℕ) (table : Table) (entries : List Entry) → SpellsBefore front entries → HasFive table → HasFive (fold table_with_entry table entries)
@@ -51,20 +47,13 @@ offsets_start cell (next ∷ cells) = ap (λ t. offset_form cell ++ 47 ∷ t) (o
 
 pub offsets_split : (cells : List Cell) (cell : Cell) (more : List Cell) → offsets_form (cells ++ cell ∷ more) ≡ ended_offsets cells ++ (offset_form cell ++ started_offsets more)
 offsets_split [] cell more = offsets_start cell more
-offsets_split (first ∷ []) cell more =
-    ap (λ t. offset_form first ++ 47 ∷ t) (offsets_start cell more)
-    ∙ sym (ap (λ t. t ++ (offset_form cell ++ started_offsets more)) (append-nil (offset_form first ++ 47 ∷ [])) ∙ append_assoc (offset_form first) (47 ∷ []) (offset_form cell ++ started_offsets more))
+offsets_split (first ∷ []) cell more = search (rules, offsets_start, append-nil, append_assoc)
 offsets_split (first ∷ second ∷ cells) cell more =
-    ap (λ t. offset_form first ++ 47 ∷ t) (offsets_split (second ∷ cells) cell more)
-    ∙ sym (append_assoc (offset_form first ++ 47 ∷ []) (ended_offsets (second ∷ cells)) (offset_form cell ++ started_offsets more)
-    ∙ append_assoc (offset_form first) (47 ∷ []) (ended_offsets (second ∷ cells) ++ (offset_form cell ++ started_offsets more)))
+    search (rules, append_assoc, offsets_split (second ∷ cells) cell more)
 
 pub all_small : (cells : List Cell) (cell : Cell) (more : List Cell) → list_all is_small_move cells ≡ true → is_small_move cell ≡ true → list_all is_small_move more ≡ true
     → list_all is_small_move (cells ++ cell ∷ more) ≡ true
-all_small [] cell more small one rest = rw (one, rest) refl
-all_small (first ∷ cells) cell more small one rest =
-    let parts = and_parts (is_small_move first) (list_all is_small_move cells) small in
-    rw (parts.0, all_small cells cell more parts.1 one rest) refl
+all_small cells cell more small one rest = grind (arith, common_steps, and_parts)
 
 -- within an entry: what stands before it, its letters, the offsets that are whole, each with a `/`, and a part of one
 pub record InEntry (text : List ℕ) (entries : List Entry) (turned : TurnedPiece) (cells : List Cell) (part : List ℕ) : Type 0 where

@@ -1,5 +1,5 @@
 -- What a text spells is what is read of it.
-use Rattle.std.proofs.Common.{◌≡◌, ℕ, ◌+◌, ℤ, true, false, not, ◌||◌, ◌==◌, eqb-true, List, [], ◌∷◌, ◌++◌, length, refl, ap, sym, subst, ◌∙◌, arith, Result, Ok, Err, append_assoc, inl, inr}
+use Rattle.std.proofs.Common.{◌≡◌, ℕ, ◌+◌, ℤ, true, false, not, ◌||◌, ◌==◌, eqb-true, List, [], ◌∷◌, ◌++◌, length, refl, ap, sym, subst, ◌∙◌, arith, Result, Ok, Err, append_assoc, inl, inr, rules}
 use Rattle.std.specs.List.{fold}
 use Rattle.std.proofs.lemmas.Bool.{and_parts, cases_Bool, or_parts, not-true}
 use Rattle.std.proofs.lemmas.List.{length-append, append-nil}
@@ -11,7 +11,7 @@ use Rattle.kick_file.specs.declared.fault.KickFault.{KickFault}
 use Rattle.kick_file.specs.declared.fault.KickFault.TheVariants.{Unexpected, RepeatedEntry}
 use Rattle.kick_file.specs.declared.turned.TurnedPiece.{TurnedPiece}
 use Rattle.kick_file.specs.declared.parser_state.ParserState.TheVariants.{Division}
-use Rattle.kick_file.specs.Form.{Entry, SpellsEntry, SpellsEntries, offsets_form, is_same, is_repeated, are_distinct, turned_of, table_with_entry, table_of_entries}
+use Rattle.kick_file.specs.Form.{Entry, SpellsEntry, SpellsEntries, is_same, is_repeated, are_distinct, turned_of, table_with_entry, table_of_entries}
 use Rattle.kick_file.specs.Faults.{SpellsBefore, SpellsTable, Repeats}
 use Rattle.kick_file.specs.Reading.{beginning, kick_text, read_on, after_byte}
 use Rattle.kick_file.proofs.Steps.{at}
@@ -69,10 +69,7 @@ pub before_read : (given : List TurnedPiece) (table : Table) (place : ℕ) (fron
     → are_distinct (given ++ turned_of entries) ≡ true → SpellsBefore front entries
     → read_on (at given table Division) place (front ++ rest)
     ≡ read_on (at (given ++ turned_of entries) (fold table_with_entry table entries) Division) (place + length front) rest
-before_read given table place front rest [] five distinct spelled =
-    ap (λ t. read_on (at given table Division) place (t ++ rest)) spelled
-    ∙ ap (λ g. read_on (at g table Division) place rest) (sym (append-nil given))
-    ∙ ap (λ n. read_on (at (given ++ []) table Division) n rest) (omega (arith, ap length spelled))
+before_read given table place front rest [] five distinct spelled = search (rules, append-nil)
 before_read given table place front rest (entry ∷ entries) five distinct spelled =
     let first = spelled.0 in
     let later = spelled.1 in
@@ -96,9 +93,7 @@ IsFine (Err (RepeatedEntry place)) = Unit {0}
 stood_fine : (given : List TurnedPiece) (table : Table) (place : ℕ) (front rest : List ℕ) (entry : Entry) → SpellsEntry front entry → is_repeated given entry.turned ≡ true
     → IsFine (read_on (at given table Division) place (front ++ rest))
 unfolding IsFine
-stood_fine given table place front rest entry spelled stood =
-    subst IsFine (sym (ap (λ t. read_on (at given table Division) place (t ++ rest)) spelled.whole
-    ∙ repeated_entry given table place spelled.letter entry.turned (58 ∷ offsets_form entry.offsets ++ rest) spelled.named stood)) tt
+stood_fine given table place front rest entry spelled stood = search (rules, repeated_entry)
 
 -- a text that spells entries, equal ones among them or not, has no unexpected byte
 pub entries_fine : (given : List TurnedPiece) (table : Table) (place : ℕ) (text : List ℕ) (entry : Entry) (entries : List Entry) → HasFive table
@@ -128,12 +123,7 @@ record HasFirst (text : List ℕ) : Type 0 where
   is : text ≡ byte ∷ bytes
 
 entries_first : (text : List ℕ) (entry : Entry) (entries : List Entry) → SpellsEntries text (entry ∷ entries) → HasFirst text
-entries_first text entry [] spelled = record { byte = spelled.letter; bytes = rotation_letter entry.turned.rotation ∷ 58 ∷ offsets_form entry.offsets; is = spelled.whole }
-entries_first text entry (next ∷ entries) spelled = record {
-  byte = spelled.3.letter;
-  bytes = rotation_letter entry.turned.rotation ∷ 58 ∷ offsets_form entry.offsets ++ 59 ∷ spelled.1;
-  is = spelled.2 ∙ ap (λ t. t ++ 59 ∷ spelled.1) spelled.3.whole;
-}
+entries_first text entry entries spelled = search rules
 
 front_first : (front : List ℕ) (letter : ℕ) (rest : List ℕ) → HasFirst (front ++ letter ∷ rest)
 front_first [] letter rest = record { byte = letter; bytes = rest; is = refl }
@@ -163,5 +153,4 @@ repeat_read text place is =
 pub spelled_fine : (text : List ℕ) (entries : List Entry) → SpellsEntries text entries → IsFine (kick_text text)
 unfolding read_on IsFine
 spelled_fine text [] spelled = subst (λ t. IsFine (kick_text t)) (sym spelled) tt
-spelled_fine text (entry ∷ entries) spelled =
-    subst IsFine (sym (begins text (entries_first text entry entries spelled))) (entries_fine [] srs_table 0 text entry entries srs_five spelled)
+spelled_fine text (entry ∷ entries) spelled = search (rules, begins, entries_first, entries_fine, srs_five)

@@ -1,10 +1,10 @@
 -- Where a text stands, by what was read of it.
-use Rattle.std.proofs.Common.{◌≡◌, ℕ, suc, ◌+◌, ◌≤◌, ℤ, pos, Bool, true, false, ◌&&◌, ◌==◌, nat_lt, eqb-true, List, [], ◌∷◌, ◌++◌, length, refl, ap, sym, subst, ◌∙◌, arith, Some, append_assoc}
-use Rattle.std.specs.List.{fold, AllByRecursion}
-use Rattle.std.specs.Prelude.{int_le}
+use Rattle.std.proofs.Common.{◌≡◌, ℕ, suc, ◌+◌, ◌≤◌, ℤ, pos, Bool, true, false, nat_lt, eqb-true, List, [], ◌∷◌, ◌++◌, length, refl, ap, sym, subst, ◌∙◌, arith, Some, append_assoc, rules}
+use Rattle.std.specs.List.{fold}
 use Rattle.std.proofs.lemmas.Bool.{and_parts}
 use Rattle.std.proofs.lemmas.Bool.Decides.{nat_tests}
 use Rattle.std.proofs.lemmas.List.{append-nil, length_push, map_push}
+use Rattle.std.proofs.lemmas.Grind.{common_steps}
 use Rattle.srs.specs.declared.piece.Piece.{Piece}
 use Rattle.srs.specs.declared.piece.Piece.TheVariants.{I}
 use Rattle.srs.specs.declared.rotation.Rotation.{Rotation}
@@ -12,7 +12,7 @@ use Rattle.srs.specs.declared.rotation.Rotation.TheVariants.{Spawn}
 use Rattle.srs.specs.Cells.{Cell, minus}
 use Rattle.srs.specs.Kick.{Table, srs_table, table_with, is_small_move, pair_of}
 use Rattle.srs.specs.Piece.{piece_with_letter}
-use Rattle.srs.specs.Rotation.{all_rotations, rotation_letter, rotation_with_letter}
+use Rattle.srs.specs.Rotation.{rotation_letter, rotation_with_letter}
 use Rattle.srs.proofs.CallerLemmas.{find-Contains, each-contained}
 use Rattle.kick_file.specs.declared.turned.TurnedPiece.{TurnedPiece}
 use Rattle.kick_file.specs.declared.parser_state.ParserState.{ParserState}
@@ -20,7 +20,7 @@ use Rattle.kick_file.specs.declared.parser_state.ParserState.TheVariants.{Beginn
 use Rattle.kick_file.specs.Form.{Entry, SpellsEntry, signed_digit, offset_form, offsets_form, turned_of, table_with_entry, table_of_entries}
 use Rattle.srs.specs.Forms.{IsFront}
 use Rattle.kick_file.specs.Faults.{SpellsBefore, SpellsSome}
-use Rattle.kick_file.specs.Reading.{is_small_number, numbers, digit_of, number_with_digit}
+use Rattle.kick_file.specs.Reading.{is_small_number, digit_of, number_with_digit}
 use Rattle.kick_file.proofs.Entries.{HasFive, put_from, put_five}
 use Rattle.kick_file.proofs.SpelledIsRead.{srs_five}
 use Rattle.kick_file.proofs.ReadIsSpelled.{InEntry, longer, part_front, one_more, before_five, entry_whole, ended_offsets, offsets_split, all_small, origin}
@@ -38,27 +38,14 @@ pub record IsNumber (is_negative : Bool) (byte : ℕ) (z : ℤ) : Type 0 where
 abbrev IsOne : Bool → ℤ → Type 0
 IsOne is_negative z = (is_small_number z ≡ true) × (sign is_negative ++ digit_of z ∷ [] ≡ signed_digit z)
 
-each_number : (is_negative : Bool) → AllByRecursion (IsOne is_negative) (numbers is_negative)
-each_number false = ((refl, refl), ((refl, refl), ((refl, refl), ((refl, refl), tt))))
-each_number true = ((refl, refl), ((refl, refl), ((refl, refl), tt)))
-
 pub number_found : (is_negative : Bool) (byte : ℕ) (z : ℤ) → number_with_digit is_negative byte ≡ Some z → IsNumber is_negative byte z
-number_found is_negative byte z found =
-    let among = find-Contains (λ n. digit_of n == byte) (numbers is_negative) z found in
-    let one = each-contained (IsOne is_negative) (numbers is_negative) z (each_number is_negative) among.0 in
-    record { small = one.0; form = ap (λ b. sign is_negative ++ b ∷ []) (sym (eqb-true (digit_of z) byte among.1)) ∙ one.1 }
-
-small_cell : (a b c d : Bool) → (a && b) ≡ true → (c && d) ≡ true → (a && b && c && d) ≡ true
-small_cell a b c d left right =
-    let parts = and_parts c d right in
-    rw (left, parts.0, parts.1) refl
+number_found is_negative byte z found = search (rules, find-Contains, each-contained, eqb-true)
 
 pub small_offset : (dx dy : ℤ) → is_small_number dx ≡ true → is_small_number dy ≡ true → is_small_move (dx, dy) ≡ true
-small_offset dx dy = small_cell (int_le (minus 3) dx) (int_le dx (pos 3)) (int_le (minus 3) dy) (int_le dy (pos 3))
+small_offset dx dy = search (rules, and_parts)
 
 pub rotation_found : (byte : ℕ) (rotation : Rotation) → rotation_with_letter byte ≡ Some rotation → byte ≡ rotation_letter rotation
-rotation_found byte rotation found =
-    sym (eqb-true (rotation_letter rotation) byte (find-Contains (λ r. rotation_letter r == byte) all_rotations rotation found).1)
+rotation_found byte rotation found = search (rules, eqb-true, find-Contains)
 
 -- what is kept between entries
 pub record Kept (entries : List Entry) (given : List TurnedPiece) (table : Table) : Type 0 where
@@ -114,14 +101,7 @@ Here text entries given table (Whole turned test offset) = WholePart text entrie
 -- one more byte of a part
 pub part_longer : (text : List ℕ) (entries : List Entry) (given : List TurnedPiece) (table : Table) (turned : TurnedPiece) (test : ℕ) (part longer_part : List ℕ) (byte : ℕ)
     → Part text entries given table turned test part → part ++ byte ∷ [] ≡ longer_part → Part (text ++ byte ∷ []) entries given table turned test longer_part
-part_longer text entries given table turned test part longer_part byte here is = record {
-  cells = here.cells;
-  stands = subst (InEntry (text ++ byte ∷ []) entries turned here.cells) is (longer text entries turned here.cells part byte here.stands);
-  number = here.number;
-  most = here.most;
-  names = here.names;
-  put = here.put;
-}
+part_longer text entries given table turned test part longer_part byte here is = search (rules, longer)
 
 -- every text so far can go on
 zeros : List Cell
@@ -174,9 +154,7 @@ pub put_more : (table : Table) (turned : TurnedPiece) (test : ℕ) (cells : List
     → put_from table turned test (cells ++ cell ∷ []) ≡ table_with (put_from table turned test cells) turned.piece turned.rotation (test + length cells) cell
 put_more table turned test [] cell = ap (λ n. table_with table turned.piece turned.rotation n cell) (omega arith)
 put_more table turned test (first ∷ cells) cell =
-    let far : (test + 1) + length cells ≡ test + suc (length cells) = omega arith in
-    put_more (table_with table turned.piece turned.rotation test first) turned (test + 1) cells cell
-    ∙ ap (λ n. table_with (put_from (table_with table turned.piece turned.rotation test first) turned (test + 1) cells) turned.piece turned.rotation n cell) far
+    search (rules, put_more (table_with table turned.piece turned.rotation test first) turned (test + 1) cells cell)
 
 put_all : (table : Table) (turned : TurnedPiece) (cells : List Cell) → length cells ≡ 5 → HasFive table
     → put_from table turned 1 cells ≡ table_with_entry table (record { turned = turned; offsets = cells })
@@ -189,8 +167,7 @@ put_all table turned (v ∷ w ∷ x ∷ y ∷ z ∷ []) five tables = put_five t
 put_all table turned (u ∷ v ∷ w ∷ x ∷ y ∷ z ∷ more) five tables = absurd (omega (arith, five))
 
 with_more : (table : Table) (entries : List Entry) (entry : Entry) → fold table_with_entry table (entries ++ entry ∷ []) ≡ table_with_entry (fold table_with_entry table entries) entry
-with_more table [] entry = refl
-with_more table (first ∷ entries) entry = with_more (table_with_entry table first) entries entry
+with_more table entries entry = grind (arith, common_steps)
 
 -- a fifth offset ends an entry
 pub record Finished (text : List ℕ) (entries : List Entry) (given : List TurnedPiece) (table : Table) : Type 0 where

@@ -8,6 +8,7 @@ ghost use Rattle.kick_file.specs.Reading.{kick_text};
 
 /// A text is read as a table exactly if it spells this table, and refused with a fault exactly if it has this fault. So
 /// each text either spells one table or has one fault.
+#[tactic(auto, using(crate::proofs::OneReading::read_as_spelled))]
 pub fn texts_are_read_as_they_spell()
     ensures { (text : List ℕ) (read : Result Table KickFault) → (kick_text text ≡ read) ↔ IsReadAs text read }
 {}

@@ -110,6 +110,7 @@ impl Reader {
 /// piece, capital or small, the letter `0`, `R`, `2` or `L` of a rotation, a colon, and five offsets separated by `/`.
 /// An offset is columns to the right and rows up, each from -3 to 3, separated by a comma. A piece and rotation without
 /// an entry has its offsets of the Super Rotation System.
+#[tactic(auto, using(crate::proofs::Steps::goes_on, std::proofs::lemmas::Result::err_from_is_err_and, crate::proofs::Steps::stops, crate::proofs::Steps::ends))]
 pub fn parse(text: &str) -> Result<Rules, KickFault>
     ensures { AnswersTable result (kick_text text.now) }
 {

@@ -1,14 +1,12 @@
 -- The last `;` goes.
-use Rattle.std.proofs.Common.{arith}
+use Rattle.std.proofs.Common.{rules}
 use Rattle.srs.specs.Rules.{table_of}
 use Rattle.srs.proofs.CallerLemmas.{table_of-small}
 use Rattle.kick_file.proofs.PrintLemmas.{table_ends, printed_read}
 use Rattle.kick_file.proofs.printing.print.Goals as goal
 
 pub returns-clause-form : goal.returns-clause-form
-returns-clause-form c =
-    table_ends c.loop-piece.text.items c.pop.new.self.items c.pop.result (table_of c.args.rules.now) c.loop-piece.piece-index
-    c.loop-piece-test.false c.loop-piece.auto.piece-index-end c.loop-piece.invariant c.pop.ensures.items (λ some. c.pop.ensures.variant.1 (omega (arith, some, c.loop-piece.text.ok)))
+returns-clause-form c = search (rules, table_ends)
 
 pub returns-clause-read : goal.returns-clause-read
 returns-clause-read c =
