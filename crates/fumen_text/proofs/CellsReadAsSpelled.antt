@@ -1,7 +1,7 @@
 -- The cells of a page, promised or not: what is read stands there, and what stands there is read; a fault is the first one there.
-use Rattle.std.proofs.Common.{◌≡◌, ℕ, zero, suc, ◌+◌, ◌<◌, ◌≤◌, Bool, true, false, cond, List, [], ◌++◌, length, Result, Ok, Err, refl, sym, ap, subst, ◌∙◌, inl, inr, arith}
+use Rattle.std.proofs.Common.{◌≡◌, ℕ, zero, suc, ◌+◌, ◌<◌, ◌≤◌, Bool, true, false, cond, List, ◌++◌, length, Result, Ok, Err, refl, sym, ap, subst, ◌∙◌, inl, inr, arith, rules}
 use Rattle.fumen_digits.specs.declared.dialect.Dialect.{Dialect}
-use Rattle.fumen_digits.specs.Number.{digits, Stands, NumberStands}
+use Rattle.fumen_digits.specs.Number.{digits, Stands}
 use Rattle.fumen_digits.specs.declared.fault.FumenFault.{FumenFault}
 use Rattle.fumen_digits.specs.Reading.{◌>>=◌, number_at}
 use Rattle.fumen_digits.proofs.CallerLemmas.{bind_ok, bind_err, ok_bind, err_bind, length-digits, Stands-nil, Stands-then, Stands-parts, stands_from_read, read_from_stands, number_fault_from_read, read_from_number_fault}
@@ -31,8 +31,7 @@ record KindStands (d : Dialect) (ds : List ℕ) (place : ℕ) (before : List ℕ
   spells : IsRecord d before read.cells kind text
 
 kind_stands : (d : Dialect) (ds : List ℕ) (place : ℕ) (before : List ℕ) (read : CellsRead) (kind : Bool) → read.unchanged ≡ kind → RecordStands d ds place before read → KindStands d ds place before read kind
-kind_stands d ds place before read kind e s =
-    record { text = s.text; stands = s.stands; spells = subst (λ (b : Bool). IsRecord d before read.cells b s.text) e s.spells }
+kind_stands d ds place before read kind e s = search rules
 
 -- ---- what is read stands there
 
@@ -46,12 +45,7 @@ promise_from_read d ds place before read at true s e =
       stands = Stands-then ds place s.text read.place (digits 1 n.0) (read.place + 1) s.stands number.stands;
       spells = inr (record { same = s.spells.0; few = omega (arith, number.below); spelled = ap (λ (x : List ℕ). x ++ digits 1 n.0) s.spells.1 });
     })
-promise_from_read d ds place before read at false s e =
-    subst (λ (x : PageReader). CellsStand d ds place before 0 x.place x.cells x.promised) (done_reader (reader read.place read.cells 0) at e) (record {
-      text = s.text;
-      stands = s.stands;
-      spells = inl (record { none = refl; cuts = s.spells });
-    })
+promise_from_read d ds place before read at false s e = search (rules, done_reader)
 
 pub cells_from_read : (d : Dialect) (ds : List ℕ) (place : ℕ) (before : List ℕ) (promised : ℕ) (at : PageReader) → place ≤ length ds → AreCells d before → page_cells_at d ds place before promised ≡ Ok at
     → CellsStand d ds place before promised at.place at.cells at.promised
@@ -59,26 +53,16 @@ unfolding page_cells_at
 cells_from_read d ds place before zero at le cells e =
     let r = bind_ok (record_at d ds place before) (λ read. promise_at ds read) at e in
     promise_from_read d ds place before r.0 at r.0.unchanged (kind_stands d ds place before r.0 r.0.unchanged refl (record_from_read d ds place before r.0 le cells r.1)) r.2
-cells_from_read d ds place before (suc left) at le cells e =
-    subst (λ (x : PageReader). CellsStand d ds place before (suc left) x.place x.cells x.promised) (done_reader (reader place before left) at e) (record {
-      text = [];
-      stands = Stands-nil ds place le;
-      spells = record { same = refl; fewer = refl; none = refl };
-    })
+cells_from_read d ds place before (suc left) at le cells e = search (rules, done_reader, Stands-nil)
 
 -- they may be a page's
 pub sound_cells : (d : Dialect) (before : List ℕ) (promised : ℕ) (cells : List ℕ) (after : ℕ) (text : List ℕ) → AreCells d before → SpellsCells d before promised cells after text → AreCells d cells
-sound_cells d before zero cells after text sound (inl recorded) = recorded.cuts.cuts.new_cells
-sound_cells d before zero cells after text sound (inr same) = subst (λ (x : List ℕ). AreCells d x) (sym same.same) sound
-sound_cells d before (suc left) cells after text sound promised = subst (λ (x : List ℕ). AreCells d x) (sym promised.same) sound
+sound_cells d before promised cells after text sound spelled = search rules
 
 -- ---- what stands there is read
 
 read_number : (ds : List ℕ) (m n j : ℕ) → n < 64 → Stands ds m (digits 1 n) j → (number_at ds m 1 ≡ Ok n) × (m + 1 ≡ j)
-read_number ds m n j few s =
-    let end : j ≡ m + 1 = omega (arith, s.upto, length-digits 1 n) in
-    let number : NumberStands ds m 1 n = record { below = omega (arith, few); stands = subst (λ (k : ℕ). Stands ds m (digits 1 n) k) end s } in
-    (read_from_stands ds m m 1 n number, sym end)
+read_number ds m n j few s = search (rules, length-digits, read_from_stands)
 
 cells_spelled : (d : Dialect) (ds : List ℕ) (place : ℕ) (before : List ℕ) (promised j : ℕ) (cells : List ℕ) (after : ℕ) (text : List ℕ) → AreCells d before → Stands ds place text j → SpellsCells d before promised cells after text
     → page_cells_at d ds place before promised ≡ Ok (reader j cells after)
@@ -95,28 +79,17 @@ cells_spelled d ds place before zero j cells after text sound stands (inr same) 
     let number = read_number ds m after j same.few parts.1 in
     ok_bind (record_at d ds place before) (λ r. promise_at ds r) read (read_from_record d ds place before read sound (record { text = unchanged d; stands = parts.0; spells = (same.same, refl) }))
     ∙ (ok_bind (number_at ds m 1) (λ n. Ok (reader (m + 1) cells n)) after number.0 ∙ ap (λ (k : ℕ). Ok (reader k cells after)) number.1)
-cells_spelled d ds place before (suc left) j cells after text sound stands promised =
-    let here : Stands ds place [] j = subst (λ (x : List ℕ). Stands ds place x j) promised.none stands in
-    let end : place ≡ j = omega (arith, here.upto) in
-    ap (λ (k : ℕ). Ok (reader k before left)) end
-    ∙ (ap (λ (x : List ℕ). Ok (reader j x left)) (sym promised.same) ∙ ap (λ (k : ℕ). Ok (reader j cells k)) (sym promised.fewer))
+cells_spelled d ds place before (suc left) j cells after text sound stands promised = search rules
 
 pub read_from_cells : (d : Dialect) (ds : List ℕ) (place : ℕ) (before : List ℕ) (promised j : ℕ) (cells : List ℕ) (after : ℕ) → AreCells d before → CellsStand d ds place before promised j cells after
     → page_cells_at d ds place before promised ≡ Ok (reader j cells after)
-read_from_cells d ds place before promised j cells after sound s =
-    cells_spelled d ds place before promised j cells after s.text sound s.stands s.spells
+read_from_cells d ds place before promised j cells after sound s = search (rules, cells_spelled)
 
 -- ---- faults
 
 promise_fault_from_read : (d : Dialect) (ds : List ℕ) (place : ℕ) (before : List ℕ) (read : CellsRead) (f : FumenFault) (kind : Bool) → KindStands d ds place before read kind → promise_by ds read kind ≡ Err f
     → IsCellsFault d ds place before 0 f
-promise_fault_from_read d ds place before read f true s e =
-    elim (bind_err (number_at ds read.place 1) (λ after. Ok (reader (read.place + 1) read.cells after)) f e) [
-      | inl bad ↦
-          inr (read.place, subst (λ (x : List ℕ). Stands ds place x read.place) s.spells.1 s.stands, number_fault_from_read ds read.place 1 f s.stands.within bad)
-      | inr n ↦ absurd (let never = n.2 in cc)
-    ]
-promise_fault_from_read d ds place before read f false s e = absurd cc
+promise_fault_from_read d ds place before read f kind s e = search (rules, bind_err, number_fault_from_read)
 
 pub cells_fault_from_read : (d : Dialect) (ds : List ℕ) (place : ℕ) (before : List ℕ) (promised : ℕ) (f : FumenFault) → place ≤ length ds → AreCells d before → page_cells_at d ds place before promised ≡ Err f
     → IsCellsFault d ds place before promised f
@@ -132,8 +105,7 @@ cells_fault_from_read d ds place before (suc left) f le cells e = absurd cc
 pub read_from_cells_fault : (d : Dialect) (ds : List ℕ) (place : ℕ) (before : List ℕ) (promised : ℕ) (f : FumenFault) → AreCells d before → IsCellsFault d ds place before promised f
     → page_cells_at d ds place before promised ≡ Err f
 unfolding page_cells_at
-read_from_cells_fault d ds place before zero f sound (inl bad) =
-    err_bind (record_at d ds place before) (λ read. promise_at ds read) f (read_from_record_fault d ds place before f sound bad)
+read_from_cells_fault d ds place before zero f sound (inl bad) = search (rules, err_bind, read_from_record_fault)
 read_from_cells_fault d ds place before zero f sound (inr digit) =
     let read : CellsRead = record { cells = before; place = digit.0; unchanged = true } in
     ok_bind (record_at d ds place before) (λ r. promise_at ds r) read (read_from_record d ds place before read sound (record { text = unchanged d; stands = digit.1; spells = (refl, refl) }))

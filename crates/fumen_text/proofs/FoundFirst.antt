@@ -1,5 +1,5 @@
 -- Faults that are found before a comment is escaped.
-use Rattle.std.proofs.Common.{◌≡◌, ℕ, ◌+◌, ◌-◌, ◌<◌, ◌≤◌, Bool, true, false, cond, not, eqb, leb, List, [], ◌∷◌, length, take, drop, Option, Some, None, get_or, refl, sym, ap, subst, ◌∙◌, inl, inr, ◌⊎◌, arith}
+use Rattle.std.proofs.Common.{◌≡◌, ℕ, ◌+◌, ◌-◌, ◌<◌, ◌≤◌, Bool, true, cond, eqb, leb, List, [], ◌∷◌, length, take, drop, Option, Some, None, get_or, sym, ap, subst, ◌∙◌, inl, inr, ◌⊎◌, arith, rules}
 use Rattle.std.specs.List.{list_all}
 use Rattle.std.specs.Option.{option_or, option_map_or}
 use Rattle.std.proofs.lemmas.Bool.{le-ltb}
@@ -11,7 +11,7 @@ use Rattle.fumen_pages.specs.Action.{is_inside_in}
 use Rattle.fumen_pages.specs.declared.encode_fault.EncodeFault.{EncodeFault}
 use Rattle.fumen_pages.specs.declared.encode_fault.EncodeFault.TheVariants as fault
 use Rattle.fumen_text.specs.Texts.{most_pages}
-use Rattle.fumen_text.specs.Written.{AreFewBefore, HasFewUnits, IsFoundFirst, is_short, list_encode_fault, page_encode_fault, pages_encode_fault}
+use Rattle.fumen_text.specs.Written.{AreFewBefore, HasFewUnits, IsFoundFirst, list_encode_fault, page_encode_fault, pages_encode_fault}
 use Rattle.fumen_text.specs.Checking.{IsMeasured}
 use Rattle.fumen_text.proofs.WrittenIsRead.{IsCheckedSoFar, one_left}
 
@@ -39,20 +39,14 @@ same n = omega arith
 chosen : (number : ℕ) (cells rows placed long : Bool) (f : EncodeFault)
     → cond cells (Some (fault.BadCell number)) (cond rows (Some (fault.RowTooHigh number)) (cond placed (Some (fault.PieceOutside number)) (cond long (Some (fault.CommentTooLong number)) None))) ≡ Some f
     → IsFrom number f
-chosen number true rows placed long f e = named number (fault.BadCell number) f (same number) e
-chosen number false true placed long f e = named number (fault.RowTooHigh number) f (same number) e
-chosen number false false true long f e = named number (fault.PieceOutside number) f (same number) e
-chosen number false false false true f e = named number (fault.CommentTooLong number) f (same number) e
-chosen number false false false false f e = absurd cc
+chosen number cells rows placed long f e = search (rules, named, same)
 
 page_from : (d : Dialect) (number : ℕ) (page : Page) (f : EncodeFault) → page_encode_fault d number page ≡ Some f → IsFrom number f
 unfolding page_encode_fault
-page_from d number page f e =
-    chosen number (not (list_all (λ cell. leb cell 8) page.cells)) (not (list_all (λ cell. eqb cell 0) (take (missing_count d) page.cells))) (not (option_map_or (is_inside_in d) page.operation true)) (not (is_short page.comment)) f e
+page_from d number page f e = search (rules, chosen)
 
 either : (here rest : Option EncodeFault) (f : EncodeFault) → option_or here rest ≡ Some f → (here ≡ Some f) ⊎ (rest ≡ Some f)
-either None rest f e = inr e
-either (Some g) rest f e = inl e
+either here rest f e = search rules
 
 pages_from : (d : Dialect) (number : ℕ) (pages : List Page) (f : EncodeFault) → pages_encode_fault d number pages ≡ Some f → IsFrom number f
 unfolding pages_encode_fault
@@ -64,9 +58,7 @@ pages_from d number (page ∷ pages) f e = elim (either (page_encode_fault d num
 
 -- the page of index i is among those before a later number
 few_at : (pages : List Page) (i number : ℕ) (page : Page) → i < length pages → page ≡ get_or pages i page → i + 1 + 1 ≤ number → AreFewBefore pages number → HasFewUnits page
-few_at pages i number page lt is later few =
-    let inside : i < length (take (number - 1) pages) = omega (arith, length-take (number - 1) pages) in
-    subst HasFewUnits (get_or-take (number - 1) pages i page (omega arith) ∙ sym is) (few i page inside)
+few_at pages i number page lt is later few = search (rules, length-take, get_or-take)
 
 found_late : (pages : List Page) (i : ℕ) (page : Page) (f : EncodeFault) → i < length pages → page ≡ get_or pages i page → (HasFewUnits page → ⊥) → IsFrom (i + 1 + 1) f → IsFoundFirst pages f → ⊥
 found_late pages i page fault.TooManyPages lt is many from first = from
@@ -93,8 +85,4 @@ none_first d pages i page f lt few is measured s found first =
 pub long_or_none : (d : Dialect) (number : ℕ) (page : Page) → list_all (λ cell. leb cell 8) page.cells ≡ true → list_all (λ cell. eqb cell 0) (take (missing_count d) page.cells) ≡ true
     → option_map_or (is_inside_in d) page.operation true ≡ true → (page_encode_fault d number page ≡ None) ⊎ (page_encode_fault d number page ≡ Some (fault.CommentTooLong number))
 unfolding page_encode_fault
-long_or_none d number page colours empty placed = rw (colours, empty, placed) (by (is_short page.comment))
-  where
-    by : (short : Bool) → (cond (not short) (Some (fault.CommentTooLong number)) None ≡ None) ⊎ (cond (not short) (Some (fault.CommentTooLong number)) None ≡ Some (fault.CommentTooLong number))
-    by true = inl refl
-    by false = inr refl
+long_or_none d number page colours empty placed = search rules

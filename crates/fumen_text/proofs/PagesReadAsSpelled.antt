@@ -1,5 +1,5 @@
 -- Pages one after the other: what is read stands there, and what stands there is read; a fault is the first one there.
-use Rattle.std.proofs.Common.{◌≡◌, ℕ, zero, suc, ◌+◌, ◌-◌, ◌<◌, ◌≤◌, Bool, true, false, cond, List, [], ◌∷◌, ◌++◌, length, Result, Ok, Err, refl, sym, ap, subst, ◌∙◌, ◌⊎◌, inl, inr, arith}
+use Rattle.std.proofs.Common.{◌≡◌, ℕ, zero, suc, ◌+◌, ◌-◌, ◌<◌, ◌≤◌, Bool, true, false, cond, List, [], ◌∷◌, ◌++◌, length, Result, Ok, Err, refl, sym, ap, subst, ◌∙◌, ◌⊎◌, inl, inr, arith, rules}
 use Rattle.fumen_digits.specs.declared.dialect.Dialect.{Dialect}
 use Rattle.fumen_digits.specs.declared.fault.FumenFault.{FumenFault}
 use Rattle.fumen_digits.specs.declared.fault.FumenFault.TheVariants.{TooManyPages}
@@ -21,13 +21,11 @@ with_front front read = read >>= λ pages. Ok (front ++ pages)
 
 pub from_nothing : (read : Result (List Page) FumenFault) → with_front [] read ≡ read
 unfolding with_front
-from_nothing (Ok pages) = refl
-from_nothing (Err f) = refl
+from_nothing read = search rules
 
 pub one_in_front : (page : Page) (pages : List Page) (read : Result (List Page) FumenFault) → (with_front pages read >>= λ others. Ok (page ∷ others)) ≡ with_front (page ∷ pages) read
 unfolding with_front
-one_in_front page pages (Ok others) = refl
-one_in_front page pages (Err f) = refl
+one_in_front page pages read = search rules
 
 -- ---- one turn
 
@@ -38,8 +36,7 @@ others_at d ds room number step =
 pub turn_due : (d : Dialect) (ds : List ℕ) (room number place : ℕ) (before : List ℕ) (promised : ℕ) → is_due ds place promised ≡ true
     → pages_at d ds (suc room) number place before promised ≡ (next_page_at d ds number place before promised >>= λ step. others_at d ds room number step)
 unfolding pages_at
-turn_due d ds room number place before promised due =
-    ap (λ (b : Bool). cond b (next_page_at d ds number place before promised >>= λ step. others_at d ds room number step) (Ok [])) due
+turn_due d ds room number place before promised due = search rules
 
 pub turn_full : (d : Dialect) (ds : List ℕ) (number place : ℕ) (before : List ℕ) (promised : ℕ) → is_due ds place promised ≡ true → pages_at d ds zero number place before promised ≡ Err TooManyPages
 unfolding pages_at
@@ -47,9 +44,7 @@ turn_full d ds number place before promised due = ap (λ (b : Bool). cond b (Err
 
 pub turn_ended : (d : Dialect) (ds : List ℕ) (room number place : ℕ) (before : List ℕ) (promised : ℕ) → is_due ds place promised ≡ false → pages_at d ds room number place before promised ≡ Ok []
 unfolding pages_at
-turn_ended d ds zero number place before promised ended = ap (λ (b : Bool). cond b (Err TooManyPages) (Ok [])) ended
-turn_ended d ds (suc room) number place before promised ended =
-    ap (λ (b : Bool). cond b (next_page_at d ds number place before promised >>= λ step. others_at d ds room number step) (Ok [])) ended
+turn_ended d ds room number place before promised ended = search (rules, ended)
 
 -- ---- what stands whole is read
 
@@ -124,16 +119,12 @@ stepped d ds number place before promised step le sound e =
 ended_read : (d : Dialect) (ds : List ℕ) (room number place : ℕ) (before : List ℕ) (promised : ℕ) (pages : List Page) → place ≤ length ds → is_due ds place promised ≡ false → length ds ≤ place → promised ≡ 0 → pages_at d ds room number place before promised ≡ Ok pages
     → ReadToEnd d ds room place before promised pages
 ended_read d ds room number place before promised pages le not past none e =
-    let no_more = done_pages [] pages (sym (turn_ended d ds room number place before promised not) ∙ e) in
-    subst (λ (x : List Page). ReadToEnd d ds room place before promised x) no_more (ended d ds room place before promised le past none)
+    search (rules, done_pages, turn_ended, ended)
 
 pub pages_from_read : (d : Dialect) (ds : List ℕ) (room number place : ℕ) (before : List ℕ) (promised : ℕ) (pages : List Page) → place ≤ length ds → AreCells d before → pages_at d ds room number place before promised ≡ Ok pages
     → ReadToEnd d ds room place before promised pages
 pages_from_read d ds zero number place before promised pages le sound e =
-    elim (due_cases ds place promised) [
-      | inr past ↦ ended_read d ds zero number place before promised pages le past.0 past.1 past.2 e
-      | inl due ↦ absurd (let never = sym (turn_full d ds number place before promised due.0) ∙ e in cc)
-    ]
+    search (rules, due_cases, ended_read, turn_full)
 pages_from_read d ds (suc room) number place before promised pages le sound e =
     elim (due_cases ds place promised) [
       | inr past ↦ ended_read d ds (suc room) number place before promised pages le past.0 past.1 past.2 e
@@ -204,8 +195,7 @@ same_fault : (f g : FumenFault) → ◌≡◌ {A = Result (List Page) FumenFault
 same_fault f g e = cc
 
 no_fault : {A : Type 0} (d : Dialect) (ds : List ℕ) (room number place : ℕ) (before : List ℕ) (promised : ℕ) (f : FumenFault) → is_due ds place promised ≡ false → pages_at d ds room number place before promised ≡ Err f → A
-no_fault d ds room number place before promised f not e =
-    absurd (let never = sym (turn_ended d ds room number place before promised not) ∙ e in cc)
+no_fault d ds room number place before promised f not e = search (rules, turn_ended)
 
 pub pages_fault_from_read : (d : Dialect) (ds : List ℕ) (room number place : ℕ) (before : List ℕ) (promised : ℕ) (f : FumenFault) → place ≤ length ds → AreCells d before → pages_at d ds room number place before promised ≡ Err f
     → MeetsFault d ds room number place before promised f

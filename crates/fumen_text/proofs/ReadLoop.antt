@@ -1,5 +1,5 @@
 -- Reading pages one after the other, as a loop does.
-use Rattle.std.proofs.Common.{◌≡◌, ℕ, zero, suc, ◌+◌, ◌-◌, ◌<◌, ◌≤◌, true, false, List, [], ◌∷◌, ◌++◌, length, Result, Ok, Err, refl, sym, ap, subst, ◌∙◌, append_assoc, arith}
+use Rattle.std.proofs.Common.{◌≡◌, ℕ, zero, suc, ◌+◌, ◌-◌, ◌<◌, ◌≤◌, true, false, List, [], ◌∷◌, ◌++◌, length, Result, Ok, Err, sym, ap, subst, ◌∙◌, append_assoc, arith, rules}
 use Rattle.std.proofs.lemmas.List.{append-nil, length-append}
 use Rattle.pc_outside.specs.declared.answers.Refused.{Refused}
 use Rattle.pc_outside.specs.declared.answers.Refused.TheVariants as refused
@@ -23,15 +23,11 @@ use Rattle.fumen_text.proofs.TextReadAsSpelled.{empty_sound}
 
 pub cells_promised : (d : Dialect) (ds : List ℕ) (place : ℕ) (before : List ℕ) (promised : ℕ) → 0 < promised → page_cells_at d ds place before promised ≡ Ok (reader place before (promised - 1))
 unfolding page_cells_at
-cells_promised d ds place before zero some = absurd (omega arith)
-cells_promised d ds place before (suc left) some =
-    let fewer : left ≡ suc left - 1 = omega arith in
-    ap (λ (k : ℕ). Ok (reader place before k)) fewer
+cells_promised d ds place before promised some = search rules
 
 pub cells_recorded : (d : Dialect) (ds : List ℕ) (place : ℕ) (before : List ℕ) (promised : ℕ) (read : CellsRead) → promised ≡ 0 → record_at d ds place before ≡ Ok read → promise_at ds read ≡ page_cells_at d ds place before promised
 unfolding page_cells_at
-cells_recorded d ds place before zero read none e = sym (ok_bind (record_at d ds place before) (λ r. promise_at ds r) read e)
-cells_recorded d ds place before (suc left) read none e = absurd (omega (arith, none))
+cells_recorded d ds place before promised read none e = search (rules, ok_bind)
 
 pub cells_refused : (e : Refused FumenFault) (d : Dialect) (ds : List ℕ) (place : ℕ) (before : List ℕ) (promised : ℕ) → promised ≡ 0 → IsRefusal (λ (f : FumenFault). f) e (record_at d ds place before) → IsRefusal (λ (f : FumenFault). f) e (page_cells_at d ds place before promised)
 unfolding page_cells_at
@@ -62,8 +58,7 @@ read_starts d ds most =
 
 regroup : (pages : List Page) (page : Page) (read : Result (List Page) FumenFault) → with_front pages (read >>= λ others. Ok (page ∷ others)) ≡ with_front (pages ++ page ∷ []) read
 unfolding with_front
-regroup pages page (Ok others) = ap (λ (x : List Page). Ok x) (sym (append_assoc pages (page ∷ []) others))
-regroup pages page (Err f) = refl
+regroup pages page read = search (rules, append_assoc)
 
 pub read_more : (d : Dialect) (ds : List ℕ) (most count : ℕ) (pages : List Page) (at : PageReader) (step : Page × PageReader) → is_due ds at.place at.promised ≡ true → count ≡ length pages → count < most
     → next_page_at d ds (count + 1) at.place at.cells at.promised ≡ Ok step → step.1.place ≤ length ds → AreCells d step.1.cells → IsReadSoFar d ds most pages at
@@ -119,7 +114,4 @@ read_full d ds most count pages at due counted full s =
 
 pub read_ends : (d : Dialect) (ds : List ℕ) (most : ℕ) (pages : List Page) (at : PageReader) → is_due ds at.place at.promised ≡ false → IsReadSoFar d ds most pages at → pages_at d ds most 1 0 empty_page 0 ≡ Ok pages
 unfolding with_front
-read_ends d ds most pages at ended s =
-    sym s.completes
-    ∙ (ap (λ (r : Result (List Page) FumenFault). with_front pages r) (turn_ended d ds (most - length pages) (length pages + 1) at.place at.cells at.promised ended)
-    ∙ ap (λ (x : List Page). Ok x) (append-nil pages))
+read_ends d ds most pages at ended s = search (rules, turn_ended, append-nil)

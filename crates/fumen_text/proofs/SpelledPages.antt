@@ -1,5 +1,5 @@
 -- Pages that a text reads as are sound, and their comments have units of 16 bits.
-use Rattle.std.proofs.Common.{ℕ, ◌^◌, ◌<◌, List, [], ◌∷◌, All, Option, Some, None, subst}
+use Rattle.std.proofs.Common.{ℕ, List, [], ◌∷◌, All, Option, rules}
 use Rattle.std.proofs.lemmas.List.Elements.{All-nil, All-cons}
 use Rattle.std.proofs.lemmas.Option.{none-some, same_Some}
 use Rattle.fumen_digits.specs.declared.dialect.Dialect.{Dialect}
@@ -12,8 +12,7 @@ use Rattle.fumen_pages.specs.Tail.{SpellsPart}
 use Rattle.fumen_text.specs.Spells.{SpellsFumen}
 
 part_fits : (comment : Option (List ℕ)) (ds : List ℕ) → SpellsPart comment ds → HasUnits comment
-part_fits None ds s = λ units is. absurd (none-some units is)
-part_fits (Some one) ds s = λ units is. subst (All (λ unit. unit < 2 ^ 16)) (same_Some one units is) (comment_fits one ds s)
+part_fits comment ds s = search (rules, none-some, same_Some, comment_fits)
 
 pub spelled_sound : (d : Dialect) (before : List ℕ) (promised : ℕ) (pages : List Page) (ds : List ℕ) → SpellsFumen d before promised pages ds → All (IsSound d) pages
 unfolding SpellsFumen

@@ -1,5 +1,5 @@
 -- Whole texts: what is read is spelled by the text, and what the text spells is read; a fault is the first one in it.
-use Rattle.std.proofs.Common.{◌≡◌, ℕ, ◌+◌, ◌-◌, ◌≤◌, List, length, Option, Some, None, Result, Ok, Err, replicate, refl, sym, ap, subst, ◌∙◌, ◌⊎◌, inl, inr, arith}
+use Rattle.std.proofs.Common.{◌≡◌, ℕ, ◌+◌, ◌-◌, ◌≤◌, List, length, Option, Some, None, Result, Ok, Err, replicate, refl, sym, ap, subst, ◌∙◌, ◌⊎◌, inl, inr, arith, rules}
 use Rattle.std.specs.Prelude.{All}
 use Rattle.std.proofs.lemmas.List.{append-nil}
 use Rattle.std.proofs.lemmas.List.Elements.{All-replicate}
@@ -64,24 +64,17 @@ pub text_from_read : (text : List ℕ) (x : Dialect × List Page) → text_pages
 text_from_read text x e = framed_read text (digits_in text) x refl e
 
 pub read_from_text : (text : List ℕ) (d : Dialect) (pages : List Page) → ReadsAs text d pages → text_pages text ≡ Ok (d, pages)
-read_from_text text d pages reads =
-    ap framed_pages reads.framed
-    ∙ ok_bind (pages_of_digits d reads.ds) (λ x. with_dialect d x) pages (read_from_spells d reads.ds most_pages empty_page pages (empty_sound d) reads.spelled reads.few)
+read_from_text text d pages reads = search (rules, ok_bind, read_from_spells, empty_sound)
 
 same_fault : (f g : FumenFault) → ◌≡◌ {A = Result (Dialect × List Page) FumenFault} (Err f) (Err g) → g ≡ f
 same_fault f g e = cc
 
 met_in_digits : (d : Dialect) (ds : List ℕ) (f : FumenFault) → MeetsFault d ds most_pages 1 0 empty_page 0 f → IsDigitsFault d ds f
-met_in_digits d ds f m =
-    record { pages = m.pages; k = m.k; cells = m.cells; promised = m.after; stand = m.stand; due = m.due; fault = m.fault }
+met_in_digits d ds f m = search rules
 
 framed_fault : (text : List ℕ) (framed : Option (Dialect × List ℕ)) (f : FumenFault) → digits_in text ≡ framed → framed_pages framed ≡ Err f → IsTextFault text f
 framed_fault text None f is e = inl (is, same_fault NoFumen f e)
-framed_fault text (Some (d, ds)) f is e =
-    elim (bind_err (pages_of_digits d ds) (λ pages. with_dialect d pages) f e) [
-      | inl bad ↦ inr (d, ds, is, met_in_digits d ds f (pages_fault_from_read d ds most_pages 1 0 empty_page 0 f (omega arith) (empty_sound d) bad))
-      | inr p ↦ absurd (let never = p.2 in cc)
-    ]
+framed_fault text (Some (d, ds)) f is e = search (rules, bind_err, met_in_digits, pages_fault_from_read, empty_sound)
 
 pub text_fault_from_read : (text : List ℕ) (f : FumenFault) → text_pages text ≡ Err f → IsTextFault text f
 text_fault_from_read text f e = framed_fault text (digits_in text) f refl e

@@ -1,9 +1,9 @@
 -- Pages that stand whole, one behind the other.
-use Rattle.std.proofs.Common.{◌≡◌, ℕ, ◌+◌, ◌<◌, ◌≤◌, true, false, List, [], ◌∷◌, ◌++◌, length, ltb, refl, sym, ap, subst, ◌∙◌, ◌⊎◌, inl, inr, arith}
+use Rattle.std.proofs.Common.{◌≡◌, ℕ, ◌+◌, ◌<◌, ◌≤◌, true, false, List, [], ◌∷◌, ◌++◌, length, refl, sym, ap, subst, ◌∙◌, ◌⊎◌, arith, rules}
 use Rattle.std.proofs.lemmas.Bool.{cases_lt, lt-ltb, le-ltb}
 use Rattle.std.proofs.lemmas.List.{append-nil, drop_all, length-append}
 use Rattle.fumen_digits.specs.declared.dialect.Dialect.{Dialect}
-use Rattle.fumen_digits.specs.Number.{digits, Stands}
+use Rattle.fumen_digits.specs.Number.{Stands}
 use Rattle.fumen_digits.proofs.CallerLemmas.{length-digits, Stands-nil, Stands-then, Stands-parts}
 use Rattle.fumen_pages.specs.declared.page.Page.{Page}
 use Rattle.fumen_pages.specs.Next.{next}
@@ -15,37 +15,17 @@ use Rattle.fumen_text.proofs.PageReadAsSpelled.{PageStands}
 -- ---- a page is due, or not
 
 pub due_cases : (ds : List ℕ) (place promised : ℕ) → ((is_due ds place promised ≡ true) × IsDue ds place promised) ⊎ ((is_due ds place promised ≡ false) × (length ds ≤ place) × (promised ≡ 0))
-due_cases ds place promised =
-    elim (cases_lt place (length ds)) [
-      | inl lt ↦ inl (rw (lt-ltb place (length ds) lt) refl, inl lt)
-      | inr le ↦
-          elim (cases_lt 0 promised) [
-            | inl some ↦ inl (rw (le-ltb place (length ds) le, lt-ltb 0 promised some) refl, inr some)
-            | inr none ↦ inr (rw (le-ltb place (length ds) le, le-ltb 0 promised none) refl, le, omega arith)
-          ]
-    ]
+due_cases ds place promised = search (rules, cases_lt, lt-ltb, le-ltb)
 
 pub is_due-due : (ds : List ℕ) (place promised : ℕ) → IsDue ds place promised → is_due ds place promised ≡ true
-is_due-due ds place promised due =
-    elim (due_cases ds place promised) [
-      | inl is ↦ is.0
-      | inr not ↦ elim due [
-        | inl lt ↦ absurd (omega (arith, not.1))
-        | inr some ↦ absurd (omega (arith, not.2))
-      ]
-    ]
+is_due-due ds place promised due = search (rules, due_cases)
 
 pub is_due-ended : (ds : List ℕ) (place promised : ℕ) → length ds ≤ place → promised ≡ 0 → is_due ds place promised ≡ false
-is_due-ended ds place promised le none =
-    rw (le-ltb place (length ds) le) (ap (λ (n : ℕ). ltb 0 n) none)
+is_due-ended ds place promised le none = search (rules, le-ltb)
 
 -- a page that stands has digits
 pub page_has_digits : (d : Dialect) (ds : List ℕ) (place : ℕ) (before : List ℕ) (promised : ℕ) (page : Page) (end after : ℕ) → PageStands d ds place before promised page end after → place < length ds
-page_has_digits d ds place before promised page end after s =
-    let spelled = ap (λ (x : List ℕ). length x) s.tail.spells.spelled in
-    let parts = length-append (digits 3 s.tail.spells.number) s.tail.spells.part in
-    let three = length-digits 3 s.tail.spells.number in
-    omega (arith, s.cells.stands.upto, s.tail.stands.upto, s.tail.stands.within, spelled, parts, three)
+page_has_digits d ds place before promised page end after s = search (rules, length-append, length-digits)
 
 -- ---- whole pages
 
@@ -109,9 +89,7 @@ whole_parts d ds place before promised page pages k cells after s =
 
 whole_empty : (d : Dialect) (ds : List ℕ) (place : ℕ) (before : List ℕ) (promised k : ℕ) (cells : List ℕ) (after : ℕ) → PagesStand d ds place before promised [] k cells after → (k ≡ place) × (cells ≡ before) × (after ≡ promised)
 unfolding SpellsWhole
-whole_empty d ds place before promised k cells after s =
-    let here : Stands ds place [] k = subst (λ (x : List ℕ). Stands ds place x k) s.spells.2 s.stands in
-    (omega (arith, here.upto), s.spells.0, s.spells.1)
+whole_empty d ds place before promised k cells after s = search rules
 
 -- what holds behind no pages holds before them
 pub whole_nothing : (P : ℕ → List ℕ → ℕ → Type 0) (d : Dialect) (ds : List ℕ) (place : ℕ) (before : List ℕ) (promised k : ℕ) (cells : List ℕ) (after : ℕ) → PagesStand d ds place before promised [] k cells after → P k cells after → P place before promised
@@ -164,5 +142,4 @@ pub all_stands : (ds text : List ℕ) → Stands ds 0 text (length ds) → ds �
 all_stands ds text s = s.here ∙ (ap (λ (x : List ℕ). text ++ x) (drop_all (length ds) ds (omega arith)) ∙ append-nil text)
 
 pub stands_all : (ds : List ℕ) → Stands ds 0 ds (length ds)
-stands_all ds =
-    record { here = sym (ap (λ (x : List ℕ). ds ++ x) (drop_all (length ds) ds (omega arith)) ∙ append-nil ds); upto = omega arith; within = omega arith }
+stands_all ds = search (rules, drop_all, append-nil)

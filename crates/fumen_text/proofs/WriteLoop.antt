@@ -1,12 +1,11 @@
 -- Writing pages one after the other, as loops do.
-use Rattle.std.proofs.Common.{◌≡◌, ℕ, zero, suc, ◌+◌, ◌<◌, ◌≤◌, Bool, true, false, cond, min, List, [], ◌∷◌, ◌++◌, length, get_or, drop, refl, sym, ap, ◌∙◌, append_assoc, arith}
+use Rattle.std.proofs.Common.{◌≡◌, ℕ, suc, ◌+◌, ◌<◌, ◌≤◌, Bool, true, false, cond, min, List, [], ◌∷◌, ◌++◌, length, get_or, drop, refl, sym, ap, ◌∙◌, append_assoc, arith, rules}
 use Rattle.std.proofs.lemmas.List.{append-nil, drop_more, drop_all}
 use Rattle.fumen_digits.specs.declared.dialect.Dialect.{Dialect}
 use Rattle.fumen_digits.specs.Number.{digits}
 use Rattle.fumen_pages.specs.declared.page.Page.{Page}
 use Rattle.fumen_pages.specs.Cells.{AreCells}
 use Rattle.fumen_pages.specs.Next.{next}
-use Rattle.fumen_pages.specs.Record.{unchanged}
 use Rattle.fumen_pages.specs.Written.{written_record}
 use Rattle.fumen_text.specs.Texts.{empty_page}
 use Rattle.fumen_text.specs.Written.{cells_digits, keeps, pages_digits, promised_behind, tail_digits, unchanged_pages}
@@ -23,9 +22,7 @@ next_left pages i page lt is = drop_more pages i page lt ∙ ap (λ (x : Page). 
 one_unchanged : (d : Dialect) (before : List ℕ) (pages : List Page) (i : ℕ) (page : Page) (b : Bool) → i < length pages → page ≡ get_or pages i page → keeps before page ≡ b
     → unchanged_pages d before (drop i pages) ≡ cond b (suc (unchanged_pages d (next d page) (drop (i + 1) pages))) 0
 unfolding unchanged_pages
-one_unchanged d before pages i page b lt is e =
-    ap (λ (x : List Page). unchanged_pages d before x) (next_left pages i page lt is)
-    ∙ ap (λ (c : Bool). cond c (suc (unchanged_pages d (next d page) (drop (i + 1) pages))) 0) e
+one_unchanged d before pages i page b lt is e = search (rules, next_left)
 
 pub unchanged_stops : (d : Dialect) (before : List ℕ) (pages : List Page) (i count total : ℕ) (page : Page) → i < length pages → page ≡ get_or pages i page → keeps before page ≡ false → count ≤ 63
     → min 63 (count + unchanged_pages d before (drop i pages)) ≡ total → count ≡ total
@@ -40,8 +37,7 @@ unchanged_more d before pages i count total page lt is e few s =
 
 pub unchanged_ends : (d : Dialect) (before : List ℕ) (pages : List Page) (i count total : ℕ) → length pages ≤ i → count ≤ 63 → min 63 (count + unchanged_pages d before (drop i pages)) ≡ total → count ≡ total
 unfolding unchanged_pages
-unchanged_ends d before pages i count total le few s =
-    let none : unchanged_pages d before (drop i pages) ≡ 0 = ap (λ (x : List Page). unchanged_pages d before x) (drop_all i pages le) in omega (arith, none)
+unchanged_ends d before pages i count total le few s = search (rules, drop_all)
 
 -- ---- the cells of a page
 
@@ -49,12 +45,8 @@ unchanged_ends d before pages i count total le few s =
 pub pushed_unchanged : (d : Dialect) (before : List ℕ) (promised : ℕ) (page : Page) (after : ℕ) (old middle new : List ℕ) → promised ≡ 0 → AreCells d before → keeps before page ≡ true
     → middle ≡ old ++ written_record d before page.cells → new ≡ middle ++ digits 1 after → new ≡ old ++ cells_digits d before promised page after
 unfolding cells_digits
-pushed_unchanged d before zero page after old middle new none sound e first second =
-    let run : written_record d before page.cells ≡ unchanged d = ap (λ (x : List ℕ). written_record d before x) ((keeps_decides before page).0 e) ∙ written_same d before sound in
-    second
-    ∙ (ap (λ (x : List ℕ). x ++ digits 1 after) (first ∙ ap (λ (x : List ℕ). old ++ x) run)
-    ∙ (append_assoc old (unchanged d) (digits 1 after) ∙ ap (λ (b : Bool). old ++ cond b (unchanged d ++ digits 1 after) (written_record d before page.cells)) (sym e)))
-pushed_unchanged d before (suc left) page after old middle new none sound e first second = absurd (omega (arith, none))
+pushed_unchanged d before promised page after old middle new none sound e first second =
+    search (rules, keeps_decides, written_same, append_assoc)
 
 -- ---- all pages
 
@@ -71,23 +63,8 @@ pub write_more : (d : Dialect) (pages : List Page) (written before : List ℕ) (
     → IsWrittenSoFar d pages written before promised i → IsWrittenSoFar d pages new cells after (i + 1)
 unfolding pages_digits
 write_more d pages written before promised i page after middle new cells lt is after_is first second cells_are sound s =
-    let rest = drop (i + 1) pages in
-    let head = cells_digits d before promised page after in
-    let others = pages_digits d (next d page) after rest in
-    let one : pages_digits d before promised (drop i pages) ≡ head ++ (tail_digits d page ++ others) =
-    ap (λ (x : List Page). pages_digits d before promised x) (next_left pages i page lt is)
-    ∙ ap (λ (n : ℕ). cells_digits d before promised page n ++ (tail_digits d page ++ pages_digits d (next d page) n rest)) (sym after_is) in
-    let appended : new ≡ written ++ (head ++ tail_digits d page) = second ∙ (ap (λ (x : List ℕ). x ++ tail_digits d page) first ∙ append_assoc written head (tail_digits d page)) in
-    record {
-      sound = sound;
-      completes =
-          ap (λ (x : List ℕ). new ++ pages_digits d x after rest) cells_are
-          ∙ (ap (λ (x : List ℕ). x ++ others) appended
-          ∙ (append_assoc written (head ++ tail_digits d page) others
-          ∙ (ap (λ (x : List ℕ). written ++ x) (append_assoc head (tail_digits d page) others ∙ sym one) ∙ s.completes)));
-    }
+    search (rules, next_left, append_assoc)
 
 pub write_ends : (d : Dialect) (pages : List Page) (written before : List ℕ) (promised i : ℕ) → length pages ≤ i → IsWrittenSoFar d pages written before promised i → written ≡ pages_digits d empty_page 0 pages
 unfolding pages_digits
-write_ends d pages written before promised i le s =
-    sym (append-nil written) ∙ (ap (λ (x : List Page). written ++ pages_digits d before promised x) (sym (drop_all i pages le)) ∙ s.completes)
+write_ends d pages written before promised i le s = search (rules, append-nil, drop_all)

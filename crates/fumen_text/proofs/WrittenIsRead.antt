@@ -1,7 +1,7 @@
 -- Pages without a fault can be written, and what is written reads as them.
-use Rattle.std.proofs.Common.{◌≡◌, ℕ, ◌+◌, ◌*◌, ◌/◌, ◌%◌, ◌++◌, ◌<◌, ◌≤◌, Bool, true, false, cond, not, eqb, leb, ltb, List, [], ◌∷◌, length, take, replicate, drop, Option, Some, None, Err, get_or, refl, sym, ap, subst, ◌∙◌, inl, inr, arith}
+use Rattle.std.proofs.Common.{◌≡◌, ℕ, ◌+◌, ◌*◌, ◌<◌, ◌≤◌, Bool, true, cond, not, eqb, leb, ltb, List, [], ◌∷◌, length, take, replicate, drop, Option, Some, None, Err, get_or, refl, sym, ap, subst, ◌∙◌, inl, inr, arith, rules}
 use Rattle.std.specs.Prelude.{All}
-use Rattle.std.specs.List.{AllByRecursion, flat_map, list_all}
+use Rattle.std.specs.List.{AllByRecursion, list_all}
 use Rattle.std.specs.Option.{ForSome, option_or, option_map_or}
 use Rattle.std.proofs.lemmas.Bool.{and_parts, eqb-true, cases_lt, lt-ltb, le-ltb, le-leb, leb-true}
 use Rattle.std.proofs.lemmas.List.{length-append, length-take, drop_more, drop_all, get_or_default}
@@ -10,9 +10,8 @@ use Rattle.pc_outside.specs.declared.answers.Refused.TheVariants as refused
 use Rattle.std.proofs.lemmas.List.Elements.{recursion_from_All}
 use Rattle.std.proofs.lemmas.List.Sums.{AllPass-from_list_all}
 use Rattle.fumen_digits.specs.declared.dialect.Dialect.{Dialect}
-use Rattle.fumen_digits.specs.declared.dialect.Dialect.TheVariants.{V110, V115}
 use Rattle.fumen_digits.proofs.CallerLemmas.{digits_in-broken}
-use Rattle.fumen_comment.specs.Escape.{escaped, escaped_unit, hex_byte, stays}
+use Rattle.fumen_comment.specs.Escape.{escaped, escaped_unit}
 use Rattle.fumen_pages.specs.declared.page.Page.{Page}
 use Rattle.fumen_pages.specs.Cells.{IsColour, missing_count}
 use Rattle.fumen_pages.specs.Action.{is_inside_in}
@@ -25,37 +24,25 @@ use Rattle.fumen_text.proofs.WrittenIsSpelled.{pages_are_digits, pages_spell}
 
 -- no fault: the test holds, and there is none behind it
 passes : (b : Bool) (f : EncodeFault) (rest : Option EncodeFault) → cond (not b) (Some f) rest ≡ None → (b ≡ true) × (rest ≡ None)
-passes true f rest e = (refl, e)
-passes false f rest e = absurd cc
+passes b f rest e = search rules
 
 none_both : (one other : Option EncodeFault) → option_or one other ≡ None → (one ≡ None) × (other ≡ None)
-none_both None other e = (refl, e)
-none_both (Some f) other e = absurd cc
+none_both one other e = search rules
 
 in_some : {X : Type 0} (test : X → Bool) (o : Option X) → option_map_or test o true ≡ true → ForSome o (λ x. test x ≡ true)
-in_some {X = X} test None e = λ x is. absurd cc
-in_some {X = X} test (Some y) e = λ x is. let same : y ≡ x = cc in ap test (sym same) ∙ e
+in_some X test o e = search rules
 
 length-escaped_unit : (unit : ℕ) → length (escaped_unit unit) ≤ 6
-length-escaped_unit unit =
-    elim (ltb unit 256) as (λ b. length (cond b (cond (stays unit) (unit ∷ []) (37 ∷ hex_byte unit)) (37 ∷ 117 ∷ hex_byte (unit / 256) ++ hex_byte (unit % 256))) ≤ 6) [
-      | true ↦ elim (stays unit) as (λ b. length (cond b (unit ∷ []) (37 ∷ hex_byte unit)) ≤ 6) [ true ↦ omega arith | false ↦ omega arith ]
-      | false ↦ omega arith
-    ]
+length-escaped_unit unit = search rules
 
 length-escaped : (units : List ℕ) → length (escaped units) ≤ 6 * length units
 unfolding escaped
 length-escaped [] = omega arith
-length-escaped (unit ∷ units) =
-    let one = length-escaped_unit unit in
-    let others = length-escaped units in
-    omega (arith, length-append (escaped_unit unit) (flat_map escaped_unit units))
+length-escaped (unit ∷ units) = search (rules, length-escaped_unit, length-append, length-escaped units)
 
 -- few units have a short text
 pub short_escaped : (units : List ℕ) → length units ≤ 682 → leb (length (escaped units)) 4095 ≡ true
-short_escaped units few =
-    let most = length-escaped units in
-    le-leb (length (escaped units)) 4095 (omega arith)
+short_escaped units few = search (rules, length-escaped, le-leb)
 
 all_empty : (cells : List ℕ) → list_all (λ cell. eqb cell 0) cells ≡ true → cells ≡ replicate (length cells) 0
 all_empty [] e = refl
@@ -67,8 +54,7 @@ all_colours : (cells : List ℕ) → list_all (λ cell. leb cell 8) cells ≡ tr
 all_colours cells e = λ i d lt. leb-true (get_or cells i d) 8 (AllPass-from_list_all (λ cell. leb cell 8) cells e i d lt)
 
 missing_size : (d : Dialect) (cells : List ℕ) → length cells ≡ 240 → length (take (missing_count d) cells) ≡ missing_count d
-missing_size V110 cells size = length-take 20 cells ∙ omega (arith, size)
-missing_size V115 cells size = length-take 0 cells ∙ omega (arith, size)
+missing_size d cells size = search (rules, length-take)
 
 -- a page without a fault is fit
 pub fit_page : (d : Dialect) (number : ℕ) (page : Page) → HasTypes page → page_encode_fault d number page ≡ None → IsWritable d page
@@ -101,11 +87,7 @@ no_faults d number (page ∷ pages) types e =
     (fit_page d number page types.0 both.0, no_faults d (number + 1) pages types.1 both.1)
 
 few_pages : (n most : ℕ) (rest : Option EncodeFault) → cond (ltb most n) (Some fault.TooManyPages) rest ≡ None → (n ≤ most) × (rest ≡ None)
-few_pages n most rest e =
-    elim (cases_lt most n) [
-      | inl more ↦ absurd (let never = sym (ap (λ (b : Bool). cond b (Some fault.TooManyPages) rest) (lt-ltb most n more)) ∙ e in cc)
-      | inr le ↦ (le, sym (ap (λ (b : Bool). cond b (Some fault.TooManyPages) rest) (le-ltb most n le)) ∙ e)
-    ]
+few_pages n most rest e = search (rules, cases_lt, lt-ltb, le-ltb)
 
 fit_reads : (d : Dialect) (pages : List Page) → AllByRecursion (IsWritable d) pages → length pages ≤ most_pages → ReadsAs (written d pages) d pages
 fit_reads d pages fit few =
@@ -117,14 +99,11 @@ fit_reads d pages fit few =
     }
 
 pub written_reads : (d : Dialect) (pages : List Page) → AllByRecursion HasTypes pages → list_encode_fault d pages ≡ None → ReadsAs (written d pages) d pages
-written_reads d pages types e =
-    let few = few_pages (length pages) most_pages (pages_encode_fault d 1 pages) e in
-    fit_reads d pages (no_faults d 1 pages types few.1) few.0
+written_reads d pages types e = search (rules, few_pages, fit_reads, no_faults)
 
 -- the text that was written for fit pages
 pub text_reads : (d : Dialect) (pages : List Page) (text : List ℕ) → All (IsWritable d) pages → list_encode_fault d pages ≡ None → text ≡ written d pages → ReadsAs text d pages
-text_reads d pages text fit e is =
-    subst (λ (x : List ℕ). ReadsAs x d pages) (sym is) (fit_reads d pages (recursion_from_All (IsWritable d) pages fit) (few_pages (length pages) most_pages (pages_encode_fault d 1 pages) e).0)
+text_reads d pages text fit e is = search (rules, fit_reads, recursion_from_All, few_pages)
 
 -- ---- the checks one after the other, as a loop does them
 
@@ -139,8 +118,7 @@ check_starts d pages = record { fit = λ k other lt. absurd (omega arith); left 
 pub one_left : (d : Dialect) (pages : List Page) (i : ℕ) (page : Page) → i < length pages → page ≡ get_or pages i page
     → pages_encode_fault d (i + 1) (drop i pages) ≡ option_or (page_encode_fault d (i + 1) page) (pages_encode_fault d (i + 1 + 1) (drop (i + 1) pages))
 unfolding pages_encode_fault
-one_left d pages i page lt is =
-    ap (λ (x : List Page). pages_encode_fault d (i + 1) x) (drop_more pages i page lt ∙ ap (λ (x : Page). x ∷ drop (i + 1) pages) (sym is))
+one_left d pages i page lt is = search (rules, drop_more)
 
 fit_more : (d : Dialect) (pages : List Page) (i : ℕ) (page : Page) → i < length pages → page ≡ get_or pages i page → IsWritable d page → ((k : ℕ) (other : Page) → k < i → IsWritable d (get_or pages k other))
     → (k : ℕ) (other : Page) → k < i + 1 → IsWritable d (get_or pages k other)
@@ -169,8 +147,4 @@ check_stops refused.NoMemory d pages i page lt few is found s = tt
 
 pub check_ends : (d : Dialect) (pages : List Page) (i : ℕ) → i ≡ length pages → length pages ≤ most_pages → IsCheckedSoFar d pages i → (list_encode_fault d pages ≡ None) × All (IsWritable d) pages
 unfolding pages_encode_fault
-check_ends d pages i end few s =
-    let none : pages_encode_fault d (i + 1) (drop i pages) ≡ None = ap (λ (x : List Page). pages_encode_fault d (i + 1) x) (drop_all i pages (omega arith)) in (
-      ap (λ (b : Bool). cond b (Some fault.TooManyPages) (pages_encode_fault d 1 pages)) (le-ltb most_pages (length pages) few) ∙ (sym s.left ∙ none),
-      λ k other lt. s.fit k other (omega arith),
-    )
+check_ends d pages i end few s = search (rules, drop_all, le-ltb)

@@ -1,5 +1,5 @@
 -- What is written is digits, and spells the pages.
-use Rattle.std.proofs.Common.{◌≡◌, ℕ, zero, suc, ◌≤◌, Bool, true, false, cond, List, [], ◌∷◌, ◌++◌, length, min, Option, Some, None, refl, sym, ap, subst, ◌∙◌, inl, inr, arith}
+use Rattle.std.proofs.Common.{◌≡◌, ℕ, zero, suc, ◌≤◌, Bool, true, false, cond, List, [], ◌∷◌, ◌++◌, length, min, Option, Some, None, refl, sym, subst, ◌∙◌, arith, rules}
 use Rattle.std.specs.Bool.{Decides}
 use Rattle.std.specs.List.{AllByRecursion}
 use Rattle.std.proofs.lemmas.Bool.{leb-true}
@@ -15,9 +15,8 @@ use Rattle.fumen_comment.proofs.CallerLemmas.{escaped_printable, unescaped-escap
 use Rattle.fumen_pages.specs.declared.page.Page.{Page}
 use Rattle.fumen_pages.specs.Cells.{AreCells}
 use Rattle.fumen_pages.specs.Next.{next}
-use Rattle.fumen_pages.specs.Record.{unchanged, CutsOther}
 use Rattle.fumen_pages.specs.Tail.{Tail, SpellsPart}
-use Rattle.fumen_pages.specs.Written.{action_number_of, written_record}
+use Rattle.fumen_pages.specs.Written.{action_number_of}
 use Rattle.fumen_pages.proofs.CallerLemmas.{next_cells_sound, written_other, written_digits as record_digits, number_says}
 use Rattle.fumen_text.specs.Spells.{SpellsFumen, SpellsCells}
 use Rattle.fumen_text.specs.Written.{IsWritable, is_short, cells_digits, keeps, pages_digits, part_digits, promised_behind, tail_digits, unchanged_pages}
@@ -26,16 +25,10 @@ use Rattle.fumen_text.specs.Written.{IsWritable, is_short, cells_digits, keeps, 
 
 cells_are_digits : (d : Dialect) (before : List ℕ) (promised : ℕ) (page : Page) (after : ℕ) → AreDigits (cells_digits d before promised page after)
 unfolding cells_digits
-cells_are_digits d before zero page after =
-    elim (keeps before page) as (λ b. AreDigits (cond b (unchanged d ++ digits 1 after) (written_record d before page.cells))) [
-      | true ↦ AreDigits-append (unchanged d) (digits 1 after) (AreDigits-digits 2 _) (AreDigits-digits 1 after)
-      | false ↦ record_digits d before page.cells
-    ]
-cells_are_digits d before (suc left) page after = tt
+cells_are_digits d before promised page after = search (rules, AreDigits-append, AreDigits-digits, record_digits)
 
 part_is_digits : (comment : Option (List ℕ)) → AreDigits (part_digits comment)
-part_is_digits None = tt
-part_is_digits (Some units) = written_digits (escaped units)
+part_is_digits comment = search (rules, written_digits)
 
 pub pages_are_digits : (d : Dialect) (before : List ℕ) (promised : ℕ) (pages : List Page) → AreDigits (pages_digits d before promised pages)
 unfolding pages_digits
@@ -54,8 +47,7 @@ part_spells (Some u) units short =
     subst (λ (x : List ℕ). SpellsComment x (comment_digits (escaped u))) (unescaped-escaped u (units u refl)) (written_comment (escaped u) (leb-true (length (escaped u)) 4095 short) (escaped_printable u (units u refl)))
 
 tail_spells : (d : Dialect) (page : Page) → IsWritable d page → Tail d page (tail_digits d page)
-tail_spells d page fit =
-    record { number = action_number_of d page; says = number_says d page fit.sound; part = part_digits page.comment; comment = part_spells page.comment fit.units fit.short; spelled = refl }
+tail_spells d page fit = search (rules, number_says, part_spells)
 
 -- ---- some pages
 
@@ -72,30 +64,11 @@ record FirstWritten (d : Dialect) (before : List ℕ) (promised : ℕ) (page : P
 
 unpromised_written : (d : Dialect) (before : List ℕ) (page : Page) (pages : List Page) (b : Bool) → keeps before page ≡ b → AreCells d before → AreCells d page.cells → FirstWritten d before 0 page pages
 unfolding promised_behind cells_digits
-unpromised_written d before page pages true e old new =
-    let after = promised_behind d before 0 page pages in
-    let ahead = unchanged_pages d (next d page) pages in
-    let after_is : after ≡ min 63 ahead = ap (λ (b : Bool). cond b (min 63 ahead) 0) e in
-    let digits_are : cells_digits d before 0 page after ≡ unchanged d ++ digits 1 after = ap (λ (b : Bool). cond b (unchanged d ++ digits 1 after) (written_record d before page.cells)) e in
-    record {
-      spells = inr (record { same = (keeps_decides before page).0 e; few = omega (arith, after_is); spelled = digits_are });
-      kept = omega (arith, after_is);
-    }
-unpromised_written d before page pages false e old new =
-    let after = promised_behind d before 0 page pages in
-    let ahead = unchanged_pages d (next d page) pages in
-    let after_is : after ≡ 0 = ap (λ (b : Bool). cond b (min 63 ahead) 0) e in
-    let digits_are : cells_digits d before 0 page after ≡ written_record d before page.cells = ap (λ (b : Bool). cond b (unchanged d ++ digits 1 after) (written_record d before page.cells)) e in
-    record {
-      spells = inl (record { none = after_is; cuts = subst (λ (x : List ℕ). CutsOther d before page.cells x) (sym digits_are) (written_other d before page.cells old new (not_kept before page e)) });
-      kept = omega (arith, after_is);
-    }
+unpromised_written d before page pages b e old new = search (rules, min, keeps_decides, written_other, not_kept)
 
 promised_written : (d : Dialect) (before : List ℕ) (left : ℕ) (page : Page) (pages : List Page) (b : Bool) → keeps before page ≡ b → suc left ≤ cond b (suc (unchanged_pages d (next d page) pages)) 0 → FirstWritten d before (suc left) page pages
 unfolding promised_behind cells_digits
-promised_written d before left page pages true e kept =
-    record { spells = record { same = (keeps_decides before page).0 e; fewer = refl; none = refl }; kept = omega (arith, kept) }
-promised_written d before left page pages false e kept = absurd (omega (arith, kept))
+promised_written d before left page pages b e kept = search (rules, keeps_decides)
 
 first_written : (d : Dialect) (before : List ℕ) (promised : ℕ) (page : Page) (pages : List Page) → AreCells d before → AreCells d page.cells → promised ≤ unchanged_pages d before (page ∷ pages) → FirstWritten d before promised page pages
 unfolding unchanged_pages

@@ -12,6 +12,7 @@ use pc_outside::Refused;
 
 /// Goes behind what spells the cells of the next page. If that page is promised to be unchanged, they are the cells
 /// before it; otherwise they are those of its record.
+#[tactic(auto, using(crate::proofs::ReadLoop::cells_promised, std::proofs::lemmas::Result::err_from_is_err_and, crate::proofs::ReadLoop::cells_refused, fumen_digits::proofs::CallerLemmas::gives_same, crate::proofs::ReadLoop::cells_recorded))]
 pub(crate) fn cells_at(
     digits: &[u8],
     dialect: Dialect,

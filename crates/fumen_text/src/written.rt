@@ -25,6 +25,7 @@ use std::alloc::Global;
 /// More than 10,000 pages are refused first. Then, page by page, these are refused: a cell above 8, a cell in a row
 /// that the dialect doesn't have, an operation with a cell outside, and an escaped comment of more than 4,095
 /// characters.
+#[tactic(auto, using(crate::proofs::WrittenIsRead::text_reads))]
 pub fn encode(
     alloc: Global,
     dialect: Dialect,
@@ -72,7 +73,7 @@ fn write_pages(alloc: Global, dialect: Dialect, pages: &[Page]) -> Result<Vec<u8
 }
 
 /// Appends what comes before the tail of a page. Returns how many pages are promised behind it.
-#[tactic(auto, unfolding(crate::specs::Written::promised_behind, crate::specs::Written::cells_digits))]
+#[tactic(auto, using(crate::proofs::WriteLoop::pushed_unchanged), unfolding(crate::specs::Written::promised_behind, crate::specs::Written::cells_digits))]
 fn push_cells(
     digits: &mut Vec<u8>,
     dialect: Dialect,
@@ -108,6 +109,7 @@ fn keeps(before: &[u8; 240], page: &Page) -> bool
 }
 
 /// How many pages directly behind a page are unchanged, at most 63.
+#[tactic(auto, using(crate::proofs::WriteLoop::unchanged_stops, crate::proofs::WriteLoop::unchanged_more, crate::proofs::WriteLoop::unchanged_ends))]
 fn unchanged_pages(dialect: Dialect, page: &Page, rest: &[Page]) -> u32
     requires page { IsWritable dialect page.now }
     requires rest { All (IsWritable dialect) rest.now }

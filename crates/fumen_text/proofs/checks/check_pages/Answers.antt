@@ -1,5 +1,5 @@
 -- One more page is fit, or has the first fault; and then all are fit.
-use Rattle.std.proofs.Common.{arith}
+use Rattle.std.proofs.Common.{arith, rules}
 use Rattle.std.proofs.lemmas.Result.{err_from_is_err_and}
 use Rattle.fumen_digits.proofs.CallerLemmas.{err_passed}
 use Rattle.fumen_text.proofs.FoundFirst.{none_first}
@@ -7,9 +7,7 @@ use Rattle.fumen_text.proofs.WrittenIsRead.{check_starts, check_more, check_stop
 use Rattle.fumen_text.proofs.checks.check_pages.Goals as goal
 
 pub returns-in_err-check_page-clause-fault : goal.returns-in_err-check_page-clause-fault
-returns-in_err-check_page-clause-fault c =
-    let p = err_from_is_err_and c.from_residual.result c.from_residual.ensures.1 in
-    rw (p.1, p.2) (check_stops c.in_err-check_page.field-0.0 c.args.dialect c.args.pages.now c.loop-i.i c.index-pages-i.result (omega arith) (omega (arith, c.if-pages-gt-MOST_PAGES.false)) c.index-pages-i.is c.in_err-check_page.ensures.fault c.loop-i.invariant)
+returns-in_err-check_page-clause-fault c = search (rules, err_from_is_err_and, check_stops)
 
 pub loop-i-init : goal.loop-i-init
 loop-i-init c = check_starts c.args.dialect c.args.pages.now
@@ -25,6 +23,4 @@ pub returns-clause-fit : goal.returns-clause-fit
 returns-clause-fit c = (check_ends c.args.dialect c.args.pages.now c.loop-i.i (omega arith) (omega (arith, c.if-pages-gt-MOST_PAGES.false)) c.loop-i.invariant).1
 
 pub returns-in_err-check_page-clause-memory : goal.returns-in_err-check_page-clause-memory
-returns-in_err-check_page-clause-memory c = λ none f found first.
-    let p = err_from_is_err_and c.from_residual.result c.from_residual.ensures.1 in
-    none_first c.args.dialect c.args.pages.now c.loop-i.i c.index-pages-i.result f (omega arith) (omega (arith, c.if-pages-gt-MOST_PAGES.false)) c.index-pages-i.is (c.in_err-check_page.ensures.memory (err_passed p.1 p.2 none)) c.loop-i.invariant found first
+returns-in_err-check_page-clause-memory c = search (rules, err_from_is_err_and, none_first, err_passed)

@@ -1,5 +1,5 @@
 -- One more page is read, or is one too many, or has a fault; and then all are read.
-use Rattle.std.proofs.Common.{◌<◌, List, sym, subst, ◌∙◌, arith}
+use Rattle.std.proofs.Common.{◌<◌, List, sym, subst, ◌∙◌, arith, rules}
 use Rattle.std.proofs.lemmas.Result.{err_from_is_err_and}
 use Rattle.fumen_pages.specs.declared.page.Page.{Page}
 use Rattle.fumen_text.specs.Texts.{empty_page}
@@ -12,8 +12,7 @@ loop-alloc-init c =
     subst (λ (xs : List Page). IsReadSoFar c.args.dialect c.args.digits.now 10000 xs (reader 0 empty_page 0)) (sym c.new-pages.ensures.items) (read_starts c.args.dialect c.args.digits.now 10000)
 
 pub returns-then-count-eq-MOST_PAGES : goal.returns-then-count-eq-MOST_PAGES
-returns-then-count-eq-MOST_PAGES c =
-    read_full c.args.dialect c.args.digits.now 10000 c.len-count.result c.loop-alloc.pages.items c.loop-alloc.at (sym c.is_due.ensures ∙ c.loop-alloc-test.true) (c.len-count.ensures ∙ c.loop-alloc.pages.ok.0) c.if-count-eq-MOST_PAGES.true c.loop-alloc.invariant
+returns-then-count-eq-MOST_PAGES c = search (rules, read_full)
 
 pub returns-in_err-page : goal.returns-in_err-page
 returns-in_err-page c =
@@ -27,5 +26,4 @@ loop-alloc-preserved c =
     subst (λ (xs : List Page). IsReadSoFar c.args.dialect c.args.digits.now 10000 xs c.in_ok-page.behind) (sym c.in_ok-push.ensures.items) (read_more c.args.dialect c.args.digits.now 10000 c.len-count.result c.loop-alloc.pages.items c.loop-alloc.at (c.in_ok-page.page, c.in_ok-page.behind) (sym c.is_due.ensures ∙ c.loop-alloc-test.true) (c.len-count.ensures ∙ c.loop-alloc.pages.ok.0) few c.in_ok-page.ensures.exact c.in_ok-page.ensures.within c.in_ok-page.ensures.sound c.loop-alloc.invariant)
 
 pub returns : goal.returns
-returns c =
-    read_ends c.args.dialect c.args.digits.now 10000 c.loop-alloc.pages.items c.loop-alloc.at (sym c.is_due.ensures ∙ c.loop-alloc-test.false) c.loop-alloc.invariant
+returns c = search (rules, read_ends)
