@@ -1,5 +1,5 @@
 -- A comment that is read stands there, and what stands there is read; a fault is the first one there.
-use Rattle.std.proofs.Common.{◌≡◌, ℕ, ◌+◌, ◌≤◌, List, ◌++◌, length, take, Result, Ok, Err, refl, sym, ap, subst, ◌∙◌, inl, inr, arith}
+use Rattle.std.proofs.Common.{◌≡◌, ℕ, ◌+◌, ◌≤◌, List, ◌++◌, length, take, Result, Ok, Err, refl, sym, ap, subst, ◌∙◌, inl, inr, arith, rules}
 use Rattle.std.specs.List.{flat_map}
 use Rattle.std.proofs.lemmas.List.{length-take}
 use Rattle.fumen_digits.specs.Number.{digits, Stands, NumberStands}
@@ -17,10 +17,7 @@ then_text ds place total = text_at ds (place + 2) total (group_count total) >>= 
 
 -- so many groups hold so many characters
 length_of_text : (total : ℕ) (text groups : List ℕ) → length groups ≡ group_count total → text ≡ characters_of total groups → length text ≡ total
-length_of_text total text groups least is =
-    let all = ap length (is ∙ characters_of-is total groups) ∙ length-take total (flat_map (unpacked 4) groups) in
-    let room = length-unpacked_all groups in
-    omega (arith, all, room)
+length_of_text total text groups least is = search (rules, characters_of-is, length-take, length-unpacked_all)
 
 spells : (ds : List ℕ) (place total end : ℕ) (text : List ℕ) → NumberStands ds place 2 total → TextStands ds (place + 2) total (group_count total) text end → CommentStands ds place (unescaped text) end
 spells ds place total end text number t =
@@ -86,8 +83,7 @@ read_from_comment ds place units end c =
 -- ---- faults
 
 due_in_comment : (ds : List ℕ) (place total k rest : ℕ) → NumberStands ds place 2 total → GroupsDue ds (place + 2) total (group_count total) k rest → IsGroupDue ds place k rest
-due_in_comment ds place total k rest number due =
-    record { total = total; total_stands = number; groups = due.groups; each = due.each; groups_stand = due.stand; fewer = due.fewer; rest = due.rest_is }
+due_in_comment ds place total k rest number due = search (rules, groups_stand)
 
 pub comment_fault_from_read : (ds : List ℕ) (place : ℕ) (f : FumenFault) → place ≤ length ds → comment_at ds place ≡ Err f → IsCommentFault ds place f
 unfolding comment_at
@@ -106,8 +102,7 @@ comment_fault_from_read ds place f le e =
 
 pub read_from_comment_fault : (ds : List ℕ) (place : ℕ) (f : FumenFault) → IsCommentFault ds place f → comment_at ds place ≡ Err f
 unfolding comment_at
-read_from_comment_fault ds place f (inl bad) =
-    err_bind (number_at ds place 2) (λ total. then_text ds place total) f (read_from_number_fault ds place 2 f bad)
+read_from_comment_fault ds place f (inl bad) = search (rules, err_bind, read_from_number_fault)
 read_from_comment_fault ds place f (inr t) =
     let due = t.2 in
     let text : TextFault ds (place + 2) due.total (group_count due.total) f = (t.0, t.1, record { groups = due.groups; each = due.each; stand = due.groups_stand; fewer = due.fewer; rest_is = due.rest }, t.3) in

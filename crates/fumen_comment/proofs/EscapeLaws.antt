@@ -1,12 +1,12 @@
 -- Escaped text is printable and has no blank, and unescaping gives the units back.
-use Rattle.std.proofs.Common.{◌≡◌, ℕ, ◌+◌, ◌*◌, ◌/◌, ◌%◌, ◌^◌, ◌<◌, ◌≤◌, Bool, true, false, cond, eqb, leb, ◌&&◌, ◌||◌, not, List, [], ◌∷◌, ◌++◌, drop, All, Some, refl, sym, ap, ◌∙◌, inl, inr, arith}
+use Rattle.std.proofs.Common.{◌≡◌, ℕ, ◌+◌, ◌/◌, ◌%◌, ◌^◌, ◌<◌, ◌≤◌, Bool, true, false, cond, eqb, leb, ◌&&◌, ◌||◌, not, List, [], ◌∷◌, ◌++◌, drop, All, refl, sym, ap, ◌∙◌, inl, inr, arith, rules}
 use Rattle.std.specs.List.{flat_map}
 use Rattle.std.proofs.lemmas.Bool.{agree_below_at, cases_lt, lt-ltb, le-ltb, leb-true, and_parts, not-true}
 use Rattle.std.proofs.lemmas.List.Elements.{All-nil, All-cons, All-append, All-head, All-tail}
 use Rattle.fumen_comment.specs.Escape.{IsPrintable, stays, hex_digit, hex_byte, escaped_unit, escaped}
 use Rattle.fumen_comment.specs.Unescape.{hex_byte_at, hex_unit_at, unit_of, unescaped, unescaped_behind}
 use Rattle.fumen_comment.proofs.Tables.{hex_value_of_digit}
-use Rattle.fumen_comment.proofs.UnescapeLoop.{unescaped-cons}
+use Rattle.fumen_comment.proofs.UnescapeLoop.{unescaped-passed}
 
 -- a character from `!` to `~`
 abbrev pub IsMark : ℕ → Type 0
@@ -31,9 +31,7 @@ stays_plain : (b : ℕ) → b < 256 → stays b ≡ true → is_plain b ≡ true
 stays_plain b lt e = ap (λ (t : Bool). not t || is_plain b) (sym e) ∙ stays_or_not b lt
 
 hex_byte_marks : (byte : ℕ) → byte < 256 → All IsMark (hex_byte byte)
-hex_byte_marks byte lt =
-    All-cons IsMark (hex_digit (byte / 16)) (hex_digit (byte % 16) ∷ []) (hex_digit_mark (byte / 16) (omega arith))
-    (All-cons IsMark (hex_digit (byte % 16)) [] (hex_digit_mark (byte % 16) (omega arith)) (All-nil IsMark))
+hex_byte_marks byte lt = search (rules, All-cons, hex_digit_mark, All-nil)
 
 percent : IsMark 37
 percent = (omega arith, omega arith)
@@ -68,15 +66,8 @@ escaped_printable units fits = λ k d within. let mark = escaped_marks units fit
 
 -- the unit at the front of a text, and what is left behind it
 unit_front : (c : ℕ) (rest : List ℕ) (unit passed : ℕ) → unit_of c rest ≡ (unit, passed) → unescaped (c ∷ rest) ≡ unit ∷ unescaped (drop passed rest)
-unit_front c rest unit passed e = unescaped-cons c rest ∙ ap (λ (p : ℕ × ℕ). p.0 ∷ unescaped (drop p.1 rest)) e
-
-hex_byte_again : (byte : ℕ) (rest : List ℕ) → byte < 256 → hex_byte_at (hex_digit (byte / 16) ∷ hex_digit (byte % 16) ∷ rest) ≡ Some byte
-unfolding hex_byte_at
-hex_byte_again byte rest lt =
-    let high = hex_value_of_digit (byte / 16) (omega arith) in
-    let low = hex_value_of_digit (byte % 16) (omega arith) in
-    let is : 16 * (byte / 16) + byte % 16 ≡ byte = omega arith in
-    rw (high, low) (ap (λ (n : ℕ). Some n) is)
+unfolding unescaped_behind
+unit_front c rest unit passed e = search (rules, unescaped-passed)
 
 hex_digit_no_u : (v : ℕ) → v < 16 → eqb (hex_digit v) 117 ≡ false
 unfolding hex_digit
@@ -89,16 +80,12 @@ stays_again u rest lt e =
     rw no_percent refl
 
 short_again : (u : ℕ) (rest : List ℕ) → u < 256 → unit_of 37 (hex_byte u ++ rest) ≡ (u, 2)
-unfolding unit_of hex_unit_at
-short_again u rest lt = rw (hex_digit_no_u (u / 16) (omega arith), hex_byte_again u rest lt) refl
+unfolding unit_of hex_unit_at hex_byte_at
+short_again u rest lt = search (rules, hex_digit_no_u, hex_value_of_digit)
 
 long_again : (u : ℕ) (rest : List ℕ) → u < 2 ^ 16 → unit_of 37 (117 ∷ (hex_byte (u / 256) ++ (hex_byte (u % 256) ++ rest))) ≡ (u, 5)
-unfolding unit_of hex_unit_at
-long_again u rest fits =
-    let high = hex_byte_again (u / 256) (hex_byte (u % 256) ++ rest) (omega arith) in
-    let low = hex_byte_again (u % 256) rest (omega arith) in
-    let is : 256 * (u / 256) + u % 256 ≡ u = omega arith in
-    rw (high, low) (ap (λ (n : ℕ). (n, 5)) is)
+unfolding unit_of hex_unit_at hex_byte_at
+long_again u rest fits = search (rules, hex_value_of_digit)
 
 low_unit_again : (u : ℕ) (b : Bool) (rest : List ℕ) → u < 256 → stays u ≡ b → unescaped (cond b (u ∷ []) (37 ∷ hex_byte u) ++ rest) ≡ u ∷ unescaped rest
 low_unit_again u true rest lt e = unit_front u rest u 0 (stays_again u rest lt e)

@@ -1,7 +1,7 @@
 -- Groups one after the other: their characters, and what stands where they are read.
-use Rattle.std.proofs.Common.{◌≡◌, ℕ, zero, suc, ◌+◌, ◌-◌, ◌*◌, ◌^◌, ◌<◌, ◌≤◌, Bool, true, false, cond, ltb, List, [], ◌∷◌, ◌++◌, length, take, Result, Ok, Err, refl, sym, ap, subst, ◌∙◌, ◌⊎◌, inl, inr, arith}
+use Rattle.std.proofs.Common.{◌≡◌, ℕ, zero, suc, ◌+◌, ◌-◌, ◌*◌, ◌^◌, ◌<◌, ◌≤◌, Bool, true, false, cond, List, [], ◌∷◌, ◌++◌, length, take, Result, Ok, Err, refl, sym, ap, subst, ◌∙◌, ◌⊎◌, inl, inr, arith, rules}
 use Rattle.std.specs.Prelude.{IsTrue}
-use Rattle.std.specs.List.{flat_map, list_all}
+use Rattle.std.specs.List.{flat_map}
 use Rattle.std.proofs.Math.Seq.{take-append-add}
 use Rattle.std.proofs.lemmas.Bool.{cases_lt, ltb-true, and_parts}
 use Rattle.std.proofs.lemmas.List.{append-nil, take_all, take-append-le, length-append}
@@ -35,36 +35,28 @@ take-append n xs ys =
     ]
 
 take-nil : (n : ℕ) → ◌≡◌ {A = List ℕ} (take n []) []
-take-nil zero = refl
-take-nil (suc n) = refl
+take-nil n = search rules
 
 pub characters_of-is : (left : ℕ) (groups : List ℕ) → characters_of left groups ≡ take left (flat_map (unpacked 4) groups)
 characters_of-is left [] = sym (take-nil left)
 characters_of-is left (group ∷ groups) =
-    let len : left - length (unpacked 4 group) ≡ left - 4 = ap (λ (k : ℕ). left - k) (length-unpacked 4 group) in
-    ap (λ (x : List ℕ). take left (unpacked 4 group) ++ x) (characters_of-is (left - 4) groups)
-    ∙ (ap (λ (k : ℕ). take left (unpacked 4 group) ++ take k (flat_map (unpacked 4) groups)) (sym len) ∙ sym (take-append left (unpacked 4 group) (flat_map (unpacked 4) groups)))
+    search (rules, length-unpacked, take-append, characters_of-is (left - 4) groups)
 
 pub length-unpacked_all : (groups : List ℕ) → length (flat_map (unpacked 4) groups) ≡ 4 * length groups
 length-unpacked_all [] = refl
-length-unpacked_all (group ∷ groups) =
-    omega (arith, length-append (unpacked 4 group) (flat_map (unpacked 4) groups), length-unpacked 4 group, length-unpacked_all groups)
+length-unpacked_all (group ∷ groups) = search (rules, length-append, length-unpacked, length-unpacked_all groups)
 
 -- ---- one group
 
 chosen_ok : (b : Bool) (g : ℕ) (f : FumenFault) (h : ℕ) → ◌≡◌ {A = Result ℕ FumenFault} (cond b (Ok g) (Err f)) (Ok h) → (b ≡ true) × (g ≡ h)
-chosen_ok true g f h e = (refl, cc)
-chosen_ok false g f h e = absurd cc
+chosen_ok b g f h e = search rules
 
 chosen_err : (b : Bool) (g : ℕ) (f d : FumenFault) → ◌≡◌ {A = Result ℕ FumenFault} (cond b (Ok g) (Err f)) (Err d) → (b ≡ false) × (d ≡ f)
-chosen_err true g f d e = absurd cc
-chosen_err false g f d e = (refl, let same : d ≡ f = cc in same)
+chosen_err b g f d e = search rules
 
 group_below : (left group : ℕ) → is_group left group ≡ true → group < 64 ^ 5
 unfolding is_group
-group_below left group good =
-    let below = ltb-true group (96 ^ 4) (and_parts (ltb group (96 ^ 4)) (list_all (λ c. ltb c 127) (take left (unpacked 4 group))) good).0 in
-    omega arith
+group_below left group good = search (rules, ltb-true, and_parts)
 
 pair_is : (a b c d : ℕ) → a ≡ b → c ≡ d → ◌≡◌ {A = ℕ × ℕ} (a, c) (b, d)
 pair_is a b c d e f = cc
@@ -84,12 +76,6 @@ group_from_read ds place left group le e =
       good = subst (λ (k : ℕ). is_group left k ≡ true) c.1 c.0;
     }
 
-pub read_from_group : (ds : List ℕ) (place left group : ℕ) → GroupStands ds place left group → group_at ds place left ≡ Ok group
-unfolding group_at
-read_from_group ds place left group s =
-    ok_bind (number_at ds place 5) (λ g. cond (is_group left g) (Ok g) (Err (BadComment place))) group (read_from_stands ds place place 5 group s.number)
-    ∙ ap (λ (b : Bool). cond b (Ok group) (Err (BadComment place))) s.good
-
 -- the fault of a group that is due at a place
 abbrev pub GroupFault : List ℕ → ℕ → ℕ → FumenFault → Type 0
 GroupFault ds place left f = IsNumberFault ds place 5 f ⊎ (IsBadGroup ds place left × (f ≡ BadComment place))
@@ -106,12 +92,7 @@ group_fault_from_read ds place left f le e =
 
 pub read_from_group_fault : (ds : List ℕ) (place left : ℕ) (f : FumenFault) → GroupFault ds place left f → group_at ds place left ≡ Err f
 unfolding group_at
-read_from_group_fault ds place left f (inl bad) =
-    err_bind (number_at ds place 5) (λ g. cond (is_group left g) (Ok g) (Err (BadComment place))) f (read_from_number_fault ds place 5 f bad)
-read_from_group_fault ds place left f (inr bad) =
-    let b = bad.0 in
-    ok_bind (number_at ds place 5) (λ g. cond (is_group left g) (Ok g) (Err (BadComment place))) b.group (read_from_stands ds place place 5 b.group b.stands)
-    ∙ (ap (λ (t : Bool). cond t (Ok b.group) (Err (BadComment place))) b.bad ∙ ap (λ (d : FumenFault). Err d) (sym bad.1))
+read_from_group_fault ds place left f bad = search (rules, err_bind, read_from_number_fault, ok_bind, read_from_stands)
 
 -- ---- some groups
 
@@ -131,9 +112,7 @@ done_text x y e = cc
 
 pub text_from_read : (ds : List ℕ) (place left count : ℕ) (text : List ℕ) (end : ℕ) → place ≤ length ds → text_at ds place left count ≡ Ok (text, end) → TextStands ds place left count text end
 unfolding text_at
-text_from_read ds place left zero text end le e =
-    let same = done_text ([], place) (text, end) e in
-    subst (λ (x : List ℕ × ℕ). TextStands ds place left zero x.0 x.1) same (record { groups = []; count_is = refl; each = tt; characters = refl; stands = Stands-nil ds place le })
+text_from_read ds place left zero text end le e = search (rules, done_text, Stands-nil)
 text_from_read ds place left (suc count) text end le e =
     let g = bind_ok (group_at ds place left) (λ group. behind ds place left count group) (text, end) e in
     let r = bind_ok (text_at ds (place + 5) (left - 4) count) (λ rest. Ok (take left (unpacked 4 g.0) ++ rest.0, rest.1)) (text, end) g.2 in
@@ -163,24 +142,20 @@ first_group ds place left group groups end good s =
     }
 
 read_more : (ds : List ℕ) (place left count group : ℕ) → GroupStands ds place left group → text_at ds place left (suc count) ≡ behind ds place left count group
-unfolding text_at
-read_more ds place left count group one =
-    ok_bind (group_at ds place left) (λ g. behind ds place left count g) group (read_from_group ds place left group one)
+unfolding text_at group_at
+read_more ds place left count group one = search (rules, ok_bind, read_from_stands)
 
 read_from_groups : (ds : List ℕ) (place left : ℕ) (groups : List ℕ) (end : ℕ) → AreGroups left groups → Stands ds place (flat_map (digits 5) groups) end
     → text_at ds place left (length groups) ≡ Ok (characters_of left groups, end)
 unfolding text_at
-read_from_groups ds place left [] end each s =
-    let here : place ≡ end = omega (arith, s.upto) in ap (λ (k : ℕ). Ok ([], k)) here
+read_from_groups ds place left [] end each s = search rules
 read_from_groups ds place left (group ∷ groups) end each s =
     let first = first_group ds place left group groups end each.0 s in
     read_more ds place left (length groups) group first.one
     ∙ ok_bind (text_at ds (place + 5) (left - 4) (length groups)) (λ rest. Ok (take left (unpacked 4 group) ++ rest.0, rest.1)) (characters_of (left - 4) groups, end) (read_from_groups ds (place + 5) (left - 4) groups end each.1 first.others)
 
 pub read_from_text : (ds : List ℕ) (place left count : ℕ) (text : List ℕ) (end : ℕ) → TextStands ds place left count text end → text_at ds place left count ≡ Ok (text, end)
-read_from_text ds place left count text end s =
-    ap (λ (k : ℕ). text_at ds place left k) (sym s.count_is)
-    ∙ (read_from_groups ds place left s.groups end s.each s.stands ∙ ap (λ (x : List ℕ). Ok (x, end)) (sym s.characters))
+read_from_text ds place left count text end s = search (rules, read_from_groups)
 
 -- ---- the fault among some groups
 
@@ -227,6 +202,4 @@ read_due ds place left (suc count) k rest f (group ∷ groups) each s fewer rest
     ∙ err_bind (text_at ds (place + 5) (left - 4) count) (λ r. Ok (take left (unpacked 4 group) ++ r.0, r.1)) f (read_due ds (place + 5) (left - 4) count k rest f groups each.1 first.others (omega arith) (omega arith) fault)
 
 pub read_from_text_fault : (ds : List ℕ) (place left count : ℕ) (f : FumenFault) → TextFault ds place left count f → text_at ds place left count ≡ Err f
-read_from_text_fault ds place left count f t =
-    let due = t.2 in
-    read_due ds place left count t.0 t.1 f due.groups due.each due.stand due.fewer due.rest_is t.3
+read_from_text_fault ds place left count f t = search (rules, read_due)

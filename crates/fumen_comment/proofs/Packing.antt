@@ -1,7 +1,8 @@
 -- Characters packed into a group, one at a time, and unpacked again.
-use Rattle.std.proofs.Common.{◌≡◌, ℕ, zero, suc, ◌+◌, ◌-◌, ◌*◌, ◌/◌, ◌^◌, ◌<◌, ◌≤◌, min, List, ◌∷◌, length, get_or, take, drop, refl, sym, ap, ◌∙◌, arith}
+use Rattle.std.proofs.Common.{◌≡◌, ℕ, zero, suc, ◌+◌, ◌-◌, ◌*◌, ◌/◌, ◌^◌, ◌<◌, ◌≤◌, min, List, length, get_or, take, drop, refl, ap, arith, rules}
 use Rattle.std.proofs.Math.Nat.{pow-succ', pow-le-pow_right, mul-le-mul_left, mul-suc}
 use Rattle.std.proofs.lemmas.List.{drop_more, drop_all, take_min}
+use Rattle.std.proofs.lemmas.Grind.{common_steps}
 use Rattle.fumen_comment.specs.Part.{packed, unpacked}
 
 -- so many characters are packed, and what is left completes the number
@@ -22,28 +23,14 @@ packed_fits text i number weight c early small s =
     let apart : weight * suc (c - 32) ≡ weight * (c - 32) + weight = mul-suc weight (c - 32) in
     (omega (arith, s.weight_is), omega (arith, s.below))
 
-packed_regroup : (number weight value rest : ℕ) → number + weight * value + weight * 96 * rest ≡ number + weight * (value + 96 * rest)
-packed_regroup number weight value rest = grind arith
-
 pub packed_more : (text : List ℕ) (i number weight c : ℕ) → i < length text → i < 4 → c < 127 → c ≡ get_or text i 0 → IsPackedSoFar text i number weight
     → IsPackedSoFar text (i + 1) (number + weight * (c - 32)) (weight * 96)
 unfolding packed
-packed_more text i number weight c lt early small is s =
-    let one = i + 1 in
-    let suc-is : one ≡ suc i = omega arith in
-    let power : 96 ^ one ≡ 96 * 96 ^ i = ap (λ (k : ℕ). 96 ^ k) suc-is ∙ pow-succ' 96 i in
-    let head : drop i text ≡ c ∷ drop one text = drop_more text i 0 lt ∙ ap (λ (x : ℕ). x ∷ drop one text) (sym is) in
-    record {
-      weight_is = omega (arith, power, s.weight_is);
-      below = (packed_fits text i number weight c early small s).1;
-      completes = packed_regroup number weight (c - 32) (packed (drop one text)) ∙ (ap (λ (x : List ℕ). number + weight * packed x) (sym head) ∙ s.completes);
-    }
+packed_more text i number weight c lt early small is s = search (rules, pow-succ', drop_more, packed_fits)
 
 pub packed_all : (text : List ℕ) (i number weight : ℕ) → length text ≤ i → IsPackedSoFar text i number weight → number ≡ packed text
 unfolding packed
-packed_all text i number weight le s =
-    let none : number + weight * packed (drop i text) ≡ number + weight * 0 = ap (λ (x : List ℕ). number + weight * packed x) (drop_all i text le) in
-    omega (arith, none, s.completes)
+packed_all text i number weight le s = search (rules, drop_all)
 
 pub packed_below : (text : List ℕ) (i number weight : ℕ) → i ≤ 4 → IsPackedSoFar text i number weight → number < 96 ^ 4
 packed_below text i number weight most s =
@@ -58,7 +45,4 @@ length-unpacked (suc count) group = ap suc (length-unpacked count (group / 96))
 
 -- the characters of a group that are still to come
 pub taken : (left group n : ℕ) (characters : List ℕ) → n ≡ min left 4 → characters ≡ unpacked 4 group → take n characters ≡ take left (unpacked 4 group)
-taken left group n characters n_is is =
-    let len = length-unpacked 4 group in
-    let m : n ≡ min left (length (unpacked 4 group)) = n_is ∙ ap (λ (k : ℕ). min left k) (sym len) in
-    ap (λ (x : List ℕ). take n x) is ∙ (ap (λ (k : ℕ). take k (unpacked 4 group)) m ∙ take_min left (unpacked 4 group))
+taken left group n characters n_is is = grind (arith, common_steps, length-unpacked, min, take_min)

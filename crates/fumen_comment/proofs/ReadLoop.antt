@@ -1,5 +1,5 @@
 -- Reading the groups of a text one after the other, as a loop does.
-use Rattle.std.proofs.Common.{◌≡◌, ℕ, suc, ◌+◌, ◌-◌, ◌<◌, ◌≤◌, ◌⊎◌, inl, inr, List, [], ◌++◌, length, take, Result, Ok, Err, refl, sym, ap, ◌∙◌, append_assoc, arith}
+use Rattle.std.proofs.Common.{◌≡◌, ℕ, suc, ◌+◌, ◌-◌, ◌<◌, ◌≤◌, ◌⊎◌, inl, inr, List, [], ◌++◌, length, take, Result, Ok, refl, sym, ap, ◌∙◌, append_assoc, arith, rules}
 use Rattle.std.proofs.lemmas.List.{append-nil}
 use Rattle.pc_outside.specs.declared.answers.Refused.{Refused}
 use Rattle.pc_outside.specs.declared.answers.Refused.TheVariants as refused
@@ -27,8 +27,7 @@ pub record IsReadSoFar (ds : List ℕ) (start count : ℕ) (text : List ℕ) (pl
 
 pub from_nothing : (read : Result (List ℕ × ℕ) FumenFault) → with_front [] read ≡ read
 unfolding with_front
-from_nothing (Ok x) = refl
-from_nothing (Err f) = refl
+from_nothing read = search rules
 
 pub text_starts : (ds : List ℕ) (start count : ℕ) → start ≤ length ds → IsReadSoFar ds start count [] start count
 text_starts ds start count le = record { within = le; completes = from_nothing (rest_at ds start count); begun = inl (refl, refl) }
@@ -42,8 +41,7 @@ first_read ds start count text place left group some read s = elim s.begun [
 
 pub regroup : (front more : List ℕ) (read : Result (List ℕ × ℕ) FumenFault) → with_front front (read >>= λ x. Ok (more ++ x.0, x.1)) ≡ with_front (front ++ more) read
 unfolding with_front
-regroup front more (Ok x) = ap (λ (text : List ℕ). Ok (text, x.1)) (sym (append_assoc front more x.0))
-regroup front more (Err f) = refl
+regroup front more read = search (rules, append_assoc)
 
 one_group : (left : ℕ) → 0 < left → group_count left ≡ suc (group_count (left - 4))
 one_group left some = omega arith
@@ -53,8 +51,7 @@ behind_group ds place left count group = text_at ds (place + 5) (left - 4) count
 
 read_group : (ds : List ℕ) (place left group : ℕ) → 0 < left → group_at ds place left ≡ Ok group → rest_at ds place left ≡ behind_group ds place left (group_count (left - 4)) group
 unfolding text_at
-read_group ds place left group some read =
-    rw (one_group left some) (ok_bind (group_at ds place left) (λ g. behind_group ds place left (group_count (left - 4)) g) group read)
+read_group ds place left group some read = search (rules, one_group, ok_bind)
 
 pub text_more : (ds : List ℕ) (start count : ℕ) (text : List ℕ) (place left group : ℕ) (more : List ℕ) → 0 < left → place + 5 ≤ length ds → group_at ds place left ≡ Ok group → more ≡ take left (unpacked 4 group)
     → IsReadSoFar ds start count text place left → IsReadSoFar ds start count (text ++ more) (place + 5) (left - 4)
@@ -69,13 +66,9 @@ text_more ds start count text place left group more some room read more_is s =
 pub text_stops : (e : Refused CommentFault) (ds : List ℕ) (start count : ℕ) (text : List ℕ) (place left : ℕ) → 0 < left → IsRefusal comment_fault e (group_at ds place left)
     → IsReadSoFar ds start count text place left → IsRefusal comment_fault e (rest_at ds start count)
 unfolding text_at with_front
-text_stops (refused.Fault d) ds start count text place left some read s =
-    let failed : rest_at ds place left ≡ Err (comment_fault d) = rw (one_group left some) (err_bind (group_at ds place left) (λ g. behind_group ds place left (group_count (left - 4)) g) (comment_fault d) read) in
-    sym s.completes ∙ ap (λ (r : Result (List ℕ × ℕ) FumenFault). with_front text r) failed
+text_stops (refused.Fault d) ds start count text place left some read s = search (rules, one_group, err_bind)
 text_stops refused.NoMemory ds start count text place left some read s = tt
 
 pub text_ends : (ds : List ℕ) (start count : ℕ) (text : List ℕ) (place left : ℕ) → left ≡ 0 → IsReadSoFar ds start count text place left → rest_at ds start count ≡ Ok (text, place)
 unfolding text_at with_front
-text_ends ds start count text place left none s =
-    let ended : rest_at ds place left ≡ Ok ([], place) = rw none refl in
-    sym s.completes ∙ (ap (λ (r : Result (List ℕ × ℕ) FumenFault). with_front text r) ended ∙ ap (λ (x : List ℕ). Ok (x, place)) (append-nil text))
+text_ends ds start count text place left none s = search (rules, append-nil)

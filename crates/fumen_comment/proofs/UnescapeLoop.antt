@@ -1,5 +1,5 @@
 -- Unescaping a text unit by unit, as a loop does.
-use Rattle.std.proofs.Common.{◌≡◌, ℕ, zero, suc, ◌<◌, ◌≤◌, List, [], ◌∷◌, ◌++◌, length, get_or, drop, refl, sym, ap, ◌∙◌, append_assoc, arith}
+use Rattle.std.proofs.Common.{◌≡◌, ℕ, zero, suc, ◌<◌, ◌≤◌, List, [], ◌∷◌, ◌++◌, length, get_or, drop, refl, append_assoc, arith, rules}
 use Rattle.std.proofs.lemmas.List.{append-nil, drop_more, nil_from_length}
 use Rattle.fumen_comment.specs.Unescape.{unit_of, unescaped_behind, unescaped}
 
@@ -10,24 +10,17 @@ unescaped-passed zero text = refl
 unescaped-passed (suc passed) [] = refl
 unescaped-passed (suc passed) (c ∷ rest) = unescaped-passed passed rest
 
-pub unescaped-cons : (c : ℕ) (rest : List ℕ) → unescaped (c ∷ rest) ≡ (unit_of c rest).0 ∷ unescaped (drop (unit_of c rest).1 rest)
-unfolding unescaped_behind
-unescaped-cons c rest = ap (λ (x : List ℕ). (unit_of c rest).0 ∷ x) (unescaped-passed (unit_of c rest).1 rest)
-
 -- the next unit is written behind those so far
 pub units_more : (units rest behind next : List ℕ) (c unit passed : ℕ) (total : List ℕ) → 0 < length rest → c ≡ get_or rest 0 0 → behind ≡ drop 1 rest
     → unit ≡ (unit_of c behind).0 → passed ≡ (unit_of c behind).1 → next ≡ drop passed behind
     → units ++ unescaped rest ≡ total → (units ++ unit ∷ []) ++ unescaped next ≡ total
+unfolding unescaped_behind
 units_more units rest behind next c unit passed total lt head tail unit_is passed_is next_is so_far =
-    let whole : rest ≡ c ∷ behind = drop_more rest 0 0 lt ∙ (ap (λ (x : ℕ). x ∷ drop 1 rest) (sym head) ∙ ap (λ (x : List ℕ). c ∷ x) (sym tail)) in
-    let one : unescaped rest ≡ unit ∷ unescaped next = ap unescaped whole ∙ (unescaped-cons c behind ∙ (ap (λ (x : ℕ). x ∷ unescaped (drop (unit_of c behind).1 behind)) (sym unit_is) ∙ ap (λ (x : List ℕ). unit ∷ unescaped x) (ap (λ (k : ℕ). drop k behind) (sym passed_is) ∙ sym next_is))) in
-    append_assoc units (unit ∷ []) (unescaped next) ∙ (ap (λ (x : List ℕ). units ++ x) (sym one) ∙ so_far)
+    search (rules, drop_more, unescaped-passed, append_assoc)
 
 pub units_all : (units rest : List ℕ) (total : List ℕ) → length rest < 1 → units ++ unescaped rest ≡ total → units ≡ total
 unfolding unescaped_behind
-units_all units rest total none so_far =
-    let empty = nil_from_length rest (omega arith) in
-    sym (append-nil units) ∙ (ap (λ (x : List ℕ). units ++ unescaped x) (sym empty) ∙ so_far)
+units_all units rest total none so_far = search (rules, nil_from_length, append-nil)
 
 -- a text that has a character is no empty one
 pub units_none : (units rest : List ℕ) → 1 ≤ length rest → units ++ unescaped rest ≡ [] → ⊥

@@ -1,5 +1,5 @@
 -- Writing the groups of a text one after the other, as a loop does.
-use Rattle.std.proofs.Common.{◌≡◌, ℕ, suc, ◌+◌, ◌<◌, ◌≤◌, min, List, [], ◌∷◌, ◌++◌, length, take, drop, All, refl, sym, ap, subst, ◌∙◌, append_assoc, inl, inr, arith}
+use Rattle.std.proofs.Common.{◌≡◌, ℕ, suc, ◌+◌, ◌<◌, ◌≤◌, min, List, [], ◌∷◌, ◌++◌, length, take, drop, All, refl, sym, ap, subst, ◌∙◌, append_assoc, inl, inr, arith, rules}
 use Rattle.std.specs.List.{flat_map}
 use Rattle.std.proofs.lemmas.Bool.{cases_lt}
 use Rattle.std.proofs.lemmas.List.{append-nil, take_at, drop_at, take_all, drop_all, take-append-le, length-append, length-take, nil_from_length}
@@ -20,13 +20,7 @@ pub record IsWrittenSoFar (old escaped out rest : List ℕ) (size : ℕ) : Type 
 
 pub written_starts : (old escaped out rest : List ℕ) (size : ℕ) → size ≡ 4 → rest ≡ escaped → All IsPrintable escaped → out ≡ old ++ digits 2 (length escaped) → IsWrittenSoFar old escaped out rest size
 unfolding comment_digits
-written_starts old escaped out rest size four all printable is =
-    record {
-      four = four;
-      printable = subst (λ (x : List ℕ). All IsPrintable x) (sym all) printable;
-      kept = ap (λ (x : List ℕ). take (length old) x) is ∙ take_at old (digits 2 (length escaped)) (length old) refl;
-      completes = ap (λ (x : List ℕ). out ++ flat_map (digits 5) (groups x)) all ∙ (ap (λ (x : List ℕ). x ++ flat_map (digits 5) (groups escaped)) is ∙ append_assoc old (digits 2 (length escaped)) (flat_map (digits 5) (groups escaped)));
-    }
+written_starts old escaped out rest size four all printable is = search (rules, take_at, append_assoc)
 
 -- the first four characters, or all where fewer are left
 record IsChunk (rest chunk next : List ℕ) : Type 0 where
@@ -76,6 +70,4 @@ written_more old escaped out rest chunk next written size next_size parts len so
 
 pub written_all : (old escaped out rest : List ℕ) (size : ℕ) → length rest ≡ 0 → IsWrittenSoFar old escaped out rest size → out ≡ old ++ comment_digits escaped
 unfolding groups_of
-written_all old escaped out rest size none s =
-    let empty : groups rest ≡ [] = ap groups (nil_from_length rest none) in
-    sym (append-nil out) ∙ (ap (λ (x : List ℕ). out ++ flat_map (digits 5) x) (sym empty) ∙ s.completes)
+written_all old escaped out rest size none s = search (rules, nil_from_length, append-nil)

@@ -1,13 +1,13 @@
 -- What is written for a text spells it.
-use Rattle.std.proofs.Common.{◌≡◌, ℕ, zero, suc, ◌+◌, ◌-◌, ◌*◌, ◌/◌, ◌%◌, ◌^◌, ◌<◌, ◌≤◌, min, true, ltb, List, [], ◌∷◌, ◌++◌, length, take, drop, All, Ok, refl, sym, ap, subst, ◌∙◌, arith}
-use Rattle.std.specs.List.{flat_map, list_all, AllByRecursion}
+use Rattle.std.proofs.Common.{◌≡◌, ℕ, zero, suc, ◌+◌, ◌-◌, ◌*◌, ◌^◌, ◌<◌, ◌≤◌, min, true, ltb, List, [], ◌∷◌, ◌++◌, length, take, drop, All, Ok, refl, sym, ap, subst, ◌∙◌, arith, rules}
+use Rattle.std.specs.List.{list_all, AllByRecursion}
 use Rattle.std.proofs.Math.Nat.{pow-succ', pow-le-pow_right}
 use Rattle.std.proofs.lemmas.Bool.{lt-ltb, and_from}
 use Rattle.std.proofs.lemmas.List.{take_min, length-take, length-drop, take-append-drop, nil_from_length}
 use Rattle.std.proofs.lemmas.List.Elements.{recursion_from_All, All-take, All-drop}
 use Rattle.fumen_digits.specs.Digit.{AreDigits}
 use Rattle.fumen_digits.proofs.CallerLemmas.{AreDigits-append, AreDigits-flat_map, AreDigits-digits}
-use Rattle.fumen_digits.specs.Number.{digits, Stands}
+use Rattle.fumen_digits.specs.Number.{Stands}
 use Rattle.fumen_comment.specs.Escape.{IsPrintable}
 use Rattle.fumen_comment.specs.Unescape.{unescaped}
 use Rattle.fumen_comment.specs.Part.{packed, unpacked, group_count, groups_of, comment_digits, is_group, AreGroups, SpellsText, SpellsComment}
@@ -23,21 +23,12 @@ unpacked-packed : (count : ℕ) (text : List ℕ) → length text ≤ count → 
 unfolding packed unpacked
 unpacked-packed count [] le each = refl
 unpacked-packed zero (c ∷ text) le each = absurd (omega arith)
-unpacked-packed (suc count) (c ∷ text) le each =
-    let rest = packed text in
-    let range = each.0 in
-    let low : (c - 32 + 96 * rest) % 96 + 32 ≡ c = omega arith in
-    let high : (c - 32 + 96 * rest) / 96 ≡ rest = omega arith in
-    rw (low, high) (ap (λ (x : List ℕ). c ∷ x) (unpacked-packed count text (omega arith) each.1))
+unpacked-packed (suc count) (c ∷ text) le each = search (rules, unpacked-packed count text (omega arith) each.1)
 
 packed_below : (text : List ℕ) → AllByRecursion IsPrintable text → packed text < 96 ^ length text
 unfolding packed
 packed_below [] each = omega arith
-packed_below (c ∷ text) each =
-    let rest = packed_below text each.1 in
-    let range = each.0 in
-    let power : 96 ^ suc (length text) ≡ 96 * 96 ^ length text = pow-succ' 96 (length text) in
-    omega arith
+packed_below (c ∷ text) each = search (rules, pow-succ', packed_below text each.1)
 
 all_small : (text : List ℕ) → AllByRecursion IsPrintable text → list_all (λ c. ltb c 127) text ≡ true
 all_small [] each = refl
@@ -104,11 +95,8 @@ pub written_comment : (text : List ℕ) → length text ≤ 4095 → All IsPrint
 written_comment text short printable = record { text = text; spells = written_spells text short printable; means = refl }
 
 pub written_read : (ds : List ℕ) (place : ℕ) (text : List ℕ) (end : ℕ) → length text ≤ 4095 → All IsPrintable text → Stands ds place (comment_digits text) end → comment_at ds place ≡ Ok (unescaped text, end)
-written_read ds place text end short printable s =
-    read_from_comment ds place (unescaped text) end (record { text = comment_digits text; stands = s; spells = written_comment text short printable })
+written_read ds place text end short printable s = search (rules, read_from_comment, written_comment)
 
 pub written_digits : (text : List ℕ) → AreDigits (comment_digits text)
 unfolding comment_digits
-written_digits text =
-    let groups = groups_of (group_count (length text)) text in
-    AreDigits-append (digits 2 (length text)) (flat_map (digits 5) groups) (AreDigits-digits 2 (length text)) (AreDigits-flat_map (digits 5) (AreDigits-digits 5) groups)
+written_digits text = search (rules, AreDigits-append, AreDigits-digits, AreDigits-flat_map)

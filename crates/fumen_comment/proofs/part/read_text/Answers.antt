@@ -1,13 +1,12 @@
 -- One more group is read, or has a fault; and then all are read.
-use Rattle.std.proofs.Common.{arith}
+use Rattle.std.proofs.Common.{arith, rules}
 use Rattle.std.proofs.lemmas.Result.{err_from_is_err_and}
 use Rattle.fumen_comment.proofs.Packing.{taken}
 use Rattle.fumen_comment.proofs.ReadLoop.{first_read, text_starts, text_more, text_stops, text_ends}
 use Rattle.fumen_comment.proofs.part.read_text.Goals as goal
 
 pub loop-left-init : goal.loop-left-init
-loop-left-init c =
-    rw c.new-text.ensures.items (text_starts c.args.digits.now c.args.place c.args.count c.requires)
+loop-left-init c = search (rules, text_starts)
 
 pub loop-left-preserved : goal.loop-left-preserved
 loop-left-preserved c =
@@ -17,13 +16,10 @@ loop-left-preserved c =
     rw (c.in_ok-extend_from_slice.ensures.items, c.saturating_sub-left.ensures) (text_more c.args.digits.now c.args.place c.args.count c.loop-left.text.items c.loop-left.place left group _ c.loop-left-test.true c.in_ok-group.ensures.within c.in_ok-group.ensures.exact more c.loop-left.invariant)
 
 pub returns-in_err-group-clause-exact : goal.returns-in_err-group-clause-exact
-returns-in_err-group-clause-exact c =
-    let p = err_from_is_err_and c.from_residual.result c.from_residual.ensures.1 in
-    rw (p.1, p.2) (text_stops c.in_err-group.field-0.0 c.args.digits.now c.args.place c.args.count c.loop-left.text.items c.loop-left.place c.loop-left.left c.loop-left-test.true c.in_err-group.ensures.exact c.loop-left.invariant)
+returns-in_err-group-clause-exact c = search (rules, err_from_is_err_and, text_stops)
 
 pub returns-clause-exact : goal.returns-clause-exact
 returns-clause-exact c = text_ends c.args.digits.now c.args.place c.args.count c.loop-left.text.items c.loop-left.place c.loop-left.left (omega arith) c.loop-left.invariant
 
 pub returns-in_err-extend_from_slice-clause-memory : goal.returns-in_err-extend_from_slice-clause-memory
-returns-in_err-extend_from_slice-clause-memory c = λ _.
-    first_read c.args.digits.now c.args.place c.args.count c.loop-left.text.items c.loop-left.place c.loop-left.left c.in_ok-group.group c.loop-left-test.true c.in_ok-group.ensures.exact c.loop-left.invariant
+returns-in_err-extend_from_slice-clause-memory c = search (rules, first_read)

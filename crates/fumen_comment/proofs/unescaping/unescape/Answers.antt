@@ -1,5 +1,5 @@
 -- One more unit is read, and then all are.
-use Rattle.std.proofs.Common.{◌++◌, ◌-◌, refl, ap, ◌∙◌, List, ℕ, length, get_or, drop, take}
+use Rattle.std.proofs.Common.{◌++◌, ◌-◌, refl, ap, ◌∙◌, List, ℕ, length, get_or, drop, take, rules}
 use Rattle.std.proofs.lemmas.List.{take_rest}
 use Rattle.fumen_comment.specs.Unescape.{unescaped}
 use Rattle.fumen_comment.proofs.UnescapeLoop.{units_more, units_none, units_all}
@@ -20,5 +20,4 @@ returns-clause-units c =
 
 pub returns-in_err-push-clause-none : goal.returns-in_err-push-clause-none
 unfolding Rattle.fumen_comment.specs.Unescape.unescaped_behind
-returns-in_err-push-clause-none c = λ none.
-    absurd (units_none c.loop-rest.units.items c.loop-rest.rest.now c.in-len1-up.len_at_least (c.loop-rest.invariant ∙ ap unescaped none))
+returns-in_err-push-clause-none c = search (rules, units_none)
