@@ -1,5 +1,5 @@
 -- What a builder holds after one more element.
-use Rattle.std.proofs.Common.{◌≡◌, ℕ, ◌+◌, ◌*◌, ◌<◌, ◌≤◌, min, true, List, [], ◌∷◌, ◌++◌, length, length-append, take, set, refl, ap, sym, ◌∙◌, arith, add-one, inl, inr}
+use Rattle.std.proofs.Common.{◌≡◌, ℕ, ◌+◌, ◌*◌, ◌<◌, ◌≤◌, min, true, List, [], ◌∷◌, ◌++◌, length, length-append, take, set, refl, ap, sym, ◌∙◌, arith, add-one, rules}
 use Rattle.std.specs.List.{list_all}
 use Rattle.std.proofs.Math.Nat.{mul-le-mul, mul_assoc, mul-one}
 use Rattle.std.proofs.Math.Seq.{take-suc-set}
@@ -15,19 +15,7 @@ use Rattle.queue_pattern.specs.Sound.{is_sound}
 pub queue_count-append : (elements : List Element) (element : Element) → queue_count (elements ++ element ∷ []) ≡ queue_count elements * falling_factor (length (pieces_in element.set)) element.chosen
 unfolding queue_count
 queue_count-append [] element = omega (arith, mul-one (falling_factor (length (pieces_in element.set)) element.chosen))
-queue_count-append (e ∷ elements) element =
-    ap (λ n. falling_factor (length (pieces_in e.set)) e.chosen * n) (queue_count-append elements element)
-    ∙ sym (mul_assoc (falling_factor (length (pieces_in e.set)) e.chosen) (queue_count elements) (falling_factor (length (pieces_in element.set)) element.chosen))
-
--- a count that stops at its limit
-pub min_times : (count factor limit : ℕ) → 1 ≤ factor → min (min count limit * factor) limit ≡ min (count * factor) limit
-min_times count factor limit some = elim (cases_lt limit count) [
-  | inl above ↦ let one = mul-le-mul {n₁ = limit} {m₁ = 1} {n₂ = limit} {m₂ = factor} (omega arith) some in
-      let two = mul-le-mul {n₁ = count} {m₁ = 1} {n₂ = count} {m₂ = factor} (omega arith) some in
-      let cut : min count limit ≡ limit = omega arith in
-      ap (λ n. min (n * factor) limit) cut ∙ omega arith
-  | inr within ↦ let same : min count limit ≡ count = omega arith in ap (λ n. min (n * factor) limit) same
-]
+queue_count-append (e ∷ elements) element = search (rules, mul_assoc, queue_count-append elements element)
 
 pub pieces_more : (pieces : ℕ) (elements : List Element) (element : Element) → pieces ≡ min (queue_len elements) 23
     → min (min (pieces + element.chosen) 255) 23 ≡ min (queue_len (elements ++ element ∷ [])) 23
@@ -43,8 +31,7 @@ kept_more number kept elements element room within is same =
 
 pub kept_full : (number : ℕ) (kept elements : List Element) (element : Element) → 22 ≤ number → number ≡ min (length elements) 22
     → take number kept ≡ take 22 elements → take number kept ≡ take 22 (elements ++ element ∷ [])
-kept_full number kept elements element full is same =
-    let long : 22 ≤ length elements = omega arith in same ∙ sym (take-append-le 22 elements (element ∷ []) long)
+kept_full number kept elements element full is same = search (rules, take-append-le)
 
 pub sound_more : (elements : List Element) (element : Element) → list_all is_sound elements ≡ true → is_sound element ≡ true → list_all is_sound (elements ++ element ∷ []) ≡ true
 sound_more elements element all one = list_all-append is_sound elements (element ∷ []) ∙ and_from _ _ all (and_from _ _ one refl)
@@ -58,9 +45,7 @@ number_full number elements element full is = omega (arith, length-append elemen
 pub count_more : (count choices : ℕ) (elements : List Element) (element : Element) → count ≡ min (queue_count elements) 10000001 → 1 ≤ choices
     → choices ≡ falling_factor (length (pieces_in element.set)) element.chosen
     → min (count * choices) 10000001 ≡ min (queue_count (elements ++ element ∷ [])) 10000001
-count_more count choices elements element is some ways =
-    ap (λ n. min (n * choices) 10000001) is ∙ min_times (queue_count elements) choices 10000001 some
-    ∙ ap (λ n. min n 10000001) (ap (λ k. queue_count elements * k) ways ∙ sym (queue_count-append elements element))
+count_more count choices elements element is some ways = search (rules, min, cases_lt, mul-le-mul, queue_count-append)
 
 pub sound-set : (element : Element) → is_sound element ≡ true → element.set < 128
 unfolding is_sound

@@ -1,12 +1,12 @@
 -- How many ordered choices there are.
-use Rattle.std.proofs.Common.{◌≡◌, ℕ, zero, suc, ◌+◌, ◌-◌, ◌<◌, ◌≤◌, Bool, true, false, not, cond, ◌==◌, List, [], ◌∷◌, length, refl, ap, ◌∙◌, arith, inl, inr, Contains, map, filter, count_by, get_or}
+use Rattle.std.proofs.Common.{◌≡◌, ℕ, zero, suc, ◌+◌, ◌-◌, ◌<◌, ◌≤◌, Bool, true, not, cond, ◌==◌, List, [], ◌∷◌, length, refl, ap, ◌∙◌, arith, Contains, map, filter, count_by, get_or, rules}
 use Rattle.std.proofs.lemmas.Bool.{cases_Bool}
 use Rattle.std.proofs.lemmas.List.{length-map}
 use Rattle.std.proofs.lemmas.List.Sums.{sum_by-cons, length-filter}
+use Rattle.std.proofs.lemmas.Grind.{common_steps}
 use Rattle.srs.specs.declared.piece.Piece.{Piece}
-use Rattle.srs.specs.declared.piece.Piece.TheVariants.{I, L, O, Z, T, J, S}
 use Rattle.srs.specs.Piece.{all_pieces, piece_code}
-use Rattle.queue_pattern.specs.Queues.{is_in, pieces_in, others, choices, falling_factor}
+use Rattle.queue_pattern.specs.Queues.{pieces_in, others, choices, falling_factor}
 use Rattle.queue_pattern.proofs.UniformLemmas.{length-uniform}
 
 abbrev pub is : Piece → Piece → Bool
@@ -25,14 +25,10 @@ count-cons p x xs = sum_by-cons (λ y. cond (p y) 1 0) x xs
 -- a filter leaves no more of what a test counts
 count-filter : {X : Type 0} (test p : X → Bool) (xs : List X) → count_by p (filter test xs) ≤ count_by p xs
 count-filter test p [] = omega arith
-count-filter test p (x ∷ xs) = elim (cases_Bool (test x)) [
-  | inl passes ↦ rw (passes) (omega (arith, count-cons p x xs, count-cons p x (filter test xs), count-filter test p xs))
-  | inr fails ↦ rw (fails) (omega (arith, count-cons p x xs, count-filter test p xs))
-]
+count-filter test p (x ∷ xs) = search (rules, cases_Bool, count-cons, count-filter test p xs, count-filter test p xs)
 
 one_of_two : (b : Bool) → one_if (not b) + one_if b ≡ 1
-one_of_two true = refl
-one_of_two false = refl
+one_of_two b = search rules
 
 -- what passes and what fails is all
 count-two : {X : Type 0} (p : X → Bool) (xs : List X) → count_by (λ x. not (p x)) xs + count_by p xs ≡ length xs
@@ -44,38 +40,20 @@ count-both p xs = omega (arith, length-filter (λ x. not (p x)) xs, count-two p 
 
 -- an element that passes is counted
 count-member : {X : Type 0} (p : X → Bool) (xs : List X) (k : ℕ) (d : X) → k < length xs → p (get_or xs k d) ≡ true → 1 ≤ count_by p xs
-count-member p [] k d within passes = absurd (omega arith)
-count-member p (x ∷ xs) zero d within passes = omega (arith, count-cons p x xs, ap one_if passes)
-count-member p (x ∷ xs) (suc k) d within passes = omega (arith, count-cons p x xs, count-member p xs k d (omega arith) passes)
+count-member p xs k d within passes = grind (arith, common_steps, count-cons)
 
 once_in_all : (piece : Piece) → count_by (is piece) all_pieces ≡ 1
-once_in_all I = refl
-once_in_all L = refl
-once_in_all O = refl
-once_in_all Z = refl
-once_in_all T = refl
-once_in_all J = refl
-once_in_all S = refl
+once_in_all piece = search rules
 
 is_itself : (piece : Piece) → is piece piece ≡ true
-is_itself I = refl
-is_itself L = refl
-is_itself O = refl
-is_itself Z = refl
-is_itself T = refl
-is_itself J = refl
-is_itself S = refl
+is_itself piece = search rules
 
 pub filter-set : (test : Piece → Bool) (pieces : List Piece) → IsSet pieces → IsSet (filter test pieces)
 filter-set test pieces set = record { once = λ q. omega (arith, count-filter test (is q) pieces, set.once q) }
 
 pub pieces_in-set : (set : ℕ) → IsSet (pieces_in set)
 unfolding pieces_in
-pieces_in-set set = record {
-  once = λ piece.
-      let test : Piece → Bool = λ p. is_in p set in
-      omega (arith, count-filter test (is piece) all_pieces, once_in_all piece);
-}
+pieces_in-set set = search (rules, count-filter, once_in_all)
 
 pub others-set : (piece : Piece) (pieces : List Piece) → IsSet pieces → IsSet (others piece pieces)
 unfolding others

@@ -1,16 +1,11 @@
 -- Products of falling factors.
-use Rattle.std.proofs.Common.{◌≡◌, ℕ, zero, suc, ◌+◌, ◌-◌, ◌*◌, ◌^◌, ◌<◌, ◌≤◌, refl, ap, sym, ◌∙◌, arith, lit<, add-one}
+use Rattle.std.proofs.Common.{◌≡◌, ℕ, zero, suc, ◌+◌, ◌-◌, ◌*◌, ◌^◌, ◌<◌, ◌≤◌, ap, sym, ◌∙◌, arith, lit<, add-one, rules}
 use Rattle.std.proofs.Math.Nat.{mul-le-mul, mul_assoc, pow-suc, mul-one, pow-le-pow_right}
 use Rattle.queue_pattern.specs.Queues.{falling_factor}
 
-pub falling_factor-none : (m : ℕ) → falling_factor m 0 ≡ 1
-unfolding falling_factor
-falling_factor-none m = refl
-
 pub falling_factor-more : (m n k : ℕ) → n ≡ suc k → falling_factor m n ≡ m * falling_factor (m - 1) k
 unfolding falling_factor
-falling_factor-more m zero k is = absurd (omega arith)
-falling_factor-more m (suc n) k is = ap (λ j. m * falling_factor (m - 1) j) (omega arith)
+falling_factor-more m n k is = search rules
 
 -- one more factor is taken
 pub product_step : (product pieces chosen taken whole : ℕ) → taken < chosen
@@ -35,4 +30,5 @@ falling_factor-some zero m within = omega arith
 falling_factor-some (suc n) m within = let rest = falling_factor-some n (m - 1) (omega arith) in let first : 1 ≤ m = omega arith in mul-le-mul first rest
 
 pub all_taken : (product m n whole : ℕ) → n ≡ 0 → product * falling_factor m n ≡ whole → product ≡ whole
-all_taken product m n whole none is = sym (mul-one product) ∙ ap (λ f. product * f) (sym (falling_factor-none m)) ∙ ap (λ k. product * falling_factor m k) (sym none) ∙ is
+unfolding falling_factor
+all_taken product m n whole none is = search (rules, mul-one)

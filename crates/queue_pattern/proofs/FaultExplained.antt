@@ -1,5 +1,5 @@
 -- What stands before a position in a text, and how a fault there is explained by it.
-use Rattle.std.proofs.Common.{◌≡◌, ℕ, ◌<◌, ◌≤◌, Bool, true, false, cond, ◌&&◌, nat_lt, nat_le, leb-true, ltb-true, List, [], ◌∷◌, ◌++◌, length, append_assoc, append-nil, bit_or, ap, sym, subst, ◌∙◌, arith, Some, Ok, Err, inl, inr, ◌⊎◌}
+use Rattle.std.proofs.Common.{◌≡◌, ℕ, ◌<◌, ◌≤◌, Bool, true, false, nat_lt, nat_le, leb-true, ltb-true, List, [], ◌∷◌, ◌++◌, length, append_assoc, append-nil, bit_or, sym, subst, Some, Ok, Err, ◌⊎◌, rules}
 use Rattle.std.proofs.lemmas.Bool.{cases_Bool, and_parts}
 use Rattle.std.proofs.lemmas.Bool.Decides.{nat_tests}
 use Rattle.srs.specs.declared.piece.Piece.{Piece}
@@ -28,8 +28,7 @@ gap_more whole byte es (element {front = front} {rest = rest} {elements = later}
 
 pub letters_more : (letters : List ℕ) (so_far listed byte : ℕ) (piece : Piece) → SpellsLetters so_far letters listed → piece_with_letter byte ≡ Some piece → is_in piece listed ≡ false
     → SpellsLetters so_far (letters ++ byte ∷ []) (bit_or listed (set_of piece))
-letters_more [] so_far listed byte piece spelled is new =
-    (piece, is, ap (is_in piece) spelled ∙ new, ap (λ n. bit_or n (set_of piece)) spelled)
+letters_more [] so_far listed byte piece spelled is new = search (rules, bit_or)
 letters_more (first ∷ letters) so_far listed byte piece spelled is new =
     (spelled.0, spelled.1, spelled.2, letters_more letters (bit_or so_far (set_of spelled.0)) listed byte piece spelled.3 is new)
 
@@ -108,14 +107,7 @@ pub explained : (text : List ℕ) (g f : PatternFault) → ◌≡◌ {A = Elemen
 explained text g f e is = subst (Explains text) (same_fault g f e) is
 
 pub before-err : (e : Element) (read : Elements) (f : PatternFault) → before (Ok e) read ≡ Err f → read ≡ Err f
-before-err e (Ok later) f h = cc
-before-err e (Err other) f h = h
-
-pub few_of : (n size : ℕ) → (nat_lt 0 size && nat_le n size) ≡ false → (size ≡ 0) ⊎ (size < n)
-few_of n size wrong = elim (cases_Bool (nat_lt 0 size)) [
-  | inl some ↦ inr (grind (arith, nat_tests, some, wrong))
-  | inr empty ↦ inl (grind (arith, nat_tests, empty))
-]
+before-err e read f h = search rules
 
 -- a choice is wrong, or what follows has the fault
 pub choice-err : (start set n : ℕ) (read : Elements) (f : PatternFault) → before (choice start set n) read ≡ Err f
@@ -123,11 +115,4 @@ pub choice-err : (start set n : ℕ) (read : Elements) (f : PatternFault) → be
     ⊎ ((0 < length (pieces_in set)) × (n ≤ length (pieces_in set)) × (read ≡ Err f))
 unfolding choice
 choice-err start set n read f h =
-    let size = length (pieces_in set) in
-    let made : Bool → Elements = λ b. before (cond b (Ok (record { set = set; chosen = n })) (Err (TooManyChosen start))) read in
-    elim (cases_Bool (nat_lt 0 size && nat_le n size)) [
-      | inl fits ↦
-          let parts = and_parts (nat_lt 0 size) (nat_le n size) fits in
-          inr (ltb-true 0 size parts.0, leb-true n size parts.1, before-err (record { set = set; chosen = n }) read f (sym (ap made fits) ∙ h))
-      | inr wrong ↦ inl (few_of n size wrong, sym (ap made wrong) ∙ h)
-    ]
+    search (rules, cases_Bool, nat_lt, nat_le, and_parts, ltb-true, leb-true, before-err, nat_tests)

@@ -1,5 +1,5 @@
 -- What is spelled is of the form, and a byte that leaves the form leads on nowhere.
-use Rattle.std.proofs.Common.{◌≡◌, ℕ, true, List, [], ◌∷◌, ◌++◌, length, append_assoc, refl, ap, sym, subst, ◌∙◌, Option, Some, None, is_some}
+use Rattle.std.proofs.Common.{◌≡◌, ℕ, true, List, [], ◌∷◌, ◌++◌, length, append_assoc, ap, sym, subst, ◌∙◌, Option, Some, None, is_some, rules}
 use Rattle.std.proofs.lemmas.List.Elements.{All-nil, All-cons}
 use Rattle.srs.specs.declared.piece.Piece.{Piece}
 use Rattle.srs.specs.Piece.{piece_with_letter}
@@ -59,5 +59,4 @@ no_end whole begun form stops goes = stops (forms_join whole begun form goes)
 
 -- what has no piece is no letter
 pub no_piece : (found : Option Piece) → ((piece : Piece) → found ≡ Some piece → ⊥) → found ≡ None
-no_piece None bad = refl
-no_piece (Some piece) bad = absurd (bad piece refl)
+no_piece found bad = search rules

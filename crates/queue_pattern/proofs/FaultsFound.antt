@@ -1,5 +1,5 @@
 -- A fault that is read stands in the text.
-use Rattle.std.proofs.Common.{◌≡◌, ◌≢◌, ℕ, ◌+◌, ◌-◌, ◌<◌, ◌≤◌, Bool, true, false, not, ◌&&◌, ◌||◌, ◌==◌, nat_le, eqb-true, leb-true, List, [], ◌∷◌, ◌++◌, length, append_assoc, append-nil, length-append, bit_or, refl, ap, sym, subst, ◌∙◌, arith, Option, Some, None, Ok, Err, inl, inr, ◌⊎◌}
+use Rattle.std.proofs.Common.{◌≡◌, ◌≢◌, ℕ, ◌+◌, ◌-◌, ◌<◌, ◌≤◌, Bool, true, false, not, ◌&&◌, ◌||◌, ◌==◌, nat_le, eqb-true, leb-true, List, [], ◌∷◌, ◌++◌, length, append_assoc, append-nil, length-append, bit_or, refl, ap, sym, subst, ◌∙◌, arith, Option, Some, None, Ok, Err, inl, inr, ◌⊎◌, rules}
 use Rattle.std.proofs.lemmas.Bool.{and_parts, or_cases}
 use Rattle.srs.specs.declared.piece.Piece.{Piece}
 use Rattle.srs.specs.Piece.{piece_with_letter}
@@ -336,9 +336,7 @@ end_found text (choosing start set) place f at stands h = explained text (Unexpe
 found : (bytes text front : List ℕ) (position : TextPosition) (place : ℕ) (f : PatternFault) → text ≡ front ++ bytes → place ≡ length front → Stands position front
     → elements_from position place bytes ≡ Err f → Explains text f
 unfolding elements_from
-found [] text front position place f divided at stands h =
-    let whole : text ≡ front = divided ∙ append-nil front in
-    end_found text position place f (at ∙ ap length (sym whole)) (subst (Stands position) (sym whole) stands) h
+found [] text front position place f divided at stands h = search (rules, append-nil, end_found)
 found (byte ∷ bytes) text front position place f divided at stands h =
     step_found text front byte place bytes (λ next. elements_from next (place + 1) bytes) f divided at
     (λ next there is. found bytes text (front ++ byte ∷ []) next (place + 1) f (divided ∙ sym (append_assoc front (byte ∷ []) bytes)) (omega (arith, at, length-append front (byte ∷ []))) there is)

@@ -1,5 +1,5 @@
 -- The faults that stand in a text are read.
-use Rattle.std.proofs.Common.{◌≡◌, ◌≢◌, ℕ, ◌+◌, ◌-◌, ◌<◌, Bool, true, false, not, cond, ◌&&◌, ◌==◌, nat_lt, nat_le, eqb-true, leb-true, ne_eqb, List, [], ◌∷◌, ◌++◌, length, append_assoc, append-nil, length-append, refl, ap, sym, subst, ◌∙◌, arith, Some, None, Ok, Err, inl, inr, ◌⊎◌}
+use Rattle.std.proofs.Common.{◌≡◌, ◌≢◌, ℕ, ◌+◌, ◌-◌, ◌<◌, Bool, true, false, not, ◌&&◌, ◌==◌, nat_lt, nat_le, eqb-true, leb-true, ne_eqb, List, [], ◌∷◌, ◌++◌, length, append_assoc, append-nil, length-append, refl, ap, sym, subst, ◌∙◌, arith, Some, None, Err, inl, inr, ◌⊎◌, rules}
 use Rattle.std.proofs.lemmas.Bool.{and_parts, false_from_ne_true}
 use Rattle.std.proofs.lemmas.Bool.Decides.{nat_tests}
 use Rattle.std.proofs.lemmas.List.Elements.{All-nil, All-append, All-cons}
@@ -30,8 +30,7 @@ NoCaret (byte ∷ bytes) = (byte == 94) ≡ false
 
 open_read : (bytes : List ℕ) (start place : ℕ) → NoCaret bytes → elements_from (opened start) place bytes ≡ elements_from (listing start false 0) place bytes
 unfolding elements_from
-open_read [] start place free = refl
-open_read (byte ∷ bytes) start place free = read_first byte bytes start place free
+open_read bytes start place free = search (rules, read_first)
 
 letters_free : (letters rest : List ℕ) (total : ℕ) → SpellsLetters 0 letters total → NoCaret rest → NoCaret (letters ++ rest)
 letters_free [] rest total spelled free = free
@@ -63,8 +62,7 @@ opens begun listed (others {letters = letters} spelled) = record { except = true
 
 -- what is not a mark
 unmarked_of : (rest : List ℕ) → IsUnmarked rest → NoMark rest
-unmarked_of [] free = tt
-unmarked_of (byte ∷ rest) free = (ne_eqb byte 112 free.0, ne_eqb byte 80 free.1, ne_eqb byte 33 free.2)
+unmarked_of rest free = search (rules, ne_eqb)
 
 clear_by : (whole rest : List ℕ) → NoMark rest → Clear whole rest
 clear_by whole rest free = record { free = λ done front es set joined spelled is. free }
@@ -158,12 +156,7 @@ opening_free true more = (refl, refl, refl)
 opening_free false more = (refl, refl, refl)
 
 pub set_free : (front more : List ℕ) (set : ℕ) → SpellsSet front set → NoMark (front ++ more)
-set_free front more set is = go (set_form front set is)
-  where
-    go : {front : List ℕ} → form.HasSetForm front → NoMark (front ++ more)
-    go form.all = (refl, refl, refl)
-    go (form.these some are) = (refl, refl, refl)
-    go (form.others some are) = (refl, refl, refl)
+set_free front more set is = search (rules, set_form)
 
 -- `[` at whose end the form is left isn't followed by `^`
 caret_free : (whole letters rest : List ℕ) (listed : ℕ) → HasForm whole → SpellsLetters 0 letters listed → IsStopped HasForm (whole ++ (91 ∷ letters)) rest → NoCaret (letters ++ rest)
@@ -214,8 +207,7 @@ unexpected_in whole begun rest es spelled (fault.choosing {front = front} {set =
     ∙ ap (λ p. Err (Unexpected p)) (omega (arith, length-append whole (front ++ mark ∷ [])))
 
 pub unexpected_read : (text : List ℕ) (place : ℕ) → IsUnexpectedAt text place → elements text ≡ Err (Unexpected place)
-unexpected_read text place at =
-    ap elements at.divided ∙ unexpected_in at.whole at.begun at.rest at.elements at.spelled at.begins at.stops ∙ ap (λ p. Err (Unexpected p)) (sym at.stands)
+unexpected_read text place at = search (rules, unexpected_in)
 
 -- ---- a letter that stands twice
 
@@ -239,11 +231,7 @@ repeated_read text place at =
 
 choice_wrong : (start set n : ℕ) (read : Elements) → (length (pieces_in set) ≡ 0) ⊎ (length (pieces_in set) < n) → before (choice start set n) read ≡ Err (TooManyChosen start)
 unfolding choice
-choice_wrong start set n read wrong = ap (λ b. before (cond b (Ok (record { set = set; chosen = n })) (Err (TooManyChosen start))) read) (no_choice wrong)
-  where
-    no_choice : (length (pieces_in set) ≡ 0) ⊎ (length (pieces_in set) < n) → (nat_lt 0 (length (pieces_in set)) && nat_le n (length (pieces_in set))) ≡ false
-    no_choice (inl none) = grind (arith, nat_tests, none)
-    no_choice (inr few) = grind (arith, nat_tests, few)
+choice_wrong start set n read wrong = search (rules, nat_lt, nat_le, nat_tests)
 
 pub too_many_read : (text : List ℕ) (place : ℕ) → IsTooManyAt text place → elements text ≡ Err (TooManyChosen place)
 too_many_read text place at =

@@ -1,10 +1,9 @@
 -- A byte of a text of the form leads on, to what may follow.
-use Rattle.std.proofs.Common.{◌≡◌, ℕ, ◌+◌, true, false, ◌&&◌, ◌||◌, ◌==◌, nat_le, Option, Some, None, is_some, List, [], ◌∷◌, ◌++◌, refl, sym, ap, subst, ◌∙◌, arith, ◌⊎◌, inl, inr}
+use Rattle.std.proofs.Common.{◌≡◌, ℕ, ◌+◌, true, false, ◌&&◌, ◌||◌, ◌==◌, nat_le, Option, Some, is_some, List, [], ◌∷◌, ◌++◌, refl, sym, ap, subst, ◌∙◌, arith, ◌⊎◌, inl, inr, rules}
 use Rattle.std.proofs.lemmas.Bool.{ne_eqb, eq-eqb, and_from, or_from, le-leb}
 use Rattle.std.proofs.lemmas.List.Elements.{All-head, All-tail}
 use Rattle.srs.specs.declared.piece.Piece.{Piece}
 use Rattle.srs.specs.Piece.{piece_with_letter}
-use Rattle.queue_pattern.specs.Grammar.{is_gap}
 use Rattle.queue_pattern.specs.Form.{is_letter, AreLetters, HasSetForm, all, these, others, HasChosenForm, one, digit, every, HasElementForm, letter, chosen, HasForm, none, gap, element}
 use Rattle.queue_pattern.proofs.Phases.{Phase, between, begun, unlisted, listed, shut, marked, letter_next, between_next, next, is_end}
 use Rattle.queue_pattern.proofs.FormPhases.{AfterSet, AfterMark, AfterLetter, AfterExcept, Follows, brackets}
@@ -19,19 +18,11 @@ pub record LeadsOn (phase : Phase) (byte : ℕ) (rest : List ℕ) : Type 0 where
 other_byte : (byte code : ℕ) → is_letter byte ≡ true → is_letter code ≡ false → (byte == code) ≡ false
 other_byte byte code is free = ne_eqb byte code (λ same. let bad : is_letter code ≡ true = subst (λ b. is_letter b ≡ true) same is in cc)
 
-letter_no_gap : (byte : ℕ) → is_letter byte ≡ true → is_gap byte ≡ false
-letter_no_gap byte is = or_from (byte == 32) (byte == 9 || byte == 44) (other_byte byte 32 is refl)
-    (or_from (byte == 9) (byte == 44) (other_byte byte 9 is refl) (other_byte byte 44 is refl))
-
 some_piece : (o : Option Piece) (after : Phase) → is_some o ≡ true → letter_next o after ≡ Some after
-some_piece None after is = cc
-some_piece (Some piece) after is = refl
+some_piece o after is = search rules
 
 letter_between : (byte : ℕ) → is_letter byte ≡ true → between_next byte ≡ Some between
-letter_between byte is =
-    let past : between_next byte ≡ letter_next (piece_with_letter byte) between =
-    rw (letter_no_gap byte is, other_byte byte 42 is refl, other_byte byte 91 is refl) refl in
-    past ∙ some_piece (piece_with_letter byte) between is
+letter_between byte is = search (rules, between, or_from, other_byte, some_piece)
 
 after_letters : (first : ℕ) (letters back more : List ℕ) → AreLetters (first ∷ letters) → HasChosenForm back → HasForm more
     → AfterExcept (first ∷ ((letters ++ 93 ∷ []) ++ back) ++ more)
@@ -54,21 +45,11 @@ IsAhead [] = Unit {0}
 IsAhead (byte ∷ rest) = LeadsOn between byte rest
 
 set_ahead : (front back more : List ℕ) → HasSetForm front → HasChosenForm back → HasForm more → IsAhead ((front ++ back) ++ more)
-set_ahead front back more all says form =
-    record { after = shut; leads = refl; follows = record { back = back; more = more; divided = refl; says = says; form = form } }
+set_ahead front back more all says form = search (rules, shut)
 set_ahead front back more (these {letters = []} some are) says form = absurd (some refl)
-set_ahead front back more (these {letters = first ∷ letters} some are) says form =
-    record { after = begun; leads = refl; follows = inl (after_letters first letters back more are says form) }
+set_ahead front back more (these {letters = first ∷ letters} some are) says form = search (rules, begun, after_letters)
 set_ahead front back more (others {letters = []} some are) says form = absurd (some refl)
-set_ahead front back more (others {letters = first ∷ letters} some are) says form = record {
-  after = begun;
-  leads = refl;
-  follows = inr (record {
-    more = (((first ∷ letters) ++ 93 ∷ []) ++ back) ++ more;
-    divided = refl;
-    later = after_letters first letters back more are says form;
-  });
-}
+set_ahead front back more (others {letters = first ∷ letters} some are) says form = search (rules, begun, after_letters)
 
 element_ahead : (front more : List ℕ) → HasElementForm front → HasForm more → IsAhead (front ++ more)
 element_ahead front more (letter {byte = byte} is) form = record { after = between; leads = letter_between byte is; follows = form }
@@ -87,10 +68,7 @@ rest_is : (byte first : ℕ) (rest more : List ℕ) → byte ∷ rest ≡ first 
 rest_is byte first rest more same = cc
 
 on_letter : (byte : ℕ) (rest : List ℕ) → AfterExcept (byte ∷ rest) → (is_letter byte ≡ true) × AfterLetter rest
-on_letter byte rest after = (
-  subst (λ b. is_letter b ≡ true) (sym (first_is byte after.first rest after.more after.divided)) after.is,
-  subst AfterLetter (sym (rest_is byte after.first rest after.more after.divided)) after.later,
-)
+on_letter byte rest after = search (rules, first_is, rest_is)
 
 unlisted_ahead : (byte : ℕ) (rest : List ℕ) → AfterExcept (byte ∷ rest) → LeadsOn unlisted byte rest
 unlisted_ahead byte rest after =
@@ -98,23 +76,12 @@ unlisted_ahead byte rest after =
     record { after = listed; leads = some_piece (piece_with_letter byte) listed on.0; follows = on.1 }
 
 begun_ahead : (byte : ℕ) (rest : List ℕ) → Follows begun (byte ∷ rest) → LeadsOn begun byte rest
-begun_ahead byte rest (inl after) =
-    let on = on_letter byte rest after in
-    let past : next begun byte ≡ letter_next (piece_with_letter byte) listed = rw (other_byte byte 94 on.0 refl) refl in
-    record { after = listed; leads = past ∙ some_piece (piece_with_letter byte) listed on.0; follows = on.1 }
-begun_ahead byte rest (inr bracket) =
-    let is : (byte == 94) ≡ true = eq-eqb byte 94 (first_is byte 94 rest bracket.more bracket.divided) in
-    record {
-      after = unlisted;
-      leads = rw is refl;
-      follows = subst AfterExcept (sym (rest_is byte 94 rest bracket.more bracket.divided)) bracket.later;
-    }
+begun_ahead byte rest (inl after) = search (rules, on_letter, begun, listed, other_byte, some_piece)
+begun_ahead byte rest (inr bracket) = search (rules, eq-eqb, first_is, unlisted, rest_is)
 
 listed_ahead_of : (byte : ℕ) (rest letters more : List ℕ) → byte ∷ rest ≡ letters ++ 93 ∷ more → AreLetters letters → AfterSet more
     → LeadsOn listed byte rest
-listed_ahead_of byte rest [] more divided are set =
-    let is : (byte == 93) ≡ true = eq-eqb byte 93 (first_is byte 93 rest more divided) in
-    record { after = shut; leads = rw is refl; follows = subst AfterSet (sym (rest_is byte 93 rest more divided)) set }
+listed_ahead_of byte rest [] more divided are set = search (rules, eq-eqb, first_is, shut, rest_is)
 listed_ahead_of byte rest (first ∷ letters) more divided are set =
     let same : byte ≡ first = first_is byte first rest (letters ++ 93 ∷ more) divided in
     let is : is_letter byte ≡ true = subst (λ b. is_letter b ≡ true) (sym same) (All-head (λ b. is_letter b ≡ true) first letters are) in
@@ -131,17 +98,8 @@ listed_ahead_of byte rest (first ∷ letters) more divided are set =
       };
     }
 
--- a byte that leads on between elements is neither `p` nor `!`
-no_mark : (byte code : ℕ) (after : Phase) → between_next byte ≡ Some after → between_next code ≡ None → (byte == code) ≡ false
-no_mark byte code after leads free = ne_eqb byte code
-    (λ same. let bad : between_next code ≡ Some after = subst (λ b. between_next b ≡ Some after) same leads in cc)
-
 past_shut : (byte : ℕ) (rest : List ℕ) → LeadsOn between byte rest → LeadsOn shut byte rest
-past_shut byte rest on =
-    let mark : (byte == 112 || byte == 80) ≡ false = or_from (byte == 112) (byte == 80)
-    (no_mark byte 112 on.after on.leads refl) (no_mark byte 80 on.after on.leads refl) in
-    let past : next shut byte ≡ between_next byte = rw (mark, no_mark byte 33 on.after on.leads refl) refl in
-    record { after = on.after; leads = past ∙ on.leads; follows = on.follows }
+past_shut byte rest on = search (rules, or_from, ne_eqb, shut)
 
 shut_ahead : (byte : ℕ) (rest back more : List ℕ) → byte ∷ rest ≡ back ++ more → HasChosenForm back → HasForm more
     → LeadsOn shut byte rest

@@ -1,9 +1,8 @@
 -- A text that is read as having an unexpected byte leaves the form there.
-use Rattle.std.proofs.Common.{◌≡◌, ℕ, ◌+◌, Bool, true, false, if◌then◌else◌, Option, Some, None, List, [], ◌∷◌, ◌++◌, length, append_assoc, refl, sym, ap, subst, ◌∙◌, arith, Err}
-use Rattle.std.specs.Option.{option_map}
+use Rattle.std.proofs.Common.{◌≡◌, ℕ, ◌+◌, Bool, true, false, if◌then◌else◌, Option, Some, None, List, [], ◌∷◌, ◌++◌, length, append_assoc, refl, sym, ap, subst, ◌∙◌, arith, Err, rules}
 use Rattle.queue_pattern.specs.declared.fault.PatternFault.TheVariants.{Unexpected}
 use Rattle.queue_pattern.specs.Grammar.{outside, elements}
-use Rattle.srs.specs.Forms.{IsStopped, LeavesForm}
+use Rattle.srs.specs.Forms.{LeavesForm}
 use Rattle.queue_pattern.specs.Form.{HasForm}
 use Rattle.queue_pattern.proofs.Phases.{Phase, between, next, is_end, stop, stop_after, Agrees, agrees}
 use Rattle.queue_pattern.proofs.FormPhases.{Follows, follows_before, ending, ending_follows, end_follows}
@@ -24,20 +23,13 @@ record IsLeft (phase : Phase) (text : List ℕ) (k : ℕ) : Type 0 where
   begins : Follows phase (front ++ more)
   stops : StopsAt phase front rest
 
-same_phase : {one other : Phase} → Some one ≡ Some other → one ≡ other
-same_phase same = cc
-
 followed : (phase after : Phase) (byte : ℕ) (text : List ℕ) → next phase byte ≡ Some after → Follows phase (byte ∷ text)
     → Follows after text
-followed phase after byte text leads follows =
-    let on = leads_on phase byte text follows in
-    subst (λ p. Follows p text) (same_phase (sym on.leads ∙ leads)) on.follows
+followed phase after byte text leads follows = search (rules, leads_on)
 
 stops_before : (phase after : Phase) (byte : ℕ) (front rest : List ℕ) → next phase byte ≡ Some after → StopsAt after front rest
     → StopsAt phase (byte ∷ front) rest
-stops_before phase after byte front [] leads stops = λ follows. stops (followed phase after byte front leads follows)
-stops_before phase after byte front (first ∷ rest) leads stops =
-    λ more follows. stops more (followed phase after byte (front ++ first ∷ more) leads follows)
+stops_before phase after byte front rest leads stops = search (rules, followed)
 
 left_later : (phase after : Phase) (byte : ℕ) (bytes : List ℕ) (k : ℕ) → next phase byte ≡ Some after → IsLeft after bytes k
     → IsLeft phase (byte ∷ bytes) (k + 1)
@@ -79,37 +71,18 @@ at_the_end phase false other = record {
   stops = λ follows. let bad : true ≡ false = sym (ends phase follows) ∙ other in cc;
 }
 
-one_later : (phase after : Phase) (byte : ℕ) (bytes : List ℕ) (s : Option ℕ) → next phase byte ≡ Some after → IsEnding after bytes s
-    → IsEnding phase (byte ∷ bytes) (option_map (λ n. n + 1) s)
-one_later phase after byte bytes None leads follows = follows_before phase after byte bytes leads follows
-one_later phase after byte bytes (Some k) leads left = left_later phase after byte bytes k leads left
-
 at_byte : (phase : Phase) (byte : ℕ) (bytes : List ℕ) (o : Option Phase) → next phase byte ≡ o
     → ((after : Phase) → IsEnding after bytes (stop after bytes))
     → IsEnding phase (byte ∷ bytes) (stop_after o (λ after. stop after bytes))
-at_byte phase byte bytes None leads later = left_here phase byte bytes leads
-at_byte phase byte bytes (Some after) leads later = one_later phase after byte bytes (stop after bytes) leads (later after)
+at_byte phase byte bytes o leads later = search (rules, left_here, follows_before, left_later)
 
 is_ending : (bytes : List ℕ) (phase : Phase) → IsEnding phase bytes (stop phase bytes)
 unfolding stop
 is_ending [] phase = at_the_end phase (is_end phase) refl
 is_ending (byte ∷ bytes) phase = at_byte phase byte bytes (next phase byte) refl (is_ending bytes)
 
--- the form is left where its fronts say so
-to_stopped : (front rest : List ℕ) → StopsAt between front rest → IsStopped HasForm front rest
-to_stopped front [] stops = stops
-to_stopped front (byte ∷ rest) stops =
-    λ go. stops go.rest (subst HasForm (append_assoc front (byte ∷ []) go.rest) go.form)
-
 leaves_form : (text : List ℕ) (k : ℕ) → IsLeft between text k → LeavesForm HasForm text k
-leaves_form text k left = record {
-  front = left.front;
-  rest = left.rest;
-  whole = left.whole;
-  stands = left.size;
-  begins = record { rest = left.more; form = left.begins };
-  stops = to_stopped left.front left.rest left.stops;
-}
+leaves_form text k left = search (rules, append_assoc)
 
 -- so it leaves it there
 pub left-from_unexpected : (text : List ℕ) (place : ℕ) → elements text ≡ Err (Unexpected place) → LeavesForm HasForm text place

@@ -1,5 +1,5 @@
 -- What may follow in each phase of the form of a pattern text.
-use Rattle.std.proofs.Common.{◌≡◌, ◌≢◌, ℕ, ◌+◌, ◌-◌, ◌≤◌, true, false, ◌&&◌, ◌||◌, ◌==◌, nat_le, Option, Some, None, is_some, List, [], ◌∷◌, ◌++◌, append_assoc, refl, sym, ap, subst, ◌∙◌, arith, ◌⊎◌, inl, inr}
+use Rattle.std.proofs.Common.{◌≡◌, ◌≢◌, ℕ, ◌+◌, ◌-◌, ◌≤◌, true, false, ◌&&◌, ◌||◌, ◌==◌, nat_le, Option, Some, None, is_some, List, [], ◌∷◌, ◌++◌, append_assoc, refl, sym, ap, subst, ◌∙◌, arith, ◌⊎◌, inl, inr, rules}
 use Rattle.std.proofs.lemmas.Bool.{cases_Bool, eqb-true, and_parts, leb-true}
 use Rattle.std.proofs.lemmas.List.Elements.{All-nil, All-cons}
 use Rattle.srs.specs.declared.piece.Piece.{Piece}
@@ -56,8 +56,7 @@ phase_is : (found after : Phase) (rest : List ℕ) → Some found ≡ Some after
 phase_is found after rest leads follows = let same : found ≡ after = cc in subst (λ phase. Follows phase rest) (sym same) follows
 
 letter_is : (o : Option Piece) (found after : Phase) → letter_next o found ≡ Some after → (is_some o ≡ true) × (Some found ≡ Some after)
-letter_is None found after leads = let bad : None ≡ Some after = leads in cc
-letter_is (Some piece) found after leads = (refl, leads)
+letter_is o found after leads = search rules
 
 pub brackets : (letters back more : List ℕ) → ((letters ++ 93 ∷ []) ++ back) ++ more ≡ letters ++ 93 ∷ (back ++ more)
 brackets letters back more = ap (λ text. text ++ more) (append_assoc letters (93 ∷ []) back) ∙ append_assoc letters (93 ∷ back) more
@@ -124,24 +123,12 @@ listed_before byte rest is later = record { first = byte; more = rest; divided =
 
 unlisted_before : (after : Phase) (byte : ℕ) (rest : List ℕ) → letter_next (piece_with_letter byte) listed ≡ Some after
     → Follows after rest → AfterExcept (byte ∷ rest)
-unlisted_before after byte rest leads follows =
-    let found = letter_is (piece_with_letter byte) listed after leads in
-    listed_before byte rest found.0 (phase_is listed after rest found.1 follows)
+unlisted_before after byte rest leads follows = search (rules, letter_is, listed, listed_before, phase_is)
 
 begun_before : (after : Phase) (byte : ℕ) (rest : List ℕ) → next begun byte ≡ Some after → Follows after rest
     → Follows begun (byte ∷ rest)
-begun_before after byte rest leads follows = elim (cases_Bool (byte == 94)) [
-  | inl is ↦
-      let to : next begun byte ≡ Some unlisted = rw is refl in
-      inr (record {
-        more = rest;
-        divided = ap (λ b. b ∷ rest) (eqb-true byte 94 is);
-        later = phase_is unlisted after rest (sym to ∙ leads) follows;
-      })
-  | inr other ↦
-      let to : next begun byte ≡ letter_next (piece_with_letter byte) listed = rw other refl in
-      inl (unlisted_before after byte rest (sym to ∙ leads) follows)
-]
+begun_before after byte rest leads follows =
+    search (rules, cases_Bool, begun, unlisted, eqb-true, phase_is, listed, unlisted_before)
 
 listed_on : (byte : ℕ) (rest : List ℕ) → is_letter byte ≡ true → AfterLetter rest → AfterLetter (byte ∷ rest)
 listed_on byte rest is later = record {
@@ -152,26 +139,10 @@ listed_on byte rest is later = record {
   set = later.set;
 }
 
-closing : (byte : ℕ) (rest : List ℕ) → (byte == 93) ≡ true → AfterSet rest → AfterLetter (byte ∷ rest)
-closing byte rest is set = record {
-  letters = [];
-  more = rest;
-  divided = ap (λ b. b ∷ rest) (eqb-true byte 93 is);
-  are = All-nil (λ b. is_letter b ≡ true);
-  set = set;
-}
-
 listed_more : (after : Phase) (byte : ℕ) (rest : List ℕ) → next listed byte ≡ Some after → Follows after rest
     → AfterLetter (byte ∷ rest)
-listed_more after byte rest leads follows = elim (cases_Bool (byte == 93)) [
-  | inl is ↦
-      let to : next listed byte ≡ Some shut = rw is refl in
-      closing byte rest is (phase_is shut after rest (sym to ∙ leads) follows)
-  | inr other ↦
-      let to : next listed byte ≡ letter_next (piece_with_letter byte) listed = rw other refl in
-      let found = letter_is (piece_with_letter byte) listed after (sym to ∙ leads) in
-      listed_on byte rest found.0 (phase_is listed after rest found.1 follows)
-]
+listed_more after byte rest leads follows =
+    search (rules, cases_Bool, listed, shut, eqb-true, All-nil, phase_is, letter_is, listed_on)
 
 choosing_before : (byte : ℕ) (rest : List ℕ) → (byte == 112 || byte == 80) ≡ true → AfterMark rest → AfterSet (byte ∷ rest)
 choosing_before byte rest is mark = record {
@@ -245,7 +216,7 @@ nothing_chosen : AfterSet []
 nothing_chosen = record { back = []; more = []; divided = refl; says = one; form = none }
 
 closed_by : AfterLetter (93 ∷ [])
-closed_by = closing 93 [] refl nothing_chosen
+closed_by = search (rules, eqb-true, All-nil, nothing_chosen)
 
 pub ending : Phase → List ℕ
 ending between = []

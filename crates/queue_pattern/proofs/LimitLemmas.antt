@@ -1,11 +1,12 @@
 -- The elements of a builder that is within the limits.
-use Rattle.std.proofs.Common.{◌≡◌, ◌<◌, ◌≤◌, true, List, [], ◌∷◌, length, take, ◌∙◌, arith, Ok}
+use Rattle.std.proofs.Common.{◌≡◌, ◌<◌, ◌≤◌, true, List, [], ◌∷◌, length, take, arith, Ok}
 use Rattle.std.specs.List.{list_all}
 use Rattle.std.proofs.Math.Nat.{mul-le-mul}
 use Rattle.std.proofs.lemmas.Bool.{and_parts}
 use Rattle.std.proofs.lemmas.Bool.Decides.{nat_tests}
 use Rattle.std.proofs.lemmas.List.{take_all}
 use Rattle.std.proofs.lemmas.List.Sums.{sum_by-cons}
+use Rattle.std.proofs.lemmas.Grind.{common_steps}
 use Rattle.queue_pattern.specs.declared.builder.Builder.{Builder}
 use Rattle.queue_pattern.specs.declared.element.Element.{Element}
 use Rattle.queue_pattern.specs.Builder.{Holds}
@@ -41,17 +42,7 @@ pub record IsWithin (builder : Builder) (elements : List Element) : Type 0 where
   pub sound : list_all is_sound elements ≡ true
 
 pub within : (builder : Builder) (elements : List Element) → Holds builder elements → builder.pieces ≤ 22 → builder.count ≤ 10000000 → IsWithin builder elements
-within builder elements held few rare =
-    let long : queue_len elements ≤ 22 = omega (arith, held.pieces) in
-    let short = length-le-queue_len elements held.sound in
-    let some = queue_count-some elements held.sound in
-    record {
-      kept = held.kept ∙ take_all 22 elements (omega arith);
-      pieces = omega (arith, held.pieces);
-      count = omega (arith, held.count);
-      some = omega (arith, held.count, some);
-      sound = held.sound;
-    }
+within builder elements held few rare = grind (arith, common_steps, length-le-queue_len, queue_count-some, take_all)
 
 pub limited-within : (builder : Builder) (elements : List Element) → IsWithin builder elements → builder.pieces ≤ 22 → builder.count ≤ 10000000
     → limited (Ok elements) ≡ Ok elements

@@ -1,6 +1,6 @@
 -- Elements that stand for one queue alone are the pieces of this queue.
-use Rattle.std.proofs.Common.{◌≡◌, ℕ, zero, suc, ◌*◌, ◌<◌, ◌≤◌, ◌==◌, Bool, true, List, [], ◌∷◌, ◌++◌, length, map, refl, ap, sym, ◌∙◌, arith, append-nil, eqb-true}
-use Rattle.std.specs.List.{flat_map, list_all}
+use Rattle.std.proofs.Common.{◌≡◌, ℕ, ◌*◌, ◌<◌, ◌≤◌, ◌==◌, Bool, true, List, [], ◌∷◌, length, map, refl, ap, sym, ◌∙◌, arith, append-nil, eqb-true, rules}
+use Rattle.std.specs.List.{list_all}
 use Rattle.std.proofs.Math.Nat.{dvd-mul_left, dvd-mul_right, eq-one_of_dvd-one}
 use Rattle.std.proofs.lemmas.Bool.{agree_below_at, and_parts}
 use Rattle.srs.specs.declared.piece.Piece.{Piece}
@@ -23,8 +23,7 @@ right_one a b is = eq-one_of_dvd-one (rw is at (dvd-mul_left b a))
 -- some pieces can be chosen of a set in one way alone only where it has one piece
 one_piece : (m n : ℕ) → 0 < n → n ≤ m → falling_factor m n ≡ 1 → (m ≡ 1) × (n ≡ 1)
 unfolding falling_factor
-one_piece m zero some within is = absurd (omega (arith, some))
-one_piece m (suc n) some within is = let one : m ≡ 1 = left_one m _ is in (one, omega (arith, one, within))
+one_piece m n some within is = search (rules, left_one)
 
 -- where a set of the seven has one piece it is the set of this piece
 abbrev is_its_set : List Piece → ℕ → Bool
@@ -36,9 +35,7 @@ unfolding pieces_in
 its_set set within = agree_below_at (λ s. is_its_set (pieces_in s) s) (λ _. true) 128 set refl within
 
 the_piece : (pieces : List Piece) (set : ℕ) → is_its_set pieces set ≡ true → length pieces ≡ 1 → (piece : Piece) × (pieces ≡ piece ∷ []) × (set ≡ set_of piece)
-the_piece [] set its one = absurd (omega (arith, one))
-the_piece (piece ∷ []) set its one = (piece, refl, eqb-true _ _ its)
-the_piece (piece ∷ other ∷ rest) set its one = absurd (omega (arith, one))
+the_piece pieces set its one = search (rules, eqb-true)
 
 the_only : {A : Type 0} (xs : List A) → length xs ≡ 1 → (x : A) × (xs ≡ x ∷ [])
 the_only [] one = absurd (omega (arith, one))
@@ -49,9 +46,7 @@ the_only (x ∷ y ∷ rest) one = absurd (omega (arith, one))
 queues-single : (piece : Piece) (elements : List Element) (set chosen : ℕ) → pieces_in set ≡ piece ∷ [] → chosen ≡ 1
     → queues (record { set = set; chosen = chosen } ∷ elements) ≡ map (λ rest. piece ∷ rest) (queues elements)
 unfolding queues choices
-queues-single piece elements set chosen alone once =
-    (λ i. flat_map (λ choice. map (λ rest. choice ++ rest) (queues elements)) (choices (alone i) (once i)))
-    ∙ append-nil (map (λ rest. piece ∷ rest) (queues elements))
+queues-single piece elements set chosen alone once = search (rules, append-nil)
 
 -- what one list is that stands alone
 same_only : {A : Type 0} (x y : A) → x ∷ [] ≡ y ∷ [] → x ≡ y

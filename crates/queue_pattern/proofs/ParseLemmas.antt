@@ -1,5 +1,5 @@
 -- A text is read element by element.
-use Rattle.std.proofs.Common.{◌≡◌, ℕ, List, [], ◌∷◌, ◌++◌, append_assoc, refl, ap, sym, ◌∙◌, Ok, Err}
+use Rattle.std.proofs.Common.{◌≡◌, ℕ, List, [], ◌∷◌, ◌++◌, append_assoc, Ok, Err, rules}
 use Rattle.queue_pattern.specs.declared.element.Element.{Element}
 use Rattle.queue_pattern.specs.Grammar.{Elements, elements, read_at, outside, before}
 
@@ -12,18 +12,12 @@ after_front front (Err fault) = Err fault
 pub record ReadsOn (text : List ℕ) (front : List Element) (place : ℕ) : Type 0 where
   pub reads : elements text ≡ after_front front (read_at text outside place)
 
-after-one : (front : List Element) (element : Element) (rest : Elements) → after_front front (before (Ok element) rest) ≡ after_front (front ++ element ∷ []) rest
-after-one front element (Ok rest) = ap Ok (sym (append_assoc front (element ∷ []) rest))
-after-one front element (Err fault) = refl
-
 pub reads_more : (text : List ℕ) (front : List Element) (place next : ℕ) (element : Element) → ReadsOn text front place
     → read_at text outside place ≡ before (Ok element) (read_at text outside next) → ReadsOn text (front ++ element ∷ []) next
-reads_more text front place next element so_far is =
-    record { reads = so_far.reads ∙ ap (after_front front) is ∙ after-one front element (read_at text outside next) }
+reads_more text front place next element so_far is = search (rules, append_assoc)
 
 pub none_before : (read : Elements) → read ≡ after_front [] read
-none_before (Ok rest) = refl
-none_before (Err fault) = refl
+none_before read = search rules
 
 pub reads_none : (text : List ℕ) → ReadsOn text [] 0
 reads_none text = record { reads = none_before (elements text) }

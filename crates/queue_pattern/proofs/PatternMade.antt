@@ -1,5 +1,5 @@
 -- A text that is read within the limits has a pattern.
-use Rattle.std.proofs.Common.{◌≡◌, ℕ, ◌-◌, ◌<◌, ◌≤◌, true, ◌&&◌, nat_lt, nat_le, List, [], ◌∷◌, ◌++◌, length, length-append, take, replicate, bit_or, refl, ap, sym, subst, ◌∙◌, arith, Ok, Err, inl, inr}
+use Rattle.std.proofs.Common.{◌≡◌, ℕ, ◌-◌, ◌<◌, ◌≤◌, true, nat_lt, nat_le, List, [], ◌∷◌, ◌++◌, length, length-append, take, replicate, bit_or, refl, ap, sym, ◌∙◌, arith, Ok, Err, rules}
 use Rattle.std.specs.List.{list_all}
 use Rattle.std.proofs.lemmas.Bool.{and_from, lt-ltb, le-leb}
 use Rattle.std.proofs.lemmas.Bool.Decides.{nat_tests}
@@ -9,13 +9,12 @@ use Rattle.srs.specs.declared.piece.Piece.{Piece}
 use Rattle.srs.proofs.CallerLemmas.{each_piece}
 use Rattle.queue_pattern.specs.declared.element.Element.{Element}
 use Rattle.queue_pattern.specs.declared.fault.PatternFault.{PatternFault}
-use Rattle.queue_pattern.specs.declared.fault.PatternFault.TheVariants.{PatternTooLong, TooManyQueues}
 use Rattle.queue_pattern.specs.declared.pattern.Pattern.{Pattern}
 use Rattle.queue_pattern.specs.Grammar.{Elements, elements, limited, set_of}
 use Rattle.queue_pattern.specs.Pattern.{elements_of}
 use Rattle.queue_pattern.specs.Queues.{pieces_in, queue_count, queue_len}
 use Rattle.queue_pattern.specs.Sound.{is_sound}
-use Rattle.queue_pattern.specs.Spelling.{SpellsLetters, SpellsSet, all, these, others, SpellsChosen, one, digit, every, SpellsElement, letter, chosen, SpellsElements, none, gap, element}
+use Rattle.queue_pattern.specs.Spelling.{SpellsLetters, SpellsChosen, one, digit, every, SpellsElement, chosen, SpellsElements, none, gap, element}
 use Rattle.queue_pattern.proofs.FaultLaws.{at_most}
 use Rattle.queue_pattern.proofs.LimitLemmas.{length-le-queue_len, queue_count-some}
 use Rattle.queue_pattern.proofs.ReadIsSpelled.{on_if, spelled-from_read}
@@ -31,11 +30,6 @@ letters_small [] so_far total small spelled = omega (arith, small, spelled)
 letters_small (byte ∷ letters) so_far total small spelled =
     letters_small letters (bit_or so_far (set_of spelled.0)) total (or_lt 7 so_far (set_of spelled.0) small (set_small spelled.0)) spelled.3
 
-set_fits : (text : List ℕ) (set : ℕ) → SpellsSet text set → set < 128
-set_fits text set all = omega arith
-set_fits text set (these {letters = letters} some spelled) = letters_small letters 0 set (omega arith) spelled
-set_fits text set (others total some spelled) = omega arith
-
 some_chosen : (size n : ℕ) (text : List ℕ) → SpellsChosen size text n → 0 < size → 0 < n
 some_chosen size n text one some = omega arith
 some_chosen size n text (digit mark low high) some = omega (arith, low)
@@ -43,14 +37,10 @@ some_chosen size n text every some = some
 
 sound_of : (set n : ℕ) → set < 128 → 0 < n → n ≤ length (pieces_in set) → is_sound (record { set = set; chosen = n }) ≡ true
 unfolding is_sound
-sound_of set n small some enough =
-    and_from (nat_lt set 128) (nat_lt 0 n && nat_le n (length (pieces_in set))) (lt-ltb set 128 small)
-    (and_from (nat_lt 0 n) (nat_le n (length (pieces_in set))) (lt-ltb 0 n some) (le-leb n (length (pieces_in set)) enough))
+sound_of set n small some enough = search (rules, and_from, nat_lt, nat_le, lt-ltb, le-leb)
 
 element_sound : (text : List ℕ) (e : Element) → SpellsElement text e → is_sound e ≡ true
-element_sound text e (letter {piece = piece} is) = single-sound piece
-element_sound text e (chosen {front = front} {back = back} {set = set} {n = n} set_is says some enough) =
-    sound_of set n (set_fits front set set_is) (some_chosen (length (pieces_in set)) n back says some) enough
+element_sound text e spelled = search (rules, single-sound, sound_of, letters_small, some_chosen)
 
 elements_sound : (text : List ℕ) (es : List Element) → SpellsElements text es → list_all is_sound es ≡ true
 elements_sound text es none = refl
@@ -81,18 +71,8 @@ record Limits (es : List Element) : Type 0 where
 no_fault : (f : PatternFault) (es : List Element) → ◌≡◌ {A = Elements} (Err f) (Ok es) → ⊥
 no_fault f es e = cc
 
-same_elements : (found es : List Element) → ◌≡◌ {A = Elements} (Ok found) (Ok es) → found ≡ es
-same_elements found es e = cc
-
 limits_of : (read : Elements) (es : List Element) → limited read ≡ Ok es → (read ≡ Ok es) × Limits es
-limits_of (Err fault) es is = absurd (no_fault fault es is)
-limits_of (Ok found) es is = elim (on_if (nat_lt 22 (queue_len found)) _ _ _ is) [
-  | inl long ↦ absurd (no_fault PatternTooLong es long.1)
-  | inr short ↦ elim (on_if (nat_lt 10000000 (queue_count found)) _ _ _ short.1) [
-    | inl many ↦ absurd (no_fault TooManyQueues es many.1)
-    | inr few ↦ (few.1, subst Limits (same_elements found es few.1) (record { short = at_most 22 (queue_len found) short.0; few = at_most 10000000 (queue_count found) few.0 }))
-  ]
-]
+limits_of read es is = search (rules, no_fault, on_if, nat_lt, at_most)
 
 pub pattern-made : (text : List ℕ) (es : List Element) → limited (elements text) ≡ Ok es → (pattern : Pattern) × (elements_of pattern ≡ es)
 unfolding elements_of

@@ -1,14 +1,14 @@
 -- Where a reader of a pattern's form stands, and how far a text goes on.
-use Rattle.std.proofs.Common.{◌≡◌, ℕ, ◌+◌, ◌-◌, ◌<◌, Bool, true, false, ◌&&◌, ◌||◌, ◌==◌, nat_lt, nat_le, bit_or, if◌then◌else◌, length, Option, Some, None, List, [], ◌∷◌, refl, sym, ap, subst, ◌∙◌, arith, Ok, Err, ◌⊎◌, inl, inr}
+use Rattle.std.proofs.Common.{◌≡◌, ℕ, ◌+◌, ◌-◌, ◌<◌, Bool, true, false, ◌&&◌, ◌||◌, ◌==◌, nat_lt, nat_le, bit_or, if◌then◌else◌, Option, Some, None, List, [], ◌∷◌, refl, sym, ap, subst, ◌∙◌, arith, Ok, Err, rules}
 use Rattle.std.specs.Option.{option_map}
 use Rattle.std.proofs.lemmas.Bool.{cases_Bool, cond_both, ne_eqb, and_right, and_parts, and_cases}
 use Rattle.std.proofs.lemmas.Nat.{pow_pos, le_or_r}
 use Rattle.srs.specs.declared.piece.Piece.{Piece}
-use Rattle.srs.specs.Piece.{piece_code, piece_with_letter}
+use Rattle.srs.specs.Piece.{piece_with_letter}
 use Rattle.queue_pattern.specs.declared.element.Element.{Element}
 use Rattle.queue_pattern.specs.declared.fault.PatternFault.TheVariants.{Unexpected, RepeatedPiece, TooManyChosen, PatternTooLong, TooManyQueues}
-use Rattle.queue_pattern.specs.Queues.{is_in, pieces_in}
-use Rattle.queue_pattern.specs.Grammar.{TextPosition, outside, opened, listing, closed, choosing, Elements, all_set, set_of, choice, before, bracketed, is_gap, letter_step, outside_step, listed_step, listing_step, opened_step, closed_step, choosing_step, end, elements_from}
+use Rattle.queue_pattern.specs.Queues.{is_in}
+use Rattle.queue_pattern.specs.Grammar.{TextPosition, outside, opened, listing, closed, choosing, Elements, set_of, choice, before, is_gap, outside_step, listed_step, listing_step, opened_step, closed_step, choosing_step, end, elements_from}
 
 -- between elements; after a bracket; after `[^`; after a letter between brackets; after a set; after `p`
 pub data Phase : Type 0 where
@@ -78,11 +78,7 @@ Agrees (Err other) place left = ⊥
 
 less-on : (found place : ℕ) (left : Option ℕ) → ((k : ℕ) → left ≡ Some k → found < place + 1 + k)
     → (k : ℕ) → option_map (λ n. n + 1) left ≡ Some k → found < place + k
-less-on found place None before_it k is = let bad : None ≡ Some k = is in cc
-less-on found place (Some j) before_it k is =
-    let at : Some (j + 1) ≡ Some k = is in
-    let same : j + 1 ≡ k = cc in
-    omega (arith, before_it j refl, same)
+less-on found place left before_it k is = search rules
 
 agrees-on : (read : Elements) (place : ℕ) (left : Option ℕ) → Agrees read (place + 1) left
     → Agrees read place (option_map (λ n. n + 1) left)
@@ -101,10 +97,8 @@ agrees-element element (Err fault) place left agrees = agrees
 agrees-choice : (start set n : ℕ) (read : Elements) (place : ℕ) (left : Option ℕ) → start < place → Agrees read place left
     → Agrees (before (choice start set n) read) place left
 unfolding choice
-agrees-choice start set n read place left early agrees = cond_both (nat_lt 0 (length (pieces_in set)) && nat_le n (length (pieces_in set)))
-    (Ok (record { set = set; chosen = n })) (Err (TooManyChosen start)) (λ made. Agrees (before made read) place left)
-    (λ fits. agrees-element (record { set = set; chosen = n }) read place left agrees)
-    (λ many. λ k is. omega (arith, early))
+agrees-choice start set n read place left early agrees =
+    search (rules, agrees, cond_both, nat_lt, nat_le, agrees-element)
 
 -- what is claimed of the bytes behind a byte
 abbrev AreRead : List ℕ → Type 0
@@ -117,10 +111,6 @@ stop-on : (phase after : Phase) (byte : ℕ) (bytes : List ℕ) → next phase b
 unfolding stop
 stop-on phase after byte bytes leads = ap (λ found. stop_after found (λ p. stop p bytes)) leads
 
-stop-here : (phase : Phase) (byte : ℕ) (bytes : List ℕ) → next phase byte ≡ None → stop phase (byte ∷ bytes) ≡ Some 0
-unfolding stop
-stop-here phase byte bytes leads = ap (λ found. stop_after found (λ p. stop p bytes)) leads
-
 goes : (phase : Phase) (byte place : ℕ) (bytes : List ℕ) (position : TextPosition) → AreRead bytes → IsBegun position (place + 1)
     → next phase byte ≡ Some (phase_of position)
     → Agrees (elements_from position (place + 1) bytes) place (stop phase (byte ∷ bytes))
@@ -130,39 +120,16 @@ goes phase byte place bytes position later started leads =
 
 halts : (phase : Phase) (byte place : ℕ) (bytes : List ℕ) → next phase byte ≡ None
     → Agrees (Err (Unexpected place)) place (stop phase (byte ∷ bytes))
-halts phase byte place bytes leads = (0, stop-here phase byte bytes leads, omega arith)
-
--- a byte outside of elements, also right behind a set
-at_letter : (phase : Phase) (byte place : ℕ) (bytes : List ℕ) (found : Option Piece) → AreRead bytes
-    → next phase byte ≡ letter_next found between
-    → Agrees (letter_step place found (λ after. elements_from after (place + 1) bytes)) place (stop phase (byte ∷ bytes))
-at_letter phase byte place bytes None later leads = halts phase byte place bytes leads
-at_letter phase byte place bytes (Some piece) later leads =
-    agrees-element (record { set = set_of piece; chosen = 1 }) (elements_from outside (place + 1) bytes) place
-    (stop phase (byte ∷ bytes)) (goes phase byte place bytes outside later tt leads)
+unfolding stop
+halts phase byte place bytes leads = search rules
 
 at_outside : (phase : Phase) (byte place : ℕ) (bytes : List ℕ) → AreRead bytes → next phase byte ≡ between_next byte
     → Agrees (outside_step place byte (λ after. elements_from after (place + 1) bytes)) place (stop phase (byte ∷ bytes))
-at_outside phase byte place bytes later leads =
-    let read : TextPosition → Elements = λ after. elements_from after (place + 1) bytes in
-    let at_piece : Elements = letter_step place (piece_with_letter byte) read in
-    let at_bracket : Elements = if byte == 91 then read (opened place) else at_piece in
-    let at_star : Elements = if byte == 42 then read (closed place all_set) else at_bracket in
-    cond_both (is_gap byte) (read outside) at_star goal
-    (λ gap. goes phase byte place bytes outside later tt (leads ∙ rw gap refl))
-    (λ no_gap. cond_both (byte == 42) (read (closed place all_set)) at_bracket goal
-    (λ star. goes phase byte place bytes (closed place all_set) later (omega arith) (leads ∙ rw (no_gap, star) refl))
-    (λ no_star. cond_both (byte == 91) (read (opened place)) at_piece goal
-    (λ bracket. goes phase byte place bytes (opened place) later (omega arith) (leads ∙ rw (no_gap, no_star, bracket) refl))
-    (λ no_bracket. at_letter phase byte place bytes (piece_with_letter byte) later (leads ∙ rw (no_gap, no_star, no_bracket) refl))))
-  where
-    goal : Elements → Type 0
-    goal read = Agrees read place (stop phase (byte ∷ bytes))
+at_outside phase byte place bytes later leads = search (rules, cond_both, goes, halts, agrees-element)
 
 -- a byte within brackets
 set_some : (pieces : ℕ) (piece : Piece) → (bit_or pieces (set_of piece) == 0) ≡ false
-set_some pieces piece = ne_eqb (bit_or pieces (set_of piece)) 0
-    (λ none. omega (arith, none, le_or_r pieces (set_of piece), pow_pos (piece_code piece - 1)))
+set_some pieces piece = search (rules, ne_eqb, bit_or, le_or_r, pow_pos)
 
 at_listed : (phase : Phase) (start : ℕ) (except : Bool) (pieces byte place : ℕ) (bytes : List ℕ) (found : Option Piece)
     → AreRead bytes → start < place → next phase byte ≡ letter_next found listed
@@ -181,71 +148,29 @@ at_listing : (start : ℕ) (except : Bool) (pieces byte place : ℕ) (bytes : Li
     → AreRead bytes → start < place
     → Agrees (listing_step start except pieces place byte (λ after. elements_from after (place + 1) bytes)) place
     (stop (if empty then unlisted else listed) (byte ∷ bytes))
-at_listing start except pieces byte place bytes true none later early =
-    let inner = at_listed unlisted start except pieces byte place bytes (piece_with_letter byte) later early refl in
-    rw (none, and_right (byte == 93) false refl) inner
-at_listing start except pieces byte place bytes false some later early =
-    let read : TextPosition → Elements = λ after. elements_from after (place + 1) bytes in
-    rw some (cond_both (byte == 93 && true) (read (closed start (bracketed except pieces)))
-    (listed_step start except pieces place (piece_with_letter byte) read)
-    (λ made. Agrees made place (stop listed (byte ∷ bytes)))
-    (λ bracket. goes listed byte place bytes (closed start (bracketed except pieces)) later (omega (arith, early))
-    (rw ((and_parts (byte == 93) true bracket).0) refl))
-    (λ other. at_listed listed start except pieces byte place bytes (piece_with_letter byte) later early
-    (rw (no_bracket (and_cases (byte == 93) true other)) refl)))
-  where
-    no_bracket : ((byte == 93) ≡ false) ⊎ (true ≡ false) → (byte == 93) ≡ false
-    no_bracket (inl other) = other
-    no_bracket (inr bad) = cc
+at_listing start except pieces byte place bytes empty none later early =
+    search (rules, at_listed, and_right, cond_both, goes, and_parts, and_cases)
 
 -- a byte right after a bracket, after a set, and after `p`
 at_opened : (start byte place : ℕ) (bytes : List ℕ) → AreRead bytes → start < place
     → Agrees (opened_step start place byte (λ after. elements_from after (place + 1) bytes)) place (stop begun (byte ∷ bytes))
-at_opened start byte place bytes later early =
-    let read : TextPosition → Elements = λ after. elements_from after (place + 1) bytes in
-    cond_both (byte == 94) (read (listing start true 0)) (listing_step start false 0 place byte read)
-    (λ made. Agrees made place (stop begun (byte ∷ bytes)))
-    (λ except. goes begun byte place bytes (listing start true 0) later (omega (arith, early)) (rw except refl))
-    (λ other. rw (and_right (byte == 93) false refl)
-    (at_listed begun start false 0 byte place bytes (piece_with_letter byte) later early (rw other refl)))
+at_opened start byte place bytes later early = search (rules, cond_both, goes, and_right, at_listed)
 
 at_closed : (start set byte place : ℕ) (bytes : List ℕ) → AreRead bytes → start < place
     → Agrees (closed_step start set place byte (λ after. elements_from after (place + 1) bytes)) place (stop shut (byte ∷ bytes))
-at_closed start set byte place bytes later early =
-    let read : TextPosition → Elements = λ after. elements_from after (place + 1) bytes in
-    let every : Elements = before (choice start set (length (pieces_in set))) (read outside) in
-    let one : Elements = before (choice start set 1) (outside_step place byte read) in
-    let left : Option ℕ = stop shut (byte ∷ bytes) in
-    cond_both (byte == 112 || byte == 80) (read (choosing start set)) (if byte == 33 then every else one)
-    (λ made. Agrees made place left)
-    (λ mark. goes shut byte place bytes (choosing start set) later (omega (arith, early)) (rw mark refl))
-    (λ no_mark. cond_both (byte == 33) every one (λ made. Agrees made place left)
-    (λ all. agrees-choice start set (length (pieces_in set)) (read outside) place left early
-    (goes shut byte place bytes outside later tt (rw (no_mark, all) refl)))
-    (λ not_all. agrees-choice start set 1 (outside_step place byte read) place left early
-    (at_outside shut byte place bytes later (rw (no_mark, not_all) refl))))
+at_closed start set byte place bytes later early = search (rules, cond_both, goes, agrees-choice, at_outside)
 
 at_choosing : (start set byte place : ℕ) (bytes : List ℕ) → AreRead bytes → start < place
     → Agrees (choosing_step start set place byte (λ after. elements_from after (place + 1) bytes)) place
     (stop marked (byte ∷ bytes))
-at_choosing start set byte place bytes later early =
-    let read : TextPosition → Elements = λ after. elements_from after (place + 1) bytes in
-    let left : Option ℕ = stop marked (byte ∷ bytes) in
-    cond_both (nat_le 49 byte && nat_le byte 57) (before (choice start set (byte - 48)) (read outside))
-    (Err (Unexpected place)) (λ made. Agrees made place left)
-    (λ digit. agrees-choice start set (byte - 48) (read outside) place left early
-    (goes marked byte place bytes outside later tt (rw digit refl)))
-    (λ other. halts marked byte place bytes (rw other refl))
+at_choosing start set byte place bytes later early = search (rules, cond_both, nat_le, agrees-choice, goes, halts)
 
 at_end : (position : TextPosition) (place : ℕ) → IsBegun position place
     → Agrees (end position place) place (stop (phase_of position) [])
 unfolding stop
 at_end outside place early = refl
 at_end (opened start) place early = (0, refl, omega arith)
-at_end (listing start except pieces) place early = elim (cases_Bool (pieces == 0)) [
-  | inl none ↦ (0, rw none refl, omega arith)
-  | inr some ↦ (0, rw some refl, omega arith)
-]
+at_end (listing start except pieces) place early = search (rules, cases_Bool)
 at_end (closed start set) place early = agrees-choice start set 1 (Ok []) place None early refl
 at_end (choosing start set) place early = (0, refl, omega arith)
 

@@ -1,7 +1,7 @@
 -- The list of queues: how long it is, and how a queue is found piece by piece.
-use Rattle.std.proofs.Common.{◌≡◌, ℕ, suc, ◌+◌, ◌-◌, ◌*◌, ◌<◌, List, [], ◌∷◌, ◌++◌, length, refl, ap, sym, ◌∙◌, arith, map, Some, append-nil}
+use Rattle.std.proofs.Common.{◌≡◌, ℕ, suc, ◌+◌, ◌-◌, ◌*◌, ◌<◌, List, [], ◌∷◌, ◌++◌, length, refl, ap, sym, ◌∙◌, map, Some, append-nil, rules}
 use Rattle.std.specs.List.{flat_map, slice_get}
-use Rattle.std.specs.Option.{option_and_then, option_map}
+use Rattle.std.specs.Option.{option_map}
 use Rattle.std.proofs.Math.Path.{fun_ext}
 use Rattle.std.proofs.lemmas.List.{length-map, map-append, map-id}
 use Rattle.std.proofs.lemmas.Option.{slice_get-map}
@@ -9,7 +9,7 @@ use Rattle.std.proofs.lemmas.List.Concat.{flat_map-append}
 use Rattle.srs.specs.declared.piece.Piece.{Piece}
 use Rattle.queue_pattern.specs.declared.element.Element.{Element}
 use Rattle.queue_pattern.specs.Queues.{pieces_in, others, choices, queues, tails, falling_factor, queue_count}
-use Rattle.queue_pattern.proofs.UniformLemmas.{IsUniform, length-uniform, get-uniform}
+use Rattle.queue_pattern.proofs.UniformLemmas.{length-uniform, get-uniform}
 use Rattle.queue_pattern.proofs.ChoiceLemmas.{IsSet, pieces_in-set, others-set, length-others, length-choices}
 
 pub queues-tails : (element : Element) (elements : List Element) → queues (element ∷ elements) ≡ tails (pieces_in element.set) element.chosen elements
@@ -66,8 +66,7 @@ pub length-queues : (elements : List Element) → length (queues elements) ≡ q
 unfolding queue_count
 length-queues [] = ap length queues-none
 length-queues (element ∷ elements) =
-    ap length (queues-tails element elements)
-    ∙ length-tails_of (pieces_in element.set) element.chosen elements (pieces_in-set element.set) (length-queues elements)
+    search (rules, queues-tails, length-tails_of, pieces_in-set, length-queues elements)
 
 pub length-tails : (pieces : List Piece) (n : ℕ) (elements : List Element) → IsSet pieces → length (tails pieces n elements) ≡ falling_factor (length pieces) n * queue_count elements
 length-tails pieces n elements set = length-tails_of pieces n elements set (length-queues elements)
@@ -77,14 +76,4 @@ pub tails-get : (pieces : List Piece) (n : ℕ) (elements : List Element) (q r b
     → block ≡ falling_factor (length pieces - 1) n * queue_count elements → r < block → slice_get pieces q ≡ Some piece
     → slice_get (tails pieces (suc n) elements) (q * block + r) ≡ option_map (λ rest. piece ∷ rest) (slice_get (tails (others piece pieces) n elements) r)
 tails-get pieces n elements q r block piece set is within there =
-    let part : Piece → List (List Piece) = λ p. map (λ rest. p ∷ rest) (tails (others p pieces) n elements) in
-    let uniform : IsUniform part pieces block = record {
-      each = λ p has.
-          length-map (tails (others p pieces) n elements) (λ rest. p ∷ rest)
-          ∙ length-tails (others p pieces) n elements (others-set p pieces set)
-          ∙ ap (λ m. falling_factor m n * queue_count elements) (omega (arith, length-others p pieces set has)) ∙ sym is;
-    } in
-    ap (λ xs. slice_get xs (q * block + r)) (tails-more pieces n elements)
-    ∙ get-uniform part pieces block q r uniform within
-    ∙ ap (option_and_then (λ p. slice_get (part p) r)) there
-    ∙ slice_get-map (λ rest. piece ∷ rest) (tails (others piece pieces) n elements) r
+    search (rules, length-map, length-tails, others-set, length-others, tails-more, get-uniform, slice_get-map)

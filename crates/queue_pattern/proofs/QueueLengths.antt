@@ -1,5 +1,5 @@
 -- Each queue of a pattern has as many pieces as its elements choose together.
-use Rattle.std.proofs.Common.{◌≡◌, ℕ, zero, suc, List, [], ◌∷◌, ◌++◌, length, length-append, refl, arith, map, All}
+use Rattle.std.proofs.Common.{◌≡◌, ℕ, zero, suc, List, [], ◌∷◌, ◌++◌, length, length-append, refl, arith, map, All, rules}
 use Rattle.std.specs.List.{flat_map}
 use Rattle.std.proofs.lemmas.List.Elements.{All-nil, All-cons, All-head, All-tail, All-append, All-map, All-weaker}
 use Rattle.std.proofs.lemmas.List.Sums.{sum_by-cons}
@@ -19,8 +19,7 @@ abbrev Whichever : Piece → Type 0
 Whichever piece = Unit {0}
 
 all-whichever : (pieces : List Piece) → All Whichever pieces
-all-whichever [] = All-nil Whichever
-all-whichever (piece ∷ pieces) = let nothing : Unit {0} = tt in All-cons Whichever piece pieces nothing (all-whichever pieces)
+all-whichever pieces = search (rules, All-nil, All-cons)
 
 choices-long : (n : ℕ) (pieces : List Piece) → All (λ choice. length choice ≡ n) (choices pieces n)
 unfolding choices

@@ -1,10 +1,9 @@
 -- One byte within brackets at a time.
-use Rattle.std.proofs.Common.{◌≡◌, ◌≢◌, ◌<◌, ◌≤◌, ◌+◌, ◌^◌, lit<, ◌⊎◌, inl, inr, ℕ, List, length, get_or, refl, ap, sym, ◌∙◌, arith, Result, Ok, Err, Bool, true, false, subst, Option, Some, bit_or}
+use Rattle.std.proofs.Common.{◌≡◌, ◌≢◌, ◌<◌, ◌≤◌, ◌+◌, ◌^◌, lit<, ◌⊎◌, inl, inr, ℕ, List, length, get_or, refl, ap, sym, ◌∙◌, arith, Result, Err, Bool, true, false, subst, Option, Some, bit_or, rules}
 use Rattle.queue_pattern.specs.Queues.{is_in}
 use Rattle.std.proofs.lemmas.Bool.Decides.{nat_tests}
 use Rattle.std.proofs.lemmas.Bool.{cases_lt}
 use Rattle.srs.specs.declared.piece.Piece.{Piece}
-use Rattle.srs.specs.declared.piece.Piece.TheVariants.{I, L, O, Z, T, J, S}
 use Rattle.std.proofs.lemmas.Nat.{or_lt}
 use Rattle.srs.specs.Piece.{piece_with_letter}
 use Rattle.queue_pattern.specs.declared.fault.PatternFault.TheVariants.{RepeatedPiece}
@@ -13,31 +12,16 @@ use Rattle.queue_pattern.specs.Reading.{IsNextSet}
 use Rattle.queue_pattern.specs.Grammar.{TextPosition, Elements, opened, closed, listing, read_at, bracketed, listing_step, opened_step, listed_step, set_of}
 use Rattle.queue_pattern.proofs.ReadStep.{read_step, read_end, within_text}
 
-listing_closes : (start : ℕ) (except : Bool) (listed place : ℕ) → listed ≢ 0 → (rest : TextPosition → Elements)
-    → listing_step start except listed place 93 rest ≡ rest (closed start (bracketed except listed))
-listing_closes start except listed place some rest = grind (arith, nat_tests)
-
 -- a closing bracket after a piece
 pub read_close : (text : List ℕ) (start : ℕ) (except : Bool) (listed place : ℕ) → place < length text → get_or text place 0 ≡ 93 → listed ≢ 0
     → read_at text (listing start except listed) place ≡ read_at text (closed start (bracketed except listed)) (place + 1)
-read_close text start except listed place within byte some =
-    let rest : TextPosition → Elements = λ next. read_at text next (place + 1) in
-    read_step text (listing start except listed) place within ∙ rw byte (listing_closes start except listed place some rest)
-
-listing_goes_on : (start : ℕ) (except : Bool) (listed place byte : ℕ) → (byte ≢ 93) ⊎ (listed ≡ 0) → (rest : TextPosition → Elements)
-    → listing_step start except listed place byte rest ≡ listed_step start except listed place (piece_with_letter byte) rest
-listing_goes_on start except listed place byte (inl other) rest = grind (arith, nat_tests)
-listing_goes_on start except listed place byte (inr none) rest = grind (arith, nat_tests)
+read_close text start except listed place within byte some = search (rules, read_step, nat_tests)
 
 -- any other byte is a piece's letter, or a fault
 pub read_listed : (text : List ℕ) (start : ℕ) (except : Bool) (listed place : ℕ) (letter : Option Piece) → place < length text
     → (get_or text place 0 ≢ 93) ⊎ (listed ≡ 0) → letter ≡ piece_with_letter (get_or text place 0)
     → read_at text (listing start except listed) place ≡ listed_step start except listed place letter (λ next. read_at text next (place + 1))
-read_listed text start except listed place letter within other is =
-    let rest : TextPosition → Elements = λ next. read_at text next (place + 1) in
-    read_step text (listing start except listed) place within
-    ∙ listing_goes_on start except listed place (get_or text place 0) other rest
-    ∙ ap (λ l. listed_step start except listed place l rest) (sym is)
+read_listed text start except listed place letter within other is = search (rules, read_step, nat_tests)
 
 -- what a letter between brackets does: it is refused, or joins the listed pieces
 pub repeated : (start : ℕ) (except : Bool) (listed place : ℕ) (piece : Piece) (rest : TextPosition → Elements)
@@ -51,13 +35,7 @@ joined start except listed place piece rest is = rw (sym is) refl
 
 -- a set of one piece, and a set with one more
 pub set_of-within : (piece : Piece) → set_of piece < 2 ^ 7
-set_of-within I = lit< tt
-set_of-within L = lit< tt
-set_of-within O = lit< tt
-set_of-within Z = lit< tt
-set_of-within T = lit< tt
-set_of-within J = lit< tt
-set_of-within S = lit< tt
+set_of-within piece = search (rules, lit<)
 
 pub with_one-within : (listed : ℕ) (piece : Piece) → listed < 128 → bit_or listed (set_of piece) < 128
 with_one-within listed piece within = or_lt 7 listed (set_of piece) within (set_of-within piece)
@@ -65,8 +43,7 @@ with_one-within listed piece within = or_lt 7 listed (set_of piece) within (set_
 -- a set that is read from one position is read from another that goes on with it
 pub set_from : (text : List ℕ) (from to : TextPosition) (start place after : ℕ) (read : Result (ℕ × ℕ) PatternFault) → place ≤ after
     → read_at text from place ≡ read_at text to after → IsNextSet text to start after read → IsNextSet text from start place read
-set_from text from to start place after (Ok found) le same next = (same ∙ next.0, next.1, omega arith, next.3)
-set_from text from to start place after (Err fault) le same next = same ∙ next
+set_from text from to start place after read le same next = search rules
 
 -- after the opening bracket comes `^`, or what is listed
 pub open_except : (text : List ℕ) (start : ℕ) → get_or text (start + 1) 0 ≡ 94

@@ -1,18 +1,16 @@
 -- The grammar as a relation and the function that reads a text agree: what is read is spelled.
-use Rattle.std.proofs.Common.{◌≡◌, ◌≢◌, ℕ, ◌+◌, ◌-◌, ◌<◌, ◌≤◌, Bool, true, false, not, cond, ◌&&◌, ◌||◌, ◌==◌, nat_lt, nat_le, ltb-true, leb-true, eqb-true, List, [], ◌∷◌, ◌++◌, length, append_assoc, bit_or, refl, ap, sym, subst, ◌∙◌, arith, Option, Some, None, Ok, Err, inl, inr, ◌⊎◌}
+use Rattle.std.proofs.Common.{◌≡◌, ◌≢◌, ℕ, ◌+◌, ◌-◌, ◌<◌, ◌≤◌, Bool, true, false, not, cond, ◌&&◌, ◌||◌, ◌==◌, nat_lt, nat_le, ltb-true, leb-true, eqb-true, List, [], ◌∷◌, ◌++◌, length, append_assoc, bit_or, refl, ap, sym, subst, ◌∙◌, arith, Option, Some, None, Ok, inl, inr, ◌⊎◌, rules}
 use Rattle.std.proofs.lemmas.Bool.{cases_Bool, and_parts, or_cases}
 use Rattle.srs.specs.declared.piece.Piece.{Piece}
 use Rattle.srs.specs.Piece.{piece_with_letter}
 use Rattle.queue_pattern.specs.declared.element.Element.{Element}
-use Rattle.queue_pattern.specs.declared.fault.PatternFault.TheVariants.{TooManyChosen}
 use Rattle.queue_pattern.specs.Queues.{is_in, pieces_in}
 use Rattle.queue_pattern.specs.Grammar.{TextPosition, Elements, outside, opened, listing, closed, choosing, choice, before, bracketed, is_gap, set_of, all_set, position_step, outside_step, letter_step, listing_step, listed_step, opened_step, closed_step, choosing_step, end, elements_from}
 use Rattle.queue_pattern.specs.Spelling.{SpellsLetters, SpellsSet, all, these, others, SpellsChosen, one, digit, every, letter, chosen, SpellsElements, none, gap, element}
 
 -- a choice by a test
 pub on_if : {A : Type 0} (b : Bool) (x y z : A) → cond b x y ≡ z → ((b ≡ true) × (x ≡ z)) ⊎ ((b ≡ false) × (y ≡ z))
-on_if true x y z h = inl (refl, h)
-on_if false x y z h = inr (refl, h)
+on_if A x y z h = search rules
 
 -- what stands before the rest
 record Before (e : Element) (rest : Elements) (elements : List Element) : Type 0 where
@@ -21,8 +19,7 @@ record Before (e : Element) (rest : Elements) (elements : List Element) : Type 0
   whole : elements ≡ e ∷ later
 
 before-ok : (e : Element) (rest : Elements) (elements : List Element) → before (Ok e) rest ≡ Ok elements → Before e rest elements
-before-ok e (Ok later) elements h = record { later = later; rest_is = refl; whole = cc }
-before-ok e (Err fault) elements h = cc
+before-ok e rest elements h = search rules
 
 record Chosen (set n : ℕ) (rest : Elements) (elements : List Element) : Type 0 where
   some : 0 < length (pieces_in set)
@@ -31,17 +28,8 @@ record Chosen (set n : ℕ) (rest : Elements) (elements : List Element) : Type 0
 
 choice-ok : (start set n : ℕ) (rest : Elements) (elements : List Element) → before (choice start set n) rest ≡ Ok elements → Chosen set n rest elements
 unfolding choice
-choice-ok start set n rest elements h = elim (cases_Bool (nat_lt 0 (length (pieces_in set)) && nat_le n (length (pieces_in set)))) [
-  | inl fits ↦
-      let parts = and_parts _ _ fits in
-      record {
-        some = ltb-true _ _ parts.0;
-        enough = leb-true _ _ parts.1;
-        before_rest = before-ok _ rest elements
-            (sym (ap (λ b. before (cond b (Ok (record { set = set; chosen = n })) (Err (TooManyChosen start))) rest) fits) ∙ h);
-      }
-  | inr wrong ↦ let no : Err (TooManyChosen start) ≡ Ok elements = sym (ap (λ b. before (cond b (Ok (record { set = set; chosen = n })) (Err (TooManyChosen start))) rest) wrong) ∙ h in cc
-]
+choice-ok start set n rest elements h =
+    search (rules, cases_Bool, nat_lt, nat_le, and_parts, ltb-true, leb-true, before-ok)
 
 -- what a text goes on with after a set
 record Ends (set : ℕ) (text : List ℕ) (elements : List Element) : Type 0 where
@@ -99,11 +87,7 @@ with_set front text set elements spelled ends =
 
 -- letters that make a set that is not empty are some
 some_letters : (letters : List ℕ) (total : ℕ) → SpellsLetters 0 letters total → total ≢ 0 → letters ≢ []
-some_letters [] total spelled some e = some (sym spelled)
-some_letters (byte ∷ letters) total spelled some e = not_empty e
-  where
-    not_empty : {b : ℕ} {bs : List ℕ} → b ∷ bs ≡ [] → ⊥
-    not_empty e = cc
+some_letters letters total spelled some e = search rules
 
 brackets : (letters rest : List ℕ) → 91 ∷ (letters ++ 93 ∷ rest) ≡ (91 ∷ letters ++ 93 ∷ []) ++ rest
 brackets letters rest = ap (λ t. 91 ∷ t) (sym (append_assoc letters (93 ∷ []) rest))
@@ -174,10 +158,7 @@ opened-goes start place byte bytes rest elements ih h = elim (on_if (byte == 94)
 ]
 
 pub mark_of : (byte : ℕ) → (byte == 112 || byte == 80) ≡ true → (byte ≡ 112) ⊎ (byte ≡ 80)
-mark_of byte is = elim (or_cases (byte == 112) (byte == 80) is) [
-  | inl small ↦ inl (eqb-true byte 112 small)
-  | inr large ↦ inr (eqb-true byte 80 large)
-]
+mark_of byte is = search (rules, or_cases, eqb-true)
 
 closed-goes : (start set place byte : ℕ) (bytes : List ℕ) (rest : TextPosition → Elements) (elements : List Element)
     → ((position : TextPosition) (es : List Element) → rest position ≡ Ok es → Goes position bytes es)

@@ -1,5 +1,5 @@
 -- One byte of a pattern text at a time.
-use Rattle.std.proofs.Common.{◌≡◌, ◌≢◌, ◌<◌, ◌≤◌, ◌+◌, ◌-◌, ◌⊎◌, inl, inr, ℕ, List, length, get_or, refl, ap, sym, ◌∙◌, add-one, drop-cons, arith, Err, subst}
+use Rattle.std.proofs.Common.{◌≡◌, ◌≢◌, ◌<◌, ◌≤◌, ◌+◌, ◌-◌, ◌⊎◌, inl, inr, ℕ, List, length, get_or, refl, ap, sym, ◌∙◌, add-one, drop-cons, arith, Err, subst, rules}
 use Rattle.std.proofs.Math.Seq.{drop-length}
 use Rattle.std.proofs.lemmas.Bool.Decides.{nat_tests}
 use Rattle.std.proofs.lemmas.Bool.{cases_lt}
@@ -39,8 +39,7 @@ choosing_digit text start set place digit byte low high =
 
 not_a_digit : (start set place digit : ℕ) → (digit < 49) ⊎ (57 < digit) → (rest : TextPosition → Elements)
     → choosing_step start set place digit rest ≡ Err (Unexpected place)
-not_a_digit start set place digit (inl below) rest = grind (arith, nat_tests)
-not_a_digit start set place digit (inr above) rest = grind (arith, nat_tests)
+not_a_digit start set place digit rest other = search (rules, nat_tests)
 
 pub choosing_other : (text : List ℕ) (start set place digit : ℕ) → place ≤ length text → get_or text place 0 ≡ digit → (digit < 49) ⊎ (57 < digit)
     → read_at text (choosing start set) place ≡ Err (Unexpected place)

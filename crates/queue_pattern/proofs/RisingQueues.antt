@@ -1,5 +1,5 @@
 -- The list of queues rises, so no two of them are equal.
-use Rattle.std.proofs.Common.{◌≡◌, ◌≢◌, ℕ, zero, suc, ◌<◌, not, ◌==◌, List, [], ◌∷◌, ◌++◌, length, map, slice_get, Some, refl, ap, sym, subst, ◌∙◌, arith}
+use Rattle.std.proofs.Common.{◌≡◌, ◌≢◌, ℕ, zero, suc, ◌<◌, not, ◌==◌, List, [], ◌∷◌, ◌++◌, length, map, slice_get, Some, refl, ap, sym, subst, ◌∙◌, arith, rules}
 use Rattle.std.specs.List.Sorted.{IsStrictlySortedBy}
 use Rattle.std.specs.Ordering.{ordering_then}
 use Rattle.std.specs.declared.cmp.Ordering.{Ordering}
@@ -7,11 +7,10 @@ use Rattle.std.specs.declared.cmp.Ordering.TheVariants.{Less, Equal, Greater}
 use Rattle.std.proofs.lemmas.List.Kept.{IsStrictlySortedBy-filter}
 use Rattle.std.proofs.lemmas.Option.{get_or_from_slice_get, slice_get_within}
 use Rattle.srs.specs.declared.piece.Piece.{Piece}
-use Rattle.srs.specs.declared.piece.Piece.TheVariants.{I, L, O, Z, T, J, S}
-use Rattle.srs.specs.Piece.{all_pieces, piece_code}
+use Rattle.srs.specs.Piece.{piece_code}
 use Rattle.srs.proofs.CallerLemmas.{Contains-none, Contains-from_map, rising-first, rising-rest, rising-none, rising-cons, rising-flat_map, rising-map, first_less}
 use Rattle.queue_pattern.specs.declared.element.Element.{Element}
-use Rattle.queue_pattern.specs.Queues.{is_in, pieces_in, others, choices, queues}
+use Rattle.queue_pattern.specs.Queues.{pieces_in, others, choices, queues}
 use Rattle.queue_pattern.specs.Order.{piece_cmp, queue_cmp}
 
 -- the order of lists of equal length, by their first difference
@@ -21,13 +20,7 @@ differ_cmp (x ∷ xs) [] = Equal
 differ_cmp (x ∷ xs) (y ∷ ys) = ordering_then (piece_cmp x y) (differ_cmp xs ys)
 
 same_first : (p : Piece) (r : Ordering) → ordering_then (piece_cmp p p) r ≡ r
-same_first I r = refl
-same_first L r = refl
-same_first O r = refl
-same_first Z r = refl
-same_first T r = refl
-same_first J r = refl
-same_first S r = refl
+same_first p r = search rules
 
 differ-more : (p : Piece) (xs ys : List Piece) → differ_cmp xs ys ≡ Less → differ_cmp (p ∷ xs) (p ∷ ys) ≡ Less
 unfolding differ_cmp
@@ -54,13 +47,9 @@ alike-queues : (front xs ys : List Piece) → queue_cmp xs ys ≡ Less → queue
 alike-queues [] xs ys less = less
 alike-queues (p ∷ front) xs ys less = same_first p (queue_cmp (front ++ xs) (front ++ ys)) ∙ alike-queues front xs ys less
 
-all_rise : IsStrictlySortedBy piece_cmp all_pieces
-unfolding IsStrictlySortedBy
-all_rise = ((refl, (refl, (refl, (refl, (refl, (refl, tt)))))), ((refl, (refl, (refl, (refl, (refl, tt))))), ((refl, (refl, (refl, (refl, tt)))), ((refl, (refl, (refl, tt))), ((refl, (refl, tt)), ((refl, tt), (tt, tt)))))))
-
 pieces_in-rise : (set : ℕ) → IsStrictlySortedBy piece_cmp (pieces_in set)
-unfolding pieces_in
-pieces_in-rise set = IsStrictlySortedBy-filter piece_cmp (λ p. is_in p set) all_pieces all_rise
+unfolding pieces_in IsStrictlySortedBy
+pieces_in-rise set = search (rules, IsStrictlySortedBy-filter)
 
 choices-rise : (n : ℕ) (pieces : List Piece) → IsStrictlySortedBy piece_cmp pieces → IsStrictlySortedBy differ_cmp (choices pieces n)
 unfolding choices others

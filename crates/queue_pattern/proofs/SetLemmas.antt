@@ -1,5 +1,5 @@
 -- Sets of pieces as bits: a set without one piece, and the piece with a number.
-use Rattle.std.proofs.Common.{◌≡◌, ℕ, ◌-◌, Bool, true, false, not, cond, ◌&&◌, ◌==◌, List, [], ◌∷◌, refl, ap, sym, ◌∙◌, bit_and, filter, inl, inr, drop, length, get_or, drop-cons, add-one, sub-one, zero, suc, Some, None, ◌≢◌, ◌≤◌, slice_get, ◌<◌, ◌+◌}
+use Rattle.std.proofs.Common.{◌≡◌, ℕ, ◌-◌, Bool, true, false, not, cond, ◌&&◌, ◌==◌, List, [], ◌∷◌, refl, sym, ◌∙◌, bit_and, filter, drop, length, get_or, drop-cons, add-one, sub-one, Some, None, ◌≢◌, ◌≤◌, slice_get, ◌<◌, ◌+◌, rules, arith}
 use Rattle.std.specs.List.{list_all}
 use Rattle.std.proofs.lemmas.Bool.{agree_below_at, cases_Bool}
 use Rattle.std.proofs.lemmas.List.{drop_all}
@@ -11,16 +11,14 @@ use Rattle.queue_pattern.specs.Queues.{is_in, pieces_in, others}
 use Rattle.srs.proofs.CallerLemmas.{each_piece}
 use Rattle.queue_pattern.specs.Grammar.{set_of}
 use Rattle.queue_pattern.specs.Sound.{is_sound}
+use Rattle.std.proofs.lemmas.Grind.{common_steps}
 
 -- whether two tests answer alike
 abbrev pub same : Bool → Bool → Bool
 same a b = cond a b (not b)
 
 pub same_true : (a b : Bool) → same a b ≡ true → a ≡ b
-same_true true true e = refl
-same_true true false e = sym e
-same_true false true e = e
-same_true false false e = refl
+same_true a b e = search rules
 
 abbrev clears : ℕ → Piece → Piece → Bool
 clears set piece other = same (is_in other (bit_and set (255 - set_of piece))) (is_in other set && not (piece_code other == piece_code piece))
@@ -35,10 +33,7 @@ cleared set within piece other =
 -- a filter of a filter, where the tests together are one
 pub filter_twice : (p q r : Piece → Bool) → ((x : Piece) → r x ≡ (p x && q x)) → (xs : List Piece) → filter r xs ≡ filter q (filter p xs)
 filter_twice p q r is [] = refl
-filter_twice p q r is (x ∷ xs) = elim (cases_Bool (p x)) [
-  | inl passes ↦ rw (is x, passes) (ap (λ rest. cond (q x) (x ∷ rest) rest) (filter_twice p q r is xs))
-  | inr fails ↦ rw (is x, fails) (filter_twice p q r is xs)
-]
+filter_twice p q r is (x ∷ xs) = search (rules, cases_Bool, filter_twice p q r is xs, filter_twice p q r is xs)
 
 pub pieces_in-without : (set : ℕ) → set < 128 → (piece : Piece) → pieces_in (bit_and set (255 - set_of piece)) ≡ others piece (pieces_in set)
 unfolding pieces_in others
@@ -52,12 +47,6 @@ pub pieces_in-members : (set : ℕ) → pieces_in set ≡ members set all_pieces
 unfolding pieces_in members
 pieces_in-members set = refl
 
--- the next piece is the first of those in the set, or it is not in it
-pub members-in : (set : ℕ) (pieces : List Piece) (i : ℕ) (d : Piece) → i < length pieces → is_in (get_or pieces i d) set ≡ true
-    → members set (drop i pieces) ≡ get_or pieces i d ∷ members set (drop (i + 1) pieces)
-unfolding members
-members-in set pieces i d within inside = rw (drop-cons pieces i d, inside, add-one) refl
-
 pub members-out : (set : ℕ) (pieces : List Piece) (i : ℕ) (d : Piece) → i < length pieces → is_in (get_or pieces i d) set ≡ false
     → members set (drop i pieces) ≡ members set (drop (i + 1) pieces)
 unfolding members
@@ -66,12 +55,13 @@ members-out set pieces i d within outside = rw (drop-cons pieces i d, outside, a
 -- the piece with a number among those of a set: steps along the list of all pieces
 pub first_member : (set : ℕ) (pieces : List Piece) (i : ℕ) (d : Piece) → i < length pieces → is_in (get_or pieces i d) set ≡ true
     → slice_get (members set (drop i pieces)) 0 ≡ Some (get_or pieces i d)
-first_member set pieces i d within inside = rw (members-in set pieces i d within inside) refl
+unfolding members
+first_member set pieces i d within inside = search (rules, drop-cons, add-one)
 
 pub later_member : (set : ℕ) (pieces : List Piece) (i left : ℕ) (d : Piece) → i < length pieces → is_in (get_or pieces i d) set ≡ true → left ≢ 0
     → slice_get (members set (drop i pieces)) left ≡ slice_get (members set (drop (i + 1) pieces)) (left - 1)
-later_member set pieces i zero d within inside some = absurd (some refl)
-later_member set pieces i (suc left) d within inside some = rw (members-in set pieces i d within inside, sub-one) refl
+unfolding members
+later_member set pieces i left d within inside some = grind (arith, common_steps, drop-cons, add-one, sub-one)
 
 -- past the last piece none is left
 pub none_left : (set number i left : ℕ) → number < length (pieces_in set) → 7 ≤ i

@@ -1,12 +1,11 @@
 -- The grammar as a relation and the function that reads a text agree: what is spelled is read.
-use Rattle.std.proofs.Common.{◌≡◌, ◌≢◌, ℕ, ◌+◌, ◌-◌, ◌<◌, ◌≤◌, Bool, true, false, cond, ◌&&◌, ◌==◌, nat_lt, nat_le, lt-ltb, le-leb, eqb-true, ne_eqb, List, [], ◌∷◌, ◌++◌, length, append_assoc, append-nil, length-append, bit_or, refl, ap, sym, subst, ◌∙◌, arith, Some, None, Ok, Err, inl, inr, ◌⊎◌}
+use Rattle.std.proofs.Common.{◌≡◌, ◌≢◌, ℕ, ◌+◌, ◌-◌, ◌<◌, ◌≤◌, Bool, true, false, ◌&&◌, ◌==◌, nat_lt, nat_le, lt-ltb, le-leb, eqb-true, ne_eqb, List, [], ◌∷◌, ◌++◌, length, append_assoc, append-nil, length-append, bit_or, refl, ap, sym, subst, ◌∙◌, arith, Some, None, Ok, inl, inr, ◌⊎◌, rules}
 use Rattle.std.proofs.lemmas.Bool.{cases_Bool, and_from}
 use Rattle.std.proofs.lemmas.Bool.Decides.{nat_tests}
 use Rattle.std.proofs.lemmas.Nat.{pow_pos, le_or_r}
 use Rattle.srs.specs.declared.piece.Piece.{Piece}
 use Rattle.srs.specs.Piece.{piece_code, piece_with_letter}
 use Rattle.queue_pattern.specs.declared.element.Element.{Element}
-use Rattle.queue_pattern.specs.declared.fault.PatternFault.TheVariants.{TooManyChosen}
 use Rattle.queue_pattern.specs.Queues.{pieces_in}
 use Rattle.queue_pattern.specs.Grammar.{Elements, outside, opened, listing, closed, choosing, choice, before, bracketed, is_gap, all_set, set_of, elements_from}
 use Rattle.queue_pattern.specs.Spelling.{SpellsLetters, SpellsSet, all, these, others, SpellsChosen, one, digit, every, SpellsElement, letter, chosen, SpellsElements, none, gap, element}
@@ -14,16 +13,10 @@ use Rattle.queue_pattern.proofs.ParseLemmas.{after_front, none_before}
 
 -- a letter is no other byte that means something
 pub not_letter : (byte other : ℕ) (piece : Piece) → piece_with_letter byte ≡ Some piece → piece_with_letter other ≡ None → (byte == other) ≡ false
-not_letter byte other piece is free = elim (cases_Bool (byte == other)) [
-  | inl same ↦ let at : piece_with_letter other ≡ Some piece = subst (λ b. piece_with_letter b ≡ Some piece) (eqb-true byte other same) is in cc
-  | inr differs ↦ differs
-]
+not_letter byte other piece is free = search (rules, cases_Bool, eqb-true)
 
 not_gap : (byte other : ℕ) → is_gap byte ≡ true → is_gap other ≡ false → (byte == other) ≡ false
-not_gap byte other is free = elim (cases_Bool (byte == other)) [
-  | inl same ↦ let at : is_gap other ≡ true = subst (λ b. is_gap b ≡ true) (eqb-true byte other same) is in cc
-  | inr differs ↦ differs
-]
+not_gap byte other is free = search (rules, cases_Bool, eqb-true)
 
 -- the text does not go on with `p`, `P` or `!`
 abbrev pub NoMark : List ℕ → Type 0
@@ -31,10 +24,7 @@ NoMark [] = Unit {0}
 NoMark (byte ∷ bytes) = ((byte == 112) ≡ false) × ((byte == 80) ≡ false) × ((byte == 33) ≡ false)
 
 element-no_mark : (front rest : List ℕ) (e : Element) → SpellsElement front e → NoMark (front ++ rest)
-element-no_mark front rest e (letter {byte = byte} {piece = piece} is) = (not_letter byte 112 piece is refl, not_letter byte 80 piece is refl, not_letter byte 33 piece is refl)
-element-no_mark front rest e (chosen all says some enough) = (refl, refl, refl)
-element-no_mark front rest e (chosen (these some_letters letters) says some enough) = (refl, refl, refl)
-element-no_mark front rest e (chosen (others set some_letters letters) says some enough) = (refl, refl, refl)
+element-no_mark front rest e spelled = search (rules, not_letter)
 
 no_mark : (text : List ℕ) (elements : List Element) → SpellsElements text elements → NoMark text
 no_mark text elements none = tt
@@ -65,12 +55,9 @@ total_some (byte ∷ letters) total some spelled = letters_some letters (bit_or 
 pub read_letters : (letters rest : List ℕ) (start : ℕ) (except : Bool) (so_far total place : ℕ) → SpellsLetters so_far letters total
     → elements_from (listing start except so_far) place (letters ++ rest) ≡ elements_from (listing start except total) (place + length letters) rest
 unfolding elements_from
-read_letters [] rest start except so_far total place spelled =
-    ap (λ n. elements_from (listing start except n) place rest) spelled ∙ ap (λ p. elements_from (listing start except total) p rest) (omega arith)
+read_letters [] rest start except so_far total place spelled = search rules
 read_letters (byte ∷ letters) rest start except so_far total place spelled =
-    let on = read_letters letters rest start except (bit_or so_far (set_of spelled.0)) total (place + 1) spelled.3 in
-    rw (not_letter byte 93 spelled.0 spelled.1 refl, spelled.1, spelled.2)
-    (on ∙ ap (λ p. elements_from (listing start except total) p rest) (omega arith))
+    search (rules, bit_or, not_letter, read_letters letters rest start except (bit_or so_far (set_of spelled.0)) total (place + 1) spelled.3)
 
 -- a bracket that has a letter is no `[^`
 pub read_first : (byte : ℕ) (bytes : List ℕ) (start place : ℕ) → (byte == 94) ≡ false
@@ -133,15 +120,12 @@ read_chosen back rest start set n place says free = go back n (length (pieces_in
 after_choice : (start set n : ℕ) (read : Elements) → 0 < length (pieces_in set) → n ≤ length (pieces_in set)
     → before (choice start set n) read ≡ before (Ok (record { set = set; chosen = n })) read
 unfolding choice
-after_choice start set n read some enough =
-    ap (λ b. before (cond b (Ok (record { set = set; chosen = n })) (Err (TooManyChosen start))) read)
-    (and_from (nat_lt 0 (length (pieces_in set))) (nat_le n (length (pieces_in set))) (lt-ltb 0 (length (pieces_in set)) some) (le-leb n (length (pieces_in set)) enough))
+after_choice start set n read some enough = search (rules, and_from, nat_lt, nat_le, lt-ltb, le-leb)
 
 read_element : (front rest : List ℕ) (e : Element) (place : ℕ) → SpellsElement front e → ((set : ℕ) → SpellsSet front set → NoMark rest)
     → elements_from outside place (front ++ rest) ≡ before (Ok e) (elements_from outside (place + length front) rest)
 unfolding elements_from
-read_element front rest e place (letter {byte = byte} {piece = piece} is) free =
-    rw (not_letter byte 32 piece is refl, not_letter byte 9 piece is refl, not_letter byte 44 piece is refl, not_letter byte 42 piece is refl, not_letter byte 91 piece is refl, is) refl
+read_element front rest e place (letter {byte = byte} {piece = piece} is) free = search (rules, not_letter)
 read_element front rest e place (chosen {front = text} {back = back} {set = set} {n = n} spelled_set says some enough) free =
     let bare : back ≡ [] → NoMark rest = λ none. free set (subst (λ t. SpellsSet t set) (sym (ap (λ b. text ++ b) none ∙ append-nil text)) spelled_set) in
     ap (elements_from outside place) (append_assoc text back rest)
@@ -168,8 +152,7 @@ clear_element front more rest e first clear = record {
 }
 
 one_before : (e : Element) (es : List Element) (read : Elements) → before (Ok e) (after_front es read) ≡ after_front (e ∷ es) read
-one_before e es (Ok found) = refl
-one_before e es (Err fault) = refl
+one_before e es read = search rules
 
 -- elements are read before what follows them
 pub read_elements : (whole : List ℕ) (es : List Element) → SpellsElements whole es → (rest : List ℕ) → Clear whole rest → (place : ℕ)
@@ -177,8 +160,7 @@ pub read_elements : (whole : List ℕ) (es : List Element) → SpellsElements wh
 unfolding elements_from
 read_elements whole es none rest clear place = ap (λ p. elements_from outside p rest) (omega arith) ∙ none_before (elements_from outside (place + 0) rest)
 read_elements whole es (gap {byte = byte} {text = later} is spelled) rest clear place =
-    rw is (read_elements later es spelled rest (clear_gap byte later rest is clear) (place + 1)
-    ∙ ap (λ p. after_front es (elements_from outside p rest)) (omega arith))
+    search (rules, clear_gap, read_elements later es spelled rest (clear_gap byte later rest is clear) (place + 1))
 read_elements whole es (element {front = front} {rest = more} {first = e} {elements = later} first spelled) rest clear place =
     ap (elements_from outside place) (append_assoc front more rest)
     ∙ read_element front (more ++ rest) e place first (clear_front front more rest later spelled clear)

@@ -1,5 +1,5 @@
 -- Where the search for the queue with a number stands.
-use Rattle.std.proofs.Common.{◌≡◌, ℕ, suc, ◌+◌, ◌-◌, ◌*◌, ◌/◌, ◌%◌, ◌<◌, ◌≤◌, List, [], ◌∷◌, ◌++◌, length, append_assoc, refl, ap, sym, ◌∙◌, arith, Option, Some, None, true, subst, append-nil, length-append, Contains}
+use Rattle.std.proofs.Common.{◌≡◌, ℕ, suc, ◌+◌, ◌-◌, ◌*◌, ◌/◌, ◌%◌, ◌<◌, ◌≤◌, List, [], ◌∷◌, ◌++◌, length, append_assoc, refl, ap, sym, ◌∙◌, arith, Option, Some, true, subst, append-nil, length-append, Contains, rules}
 use Rattle.std.specs.List.{slice_get}
 use Rattle.std.specs.Option.{option_map}
 use Rattle.std.specs.List.{list_all}
@@ -16,7 +16,7 @@ use Rattle.queue_pattern.specs.Sound.{is_sound}
 use Rattle.queue_pattern.proofs.BuilderLemmas.{sound-within, sound-set}
 use Rattle.queue_pattern.proofs.LimitLemmas.{queue_count-some}
 use Rattle.queue_pattern.proofs.ChoiceLemmas.{IsSet, pieces_in-set, length-others}
-use Rattle.queue_pattern.proofs.FallingLemmas.{falling_factor-more, falling_factor-none, falling_factor-some}
+use Rattle.queue_pattern.proofs.FallingLemmas.{falling_factor-more, falling_factor-some}
 use Rattle.queue_pattern.proofs.QueueLemmas.{tails-none, queues-none, tails-get, queues-tails}
 
 -- The member with this index begins with these pieces, and goes on as the member with the number left of those that may
@@ -25,13 +25,9 @@ pub record Stands (whole : List (List Piece)) (index : ℕ) (front : List Piece)
   pub here : slice_get whole index ≡ option_map (λ tail. front ++ tail) (slice_get rest left)
   pub within : left < block
 
-pub stands_first : (whole : List (List Piece)) (index block : ℕ) → index < block → Stands whole index [] index block whole
-stands_first whole index block within = record { here = sym (option_map_id (slice_get whole index)); within = within }
-
 map-append : (front : List Piece) (piece : Piece) (o : Option (List Piece)) →
     option_map (λ tail. front ++ tail) (option_map (λ tail. piece ∷ tail) o) ≡ option_map (λ tail. (front ++ piece ∷ []) ++ tail) o
-map-append front piece None = refl
-map-append front piece (Some tail) = ap Some (sym (append_assoc front (piece ∷ []) tail))
+map-append front piece o = search (rules, append_assoc)
 
 -- one more piece
 pub stands_more : (whole : List (List Piece)) (index : ℕ) (front : List Piece) (left block rest_block : ℕ) (pieces : List Piece) (n : ℕ) (elements : List Element) (piece : Piece)
@@ -67,8 +63,7 @@ pub record Within (whole : List Element) (index room : ℕ) (front : List Piece)
 
 pub between_first : (whole : List Element) (index block room : ℕ) → index < block → block ≡ queue_count whole → room ≡ queue_len whole → list_all is_sound whole ≡ true
     → Between whole index room [] index block whole
-between_first whole index block room within is pieces sound =
-    record { stands = stands_first (queues whole) index block within; blocks = is; pieces = omega (arith, pieces); sound = sound }
+between_first whole index block room within is pieces sound = search (rules, option_map_id)
 
 pub into_element : (whole : List Element) (index room : ℕ) (front : List Piece) (left block : ℕ) (element : Element) (rest : List Element)
     → Between whole index room front left block (element ∷ rest) → Within whole index room front left block element.set element.chosen rest
@@ -86,14 +81,8 @@ into_element whole index room front left block element rest so_far =
 
 pub out_of_element : (whole : List Element) (index room : ℕ) (front : List Piece) (left block set n : ℕ) (rest : List Element) → n ≡ 0
     → Within whole index room front left block set n rest → Between whole index room front left block rest
-out_of_element whole index room front left block set n rest none so_far =
-    record {
-      stands = subst (Stands (queues whole) index front left block) (ap (λ k. tails (pieces_in set) k rest) none ∙ tails-none (pieces_in set) rest) so_far.stands;
-      blocks = so_far.blocks ∙ ap (λ k. falling_factor (length (pieces_in set)) k * queue_count rest) none
-          ∙ ap (λ k. k * queue_count rest) (falling_factor-none (length (pieces_in set))) ∙ one-mul (queue_count rest);
-      pieces = omega (arith, so_far.pieces);
-      sound = so_far.sound;
-    }
+unfolding falling_factor
+out_of_element whole index room front left block set n rest none so_far = search (rules, tails-none, one-mul)
 
 -- the block of the next piece
 pub block_of : (whole : List Element) (index room : ℕ) (front : List Piece) (left block set n : ℕ) (rest : List Element)

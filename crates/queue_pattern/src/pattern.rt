@@ -42,6 +42,7 @@ impl Pattern {
     ghost use Rattle.queue_pattern.specs.Queues.{queues};
 
     /// The pattern that a text spells.
+    #[tactic(auto, using(crate::proofs::ParseLemmas::reads_more))]
     pub fn parse(text: &str) -> Result<Pattern, PatternFault>
         ensures pattern { IfOk result (λ pattern. limited (elements text.now) ≡ Ok (elements_of pattern)) }
         ensures fault { IfErr result (λ fault. limited (elements text.now) ≡ Err fault) }

@@ -62,6 +62,7 @@ fn listed_set(
 }
 
 /// The set that the brackets from `start` on spell, and the place after them.
+#[tactic(auto, using(crate::proofs::ReadBrackets::set_from, crate::proofs::ReadBrackets::open_except, crate::proofs::ReadBrackets::open_listing))]
 fn set_in_brackets(text: &[u8], start: usize) -> Result<(u8, usize), PatternFault>
     requires { start < length text.now }
     ensures { IsNextSet text.now (opened start) start (start + 1) result }

@@ -1,5 +1,5 @@
 -- The goals of `nth` that need lemmas.
-use Rattle.std.proofs.Common.{◌+◌, ◌∙◌, sym, ap, drop}
+use Rattle.std.proofs.Common.{◌+◌, ◌∙◌, sym, ap, drop, rules}
 use Rattle.std.specs.List.{slice_get}
 use Rattle.srs.specs.declared.piece.Piece.TheVariants.{I}
 use Rattle.srs.specs.Piece.{all_pieces}
@@ -26,5 +26,4 @@ loop-piece-preserved c = elim c.if-is_in.branch [
 ]
 
 pub unreachable-requires : goal.unreachable-requires
-unreachable-requires c =
-    none_left c.args.set c.args.number c.loop-piece.piece-index c.loop-piece.left c.requires c.loop-piece-test.false c.loop-piece.invariant
+unreachable-requires c = search (rules, none_left)

@@ -1,5 +1,5 @@
 -- The goals of `chosen_after` that need lemmas.
-use Rattle.std.proofs.Common.{◌≡◌, ◌+◌, ◌-◌, ◌<◌, ◌∙◌, ◌⊎◌, sym, ap, inl, inr, arith}
+use Rattle.std.proofs.Common.{◌≡◌, ◌+◌, ◌-◌, ◌<◌, ◌∙◌, ◌⊎◌, sym, ap, inl, inr, arith, rules}
 use Rattle.queue_pattern.specs.Grammar.{read_at, outside, before, choice}
 use Rattle.queue_pattern.proofs.ReadStep.{closed_bang, closed_choosing, choosing_digit, choosing_other, closed_other, within_text}
 use Rattle.queue_pattern.proofs.text.chosen_after.Goals as goal
@@ -14,11 +14,7 @@ returns-then-mark-eq33-clause-chosen c =
     )
 
 pub returns-then-mark-ne80-clause-chosen : goal.returns-then-mark-ne80-clause-chosen
-returns-then-mark-ne80-clause-chosen c = (
-  (λ start. closed_other c.args.text.now start c.args.set c.args.place c.byte_at-mark.result (omega arith) (sym c.byte_at-mark.ensures) c.if-mark-eq33.false c.if-mark-ne112.true c.if-mark-ne80.true),
-  omega arith,
-  omega arith,
-)
+returns-then-mark-ne80-clause-chosen c = search (rules, closed_other)
 
 pub returns-then-digit-lt49-clause-chosen : goal.returns-then-digit-lt49-clause-chosen
 returns-then-digit-lt49-clause-chosen c = λ start.

@@ -1,27 +1,20 @@
 -- The goals of `element_from` that need lemmas.
-use Rattle.std.proofs.Common.{◌≡◌, ◌+◌, ◌∙◌, sym, ap, arith, None, Some, Ok, subst, true}
+use Rattle.std.proofs.Common.{◌≡◌, ◌+◌, ◌∙◌, sym, ap, arith, None, Some, Ok, subst, true, rules}
 use Rattle.std.proofs.lemmas.Result.{err_from_is_err_and}
 use Rattle.queue_pattern.specs.Sound.{is_sound}
 use Rattle.queue_pattern.proofs.SetLemmas.{single-sound}
-use Rattle.queue_pattern.specs.Grammar.{read_at, outside, closed, all_set, before}
+use Rattle.queue_pattern.specs.Grammar.{read_at, outside, before}
 use Rattle.queue_pattern.proofs.ReadElement.{element_from, read_star, read_open, read_letter}
 use Rattle.queue_pattern.proofs.text.element_from.Goals as goal
 
 pub returns-then-byte-eq42-clause-found : goal.returns-then-byte-eq42-clause-found
-returns-then-byte-eq42-clause-found c =
-    element_from c.args.text.now outside (closed c.args.start all_set) c.args.start (c.args.start + 1) c.chosen_element.result
-    (omega arith) (read_star c.args.text.now c.args.start c.requires.within c.if-byte-eq42.true) c.chosen_element.ensures.found
+returns-then-byte-eq42-clause-found c = search (rules, element_from, read_star)
 
 pub returns-in_err-set-clause-found : goal.returns-in_err-set-clause-found
-returns-in_err-set-clause-found c =
-    let p = err_from_is_err_and c.from_residual.result c.from_residual.ensures.1 in
-    rw (p.1, p.2) (read_open c.args.text.now c.args.start c.requires.within c.if-byte-eq91.true ∙ c.in_err-set.ensures)
+returns-in_err-set-clause-found c = search (rules, err_from_is_err_and, read_open)
 
 pub returns-then-byte-eq91-clause-found : goal.returns-then-byte-eq91-clause-found
-returns-then-byte-eq91-clause-found c =
-    let set = c.in_ok-set.ensures in
-    element_from c.args.text.now outside (closed c.args.start c.in_ok-set.set) c.args.start c.in_ok-set.after c.chosen_element-then-byte-eq91.result
-    (omega arith) (read_open c.args.text.now c.args.start c.requires.within c.if-byte-eq91.true ∙ set.0) c.chosen_element-then-byte-eq91.ensures.found
+returns-then-byte-eq91-clause-found c = search (rules, element_from, read_open)
 
 pub returns-in-Some-clause-found : goal.returns-in-Some-clause-found
 returns-in-Some-clause-found c = (

@@ -1,19 +1,12 @@
 -- The goals of `listed_set` that need lemmas.
-use Rattle.std.proofs.Common.{◌≡◌, ◌≢◌, ◌+◌, ◌<◌, ◌∙◌, ◌⊎◌, sym, ap, inl, inr, arith, subst, None, Some, bit_or, get_or, length}
-use Rattle.queue_pattern.specs.Grammar.{read_at, listing, closed}
+use Rattle.std.proofs.Common.{◌≡◌, ◌≢◌, ◌+◌, ◌<◌, ◌∙◌, ◌⊎◌, sym, ap, inl, inr, arith, subst, None, Some, bit_or, get_or, length, rules}
+use Rattle.queue_pattern.specs.Grammar.{read_at, listing}
 use Rattle.queue_pattern.proofs.ReadStep.{read_end}
 use Rattle.queue_pattern.proofs.ReadBrackets.{read_close, read_listed, repeated, joined, with_one-within}
 use Rattle.queue_pattern.proofs.text.listed_set.Goals as goal
 
 pub returns-then-listed-ne0 : goal.returns-then-listed-ne0
-returns-then-listed-ne0 c = (
-  c.loop-place.invariant.1
-      ∙ read_close c.args.text.now c.args.start c.args.except c.loop-place.listed c.loop-place.place c.loop-place-test.true c.if-text-place-eq93.true c.if-listed-ne0.true
-      ∙ ap (λ set. read_at c.args.text.now (closed c.args.start set) (c.loop-place.place + 1)) (sym c.bracketed.ensures.value),
-  c.bracketed.ensures.within,
-  omega arith,
-  omega arith,
-)
+returns-then-listed-ne0 c = search (rules, read_close)
 
 pub returns-in_default : goal.returns-in_default
 returns-in_default c =

@@ -1,5 +1,5 @@
 -- The goals of `next_element` that need lemmas.
-use Rattle.std.proofs.Common.{◌≡◌, ◌∙◌, length, sym, ap, arith}
+use Rattle.std.proofs.Common.{◌≡◌, ◌∙◌, length, sym, ap, arith, rules}
 use Rattle.std.proofs.lemmas.Result.{err_from_is_err_and}
 use Rattle.queue_pattern.specs.Grammar.{read_at, outside}
 use Rattle.queue_pattern.proofs.ReadStep.{read_end}
@@ -7,15 +7,10 @@ use Rattle.queue_pattern.proofs.ReadElement.{read_gap}
 use Rattle.queue_pattern.proofs.text.next_element.Goals as goal
 
 pub returns-in_err-found-clause-found : goal.returns-in_err-found-clause-found
-returns-in_err-found-clause-found c =
-    let p = err_from_is_err_and c.from_residual.result c.from_residual.ensures.1 in
-    rw (p.1, p.2) (c.loop-start.invariant ∙ c.in_err-found.ensures.found)
+returns-in_err-found-clause-found c = search (rules, err_from_is_err_and)
 
 pub returns-then-not-is_gap-clause-found : goal.returns-then-not-is_gap-clause-found
-returns-then-not-is_gap-clause-found c =
-    let found = c.in_ok-found.ensures.found in
-    let on = c.in_ok-found.ensures.goes_on in
-    (c.loop-start.invariant ∙ found.0, omega arith, found.2)
+returns-then-not-is_gap-clause-found c = search rules
 
 pub loop-start-preserved : goal.loop-start-preserved
 loop-start-preserved c = c.loop-start.invariant ∙ read_gap c.args.text.now c.loop-start.start c.loop-start-test.true (sym c.if-not-is_gap.ensures)

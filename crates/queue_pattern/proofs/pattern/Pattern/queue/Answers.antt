@@ -1,5 +1,5 @@
 -- The goals of `Pattern::queue` that need lemmas.
-use Rattle.std.proofs.Common.{◌≡◌, ◌+◌, ◌-◌, ◌/◌, ◌%◌, ◌∙◌, ◌∷◌, sym, subst, arith, take, drop, get_or, drop-cons, add-one, refl}
+use Rattle.std.proofs.Common.{◌≡◌, ◌+◌, ◌-◌, ◌/◌, ◌%◌, ◌∙◌, ◌∷◌, sym, subst, arith, take, drop, get_or, drop-cons, add-one, refl, rules}
 use Rattle.std.proofs.lemmas.List.{drop_all}
 use Rattle.queue_pattern.specs.declared.element.Element.{Element}
 use Rattle.queue_pattern.specs.Pattern.{elements_of}
@@ -9,11 +9,7 @@ use Rattle.queue_pattern.proofs.pattern.Pattern.queue.Goals as goal
 
 pub elements-init : goal.elements-init
 unfolding elements_of
-elements-init c =
-    let all = elements_of c.args.self.now in
-    subst (λ items. Between all c.args.index c.args.self.now.pieces items c.args.index c.args.self.now.count all) (sym c.new-queue.ensures)
-    (between_first all c.args.index c.args.self.now.count c.args.self.now.pieces
-    (omega (arith, c.requires, length-queues all, c.args.self.now.counted)) c.args.self.now.counted c.args.self.now.len c.args.self.now.sound)
+elements-init c = search (rules, between_first, length-queues)
 
 abbrev no_element : Element
 no_element = record { set = 0; chosen = 0 }
@@ -56,6 +52,4 @@ pub elements-preserved : goal.elements-preserved
 elements-preserved c = out_of_element _ _ _ _ _ _ _ _ _ (omega arith) c.pieces.invariant
 
 pub returns : goal.returns
-returns c =
-    let none = drop_all c.elements.element-index (take c.args.self.now.number c.args.self.now.elements) c.elements-test.false in
-    found _ _ _ _ _ _ (rw none at c.elements.invariant)
+returns c = search (rules, drop_all, found)
