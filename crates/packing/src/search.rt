@@ -72,11 +72,11 @@ fn recall(cells: &Empties, y: u8, supply: SupplyWord, known: &mut FactTable<Deci
     requires { IsFirst (empty_cells cells.now) 0 y }
     ensures { IsTrue result ↔ Tiling (all_but (empty_cells cells.now)) 8 (supply_of supply) }
 {
-    if known.is_without_room() || cells.is_few() {
-        return covers(cells, y, supply, known);
-    }
     if cells.has_uneven_start() {
         return false;
+    }
+    if known.is_without_room() || cells.is_few() {
+        return covers(cells, y, supply, known);
     }
     if cells.has_wrong_parity(supply) {
         return false;
