@@ -13,15 +13,15 @@ loop-index-preserved c =
     let state = c.loop-index.invariant.1 in
     elim c.if-wanted-index-eq1.branch [
       | then-wanted-index-eq1+in_ok-add w ↦ rw (w.pieces-is, w.others-is) (
-          w.in_ok-add.ensures.kind ∙ c.loop-index.invariant.0,
-          standing-more known c.loop-index.pieces w.add.new.self c.loop-index.others index w.index.result.now
-              (slice_get_read known _ index w.index.result.now refl (omega (arith, c.loop-index-test.true, c.min-index-end.ensures, c.len.ensures)) w.index.ensures)
-              w.in_ok-add.ensures.kind w.in_ok-add.ensures.added state,
-        )
+        w.in_ok-add.ensures.kind ∙ c.loop-index.invariant.0,
+        standing-more known c.loop-index.pieces w.add.new.self c.loop-index.others index w.index.result.now
+            (slice_get_read known _ index w.index.result.now refl (omega (arith, c.loop-index-test.true, c.min-index-end.ensures, c.len.ensures)) w.index.ensures)
+            w.in_ok-add.ensures.kind w.in_ok-add.ensures.added state,
+      )
       | else-wanted-index-eq1 w ↦ rw (w.pieces-is, w.others-is) (
-          c.loop-index.invariant.0,
-          standing-pass known c.loop-index.pieces c.loop-index.others index (omega (arith, c.loop-index-test.true, c.min-index-end.ensures)) state,
-        )
+        c.loop-index.invariant.0,
+        standing-pass known c.loop-index.pieces c.loop-index.others index (omega (arith, c.loop-index-test.true, c.min-index-end.ensures)) state,
+      )
     ]
 
 pub returns-clause-each : goal.returns-clause-each
