@@ -95,11 +95,11 @@ impl Lister {
             self.listing.add();
             return;
         };
-        if self.known.is_without_room() || counted.is_few() {
-            self.covers(&counted, y, supply);
+        if counted.is_refused(supply) {
             return;
         }
-        if counted.is_refused(supply) {
+        if self.known.is_without_room() || counted.is_few() {
+            self.covers(&counted, y, supply);
             return;
         }
         self.asks(&counted, y, supply);
