@@ -1,5 +1,5 @@
 -- The first of the runs of so many placements.
-use Rattle.std.proofs.Common.{◌≡◌, ◌≢◌, ℕ, ◌-◌, ◌≤◌, ◌<◌, false, List, [], ◌∷◌, length, refl, ap, sym, subst, ◌∙◌, arith, Option, Some, None, inl, inr, ◌⊎◌}
+use Rattle.std.proofs.Common.{◌≡◌, ◌≢◌, ℕ, ◌-◌, ◌≤◌, ◌<◌, false, List, [], ◌∷◌, length, refl, ap, sym, subst, ◌∙◌, arith, Option, Some, None, inl, inr, ◌⊎◌, rules}
 use Rattle.std.specs.Ordering.{is_lt, ordering_then, ordering_reverse, nat_cmp}
 use Rattle.std.specs.declared.cmp.Ordering.{Ordering}
 use Rattle.std.specs.declared.cmp.Ordering.TheVariants.{Less, Equal, Greater}
@@ -21,12 +21,11 @@ use Rattle.moves.specs.Place.{IsPlace}
 use Rattle.hold_queue.specs.declared.hand.Hand.{Hand}
 use Rattle.hold_queue.specs.declared.hand.Taken.{Taken}
 use Rattle.hold_queue.specs.declared.hold.Hold.{Hold}
-use Rattle.hold_queue.specs.AtHand.{Take, Takes, at_hand}
+use Rattle.hold_queue.specs.AtHand.{Take, at_hand}
 use Rattle.hold_queue.specs.Hand.{AreAllTakes, AreInOrder, Leaves, pieces_at}
 use Rattle.hold_queue.proofs.CallerLemmas.{permits-of_takes, takes-of_permits}
-use Rattle.combo.specs.Longest.{IsPermittedRun, IsLongest}
+use Rattle.combo.specs.Longest.{IsLongest}
 use Rattle.combo.specs.First.{IsFirst, IsTakenRun, AreShorter, RunsOn, RunsOnIf, RunsOnUpTo}
-use Rattle.problem.specs.Solution.{pieces_of}
 
 -- ---- one placement after the other
 
@@ -125,30 +124,18 @@ none_taken table mode hold F queue (Some taken) count some is = cc
 
 runs_on : (table : Table) (mode : DropMode) (hold : Hold) (F : Field) (queue : List Piece) (taken : Option Taken) (q : Placement) (run : List Placement) (left : List Piece) → Leaves queue taken q.piece left
     → IsPlace table F mode q → 1 ≤ rows_removed F q → IsTakenRun table mode (locked F q) hold left run → RunsOnIf table mode hold F queue taken (q ∷ run)
-runs_on table mode hold F queue None q run left leaves place removes rest = absurd leaves
-runs_on table mode hold F queue (Some taken) q run left leaves place removes rest =
-    (sym leaves.0, place, removes, subst (λ l. IsTakenRun table mode (locked F q) hold l run) (sym leaves.1) rest)
+runs_on table mode hold F queue taken q run left leaves place removes rest = search rules
 
 -- a run begins with one of the two
 divided : (table : Table) (mode : DropMode) (hold : Hold) (F : Field) (queue : List Piece) (hand : Hand) (one other : Option Taken) → AreAllTakes hold queue hand one other
     → (q : Placement) (run : List Placement) → IsTakenRun table mode F hold (pieces_at queue hand) (q ∷ run) → RunsOnIf table mode hold F queue one (q ∷ run) ⊎ RunsOnIf table mode hold F queue other (q ∷ run)
-divided table mode hold F queue hand one other ways q run member =
-    let rest : IsTakenRun table mode (locked F q) hold member.taken.0 run = record { runs = member.runs.2; taken = member.taken.2 } in
-    elim ((ways.each q.piece member.taken.0).1 member.taken.1) [
-      | inl leaves ↦ inl (runs_on table mode hold F queue one q run member.taken.0 leaves member.runs.0 member.runs.1 rest)
-      | inr leaves ↦ inr (runs_on table mode hold F queue other q run member.taken.0 leaves member.runs.0 member.runs.1 rest)
-    ]
+divided table mode hold F queue hand one other ways q run member = search (rules, runs_on)
 
 -- and what begins so is a run
 on_taken : (table : Table) (mode : DropMode) (hold : Hold) (F : Field) (queue : List Piece) (hand : Hand) (taken : Option Taken)
     → ((piece : Piece) (rest : List Piece) → Leaves queue taken piece rest → Take hold (pieces_at queue hand) piece rest) → (run : List Placement) → RunsOnIf table mode hold F queue taken run
     → IsTakenRun table mode F hold (pieces_at queue hand) run
-on_taken table mode hold F queue hand taken way [] on = record { runs = tt; taken = tt }
-on_taken table mode hold F queue hand None way (q ∷ run) on = cc
-on_taken table mode hold F queue hand (Some taken) way (q ∷ run) on = record {
-  runs = (on.1, on.2, on.3.runs);
-  taken = (pieces_at queue taken.rest, way q.piece (pieces_at queue taken.rest) (sym on.0, refl), on.3.taken);
-}
+on_taken table mode hold F queue hand taken way rest on = search rules
 
 -- the first placement has the taken piece
 plays : (table : Table) (mode : DropMode) (hold : Hold) (F : Field) (queue : List Piece) (taken : Taken) (q : Placement) (run : List Placement)
@@ -243,11 +230,5 @@ empty_first table mode F hold hand count run none is = subst (IsFirst (IsTakenRu
 -- the first of the longest runs
 pub is_longest : (table : Table) (mode : DropMode) (F : Field) (hold : Hold) (queue : List Piece) (held : Option Piece) (hand : List Piece) (count : ℕ) (run : List Placement) → hand ≡ at_hand hold held queue → 1 ≤ count
     → IsFirst (IsTakenRun table mode F hold hand) (count - 1) run → AreShorter (IsTakenRun table mode F hold hand) count → IsLongest table mode F hold queue held run
-is_longest table mode F hold queue held hand count run is some first short = record {
-  permitted = record { runs = first.member.runs; permitted = permits-of_takes hold queue held (pieces_of run) (subst (λ l. Takes hold l (pieces_of run)) is first.member.taken) };
-  longest = λ other member. omega (arith, some, first.long, short.each other (seen other member));
-  least = λ other member long. first.first other (seen other member) (omega (arith, long, first.long));
-}
-  where
-    seen : (other : List Placement) → IsPermittedRun table mode F hold queue held other → IsTakenRun table mode F hold hand other
-    seen other member = record { runs = member.runs; taken = subst (λ l. Takes hold l (pieces_of other)) (sym is) (takes-of_permits hold queue held (pieces_of other) member.permitted) }
+is_longest table mode F hold queue held hand count run is some first short =
+    search (rules, permits-of_takes, takes-of_permits)

@@ -1,5 +1,5 @@
 -- There is a longest run: the best of all permitted runs, of which there are finitely many.
-use Rattle.std.proofs.Common.{◌≡◌, ◌≢◌, ◌∙◌, ◌⊎◌, ℕ, zero, suc, ◌≤◌, Bool, true, cond, ◌&&◌, nat_le, le-leb, leb-true, List, [], ◌∷◌, length, map, Option, refl, sym, ap, subst, inl, inr, arith}
+use Rattle.std.proofs.Common.{◌≡◌, ◌≢◌, ◌∙◌, ◌⊎◌, ℕ, zero, suc, ◌≤◌, Bool, true, cond, ◌&&◌, nat_le, le-leb, leb-true, List, [], ◌∷◌, length, map, Option, refl, sym, ap, subst, inl, inr, arith, rules}
 use Rattle.std.specs.Prelude.{Contains, filter}
 use Rattle.std.specs.List.{flat_map}
 use Rattle.std.specs.Cmp.{tied_itself}
@@ -49,10 +49,7 @@ not_before one two three first second less = by (sequence_cmp one two) refl
     by Greater is = first (sequence_cmp-total.antisymm two one ∙ ap ordering_reverse is)
 
 good-then : (one two three : List Placement) → IsAsGood one two → IsAsGood two three → IsAsGood one three
-good-then one two three first second = record {
-  long = omega (arith, first.long, second.long);
-  first = λ same. not_before one two three (first.first (omega (arith, first.long, second.long, same))) (second.first (omega (arith, first.long, second.long, same)));
-}
+good-then one two three first second = search (rules, not_before)
 
 record Better (one two : List Placement) : Type 0 where
   best : List Placement

@@ -1,5 +1,5 @@
 -- Walls in the outermost columns, and gaps in the four in the middle.
-use Rattle.std.proofs.Common.{◌≡◌, ℕ, zero, suc, ◌+◌, ◌*◌, ◌/◌, ◌<◌, ◌≤◌, true, false, not, ◌&&◌, List, length, refl, subst, ap, inl, inr, arith}
+use Rattle.std.proofs.Common.{◌≡◌, ℕ, zero, suc, ◌+◌, ◌*◌, ◌/◌, ◌<◌, ◌≤◌, true, false, not, ◌&&◌, List, length, refl, subst, ap, inl, inr, arith, rules}
 use Rattle.std.proofs.lemmas.Bool.Decides.{nat_tests}
 use Rattle.std.proofs.lemmas.Bool.{and_from, both_ways, cases_Bool, cases_eq, false_from_ne_true, or_from, or_left, or_right}
 use Rattle.srs.proofs.CallerLemmas.{and_first, and_second}
@@ -43,17 +43,7 @@ in_three F x y three = let two = and_first (F x y && F (x + 1) y) (F (x + 2) y) 
 
 -- an empty cell of a row with gaps lies in the middle
 sides : (F : Field) (y : ℕ) → has_three F 0 y ≡ true → has_three F 7 y ≡ true → (x : ℕ) → x < 10 → F x y ≡ false → is_middle x ≡ true
-sides F y left right zero within empty = absurd (both_ways _ empty (in_three F 0 y left).0)
-sides F y left right (suc zero) within empty = absurd (both_ways _ empty (in_three F 0 y left).1)
-sides F y left right (suc (suc zero)) within empty = absurd (both_ways _ empty (in_three F 0 y left).2)
-sides F y left right (suc (suc (suc zero))) within empty = refl
-sides F y left right (suc (suc (suc (suc zero)))) within empty = refl
-sides F y left right (suc (suc (suc (suc (suc zero))))) within empty = refl
-sides F y left right (suc (suc (suc (suc (suc (suc zero)))))) within empty = refl
-sides F y left right (suc (suc (suc (suc (suc (suc (suc zero))))))) within empty = absurd (both_ways _ empty (in_three F 7 y right).0)
-sides F y left right (suc (suc (suc (suc (suc (suc (suc (suc zero)))))))) within empty = absurd (both_ways _ empty (in_three F 7 y right).1)
-sides F y left right (suc (suc (suc (suc (suc (suc (suc (suc (suc zero))))))))) within empty = absurd (both_ways _ empty (in_three F 7 y right).2)
-sides F y left right (suc (suc (suc (suc (suc (suc (suc (suc (suc (suc n)))))))))) within empty = absurd (omega (arith, within))
+sides F y left right h4 within empty = search (rules, both_ways, in_three)
 
 module _ (F : Field) (y : ℕ) (gaps : has_gaps F y ≡ true) where
   gaps_in_middle : (x : ℕ) → x < 10 → F x y ≡ false → is_middle x ≡ true

@@ -1,5 +1,5 @@
 -- The places that are left after a placement.
-use Rattle.std.proofs.Common.{◌≡◌, ◌<◌, true, List, length, ap, sym, subst, ◌∙◌, arith, Option, Some, ◌↔◌}
+use Rattle.std.proofs.Common.{◌≡◌, ◌<◌, List, length, ap, sym, subst, ◌∙◌, arith, Option, Some, ◌↔◌, rules}
 use Rattle.std.specs.Prelude.{IsTrue, filter, find}
 use Rattle.std.proofs.lemmas.Option.{same_Some}
 use Rattle.lane_board.specs.Field.{Field}
@@ -44,23 +44,15 @@ abbrev pub IsHeld : Places → Table → Field → DropMode → Piece → Type 0
 IsHeld places table F mode piece = (q : Placement) → (IsTrue (holds places q)) ↔ ((q.piece ≡ piece) × IsPlace table F mode q)
 
 pub held_inside : (places : Places) (table : Table) (F : Field) (mode : DropMode) (piece : Piece) → piece_of places ≡ piece → IsHeld places table F mode piece → HoldsInside places
-held_inside places table F mode piece is held q holds_q =
-    let place = (held q).0 holds_q in
-    record { kind = place.0 ∙ sym is; canonical = place.1.canonical; inside = free_inside F q (place-free table F mode q place.1) }
+held_inside places table F mode piece is held q holds_q = search (rules, free_inside, place-free)
 
 pub least_place : (places : Places) (table : Table) (F : Field) (mode : DropMode) (piece : Piece) (copied bound : Option Placement) (q : Placement) → IsHeld places table F mode piece → copied ≡ bound
     → IsLeastAbove placement_cmp (λ p. IsTrue (holds places p)) copied q → IsLeastAbove placement_cmp (λ p. (p.piece ≡ piece) × IsPlace table F mode p) bound q
-least_place places table F mode piece copied bound q held same least = record {
-  member = (held q).0 least.member;
-  above = subst (λ b. is_above placement_cmp b q ≡ true) same least.above;
-  least = λ p member above. least.least p ((held p).1 member) (subst (λ b. is_above placement_cmp b p ≡ true) (sym same) above);
-}
+least_place places table F mode piece copied bound q held same least = search rules
 
 pub none_place : (places : Places) (table : Table) (F : Field) (mode : DropMode) (piece : Piece) (copied bound : Option Placement) → IsHeld places table F mode piece → copied ≡ bound
     → NoneAbove placement_cmp (λ p. IsTrue (holds places p)) copied → NoneAbove placement_cmp (λ p. (p.piece ≡ piece) × IsPlace table F mode p) bound
-none_place places table F mode piece copied bound held same none = record {
-  none = λ p member above. none.none p ((held p).1 member) (subst (λ b. is_above placement_cmp b p ≡ true) (sym same) above);
-}
+none_place places table F mode piece copied bound held same none = search rules
 
 pub least_held : (places : Places) (copied bound : Option Placement) (q : Placement) → copied ≡ bound
     → IsLeastAbove placement_cmp (λ p. IsTrue (holds places p)) copied q → IsLeastAbove placement_cmp (λ p. IsTrue (holds places p)) bound q

@@ -1,5 +1,5 @@
 -- Two cells of one placement, and a column in which it crosses a height.
-use Rattle.std.proofs.Common.{◌≡◌, ◌≢◌, ℕ, ◌+◌, ◌-◌, ◌<◌, ◌≤◌, ℤ, pos, ◌+ℤ◌, ◌-ℤ◌, ◌≤ℤ◌, Bool, true, ◌&&◌, ◌||◌, List, [], ◌∷◌, ◌⊎◌, refl, sym, subst, ap, ◌∙◌, inl, inr, arith}
+use Rattle.std.proofs.Common.{◌≡◌, ◌≢◌, ℕ, ◌+◌, ◌-◌, ◌<◌, ◌≤◌, ℤ, pos, ◌+ℤ◌, ◌-ℤ◌, ◌≤ℤ◌, Bool, true, ◌&&◌, ◌||◌, List, [], ◌∷◌, ◌⊎◌, refl, sym, subst, ap, ◌∙◌, inl, inr, arith, rules}
 use Rattle.std.specs.Prelude.{int_le, nat_abs}
 use Rattle.std.specs.List.{list_all}
 use Rattle.std.specs.Ordering.{int_eq}
@@ -111,10 +111,7 @@ crossing q height some inside crossed = elim (or_cases _ _ crossed) [
 
 -- what is tried of a row that lies above the one cell
 tried : (q : Placement) (height y : ℕ) (t : ℤ) → y < height → t ≡ pos height -ℤ pos q.y → (int_le t (pos y -ℤ pos q.y) || crosses (its_shape q) t) ≡ true → crosses (its_shape q) (pos height -ℤ pos q.y) ≡ true
-tried q height y t above is test = elim (or_cases _ _ test) [
-  | inl low ↦ let under : t ≤ℤ (pos y -ℤ pos q.y) = int_le-true _ _ low in absurd (omega (arith, ints, under, is, above))
-  | inr crossed ↦ subst (λ r. crosses (its_shape q) r ≡ true) is crossed
-]
+tried q height y t above is test = search (rules, or_cases, int_le-true)
 
 -- a placement with a cell below a height and one at or above it crosses the height
 pub crosses_height : (q : Placement) (height x y u v : ℕ) → is_inside_of q ≡ true → Has q x y → Has q u v → y < height → height ≤ v → Crossing q height

@@ -1,5 +1,5 @@
 -- Rows and cells after full rows are removed below a height at and above which none is full.
-use Rattle.std.proofs.Common.{◌≡◌, ℕ, zero, suc, ◌+◌, ◌*◌, ◌<◌, ◌≤◌, Bool, true, false, cond, count_by, get_or, List, [], ◌∷◌, length, subst, ap, ◌∙◌, inl, inr, arith}
+use Rattle.std.proofs.Common.{◌≡◌, ℕ, zero, suc, ◌+◌, ◌*◌, ◌<◌, ◌≤◌, Bool, true, false, cond, count_by, get_or, List, [], ◌∷◌, length, subst, ap, ◌∙◌, inl, inr, arith, rules}
 use Rattle.std.proofs.Math.Path.{fun_ext}
 use Rattle.std.proofs.lemmas.Bool.{cases_Bool, cases_eq, cases_order, false_from_ne_true}
 use Rattle.std.proofs.lemmas.List.Sums.{sum_by-cons}
@@ -41,13 +41,7 @@ same_above F G height (suc more) same =
 
 -- a row that is left below the new height comes from one below the height
 comes_from_below : (G : Field) (height row y : ℕ) → y + full_below G height < height → y + full_below G row ≡ row → row < height
-comes_from_below G height row y under lowered = elim (cases_order row height) [
-  | inl same ↦ absurd (omega (arith, under, lowered, ap (full_below G) same, same))
-  | inr apart ↦ elim apart [
-    | inl below ↦ below
-    | inr above ↦ absurd (omega (arith, under, lowered, full_rises G height row (omega (arith, above))))
-  ]
-]
+comes_from_below G height row y under lowered = search (rules, cases_order, full_rises)
 
 -- the cells below the new height, with ten for each row that goes, are those below the height
 pub cells_left : (G : Field) (height left : ℕ) → height ≤ 23 → left + full_below G height ≡ height
@@ -96,13 +90,7 @@ same_row G height y x within from = same_from_both _ _ (λ filled.
 
 -- a row that is left at or above the new height comes from one at or above the height
 pub comes_from_above : (G : Field) (height row y : ℕ) → height ≤ y + full_below G height → is_full G row ≡ false → y + full_below G row ≡ row → height ≤ row
-comes_from_above G height row y above stays lowered = elim (cases_order row height) [
-  | inl same ↦ omega (arith, same)
-  | inr apart ↦ elim apart [
-    | inl below ↦ absurd (omega (arith, above, lowered, lowered_rises G row height stays below))
-    | inr over ↦ omega (arith, over)
-  ]
-]
+comes_from_above G height row y above stays lowered = search (rules, cases_order, lowered_rises)
 
 -- one element passes the second test alone
 count_less : (p q : ℕ → Bool) (xs : List ℕ) (i : ℕ) → ((x : ℕ) → p x ≡ true → q x ≡ true) → i < length xs → p (get_or xs i 0) ≡ false → q (get_or xs i 0) ≡ true → count_by p xs + 1 ≤ count_by q xs

@@ -1,5 +1,5 @@
 -- What a store says is true.
-use Rattle.std.proofs.Common.{◌≡◌, ◌≤◌, ℕ, List, subst, arith, Option, Some}
+use Rattle.std.proofs.Common.{◌≡◌, ◌≤◌, ℕ, List, Option, Some, rules}
 use Rattle.std.specs.Prelude.{Bool, IfSome, IsTrue}
 use Rattle.lane_board.specs.Field.{Field}
 use Rattle.srs.specs.declared.piece.Piece.{Piece}
@@ -16,11 +16,7 @@ use Rattle.combo.specs.Searched.{SaysShorter, HasShorterRuns}
 -- what an entry says
 pub said_shorter : (table : Table) (mode : DropMode) (hold : Hold) (queue : List Piece) (entry : Option SearchedPosition) (F : Field) (hand : Hand) (count : ℕ)
     → IfSome entry (HasShorterRuns table mode hold queue) → SaysShorter entry F hand count → AreShorter (IsTakenRun table mode F hold (pieces_at queue hand)) count
-said_shorter table mode hold queue entry F hand count true says =
-    let shorter : HasShorterRuns table mode hold queue says.position = subst (λ e. IfSome e (HasShorterRuns table mode hold queue)) says.there true in
-    let here = subst (λ G. AreShorter (IsTakenRun table mode G hold (pieces_at queue says.position.hand)) says.position.count) says.field shorter in
-    let with_hand = subst (λ (h : Hand). AreShorter (IsTakenRun table mode F hold (pieces_at queue h)) says.position.count) says.at_hand here in
-    record { each = λ run member. omega (arith, says.short, with_hand.each run member) }
+said_shorter table mode hold queue entry F hand count stored says = search rules
 
 -- an entry that is asked
 pub says_shorter : (result : Bool) (entry : Option SearchedPosition) (position : SearchedPosition) (F : Field) (hand : Hand) (count : ℕ) → entry ≡ Some position
