@@ -1,5 +1,5 @@
 -- The search for a key word, turn by turn: what is found and marked, and the key word that it ends with.
-use Rattle.std.proofs.Common.{◌≡◌, ℕ, ◌+◌, ◌-◌, ◌≤◌, true, false, Option, Some, None, List, [], ◌∷◌, ◌++◌, length, map, drop, refl, sym, ap, subst, ◌∙◌, inl, inr, arith}
+use Rattle.std.proofs.Common.{◌≡◌, ℕ, ◌+◌, ◌-◌, ◌≤◌, true, false, Option, Some, None, List, [], ◌∷◌, ◌++◌, length, map, drop, refl, sym, ap, subst, ◌∙◌, inl, inr, arith, rules}
 use Rattle.std.specs.Prelude.{Contains, replicate, reverse, slice_get}
 use Rattle.std.specs.List.{count_by}
 use Rattle.std.proofs.lemmas.Bool.{false≢true, cond-true, cond-false}
@@ -14,7 +14,7 @@ use Rattle.well.specs.Free.{is_free}
 use Rattle.moves.specs.declared.key.Key.{Key}
 use Rattle.moves.specs.declared.key.DropMode.{DropMode}
 use Rattle.moves.specs.Keys.{allows}
-use Rattle.moves.specs.Leads.{spawn_of, spawned, state_after}
+use Rattle.moves.specs.Leads.{spawn_of, spawned}
 use Rattle.moves.specs.PlaceTest.{comes_to_rest}
 use Rattle.moves.specs.Place.{LeadsToRest}
 use Rattle.moves.specs.Step.{step_of}
@@ -42,22 +42,11 @@ pushed {X} before after x is fits =
 
 -- placements with the same cells have the same key words
 led_to_other : (table : Table) (F : Field) (mode : DropMode) (p q : Placement) (word : List Key) → HasSameCells p q → LeadsToRest table F mode word p → LeadsToRest table F mode word q
-led_to_other table F mode p q word same way = record {
-  allowed = way.allowed;
-  state = way.state;
-  reached = subst (λ piece. state_after table F piece word ≡ Some way.state) (same_cells-piece p q same) way.reached;
-  rest = way.rest;
-  rests = way.rests;
-  same_cells = same_cells-trans way.same_cells same;
-}
+led_to_other table F mode p q word same way = search (rules, same_cells-piece, same_cells-trans)
 
 pub one_word : (table : Table) (F : Field) (mode : DropMode) (aim target : Placement) → HasSameCells aim target → (a : Option (List Key)) → IsLeastKeyWord table F mode aim a → IsLeastKeyWord table F mode target a
 one_word table F mode aim target same None is = record { none = λ word led above. is.none word (led_to_other table F mode target aim word (same_cells-sym same) led) above }
-one_word table F mode aim target same (Some word) is = record {
-  member = led_to_other table F mode aim target word same is.member;
-  above = is.above;
-  least = λ other led above. is.least other (led_to_other table F mode target aim other (same_cells-sym same) led) above;
-}
+one_word table F mode aim target same (Some word) is = search (rules, led_to_other, same_cells-sym)
 
 spawned-some : (F : Field) (s : Placement) → is_free F (spawn_of s.piece) ≡ true → spawned F s.piece ≡ Some (spawn_of s.piece)
 unfolding spawned

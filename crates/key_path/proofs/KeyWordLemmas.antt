@@ -1,5 +1,5 @@
 -- Key words exist where any key word leads there, are one, have fewer keys than a piece has states, and are what `least_key_word` finds.
-use Rattle.std.proofs.Common.{◌≡◌, ℕ, zero, suc, ◌<◌, Bool, true, IsTrue, Option, Some, None, List, [], ◌∷◌, length, get_or, map, refl, sym, ap, subst, ◌∙◌, inl, inr, arith}
+use Rattle.std.proofs.Common.{◌≡◌, ℕ, zero, suc, ◌<◌, Bool, true, IsTrue, Option, Some, None, List, [], ◌∷◌, length, get_or, map, refl, sym, ap, subst, ◌∙◌, inl, inr, arith, rules}
 use Rattle.std.specs.Prelude.{Contains, find, filter, is_some}
 use Rattle.std.specs.List.{range_with_len}
 use Rattle.std.specs.List.Sorted.{IsStrictlySortedBy}
@@ -35,12 +35,7 @@ few_keys table F mode target word leads =
 
 -- so a least key word has fewer
 pub least_is_short : (table : Table) (F : Field) (mode : DropMode) (target : Placement) (word : List Key) → IsLeastKeyWord table F mode target (Some word) → length word < 920
-least_is_short table F mode target word least =
-    let few = few_keys table F mode target word least.member in
-    elim (cases_lt (length word) 920) [
-      | inl below ↦ below
-      | inr above ↦ absurd (least.least few.0 few.1 refl (shorter_before few.0 word (omega (arith, few.2, above))))
-    ]
+least_is_short table F mode target word least = search (rules, few_keys, cases_lt, shorter_before)
 
 -- the least key word is one, or none
 pub key_word_unique : (table : Table) (F : Field) (mode : DropMode) (target : Placement) (a b : Option (List Key)) → IsLeastKeyWord table F mode target a → IsLeastKeyWord table F mode target b → a ≡ b
@@ -103,10 +98,8 @@ words_below-list n = record {
 -- the first that passes is the first of those that pass
 find_filter : (test : List Key → Bool) (words : List (List Key)) → find (is_above key_word_cmp None) (filter test words) ≡ find test words
 find_filter test [] = refl
-find_filter test (word ∷ words) = elim (cases_Bool (test word)) [
-  | inl passes ↦ ap (find (is_above key_word_cmp None)) (filter-true test word words passes) ∙ find-true (is_above key_word_cmp None) word (filter test words) refl ∙ sym (find-true test word words passes)
-  | inr fails ↦ ap (find (is_above key_word_cmp None)) (filter-false test word words fails) ∙ find_filter test words ∙ sym (find-false test word words fails)
-]
+find_filter test (word ∷ words) =
+    search (rules, cases_Bool, filter-true, find-true, filter-false, find-false, find_filter test words)
 
 -- a key word of fewer keys than there are states that leads there
 abbrev IsShortWay : Table → Field → DropMode → Placement → List Key → Type 0

@@ -1,11 +1,12 @@
 -- Marks: the keys by which they lead back, and as many of them as there are items.
-use Rattle.std.proofs.Common.{◌≡◌, ◌≢◌, ◌⊎◌, ℕ, zero, suc, ◌+◌, ◌<◌, true, false, cond, List, [], ◌∷◌, ◌++◌, length, get_or, refl, sym, ap, subst, ◌∙◌, inl, inr, arith}
+use Rattle.std.proofs.Common.{◌≡◌, ◌≢◌, ◌⊎◌, ℕ, ◌+◌, ◌<◌, true, false, cond, List, [], ◌∷◌, ◌++◌, length, get_or, refl, sym, ap, subst, ◌∙◌, inl, inr, arith, rules}
 use Rattle.std.specs.Prelude.{Contains, replicate, reverse}
 use Rattle.std.specs.List.{count_by, refill}
 use Rattle.std.proofs.lemmas.Bool.{cases_order, false≢true}
 use Rattle.std.proofs.lemmas.List.{append-nil, append_assoc, length-append, length-set, length-replicate, get_or-set_same, get_or-set_other, reverse-append}
 use Rattle.std.proofs.lemmas.List.Sums.{sum_by-cons, sum_by-set}
 use Rattle.std.proofs.lemmas.List.Elements.{Contains-append_left, Contains-push, Contains-push_cases}
+use Rattle.std.proofs.lemmas.Grind.{common_steps}
 use Rattle.srs.specs.declared.placement.Placement.{Placement}
 use Rattle.srs.proofs.CallerLemmas.{Contains-here, Contains-cases, Contains-none}
 use Rattle.moves.specs.declared.key.Key.{Key}
@@ -43,8 +44,7 @@ one_mark marks s t e = ap (λ n. get_or marks n Unseen) e
 
 -- setting the mark of an unseen state leaves a mark that is no Unseen
 mark_kept : (marks : List Mark) (s t : Placement) (mark : Mark) → is_unseen (mark_at marks s) ≡ true → is_unseen (mark_at marks t) ≡ false → mark_at (with_mark marks s mark) t ≡ mark_at marks t
-mark_kept marks s t mark unseen seen =
-    mark_there marks s t mark (λ e. false≢true (sym seen ∙ ap is_unseen (one_mark marks s t e) ∙ unseen))
+mark_kept marks s t mark unseen seen = search (rules, mark_there, false≢true, one_mark)
 
 traces_kept : (marks : List Mark) (s t : Placement) (mark : Mark) (keys : List Key) → is_unseen (mark_at marks s) ≡ true → Traces marks t keys → Traces (with_mark marks s mark) t keys
 traces_kept marks s t mark [] unseen traces = mark_kept marks s t mark unseen (ap is_unseen traces) ∙ traces
@@ -55,13 +55,10 @@ count_step : (x : Mark) (xs : List Mark) → count_by is_unseen (x ∷ xs) ≡ c
 count_step x xs = sum_by-cons (λ x. cond (is_unseen x) 1 0) x xs
 
 all_unseen : (n : ℕ) → count_by is_unseen (replicate n Unseen) ≡ n
-all_unseen zero = refl
-all_unseen (suc n) = omega (arith, count_step Unseen (replicate n Unseen), all_unseen n)
+all_unseen n = grind (arith, common_steps, count_step)
 
 unseen_anywhere : (n i : ℕ) → get_or (replicate n Unseen) i Unseen ≡ Unseen
-unseen_anywhere zero i = refl
-unseen_anywhere (suc n) zero = refl
-unseen_anywhere (suc n) (suc i) = unseen_anywhere n i
+unseen_anywhere n i = grind (arith, common_steps)
 
 unseen_at : (s : Placement) → mark_at (replicate 920 Unseen) s ≡ Unseen
 unfolding mark_at
@@ -74,11 +71,7 @@ not_same m n apart same = elim apart [ inl less ↦ omega (arith, less, same) | 
 pub count_marked : (marks : List Mark) (s : Placement) (mark : Mark) → length marks ≡ 920 → IsPivot s → is_unseen (mark_at marks s) ≡ true → is_unseen mark ≡ false →
     count_by is_unseen (with_mark marks s mark) + 1 ≡ count_by is_unseen marks
 unfolding mark_at with_mark
-count_marked marks s mark size pivot unseen other =
-    let counted = sum_by-set (λ x. cond (is_unseen x) 1 0) marks (state_code s) mark Unseen (omega (arith, size, code_below s pivot)) in
-    let before : ◌≡◌ {A = ℕ} (cond (is_unseen (get_or marks (state_code s) Unseen)) 1 0) 1 = ap (λ b. cond b 1 0) unseen in
-    let after : ◌≡◌ {A = ℕ} (cond (is_unseen mark) 1 0) 0 = ap (λ b. cond b 1 0) other in
-    omega (arith, counted, before, after)
+count_marked marks s mark size pivot unseen other = search (rules, sum_by-set, code_below)
 
 -- where a state is unseen there is room for an item
 pub room_left : (marks : List Mark) (items : List Item) (s : Placement) → IsPivot s → is_unseen (mark_at marks s) ≡ true → AreMarked marks items → length items < 920
@@ -133,11 +126,7 @@ pub record IsBack (marks : List Mark) (from : Placement) (key : Key) (keys : Lis
 
 pub one_back : (marks : List Mark) (s from : Placement) (key : Key) (keys : List Key) → mark_at marks s ≡ From from key → Traces marks s keys → IsBack marks from key keys
 one_back marks s from key [] at traces = let e : Start ≡ From from key = sym traces ∙ at in absurd cc
-one_back marks s from key (k ∷ ks) at traces =
-    let e : From traces.0 k ≡ From from key = sym traces.1 ∙ at in
-    let there : traces.0 ≡ from = cc in
-    let same : k ≡ key = cc in
-    record { rest = ks; is = ap (λ k. k ∷ ks) same; pivot = subst IsPivot there traces.2; traces = subst (λ p. Traces marks p ks) there traces.3 }
+one_back marks s from key (k ∷ ks) at traces = search rules
 
 -- and none back from the start
 pub none_back : (marks : List Mark) (s : Placement) (keys : List Key) → ((from : Placement) (key : Key) → mark_at marks s ≡ From from key → ⊥) → Traces marks s keys → keys ≡ []
@@ -156,16 +145,11 @@ one_passed marks s from key passed more keys at e way =
     record { rest = back.rest; traces = back.traces; is = way.is ∙ ap (λ ks. passed ++ ks) back.is ∙ sym (append_assoc passed (key ∷ []) back.rest) ∙ ap (λ w. w ++ back.rest) (sym e) }
 
 pub passed_few : (marks : List Mark) (s from : Placement) (key : Key) (passed keys : List Key) → mark_at marks s ≡ From from key → IsPassed marks s passed keys → length passed < length keys
-passed_few marks s from key passed keys at way =
-    let back = one_back marks s from key way.rest at way.traces in
-    omega (arith, ap (λ (ks : List Key). length ks) way.is, length-append passed way.rest, ap (λ (ks : List Key). length ks) back.is)
+passed_few marks s from key passed keys at way = grind (arith, common_steps, one_back, length-append)
 
 pub passed_all : (marks : List Mark) (s : Placement) (passed keys : List Key) → ((from : Placement) (key : Key) → mark_at marks s ≡ From from key → ⊥) → IsPassed marks s passed keys → keys ≡ passed
 passed_all marks s passed keys none way = way.is ∙ ap (λ ks. passed ++ ks) (none_back marks s way.rest none way.traces) ∙ append-nil passed
 
 -- as many items in the place of others are themselves
 pub refilled : {X : Type 0} (xs ws : List X) → length ws ≡ length xs → refill (length xs) xs ws ≡ ws
-refilled [] [] same = refl
-refilled [] (w ∷ ws) same = absurd (omega arith)
-refilled (x ∷ xs) [] same = absurd (omega arith)
-refilled (x ∷ xs) (w ∷ ws) same = ap (λ ws. w ∷ ws) (refilled xs ws (omega arith))
+refilled X xs same = grind (arith, common_steps)
