@@ -1,7 +1,7 @@
 -- The hands of all queues, and how many of them are good.
-use Rattle.std.proofs.Common.{ℕ, ◌≡◌, ◌+◌, ◌%◌, ◌<◌, ◌≤◌, ◌↔◌, IsTrue, Bool, true, false, ◌&&◌, ◌==◌, List, [], ◌∷◌, ◌++◌, length, length-append, get_or, take, ◌-◌, refl, ap, subst, ◌∙◌, sym, arith, inl, inr}
+use Rattle.std.proofs.Common.{ℕ, ◌≡◌, ◌+◌, ◌%◌, ◌<◌, ◌≤◌, ◌↔◌, IsTrue, Bool, true, false, ◌&&◌, List, [], ◌∷◌, ◌++◌, length, length-append, get_or, take, ◌-◌, refl, ap, subst, ◌∙◌, sym, arith, inl, inr, rules}
 use Rattle.std.specs.Prelude.{Some, slice_get, count_by}
-use Rattle.std.proofs.lemmas.Bool.{cases_lt, or_left, or_right}
+use Rattle.std.proofs.lemmas.Bool.{cases_lt, or_left, or_right, and_right}
 use Rattle.std.proofs.lemmas.Bool.Decides.{nat_tests}
 use Rattle.std.proofs.lemmas.List.{take_all, length-take, get_or_append_left, get_or-append_right}
 use Rattle.std.proofs.lemmas.List.Sums.{count_by_more_no, count_by_more_yes, count_by-le-length}
@@ -9,6 +9,7 @@ use Rattle.std.proofs.lemmas.Option.{get_or_from_slice_get}
 use Rattle.srs.specs.declared.piece.Piece.{Piece}
 use Rattle.percent.specs.Good.{Good}
 use Rattle.well.specs.Well.{filled}
+use Rattle.srs.proofs.CallerLemmas.{and_first}
 use Rattle.queue_pattern.specs.Pattern.{elements_of}
 use Rattle.queue_pattern.specs.Queues.{queues}
 use Rattle.number_sets.specs.Rising.{IsRising, has}
@@ -23,23 +24,13 @@ use Rattle.percent.proofs.GoodLemmas.{good-decides, uneven-none}
 pub hand-read : (problem : Problem) (number : ℕ) (queue : List Piece) → slice_get (queues (elements_of problem.pattern)) number ≡ Some queue
     → hand_of problem.hold problem.held (needed_of problem) queue ≡ hand_at problem number
 unfolding hand_at
-hand-read problem number queue read =
-    ap (hand_of problem.hold problem.held (needed_of problem)) (sym (get_or_from_slice_get (queues (elements_of problem.pattern)) number queue [] read))
+hand-read problem number queue read = search (rules, get_or_from_slice_get)
 
 pub hands-none : (problem : Problem) (hands : List ℕ) → HasHandsBefore problem hands 0
 hands-none problem hands = record { each = λ k below. absurd (omega arith) }
 
 pub hands-more : (problem : Problem) (hands : List ℕ) (number hand : ℕ) → hand ≡ hand_at problem number → HasHandsBefore problem hands number → HasHandsBefore problem (hands ++ hand ∷ []) (number + 1)
-hands-more problem hands number hand is state = record {
-  each = λ k below. has-push hands hand (hand_at problem k) ∙ elim (cases_lt k number) [
-    | inl before ↦ or_left (has hands (hand_at problem k)) (hand == hand_at problem k) (state.each k before)
-    | inr last ↦
-        let same : k ≡ number = omega arith in
-        let equal : hand ≡ hand_at problem k = is ∙ ap (hand_at problem) (sym same) in
-        let passes : (hand == hand_at problem k) ≡ true = grind (arith, nat_tests) in
-        or_right (has hands (hand_at problem k)) (hand == hand_at problem k) passes
-  ];
-}
+hands-more problem hands number hand is state = search (rules, has-push, cases_lt, or_left, nat_tests, or_right)
 
 pub hands-same : (problem : Problem) (hands others : List ℕ) (number : ℕ) → ((hand : ℕ) → has others hand ≡ has hands hand) → HasHandsBefore problem hands number → HasHandsBefore problem others number
 hands-same problem hands others number same state = record { each = λ k below. same (hand_at problem k) ∙ state.each k below }
@@ -49,11 +40,7 @@ pub good-hands : (problem : Problem) (hands good : List ℕ) → HasHandsBefore 
     → ((hand : ℕ) → has good hand ≡ (has hands hand && is_good (game_of problem) (filled problem.well) problem.height (needed_of problem) hand))
     → HasGoodHands problem good
 unfolding hand_at is_good_queue
-good-hands problem hands good all good_is = record {
-  each = λ number within.
-      good_is (hand_at problem number)
-      ∙ ap (λ b. b && is_good (game_of problem) (filled problem.well) problem.height (needed_of problem) (hand_at problem number)) (all.each number within);
-}
+good-hands problem hands good all good_is = search rules
 
 -- so many of the first queues are good
 pub record Counting (problem : Problem) (number count : ℕ) : Type 0 where
@@ -64,21 +51,14 @@ count-starts problem = record { is = refl }
 
 pub count-yes : (problem : Problem) (answers : List Bool) (all number count : ℕ) → AreAnswers problem answers all → all ≡ length (queues (elements_of problem.pattern)) → number < all
     → get_or answers number false ≡ true → Counting problem number count → Counting problem (number + 1) (count + 1)
-count-yes problem answers all number count are whole within passes state = record {
-  is = ap (λ n. n + 1) state.is ∙ sym (count_by_more_yes (is_good_queue problem) (queues (elements_of problem.pattern)) number [] (omega (arith, whole, within)) (sym (are.each number within) ∙ passes));
-}
+count-yes problem answers all number count are whole within passes state = search (rules, count_by_more_yes)
 
 pub count-no : (problem : Problem) (answers : List Bool) (all number count : ℕ) → AreAnswers problem answers all → all ≡ length (queues (elements_of problem.pattern)) → number < all
     → get_or answers number false ≡ false → Counting problem number count → Counting problem (number + 1) count
-count-no problem answers all number count are whole within fails state = record {
-  is = state.is ∙ sym (count_by_more_no (is_good_queue problem) (queues (elements_of problem.pattern)) number [] (omega (arith, whole, within)) (sym (are.each number within) ∙ fails));
-}
+count-no problem answers all number count are whole within fails state = search (rules, count_by_more_no)
 
 pub count-few : (problem : Problem) (number count : ℕ) → Counting problem number count → count ≤ number
-count-few problem number count state =
-    let few = count_by-le-length (is_good_queue problem) (take number (queues (elements_of problem.pattern))) in
-    let short = length-take number (queues (elements_of problem.pattern)) in
-    omega (arith, few, short, state.is)
+count-few problem number count state = search (rules, count_by-le-length, length-take)
 
 pub count-ends : (problem : Problem) (number count : ℕ) → length (queues (elements_of problem.pattern)) ≤ number → Counting problem number count → count ≡ count_by (is_good_queue problem) (queues (elements_of problem.pattern))
 count-ends problem number count all state = state.is ∙ ap (count_by (is_good_queue problem)) (take_all number (queues (elements_of problem.pattern)) all)
@@ -124,22 +104,11 @@ judge-more problem good answers number hand answer exact within hand_is is state
       ];
     }
 
-never : (a b : Bool) → b ≡ false → false ≡ (a && b)
-never true b h = sym h
-never false b h = refl
-
 pub uneven-answer : (problem : Problem) (hands : List ℕ) → IsFit problem → (empties_of problem % 4 ≡ 0 → ⊥)
     → (hand : ℕ) → has [] hand ≡ (has hands hand && is_good (game_of problem) (filled problem.well) problem.height (needed_of problem) hand)
-uneven-answer problem hands fit uneven hand =
-    has-none hand ∙ never (has hands hand) (is_good (game_of problem) (filled problem.well) problem.height (needed_of problem) hand) (uneven-none problem fit uneven (needed_of problem) hand)
-
-first_true : (a b : Bool) → (a && b) ≡ true → a ≡ true
-first_true true b h = refl
-first_true false b h = h
+uneven-answer problem hands fit uneven hand = search (rules, has-none, and_right, uneven-none)
 
 -- where as many hands are good as there are, all are
 pub whole-hands : (problem : Problem) (hands good : List ℕ) (test : ℕ → Bool) (number : ℕ) → IsRising hands → IsRising good → ((hand : ℕ) → has good hand ≡ (has hands hand && test hand))
     → length good ≡ length hands → HasHandsBefore problem hands number → HasHandsBefore problem good number
-whole-hands problem hands good test number hands_up good_up good_is same state = record {
-  each = λ k below. whole-list good hands good_up hands_up (λ hand there. first_true (has hands hand) (test hand) (sym (good_is hand) ∙ there)) same (hand_at problem k) (state.each k below);
-}
+whole-hands problem hands good test number hands_up good_up good_is same state = search (rules, whole-list, and_first)

@@ -1,5 +1,5 @@
 -- Hands that are left out are not good, one hand on.
-use Rattle.std.proofs.Common.{ℕ, suc, ◌≡◌, ◌+◌, ◌-◌, ◌/◌, ◌%◌, ◌<◌, ◌≤◌, Bool, true, false, ◌&&◌, ◌||◌, ◌==◌, cond, List, [], ◌∷◌, ◌++◌, length, length-set, get_or, take, refl, sym, ap, subst, ◌∙◌, inl, inr, arith}
+use Rattle.std.proofs.Common.{ℕ, suc, ◌≡◌, ◌+◌, ◌-◌, ◌/◌, ◌%◌, ◌<◌, ◌≤◌, Bool, true, false, ◌&&◌, ◌||◌, ◌==◌, cond, List, [], ◌∷◌, ◌++◌, length, length-set, get_or, take, refl, sym, ap, subst, ◌∙◌, inl, inr, arith, rules}
 use Rattle.std.proofs.Common.{set as list_set, slice_index}
 use Rattle.std.proofs.Math.Path.{fun_ext}
 use Rattle.std.proofs.lemmas.List.{get_or-set_other}
@@ -8,9 +8,9 @@ use Rattle.std.proofs.lemmas.Bool.{cases_eq, false_from_ne_true, false≢true, e
 use Rattle.std.proofs.lemmas.Bool.Decides.{nat_tests}
 use Rattle.lane_board.specs.Field.{difference, rows_below}
 use Rattle.srs.specs.declared.piece.Piece.{Piece}
-use Rattle.srs.specs.declared.piece.Piece.TheVariants.{I, L, O, Z, T, J, S}
 use Rattle.srs.specs.Piece.{piece_code}
 use Rattle.well.specs.Well.{filled}
+use Rattle.srs.proofs.CallerLemmas.{piece_code-small, or_second}
 use Rattle.prune.specs.Tiling.{Supply, Tiling, supply_in}
 use Rattle.prune.proofs.CallerLemmas.{more_pieces}
 use Rattle.empty_cells.specs.declared.empties.Empties.{Empties}
@@ -24,7 +24,6 @@ use Rattle.percent.specs.declared.position.Position.{Position}
 use Rattle.percent.specs.declared.fitting.Verdict.{Verdict}
 use Rattle.percent.specs.Fitting.{codes_in, supply_at, supply_by, IsTrueVerdict}
 use Rattle.percent.specs.GoodHands.{is_good}
-use Rattle.percent.proofs.HandLemmas.{code-few}
 use Rattle.percent.proofs.TiledLemmas.{codes-few, good-tiled}
 
 pub low-position : (p : Position) → IsLow (filled p.well) p.rows
@@ -39,8 +38,7 @@ untiled game p left hand count supply enough more none = false_from_ne_true _ (�
 pub refused : (game : Game) (p : Position) (left hand count : ℕ) (supply : Supply) → count ≡ left + 1 → count ≤ 21 → ((piece : Piece) → 21 ≤ supply piece)
     → (Tiling (filled p.well) p.rows supply → ⊥) → is_good game (filled p.well) p.rows left hand ≡ false
 unfolding supply_at
-refused game p left hand count supply one few many none =
-    untiled game p left hand count supply (omega (arith, one)) (λ piece. let most = codes-few count hand (piece_code piece) in let enough = many piece in omega (arith, few)) none
+refused game p left hand count supply one few many none = search (rules, untiled, codes-few)
 
 pub unfit : (game : Game) (p : Position) (cells : Empties) (counts : List ℕ) (left hand count : ℕ) → count ≡ left + 1
     → empty_cells cells ≡ difference (rows_below p.rows) (filled p.well)
@@ -48,7 +46,7 @@ pub unfit : (game : Game) (p : Position) (cells : Empties) (counts : List ℕ) (
     → (Tiling (all_but (empty_cells cells)) 8 (supply_by counts) → ⊥) → is_good game (filled p.well) p.rows left hand ≡ false
 unfolding supply_at supply_by
 unfit game p cells counts left hand count one cells_are most none =
-    untiled game p left hand count (supply_by counts) (omega (arith, one)) (λ piece. most (piece_code piece) (let few = code-few piece in omega arith))
+    untiled game p left hand count (supply_by counts) (omega (arith, one)) (λ piece. most (piece_code piece) (let few = piece_code-small piece in omega arith))
     (λ tiled. none (subst (λ E. Tiling (all_but E) 8 (supply_by counts)) (sym cells_are) ((tiling_below (filled p.well) p.rows 8 (supply_by counts) p.few).1 tiled)))
 
 -- of pieces that may fit nothing is said
@@ -57,19 +55,9 @@ new-verdict cells verdict may = record { holds = λ no _. false≢true (sym no �
 
 -- ---- the hands that are kept
 
-all_bad : (a b g : Bool) → g ≡ false → (a && g) ≡ (b && g)
-all_bad true true g h = refl
-all_bad true false g h = h
-all_bad false true g h = sym h
-all_bad false false g h = refl
-
 -- where no hand is good none need be kept
 pub none-kept : (v hands : List ℕ) (good : ℕ → Bool) → ((hand : ℕ) → has hands hand ≡ true → good hand ≡ false) → v ≡ [] → (hand : ℕ) → (has v hand && good hand) ≡ (has hands hand && good hand)
-none-kept v hands good bad nil hand = ap (λ b. b && good hand) (ap (λ l. has l hand) nil ∙ has-none hand) ∙ by (has hands hand) (good hand) (bad hand)
-  where
-    by : (a g : Bool) → (a ≡ true → g ≡ false) → false ≡ (a && g)
-    by true g h = sym (h refl)
-    by false g h = refl
+none-kept v hands good bad nil hand = search (rules, has-none)
 
 -- of the first i hands those that are good are kept
 pub record Sifting (good : Game → ℕ → Bool) (hands v : List ℕ) (i : ℕ) : Type 0 where
@@ -78,24 +66,13 @@ pub record Sifting (good : Game → ℕ → Bool) (hands v : List ℕ) (i : ℕ)
   pub below : i < length hands → AllBelow v (get_or hands i 0)
 
 pub sift-starts : (good : Game → ℕ → Bool) (hands v : List ℕ) → v ≡ [] → Sifting good hands v 0
-sift-starts good hands v nil = record {
-  rises = rw nil rising-none;
-  members = λ game hand. ap (λ b. b && good game hand) (ap (λ l. has l hand) nil ∙ has-none hand ∙ sym (has-none hand));
-  below = λ _ k low. let none = ap length nil in absurd (omega (arith, none));
-}
+sift-starts good hands v nil = search (rules, rising-none, has-none)
 
 pushed : (a b e g : Bool) → (a && g) ≡ (b && g) → ((a || e) && g) ≡ ((b || e) && g)
-pushed true true e g h = refl
-pushed true false true g h = refl
-pushed true false false g h = h
-pushed false true true g h = refl
-pushed false true false g h = h
-pushed false false e g h = refl
+pushed a b e g h = search rules
 
 passed : (a b e g : Bool) → (a && g) ≡ (b && g) → (e ≡ true → g ≡ false) → (a && g) ≡ ((b || e) && g)
-passed a true e g h bad = h
-passed a false false g h bad = h
-passed a false true g h bad = h ∙ sym (bad refl)
+passed a b e g h bad = search rules
 
 pub sift-push : (good : Game → ℕ → Bool) (hands v : List ℕ) (i : ℕ) → IsRising hands → Sifting good hands v i → i < length hands → Sifting good hands (v ++ get_or hands i 0 ∷ []) (i + 1)
 sift-push good hands v i up state in_hands = record {
@@ -129,13 +106,6 @@ pub record Covering (hands counts : List ℕ) (pieces i : ℕ) : Type 0 where
 pub cover-starts : (hands counts : List ℕ) (pieces : ℕ) → Covering hands counts pieces 0
 cover-starts hands counts pieces = record { each = λ hand there. let none = has-none hand in cc }
 
-either : (a b : Bool) → (a || b) ≡ true → (a ≡ false → b ≡ true)
-either true b h none = absurd (apart none)
-  where
-    apart : true ≡ false → ⊥
-    apart e = cc
-either false b h none = h
-
 pub cover-more : (hands counts more next : List ℕ) (pieces i : ℕ) → Covering hands counts pieces i → i < length hands
     → ((code : ℕ) → code < 8 → get_or more code 0 ≡ codes_in pieces (get_or hands i 0) code)
     → ((code : ℕ) → code < 8 → get_or counts code 0 ≤ get_or next code 0) → ((code : ℕ) → code < 8 → get_or more code 0 ≤ get_or next code 0)
@@ -147,7 +117,7 @@ cover-more hands counts more next pieces i state in_hands more_is first second =
     at : (hand code : ℕ) → code < 8 → (b : Bool) → has (take i hands) hand ≡ b → (has (take i hands) hand || get_or hands i 0 == hand) ≡ true → codes_in pieces hand code ≤ get_or next code 0
     at hand code few true old there = let before = state.each hand old code few in let step = first code few in omega arith
     at hand code few false old there =
-        let same : get_or hands i 0 ≡ hand = eqb-true (get_or hands i 0) hand (either (has (take i hands) hand) (get_or hands i 0 == hand) there old) in
+        let same : get_or hands i 0 ≡ hand = eqb-true (get_or hands i 0) hand (or_second (has (take i hands) hand) (get_or hands i 0 == hand) old there) in
         let is = more_is code few in
         let step = second code few in
         let equal = ap (λ n. codes_in pieces n code) same in
@@ -165,13 +135,7 @@ unfolding supply_in supply_by
 entries-supply counts = fun_ext read
   where
     read : (piece : Piece) → supply_in (slice_index counts 1 ∷ slice_index counts 2 ∷ slice_index counts 3 ∷ slice_index counts 4 ∷ slice_index counts 5 ∷ slice_index counts 6 ∷ slice_index counts 7 ∷ []) piece ≡ supply_by counts piece
-    read I = refl
-    read L = refl
-    read O = refl
-    read Z = refl
-    read T = refl
-    read J = refl
-    read S = refl
+    read piece = search rules
 
 -- the counts and those of the rest make up the whole hand
 pub record Tallying (hand pieces i : ℕ) (counts : List ℕ) (rest : ℕ) : Type 0 where
@@ -180,15 +144,7 @@ pub record Tallying (hand pieces i : ℕ) (counts : List ℕ) (rest : ℕ) : Typ
   pub size : length counts ≡ 8
 
 pub tally-starts : (hand pieces : ℕ) (counts : List ℕ) → length counts ≡ 8 → ((code : ℕ) → get_or counts code 0 ≡ 0) → Tallying hand pieces 0 counts hand
-tally-starts hand pieces counts size none = record {
-  is = λ code few.
-      let there = none code in
-      let all : pieces - 0 ≡ pieces = omega arith in
-      let same = ap (λ n. codes_in n hand code) all in
-      omega (arith, there, same);
-  few = λ code. let there = none code in omega arith;
-  size = size;
-}
+tally-starts hand pieces counts size none = search rules
 
 pub tally-more : (hand pieces i : ℕ) (counts : List ℕ) (rest : ℕ) → i < pieces → Tallying hand pieces i counts rest
     → Tallying hand pieces (i + 1) (list_set counts (rest % 8) (get_or counts (rest % 8) 0 + 1)) (rest / 8)
@@ -223,10 +179,7 @@ tally-more hand pieces i counts rest more state = let size = state.size in recor
 
 pub tally-ends : (hand pieces i : ℕ) (counts : List ℕ) (rest : ℕ) → pieces ≤ i → Tallying hand pieces i counts rest → (code : ℕ) → code < 8 → get_or counts code 0 ≡ codes_in pieces hand code
 unfolding codes_in
-tally-ends hand pieces i counts rest all state code few =
-    let none : pieces - i ≡ 0 = omega arith in
-    let whole = ap (λ n. get_or counts code 0 + codes_in n rest code) (sym none) ∙ state.is code few in
-    omega (arith, whole)
+tally-ends hand pieces i counts rest all state code few = search rules
 
 -- the counts of the first codes are as great as both
 pub record Raising (a b counts : List ℕ) (i : ℕ) : Type 0 where
@@ -237,15 +190,9 @@ pub record Raising (a b counts : List ℕ) (i : ℕ) : Type 0 where
 pub raise-starts : (a b counts : List ℕ) → length counts ≡ 8 → Raising a b counts 0
 raise-starts a b counts size = record { size = size; first = λ code low. absurd (omega arith); second = λ code low. absurd (omega arith) }
 
+raised : (xs counts : List ℕ) (i most : ℕ) → i < length counts → ((code : ℕ) → code < i → get_or xs code 0 ≤ get_or counts code 0) → get_or xs i 0 ≤ most
+    → (code : ℕ) → code < i + 1 → get_or xs code 0 ≤ get_or (list_set counts i most) code 0
+raised xs counts i most within before here code low = search (rules, cases_eq, get_or-set_at, get_or-set_other)
+
 pub raise-more : (a b counts : List ℕ) (i most : ℕ) → i < 8 → Raising a b counts i → get_or a i 0 ≤ most → get_or b i 0 ≤ most → Raising a b (list_set counts i most) (i + 1)
-raise-more a b counts i most low8 state first second = let within : i < length counts = let size = state.size in omega arith in record {
-  size = length-set counts i most ∙ state.size;
-  first = λ code low. elim (cases_eq code i) [
-    | inl same ↦ let put = get_or-set_at counts i code most 0 same within in let equal = ap (λ c. get_or a c 0) same in omega (arith, put, equal)
-    | inr apart ↦ let put = get_or-set_other counts i code most 0 apart in let old = state.first code (omega arith) in omega (arith, put)
-  ];
-  second = λ code low. elim (cases_eq code i) [
-    | inl same ↦ let put = get_or-set_at counts i code most 0 same within in let equal = ap (λ c. get_or b c 0) same in omega (arith, put, equal)
-    | inr apart ↦ let put = get_or-set_other counts i code most 0 apart in let old = state.second code (omega arith) in omega (arith, put)
-  ];
-}
+raise-more a b counts i most low8 state first second = search (rules, length-set, raised)

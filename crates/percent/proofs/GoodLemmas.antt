@@ -10,7 +10,7 @@ use Rattle.srs.specs.declared.placement.Placement.{Placement}
 use Rattle.srs.specs.Piece.{all_pieces, piece_code}
 use Rattle.srs.specs.Placements.{IsCanonicalInside, placements_of}
 use Rattle.srs.specs.Rules.{table_of}
-use Rattle.srs.proofs.CallerLemmas.{placements_of-list, Contains-filter, Contains-from_filter}
+use Rattle.srs.proofs.CallerLemmas.{placements_of-list, Contains-filter, Contains-from_filter, some_passes, any_passes}
 use Rattle.well.specs.Well.{filled}
 use Rattle.well.specs.Lock.{locked, rows_removed}
 use Rattle.well.specs.LockLaws.{is_below}
@@ -30,7 +30,7 @@ use Rattle.percent.specs.declared.game.Game.{Game}
 use Rattle.percent.specs.Hands.{number_of, hand_of, allows_hold, takes, without_first, without_second}
 use Rattle.percent.specs.GoodHands.{reached_places, is_good, is_good_after, game_of, is_good_queue}
 use Rattle.percent.specs.Good.{Good}
-use Rattle.percent.proofs.TestLemmas.{or_cases, some_passes, any_passes}
+use Rattle.percent.proofs.TestLemmas.{or_cases}
 use Rattle.percent.proofs.HandLemmas.{takes-from, takes-to}
 
 pub good-step : (game : Game) (F : Field) (rows left hand : ℕ)

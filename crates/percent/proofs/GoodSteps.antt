@@ -1,11 +1,11 @@
 -- The steps of looking into hands, as facts about what lists have.
-use Rattle.std.proofs.Common.{ℕ, suc, ◌≡◌, ◌+◌, ◌*◌, ◌/◌, ◌%◌, ◌<◌, ◌≤◌, Bool, true, false, not, ◌&&◌, ◌||◌, ◌==◌, List, [], length, get_or, take, refl, ap, subst, ◌∙◌, sym, arith}
+use Rattle.std.proofs.Common.{ℕ, suc, ◌≡◌, ◌+◌, ◌*◌, ◌/◌, ◌%◌, ◌<◌, ◌≤◌, Bool, true, false, not, ◌&&◌, ◌||◌, ◌==◌, List, [], length, get_or, take, ap, subst, ◌∙◌, sym, arith, rules}
 use Rattle.std.specs.List.{list_any}
 use Rattle.std.specs.Prelude.{Result, Ok, Err, IfOk, IsPermutation}
 use Rattle.std.proofs.lemmas.List.Sorted.{list_any-IsPermutation}
 use Rattle.std.proofs.lemmas.List.{take_all}
 use Rattle.std.proofs.lemmas.List.Folds.{list_any_more}
-use Rattle.std.proofs.lemmas.Bool.{eqb-true}
+use Rattle.std.proofs.lemmas.Bool.{eqb-true, or_left}
 use Rattle.lane_board.specs.Field.{Field}
 use Rattle.srs.specs.declared.piece.Piece.{Piece}
 use Rattle.srs.specs.Piece.{all_pieces, piece_code}
@@ -17,31 +17,20 @@ use Rattle.percent.specs.declared.game.Game.{Game}
 use Rattle.percent.specs.declared.position.Child.{Child}
 use Rattle.percent.specs.Hands.{allows_hold, takes, with_first, with_second, without_first, without_second}
 use Rattle.percent.specs.GoodHands.{is_good, is_good_after, is_good_at}
-use Rattle.percent.proofs.RestSteps.{first_back, second_back}
+use Rattle.percent.proofs.RestSteps.{first_back, second_back, or_false}
 use Rattle.percent.proofs.GoodLemmas.{good-step}
 
 and_same : (a b c : Bool) → (a ≡ true → b ≡ c) → (a && b) ≡ (a && c)
-and_same true b c same = same refl
-and_same false b c same = refl
+and_same a b c same = search rules
 
 -- taking so that one test passes, or another that agrees where it is asked
 takes-same : (hold : Hold) (code hand : ℕ) (f g : ℕ → Bool) → (hand % 8 ≡ code → f (without_first hand) ≡ g (without_first hand))
     → (allows_hold hold ≡ true → hand / 8 % 8 ≡ code → f (without_second hand) ≡ g (without_second hand)) → takes hold code f hand ≡ takes hold code g hand
 unfolding takes
-takes-same hold code hand f g first second =
-    let one = and_same (hand % 8 == code) (f (without_first hand)) (g (without_first hand)) (λ is. first (eqb-true (hand % 8) code is)) in
-    let other = and_same (allows_hold hold) (hand / 8 % 8 == code && f (without_second hand)) (hand / 8 % 8 == code && g (without_second hand))
-    (λ allowed. and_same (hand / 8 % 8 == code) (f (without_second hand)) (g (without_second hand)) (λ is. second allowed (eqb-true (hand / 8 % 8) code is))) in
-    λ i. one i || other i
-
-or_left : (a b : Bool) → a ≡ true → (a || b) ≡ true
-or_left true b h = refl
-or_left false b h = cc
+takes-same hold code hand f g first second = search (rules, and_same, eqb-true)
 
 or_right : (a b c : Bool) → b ≡ true → c ≡ true → (a || (b && c)) ≡ true
-or_right true b c h k = refl
-or_right false true c h k = k
-or_right false false c h k = h
+or_right a b c h k = search rules
 
 -- the rests of a hand that is asked about are asked about, so the answer for them is that for the hand
 answer-taken : (hold : Hold) (code : ℕ) (asked rests good : List ℕ) (after : ℕ → Bool) (hand : ℕ) → has asked hand ≡ true
@@ -72,25 +61,16 @@ pub record Exploring (order : List Piece) (game now : Game) (F : Field) (rows le
       ≡ (has hands hand && not (list_any (λ piece. takes game.hold (piece_code piece) (is_good_after game F rows piece left) hand) (take i order)))
 
 not_none : (a : Bool) → a ≡ (a && not false)
-not_none true = refl
-not_none false = refl
+not_none a = search rules
 
 pub explore-starts : (order : List Piece) (game : Game) (F : Field) (rows left : ℕ) (hands asked : List ℕ) (steps : ℕ) → asked ≡ hands → IsRising hands → Exploring order game game F rows left hands asked steps steps 0
-explore-starts order game F rows left hands asked steps is up = record {
-  same = refl;
-  rises = rw is up;
-  counted = omega arith;
-  members = λ hand. ap (λ l. has l hand) is ∙ not_none (has hands hand);
-}
+explore-starts order game F rows left hands asked steps is up = search (rules, not_none)
 
 ask_less : (w a t u : Bool) → ((w && not a) ≡ true → t ≡ u) → ((w && not a) && not t) ≡ (w && not (a || u))
-ask_less false a t u same = refl
-ask_less true true t u same = refl
-ask_less true false t u same = ap not (same refl)
+ask_less w a t u same = search rules
 
 never_and : (a : Bool) → (a && false) ≡ false
-never_and true = refl
-never_and false = refl
+never_and a = search rules
 
 untaken : (w a b c : Bool) → w ≡ (w && not ((a && false) || (b && (c && false))))
 untaken w a b c = rw (never_and a, never_and c, never_and b) (not_none w)
@@ -98,9 +78,7 @@ untaken w a b c = rw (never_and a, never_and c, never_and b) (not_none w)
 -- where nothing may be left nothing is taken
 pub takes-none : (hold : Hold) (code : ℕ) (hands rests : List ℕ) (hand : ℕ) → rests ≡ [] → has hands hand ≡ (has hands hand && not (takes hold code (has rests) hand))
 unfolding takes has
-takes-none hold code hands rests hand nil =
-    subst (λ (l : List ℕ). has hands hand ≡ (has hands hand && not (takes hold code (has l) hand))) (sym nil)
-    (untaken (has hands hand) (hand % 8 == code) (allows_hold hold) (hand / 8 % 8 == code))
+takes-none hold code hands rests hand nil = search (rules, untaken)
 
 explore-more : (order : List Piece) (game now next_game : Game) (F : Field) (rows left : ℕ) (hands asked rests good next : List ℕ) (before middle after i : ℕ) (d : Piece)
     → Exploring order game now F rows left hands asked before middle i → i < length order
@@ -144,9 +122,7 @@ explore-step order game now next_game F rows left hands asked asked1 asked2 rest
     (subst (λ l. (hand : ℕ) → has next hand ≡ (has l hand && not (takes now.hold (piece_code (get_or order i d)) (has good1) hand))) e3 next_is))
 
 taken_back : (w a : Bool) → (w && not (w && not a)) ≡ (w && a)
-taken_back false a = refl
-taken_back true true = refl
-taken_back true false = refl
+taken_back w a = search rules
 
 -- all kinds, in whatever order
 all_tried : (order : List Piece) (game : Game) (F : Field) (rows left i : ℕ) → IsPermutation all_pieces order → length order ≤ i
@@ -159,19 +135,15 @@ all_tried order game F rows left i same all hand =
 -- the hands that are still open are those that aren't good
 pub explore-open : (order : List Piece) (game now : Game) (F : Field) (rows left : ℕ) (hands asked : List ℕ) (before after i : ℕ) → IsPermutation all_pieces order → Exploring order game now F rows left hands asked before after i → length order ≤ i
     → (hand : ℕ) → has asked hand ≡ (has hands hand && not (is_good now F rows (left + 1) hand))
-explore-open order game now F rows left hands asked before after i same state all hand =
-    state.members hand ∙ ap (λ b. has hands hand && not b) (all_tried order game F rows left i same all hand ∙ ap (λ (g : Game). is_good g F rows (left + 1) hand) (sym state.same))
+explore-open order game now F rows left hands asked before after i same state all hand = search (rules, all_tried)
 
 -- the others are found
 pub closed-found : (hands asked found : List ℕ) (good : ℕ → Bool) → ((hand : ℕ) → has asked hand ≡ (has hands hand && not (good hand))) → ((hand : ℕ) → has found hand ≡ (has hands hand && not (has asked hand)))
     → (hand : ℕ) → has found hand ≡ (has hands hand && good hand)
-closed-found hands asked found good asked_is found_is hand =
-    found_is hand ∙ ap (λ b. has hands hand && not b) (asked_is hand) ∙ taken_back (has hands hand) (good hand)
+closed-found hands asked found good asked_is found_is hand = search (rules, taken_back)
 
 not_second : (w t : Bool) → (w && not t) ≡ true → t ≡ false
-not_second true false there = refl
-not_second true true there = cc
-not_second false t there = cc
+not_second w t there = search rules
 
 pub open-bad : (hands asked : List ℕ) (good : ℕ → Bool) → ((hand : ℕ) → has asked hand ≡ (has hands hand && not (good hand))) → (hand : ℕ) → has asked hand ≡ true → good hand ≡ false
 open-bad hands asked good asked_is hand there = not_second (has hands hand) (good hand) (sym (asked_is hand) ∙ there)
@@ -187,17 +159,10 @@ pub record Trying (game now : Game) (left : ℕ) (children : List Child) (rests 
 
 pub try-starts : (game : Game) (left : ℕ) (children : List Child) (rests asked : List ℕ) (before after : ℕ) → asked ≡ rests → IsRising rests → before ≤ after → Trying game game left children rests asked before after 0
 unfolding is_good_at
-try-starts game left children rests asked before after is up more = record {
-  same = refl;
-  rises = rw is up;
-  counted = more;
-  members = λ rest. ap (λ l. has l rest) is ∙ not_none (has rests rest);
-}
+try-starts game left children rests asked before after is up more = search (rules, not_none)
 
 and_again : (w a g : Bool) → ((w && not a) && not ((w && not a) && g)) ≡ (w && not (a || g))
-and_again false a g = refl
-and_again true true g = refl
-and_again true false g = refl
+and_again w a g = search rules
 
 pub try-more : (game now next_game : Game) (left : ℕ) (children : List Child) (rests asked good next : List ℕ) (before middle after i : ℕ) (child : Child)
     → Trying game now left children rests asked before middle i → i < length children → get_or children i child ≡ child
@@ -241,9 +206,7 @@ pub try-ends : (game now : Game) (F : Field) (rows : ℕ) (piece : Piece) (left 
     → ((rest : ℕ) → has found rest ≡ (has rests rest && not (has asked rest)))
     → (rest : ℕ) → has found rest ≡ (has rests rest && is_good_after game F rows piece left rest)
 try-ends game now F rows piece left children rests asked found before after i state all children_are found_is rest =
-    found_is rest ∙ ap (λ b. has rests rest && not b) (state.members rest)
-    ∙ taken_back (has rests rest) (is_good_at game (take i children) left rest)
-    ∙ and_same (has rests rest) _ _ (λ here. ap (λ l. is_good_at game l left rest) (take_all i children all) ∙ children_are rest here)
+    search (rules, taken_back, and_same, take_all)
 
 -- ---- the whole answer
 
@@ -252,16 +215,10 @@ pub answer-looked : (known unknown found hands answer : List ℕ) (good : ℕ �
     → ((hand : ℕ) → has found hand ≡ (has unknown hand && good hand))
     → ((hand : ℕ) → has answer hand ≡ (has known hand || has found hand))
     → (hand : ℕ) → has answer hand ≡ (has hands hand && good hand)
-answer-looked known unknown found hands answer good whole found_is answer_is hand =
-    answer_is hand ∙ ap (λ b. has known hand || b) (found_is hand) ∙ whole hand
-
-or_none : (a b : Bool) → b ≡ false → a ≡ (a || b)
-or_none true b h = refl
-or_none false b h = sym h
+answer-looked known unknown found hands answer good whole found_is answer_is hand = search rules
 
 less_none : (a b : Bool) → b ≡ false → a ≡ (a && not b)
-less_none true b h = ap not (sym h)
-less_none false b h = refl
+less_none a b h = search rules
 
 -- less nothing all stay
 pub less-none : (numbers found : List ℕ) → found ≡ [] → (number : ℕ) → has numbers number ≡ (has numbers number && not (has found number))
@@ -273,8 +230,7 @@ pub answer-kept : (kept fit hands : List ℕ) (good : ℕ → Bool) → fit ≡ 
 answer-kept kept fit hands good same kept_is hand = ap (λ l. has l hand && good hand) same ∙ kept_is hand
 
 no_hand : (a b : Bool) → a ≡ false → (a && b) ≡ a
-no_hand true b h = cc
-no_hand false b h = refl
+no_hand a b h = search rules
 
 -- where no hand is kept none is good
 pub answer-none : (kept hands : List ℕ) (good : ℕ → Bool) → kept ≡ [] → ((hand : ℕ) → (has kept hand && good hand) ≡ (has hands hand && good hand))
@@ -285,12 +241,10 @@ pub answer-known : (known unknown hands : List ℕ) (good : ℕ → Bool)
     → ((hand : ℕ) → (has known hand || (has unknown hand && good hand)) ≡ (has hands hand && good hand))
     → ((hand : ℕ) → has unknown hand ≡ false)
     → (hand : ℕ) → has known hand ≡ (has hands hand && good hand)
-answer-known known unknown hands good whole none hand =
-    or_none (has known hand) (has unknown hand && good hand) (ap (λ b. b && good hand) (none hand)) ∙ whole hand
+answer-known known unknown hands good whole none hand = search (rules, or_false)
 
 second_true : (a b c : Bool) → a ≡ (b && c) → a ≡ true → c ≡ true
-second_true a true c is there = sym is ∙ there
-second_true a false c is there = cc
+second_true a b c is there = search rules
 
 -- what is found is good, and what isn't found isn't
 pub found-good : (found unknown : List ℕ) (good : ℕ → Bool) → ((hand : ℕ) → has found hand ≡ (has unknown hand && good hand)) → (hand : ℕ) → has found hand ≡ true → good hand ≡ true

@@ -1,50 +1,31 @@
 -- Taking from pieces at hand is taking from their number.
-use Rattle.std.proofs.Common.{ℕ, ◌≡◌, ◌/◌, ◌%◌, ◌≤◌, ◌<◌, ◌^◌, Bool, true, ◌&&◌, ◌==◌, List, [], ◌∷◌, length, sym, subst, ◌∙◌, inl, inr, arith}
+use Rattle.std.proofs.Common.{ℕ, ◌≡◌, ◌/◌, ◌%◌, ◌<◌, ◌^◌, Bool, true, ◌&&◌, ◌==◌, List, [], ◌∷◌, length, sym, subst, ◌∙◌, inl, inr, arith}
 use Rattle.std.proofs.lemmas.Bool.{and_from, and_parts, eq-eqb, eqb-true, or_left, or_right}
 use Rattle.std.proofs.Math.Nat.{pow-succ'}
 use Rattle.srs.specs.declared.piece.Piece.{Piece}
-use Rattle.srs.specs.declared.piece.Piece.TheVariants.{I, L, O, Z, T, J, S}
 use Rattle.srs.specs.Piece.{piece_code}
-use Rattle.srs.proofs.CallerLemmas.{piece_code-injective}
+use Rattle.srs.proofs.CallerLemmas.{piece_code-injective, piece_code-small, piece_code-some}
 use Rattle.hold_queue.specs.declared.hold.Hold.{Hold}
 use Rattle.hold_queue.specs.declared.hold.Hold.TheVariants.{Allowed, Avoided}
 use Rattle.hold_queue.specs.AtHand.{Take, take_first, take_second}
 use Rattle.percent.specs.Hands.{number_of, allows_hold, takes, without_first, without_second}
 use Rattle.percent.proofs.TestLemmas.{or_cases}
 
-pub code-some : (piece : Piece) → 1 ≤ piece_code piece
-code-some I = omega arith
-code-some L = omega arith
-code-some O = omega arith
-code-some Z = omega arith
-code-some T = omega arith
-code-some J = omega arith
-code-some S = omega arith
-
-pub code-few : (piece : Piece) → piece_code piece ≤ 7
-code-few I = omega arith
-code-few L = omega arith
-code-few O = omega arith
-code-few Z = omega arith
-code-few T = omega arith
-code-few J = omega arith
-code-few S = omega arith
-
 first-code : (piece : Piece) (rest : List Piece) → number_of (piece ∷ rest) % 8 ≡ piece_code piece
 unfolding number_of
-first-code piece rest = omega (arith, code-few piece)
+first-code piece rest = omega (arith, piece_code-small piece)
 
 first-left : (piece : Piece) (rest : List Piece) → without_first (number_of (piece ∷ rest)) ≡ number_of rest
 unfolding number_of without_first
-first-left piece rest = omega (arith, code-few piece)
+first-left piece rest = omega (arith, piece_code-small piece)
 
 second-code : (first piece : Piece) (rest : List Piece) → number_of (first ∷ piece ∷ rest) / 8 % 8 ≡ piece_code piece
 unfolding number_of
-second-code first piece rest = omega (arith, code-few first, code-few piece)
+second-code first piece rest = omega (arith, piece_code-small first, piece_code-small piece)
 
 second-left : (first piece : Piece) (rest : List Piece) → without_second (number_of (first ∷ piece ∷ rest)) ≡ number_of (first ∷ rest)
 unfolding number_of without_second
-second-left first piece rest = omega (arith, code-few first, code-few piece)
+second-left first piece rest = omega (arith, piece_code-small first, piece_code-small piece)
 
 -- a way to take a piece, after which a test passes
 abbrev pub TakesSo : Hold → List Piece → Piece → (ℕ → Bool) → Type 0
@@ -53,7 +34,7 @@ TakesSo hold hand piece goes_on = (rest : List Piece) × Take hold hand piece re
 at_first : (hold : Hold) (hand : List Piece) (piece : Piece) (goes_on : ℕ → Bool)
     → number_of hand % 8 ≡ piece_code piece → goes_on (without_first (number_of hand)) ≡ true → TakesSo hold hand piece goes_on
 unfolding number_of
-at_first hold [] piece goes_on same passes = absurd (omega (arith, same, code-some piece))
+at_first hold [] piece goes_on same passes = absurd (omega (arith, same, piece_code-some piece))
 at_first hold (first ∷ rest) piece goes_on same passes =
     let is : first ≡ piece = piece_code-injective first piece (sym (first-code first rest) ∙ same) in
     (rest, subst (λ p. Take hold (first ∷ rest) p rest) is take_first, subst (λ n. goes_on n ≡ true) (first-left first rest) passes)
@@ -61,8 +42,8 @@ at_first hold (first ∷ rest) piece goes_on same passes =
 at_second : (hand : List Piece) (piece : Piece) (goes_on : ℕ → Bool)
     → number_of hand / 8 % 8 ≡ piece_code piece → goes_on (without_second (number_of hand)) ≡ true → TakesSo Allowed hand piece goes_on
 unfolding number_of
-at_second [] piece goes_on same passes = absurd (omega (arith, same, code-some piece))
-at_second (first ∷ []) piece goes_on same passes = absurd (omega (arith, same, code-some piece, code-few first))
+at_second [] piece goes_on same passes = absurd (omega (arith, same, piece_code-some piece))
+at_second (first ∷ []) piece goes_on same passes = absurd (omega (arith, same, piece_code-some piece, piece_code-small first))
 at_second (first ∷ second ∷ rest) piece goes_on same passes =
     let is : second ≡ piece = piece_code-injective second piece (sym (second-code first second rest) ∙ same) in
     (first ∷ rest, subst (λ p. Take Allowed (first ∷ second ∷ rest) p (first ∷ rest)) is take_second, subst (λ n. goes_on n ≡ true) (second-left first second rest) passes)
@@ -98,4 +79,4 @@ takes-from Allowed (first ∷ second ∷ hand) piece rest goes_on take_second pa
 pub number-below : (pieces : List Piece) → number_of pieces < 8 ^ length pieces
 unfolding number_of
 number-below [] = omega arith
-number-below (piece ∷ pieces) = omega (arith, code-few piece, number-below pieces, pow-succ' 8 (length pieces))
+number-below (piece ∷ pieces) = omega (arith, piece_code-small piece, number-below pieces, pow-succ' 8 (length pieces))

@@ -1,5 +1,5 @@
 -- A slot stands for a position, and what is kept is true of it.
-use Rattle.std.proofs.Common.{◌≡◌, ℕ, nat_lt, Bool, true, false, ◌&&◌, ◌||◌, not, List, [], ◌∷◌, ◌++◌, ◌+◌, ◌<◌, ◌≤◌, length, take, get_or, set, Contains, refl, sym, ap, subst, ◌∙◌, inl, inr, arith}
+use Rattle.std.proofs.Common.{◌≡◌, ℕ, nat_lt, Bool, true, false, ◌&&◌, ◌||◌, not, List, [], ◌∷◌, ◌++◌, ◌+◌, ◌<◌, ◌≤◌, length, take, get_or, set, Contains, refl, sym, ap, ◌∙◌, inl, inr, arith, rules}
 use Rattle.std.specs.Prelude.{sum_by}
 use Rattle.std.proofs.lemmas.List.Sums.{get_or-le-sum_by, sum_by-set, sum_by-cons, sum_by-append}
 use Rattle.std.proofs.Math.Path.{fun_ext}
@@ -36,12 +36,7 @@ pub bits-filled : (p : Position) (cells : ℕ) → cells_in_bits cells ≡ inter
 bits-filled p cells is = is ∙ all_below p
 
 pub empty-slot : (game : Game) (slot : Slot) → slot.found.items ≡ [] → slot.missed.items ≡ [] → IsTrueSlot game slot
-empty-slot game slot found missed = record {
-  found_rises = rw found rising-none;
-  missed_rises = rw missed rising-none;
-  found_true = λ hand there. let none = ap (λ l. has l hand) found ∙ has-none hand in cc;
-  missed_true = λ hand there. let none = ap (λ l. has l hand) missed ∙ has-none hand in cc;
-}
+empty-slot game slot found missed = search (rules, rising-none, has-none)
 
 -- a slot with the cells and rows of a position is true of it
 pub slot-found : (game : Game) (slot : Slot) (p : Position) (left : ℕ) → IsTrueSlot game slot → cells_in_bits slot.cells ≡ filled p.well → slot.rows ≡ p.rows → slot.left ≡ left
@@ -53,8 +48,7 @@ pub slot-missed : (game : Game) (slot : Slot) (p : Position) (left : ℕ) → Is
 slot-missed game slot p left is cells rows same hand there = (λ i. is_good game (sym cells i) (sym rows i) (sym same i) hand) ∙ is.missed_true hand there
 
 either : (a b g want : Bool) → (a ≡ true → g ≡ want) → (b ≡ true → g ≡ want) → (a || b) ≡ true → g ≡ want
-either true b g want first second there = first refl
-either false b g want first second there = second there
+either a b g want first second there = search rules
 
 -- what was known and what is new
 pub new-slot : (game : Game) (slot : Slot) (p : Position) (left : ℕ) (found_before found missed_before missed : List ℕ)
@@ -66,26 +60,14 @@ pub new-slot : (game : Game) (slot : Slot) (p : Position) (left : ℕ) (found_be
     → ((hand : ℕ) → has found hand ≡ true → is_good game (filled p.well) p.rows left hand ≡ true)
     → ((hand : ℕ) → has missed hand ≡ true → is_good game (filled p.well) p.rows left hand ≡ false)
     → IsTrueSlot game slot
-new-slot game slot p left found_before found missed_before missed cells rows same found_rises found_is missed_rises missed_is f m g n = record {
-  found_rises = found_rises;
-  missed_rises = missed_rises;
-  found_true = λ hand there. (λ i. is_good game (cells i) (rows i) (same i) hand) ∙ either (has found_before hand) (has found hand) _ true (f hand) (g hand) (sym (found_is hand) ∙ there);
-  missed_true = λ hand there. (λ i. is_good game (cells i) (rows i) (same i) hand) ∙ either (has missed_before hand) (has missed hand) _ false (m hand) (n hand) (sym (missed_is hand) ∙ there);
-}
+new-slot game slot p left found_before found missed_before missed cells rows same found_rises found_is missed_rises missed_is f m g n =
+    search (rules, either)
 
 -- what is known and what is open make the answer
 pub recalled-is : (w f m rest unknown good g : Bool) → (f ≡ true → g ≡ true) → (m ≡ true → g ≡ false)
     → rest ≡ (w && not m) → unknown ≡ (rest && not f) → good ≡ (rest && not unknown)
     → (good || (unknown && g)) ≡ (w && g)
-recalled-is w f m rest unknown good g found missed rest_is unknown_is good_is =
-    rw (good_is, unknown_is, rest_is) (by w f m g found missed)
-  where
-    by : (w f m g : Bool) → (f ≡ true → g ≡ true) → (m ≡ true → g ≡ false)
-        → (((w && not m) && not ((w && not m) && not f)) || (((w && not m) && not f) && g)) ≡ (w && g)
-    by false f m g found missed = refl
-    by true f true g found missed = sym (missed refl)
-    by true true false g found missed = sym (found refl)
-    by true false false g found missed = refl
+recalled-is w f m rest unknown good g found missed rest_is unknown_is good_is = search rules
 
 -- ---- how many answers there are
 
@@ -95,17 +77,12 @@ none-counted slot found missed = let a = ap length found in let b = ap length mi
 
 pub empty-more : (slots : List Slot) (slot : Slot) → answers_in slots ≡ 0 → slot.found.items ≡ [] → slot.missed.items ≡ [] → answers_in (slots ++ slot ∷ []) ≡ 0
 unfolding answers_in
-empty-more slots slot none found missed =
-    let both = sum_by-append answers_of slots (slot ∷ []) in
-    let one = sum_by-cons answers_of slot [] in
-    let zero = none-counted slot found missed in
-    omega (arith, both, one, zero, none)
+empty-more slots slot none found missed = search (rules, sum_by-append, sum_by-cons, none-counted)
 
 pub replaced : (slots : List Slot) (index : ℕ) (slot before : Slot) → index < length slots → before ≡ get_or slots index before
     → answers_in (set slots index slot) + answers_of before ≡ answers_in slots + answers_of slot
 unfolding answers_in
-replaced slots index slot before within there =
-    subst (λ b. sum_by answers_of (set slots index slot) + answers_of b ≡ sum_by answers_of slots + answers_of slot) (sym there) (sum_by-set answers_of slots index slot before within)
+replaced slots index slot before within there = search (rules, sum_by-set)
 
 -- a slot has no more answers than there are
 pub one-of-all : (slots : List Slot) (index : ℕ) (before : Slot) → index < length slots → before ≡ get_or slots index before → answers_of before ≤ answers_in slots
@@ -119,8 +96,7 @@ none-in slots nil = ap (sum_by answers_of) nil
 -- where the slots before an index have no answers, an empty slot put there leaves none up to it
 pub emptied-more : (slots : List Slot) (index : ℕ) (slot : Slot) → index < length slots → answers_in (take index slots) ≡ 0 → slot.found.items ≡ [] → slot.missed.items ≡ []
     → answers_in (take (index + 1) (set slots index slot)) ≡ 0
-emptied-more slots index slot within none found missed =
-    ap answers_in (take_more_set slots index slot within) ∙ empty-more (take index slots) slot none found missed
+emptied-more slots index slot within none found missed = search (rules, take_more_set, empty-more)
 
 pub emptied-all : (slots : List Slot) (index : ℕ) → length slots ≤ index → answers_in (take index slots) ≡ 0 → answers_in slots ≡ 0
 emptied-all slots index all none = ap answers_in (sym (take_all index slots all)) ∙ none

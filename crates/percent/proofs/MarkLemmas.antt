@@ -1,14 +1,14 @@
 -- A placement after which a rest is good stands in a listed tiling by the pieces of the rest and its own.
-use Rattle.std.proofs.Common.{ℕ, ◌≡◌, ◌↔◌, ◌∙◌, ◌+◌, ◌-◌, ◌*◌, ◌^◌, ◌%◌, ◌<◌, ◌≤◌, ◌⊎◌, Bool, true, false, not, ◌&&◌, ◌||◌, ◌==◌, bit_and, bit_or, List, [], ◌∷◌, ◌++◌, length, get_or, map, ap, pos, negsuc, refl, sym, subst, inl, inr, arith}
+use Rattle.std.proofs.Common.{ℕ, ◌≡◌, ◌↔◌, ◌∙◌, ◌+◌, ◌-◌, ◌*◌, ◌^◌, ◌%◌, ◌<◌, ◌≤◌, ◌⊎◌, true, false, not, ◌&&◌, ◌||◌, bit_and, bit_or, List, [], ◌∷◌, ◌++◌, length, get_or, map, ap, pos, refl, sym, subst, inl, inr, arith, rules}
 use Rattle.std.proofs.lemmas.List.Folds.{list_all-map}
 use Rattle.std.proofs.Math.Bool.{and-true, or-true, true-or}
-use Rattle.std.proofs.lemmas.Bool.{cases_Bool, cases_lt, cond-true, cond-false, both_ways, eq-eqb, false_from_ne_true, not-true, not_from_false}
+use Rattle.std.proofs.lemmas.Bool.{cases_Bool, cases_lt, cond-true, cond-false, both_ways, eq-eqb, false_from_ne_true, not-true, not_from_false, or_parts}
 use Rattle.std.specs.Prelude.{All, Contains, Option, Some, None, IfSome, IsSomeAnd, slice_get}
 use Rattle.std.proofs.lemmas.Option.{slice_get_within, get_or_from_slice_get}
 use Rattle.std.proofs.lemmas.List.{get_or_append_left, get_or_push, length-append}
 use Rattle.number_sets.specs.Rising.{has}
 use Rattle.problem.proofs.CallerLemmas.{locked-low}
-use Rattle.srs.proofs.CallerLemmas.{some_same, list_all-from_is_among}
+use Rattle.srs.proofs.CallerLemmas.{some_same, list_all-from_is_among, piece_code-small}
 use Rattle.lane_board.specs.Lanes.{has_bit}
 use Rattle.lane_board.proofs.CallerLemmas.{has_bit-and, has_bit-low, has_bit-or, has_bit-shifted_high, has_bit-zero}
 use Rattle.lane_board.specs.Field.{Field, difference}
@@ -46,7 +46,6 @@ use Rattle.tiled_pieces.specs.declared.standing.StandingPieces.{StandingPieces}
 use Rattle.tiled_pieces.specs.Standing.{GrowsBy, Stands}
 use Rattle.percent.specs.Spread.{IsSpread}
 use Rattle.percent.specs.Wanted.{IsWanted}
-use Rattle.percent.proofs.HandLemmas.{code-few}
 use Rattle.percent.proofs.FittingLemmas.{low-position}
 use Rattle.percent.proofs.TestLemmas.{not_false}
 use Rattle.percent.proofs.SpreadLemmas.{NearCell, near, row_of, spread-placed}
@@ -57,26 +56,12 @@ use Rattle.number_sets.proofs.CallerLemmas.{has-at}
 enough : (piece other : Piece) (count rest : ℕ) (counts : List ℕ) → ((code : ℕ) → code < 8 → codes_with piece count rest code ≤ get_or counts code 0)
     → supply_at count rest other ≤ less_one (supply_by counts) piece other
 unfolding supply_at supply_by less_one codes_with
-enough piece other count rest counts most =
-    let few = most (piece_code other) (let small = code-few other in omega arith) in
-    elim (cases_Bool (piece_code piece == piece_code other)) [
-      | inl same ↦
-          let more = cond-true {A = ℕ} (piece_code piece == piece_code other) 1 0 same in
-          let less = cond-true {A = ℕ} (piece_code piece == piece_code other) (get_or counts (piece_code other) 0 - 1) (get_or counts (piece_code other) 0) same in
-          omega (arith, few, more, less)
-      | inr differs ↦
-          let none = cond-false {A = ℕ} (piece_code piece == piece_code other) 1 0 differs in
-          let all = cond-false {A = ℕ} (piece_code piece == piece_code other) (get_or counts (piece_code other) 0 - 1) (get_or counts (piece_code other) 0) differs in
-          omega (arith, few, none, all)
-    ]
+enough piece other count rest counts most = search (rules, piece_code-small, cases_Bool, cond-true, cond-false)
 
 one_there : (piece : Piece) (count rest : ℕ) (counts : List ℕ) → ((code : ℕ) → code < 8 → codes_with piece count rest code ≤ get_or counts code 0)
     → 0 < supply_by counts piece
 unfolding supply_by codes_with
-one_there piece count rest counts most =
-    let few = most (piece_code piece) (let small = code-few piece in omega arith) in
-    let more = cond-true {A = ℕ} (piece_code piece == piece_code piece) 1 0 (eq-eqb _ _ refl) in
-    omega (arith, few, more)
+one_there piece count rest counts most = search (rules, piece_code-small, cond-true, eq-eqb)
 
 -- ---- rows that are sent to where they stand
 
@@ -109,9 +94,7 @@ laid rows q = record { piece = q.piece; cells = sent_cells rows q }
 
 cells-same : (rows : List ℕ) (cells : List Cell) → map (cell_to (λ y. get_or rows y 0)) cells ≡ map (sent_up rows) cells
 unfolding cell_to row_to sent_up
-cells-same rows [] = refl
-cells-same rows ((x, pos y) ∷ cells) = ap (λ l. (x, pos (get_or rows y 0)) ∷ l) (cells-same rows cells)
-cells-same rows ((x, negsuc y) ∷ cells) = ap (λ l. (x, negsuc y) ∷ l) (cells-same rows cells)
+cells-same rows cells = search rules
 
 laid-sent : (rows : List ℕ) (q : Placement) → laid_part (sent_part rows q) ≡ laid rows q
 unfolding sent_cells
@@ -142,10 +125,7 @@ good-left : (game : Game) (p : Position) (q : Placement) (left rest : ℕ) (rows
     → is_good game (locked (filled p.well) q) (p.rows - rows_removed (filled p.well) q) left rest ≡ true
     → Tiling (all_but (difference E (sent_cells rows q))) 8 (supply_at (left + 1) rest)
 good-left game p q left rest rows E spread free below good =
-    let F : Field = filled p.well in
-    let few = p.few in
-    let after = good-tiled game (locked F q) (p.rows - rows_removed F q) left rest (left + 1) (locked-low F p.rows q (low-position p) below free) (omega arith) good in
-    tiled-left F q p.rows rows E (supply_at (left + 1) rest) few spread free below ((full_rows_may_stand F q p.rows (supply_at (left + 1) rest) (omega (arith, few)) p.below free below).1 after)
+    search (rules, good-tiled, locked-low, low-position, tiled-left, full_rows_may_stand)
 
 -- so no walls stand in what it leaves
 pub walled-bad : (game : Game) (p : Position) (q : Placement) (left rest : ℕ) (rows : List ℕ) (E : Field) → IsSpread (filled p.well) p.rows rows E → is_free (filled p.well) q ≡ true → is_below p.rows q ≡ true
@@ -185,7 +165,7 @@ pub after-listed : (F : Field) (q : Placement) (height left rest : ℕ) (rows co
 unfolding supply_by supply_at
 after-listed F q height left rest rows counts fewer E list kept few small spread free below most same all keeps =
     fewer-listed (difference E (sent_cells rows q)) (supply_by fewer) (less_one (supply_by counts) q.piece) kept
-    (λ other. let equal = same (piece_code other) (let code = code-few other in omega arith) in omega (arith, equal, enough q.piece other (left + 1) rest counts most))
+    (λ other. let equal = same (piece_code other) (let code = piece_code-small other in omega arith) in omega (arith, equal, enough q.piece other (left + 1) rest counts most))
     (subst (λ (D : Field). ListsAll D (less_one (supply_by counts) q.piece) kept) (left-sent rows E q)
     (rest_listed E (supply_by counts) list kept (sent_part rows q)
     (lies F q height rows E (supply_by counts) few small spread free below (one_there q.piece (left + 1) rest counts most)) all
@@ -193,9 +173,7 @@ after-listed F q height left rest rows counts fewer E list kept few small spread
 
 -- what holds of all marks holds of the one at an index
 marked_at : (P : Mark → Type 0) (known : List Mark) (index : ℕ) (counts : List ℕ) → All P known → (k : HasMarkAt known index counts) → P k.mark
-marked_at P known index counts all k =
-    let within = slice_get_within known index k.mark k.there in
-    subst P (get_or_from_slice_get known index k.mark k.mark k.there) (all index k.mark within)
+marked_at P known index counts all k = search (rules, slice_get_within, get_or_from_slice_get)
 
 -- where the mark of a rest doesn't have it, the rest isn't good
 pub bad-placed : (game : Game) (p : Position) (known : List Mark) (rows : List ℕ) (cells : Empties) (q : Placement) (left rest index standing : ℕ) → IsSpread (filled p.well) p.rows rows (empty_cells cells)
@@ -243,10 +221,6 @@ own_bit : (k : ℕ) → k < 64 → has_bit (1 * 2 ^ k % 2 ^ 64) k ≡ true
 unfolding has_bit
 own_bit k low = has_bit-low (1 * 2 ^ k) 64 k low ∙ has_bit-shifted_high 1 k k (omega arith) ∙ ap (has_bit 1) {x = k - k} {y = 0} (omega arith) ∙ refl
 
-neither : (a b : Bool) → (a || b) ≡ false → (a ≡ false) × (b ≡ false)
-neither false b h = (refl, h)
-neither true b h = cc
-
 pub standing-starts : (known : List Mark) (standing : Standing) → AreStandingBefore known standing 0
 standing-starts known standing = record { each = λ k below. absurd (omega arith) }
 
@@ -271,7 +245,7 @@ pub standing-pass : (known : List Mark) (pieces : StandingPieces) (others i : �
     → AreStandingBefore known (record { pieces = pieces; others = others }) i → AreStandingBefore known (record { pieces = pieces; others = bit_or others (1 * 2 ^ i % 2 ^ 64) }) (i + 1)
 standing-pass known pieces others i low state = record {
   each = λ k below unset mark there cells some.
-      let both = neither (has_bit others k) (has_bit (1 * 2 ^ i % 2 ^ 64) k) (sym (has_bit-or others (1 * 2 ^ i % 2 ^ 64) k) ∙ unset) in
+      let both = or_parts (has_bit others k) (has_bit (1 * 2 ^ i % 2 ^ 64) k) (sym (has_bit-or others (1 * 2 ^ i % 2 ^ 64) k) ∙ unset) in
       elim (cases_lt k i) [
         | inl before ↦ state.each k before both.0 mark there cells some
         | inr past ↦
@@ -292,12 +266,7 @@ standing-ends known standing i all state = record {
 -- a placement stands in no tiling of the marks under whose indexes it isn't found
 pub standing-found : (known : List Mark) (rows : List ℕ) (q : Placement) (standing : Standing) (lists : ℕ) (taken : Field) → taken ≡ sent_cells rows q → standing.pieces.piece ≡ q.piece
     → AreStandingBefore known standing 64 → ((k : ℕ) → k < 64 → (has_bit lists k ≡ true) ↔ Stands standing.pieces.pieces.items taken k) → IsStanding known rows q (bit_or lists standing.others)
-standing-found known rows q standing lists taken same kind all found = record {
-  none = λ k low unset mark there some.
-      let both = neither (has_bit lists k) (has_bit standing.others k) (sym (has_bit-or lists standing.others k) ∙ unset) in
-      let has = subst (λ p. SomeHas mark.tilings.tilings.items (record { piece = p; cells = taken })) (sym kind) (subst (λ (E : Field). SomeHas mark.tilings.tilings.items (record { piece = q.piece; cells = E })) (sym same) some) in
-      both_ways _ both.0 ((found k low).1 (all.each k low both.1 mark there taken has));
-}
+standing-found known rows q standing lists taken same kind all found = search (rules, or_parts, has_bit-or, both_ways)
 
 -- ---- indexes of marks
 
@@ -327,22 +296,16 @@ indexes-more known piece left rests indexes i index state here = record {
 }
 
 pub indexes-end : (known : List Mark) (piece : Piece) (left : ℕ) (items rests : List ℕ) (indexes : List (Option ℕ)) (i : ℕ) → items ≡ rests → AreIndexesBefore known piece left items indexes i → i ≡ length items → AreIndexes known piece left rests indexes
-indexes-end known piece left items rests indexes i same state all =
-    subst (λ l. AreIndexes known piece left l indexes) same (record {
-      size = state.size ∙ all;
-      each = λ k low. state.each k (omega (arith, all));
-    })
+indexes-end known piece left items rests indexes i same state all = search rules
 
 -- a mark of the counts of a rest and a piece more
 pub mark-with : (known : List Mark) (piece : Piece) (left rest : ℕ) (counts : List ℕ) (index : Option ℕ) → IfSome index (λ p. HasMarkAt known p counts)
     → ((code : ℕ) → code < 8 → codes_with piece (left + 1) rest code ≤ get_or counts code 0) → IfSome index (IsMarkOf known piece left rest)
-mark-with known piece left rest counts None there enough = tt
-mark-with known piece left rest counts (Some p) there enough = record { counts = counts; there = there; enough = enough }
+mark-with known piece left rest counts index there enough = search rules
 
 -- the mark at an index of which something is known
 pub mark-there : (P Q : ℕ → Type 0) (index : Option ℕ) → IfSome index P → IsSomeAnd index Q → (known_index : ℕ) × P known_index × Q known_index
-mark-there P Q None holds is = absurd is
-mark-there P Q (Some known_index) holds is = (known_index, holds, is)
+mark-there P Q index holds is = search rules
 
 -- ---- marks that are wanted
 

@@ -1,5 +1,5 @@
 -- The number of pieces is made from the last piece up.
-use Rattle.std.proofs.Common.{ℕ, zero, suc, ◌≡◌, ◌+◌, ◌-◌, ◌*◌, ◌^◌, ◌<◌, ◌≤◌, List, [], ◌∷◌, length, get_or, drop, refl, sym, ap, arith}
+use Rattle.std.proofs.Common.{ℕ, ◌≡◌, ◌+◌, ◌-◌, ◌*◌, ◌^◌, ◌<◌, ◌≤◌, List, [], ◌∷◌, length, get_or, drop, refl, sym, arith, rules}
 use Rattle.std.proofs.Math.Nat.{pow-le-pow_right}
 use Rattle.std.proofs.Math.Seq.{drop-cons}
 use Rattle.std.proofs.lemmas.List.{length-drop}
@@ -24,20 +24,8 @@ number-starts pieces = record { is = sym (drop-whole pieces); within = omega ari
 pub number-more : (pieces : List Piece) (index number : ℕ) (d : Piece) → 0 < index → Numbering pieces index number
     → Numbering pieces (index - 1) (number * 8 + piece_code (get_or pieces (index - 1) d))
 unfolding number_of
-number-more pieces zero number d some state = absurd (omega arith)
-number-more pieces (suc index) number d some state =
-    let e : suc index - 1 ≡ index = omega arith in
-    rw e (record {
-      is =
-          let cons = ap number_of (drop-cons pieces index d (omega (arith, state.within))) in
-          omega (arith, state.is, cons);
-      within = omega (arith, state.within);
-    })
+number-more pieces index number d some state = search (rules, drop-cons)
 
 -- with at most 21 pieces there is room for each step
 pub number-fits : (pieces : List Piece) (index number : ℕ) → length pieces ≤ 21 → 0 < index → Numbering pieces index number → number < 8 ^ 20
-number-fits pieces index number short some state =
-    let below = number-below (drop index pieces) in
-    let size = length-drop index pieces in
-    let least : 8 ^ length (drop index pieces) ≤ 8 ^ 20 = pow-le-pow_right {n = 8} (omega arith) {i = length (drop index pieces)} {j = 20} (omega (arith, size)) in
-    omega (arith, below, least, state.is)
+number-fits pieces index number short some state = search (rules, number-below, length-drop, pow-le-pow_right)

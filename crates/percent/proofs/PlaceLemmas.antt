@@ -6,7 +6,7 @@ use Rattle.std.specs.List.{list_any}
 use Rattle.std.specs.declared.cmp.Ordering.{Ordering}
 use Rattle.std.specs.declared.cmp.Ordering.TheVariants.{Less, Equal, Greater}
 use Rattle.std.specs.Prelude.{IsPermutation}
-use Rattle.std.proofs.lemmas.Bool.{and_from, and_parts, cases_Bool, false≢true, or_left, or_right}
+use Rattle.std.proofs.lemmas.Bool.{and_from, and_parts, cases_Bool, false≢true, or_left, or_right, false_from_ne_true}
 use Rattle.std.proofs.lemmas.List.Elements.{All-nil, All-push}
 use Rattle.std.proofs.lemmas.List.Sorted.{list_any-IsPermutation}
 use Rattle.std.proofs.lemmas.List.Folds.{list_any-append}
@@ -18,7 +18,7 @@ use Rattle.srs.specs.Kick.{Table}
 use Rattle.srs.specs.Order.{placement_cmp}
 use Rattle.srs.specs.Placements.{placements_of}
 use Rattle.srs.specs.Rules.{table_of}
-use Rattle.srs.proofs.CallerLemmas.{placement_cmp-antisymmetric, placement_cmp-total, placements_of-list, Contains-cases, Contains-filter, Contains-from_filter, Contains-none, filter-false, filter-true, some_same}
+use Rattle.srs.proofs.CallerLemmas.{placement_cmp-antisymmetric, placement_cmp-total, placements_of-list, Contains-cases, Contains-filter, Contains-from_filter, Contains-none, filter-false, filter-true, some_same, any_passes, some_passes}
 use Rattle.srs.specs.Rising.{IsNextAbove}
 use Rattle.well.specs.Well.{filled}
 use Rattle.well.specs.Free.{is_free}
@@ -35,7 +35,7 @@ use Rattle.percent.specs.declared.game.Game.{Game}
 use Rattle.percent.specs.declared.position.Child.{Child}
 use Rattle.percent.specs.Children.{IsChild}
 use Rattle.percent.specs.GoodHands.{reached_places, is_good, is_good_after, is_good_at}
-use Rattle.percent.proofs.TestLemmas.{any_passes, or_cases, some_passes}
+use Rattle.percent.proofs.TestLemmas.{or_cases}
 
 -- a place of a piece below a row
 pub record IsLowPlace (game : Game) (F : Field) (rows : ℕ) (piece : Piece) (q : Placement) : Type 0 where
@@ -130,14 +130,8 @@ module _ (game : Game) (F : Field) (rows : ℕ) (piece : Piece) (left : ℕ) (ha
 
   pub taken-fewer : held_count new piece < held_count old piece
   unfolding held_count
-  taken-fewer = fewer (holds old) (holds new) (λ p is. ((rest p).0 is).0) q least.member gone (placements_of piece) (listed game F rows piece q taken)
-    where
-      gone : holds new q ≡ false
-      gone = at (holds new q) refl
-        where
-          at : (b : Bool) → holds new q ≡ b → b ≡ false
-          at false e = refl
-          at true e = absurd (((rest q).0 e).1 refl)
+  taken-fewer =
+      fewer (holds old) (holds new) (λ p is. ((rest p).0 is).0) q least.member (false_from_ne_true _ (λ e. ((rest q).0 e).1 refl)) (placements_of piece) (listed game F rows piece q taken)
 
   -- and left out
   pub enter-skip : ((hand : ℕ) → has hands hand ≡ true → is_good_with game F rows left hand q ≡ false) → Entering game F rows piece left hands children new

@@ -1,6 +1,6 @@
 -- What is left of hands that a piece is taken from, and hands that pass a test, one hand on.
-use Rattle.std.proofs.Common.{ℕ, ◌≡◌, ◌≢◌, ◌+◌, ◌*◌, ◌/◌, ◌%◌, ◌<◌, ◌≤◌, Bool, true, false, ◌&&◌, ◌||◌, ◌==◌, List, [], ◌∷◌, ◌++◌, length, get_or, take, refl, ap, ◌∙◌, sym, arith, inl, inr}
-use Rattle.std.proofs.lemmas.Bool.{cases_eq, cases_lt}
+use Rattle.std.proofs.Common.{ℕ, ◌≡◌, ◌+◌, ◌*◌, ◌/◌, ◌%◌, ◌<◌, ◌≤◌, Bool, true, false, ◌&&◌, ◌||◌, ◌==◌, List, [], ◌∷◌, ◌++◌, length, get_or, take, ap, ◌∙◌, sym, arith, inl, inr, rules}
+use Rattle.std.proofs.lemmas.Bool.{cases_lt}
 use Rattle.std.proofs.lemmas.Bool.Decides.{nat_tests}
 use Rattle.number_sets.specs.Rising.{IsRising, AllBelow, has}
 use Rattle.number_sets.proofs.CallerLemmas.{has-absent, has-none, has-push, has-more, has-all, rising-none, rising-push, below-push, below-more}
@@ -51,10 +51,7 @@ rest-starts back hands = record {
 }
 
 same_tests : (x y a b : ℕ) → (x ≡ y → a ≡ b) → (a ≡ b → x ≡ y) → (x == y) ≡ (a == b)
-same_tests x y a b to from = elim (cases_eq x y) [
-  | inl same ↦ let other = to same in grind (arith, nat_tests)
-  | inr apart ↦ let other : a ≢ b = λ h. apart (from h) in grind (arith, nat_tests)
-]
+same_tests x y a b to from = grind (arith, nat_tests)
 
 pub rest-push : (back : ℕ → ℕ) (hands v : List ℕ) (i rest : ℕ) → KeepsOrder back → IsRising hands → Resting back hands v i → i < length hands → back rest ≡ get_or hands i 0
     → Resting back hands (v ++ rest ∷ []) (i + 1)
@@ -74,20 +71,12 @@ rest-push back hands v i rest keeps up state in_hands whole =
           ];
     }
 
-or_false : (a b : Bool) → b ≡ false → a ≡ (a || b)
-or_false true b h = refl
-or_false false b h = sym h
+pub or_false : (a b : Bool) → b ≡ false → a ≡ (a || b)
+or_false a b h = search rules
 
 pub rest-pass : (back : ℕ → ℕ) (hands v : List ℕ) (i : ℕ) → IsRising hands → Resting back hands v i → i < length hands → ((rest : ℕ) → get_or hands i 0 ≡ back rest → ⊥)
     → Resting back hands v (i + 1)
-rest-pass back hands v i up state in_hands other = record {
-  rises = state.rises;
-  members = λ rest.
-      let apart : get_or hands i 0 ≢ back rest = other rest in
-      state.members rest ∙ or_false (has (take i hands) (back rest)) (get_or hands i 0 == back rest) (let no : (get_or hands i 0 == back rest) ≡ false = grind (arith, nat_tests) in no)
-      ∙ sym (has-more hands i (back rest) in_hands);
-  below = λ more k low. let next = up i (i + 1) (omega arith) more in let old = state.below in_hands k low in omega arith;
-}
+rest-pass back hands v i up state in_hands other = search (rules, or_false, nat_tests, has-more)
 
 pub rest-members : (back : ℕ → ℕ) (hands v : List ℕ) (i : ℕ) → length hands ≤ i → Resting back hands v i → (rest : ℕ) → has v rest ≡ has hands (back rest)
 rest-members back hands v i all state rest = state.members rest ∙ has-all hands i (back rest) all
@@ -126,16 +115,10 @@ keep-starts test hands = record {
 }
 
 kept_one : (t b e : Bool) → (e ≡ true → b ≡ true) → ((t && b) || e) ≡ ((t || e) && b)
-kept_one true true e passes = refl
-kept_one true false true passes = sym (passes refl)
-kept_one true false false passes = refl
-kept_one false b true passes = sym (passes refl)
-kept_one false b false passes = refl
+kept_one t b e passes = search rules
 
 left_out : (t b e : Bool) → (e ≡ true → b ≡ false) → (t && b) ≡ ((t || e) && b)
-left_out true b e fails = refl
-left_out false b true fails = sym (fails refl)
-left_out false b false fails = refl
+left_out t b e fails = search rules
 
 pub keep-push : (test : ℕ → Bool) (hands v : List ℕ) (i : ℕ) → IsRising hands → Keeping test hands v i → i < length hands → test (get_or hands i 0) ≡ true
     → Keeping test hands (v ++ get_or hands i 0 ∷ []) (i + 1)

@@ -1,6 +1,6 @@
 -- Positions whose rows stand in rows of an earlier field: at the start, and after one more placement.
-use Rattle.std.proofs.Common.{◌≡◌, ℕ, zero, suc, ◌==◌, int_lt, nat_le, length, length-set, ◌+◌, ◌-◌, ◌<◌, ◌≤◌, Bool, true, false, not, ◌&&◌, ◌||◌, nat_lt, List, [], ◌∷◌, get_or, pos, negsuc, nat_abs, refl, sym, ap, ap₂, subst, ◌∙◌, inl, inr, arith}
-use Rattle.std.proofs.lemmas.Bool.{agree_below_at, and_from, and_parts, cases_eq, cases_lt, cases_order, eq-eqb, eqb-true, false_from_ne_true, false≢true, leb-true, lt-ltb, ltb-true, not-true, or_from, or_left, or_right}
+use Rattle.std.proofs.Common.{◌≡◌, ℕ, zero, suc, ◌==◌, int_lt, nat_le, length, length-set, ◌+◌, ◌-◌, ◌<◌, ◌≤◌, Bool, true, false, not, ◌&&◌, ◌||◌, nat_lt, List, [], ◌∷◌, get_or, pos, negsuc, nat_abs, refl, sym, ap, ap₂, subst, ◌∙◌, inl, inr, arith, rules}
+use Rattle.std.proofs.lemmas.Bool.{agree_below_at, and_from, and_parts, cases_eq, cases_lt, cases_order, eq-eqb, eqb-true, false≢true, leb-true, lt-ltb, ltb-true, not-true, or_left, or_right}
 use Rattle.std.proofs.Common.{set as list_set}
 use Rattle.std.proofs.lemmas.List.{get_or-set_other}
 use Rattle.std.proofs.lemmas.Grind.{get_or-set_at}
@@ -8,18 +8,19 @@ use Rattle.std.specs.List.{list_all, list_any}
 use Rattle.lane_board.specs.Field.{Field, difference, rows_below}
 use Rattle.lane_board.specs.FullRows.{columns, is_full, full_below, without_full_rows}
 use Rattle.lane_board.specs.Lanes.{has_bit}
-use Rattle.lane_board.proofs.CallerLemmas.{full_above, full_below-full, full_below-le, full_below-other, lowered_from, lowered_rises, lowered_to, not_full_from_cell, one_row, same_from_both}
+use Rattle.lane_board.proofs.CallerLemmas.{full_below-full, full_below-le, full_below-other, lowered_from, lowered_rises, lowered_to, not_full_from_cell, one_row, same_from_both}
 use Rattle.srs.specs.declared.placement.Placement.{Placement}
-use Rattle.srs.specs.Cells.{Cell, cells_of, in_well}
+use Rattle.srs.specs.Cells.{Cell, cells_of}
 use Rattle.srs.specs.SameCells.{is_among}
 use Rattle.srs.proofs.CallerLemmas.{is_among-all, list_all-from_is_among}
 use Rattle.well.specs.Free.{is_free, is_free_at, is_open}
 use Rattle.well.specs.Lock.{locked, rows_removed, together}
 use Rattle.well.specs.LockLaws.{LiesBelow, is_below}
+use Rattle.well.proofs.CallerLemmas.{full_below_height, together_below}
 use Rattle.empty_cells.specs.Empties.{has_cell}
 use Rattle.empty_cells.specs.SentCells.{sent_cells, sent_up}
 use Rattle.empty_cells.proofs.CallerLemmas.{cell_of, sent_from, sent_has}
-use Rattle.percent.proofs.TestLemmas.{or_cases}
+use Rattle.percent.proofs.TestLemmas.{or_cases, not_false}
 use Rattle.percent.specs.Spread.{ComesFrom, IsSpread, KeepsRows, is_row_of}
 
 -- a row in which one of the first rows stands
@@ -46,14 +47,7 @@ is_row (suc height) rows z row low sent = elim (cases_eq row height) [
 
 blank_cell : (F : Field) (rows : ℕ) (c : Cell) → is_open F c ≡ true → int_lt c.1 (pos rows) ≡ true → has_cell (difference (rows_below rows) F) c ≡ true
 unfolding is_open difference rows_below
-blank_cell F rows (pos x, pos y) blank low =
-    let parts = and_parts (in_well (pos x, pos y)) (not (F x y)) blank in
-    let inside = and_parts (nat_le x 9) (nat_le y 22) parts.0 in
-    let column = leb-true x 9 inside.0 in
-    and_from _ _ (and_from _ _ (lt-ltb x 10 (omega arith)) low) parts.1
-blank_cell F rows (pos x, negsuc y) blank low = absurd (false≢true blank)
-blank_cell F rows (negsuc x, pos y) blank low = absurd (false≢true blank)
-blank_cell F rows (negsuc x, negsuc y) blank low = absurd (false≢true blank)
+blank_cell F rows c blank low = search (rules, and_parts, leb-true, and_from, lt-ltb, false≢true)
 
 -- a blank cell below a row is one of the empty cells there
 blank_below : (F : Field) (rows : ℕ) (cells : List Cell) → list_all (is_open F) cells ≡ true → list_all (λ cell. int_lt cell.1 (pos rows)) cells ≡ true
@@ -160,11 +154,8 @@ module _ (F : Field) (height : ℕ) (rows : List ℕ) (E : Field) (spread : IsSp
 
 module _ (G : Field) (height : ℕ) (rows kept : List ℕ) (E : Field) (few : height ≤ 8) (none : (x y : ℕ) → height ≤ y → G x y ≡ false)
     (spread : IsSpread G height rows E) (keeps : KeepsRows G height rows kept) (within : (y : ℕ) → y < 8 → get_or kept y 0 < 8) (near : (x z : ℕ) → E x z ≡ true → x < 10) where
-  full_same : full_below G 23 ≡ full_below G height
-  full_same = let size : 23 ≡ height + (23 - height) = omega arith in ap (full_below G) size ∙ full_above G height (23 - height) (λ y above. not_full_from_cell G 0 y (omega arith) (none 0 y above))
-
   from : (k : ℕ) → k < height - full_below G 23 → ComesFrom G height k
-  from k low = keeps.from k (omega (arith, full_same))
+  from k low = keeps.from k (omega (arith, full_below_height G height (omega arith) none))
 
   kept_at : (k : ℕ) (o : ComesFrom G height k) → get_or kept k 0 ≡ get_or rows o.row 0
   kept_at k o =
@@ -206,15 +197,9 @@ module _ (G : Field) (height : ℕ) (rows kept : List ℕ) (E : Field) (few : he
           let stays = not_full_from_cell G x at.row column empty in
           record {
             row = at.row - full_below G at.row;
-            below = omega (arith, full_same, lowered_rises G at.row height stays at.below, full_below-le G at.row);
+            below = omega (arith, full_below_height G height (omega arith) none, lowered_rises G at.row height stays at.below, full_below-le G at.row);
             sent = keeps.each at.row at.below stays ∙ at.sent;
           }
-
--- no cell stands above the height once the placement is there
-together_low : (F : Field) (q : Placement) (height : ℕ) → LiesBelow F height → is_below height q ≡ true → (x y : ℕ) → height ≤ y → together F q x y ≡ false
-unfolding together
-together_low F q height low below x y above = or_from _ _ (low.none x y above) (false_from_ne_true _ (λ has.
-    let under = ltb-true y height (is_among-all (λ cell. int_lt cell.1 (pos height)) (cells_of q) (pos x, pos y) below has) in omega arith))
 
 -- the position after a placement
 pub spread-after : (F : Field) (height : ℕ) (rows kept : List ℕ) (E : Field) (q : Placement) → height ≤ 8 → LiesBelow F height → IsSpread F height rows E → is_free F q ≡ true → is_below height q ≡ true
@@ -222,7 +207,7 @@ pub spread-after : (F : Field) (height : ℕ) (rows kept : List ℕ) (E : Field)
     → IsSpread (locked F q) (height - rows_removed F q) kept (difference E (sent_cells rows q))
 unfolding locked rows_removed difference
 spread-after F height rows kept E q few low spread free below keeps within near =
-    spread-lowered (together F q) height rows kept (difference E (sent_cells rows q)) few (together_low F q height low below)
+    spread-lowered (together F q) height rows kept (difference E (sent_cells rows q)) few (together_below F q height low below)
     (spread-placed F height rows E spread q free below) keeps within (λ x z here. near x z (and_parts (E x z) (not (sent_cells rows q x z)) here).0)
 
 -- ---- which rows stay
@@ -253,12 +238,7 @@ pub record Keeping (G : Field) (rows kept : List ℕ) (count y : ℕ) : Type 0 w
 
 pub keeping-starts : (G : Field) (rows kept : List ℕ) → length kept ≡ 8 → Keeping G rows kept 0 0
 unfolding full_below
-keeping-starts G rows kept size = record {
-  size = size;
-  counted = refl;
-  each = λ row low. absurd (omega arith);
-  from = λ k low. absurd (omega arith);
-}
+keeping-starts G rows kept size = search rules
 
 pub keeping-more : (G : Field) (rows kept : List ℕ) (count y : ℕ) → y < 8 → is_full G y ≡ false → Keeping G rows kept count y → Keeping G rows (list_set kept count (get_or rows y 0)) (count + 1) (y + 1)
 keeping-more G rows kept count y low stays state =
@@ -298,18 +278,11 @@ keeping-pass G rows kept count y full state =
     }
 
 pub keeping-ends : (G : Field) (rows kept : List ℕ) (count height y : ℕ) → y ≡ height → Keeping G rows kept count y → KeepsRows G height rows kept
-keeping-ends G rows kept count height y all state = record {
-  each = λ row low. state.each row (omega (arith, all));
-  from = λ k low. let o = state.from k (omega (arith, state.counted, ap (full_below G) all, all)) in record { row = o.row; below = let b = o.below in omega (arith, all); stays = o.stays; lowered = o.lowered };
-}
+keeping-ends G rows kept count height y all state = search rules
 
 -- a row of the set isn't full, and one that it doesn't have is
 pub not_full : (set : Bool) (G : Field) (y : ℕ) → set ≡ not (is_full G y) → set ≡ true → is_full G y ≡ false
 not_full set G y is there = not-true (is_full G y) (sym is ∙ there)
 
 pub row_full : (set : Bool) (G : Field) (y : ℕ) → set ≡ not (is_full G y) → set ≡ false → is_full G y ≡ true
-row_full set G y is none = full (is_full G y) (sym is ∙ none)
-  where
-    full : (b : Bool) → not b ≡ false → b ≡ true
-    full true h = refl
-    full false h = cc
+row_full set G y is none = not_false (is_full G y) (sym is ∙ none)

@@ -1,8 +1,8 @@
 -- The pieces of a good hand fill what is empty.
-use Rattle.std.proofs.Common.{ℕ, zero, suc, ◌≡◌, ◌+◌, ◌-◌, ◌*◌, ◌/◌, ◌%◌, ◌≤◌, Bool, true, false, ◌&&◌, ◌==◌, cond, [], refl, sym, ap, subst, ◌∙◌, inl, inr, arith}
+use Rattle.std.proofs.Common.{ℕ, zero, suc, ◌≡◌, ◌+◌, ◌-◌, ◌*◌, ◌/◌, ◌%◌, ◌≤◌, Bool, true, false, ◌&&◌, ◌==◌, cond, [], refl, sym, ap, subst, ◌∙◌, inl, inr, arith, rules}
 use Rattle.std.specs.List.{list_any}
 use Rattle.std.proofs.lemmas.Bool.{and_parts, eqb-true}
-use Rattle.srs.proofs.CallerLemmas.{Contains-from_filter, placements_of-list}
+use Rattle.srs.proofs.CallerLemmas.{Contains-from_filter, placements_of-list, some_passes}
 use Rattle.lane_board.specs.Field.{Field}
 use Rattle.srs.specs.declared.piece.Piece.{Piece}
 use Rattle.srs.specs.declared.placement.Placement.{Placement}
@@ -22,7 +22,7 @@ use Rattle.percent.specs.declared.game.Game.{Game}
 use Rattle.percent.specs.Hands.{allows_hold, takes, without_first, without_second}
 use Rattle.percent.specs.Fitting.{codes_in, supply_at}
 use Rattle.percent.specs.GoodHands.{is_good, reached_places}
-use Rattle.percent.proofs.TestLemmas.{or_cases, some_passes}
+use Rattle.percent.proofs.TestLemmas.{or_cases}
 
 -- no more pieces have a code than there are pieces
 pub codes-few : (count hand code : ℕ) → codes_in count hand code ≤ count
@@ -74,16 +74,12 @@ taken-rest hold count code hand goes_on passes = elim (or_cases (hand % 8 == cod
 ]
 
 one_more : (same : Bool) (count : ℕ) → cond same (suc count) count ≡ cond same 1 0 + count
-one_more true count = omega arith
-one_more false count = omega arith
+one_more same count = search rules
 
 -- the supply of a hand has that of its rest and the piece
 rest-supplied : (count hand rest : ℕ) (piece : Piece) → IsRest count hand (piece_code piece) rest → (other : Piece) → with_one (supply_at count rest) piece other ≤ supply_at (suc count) hand other
 unfolding supply_at with_one
-rest-supplied count hand rest piece is other =
-    let equal = is.fewer (piece_code other) in
-    let more = one_more (piece_code piece == piece_code other) (codes_in count rest (piece_code other)) in
-    omega (arith, equal, more)
+rest-supplied count hand rest piece is other = search (rules, one_more)
 
 nothing-tiled : (F : Field) (supply : Supply) → IsLow F 0 → Tiling F 0 supply
 unfolding kinds_placed

@@ -4,8 +4,8 @@ use Rattle.std.proofs.lemmas.Bool.{cases_eq, cond-true, cond-false, eq-eqb, ne_e
 use Rattle.std.proofs.lemmas.List.{get_or-set_other}
 use Rattle.std.proofs.lemmas.Grind.{get_or-set_at}
 use Rattle.srs.specs.Piece.{piece_code}
+use Rattle.srs.proofs.CallerLemmas.{piece_code-small}
 use Rattle.percent.specs.Fitting.{codes_with}
-use Rattle.percent.proofs.HandLemmas.{code-few}
 use Rattle.percent.proofs.TiledLemmas.{codes-few}
 use Rattle.percent.proofs.marks.counts_with.Goals as goal
 
@@ -16,7 +16,7 @@ returns c = λ code few.
     let place = c.from-code.result in
     let size = c.counts_of-counts.type_inv in
     let at : place ≡ piece_code c.args.piece = c.from-code.ensures ∙ c.code.ensures in
-    let low = code-few c.args.piece in
+    let low = piece_code-small c.args.piece in
     let most = codes-few c.args.pieces c.args.hand code in
     let was = c.counts_of-counts.ensures code few in
     elim (cases_eq code (piece_code c.args.piece)) [
