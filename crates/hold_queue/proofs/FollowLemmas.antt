@@ -12,7 +12,7 @@ use Rattle.queue_pattern.specs.Queues.{queues}
 use Rattle.hold_queue.specs.declared.hold.Hold.{Hold}
 use Rattle.hold_queue.specs.Family.{has_set, any_below}
 use Rattle.hold_queue.specs.Permits.{Permits, some_permits}
-use Rattle.hold_queue.specs.States.{rests, held_code, drawn_by, family_at, any_held, states_permit, IsRemainder, IsNextFamily, AreStatesAfter}
+use Rattle.hold_queue.specs.States.{rests, held_code, drawn_by, family_at, any_held, states_permit, IsRemainder, IsNextFamily, LeadsTo, AreStatesAfter}
 use Rattle.hold_queue.specs.AtHand.{count_held}
 use Rattle.hold_queue.proofs.DrawLemmas.{any_below-from, any_below-to}
 use Rattle.hold_queue.proofs.DrawnRests.{Contains-piece}
@@ -86,17 +86,25 @@ states_permit-next elements hold start states next played piece steps pieces =
       permitted = (is.queue, is.held, came.way, is.permitted);
     }))
 
+pub leads-next : (elements : List Element) (hold : Hold) (start : Option Piece) (states next : List ℕ) (played : ℕ) (piece : Piece)
+    → ((held : Option Piece) → IsNextFamily elements hold start states played piece held (family_at next held))
+    → LeadsTo elements hold start states played piece next
+leads-next elements hold start states next played piece steps = record {
+  permits_same = states_permit-next elements hold start states next played piece steps;
+  stands = record { roomy = λ held. (steps held).roomy; drawn_fits = λ held. (steps held).drawn_fits };
+}
+
 pub follows-next : (elements : List Element) (hold : Hold) (start : Option Piece) (states next : List ℕ) (played : List Piece) (piece : Piece)
-    → AreStatesAfter elements hold start states played → ((held : Option Piece) → IsNextFamily elements hold start states (length played) piece held (family_at next held))
+    → AreStatesAfter elements hold start states played → LeadsTo elements hold start states (length played) piece next
     → AreStatesAfter elements hold start next (played ++ piece ∷ [])
-follows-next elements hold start states next played piece so_far steps = record {
+follows-next elements hold start states next played piece so_far leads = record {
   permits_same = λ pieces.
       ap (λ ps. some_permits hold (queues elements) start ps) (append_assoc played (piece ∷ []) pieces)
       ∙ so_far.permits_same (piece ∷ pieces)
-      ∙ states_permit-next elements hold start states next (length played) piece steps pieces
+      ∙ leads.permits_same pieces
       ∙ ap (λ n. states_permit elements hold start next n pieces) more;
-  some = λ held set within has. subst (λ n. 0 < length (rests elements (drawn_by start n held) set)) more ((steps held).roomy.each set within has);
-  drawn_fits = λ held set within has. subst (λ n. count_held start ≤ n + count_held held) more ((steps held).drawn_fits set within has);
+  some = λ held set within has. subst (λ n. 0 < length (rests elements (drawn_by start n held) set)) more ((leads.stands.roomy held).each set within has);
+  drawn_fits = λ held set within has. subst (λ n. count_held start ≤ n + count_held held) more (leads.stands.drawn_fits held set within has);
 }
   where
     more : length played + 1 ≡ length (played ++ piece ∷ [])

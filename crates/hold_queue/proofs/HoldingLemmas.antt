@@ -1,22 +1,21 @@
 -- Which piece may come next, without the states after it: a piece is held before the next one is drawn, or none is.
-use Rattle.std.proofs.Common.{◌≡◌, ℕ, ◌+◌, ◌<◌, true, false, Option, Some, None, List, [], ◌∷◌, ◌++◌, length, Contains, refl, ◌∙◌, sym, subst, inl, inr, ◌⊎◌, arith}
+use Rattle.std.proofs.Common.{◌≡◌, ℕ, ◌+◌, ◌<◌, true, false, Option, Some, None, List, [], ◌∷◌, length, Contains, refl, sym, subst, inl, inr, ◌⊎◌, arith}
 use Rattle.std.proofs.lemmas.Bool.{cases_Bool}
 use Rattle.srs.specs.declared.piece.Piece.{Piece}
 use Rattle.srs.specs.declared.piece.Piece.TheVariants.{I, L, O, Z, T, J, S}
 use Rattle.srs.specs.Piece.{all_pieces}
 use Rattle.srs.proofs.CallerLemmas.{Contains-cases, Contains-none}
 use Rattle.queue_pattern.specs.declared.element.Element.{Element}
-use Rattle.queue_pattern.specs.Queues.{queues}
 use Rattle.hold_queue.specs.declared.family.Family.{Family}
 use Rattle.hold_queue.specs.declared.hold.Hold.{Hold}
 use Rattle.hold_queue.specs.declared.hold.Hold.TheVariants.{Allowed, Avoided}
 use Rattle.hold_queue.specs.Family.{has_set, any_below, IsDrawn}
-use Rattle.hold_queue.specs.Permits.{Way, plain, exchange, first_hold, last, some_permits}
-use Rattle.hold_queue.specs.States.{in_progress, rests, drawn_by, family_at, IsRemainder, IsRoomy, CameBy, FollowsHeld, IsHeldFamily, IsHolding, AreStatesAfter}
+use Rattle.hold_queue.specs.Permits.{Way, plain, exchange, first_hold, last}
+use Rattle.hold_queue.specs.States.{in_progress, rests, drawn_by, family_at, IsRemainder, IsRoomy, CameBy, FollowsHeld, IsHeldFamily, IsHolding, Stands, states_permit}
 use Rattle.hold_queue.proofs.DrawLemmas.{any_below-from, any_below-to}
 use Rattle.hold_queue.proofs.DrawnRests.{rest-on, rest-back, roomy-on, Contains-piece}
 use Rattle.hold_queue.proofs.FollowLemmas.{states_permit-from, states_permit-to}
-use Rattle.hold_queue.proofs.StepLemmas.{IsUnion, Stands, counts_first, union-from, union-left, union-right, union-roomy}
+use Rattle.hold_queue.proofs.StepLemmas.{IsUnion, counts_first, union-from, union-left, union-right, union-roomy}
 
 -- a family that isn't without sets has one
 pub some-set : (family : Family) → (((set : ℕ) → set < 128 → has_set family set ≡ false) → ⊥) → (set : ℕ) × (set < 128) × (has_set family set ≡ true)
@@ -245,21 +244,20 @@ module _ (elements : List Element) (hold : Hold) (start : Option Piece) (states 
       at (shows_held allowed queue rest) = has-one (family_at states (Some piece)) rest (none_held allowed)
 
 -- a piece may be played exactly where it comes in some way
-module _ (elements : List Element) (hold : Hold) (start : Option Piece) (states : List ℕ) (played : List Piece) (piece : Piece) (so_far : AreStatesAfter elements hold start states played) where
-  pub permitted-comes : Comes elements hold start states (length played) piece → some_permits hold (queues elements) start (played ++ piece ∷ []) ≡ true
+module _ (elements : List Element) (hold : Hold) (start : Option Piece) (states : List ℕ) (played : ℕ) (piece : Piece) where
+  pub permitted-comes : Comes elements hold start states played piece → states_permit elements hold start states played (piece ∷ []) ≡ true
   permitted-comes comes =
-      so_far.permits_same (piece ∷ [])
-      ∙ states_permit-to elements hold start states (length played) (piece ∷ []) (record {
+      states_permit-to elements hold start states played (piece ∷ []) (record {
         held = comes.came.held_before;
         queue = comes.came.queue_before;
         rest = comes.came.rest;
         permitted = (comes.queue, comes.held, comes.came.way, tt);
       })
 
-  pub refused-none : (Comes elements hold start states (length played) piece → ⊥) → some_permits hold (queues elements) start (played ++ piece ∷ []) ≡ false
-  refused-none none = elim (cases_Bool (some_permits hold (queues elements) start (played ++ piece ∷ []))) [
+  pub refused-none : (Comes elements hold start states played piece → ⊥) → states_permit elements hold start states played (piece ∷ []) ≡ false
+  refused-none none = elim (cases_Bool (states_permit elements hold start states played (piece ∷ []))) [
     | inl permitted ↦
-        let is = states_permit-from elements hold start states (length played) (piece ∷ []) (sym (so_far.permits_same (piece ∷ [])) ∙ permitted) in
+        let is = states_permit-from elements hold start states played (piece ∷ []) permitted in
         absurd (none (record {
           held = is.permitted.1;
           queue = is.permitted.0;

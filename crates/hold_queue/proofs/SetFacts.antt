@@ -1,41 +1,37 @@
 -- What holds of each queue set.
-use Rattle.std.proofs.Common.{◌≡◌, ℕ, ◌<◌, ◌+◌, length, length-append, take, List, [], ◌∷◌, ◌++◌, true, false, subst, sym, ap, arith, ◌∙◌, Option, add-one, set as list_set}
+use Rattle.std.proofs.Common.{◌≡◌, ℕ, ◌<◌, ◌+◌, length, length-append, take, List, [], ◌∷◌, ◌++◌, subst, sym, ap, arith, ◌∙◌, Bool, map, Option, add-one, set as list_set}
+use Rattle.std.proofs.Math.Path.{fun_ext}
 use Rattle.std.proofs.Math.Seq.{take-suc-set}
 use Rattle.std.proofs.lemmas.List.{length-take}
 use Rattle.srs.specs.declared.piece.Piece.{Piece}
+use Rattle.srs.specs.Piece.{all_pieces}
+use Rattle.queue_pattern.specs.declared.element.Element.{Element}
 use Rattle.queue_pattern.specs.Pattern.{elements_of}
 use Rattle.queue_pattern.proofs.CallerLemmas.{pattern-short}
+use Rattle.hold_queue.specs.declared.memory.Following.{Following}
 use Rattle.hold_queue.specs.declared.set.QueueSet.{QueueSet}
 use Rattle.hold_queue.specs.QueueSet.{queues_in_play, QueuesPermit, queues_permit}
-use Rattle.hold_queue.specs.States.{AreStatesAfter, IsNextFamily, family_at}
+use Rattle.hold_queue.specs.States.{AreDue, AreStatesAfter, LeadsTo, Stands, WhereverTheyStand, states_permit}
 use Rattle.hold_queue.proofs.FollowLemmas.{follows-next}
-use Rattle.hold_queue.proofs.HoldingLemmas.{Comes, permitted-comes, refused-none}
 use Rattle.hold_queue.proofs.LengthLemmas.{permits-length, queue-length}
-use Rattle.hold_queue.proofs.StepLemmas.{Stands, count_held-small}
+use Rattle.hold_queue.proofs.StepLemmas.{count_held-small}
 
 pub played-length : (set : QueueSet) → length (take set.number set.played) ≡ set.number
 played-length set = omega (arith, length-take set.number set.played, set.room, set.within)
 
-pub set-stands : (set : QueueSet) → Stands (elements_of set.pattern) set.held set.states set.number
-set-stands set = subst (λ n. Stands (elements_of set.pattern) set.held set.states n) (played-length set) (record {
+pub set-stands : (set : QueueSet) → Stands (elements_of set.pattern) set.held set.states.words set.number
+set-stands set = subst (λ n. Stands (elements_of set.pattern) set.held set.states.words n) (played-length set) (record {
   roomy = λ held. record { each = set.follows.some held };
   drawn_fits = set.follows.drawn_fits;
 })
 
--- a piece may be played exactly where it comes in some way
-pub set-comes : (set : QueueSet) (piece : Piece) → Comes (elements_of set.pattern) set.hold set.held set.states set.number piece
-    → queues_permit (queues_in_play set) ((queues_in_play set).played ++ piece ∷ []) ≡ true
+-- the states say which piece may come next
+pub set-permits : (set : QueueSet) (piece : Piece)
+    → queues_permit (queues_in_play set) ((queues_in_play set).played ++ piece ∷ []) ≡ states_permit (elements_of set.pattern) set.states.hold set.held set.states.words set.number (piece ∷ [])
 unfolding queues_in_play
-set-comes set piece comes =
-    permitted-comes (elements_of set.pattern) set.hold set.held set.states (take set.number set.played) piece set.follows
-    (subst (λ n. Comes (elements_of set.pattern) set.hold set.held set.states n piece) (sym (played-length set)) comes)
-
-pub set-refuses : (set : QueueSet) (piece : Piece) → (Comes (elements_of set.pattern) set.hold set.held set.states set.number piece → ⊥)
-    → queues_permit (queues_in_play set) ((queues_in_play set).played ++ piece ∷ []) ≡ false
-unfolding queues_in_play
-set-refuses set piece none =
-    refused-none (elements_of set.pattern) set.hold set.held set.states (take set.number set.played) piece set.follows
-    (λ comes. none (subst (λ n. Comes (elements_of set.pattern) set.hold set.held set.states n piece) (played-length set) comes))
+set-permits set piece =
+    set.follows.permits_same (piece ∷ [])
+    ∙ ap (λ n. states_permit (elements_of set.pattern) set.states.hold set.held set.states.words n (piece ∷ [])) (played-length set)
 
 -- there is room for one more piece where it is permitted
 pub set-room : (set : QueueSet) (piece : Piece) → QueuesPermit (queues_in_play set) ((queues_in_play set).played ++ piece ∷ []) → set.number < 23
@@ -43,7 +39,7 @@ unfolding queues_in_play
 set-room set piece permitted =
     omega (
       arith,
-      permits-length set.hold (take set.number set.played ++ piece ∷ []) permitted.0 set.held permitted.2,
+      permits-length set.states.hold (take set.number set.played ++ piece ∷ []) permitted.0 set.held permitted.2,
       length-append (take set.number set.played) (piece ∷ []),
       played-length set,
       queue-length (elements_of set.pattern) permitted.0 permitted.1,
@@ -56,9 +52,34 @@ played-more set piece room = ap (λ n. take n (list_set set.played set.number pi
 
 -- the states after one more piece stand for the longer list
 pub set-follows : (set : QueueSet) (piece : Piece) (next : List ℕ) → set.number < 23
-    → ((held : Option Piece) → IsNextFamily (elements_of set.pattern) set.hold set.held set.states set.number piece held (family_at next held))
-    → AreStatesAfter (elements_of set.pattern) set.hold set.held next (take (set.number + 1) (list_set set.played set.number piece))
-set-follows set piece next room steps =
-    subst (AreStatesAfter (elements_of set.pattern) set.hold set.held next) (sym (played-more set piece room))
-    (follows-next (elements_of set.pattern) set.hold set.held set.states next (take set.number set.played) piece set.follows
-    (λ held. subst (λ n. IsNextFamily (elements_of set.pattern) set.hold set.held set.states n piece held (family_at next held)) (sym (played-length set)) (steps held)))
+    → LeadsTo (elements_of set.pattern) set.states.hold set.held set.states.words set.number piece next
+    → AreStatesAfter (elements_of set.pattern) set.states.hold set.held next (take (set.number + 1) (list_set set.played set.number piece))
+set-follows set piece next room leads =
+    subst (AreStatesAfter (elements_of set.pattern) set.states.hold set.held next) (sym (played-more set piece room))
+    (follows-next (elements_of set.pattern) set.states.hold set.held set.states.words next (take set.number set.played) piece set.follows
+    (subst (λ n. LeadsTo (elements_of set.pattern) set.states.hold set.held set.states.words n piece next) (sym (played-length set)) leads))
+
+pub step-leads : (set : QueueSet) (step : Following) → step.before ≡ set.states
+    → LeadsTo (elements_of set.pattern) set.states.hold set.held set.states.words set.number step.piece step.after.words
+step-leads set step same =
+    subst (λ states. LeadsTo (elements_of set.pattern) states.hold set.held states.words set.number step.piece step.after.words) same
+    (step.leads (elements_of set.pattern) set.held set.number
+    (subst (λ states. Stands (elements_of set.pattern) set.held states.words set.number) (sym same) (set-stands set))
+    (subst (λ states. AreDue (elements_of set.pattern) set.held set.number states.due) (sym same) set.due))
+
+-- what is said of states wherever they stand holds of a set with them
+pub set-each : (set : QueueSet) (Holds : List Element → Option Piece → ℕ → Type 0) → WhereverTheyStand set.states Holds → Holds (elements_of set.pattern) set.held set.number
+set-each set Holds each = each (elements_of set.pattern) set.held set.number (set-stands set) set.due
+
+-- the list of which pieces may come next
+pub set-permitted : (set : QueueSet) (may : List Bool)
+    → may ≡ map (λ piece. states_permit (elements_of set.pattern) set.states.hold set.held set.states.words set.number (piece ∷ [])) all_pieces
+    → may ≡ map (λ piece. queues_permit (queues_in_play set) ((queues_in_play set).played ++ piece ∷ [])) all_pieces
+set-permitted set may is = is ∙ ap (λ test. map test all_pieces) (fun_ext (λ piece. sym (set-permits set piece)))
+
+pub set-coming : (set : QueueSet) (step : Following) → set.states ≡ step.after
+    → step.may_come ≡ map (λ piece. queues_permit (queues_in_play set) ((queues_in_play set).played ++ piece ∷ [])) all_pieces
+set-coming set step same =
+    set-permitted set step.may_come
+    (set-each set (λ elements start played. step.may_come ≡ map (λ piece. states_permit elements set.states.hold start set.states.words played (piece ∷ [])) all_pieces)
+    (subst (λ states. WhereverTheyStand states (λ elements start played. step.may_come ≡ map (λ piece. states_permit elements states.hold start states.words played (piece ∷ [])) all_pieces)) (sym same) step.coming))

@@ -11,7 +11,7 @@ use Rattle.hold_queue.specs.declared.hold.Hold.{Hold}
 use Rattle.hold_queue.specs.declared.hold.Hold.TheVariants.{Allowed, Avoided}
 use Rattle.hold_queue.specs.Family.{has_set, IsDrawn}
 use Rattle.hold_queue.specs.Permits.{Way, plain, exchange, first_hold, last}
-use Rattle.hold_queue.specs.States.{in_progress, rests, drawn_by, family_at, IsRemainder, IsRoomy, CameBy, IsNextFamily, FollowsHeld, IsHeldFamily}
+use Rattle.hold_queue.specs.States.{in_progress, rests, drawn_by, family_at, IsRemainder, IsRoomy, CameBy, IsNextFamily, FollowsHeld, IsHeldFamily, Stands}
 use Rattle.hold_queue.specs.AtHand.{count_held}
 use Rattle.hold_queue.proofs.RestLemmas.{stands, rests-done}
 use Rattle.hold_queue.proofs.DrawnRests.{moves-back, rest-on, rest-back, roomy-on, begins-none}
@@ -48,11 +48,6 @@ union-roomy elements drawn f g both union one two = record {
 pub count_held-small : (held : Option Piece) → count_held held ≤ 1
 count_held-small None = omega arith
 count_held-small (Some piece) = omega arith
-
--- what holds of the states so far
-pub record Stands (elements : List Element) (start : Option Piece) (states : List ℕ) (played : ℕ) : Type 0 where
-  pub roomy : (held : Option Piece) → IsRoomy elements (drawn_by start played held) (family_at states held)
-  pub drawn_fits : (held : Option Piece) (set : ℕ) → set < 128 → has_set (family_at states held) set ≡ true → count_held start ≤ played + count_held held
 
 module _ (elements : List Element) (start : Option Piece) (states : List ℕ) (played : ℕ) (so_far : Stands elements start states played) where
   -- a family after one draw by which what is held changes from one to another, whose number is the same or one more

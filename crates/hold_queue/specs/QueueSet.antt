@@ -21,7 +21,7 @@ singles queue = map (λ piece. record { set = set_of piece; chosen = 1 }) queue
 
 unfoldable pub queues_in_play : QueueSet → QueuesInPlay
 queues_in_play set =
-    record { elements = elements_of set.pattern; hold = set.hold; held = set.held; played = take set.number set.played }
+    record { elements = elements_of set.pattern; hold = set.states.hold; held = set.held; played = take set.number set.played }
 
 -- one of the queues permits these pieces from the start
 abbrev pub QueuesPermit : QueuesInPlay → List Piece → Type 0

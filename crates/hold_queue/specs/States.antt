@@ -10,6 +10,8 @@ use Rattle.hold_queue.specs.declared.hold.Hold.{Hold}
 use Rattle.hold_queue.specs.declared.hold.Hold.TheVariants.{Allowed}
 use Rattle.hold_queue.specs.declared.family.Family.{Family}
 use Rattle.hold_queue.specs.declared.family.Draw.{Draw}
+use Rattle.hold_queue.specs.declared.states.Draws.{Draws}
+use Rattle.hold_queue.specs.declared.states.States.{States}
 use Rattle.hold_queue.specs.Family.{has_set, any_below}
 use Rattle.hold_queue.specs.AtHand.{count_held}
 use Rattle.hold_queue.specs.Permits.{Way, some_permits}
@@ -112,6 +114,29 @@ unfoldable pub states_permit : List Element → Hold → Option Piece → List �
 states_permit elements hold start states played pieces =
     any_held (λ held. any_below (λ set. has_set (family_at states held) set
     && some_permits hold (rests elements (drawn_by start played held) set) held pieces) 128)
+
+-- what is known of states after so many played pieces
+pub record Stands (elements : List Element) (start : Option Piece) (states : List ℕ) (played : ℕ) : Type 0 where
+  pub roomy : (held : Option Piece) → IsRoomy elements (drawn_by start played held) (family_at states held)
+  pub drawn_fits : (held : Option Piece) (set : ℕ) → set < 128 → has_set (family_at states held) set ≡ true
+      → count_held start ≤ played + count_held held
+
+-- what the next piece is drawn from after so many played pieces
+pub record AreDue (elements : List Element) (start : Option Piece) (played : ℕ) (due : Draws) : Type 0 where
+  pub empty_handed : due.empty_handed ≡ in_progress elements (drawn_by start played None)
+  pub holding : (piece : Piece) → due.holding ≡ in_progress elements (drawn_by start played (Some piece))
+
+-- one more piece leads from states to these: they permit what those before permit with the piece first
+pub record LeadsTo (elements : List Element) (hold : Hold) (start : Option Piece) (states : List ℕ) (played : ℕ)
+    (piece : Piece) (next : List ℕ) : Type 0 where
+  pub permits_same : (pieces : List Piece) → states_permit elements hold start states played (piece ∷ pieces)
+      ≡ states_permit elements hold start next (played + 1) pieces
+  pub stands : Stands elements start next (played + 1)
+
+-- for all queues that have these states after some played pieces
+abbrev pub WhereverTheyStand : States → (List Element → Option Piece → ℕ → Type 0) → Type 0
+WhereverTheyStand states Holds = (elements : List Element) (start : Option Piece) (played : ℕ)
+    → Stands elements start states.words played → AreDue elements start played states.due → Holds elements start played
 
 -- the states are those after these played pieces
 pub record AreStatesAfter (elements : List Element) (hold : Hold) (start : Option Piece) (states : List ℕ)

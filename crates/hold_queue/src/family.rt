@@ -18,7 +18,7 @@ pub struct Family {
 }
 
 /// What the next piece of a queue is drawn from: an element, and whether this draw is the element's last.
-#[derive(Clone, Copy)]
+#[derive(Clone, Copy, PartialEq, Eq)]
 pub struct Draw {
     pub element: Element,
     pub is_last: bool,

@@ -5,11 +5,14 @@ mod family;
 mod hand;
 mod hold;
 pub mod laws;
+mod memory;
 mod set;
+mod states;
 mod supply;
 #[cfg(test)]
 mod tests;
 
 pub use hand::{Hand, Taken};
 pub use hold::Hold;
+pub use memory::QueueMemory;
 pub use set::QueueSet;

@@ -14,8 +14,10 @@ invariant_of-set c = record {
   follows = subst (λ place. AreStatesAfter (elements_of c.args.pattern.now) c.args.hold c.args.held
       (list_set (0 ∷ 0 ∷ 0 ∷ 0 ∷ 0 ∷ 0 ∷ 0 ∷ 0 ∷ 0 ∷ 0 ∷ 0 ∷ 0 ∷ 0 ∷ 0 ∷ 0 ∷ 0 ∷ []) place 1) []) (sym c.place_of.ensures.value)
       (follows-start (elements_of c.args.pattern.now) c.args.hold c.args.held (pattern-some c.args.pattern.now));
-  empty_handed = c.in_progress.ensures ∙ ap (in_progress (elements_of c.args.pattern.now)) (omega arith);
-  holding = c.drawn_holding.ensures;
+  due = record {
+    empty_handed = c.in_progress.ensures ∙ ap (in_progress (elements_of c.args.pattern.now)) (omega arith);
+    holding = c.drawn_holding.ensures;
+  };
 }
 
 pub returns : goal.returns

@@ -5,7 +5,7 @@ use Rattle.hold_queue.specs.declared.hold.Hold.TheVariants.{Allowed}
 use Rattle.hold_queue.specs.QueueSet.{queues_in_play}
 use Rattle.hold_queue.specs.States.{AreStatesAfter, in_progress, drawn_by, family_at, IsHeldFamily}
 use Rattle.hold_queue.proofs.FirstHeld.{follows-held, empty-none}
-use Rattle.hold_queue.proofs.SetFacts.{played-length}
+use Rattle.hold_queue.proofs.SetFacts.{played-length, set-stands}
 use Rattle.hold_queue.proofs.set.QueueSet.with_first_held.Goals as goal
 
 pub invariant_of-set : goal.invariant_of-set
@@ -18,14 +18,13 @@ invariant_of-set c =
       room = set.room;
       within = set.within;
       follows = subst (λ hold. AreStatesAfter elements hold set.held c.first_held-set.result played) (sym allowed)
-          (follows-held elements set.held set.states c.first_held-set.result played c.in-Some.field-0
-          (ap (λ n. in_progress elements (drawn_by set.held n None)) (played-length set) ∙ sym set.empty_handed ∙ c.in-Some.is)
+          (follows-held elements set.held set.states.words c.first_held-set.result played c.in-Some.field-0
+          (ap (λ n. in_progress elements (drawn_by set.held n None)) (played-length set) ∙ sym set.due.empty_handed ∙ c.in-Some.is)
           (empty-none (family_at c.first_held-set.result None) c.first_held-set.ensures.none)
-          (λ piece. subst (λ n. IsHeldFamily elements Allowed set.held set.states n piece (family_at c.first_held-set.result (Some piece))) (sym (played-length set))
-          (subst (λ hold. IsHeldFamily elements hold set.held set.states set.number piece (family_at c.first_held-set.result (Some piece))) allowed (c.first_held-set.ensures.held piece)))
-          (subst (λ hold. AreStatesAfter elements hold set.held set.states played) allowed set.follows));
-      empty_handed = set.empty_handed;
-      holding = set.holding;
+          (λ piece. subst (λ n. IsHeldFamily elements Allowed set.held set.states.words n piece (family_at c.first_held-set.result (Some piece))) (sym (played-length set))
+          (subst (λ hold. IsHeldFamily elements hold set.held set.states.words set.number piece (family_at c.first_held-set.result (Some piece))) allowed (c.first_held-set.ensures.held piece elements set.held set.number (set-stands set) set.due)))
+          (subst (λ hold. AreStatesAfter elements hold set.held set.states.words played) allowed set.follows));
+      due = set.due;
     }
 
 pub returns : goal.returns

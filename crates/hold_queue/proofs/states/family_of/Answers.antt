@@ -1,12 +1,12 @@
--- The goals of `family_at` that need lemmas.
+-- The goals of `family_of` that need lemmas.
 use Rattle.std.proofs.Common.{ℕ, ◌+◌, get_or, List, ap}
 use Rattle.hold_queue.specs.declared.family.Family.{Family}
 use Rattle.hold_queue.specs.States.{family_at}
-use Rattle.hold_queue.proofs.set.family_at.Goals as goal
+use Rattle.hold_queue.proofs.states.family_of.Goals as goal
 
 words_at : List ℕ → ℕ → Family
 words_at states place = record { low = get_or states place 0; high = get_or states (place + 1) 0 }
 
 pub returns : goal.returns
 unfolding family_at words_at
-returns c = ap (words_at c.args.states.now) c.place_of-place.ensures.value
+returns c = ap (words_at c.args.words.now) c.place_of-place.ensures.value

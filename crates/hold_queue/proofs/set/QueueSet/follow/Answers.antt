@@ -1,0 +1,13 @@
+-- The goals of `QueueSet::follow` that need lemmas.
+use Rattle.std.proofs.Common.{◌∙◌, arith}
+use Rattle.hold_queue.proofs.SetFacts.{set-room}
+use Rattle.hold_queue.proofs.set.QueueSet.follow.Goals as goal
+
+pub drawn_next-due-requires : goal.drawn_next-due-requires
+drawn_next-due-requires c = omega (arith, set-room c.args.before.now c.args.piece c.requires)
+
+pub stepped-requires-clause-due : goal.stepped-requires-clause-due
+stepped-requires-clause-due c = λ piece. c.new-step.ensures.due ∙ c.drawn_next-due.ensures piece
+
+pub stepped-requires-2-clause-due : goal.stepped-requires-2-clause-due
+stepped-requires-2-clause-due c = λ piece. c.in-Some.ensures.due ∙ c.drawn_next-due.ensures piece

@@ -1,0 +1,40 @@
+-- The goals of `QueueSet::stepped` that need lemmas.
+use Rattle.std.proofs.Common.{◌≡◌, ◌+◌, ◌∙◌, ap, length-set, arith, subst, sym, take, rules, set as list_set}
+use Rattle.queue_pattern.specs.Pattern.{elements_of}
+use Rattle.hold_queue.specs.QueueSet.{queues_in_play}
+use Rattle.hold_queue.specs.States.{AreStatesAfter, in_progress}
+use Rattle.hold_queue.proofs.SetFacts.{set-room, set-follows, set-coming, step-leads, played-more}
+use Rattle.hold_queue.proofs.set.QueueSet.stepped.Goals as goal
+
+pub bounds-played-self : goal.bounds-played-self
+bounds-played-self c = set-room c.args.self.now c.args.step.now.piece c.requires.permitted
+
+pub invariant_of-result : goal.invariant_of-result
+invariant_of-result c =
+    let set = c.args.self.now in
+    let step = c.args.step.now in
+    let elements = elements_of set.pattern in
+    let room = set-room set step.piece c.requires.permitted in
+    record {
+      room = length-set set.played set.number step.piece ∙ set.room;
+      within = omega (arith, room);
+      follows = subst (λ hold. AreStatesAfter elements hold set.held step.after.words (take (set.number + 1) (list_set set.played set.number step.piece)))
+          (sym (step.same_hold ∙ ap (λ states. states.hold) c.requires.before))
+          (set-follows set step.piece step.after.words room (step-leads set step c.requires.before));
+      due = record {
+        empty_handed = step.drawn ∙ ap (λ states. states.due.holding) c.requires.before ∙ set.due.holding step.piece ∙ ap (in_progress elements) (omega arith);
+        holding = c.requires.due;
+      };
+    }
+
+pub returns-clause-set : goal.returns-clause-set
+unfolding queues_in_play
+returns-clause-set c =
+    let set = c.args.self.now in
+    let step = c.args.step.now in
+    let same : step.after.hold ≡ set.states.hold = step.same_hold ∙ ap (λ states. states.hold) c.requires.before in
+    let more = played-more set step.piece (set-room set step.piece c.requires.permitted) in
+    cc
+
+pub returns-clause-coming : goal.returns-clause-coming
+returns-clause-coming c = search (rules, set-coming)
