@@ -33,7 +33,7 @@ use Rattle.enumerate.specs.Frames.{places_left, entered_placement, events_of}
 use Rattle.enumerate.specs.Setups.{position_of}
 use Rattle.enumerate.specs.declared.turn.Turn.{Turn}
 use Rattle.enumerate.specs.declared.turn.Turn.TheVariants.{Passed, Flooded, Entered, Full, Over}
-use Rattle.enumerate.specs.Turns.{Enters, EntersAs, GoesAs, IsChild, SamePlaces, Turns}
+use Rattle.enumerate.specs.Turns.{Enters, EntersAs, GoesAs, IsChild, Turns}
 use Rattle.enumerate.proofs.PlaceLaws.{place-lockable}
 
 pub filter-both : {A : Type 0} (a b : A → Bool) (xs : List A) → filter (λ x. a x && b x) xs ≡ filter b (filter a xs)
@@ -210,20 +210,6 @@ goes-over table mode frame none last = record {
       ∙ ap (tried_in_turn (enter frame.setup.left) prefix (position_of table mode frame.setup)) last
       ∙ tried_in_turn-nil (enter frame.setup.left) prefix (position_of table mode frame.setup);
 }
-
--- two frames at one position, with the same places left
-module _ (table : Table) (mode : DropMode) (old new : Frame) (same : new.setup ≡ old.setup) (places : SamePlaces old new) (prefix : List Placement) where
-  pub stays : events_of table mode prefix new ≡ events_of table mode prefix old
-  unfolding events_of
-  stays = λ i.
-      flat_map (entered (enter (same i).left) prefix (position_of table mode (same i))) (places_left (places.places i) (places.entered i))
-      ++ tried_in_turn (enter (same i).left) prefix (position_of table mode (same i)) (drop (places.tried i) all_pieces)
-
-pub goes-stays : (table : Table) (mode : DropMode) (old new : Frame) (same : new.setup ≡ old.setup) (places : SamePlaces old new) (q : Placement) (prefix : List Placement) →
-    entered (enter old.setup.left) prefix (position_of table mode old.setup) q ++ events_of table mode prefix old
-    ≡ entered (enter new.setup.left) prefix (position_of table mode new.setup) q ++ events_of table mode prefix new
-goes-stays table mode old new same places q prefix =
-    sym (λ i. entered (enter (same i).left) prefix (position_of table mode (same i)) q ++ stays table mode old new same places prefix i)
 
 module _ (table : Table) (mode : DropMode) (old new : Frame) (same : new.setup ≡ old.setup) (c : Piece)
     (none : places_left old.places old.entered ≡ []) (next : drop old.tried all_pieces ≡ c ∷ drop new.tried all_pieces) where

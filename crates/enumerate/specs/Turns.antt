@@ -20,12 +20,6 @@ use Rattle.enumerate.specs.Events.{Event, Tick, Flood, Found, entered, enter}
 use Rattle.enumerate.specs.Setups.{LeadsOn, position_of}
 use Rattle.enumerate.specs.Frames.{entered_placement, events_of}
 
--- the same kinds were tried at the two frames, with the same places left
-pub record SamePlaces (old new : Frame) : Type 0 where
-  pub tried : new.tried ≡ old.tried
-  pub places : new.places ≡ old.places
-  pub entered : new.entered ≡ old.entered
-
 -- what there is to do at a placement, whatever the rules, and after any prefix
 pub record EntersAs (setup : Setup) (q : Placement)
     (events : Table → DropMode → List Placement → List Event) : Type 0 where

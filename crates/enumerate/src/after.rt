@@ -1,6 +1,7 @@
 // What placements leave at a position, and the position after one.
-ghost use Rattle.std.specs.Prelude.{◌≡◌, ◌↔◌, ◌+◌, ◌-◌, ◌<◌, ◌≤◌, IfSome, IsTrue, true, false, []};
+ghost use Rattle.std.specs.Prelude.{◌≡◌, ◌↔◌, ◌+◌, ◌-◌, ◌<◌, ◌≤◌, IsTrue, true, false, [], min};
 ghost use Rattle.lane_board.specs.Field.{difference, rows_below};
+ghost use Rattle.srs.specs.declared.piece.Piece.{Piece};
 ghost use Rattle.srs.specs.declared.placement.Placement.{Placement};
 ghost use Rattle.srs.specs.Kick.{Table};
 ghost use Rattle.well.specs.Well.{filled};
@@ -11,20 +12,21 @@ ghost use Rattle.moves.specs.Place.{IsPlace};
 ghost use Rattle.place_sets.specs.LowPlaces.{holds, piece_of};
 ghost use Rattle.reach.specs.FloodRules.{flood_table};
 ghost use Rattle.hold_queue.specs.QueueSet.{queues_in_play};
+ghost use Rattle.prune.specs.OnePart.{less_one};
 ghost use Rattle.empty_cells.specs.Empties.{empty_cells};
 ghost use Rattle.empty_cells.specs.HasTiling.{has_tiling};
 ghost use Rattle.empty_cells.specs.SupplyWords.{supply_of};
-ghost use Rattle.enumerate.specs.Position.{after_of, is_live, line_after, may_play};
+ghost use Rattle.enumerate.specs.Position.{after_of, is_live, may_play};
 ghost use Rattle.enumerate.specs.Setups.{LeadsOn, position_of};
 ghost use Rattle.enumerate.specs.Standing.{may_lock};
 ghost use Rattle.enumerate.specs.Turns.{Enters, EntersAs};
 ghost use Rattle.enumerate.specs.declared.frame.Frame.{Frame};
 
-use crate::line::Line;
 use crate::setup::Setup;
 use crate::tilings::{Found, Tilings};
 use crate::turn::Turn;
 use empty_cells::{Empties, SupplyWord};
+use hold_queue::QueueMemory;
 use moves::DropMode;
 use reach::{FloodRules, LowPlaces, Steps};
 use srs::{Piece, Placement};
@@ -41,6 +43,19 @@ impl Setup {
             → result ≡ is_live self.now.left (position_of table mode self.now) }
     {
         tilings.has_tiling(&self.well, self.rows, &self.supply.entries())
+    }
+
+    /// How many pieces of each kind may still be played after a piece of this kind: one fewer of it, and of each kind at
+    /// most as many as placements come then.
+    #[inline(always)]
+    pub fn supply_after(&self, piece: Piece) -> SupplyWord
+        ensures { (other : Piece)
+            → supply_of result other ≡ min self.now.left (less_one (supply_of self.now.supply) piece other) }
+    {
+        if self.left < self.supply.count_of(piece) {
+            return self.limited;
+        }
+        self.limited.without_one(piece)
     }
 
     /// The places of a kind whose cells all lie below the rows that are left. Counts one flood.
@@ -140,21 +155,19 @@ impl Setup {
         self.leaves_tiling(placement, supply, tilings)
     }
 
-    /// Makes `child` the position after a placement. Its line is the kept one, where one is kept.
-    pub fn lead_to(&self, placement: &Placement, kept: Option<&Line>, child: &mut Setup)
+    /// Makes `child` the position after a placement.
+    pub fn lead_to(&self, placement: &Placement, memory: &mut QueueMemory, child: &mut Setup)
         requires lockable { IsTrue (may_lock (filled self.now.well) placement.now.piece placement.now) }
         requires below { IsTrue (is_below self.now.rows placement.now) }
         requires permitted { IsTrue (may_play (queues_in_play self.now.line.queues) placement.now.piece) }
         requires some { 1 ≤ self.now.left }
-        requires kept { IfSome kept (λ line. queues_in_play line.now.queues
-            ≡ line_after (queues_in_play self.now.line.queues) placement.now.piece) }
         ensures left { child.new.left + 1 ≡ self.now.left }
         ensures position { (table : Table) (mode : DropMode)
             → position_of table mode child.new ≡ after_of (position_of table mode self.now) placement.now }
     {
         child.well = self.well;
         child.well.fill(placement);
-        self.lead_line(placement.piece, kept, &mut child.line);
+        child.line.follow(&self.line, placement.piece, memory);
         // (reading eight rows at once waits for single rows that were just written, so other work comes in between)
         let removed = child.well.remove_full_rows();
         let rows = self.rows.saturating_sub(removed);

@@ -6,30 +6,24 @@ ghost use Rattle.well.specs.Well.{filled};
 ghost use Rattle.well.specs.LockLaws.{is_below};
 ghost use Rattle.place_sets.specs.LowPlaces.{holds, piece_of};
 ghost use Rattle.hold_queue.specs.QueueSet.{queues_in_play};
-ghost use Rattle.enumerate.specs.Position.{line_after, may_play};
+ghost use Rattle.enumerate.specs.Position.{may_play};
 ghost use Rattle.enumerate.specs.Setups.{LeadsOn};
 ghost use Rattle.enumerate.specs.Standing.{may_lock};
 
-use crate::line::Line;
 use crate::setup::Setup;
 use reach::LowPlaces;
-use srs::{Piece, Placement};
+use srs::Placement;
 
 /// A position, how many kinds were tried there, and the places of the last of them with the one that was entered last.
 #[derive(Clone, Copy)]
 pub struct Frame {
     pub setup: Setup,
-    /// The kind after which `next_line` is the line, if a place of some kind was entered.
-    pub next_kind: Option<Piece>,
-    pub next_line: Line,
     /// How many kinds were tried.
     pub tried: u8,
     pub places: Option<LowPlaces>,
     /// Whether each of the places is known to leave a tiling.
     pub are_live: bool,
     pub entered: Option<Placement>,
-    ghost lined: { ForSome next_kind (λ kind. queues_in_play next_line.queues
-        ≡ line_after (queues_in_play setup.line.queues) kind) },
     ghost lockable: { ForSome places (λ p. (q : Placement) → IsTrue (holds p q) →
         IsTrue (may_lock (filled setup.well) (piece_of p) q)) },
     ghost held_below: { ForSome places (λ p. (q : Placement) → IsTrue (holds p q) → IsTrue (is_below setup.rows q)) },

@@ -3,7 +3,6 @@
 
 mod advance;
 mod after;
-mod following;
 mod frame;
 pub mod laws;
 mod left;

@@ -4,7 +4,7 @@ ghost use Rattle.srs.specs.Piece.{all_pieces};
 ghost use Rattle.hold_queue.specs.QueueSet.{queues_in_play};
 ghost use Rattle.enumerate.specs.Position.{line_after, may_play};
 
-use hold_queue::QueueSet;
+use hold_queue::{QueueMemory, QueueSet};
 use srs::Piece;
 
 /// The queues with the pieces that were played, and which kinds may come next.
@@ -35,11 +35,10 @@ impl Line {
     }
 
     /// Makes this the line after one more piece than another line.
-    pub fn follow(&mut self, before: &Line, piece: Piece)
+    pub fn follow(&mut self, before: &Line, piece: Piece, memory: &mut QueueMemory)
         requires { IsTrue (may_play (queues_in_play before.now.queues) piece) }
         ensures { queues_in_play self.new.queues ≡ line_after (queues_in_play before.now.queues) piece }
     {
-        self.queues = before.queues.after(piece);
-        self.may_come = self.queues.permitted();
+        self.may_come = self.queues.follow(&before.queues, piece, memory);
     }
 }

@@ -3,13 +3,15 @@ ghost use Rattle.std.specs.Prelude.{◌≡◌, [], IfOk};
 ghost use Rattle.dead_memo.specs.Memo.{kept};
 
 use crate::tilings::Tilings;
+use hold_queue::QueueMemory;
 use pc_outside::NoMemory;
 use std::alloc::Global;
 
-/// What a search has found out about tilings, and how many floods it has made.
+/// What a search has found out about tilings and about queues, and how many floods it has made.
 #[derive(Drop)]
 pub struct Notes {
     pub tilings: Tilings,
+    pub queues: QueueMemory,
     /// How many floods were made, at most the greatest value of a u64.
     pub floods: u64,
 }
@@ -21,6 +23,10 @@ impl Notes {
         ensures dead { IfOk result (λ notes. kept notes.tilings.dead ≡ []) }
     {
         let tilings = Tilings::new(alloc)?;
-        Ok(Notes { tilings, floods: 0 })
+        Ok(Notes {
+            tilings,
+            queues: QueueMemory::within_memory(alloc),
+            floods: 0,
+        })
     }
 }

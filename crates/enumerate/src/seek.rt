@@ -80,7 +80,7 @@ impl Frame {
         if !self.setup.is_worth(target, &mut notes.tilings) {
             return false;
         }
-        match self.enter(target, behind) {
+        match self.enter(target, &mut notes.queues, behind) {
             Turn::Entered => true,
             _ => false,
         }

@@ -90,8 +90,6 @@ fn first_frame(problem: &Problem, queue: &Option<Queue>) -> Frame
     };
     Frame {
         setup,
-        next_kind: None,
-        next_line: line,
         tried: 0,
         places: None,
         are_live: false,

@@ -23,6 +23,7 @@ use crate::frame::Frame;
 use crate::left::take_above;
 use crate::notes::Notes;
 use crate::tilings::{Found, Tilings};
+use hold_queue::QueueMemory;
 use moves::DropMode;
 use reach::{FloodRules, Steps};
 use srs::{Piece, Placement};
@@ -92,7 +93,7 @@ impl Frame {
     }
 
     /// Makes `child` the frame after a placement that leaves a tiling.
-    fn lead_to(&self, placement: &Placement, child: &mut Frame)
+    fn lead_to(&self, placement: &Placement, memory: &mut QueueMemory, child: &mut Frame)
         requires lockable { IsTrue (may_lock (filled self.now.setup.well) placement.now.piece placement.now) }
         requires below { IsTrue (is_below self.now.setup.rows placement.now) }
         requires permitted { IsTrue (may_play (queues_in_play self.now.setup.line.queues) placement.now.piece) }
@@ -100,9 +101,7 @@ impl Frame {
         requires live { LeadsOn self.now.setup placement.now }
         ensures { Enters self.now.setup placement.now child.new Turn.Entered }
     {
-        let kept = self.kept_line(placement.piece);
-        self.setup.lead_to(placement, kept, &mut child.setup);
-        child.next_kind = None;
+        self.setup.lead_to(placement, memory, &mut child.setup);
         child.tried = 0;
         child.places = None;
         child.are_live = false;
@@ -110,7 +109,12 @@ impl Frame {
     }
 
     /// Enters a placement. The first frame behind becomes the position after it, if one more is to come.
-    pub fn enter(&self, placement: &Placement, behind: &mut [Frame]) -> Turn
+    pub fn enter(
+        &self,
+        placement: &Placement,
+        memory: &mut QueueMemory,
+        behind: &mut [Frame],
+    ) -> Turn
         requires lockable { IsTrue (may_lock (filled self.now.setup.well) placement.now.piece placement.now) }
         requires below { IsTrue (is_below self.now.setup.rows placement.now) }
         requires permitted { IsTrue (may_play (queues_in_play self.now.setup.line.queues) placement.now.piece) }
@@ -122,7 +126,7 @@ impl Frame {
         if self.setup.left == 0 {
             return self.setup.complete(placement);
         }
-        self.lead_to(placement, &mut behind[0]);
+        self.lead_to(placement, memory, &mut behind[0]);
         Turn::Entered
     }
 
@@ -291,10 +295,7 @@ impl Frame {
     {
         match self.take_worth(&mut notes.tilings) {
             None => self.try_kind(rules, drop_mode, notes, steps),
-            Some(placement) => {
-                self.keep_line(placement.piece);
-                self.enter(&placement, behind)
-            }
+            Some(placement) => self.enter(&placement, &mut notes.queues, behind),
         }
     }
 }

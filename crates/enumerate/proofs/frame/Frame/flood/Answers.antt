@@ -14,7 +14,6 @@ use Rattle.enumerate.proofs.frame.Frame.flood.Goals as goal
 
 pub invariant_of-self : goal.invariant_of-self
 invariant_of-self g c = record {
-  lined = c.args.self.now.lined;
   lockable = λ x is. subst (λ p. Lockable (filled c.args.self.now.setup.well) p) (some_same is)
       (flooded-lockable (flood_table c.args.rules.now) (filled c.args.self.now.setup.well) c.args.drop_mode c.args.piece c.places_of.result c.places_of.ensures.piece c.args.self.now.setup.rows c.places_of.ensures.held);
   held_below = λ x is. subst (λ p. HeldBelow c.args.self.now.setup.rows p) (some_same is)

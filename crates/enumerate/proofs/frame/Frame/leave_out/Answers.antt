@@ -31,7 +31,6 @@ invariant_of-self c =
     λ q is. and_parts (holds places q) (not (is_dead q)) (sym (c.leave_out.ensures.held q) ∙ is) in
     let was : (q : Placement) → holds kept q ≡ true → holds places q ≡ true = λ q is. (parts q is).0 in
     record {
-      lined = frame.lined;
       lockable = λ x is. subst (λ p. Lockable (filled frame.setup.well) p) (some_same is)
           (λ q held. subst (λ p. may_lock (filled frame.setup.well) p q ≡ true) (sym c.leave_out.ensures.piece) (frame.lockable places c.in-Some.is q (was q held)));
       held_below = λ x is. subst (λ p. HeldBelow frame.setup.rows p) (some_same is) (λ q held. frame.held_below places c.in-Some.is q (was q held));

@@ -30,7 +30,6 @@ flood-requires g c = may_play-answer (queues_in_play c.args.self.now.setup.line.
 
 pub invariant_of-self-2 : goal.invariant_of-self-2
 invariant_of-self-2 g c = record {
-  lined = c.flood.new.self.lined;
   lockable = c.flood.new.self.lockable;
   held_below = c.flood.new.self.held_below;
   permitted = c.flood.new.self.permitted;

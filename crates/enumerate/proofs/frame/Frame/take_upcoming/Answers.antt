@@ -20,9 +20,6 @@ pub returns-in-Some-clause-next : goal.returns-in-Some-clause-next
 returns-in-Some-clause-next c =
     upcoming-taken c.args.self.now c.in-Some.places c.take_above.new.places c.in-Some.is c.take_above.ensures.piece c.take_above.result c.take_above.ensures.next
 
-pub invariant_of-self-in-Some-clause-lined : goal.invariant_of-self-in-Some-clause-lined
-invariant_of-self-in-Some-clause-lined c = c.args.self.now.lined
-
 pub invariant_of-self-in-Some-clause-same_piece : goal.invariant_of-self-in-Some-clause-same_piece
 invariant_of-self-in-Some-clause-same_piece c = λ x is q entered.
     c.args.self.now.same_piece c.in-Some.places c.in-Some.is q entered ∙ sym c.take_above.ensures.piece ∙ ap piece_of (some_same is)

@@ -18,7 +18,6 @@ loop-placement-init c = record { same = refl; tried = refl; goes = λ table mode
 
 pub invariant_of-self : goal.invariant_of-self
 invariant_of-self c = record {
-  lined = c.take_upcoming.new.self.lined;
   lockable = c.take_upcoming.new.self.lockable;
   held_below = c.take_upcoming.new.self.held_below;
   permitted = c.take_upcoming.new.self.permitted;

@@ -3,9 +3,9 @@ use Rattle.enumerate.specs.Position.{may_play}
 use Rattle.enumerate.proofs.TurnLemmas.{line-permits}
 use Rattle.enumerate.proofs.line.Line.follow.Goals as goal
 
-pub after-self-requires : goal.after-self-requires
-after-self-requires c = line-permits _ c.args.piece c.requires
+pub follow-self-requires : goal.follow-self-requires
+follow-self-requires c = line-permits _ c.args.piece c.requires
 
 pub invariant_of-self : goal.invariant_of-self
 unfolding may_play
-invariant_of-self c = record { coming = c.permitted-self.ensures }
+invariant_of-self c = record { coming = c.follow-self.ensures.coming }

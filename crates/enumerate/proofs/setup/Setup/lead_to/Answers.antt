@@ -30,10 +30,10 @@ invariant_of-child-clause-supplied c =
     let setup = c.args.self.now in
     let left : setup.left ≡ setup.left - 1 + 1 = omega (arith, c.requires.some) in
     supply-moves (queues_in_play setup.line.queues) c.args.placement.now.piece setup.left (SupplyWords.supply_of setup.supply) (SupplyWords.supply_of c.supply_after-supply.result) setup.supplied c.supply_after-supply.ensures
-    ∙ (λ i. supply_of (sym c.lead_line.ensures i) (left i))
+    ∙ (λ i. supply_of (sym c.follow.ensures i) (left i))
 
 pub returns-clause-position : goal.returns-clause-position
 returns-clause-position c =
     let field = locked-by (filled c.args.self.now.well) _ c.args.placement.now c.fill.ensures _ c.remove_full_rows-removed.ensures.field in
     let removed = removed-by (filled c.args.self.now.well) _ c.args.placement.now c.fill.ensures _ c.remove_full_rows-removed.ensures.removed in
-    child-position c.args.self.now _ c.args.placement.now field (c.saturating_sub-rows.ensures ∙ ap (λ k. c.args.self.now.rows - k) removed) c.lead_line.ensures
+    child-position c.args.self.now _ c.args.placement.now field (c.saturating_sub-rows.ensures ∙ ap (λ k. c.args.self.now.rows - k) removed) c.follow.ensures
