@@ -20,21 +20,21 @@ pub record FailsIn (supply : Supply) (E : Field) (x y floor : ℕ) (span : Span)
 pub fills_taken : (supply : Supply) (E : Field) (piece : Piece) (x y : ℕ) → IsSmall 8 E → TakesPiece supply E x y piece → CanFill 8 supply E
 fills_taken supply E piece x y small takes = fills_stacked E supply piece x y small takes.has takes.stacks
 
--- one that is filled is taken by a piece of some kind: by an S where no other kind does
-pub some_takes : (supply : Supply) (E : Field) (x y : ℕ) → IsSmall 8 E → IsFirst E x y → (TakesPiece supply E x y I → ⊥) → (TakesPiece supply E x y L → ⊥) → (TakesPiece supply E x y O → ⊥) →
-    (TakesPiece supply E x y Z → ⊥) → (TakesPiece supply E x y T → ⊥) → (TakesPiece supply E x y J → ⊥) → CanFill 8 supply E → TakesPiece supply E x y S
-some_takes supply E x y small first no_i no_l no_o no_z no_t no_j filling =
+-- one that is filled is taken by a piece of some kind: by a J where no other kind does
+pub some_takes : (supply : Supply) (E : Field) (x y : ℕ) → IsSmall 8 E → IsFirst E x y → (TakesPiece supply E x y O → ⊥) → (TakesPiece supply E x y S → ⊥) → (TakesPiece supply E x y Z → ⊥) →
+    (TakesPiece supply E x y I → ⊥) → (TakesPiece supply E x y T → ⊥) → (TakesPiece supply E x y L → ⊥) → CanFill 8 supply E → TakesPiece supply E x y J
+some_takes supply E x y small first no_o no_s no_z no_i no_t no_l filling =
     let by = stacked_first E supply x y small first filling in
     last by.piece (record { has = by.some; stacks = by.stacks })
   where
-    last : (piece : Piece) → TakesPiece supply E x y piece → TakesPiece supply E x y S
+    last : (piece : Piece) → TakesPiece supply E x y piece → TakesPiece supply E x y J
     last I takes = absurd (no_i takes)
     last L takes = absurd (no_l takes)
     last O takes = absurd (no_o takes)
     last Z takes = absurd (no_z takes)
     last T takes = absurd (no_t takes)
-    last J takes = absurd (no_j takes)
-    last S takes = takes
+    last J takes = takes
+    last S takes = absurd (no_s takes)
 
 -- with no spans there is nothing to stack
 pub stacks_none : (supply : Supply) (E : Field) (x y floor : ℕ) (spans : List Span) (b : Bool) → length spans ≡ 0 → ((b ≡ true → CanFill 8 supply E) × (CanFill 8 supply E → b ≡ true)) →

@@ -97,13 +97,13 @@ fn covers(cells: &Empties, y: u8, supply: SupplyWord, known: &mut FactTable<Deci
     ensures { IsTrue result ↔ Tiling (all_but (empty_cells cells.now)) 8 (supply_of supply) }
 {
     any_of!(
-        takes(cells, y, Piece::I, supply, known),
-        takes(cells, y, Piece::L, supply, known),
         takes(cells, y, Piece::O, supply, known),
+        takes(cells, y, Piece::S, supply, known),
         takes(cells, y, Piece::Z, supply, known),
+        takes(cells, y, Piece::I, supply, known),
         takes(cells, y, Piece::T, supply, known),
-        takes(cells, y, Piece::J, supply, known),
-        takes(cells, y, Piece::S, supply, known)
+        takes(cells, y, Piece::L, supply, known),
+        takes(cells, y, Piece::J, supply, known)
     )
 }
 
