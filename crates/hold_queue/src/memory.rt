@@ -5,13 +5,13 @@ ghost use Rattle.srs.specs.Piece.{all_pieces};
 ghost use Rattle.hold_queue.specs.States.{LeadsTo, WhereverTheyStand, states_permit};
 
 use crate::family::Draw;
-use crate::states::{Draws, States};
+use crate::states::{Draws, States, hash_of};
 use fact_table::FactTable;
 use srs::Piece;
 use std::alloc::Global;
 
 /// How many steps are remembered.
-const STEPS: usize = 512;
+const STEPS: usize = 1024;
 
 /// The states after one more piece, and which pieces may come then.
 #[derive(Clone, Copy)]
@@ -36,13 +36,15 @@ impl Following {
         ensures piece { result.piece ≡ piece }
         ensures due { result.after.due.holding ≡ due }
     {
+        let words = before.next(piece);
         let after = States {
             hold: before.hold,
             due: Draws {
                 empty_handed: before.due.holding,
                 holding: due,
             },
-            words: before.next(piece),
+            words,
+            hash: hash_of(&words),
         };
         Following {
             before: *before,
@@ -83,7 +85,7 @@ impl QueueMemory {
         ensures piece { IfSome result (λ step. step.now.piece ≡ piece) }
         ensures due { IfSome result (λ step. step.now.after.due.holding ≡ due) }
     {
-        let step = self.steps.entry(hash_of(before, piece))?.as_ref()?;
+        let step = self.steps.entry(step_hash(before, piece))?.as_ref()?;
         if step.is_about(before, piece, due) {
             return Some(step);
         }
@@ -93,15 +95,13 @@ impl QueueMemory {
     /// Remembers a step.
     pub fn keep(&mut self, step: &Following) {
         self.steps
-            .put(hash_of(&step.before, step.piece), Some(*step));
+            .put(step_hash(&step.before, step.piece), Some(*step));
     }
 }
 
-/// A number that differs for most questions.
-fn hash_of(before: &States, piece: Piece) -> u64 {
-    let mut hash = u64::from(piece.code());
-    for word in &before.words {
-        hash = hash.rotate_left(5) ^ *word;
-    }
-    hash.wrapping_mul(0x9e37_79b9_7f4a_7c15) >> 40
+/// The hash of a question. From the same states the seven kinds have different slots: the first seven multiples of 146
+/// differ, and each is less than 1,024.
+#[inline(always)]
+fn step_hash(before: &States, piece: Piece) -> u64 {
+    before.hash ^ 146 * u64::from(piece.code())
 }

@@ -8,7 +8,7 @@ ghost use Rattle.hold_queue.specs.States.{AreDue, AreStatesAfter, drawn_by, in_p
 use crate::family::{Draw, in_progress};
 use crate::hold::Hold;
 use crate::memory::{Following, QueueMemory};
-use crate::states::{Draws, States, place_of};
+use crate::states::{Draws, States, hash_of, place_of};
 use crate::supply::{count_played, elements_with, from_hold};
 use queue_pattern::{Pattern, Queue};
 use srs::Piece;
@@ -57,7 +57,12 @@ impl QueueSet {
             held,
             played: [Piece::I; 23],
             number: 0,
-            states: States { hold, due, words },
+            states: States {
+                hold,
+                due,
+                words,
+                hash: hash_of(&words),
+            },
         };
         set.with_first_held()
     }
@@ -75,6 +80,7 @@ impl QueueSet {
         };
         let mut set = self;
         set.states.words = self.states.first_held();
+        set.states.hash = hash_of(&set.states.words);
         set
     }
 
@@ -113,27 +119,24 @@ impl QueueSet {
         drawn_holding(&self.pattern, self.held, self.number + 1)
     }
 
-    /// The queues after the piece of a step from their states.
-    fn stepped(&self, step: &Following) -> QueueSet
-        requires before { step.now.before ≡ self.now.states }
+    /// Makes these the queues after the piece of a step from the states of others.
+    fn step(&mut self, before: &QueueSet, step: &Following)
+        requires before { step.now.before ≡ before.now.states }
         requires due { (piece : Piece) → step.now.after.due.holding
-            ≡ in_progress (elements_of self.now.pattern) (drawn_by self.now.held (self.now.number + 1) (Some piece)) }
-        requires permitted { QueuesPermit (queues_in_play self.now)
-            ((queues_in_play self.now).played ++ step.now.piece ∷ []) }
-        ensures set { queues_in_play result ≡ record (queues_in_play self.now)
-            { played = (queues_in_play self.now).played ++ step.now.piece ∷ [] } }
-        ensures coming { step.now.may_come ≡ map (λ piece. queues_permit (queues_in_play result)
-            ((queues_in_play result).played ++ piece ∷ [])) all_pieces }
+            ≡ in_progress (elements_of before.now.pattern) (drawn_by before.now.held (before.now.number + 1) (Some piece)) }
+        requires permitted { QueuesPermit (queues_in_play before.now)
+            ((queues_in_play before.now).played ++ step.now.piece ∷ []) }
+        ensures set { queues_in_play self.new ≡ record (queues_in_play before.now)
+            { played = (queues_in_play before.now).played ++ step.now.piece ∷ [] } }
+        ensures coming { step.now.may_come ≡ map (λ piece. queues_permit (queues_in_play self.new)
+            ((queues_in_play self.new).played ++ piece ∷ [])) all_pieces }
     {
-        let mut played = self.played;
-        played[self.number as usize] = step.piece;
-        QueueSet {
-            pattern: self.pattern,
-            held: self.held,
-            played,
-            number: self.number + 1,
-            states: step.after,
-        }
+        self.pattern = before.pattern;
+        self.held = before.held;
+        self.played = before.played;
+        self.played[before.number as usize] = step.piece;
+        self.number = before.number + 1;
+        self.states = step.after;
     }
 
     /// The queues after one more piece.
@@ -142,7 +145,12 @@ impl QueueSet {
         ensures { queues_in_play result
             ≡ record (queues_in_play self.now) { played = (queues_in_play self.now).played ++ piece ∷ [] } }
     {
-        self.stepped(&Following::new(&self.states, piece, self.drawn_next()))
+        let mut set = *self;
+        set.step(
+            self,
+            &Following::new(&self.states, piece, self.drawn_next()),
+        );
+        set
     }
 
     /// Makes these the queues after one more piece than others, and returns for each kind, in the order of codes,
@@ -159,10 +167,10 @@ impl QueueSet {
         let Some(step) = memory.known(&before.states, piece, due) else {
             let step = Following::new(&before.states, piece, due);
             memory.keep(&step);
-            *self = before.stepped(&step);
+            self.step(before, &step);
             return step.may_come;
         };
-        *self = before.stepped(step);
+        self.step(before, step);
         step.may_come
     }
 

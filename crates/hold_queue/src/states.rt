@@ -23,6 +23,8 @@ pub struct States {
     pub due: Draws,
     /// Two numbers of 64 bits for no held piece, and for each piece that may be held, by its code.
     pub words: [u64; 16],
+    /// A number that differs for most words, by which a memory finds what comes after the states.
+    pub hash: u64,
 }
 
 /// A family for no held piece, and one for each piece that may be held.
@@ -90,6 +92,16 @@ fn family_of(words: &[u64; 16], held: Option<Piece>) -> Family
         low: words[place],
         high: words[place + 1],
     }
+}
+
+/// A number that differs for most words.
+pub fn hash_of(words: &[u64; 16]) -> u64 {
+    let mut hash = 0_u64;
+    for word in words {
+        hash = (hash ^ *word).wrapping_mul(0x9e37_79b9_7f4a_7c15);
+        hash ^= hash >> 32;
+    }
+    hash
 }
 
 impl States {

@@ -10,6 +10,6 @@ invariant_of-result c =
       same_hold = refl;
       drawn = refl;
       leads = λ elements start played stands due.
-          leads-next elements states.hold start states.words c.next.result played c.args.piece (λ held. c.next.ensures held elements start played stands due);
+          leads-next elements states.hold start states.words c.next-words.result played c.args.piece (λ held. c.next-words.ensures held elements start played stands due);
       coming = c.permitted.ensures;
     }

@@ -1,17 +1,17 @@
--- The goals of `QueueSet::stepped` that need lemmas.
+-- The goals of `QueueSet::step` that need lemmas.
 use Rattle.std.proofs.Common.{◌≡◌, ◌+◌, ◌∙◌, ap, length-set, arith, subst, sym, take, rules, set as list_set}
 use Rattle.queue_pattern.specs.Pattern.{elements_of}
 use Rattle.hold_queue.specs.QueueSet.{queues_in_play}
 use Rattle.hold_queue.specs.States.{AreStatesAfter, in_progress}
 use Rattle.hold_queue.proofs.SetFacts.{set-room, set-follows, set-coming, step-leads, played-more}
-use Rattle.hold_queue.proofs.set.QueueSet.stepped.Goals as goal
+use Rattle.hold_queue.proofs.set.QueueSet.step.Goals as goal
 
-pub bounds-played-self : goal.bounds-played-self
-bounds-played-self c = set-room c.args.self.now c.args.step.now.piece c.requires.permitted
+pub bounds-self-before : goal.bounds-self-before
+bounds-self-before c = set-room c.args.before.now c.args.step.now.piece c.requires.permitted
 
-pub invariant_of-result : goal.invariant_of-result
-invariant_of-result c =
-    let set = c.args.self.now in
+pub invariant_of-self : goal.invariant_of-self
+invariant_of-self c =
+    let set = c.args.before.now in
     let step = c.args.step.now in
     let elements = elements_of set.pattern in
     let room = set-room set step.piece c.requires.permitted in
@@ -30,7 +30,7 @@ invariant_of-result c =
 pub returns-clause-set : goal.returns-clause-set
 unfolding queues_in_play
 returns-clause-set c =
-    let set = c.args.self.now in
+    let set = c.args.before.now in
     let step = c.args.step.now in
     let same : step.after.hold ≡ set.states.hold = step.same_hold ∙ ap (λ states. states.hold) c.requires.before in
     let more = played-more set step.piece (set-room set step.piece c.requires.permitted) in
