@@ -1,6 +1,5 @@
 -- States with the same cells: one board serves them.
-use Rattle.std.proofs.Common.{◌≡◌, Bool, pos, ◌+ℤ◌, ◌-ℤ◌, List, map, refl, sym, ap, ◌∙◌, arith}
-use Rattle.std.proofs.lemmas.Int.{ints}
+use Rattle.std.proofs.Common.{◌≡◌, Bool, pos, ◌+ℤ◌, List, map, refl, sym, ap, ◌∙◌, rules}
 use Rattle.std.specs.List.{list_all}
 use Rattle.std.specs.Ordering.{int_eq}
 use Rattle.std.specs.Cmp.{signed_Decides}
@@ -9,7 +8,7 @@ use Rattle.lane_board.proofs.CallerLemmas.{same_from_both}
 use Rattle.srs.specs.declared.piece.Piece.{Piece}
 use Rattle.srs.specs.declared.rotation.Rotation.{Rotation}
 use Rattle.srs.specs.declared.placement.Placement.{Placement}
-use Rattle.srs.specs.Cells.{Cell, minus, moved, shape, cells_at, cells_of, pivot_of, in_well}
+use Rattle.srs.specs.Cells.{Cell, minus, moved, shape, cells_at, cells_of, pivot_of}
 use Rattle.srs.specs.SameCells.{SameCells, HasSameCells}
 use Rattle.srs.specs.Canonical.{canonical_rotation, canonical_move}
 use Rattle.srs.proofs.CallerLemmas.{canonical_cells, is_among-all, list_all-from_is_among, map-moved-moved, same_cells-moved, each_state}
@@ -24,9 +23,7 @@ pub class_lane : (p : Piece) (r : Rotation) → lowest (shape p r) ≡ lowest (s
 class_lane p r = (signed_Decides (lowest (shape p r)) (lowest (shape p (canonical_rotation p r)) +ℤ (canonical_move p r).1)).0 (each_state (λ p r. int_eq (lowest (shape p r)) (lowest (shape p (canonical_rotation p r)) +ℤ (canonical_move p r).1)) refl p r)
 
 same_all : (test : Cell → Bool) (xs ys : List Cell) → SameCells xs ys → list_all test xs ≡ list_all test ys
-same_all test xs ys same = same_from_both _ _
-    (λ all. list_all-from_is_among test ys (λ c has. is_among-all test xs c all (same.same c ∙ has)))
-    (λ all. list_all-from_is_among test xs (λ c has. is_among-all test ys c all (sym (same.same c) ∙ has)))
+same_all test xs ys same = search (rules, same_from_both, list_all-from_is_among, is_among-all)
 
 -- and one board of free places
 pub class_free : (F : Field) (p : Piece) (r : Rotation) (pivot : Cell) → is_free_at F p r pivot ≡ is_free_at F p (canonical_rotation p r) (moved pivot (canonical_move p r))
@@ -40,26 +37,17 @@ free_same F s q same = same_all (is_open F) (cells_of s) (cells_of q) same
 
 lower_pivot : (s : Placement) → moved (pos 0, minus 1) (pivot_of s) ≡ lowered s 1
 unfolding moved
-lower_pivot s =
-    let x : pos 0 +ℤ pos s.x ≡ pos s.x = omega (arith, ints) in
-    let y : minus 1 +ℤ pos s.y ≡ pos s.y -ℤ pos 1 = omega (arith, ints) in
-    λ i. (x i, y i)
+lower_pivot s = search rules
 
 lower_cells : (s : Placement) → map (moved (pos 0, minus 1)) (cells_of s) ≡ cells_at s.piece s.rotation (lowered s 1)
 lower_cells s = map-moved-moved (pos 0, minus 1) (pivot_of s) (shape s.piece s.rotation) ∙ ap (cells_at s.piece s.rotation) (lower_pivot s)
 
 pub lower_same : (F : Field) (s q : Placement) → HasSameCells s q → is_free_at F s.piece s.rotation (lowered s 1) ≡ is_free_at F q.piece q.rotation (lowered q 1)
 unfolding is_free_at
-lower_same F s q same =
-    ap (list_all (is_open F)) (sym (lower_cells s))
-    ∙ same_all (is_open F) _ _ (same_cells-moved (pos 0, minus 1) (cells_of s) (cells_of q) same)
-    ∙ ap (list_all (is_open F)) (lower_cells q)
+lower_same F s q same = search (rules, lower_cells, same_all, same_cells-moved)
 
 pub rests_same : (F : Field) (s q : Placement) → HasSameCells s q → IsResting F s → IsResting F q
 rests_same F s q same rests = record { free = sym (free_same F s q same) ∙ rests.free; blocked = sym (lower_same F s q same) ∙ rests.blocked }
 
 pub sky_same : (F : Field) (s q : Placement) → HasSameCells s q → IsUnderSky F s → IsUnderSky F q
-sky_same F s q same sky = record {
-  inside = sym (same_all in_well (cells_of s) (cells_of q) same) ∙ sky.inside;
-  clear = λ x y k has up. sky.clear x y k (same.same (pos x, pos y) ∙ has) up;
-}
+sky_same F s q same sky = search (rules, same_all)

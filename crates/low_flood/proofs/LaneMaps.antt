@@ -1,6 +1,6 @@
 -- The board of free places has the free states, and its resting places the resting ones.
-use Rattle.std.proofs.Common.{◌≡◌, ◌↔◌, ℕ, suc, ◌<◌, ◌≤◌, Bool, true, false, not, ◌&&◌, ℤ, pos, ◌+ℤ◌, ◌-ℤ◌, ◌≤ℤ◌, List, [], ◌∷◌, map, refl, sym, ap, subst, ◌∙◌, arith}
-use Rattle.std.specs.Prelude.{neg_ℤ, int_le, nat_lt}
+use Rattle.std.proofs.Common.{◌≡◌, ◌↔◌, ℕ, suc, ◌<◌, ◌≤◌, Bool, true, false, not, ◌&&◌, ℤ, pos, ◌+ℤ◌, ◌-ℤ◌, ◌≤ℤ◌, List, [], ◌∷◌, map, refl, sym, ap, subst, ◌∙◌, arith, rules}
+use Rattle.std.specs.Prelude.{neg_ℤ, nat_lt}
 use Rattle.std.specs.List.{list_all}
 use Rattle.std.proofs.lemmas.Int.{ints}
 use Rattle.std.proofs.lemmas.Bool.{and_parts, and_from, or_left, or_right, or_from, both_ways, lt-ltb, ltb-true, le-leb, not-true, not_from_false, false_from_ne_true}
@@ -33,11 +33,7 @@ pub record IsNearLane (cell : Cell) : Type 0 where
   pub high : cell.1 ≤ℤ pos 3
 
 pub near_lane : (cell : Cell) → is_near_lane cell ≡ true → IsNearLane cell
-near_lane cell near =
-    let three = and_parts (int_le (minus 2) cell.0 && int_le cell.0 (pos 2) && int_le (pos 0) cell.1) (int_le cell.1 (pos 3)) near in
-    let two = and_parts (int_le (minus 2) cell.0 && int_le cell.0 (pos 2)) (int_le (pos 0) cell.1) three.0 in
-    let one = and_parts (int_le (minus 2) cell.0) (int_le cell.0 (pos 2)) two.0 in
-    record { left = int_le-true (minus 2) cell.0 one.0; right = int_le-true cell.0 (pos 2) one.1; low = int_le-true (pos 0) cell.1 two.1; high = int_le-true cell.1 (pos 3) three.1 }
+near_lane cell near = search (rules, and_parts, int_le-true)
 
 -- the cells of a piece lie in the lane and up to three rows above
 shape_near_lane : (p : Piece) (r : Rotation) → list_all (λ c. is_near_lane (from_lane p r c)) (shape p r) ≡ true
@@ -178,9 +174,7 @@ module _ (F : Field) (N : ℕ) (lies : LiesWithin F N) (few : N ≤ 16) (piece :
 
 -- the place of a state is free where the state is
 pub free_here : (F : Field) (N : ℕ) (s : Placement) (y : ℕ) → lane s ≡ pos y → y < N → (free : Field) → IsLaneMap F s.piece s.rotation N free → free s.x y ≡ is_free F s
-free_here F N s y at below free is =
-    let row : pos y -ℤ lowest (shape s.piece s.rotation) ≡ pos s.y = omega (arith, ints) in
-    is.exact s.x y below ∙ ap (λ (z : ℤ). is_free_at F s.piece s.rotation (pos s.x, z)) row
+free_here F N s y at below free is = search rules
 
 -- the resting places of a set are those whose state cannot move down
 module _ (F : Field) (N : ℕ) (s : Placement) (y : ℕ) (at : lane s ≡ pos y) (below : y < N) (free S : Field) (is : IsLaneMap F s.piece s.rotation N free) (lies : LiesWithin free N) where

@@ -1,5 +1,5 @@
 -- The canonical placements that rest under an open sky are the places of a hard drop.
-use Rattle.std.proofs.Common.{◌≡◌, ◌↔◌, ℕ, ◌+◌, ◌<◌, ◌≤◌, ◌≤ℤ◌, true, pos, ◌+ℤ◌, refl, sym, ap, subst, ◌∙◌, inl, inr, arith}
+use Rattle.std.proofs.Common.{◌≡◌, ◌↔◌, ℕ, ◌+◌, ◌<◌, ◌≤◌, ◌≤ℤ◌, true, pos, ◌+ℤ◌, refl, sym, ap, subst, ◌∙◌, inl, inr, arith, rules}
 use Rattle.std.specs.Prelude.{neg_ℤ, Bool, false, if◌then◌else◌}
 use Rattle.std.proofs.lemmas.Int.{ints}
 use Rattle.std.proofs.lemmas.Bool.{and_parts, and_from, cases_Bool, cond-true, cond-false, false≢true}
@@ -98,42 +98,21 @@ own_within false F lies = record { inside = λ x y held. absurd (false≢true he
 
 pub each_cut : (M : ℕ) (S T : States) → T Spawn ≡ intersection (S Spawn) (rows_below M) → T Right ≡ intersection (S Right) (rows_below M)
     → T Reverse ≡ intersection (S Reverse) (rows_below M) → T Left ≡ intersection (S Left) (rows_below M) → IsCut M S T
-each_cut M S T spawn right reverse left = record { each = each }
-  where
-    each : (r : Rotation) → T r ≡ intersection (S r) (rows_below M)
-    each Spawn = spawn
-    each Right = right
-    each Reverse = reverse
-    each Left = left
+each_cut M S T spawn right reverse left = search rules
 
 -- what is cut off leaves the states below row M
 pub cut_exact : (M : ℕ) (P : Placement → Type 0) (piece : Piece) (S T : States) → ((rotation : Rotation) → LiesWithin (S rotation) 24) → HasExactly P piece S → IsCut M S T → HasExactly (IsUnder M P) piece T
 unfolding has_state intersection
-cut_exact M P piece S T lies are cut = record { exact = each }
-  where
-    each : (q : Placement) → q.piece ≡ piece → (has_state T q ≡ true) ↔ IsUnder M P q
-    each q kind = (
-      λ held.
-          let parts = and_parts (S q.rotation q.x q.y) _ (sym (ap (λ (F : Field). F q.x q.y) (cut.each q.rotation)) ∙ held) in
-          record { below = (from_rows M q.x q.y parts.1).1; is = (are.exact q kind).0 parts.0 },
-      λ under.
-          let has = (are.exact q kind).1 under.is in
-          let place = (lies q.rotation).inside q.x q.y has in
-          ap (λ (F : Field). F q.x q.y) (cut.each q.rotation) ∙ and_from _ _ has (in_rows M q.x q.y place.0 under.below),
-    )
+cut_exact M P piece S T lies are cut = search (rules, and_parts, from_rows, and_from, in_rows)
 
 -- the free places lie on the lanes, and what rests among places does so too
 pub free_within : (piece : Piece) (rotation : Rotation) (N : ℕ) (F : Field) → LiesWithin (free_lanes piece rotation N F) N
 unfolding free_lanes difference inside_lanes
-free_within piece rotation N F = record {
-  inside = λ x y held. from_rows N x y (and_parts (rows_below N x y) _ (and_parts (inside_lanes piece rotation N x y) _ held).0).0;
-}
+free_within piece rotation N F = search (rules, from_rows, and_parts)
 
 pub sky_within : (piece : Piece) (rotation : Rotation) (N : ℕ) (free : Field) → LiesWithin (sky_board piece rotation N free) N
 unfolding sky_board difference inside_lanes
-sky_within piece rotation N free = record {
-  inside = λ x y held. from_rows N x y (and_parts (rows_below N x y) _ (and_parts (inside_lanes piece rotation N x y) _ held).0).0;
-}
+sky_within piece rotation N free = search (rules, from_rows, and_parts)
 
 pub resting_within : (N : ℕ) (free S : Field) → LiesWithin S N → LiesWithin (resting_lanes N free S) N
 unfolding resting_lanes difference

@@ -1,5 +1,5 @@
 -- Boards whose states keys lead to, and what moves and turns lead to from them.
-use Rattle.std.proofs.Common.{◌≡◌, ℕ, zero, suc, ◌+◌, ◌<◌, ◌≤◌, true, pos, ◌+ℤ◌, ◌-ℤ◌, Option, Some, None, [], ◌∷◌, ◌++◌, map, refl, sym, ap, subst, ◌∙◌, inl, inr, arith}
+use Rattle.std.proofs.Common.{◌≡◌, ℕ, zero, suc, ◌+◌, ◌<◌, ◌≤◌, true, pos, ◌+ℤ◌, ◌-ℤ◌, Some, None, [], ◌∷◌, ◌++◌, map, refl, sym, ap, subst, ◌∙◌, inl, inr, arith, rules}
 use Rattle.std.specs.List.{list_all}
 use Rattle.std.proofs.lemmas.Int.{ints}
 use Rattle.std.proofs.lemmas.Bool.{or_cases, cond-true, false≢true}
@@ -16,9 +16,7 @@ use Rattle.well.proofs.CallerLemmas.{free_inside, free_pivot}
 use Rattle.moves.specs.declared.key.Key.{Key}
 use Rattle.moves.specs.declared.key.Key.TheVariants.{Left, Right, Down}
 use Rattle.moves.specs.declared.key.DropMode.TheVariants.{Soft}
-use Rattle.moves.specs.Leads.{state_after}
 use Rattle.moves.specs.Step.{state_at, first_free, shifted, turned, step_of}
-use Rattle.moves.specs.Walk.{led}
 use Rattle.moves.proofs.CallerLemmas.{step_of-free, soft_allows, leads-append, near, sky_is_reached}
 use Rattle.moves.specs.Sky.{IsClearFrom}
 use Rattle.moves.specs.RestingStates.{IsKeyed}
@@ -49,10 +47,7 @@ pub one_key : (F : Field) (s t : Placement) (key : Key) → t.piece ≡ s.piece 
 one_key F s t key kind keyed e = record {
   keys = keyed.keys ++ (key ∷ []);
   allowed = λ k d within. soft_allows d;
-  leads_there =
-      ap (λ (p : Piece). state_after srs_table F p (keyed.keys ++ (key ∷ []))) kind
-      ∙ leads-append srs_table F s.piece keyed.keys (key ∷ [])
-      ∙ ap (λ (o : Option Placement). led (step_of srs_table F) o (key ∷ [])) keyed.leads_there ∙ e;
+  leads_there = search (rules, leads-append);
 }
 
 module _ (F : Field) (N : ℕ) (piece : Piece) (r : Rotation) (free : Field) (is : IsLaneMap F piece (canonical_rotation piece r) N free) (lies : LiesWithin free N) where

@@ -1,5 +1,5 @@
 -- One test of a turn on boards finds the places from which the test leads to an open place; five tests are a turn.
-use Rattle.std.proofs.Common.{◌≡◌, ℕ, ◌+◌, ◌-◌, ◌<◌, ◌≤◌, Bool, true, false, not, ◌&&◌, lt-ltb, ℤ, pos, negsuc, ◌+ℤ◌, ◌≤ℤ◌, List, [], ◌∷◌, refl, sym, ap, ◌∙◌, inl, inr, arith}
+use Rattle.std.proofs.Common.{◌≡◌, ℕ, ◌+◌, ◌-◌, ◌<◌, ◌≤◌, true, false, ◌&&◌, lt-ltb, ℤ, pos, negsuc, ◌+ℤ◌, ◌≤ℤ◌, List, [], ◌∷◌, refl, sym, ap, ◌∙◌, inl, inr, arith, rules}
 use Rattle.std.specs.Prelude.{neg_ℤ, nat_abs, ◌<ℤ◌}
 use Rattle.std.proofs.lemmas.Int.{ints}
 use Rattle.std.proofs.lemmas.Bool.{and_parts, and_from, or_cases, or_left, or_right, cases_lt, cond-true, cond-false, not-true, not_from_false, both_ways, false_from_ne_true, le-ltb, false≢true}
@@ -8,10 +8,10 @@ use Rattle.lane_board.proofs.CallerLemmas.{same_from_both}
 use Rattle.srs.specs.declared.piece.Piece.{Piece}
 use Rattle.srs.specs.declared.rotation.Rotation.{Rotation}
 use Rattle.srs.specs.Canonical.{canonical_rotation}
-use Rattle.srs.specs.Cells.{Cell, moved, shape}
+use Rattle.srs.specs.Cells.{Cell, moved}
 use Rattle.srs.specs.Kick.{srs_table, kick_in}
 use Rattle.srs.proofs.CallerLemmas.{is_among-all, origin, pivot_in_shape}
-use Rattle.moves.specs.Height.{is_column, fits_column}
+use Rattle.moves.specs.Height.{fits_column}
 use Rattle.moves.proofs.CallerLemmas.{column}
 use Rattle.low_flood.specs.LaneTests.{not_below_zero, opening}
 use Rattle.low_flood.specs.LaneTurns.{opened, lane_move, hits, lane_turned, arrivals}
@@ -20,21 +20,15 @@ use Rattle.place_sets.proofs.CallerLemmas.{LiesWithin, same_fields, moved_from, 
 use Rattle.low_flood.proofs.LaneMaps.{in_rows, from_rows}
 
 pub staying_all : (n : ℕ) (z : ℤ) → z ≤ℤ pos 0 → n ≡ n - not_below_zero z
-staying_all n (pos k) h = let none : k ≡ 0 = omega (arith, ints) in omega arith
-staying_all n (negsuc k) h = omega arith
+staying_all n z h = search rules
 
 pub staying_some : (n : ℕ) (z : ℤ) → pos 0 <ℤ z → n - nat_abs z ≡ n - not_below_zero z
-staying_some n (pos k) h = refl
-staying_some n (negsuc k) h = absurd (omega (arith, ints))
+staying_some n z h = search rules
 
 -- a column that fits is one of the well
 fits_small : (piece : Piece) (rotation : Rotation) (x : ℕ) → fits_column piece rotation (pos x) ≡ true → x < 10
 unfolding origin
-fits_small piece rotation x fits =
-    let at = column (pos x +ℤ pos 0) (is_among-all (λ (c : Cell). is_column (pos x +ℤ c.0)) (shape piece rotation) origin fits (pivot_in_shape piece rotation)) in
-    let is = at.is in
-    let within = at.within in
-    omega (arith, ints)
+fits_small piece rotation x fits = search (rules, column, is_among-all, pivot_in_shape)
 
 -- what a move leaves on the board lies there
 pub moved-within : (S : Field) (n : ℕ) (dx dy : ℤ) (x y : ℕ) → moved_within S n dx dy x y ≡ true → (x < 10) × (y < n)
@@ -45,17 +39,12 @@ moved-within S n dx dy x y held = from_rows n x y (and_parts (rows_below n x y) 
 pub turned_within : (O : Field) (N : ℕ) (moves : List Cell) (S before : Field) → LiesWithin before N → LiesWithin (lane_turned O N moves S before) N
 unfolding lane_turned union
 turned_within O N [] S before lies = lies
-turned_within O N (m ∷ ms) S before lies = turned_within O N ms (difference S (hits O m S)) (union before (moved_within (hits O m S) N m.0 m.1)) (record {
-  inside = λ x y held. elim (or_cases (before x y) _ held) [ inl old ↦ lies.inside x y old | inr new ↦ moved-within (hits O m S) N m.0 m.1 x y new ];
-})
+turned_within O N (m ∷ ms) S before lies =
+    search (rules, or_cases, moved-within, (turned_within O N ms (difference S (hits O m S)) (union before (moved_within (hits O m S) N m.0 m.1))))
 
 less_both : (F G : Field) → difference F G ≡ difference F (intersection F G)
 unfolding difference intersection
-less_both F G = same_fields _ _ (λ x y. same (F x y) (G x y))
-  where
-    same : (f g : Bool) → (f && not g) ≡ (f && not (f && g))
-    same true g = refl
-    same false g = refl
+less_both F G = search (rules, same_fields)
 
 module _ (N : ℕ) (piece : Piece) (rotation : Rotation) (free : Field) (lies : LiesWithin free N) (move : Cell) where
   abbrev O : Field
@@ -168,10 +157,7 @@ module _ (N : ℕ) (piece : Piece) (rotation : Rotation) (free : Field) (lies : 
 -- one test after the other
 one_test : (O : Field) (N : ℕ) (k : Cell) (ks : List Cell) (S B l r : Field) → l ≡ difference S (hits O k S) → r ≡ union B (moved_within (hits O k S) N k.0 k.1) → lane_turned O N (k ∷ ks) S B ≡ lane_turned O N ks l r
 unfolding lane_turned
-one_test O N k ks S B l r left reached =
-    let p = sym left in
-    let q = sym reached in
-    λ i. lane_turned O N ks (p i) (q i)
+one_test O N k ks S B l r left reached = search rules
 
 -- what one call gives
 pub record IsTested (N : ℕ) (free inside : Field) (k : Cell) (S B l r : Field) : Type 0 where

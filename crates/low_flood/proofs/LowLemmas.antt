@@ -1,5 +1,5 @@
 -- A field of few rows lies whole on a board of few lanes.
-use Rattle.std.proofs.Common.{◌≡◌, ◌↔◌, ℕ, ◌+◌, ◌<◌, ◌≤◌, true, sym, ap, subst, ◌∙◌, inl, inr, arith}
+use Rattle.std.proofs.Common.{◌≡◌, ◌↔◌, ℕ, ◌+◌, ◌<◌, ◌≤◌, true, sym, subst, ◌∙◌, arith, rules}
 use Rattle.std.proofs.lemmas.Int.{ints}
 use Rattle.std.proofs.lemmas.Bool.{and_parts, and_from, cases_lt, both_ways}
 use Rattle.lane_board.specs.Field.{Field, intersection, rows_below}
@@ -22,37 +22,21 @@ use Rattle.low_flood.proofs.LanePlaceLemmas.{cut_exact, hard_held, hard_within}
 
 pub low_field : (F : Field) (r N : ℕ) → IsClearFrom r F → r ≤ N → LiesWithin F 24 → intersection F (rows_below N) ≡ F
 unfolding intersection
-low_field F r N clear few lies = same_fields _ _ (λ x y. same_from_both _ _
-    (λ held. (and_parts (F x y) _ held).0)
-    (λ filled. let place = lies.inside x y filled in and_from _ _ filled (in_rows N x y place.0 (below x y filled))))
-  where
-    below : (x y : ℕ) → F x y ≡ true → y < N
-    below x y filled = elim (cases_lt y N) [
-      | inl low ↦ low
-      | inr high ↦ absurd (both_ways _ (clear.clear x y (omega arith)) filled)
-    ]
+low_field F r N clear few lies =
+    search (rules, same_fields, same_from_both, and_parts, and_from, in_rows, cases_lt, both_ways)
 
 pub low_within : (F : Field) (r N : ℕ) → IsClearFrom r F → r ≤ N → LiesWithin F 24 → LiesWithin F N
-low_within F r N clear few lies = record {
-  inside = λ x y filled.
-      let place = lies.inside x y filled in
-      (place.0, elim (cases_lt y N) [ inl low ↦ low | inr high ↦ absurd (both_ways _ (clear.clear x y (omega arith)) filled) ]);
-}
+low_within F r N clear few lies = search (rules, cases_lt, both_ways)
 
 pub hard_by : (r N M : ℕ) (F B : Field) (piece : Piece) (S : States) → IsClearFrom r F → r + 2 ≤ N → N ≤ 16 → LiesWithin F 24 → B ≡ intersection F (rows_below N) → IsCut M (hard_board piece N B) S → HasExactly (IsUnder M (IsPlace srs_table F Hard)) piece S
 unfolding has_state
-hard_by r N M F B piece S clear over few lies is_board cut =
-    cut_exact M (IsPlace srs_table F Hard) piece (hard_board piece N B) S (hard_within piece N B) (record { exact = each }) cut
+hard_by r N M F B piece S clear over few lies is_board cut = search (rules, cut_exact, hard_within, each)
   where
     same : B ≡ F
     same = is_board ∙ low_field F r N clear (omega arith) lies
 
     each : (q : Placement) → q.piece ≡ piece → (has_state (hard_board piece N B) q ≡ true) ↔ IsPlace srs_table F Hard q
-    each q kind =
-        let law = hard_held F r N clear over few (low_within F r N clear (omega arith) lies) q in
-        let e : hard_board q.piece N F q.rotation q.x q.y ≡ hard_board piece N B q.rotation q.x q.y =
-        ap (λ (p : Piece). hard_board p N F q.rotation q.x q.y) kind ∙ ap (λ (G : Field). hard_board piece N G q.rotation q.x q.y) (sym same) in
-        (λ held. law.0 (e ∙ held), λ place. sym e ∙ law.1 place)
+    each q kind = search (rules, hard_held, low_within, same)
 
 -- on the lanes it is the same field
 pub lanes_clear : (r top N : ℕ) (F B : Field) → IsClearFrom r F → r ≤ top → r ≤ N → LiesWithin F 24 → B ≡ intersection F (rows_below N) → IsClearFrom top B
@@ -75,6 +59,4 @@ place_low F Hard q clear place = rest_low F _ q clear ((hard_places F 8 q clear 
 
 -- so all places have the pivot below row 24
 pub places_under : (F : Field) (mode : DropMode) (piece : Piece) (S : States) → IsClearFrom 8 F → HasExactly (IsUnder 24 (IsPlace srs_table F mode)) piece S → HasExactly (IsPlace srs_table F mode) piece S
-places_under F mode piece S clear are = record {
-  exact = λ q kind. (λ held. ((are.exact q kind).0 held).is, λ place. (are.exact q kind).1 (record { below = place_low F mode q clear place; is = place }));
-}
+places_under F mode piece S clear are = search (rules, place_low)

@@ -1,5 +1,5 @@
 -- The sky on a board of lanes has exactly the states under the sky.
-use Rattle.std.proofs.Common.{◌≡◌, ◌↔◌, ℕ, ◌+◌, ◌-◌, ◌<◌, ◌≤◌, true, false, not, ◌&&◌, nat_lt, ℤ, pos, ◌+ℤ◌, ◌-ℤ◌, sym, ap, subst, ◌∙◌, inl, inr, arith}
+use Rattle.std.proofs.Common.{◌≡◌, ◌↔◌, ℕ, ◌+◌, ◌-◌, ◌<◌, ◌≤◌, true, false, not, ◌&&◌, nat_lt, ℤ, pos, ◌+ℤ◌, ◌-ℤ◌, sym, ap, subst, ◌∙◌, inl, inr, arith, rules}
 use Rattle.std.specs.Prelude.{◌<ℤ◌}
 use Rattle.std.proofs.lemmas.Int.{ints}
 use Rattle.std.proofs.lemmas.Bool.{and_parts, and_from, or_cases, or_left, or_right, cases_Bool, cases_lt, both_ways, not-true, ltb-true, lt-ltb, false_from_ne_true}
@@ -29,10 +29,7 @@ same_cell : (B : Field) (x a b : ℕ) → a ≡ b → B x a ≡ true → B x b �
 same_cell B x a b e = subst (λ (y : ℕ). B x y ≡ true) e
 
 smear_none : (N : ℕ) (B : Field) → IsSmear N 1 B B
-smear_none N B = record {
-  from = λ x y filled. record { j = 0; near_by = omega arith; filled = same_cell B x y (y + 0) (omega arith) filled };
-  to = λ x y j within filled. same_cell B x (y + j) y (omega arith) filled;
-}
+smear_none N B = search (rules, same_cell)
 
 smear_twice : (N n : ℕ) (B R : Field) → LiesWithin B N → IsSmear N n B R → IsSmear N (n + n) B (with_lower N n R)
 unfolding with_lower union moved

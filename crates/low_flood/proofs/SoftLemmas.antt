@@ -1,5 +1,5 @@
 -- The rounds of a soft flood: what they keep, how they end, and what is closed then.
-use Rattle.std.proofs.Common.{◌≡◌, ◌≢◌, ◌↔◌, ◌⊎◌, ℕ, zero, suc, ◌<◌, ◌≤◌, Bool, true, false, ◌||◌, ◌==◌, refl, sym, ap, subst, ◌∙◌, inl, inr, arith}
+use Rattle.std.proofs.Common.{◌≡◌, ◌≢◌, ◌↔◌, ◌⊎◌, ℕ, zero, suc, ◌<◌, ◌≤◌, Bool, true, false, ◌||◌, refl, sym, ap, subst, ◌∙◌, inl, inr, rules}
 use Rattle.std.specs.Prelude.{IsTrue}
 use Rattle.std.proofs.lemmas.Bool.{and_parts, and_from, or_cases, or_left, or_right, cases_Bool, cases_lt, cond-true, cond-false, both_ways, not-true, not_from_false, eqb-true, eq-eqb, false≢true}
 use Rattle.lane_board.specs.Field.{Field, empty_field, difference, union}
@@ -9,25 +9,19 @@ use Rattle.srs.specs.declared.piece.Piece.{Piece}
 use Rattle.srs.specs.declared.rotation.Rotation.{Rotation}
 use Rattle.srs.specs.declared.rotation.Rotation.TheVariants.{Spawn, Right, Reverse, Left}
 use Rattle.srs.specs.Canonical.{canonical_rotation}
-use Rattle.srs.specs.Rotation.{rotation_place, clockwise_of, anticlockwise_of}
+use Rattle.srs.specs.Rotation.{clockwise_of, anticlockwise_of}
 use Rattle.srs.proofs.CallerLemmas.{rotation_place-injective}
 use Rattle.place_sets.specs.declared.spreading.Shifts.TheVariants as Shift
 use Rattle.low_flood.specs.LaneFlood.{Lanes, IsLanesClosed}
 use Rattle.low_flood.specs.LaneTurns.{arrivals}
 use Rattle.place_sets.specs.Shifts.{IsSpread, sideways, lower}
-use Rattle.low_flood.specs.SkyBoard.{sky_board, with_lower, inside_lanes}
+use Rattle.low_flood.specs.SkyBoard.{sky_board, with_lower}
 use Rattle.low_flood.specs.SoftLanes.{skies, with_rotation, places_of, rests_in, lacking, HaveAllRests, AreSpread, IsTurnedInto, IsRound, Rounds, IsSoftFlood}
 use Rattle.place_sets.specs.States.{states_with}
 use Rattle.place_sets.proofs.CallerLemmas.{LiesWithin, IsWithin, within_both, cell_count-more, fields-same, spread-has, still-has, same_states, with_here, with_other, missing}
 
 pub spread_each : (N : ℕ) (free S T : Lanes) → IsSpread Shift.All N (free Spawn) (S Spawn) (T Spawn) → IsSpread Shift.All N (free Right) (S Right) (T Right) → IsSpread Shift.All N (free Reverse) (S Reverse) (T Reverse) → IsSpread Shift.All N (free Left) (S Left) (T Left) → AreSpread N free S T
-spread_each N free S T a b c d = record { each = each }
-  where
-    each : (r : Rotation) → IsSpread Shift.All N (free r) (S r) (T r)
-    each Spawn = a
-    each Right = b
-    each Reverse = c
-    each Left = d
+spread_each N free S T a b c d = search rules
 
 -- where nothing is lacking, all rests are held
 none_lacks : (piece : Piece) (N : ℕ) (free S : Lanes) → ((r : Rotation) (x y : ℕ) → lacking piece N free S r x y ≡ false) → HaveAllRests piece N free S
@@ -51,12 +45,10 @@ all_rests_by piece N free S a b c d ab abc abcd empty is_a is_b is_c is_d is_ab 
     within F G x y e none = ap (λ (G : Field). G x y) (sym e) ∙ none
 
     first : (p q : Bool) → (p || q) ≡ false → p ≡ false
-    first true q e = e
-    first false q e = refl
+    first p q e = search rules
 
     second : (p q : Bool) → (p || q) ≡ false → q ≡ false
-    second true q e = absurd (false≢true (sym e))
-    second false q e = e
+    second p q e = search (rules, false≢true)
 
     three : (x y : ℕ) → abc x y ≡ false
     three x y = first (abc x y) (d x y) (within abcd (union abc d) x y is_abcd (nothing x y))
@@ -82,12 +74,8 @@ grows_same S T e = record { each = λ r. record { has = λ x y held. ap (λ (U :
 
 -- what changes in one rotation, and elsewhere not
 pub in_rotation : (P : Rotation → Field → Type 0) (S : Lanes) (to : Rotation) (B : Field) → P to B → ((r : Rotation) → P r (S r)) → (r : Rotation) → P r (states_with S to B r)
-in_rotation P S to B here others r = elim (cases_Bool (rotation_place r == rotation_place to)) [
-  | inl same ↦
-      let e = rotation_place-injective r to (eqb-true _ _ same) in
-      subst (λ (r : Rotation). P r (states_with S to B r)) (sym e) (subst (P to) (sym (with_here S to B)) here)
-  | inr apart ↦ subst (P r) (sym (with_other S to r B apart)) (others r)
-]
+in_rotation P S to B here others r =
+    search (rules, cases_Bool, rotation_place-injective, eqb-true, with_here, with_other)
 
 pub turned_grows : (piece : Piece) (N : ℕ) (free : Lanes) (to : Rotation) (S T : Lanes) → IsTurnedInto piece N free to S T → Grows S T
 unfolding union
@@ -99,10 +87,7 @@ turned_grows piece N free to S T is = record {
 }
 
 pub round_grows : (piece : Piece) (N : ℕ) (free S T : Lanes) → IsRound piece N free S T → Grows S T
-round_grows piece N free S T is =
-    grows_trans S is.one T (turned_grows piece N free Spawn S is.one is.spawn)
-    (grows_trans is.one is.two T (turned_grows piece N free Right is.one is.two is.right)
-    (grows_trans is.two is.three T (turned_grows piece N free Reverse is.two is.three is.reverse) (turned_grows piece N free Left is.three T is.left)))
+round_grows piece N free S T is = search (rules, grows_trans, turned_grows)
 
 pub rounds_grow : (n : ℕ) (piece : Piece) (N : ℕ) (free S T : Lanes) → Rounds n piece N free S T → Grows S T
 rounds_grow zero piece N free S T e = grows_same S T e
@@ -110,20 +95,13 @@ rounds_grow (suc n) piece N free S T way = grows_trans S way.0 T (rounds_grow n 
 
 -- fewer places are missing after a round that changes something
 pub missing_less : (N : ℕ) (S T : Lanes) (r : Rotation) → Grows S T → ((r : Rotation) → LiesWithin (T r) N) → T r ≢ S r → missing N T < missing N S
-missing_less N S T r grows lies differ =
-    at r (elim (cases_lt (cell_count (S r) N) (cell_count (T r) N)) [
-      | inl less ↦ less
-      | inr none ↦ absurd (differ (sym (fields-same (S r) (T r) (grows.each r) N (lies r) none)))
-    ])
+missing_less N S T r grows lies differ = search (rules, cases_lt, fields-same, at)
   where
     more : (r : Rotation) → cell_count (S r) N ≤ cell_count (T r) N
     more r = cell_count-more (S r) (T r) (grows.each r) N
 
     at : (r : Rotation) → cell_count (S r) N < cell_count (T r) N → missing N T < missing N S
-    at Spawn less = omega (arith, more Right, more Reverse, more Left, cell_count-le (T Spawn) N, less)
-    at Right less = omega (arith, more Spawn, more Reverse, more Left, cell_count-le (T Right) N, less)
-    at Reverse less = omega (arith, more Spawn, more Right, more Left, cell_count-le (T Reverse) N, less)
-    at Left less = omega (arith, more Spawn, more Right, more Reverse, cell_count-le (T Left) N, less)
+    at r less = search (rules, cell_count-le, more)
 
 -- the flood so far
 pub record IsSoFar (piece : Piece) (N : ℕ) (free S : Lanes) : Type 0 where
@@ -146,11 +124,7 @@ ends_at_once piece N free S sky all = record { start = S; begun = inl sky; round
 
 -- the flood has the skies
 pub begun_grows : (piece : Piece) (N : ℕ) (free S : Lanes) → (flood : IsSoftFlood piece N free S) → Grows (skies piece N free) S
-begun_grows piece N free S flood = grows_trans (skies piece N free) flood.start S (at flood.begun) (rounds_grow flood.rounds piece N free flood.start S flood.reached)
-  where
-    at : (flood.start ≡ skies piece N free) ⊎ AreSpread N free (skies piece N free) flood.start → Grows (skies piece N free) flood.start
-    at (inl same) = grows_same (skies piece N free) flood.start (sym same)
-    at (inr spread) = record { each = λ r. spread-has Shift.All N (free r) _ (flood.start r) (spread.each r) }
+begun_grows piece N free S flood = search (rules, grows_trans, rounds_grow, grows_same, spread-has)
 
 pub still_round : (piece : Piece) (N : ℕ) (free S T : Lanes) → T ≡ S → IsRound piece N free S T → IsRound piece N free S S
 still_round piece N free S T e round = subst (IsRound piece N free S) e round
@@ -233,16 +207,8 @@ lower_has N rows B x y held = or_left (B x y) _ held
 
 pub sky_is_free : (piece : Piece) (rotation : Rotation) (N : ℕ) (free : Field) → IsWithin (sky_board piece rotation N free) free
 unfolding sky_board difference
-sky_is_free piece rotation N free = record {
-  has = λ x y held.
-      let blocked : Field = difference (inside_lanes piece rotation N) free in
-      let parts = and_parts (inside_lanes piece rotation N x y) _ held in
-      elim (cases_Bool (free x y)) [
-        | inl is_free ↦ is_free
-        | inr shut ↦ absurd (both_ways _ (not-true _ parts.1)
-            (lower_has N 8 _ x y (lower_has N 4 _ x y (lower_has N 2 _ x y (lower_has N 1 blocked x y (and_from _ _ parts.0 (not_from_false _ shut)))))))
-      ];
-}
+sky_is_free piece rotation N free =
+    search (rules, and_parts, cases_Bool, both_ways, not-true, lower_has, and_from, not_from_false)
 
 -- the places of the rotations with one canonical rotation
 pub record IsPlaceOf (piece : Piece) (S : Lanes) (c : Rotation) (x y : ℕ) : Type 0 where
@@ -252,51 +218,21 @@ pub record IsPlaceOf (piece : Piece) (S : Lanes) (c : Rotation) (x y : ℕ) : Ty
 
 with_rotation-from : (piece : Piece) (S : Lanes) (c r : Rotation) (B : Field) (x y : ℕ) → with_rotation piece S c r B x y ≡ true → (B x y ≡ true) ⊎ IsPlaceOf piece S c x y
 unfolding with_rotation union
-with_rotation-from piece S c r B x y held = elim (cases_Bool (rotation_place (canonical_rotation piece r) == rotation_place c)) [
-  | inl same ↦ elim (or_cases (B x y) (S r x y) (ap (λ (G : Field). G x y) (sym (cond-true _ (union B (S r)) B same)) ∙ held)) [
-    | inl old ↦ inl old
-    | inr new ↦ inr (record { r = r; canonical = rotation_place-injective _ c (eqb-true _ _ same); held = new })
-  ]
-  | inr other ↦ inl (ap (λ (G : Field). G x y) (sym (cond-false _ (union B (S r)) B other)) ∙ held)
-]
+with_rotation-from piece S c r B x y held =
+    search (rules, cases_Bool, or_cases, cond-true, rotation_place-injective, eqb-true, cond-false)
 
 with_rotation-keeps : (piece : Piece) (S : Lanes) (c r : Rotation) (B : Field) (x y : ℕ) → B x y ≡ true → with_rotation piece S c r B x y ≡ true
 unfolding with_rotation union
-with_rotation-keeps piece S c r B x y held = elim (cases_Bool (rotation_place (canonical_rotation piece r) == rotation_place c)) [
-  | inl same ↦ ap (λ (G : Field). G x y) (cond-true _ (union B (S r)) B same) ∙ or_left (B x y) (S r x y) held
-  | inr other ↦ ap (λ (G : Field). G x y) (cond-false _ (union B (S r)) B other) ∙ held
-]
+with_rotation-keeps piece S c r B x y held = search (rules, cases_Bool, cond-true, or_left, cond-false)
 
 with_rotation-has : (piece : Piece) (S : Lanes) (c r : Rotation) (B : Field) (x y : ℕ) → canonical_rotation piece r ≡ c → S r x y ≡ true → with_rotation piece S c r B x y ≡ true
 unfolding with_rotation union
-with_rotation-has piece S c r B x y e held =
-    ap (λ (G : Field). G x y) (cond-true _ (union B (S r)) B (eq-eqb _ _ (ap (λ (r : Rotation). rotation_place r) e))) ∙ or_right (B x y) (S r x y) held
+with_rotation-has piece S c r B x y e held = search (rules, cond-true, eq-eqb, or_right)
 
 pub places_of-from : (piece : Piece) (S : Lanes) (c : Rotation) (x y : ℕ) → places_of piece S c x y ≡ true → IsPlaceOf piece S c x y
 unfolding places_of empty_field
-places_of-from piece S c x y held = elim (with_rotation-from piece S c Left _ x y held) [
-  | inr found ↦ found
-  | inl three ↦ elim (with_rotation-from piece S c Reverse _ x y three) [
-    | inr found ↦ found
-    | inl two ↦ elim (with_rotation-from piece S c Right _ x y two) [
-      | inr found ↦ found
-      | inl one ↦ elim (with_rotation-from piece S c Spawn empty_field x y one) [
-        | inr found ↦ found
-        | inl none ↦ absurd (false≢true none)
-      ]
-    ]
-  ]
-]
+places_of-from piece S c x y held = search (rules, with_rotation-from, false≢true)
 
 pub places_of-has : (piece : Piece) (S : Lanes) (r : Rotation) (x y : ℕ) → S r x y ≡ true → places_of piece S (canonical_rotation piece r) x y ≡ true
 unfolding places_of empty_field
-places_of-has piece S Spawn x y held =
-    let c = canonical_rotation piece Spawn in
-    with_rotation-keeps piece S c Left _ x y (with_rotation-keeps piece S c Reverse _ x y (with_rotation-keeps piece S c Right _ x y (with_rotation-has piece S c Spawn _ x y refl held)))
-places_of-has piece S Right x y held =
-    let c = canonical_rotation piece Right in
-    with_rotation-keeps piece S c Left _ x y (with_rotation-keeps piece S c Reverse _ x y (with_rotation-has piece S c Right _ x y refl held))
-places_of-has piece S Reverse x y held =
-    let c = canonical_rotation piece Reverse in
-    with_rotation-keeps piece S c Left _ x y (with_rotation-has piece S c Reverse _ x y refl held)
-places_of-has piece S Left x y held = with_rotation-has piece S (canonical_rotation piece Left) Left _ x y refl held
+places_of-has piece S r x y held = search (rules, with_rotation-keeps, with_rotation-has)

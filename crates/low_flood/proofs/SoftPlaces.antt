@@ -1,5 +1,5 @@
 -- The canonical placements that rest at places of a soft flood are the places of a soft drop.
-use Rattle.std.proofs.Common.{◌≡◌, ◌↔◌, ◌⊎◌, ℕ, zero, suc, ◌+◌, ◌-◌, ◌%◌, ◌<◌, ◌≤◌, true, not, ◌||◌, ◌==◌, ℤ, pos, ◌+ℤ◌, refl, sym, ap, subst, ◌∙◌, inl, inr, arith}
+use Rattle.std.proofs.Common.{◌≡◌, ◌↔◌, ◌⊎◌, ℕ, zero, suc, ◌+◌, ◌-◌, ◌%◌, ◌<◌, ◌≤◌, true, not, ◌||◌, ◌==◌, ℤ, pos, ◌+ℤ◌, refl, sym, ap, subst, ◌∙◌, inl, inr, arith, rules}
 use Rattle.std.specs.Prelude.{◌<ℤ◌, IsTrue, nat_le}
 use Rattle.std.specs.List.{list_all}
 use Rattle.std.proofs.lemmas.Int.{ints}
@@ -52,16 +52,10 @@ pub own_canonical : (p : Piece) (r : Rotation) → has_own_cells p r ≡ true �
 own_canonical p r own = rotation_place-injective _ r (eqb-true _ _ (subst (λ b. (not b || rotation_place (canonical_rotation p r) == rotation_place r) ≡ true) own (own_test p r)))
 
 back_clockwise : (r : Rotation) → clockwise_of (anticlockwise_of r) ≡ r
-back_clockwise Spawn = refl
-back_clockwise Right = refl
-back_clockwise Reverse = refl
-back_clockwise Left = refl
+back_clockwise r = search rules
 
 back_anti : (r : Rotation) → anticlockwise_of (clockwise_of r) ≡ r
-back_anti Spawn = refl
-back_anti Right = refl
-back_anti Reverse = refl
-back_anti Left = refl
+back_anti r = search rules
 
 low_clockwise : (p : Piece) (to : Rotation) → list_all (is_low_move p (anticlockwise_of to) to) (kicks_of srs_table p (anticlockwise_of to) to) ≡ true
 low_clockwise p to = subst (λ (r : Rotation). list_all (is_low_move p (anticlockwise_of to) r) (kicks_of srs_table p (anticlockwise_of to) r) ≡ true) (back_clockwise to) (clockwise_low p (anticlockwise_of to))

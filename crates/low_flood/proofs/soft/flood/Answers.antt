@@ -1,5 +1,5 @@
 -- One round more; it ends where all rests are held, or where a round changes nothing.
-use Rattle.std.proofs.Common.{inl, inr}
+use Rattle.std.proofs.Common.{inl, arith}
 use Rattle.srs.specs.declared.rotation.Rotation.{Rotation}
 use Rattle.place_sets.specs.States.{states_of}
 use Rattle.low_flood.proofs.SoftLemmas.{begins, goes_on, ends, ends_at_once, still_round, round_grows, missing_less}
@@ -25,6 +25,4 @@ pub returns-then-has_all_rests-2 : goal.returns-then-has_all_rests-2
 returns-then-has_all_rests-2 g c = ends c.args.piece g.row.N (states_of c.args.free.now) (states_of c.rounds.reached) c.rounds.invariant (inl (c.has_all_rests-in-rounds.ensures c.if-has_all_rests-2.true))
 
 pub returns-in-None : goal.returns-in-None
-returns-in-None g c =
-    ends c.args.piece g.row.N (states_of c.args.free.now) (states_of c.rounds.reached) c.rounds.invariant
-    (inr (still_round c.args.piece g.row.N (states_of c.args.free.now) (states_of c.rounds.reached) (states_of c.round-next.result) c.in-None.ensures c.round-next.ensures))
+returns-in-None g c = grind (arith, ends, still_round)
