@@ -1,5 +1,5 @@
 -- Spans can be stacked exactly where rows can be chosen for them.
-use Rattle.std.proofs.Common.{◌≡◌, ℕ, zero, suc, ◌+◌, ◌<◌, ◌≤◌, Bool, true, false, ◌&&◌, ◌||◌, ◌==◌, nat_lt, List, [], ◌∷◌, length, refl, sym, ap₂, subst, ◌∙◌, inl, inr, arith}
+use Rattle.std.proofs.Common.{◌≡◌, ℕ, zero, suc, ◌+◌, ◌<◌, ◌≤◌, Bool, true, false, ◌&&◌, ◌==◌, nat_lt, List, [], ◌∷◌, length, refl, sym, subst, ◌∙◌, inl, inr, arith, rules}
 use Rattle.std.specs.List.{list_any}
 use Rattle.std.proofs.lemmas.Bool.{cases_Bool, cases_lt, and_parts, and_from, and_right, or_cases, or_left, or_right, cond-true, cond-false, not_from_false, eqb-true, eq-eqb, lt-ltb, le-ltb, ne_eqb, false≢true, both_ways}
 use Rattle.lane_board.specs.Field.{Field}
@@ -16,10 +16,7 @@ was_there E x span row a b left = (and_parts (E a b) _ left).0
 -- the cells of a span that fits are cells of the set
 span_inside : (E : Field) (x : ℕ) (span : Span) (row a b : ℕ) → has_span E x span row ≡ true → (list_any (λ column. x + column == a) (columns_of span) && (row == b)) ≡ true → E a b ≡ true
 unfolding has_span
-span_inside E x span row a b has here =
-    let parts = and_parts (list_any (λ column. x + column == a) (columns_of span)) (row == b) here in
-    let same : row ≡ b = eqb-true _ _ parts.1 in
-    subst (λ r. E a r ≡ true) same (in_columns (columns_of span) x a (λ k. E k row) has parts.0)
+span_inside E x span row a b has here = search (rules, and_parts, eqb-true, in_columns)
 
 pub chosen : (allowed : ℕ → Span → ℕ → Bool) (Fact : Field → Type 0) (E : Field) (x floor : ℕ) (spans : List Span) → Stacks allowed Fact E x floor spans → Chosen Fact E x floor spans
 unfolding Stacks in_stack
@@ -105,12 +102,7 @@ follows-above y floor rows (span ∷ spans) over rises above = (
 )
 
 first_of_columns : (columns : List ℕ) (x : ℕ) → list_any (λ column. x + column == x) columns ≡ list_any (λ column. column == 0) columns
-first_of_columns [] x = refl
-first_of_columns (c ∷ columns) x = ap₂ ◌||◌ (same c) (first_of_columns columns x)
-  where
-    same : (c : ℕ) → (x + c == x) ≡ (c == 0)
-    same zero = eq-eqb (x + 0) x (omega arith)
-    same (suc c) = ne_eqb (x + suc c) x (λ e. omega arith) ∙ sym (ne_eqb (suc c) 0 (λ e. omega arith))
+first_of_columns columns x = search (rules, eq-eqb, ne_eqb)
 
 -- rows of spans that cover the first cell are allowed
 pub follows-first : (E : Field) (x y floor : ℕ) (rows : ℕ → ℕ) (spans : List Span) → ((b : ℕ) → b < y → E x b ≡ false) → Rises rows (length spans) → ((k : ℕ) → k < length spans → floor ≤ rows k) →

@@ -1,5 +1,5 @@
 -- A column has as many cells as its byte has ones; and a wall stands behind it where no row has a cell there and in the next one.
-use Rattle.std.proofs.Common.{◌≡◌, ℕ, zero, suc, ◌+◌, ◌*◌, ◌++◌, ◌∷◌, [], ◌/◌, ◌%◌, ◌^◌, ◌<◌, ◌-◌, true, not, cond, ◌&&◌, ◌==◌, count_ones, w8, ◌↔◌, sym, ap, ◌∙◌, inl, inr, arith}
+use Rattle.std.proofs.Common.{◌≡◌, ℕ, zero, suc, ◌+◌, ◌*◌, ◌++◌, ◌∷◌, [], ◌/◌, ◌%◌, ◌^◌, ◌<◌, ◌-◌, true, not, cond, ◌&&◌, ◌==◌, count_ones, w8, ◌↔◌, sym, ap, ◌∙◌, inl, inr, arith, rules}
 use Rattle.std.specs.Int.Count.{ones}
 use Rattle.std.specs.Prelude.{sum_by}
 use Rattle.std.specs.List.{range_with_len}
@@ -61,9 +61,7 @@ ones_columns F (suc n) cells small told =
 -- a row has a cell in a column and in the next one
 both_cells : (E : Field) (x y : ℕ) → has_span E x FirstTwo y ≡ true → (E x y ≡ true) × (E (x + 1) y ≡ true)
 unfolding has_span
-both_cells E x y has =
-    let left = and_parts (E (x + 0) y) (E (x + 1) y && true) has in
-    (ap (λ k. E k y) {x = x} {y = x + 0} (omega arith) ∙ left.0, (and_parts (E (x + 1) y) true left.1).0)
+both_cells E x y has = search (rules, and_parts)
 
 has_both : (E : Field) (x y : ℕ) → E x y ≡ true → E (x + 1) y ≡ true → has_span E x FirstTwo y ≡ true
 unfolding has_span

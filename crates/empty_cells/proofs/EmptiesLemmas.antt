@@ -1,5 +1,5 @@
 -- The cells that the bits of a set stand for.
-use Rattle.std.proofs.Common.{◌≡◌, ℕ, ◌+◌, ◌*◌, ◌/◌, ◌%◌, ◌<◌, Bool, true, false, not, ◌&&◌, ◌==◌, nat_lt, pos, negsuc, refl, ap, ◌∙◌, sym, inl, inr, arith}
+use Rattle.std.proofs.Common.{◌≡◌, ℕ, ◌+◌, ◌*◌, ◌/◌, ◌%◌, ◌<◌, Bool, true, false, not, ◌&&◌, nat_lt, pos, ap, ◌∙◌, sym, inl, inr, arith, rules}
 use Rattle.std.proofs.Math.Path.{fun_ext}
 use Rattle.std.specs.Int.{bit_at}
 use Rattle.std.proofs.lemmas.Bool.{both_ways, false≢true, cases_lt, and_left, and_right, and_from, and_parts, le-ltb, lt-ltb, ltb-true}
@@ -19,21 +19,12 @@ none_in_zero e zero = record { none = λ x y. and_right (nat_lt y 8) _ (ap (λ n
 
 no_bit : (n x y : ℕ) → (y < 8 → bit_at n (8 * x + y) ≡ 0) → (nat_lt y 8 && has_bit n (8 * x + y)) ≡ false
 unfolding has_bit
-no_bit n x y none = elim (cases_lt y 8) [
-  | inl low ↦ and_right (nat_lt y 8) _ (ap (λ b. b == 1) (none low))
-  | inr high ↦ and_left (nat_lt y 8) _ (le-ltb y 8 high)
-]
+no_bit n x y none = search (rules, cases_lt, and_right, and_left, le-ltb)
 
 -- the lowest bit is the lowest cell of the leftmost column
 pub first_from_lowest : (e : Empties) (t : ℕ) → bit_at e.cells t ≡ 1 → ((i : ℕ) → i < t → bit_at e.cells i ≡ 0) → IsFirst (empty_cells e) (t / 8) (t % 8)
 unfolding empty_cells has_bit
-first_from_lowest e t set lower = record {
-  filled = and_from _ _ (lt-ltb (t % 8) 8 (omega arith)) (ap (λ k. bit_at e.cells k == 1) {y = t} (omega arith) ∙ ap (λ b. b == 1) set);
-  column = omega (arith, within);
-  row = omega arith;
-  leftmost = λ a b left. no_bit e.cells a b (λ low. lower (8 * a + b) (omega arith));
-  lowest = λ b below. no_bit e.cells (t / 8) b (λ low. lower (8 * (t / 8) + b) (omega arith));
-}
+first_from_lowest e t set lower = search (rules, and_from, lt-ltb, no_bit, within)
   where
     within : t < 80
     within = elim (cases_lt t 80) [
@@ -57,8 +48,7 @@ pub same_left : (e : Empties) (x y : ℕ) (q r : Bool) → (x < 10 → y < 8 →
 same_left e x y q r same = where_filled (empty_cells e x y) (λ has. same ((cells_small e).column x y has) ((cells_small e).row x y has))
   where
     where_filled : (p : Bool) → (p ≡ true → q ≡ r) → (p && not q) ≡ (p && not r)
-    where_filled true same = ap not (same refl)
-    where_filled false same = refl
+    where_filled p same = search rules
 
 -- sets with the same cells have the same bits
 pub same_bits : (e f : Empties) → empty_cells e ≡ empty_cells f → e.cells ≡ f.cells
@@ -83,7 +73,4 @@ pub record CellOf (E : Field) (c : Cell) : Type 0 where
   pub has : E x y ≡ true
 
 pub cell_of : (E : Field) (c : Cell) → has_cell E c ≡ true → CellOf E c
-cell_of E (pos x, pos y) here = record { x = x; y = y; is = refl; has = here }
-cell_of E (pos x, negsuc y) here = absurd (false≢true here)
-cell_of E (negsuc x, pos y) here = absurd (false≢true here)
-cell_of E (negsuc x, negsuc y) here = absurd (false≢true here)
+cell_of E c here = search (rules, false≢true)

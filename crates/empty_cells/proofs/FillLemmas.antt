@@ -1,5 +1,5 @@
 -- Cells can be filled exactly where there are none, or some piece of the supply stacks over one of them and the rest can be filled.
-use Rattle.std.proofs.Common.{◌≡◌, ℕ, suc, ◌+◌, ◌<◌, ◌≤◌, Bool, true, false, not, cond, ◌&&◌, ◌||◌, ◌==◌, nat_lt, ℤ, pos, negsuc, ◌+ℤ◌, ◌-ℤ◌, List, [], ◌∷◌, length, map, refl, sym, ap, subst, ◌∙◌, inl, inr, arith}
+use Rattle.std.proofs.Common.{◌≡◌, ℕ, ◌+◌, ◌<◌, ◌≤◌, Bool, true, false, not, ◌&&◌, ◌||◌, ℤ, pos, negsuc, ◌+ℤ◌, ◌-ℤ◌, List, length, map, refl, sym, ap, subst, ◌∙◌, inl, inr, arith, rules}
 use Rattle.std.proofs.Math.Path.{fun_ext}
 use Rattle.std.specs.List.{list_all}
 use Rattle.std.proofs.lemmas.Bool.{cases_Bool, cases_lt, both_ways, and_from, cond-true, cond-false, eqb-true, lt-ltb}
@@ -9,7 +9,6 @@ use Rattle.std.proofs.Math.Bool.{not-not}
 use Rattle.lane_board.specs.Field.{Field, rows_below}
 use Rattle.srs.specs.declared.piece.Piece.{Piece}
 use Rattle.srs.specs.declared.rotation.Rotation.{Rotation}
-use Rattle.srs.specs.Piece.{piece_code}
 use Rattle.srs.specs.Cells.{Cell, shape}
 use Rattle.srs.specs.SameCells.{is_among}
 use Rattle.srs.proofs.CallerLemmas.{is_among-all, list_all-from_is_among, piece_code-injective}
@@ -20,21 +19,16 @@ use Rattle.prune.proofs.CallerLemmas.{with_part, TakenPart, taken_part, has_cell
 use Rattle.empty_cells.specs.declared.span.Span.{Span}
 use Rattle.empty_cells.specs.Empties.{all_but, has_cell}
 use Rattle.empty_cells.specs.Spans.{HasNoCell, IsFirst}
-use Rattle.empty_cells.specs.Stacks.{is_allowed, CanFill, Stacks, StacksOver, StacksPiece, in_stack, without_stack}
+use Rattle.empty_cells.specs.Stacks.{is_allowed, CanFill, Stacks, StacksPiece, in_stack, without_stack}
 use Rattle.empty_cells.proofs.EmptiesLemmas.{CellOf, cell_of}
 use Rattle.empty_cells.proofs.StackLemmas.{Rises, IsWithin, IsSmall, Follows, Chosen}
 use Rattle.empty_cells.proofs.ChosenLemmas.{chosen, stacked, follows-first}
-use Rattle.empty_cells.proofs.FormLemmas.{leftmost, lowest, form_at, form, distance, place_in, rotation_at, Matches, sent_column, same_cells, left_cell, left_in_stack, stack_right_of, level_within, level_up, row_up, cell_at_level, row_by_level, form_within, form_of_place}
+use Rattle.empty_cells.proofs.FormLemmas.{leftmost, lowest, form, distance, place_in, Matches, sent_column, same_cells, left_cell, left_in_stack, stack_right_of, level_within, level_up, row_up, cell_at_level, row_by_level, form_within, form_of_place}
 
 -- which cells are empty where all but those of a set are filled
 pub empty_is : (height : ℕ) (E : Field) (a b : ℕ) → IsSmall height E → is_empty_below (all_but E) height (pos a, pos b) ≡ E a b
 unfolding is_empty_below all_but rows_below
-empty_is height E a b small = ap (λ t. (nat_lt a 10 && nat_lt b height) && t) (not-not (E a b)) ∙ inside (E a b) (nat_lt a 10 && nat_lt b height) (λ here. and_from _ _ (lt-ltb a 10 (small.column a b here)) (lt-ltb b height (small.row a b here)))
-  where
-    inside : (p q : Bool) → (p ≡ true → q ≡ true) → (q && p) ≡ p
-    inside true q one = ap (λ t. t && true) (one refl)
-    inside false true one = refl
-    inside false false one = refl
+empty_is height E a b small = search (rules, not-not, and_from, lt-ltb)
 
 negative_column : (height : ℕ) (E : Field) (n b : ℕ) → is_empty_below (all_but E) height (negsuc n, pos b) ≡ false
 unfolding is_empty_below
@@ -43,31 +37,14 @@ negative_column height E n b = refl
 -- where there is no cell, no part is needed
 pub fills_nothing : (height : ℕ) (E : Field) (supply : Supply) → HasNoCell E → CanFill height supply E
 unfolding covers is_empty_below all_but
-fills_nothing height E supply none = record {
-  parts = [];
-  generalized = All-nil IsGeneralized;
-  covered = covered;
-  supplied = λ piece. omega arith;
-}
-  where
-    covered : (cell : Cell) → covers [] cell ≡ cond (is_empty_below (all_but E) height cell) 1 0
-    covered (pos x, pos y) = sym (cond-false (rows_below height x y && not (not (E x y))) 1 0 (nothing (rows_below height x y)))
-      where
-        nothing : (p : Bool) → (p && not (not (E x y))) ≡ false
-        nothing true = not-not (E x y) ∙ none.none x y
-        nothing false = refl
-    covered (pos x, negsuc y) = refl
-    covered (negsuc x, pos y) = refl
-    covered (negsuc x, negsuc y) = refl
+fills_nothing height E supply none = search (rules, All-nil, cond-false, not-not)
 
 -- a cell of sent cells comes from one of them
 pub sent_from : (f : Cell → Cell) (cells : List Cell) (d : Cell) → is_among (map f cells) d ≡ true → (c : Cell) × (is_among cells c ≡ true) × (f c ≡ d)
 sent_from f cells d has = let source = source_of f cells d has in (source.from, source.listed, source.sent)
 
 pub not_without : (p q : Bool) → (not p || q) ≡ not (p && not q)
-not_without true true = refl
-not_without true false = refl
-not_without false q = refl
+not_without p q = search rules
 
 -- what is left where the cells of spans are filled
 pub left_by : (E : Field) (cells : List Cell) (x : ℕ) (rows : ℕ → ℕ) (spans : List Span) → ((a b : ℕ) → is_among cells (pos a, pos b) ≡ in_stack x rows spans a b) →
@@ -77,12 +54,7 @@ left_by E cells x rows spans same = fun_ext (λ a. fun_ext (λ b. ap (λ t. not 
 
 pub one_back : (supply : Supply) (piece : Piece) → 0 < supply piece → with_one (less_one supply piece) piece ≡ supply
 unfolding with_one less_one
-one_back supply piece some = fun_ext (λ other. elim (cases_Bool (piece_code piece == piece_code other)) [
-  | inl same ↦
-      let count : 0 < supply other = subst (λ p. 0 < supply p) (piece_code-injective piece other (eqb-true _ _ same)) some in
-      cond-true _ _ _ same ∙ ap suc (cond-true _ _ _ same) ∙ omega arith
-  | inr different ↦ cond-false _ _ _ different ∙ cond-false _ _ _ different
-])
+one_back supply piece some = search (rules, fun_ext, cases_Bool, piece_code-injective, eqb-true, cond-true, cond-false)
 
 sent_at : (piece : Piece) (rotation : Rotation) (move : ℤ) (row : ℤ → ℕ) (x : ℕ) → leftmost piece rotation +ℤ move ≡ pos x → (c : Cell) → is_among (shape piece rotation) c ≡ true →
     sent move row c ≡ (pos (x + (place_in piece rotation c).0), pos (row c.1))
@@ -105,13 +77,7 @@ pub part_of : (piece : Piece) (rotation : Rotation) (x : ℕ) (rows : ℕ → �
 part_of piece rotation x rows rises = record {
   part = part;
   kind = refl;
-  generalized = record {
-    rotation = rotation;
-    move = move;
-    row = row;
-    rising = λ c d has_c has_d up. rises.rising _ _ (level_up piece rotation c d has_c has_d up) (level_within piece rotation d has_d);
-    cells = refl;
-  };
+  generalized = search (rules, level_up, level_within);
   same = same;
   inside = inside;
 }
@@ -132,21 +98,12 @@ part_of piece rotation x rows rises = record {
     same = same_cells piece rotation move row x rows matches
 
     inside : (E : Field) → IsWithin E x rows (form piece rotation) → list_all (has_cell E) part.cells ≡ true
-    inside E within = list_all-from_is_among (has_cell E) part.cells (λ d has. each d (sent_from (sent move row) (shape piece rotation) d has) has)
-      where
-        each : (d : Cell) → ((c : Cell) × (is_among (shape piece rotation) c ≡ true) × (sent move row c ≡ d)) → is_among part.cells d ≡ true → has_cell E d ≡ true
-        each d found has =
-            let a = x + (place_in piece rotation found.0).0 in
-            let b = row found.0.1 in
-            let at : d ≡ (pos a, pos b) = sym found.2 ∙ sent_at piece rotation move row x matches.column found.0 found.1 in
-            subst (λ (e : Cell). has_cell E e ≡ true) (sym at) (within.inside a b (sym (same a b) ∙ subst (λ (e : Cell). is_among part.cells e ≡ true) at has))
+    inside E within = search (rules, list_all-from_is_among, sent_from, sent_at, matches, same)
 
 -- cells of a set are empty where all others are filled
 pub empty_within : (height : ℕ) (E : Field) (cells : List Cell) → IsSmall height E → list_all (has_cell E) cells ≡ true → list_all (is_empty_below (all_but E) height) cells ≡ true
-empty_within height E cells small inside = list_all-from_is_among (is_empty_below (all_but E) height) cells (λ c has. each c (cell_of E c (is_among-all (has_cell E) cells c inside has)))
-  where
-    each : (c : Cell) → CellOf E c → is_empty_below (all_but E) height c ≡ true
-    each c at = subst (λ c. is_empty_below (all_but E) height c ≡ true) (sym at.is) (empty_is height E at.x at.y small ∙ at.has)
+empty_within height E cells small inside =
+    search (rules, list_all-from_is_among, cell_of, is_among-all, CellOf, empty_is)
 
 -- a piece whose spans are stacked in the set, and a filling of what it leaves
 pub fills_chosen : (height : ℕ) (E : Field) (supply : Supply) (piece : Piece) (rotation : Rotation) (x floor : ℕ) → IsSmall height E → 0 < supply piece → Chosen (CanFill height (less_one supply piece)) E x floor (form piece rotation) → CanFill height supply E
@@ -221,26 +178,13 @@ pub filled_by : (height : ℕ) (E : Field) (supply : Supply) (x0 y0 : ℕ) → I
 filled_by height E supply x0 y0 small here filling = by_part (taken_part (all_but E) height supply (pos x0, pos y0) (empty_is height E x0 y0 small ∙ here) filling)
   where
     by_part : {parts : List Part} → TakenPart (all_but E) height supply (pos x0, pos y0) parts → FilledBy height E supply x0 y0
-    by_part t =
-        let s = stack_of height E t.part small t.generalized t.empty in
-        record {
-          piece = t.part.piece;
-          rotation = s.rotation;
-          x = s.x;
-          rows = s.rows;
-          some = t.some;
-          rises = s.rises;
-          within = s.within;
-          has = sym (s.same x0 y0) ∙ t.has;
-          rest = subst (λ (F : Field). Tiling F height (less_one supply t.part.piece)) (left_by E t.part.cells s.x s.rows (form t.part.piece s.rotation) s.same) t.rest;
-        }
+    by_part t = search (rules, stack_of, left_by)
 
 -- spans of a piece that have the first cell of a set are stacked over it
 pub over_first : (E : Field) (x y : ℕ) (piece : Piece) (rotation : Rotation) (left : ℕ) (rows : ℕ → ℕ) (Fact : Field → Type 0) → IsFirst E x y → Rises rows (length (form piece rotation)) →
     IsWithin E left rows (form piece rotation) → in_stack left rows (form piece rotation) x y ≡ true → Fact (without_stack E left rows (form piece rotation)) → Stacks (is_allowed y) Fact E x 0 (form piece rotation)
 over_first E x y piece rotation left rows Fact first rises within has fact =
-    subst (λ k. Stacks (is_allowed y) Fact E k 0 spans) same_column
-    (stacked (is_allowed y) Fact E left 0 rows spans rises (λ k below. omega arith) within follows fact)
+    search (rules, stacked, same_column, follows)
   where
     spans : List Span
     spans = form piece rotation
@@ -255,8 +199,7 @@ over_first E x y piece rotation left rows Fact first rises within has fact =
         ]
 
     follows : Follows (is_allowed y) 0 rows spans
-    follows = follows-first E left y 0 rows spans (λ b below. ap (λ k. E k b) same_column ∙ first.lowest b below) rises (λ k below. omega arith) within
-        (subst (λ k. in_stack left rows spans k y ≡ true) (sym same_column) has)
+    follows = search (rules, follows-first, same_column)
 
 -- the lowest cell of the leftmost column is covered by spans that begin in that column
 pub record StackedFirst (E : Field) (supply : Supply) (x y : ℕ) : Type 0 where
@@ -270,15 +213,9 @@ stacked_first E supply x y small first filling =
     record {
       piece = by.piece;
       some = by.some;
-      stacks = record {
-        place = form_at by.piece by.rotation;
-        known = form_within by.piece by.rotation;
-        stacks = over_first E x y by.piece by.rotation by.x by.rows (CanFill 8 (less_one supply by.piece)) first by.rises by.within by.has by.rest;
-      };
+      stacks = search (rules, form_within, over_first);
     }
 
 -- and where the spans of a piece stack so, the set can be filled
 pub fills_stacked : (E : Field) (supply : Supply) (piece : Piece) (x y : ℕ) → IsSmall 8 E → 0 < supply piece → StacksPiece (less_one supply piece) E x y piece → CanFill 8 supply E
-fills_stacked E supply piece x y small some s =
-    fills_chosen 8 E supply piece (rotation_at s.place) x 0 small some
-    (chosen (is_allowed y) (CanFill 8 (less_one supply piece)) E x 0 (form piece (rotation_at s.place)) (subst (λ spans. StacksOver (less_one supply piece) E x y 0 spans) (sym (form_of_place piece s.place s.known)) s.stacks))
+fills_stacked E supply piece x y small some s = search (rules, fills_chosen, chosen, form_of_place)

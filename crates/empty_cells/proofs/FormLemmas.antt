@@ -1,5 +1,5 @@
 -- The shape of a piece in a rotation, by its rows: which spans they are, and where the lowest row and the leftmost column lie.
-use Rattle.std.proofs.Common.{◌≡◌, ℕ, zero, suc, ◌+◌, ◌<◌, ◌≤◌, Bool, true, not, ◌&&◌, ◌||◌, ◌==◌, nat_lt, ℤ, pos, negsuc, ◌+ℤ◌, ◌-ℤ◌, List, [], ◌∷◌, ◌++◌, length, map, get_or, refl, sym, ap, ap₂, subst, ◌∙◌, inl, inr, arith}
+use Rattle.std.proofs.Common.{◌≡◌, ℕ, zero, suc, ◌+◌, ◌<◌, ◌≤◌, Bool, true, not, ◌&&◌, ◌||◌, ◌==◌, nat_lt, ℤ, pos, negsuc, ◌+ℤ◌, ◌-ℤ◌, List, [], ◌∷◌, ◌++◌, length, map, get_or, refl, sym, ap, ap₂, ◌∙◌, inl, inr, arith, rules}
 use Rattle.std.specs.Prelude.{int_lt}
 use Rattle.std.specs.List.{list_any, list_all, range_with_len}
 use Rattle.std.specs.Ordering.{int_eq}
@@ -10,7 +10,7 @@ use Rattle.std.proofs.lemmas.Bool.{and_parts, and_from, or_cases, or_left, or_ri
 use Rattle.std.proofs.lemmas.Int.{ints}
 use Rattle.std.proofs.Math.Bool.{and-or_distrib_right}
 use Rattle.srs.specs.declared.piece.Piece.{Piece}
-use Rattle.srs.specs.declared.piece.Piece.TheVariants.{I, L, O, Z, T, J, S}
+use Rattle.srs.specs.declared.piece.Piece.TheVariants.{I, O, Z, S}
 use Rattle.srs.specs.declared.rotation.Rotation.{Rotation}
 use Rattle.srs.specs.declared.rotation.Rotation.TheVariants.{Spawn, Right, Reverse, Left}
 use Rattle.srs.specs.Cells.{Cell, minus, shape}
@@ -128,13 +128,7 @@ rotation_at (suc (suc zero)) = Reverse
 rotation_at (suc (suc (suc _))) = Left
 
 form_found : (piece : Piece) → list_all (λ i. form_at piece (rotation_at i) == i) (range_with_len 0 (length (forms_of piece))) ≡ true
-form_found I = refl
-form_found L = refl
-form_found O = refl
-form_found Z = refl
-form_found T = refl
-form_found J = refl
-form_found S = refl
+form_found piece = search rules
 
 at_within : (piece : Piece) (rotation : Rotation) → nat_lt (form_at piece rotation) (length (forms_of piece)) ≡ true
 at_within = each_state (λ p r. nat_lt (form_at p r) (length (forms_of p))) refl
@@ -167,32 +161,17 @@ pub stack_by_places : (x : ℕ) (rows : ℕ → ℕ) (spans : List Span) (a b : 
 unfolding in_stack places_of
 stack_by_places x rows [] a b = refl
 stack_by_places x rows (span ∷ spans) a b =
-    ap₂ ◌||◌
-    (sym (any_map (at_place x rows a b) (λ c. (c, 0)) (columns_of span) ∙ any_and (λ c. x + c == a) (rows 0 == b) (columns_of span)))
-    (stack_by_places x (λ k. rows (suc k)) spans a b ∙ sym (any_map (at_place x rows a b) (λ (p : ℕ × ℕ). (p.0, suc p.1)) (places_of spans)))
-    ∙ sym (list_any-append (at_place x rows a b) (map (λ c. (c, 0)) (columns_of span)) (map (λ (p : ℕ × ℕ). (p.0, suc p.1)) (places_of spans)))
+    search (rules, any_map, any_and, list_any-append, (stack_by_places x (λ k. rows (suc k)) spans a b))
 
 -- a test that passes at a place passes where that place is among others
 found_place : (test : ℕ × ℕ → Bool) (p : ℕ × ℕ) (qs : List (ℕ × ℕ)) → test p ≡ true → list_any (place_eq p) qs ≡ true → list_any test qs ≡ true
 found_place test p [] passes among = absurd (false≢true among)
-found_place test p (q ∷ qs) passes among = elim (or_cases (place_eq p q) _ among) [
-  | inl here ↦
-      let parts = and_parts (p.0 == q.0) (p.1 == q.1) here in
-      let column = eqb-true p.0 q.0 parts.0 in
-      let row = eqb-true p.1 q.1 parts.1 in
-      let same : p ≡ q = λ i. (column i, row i) in
-      or_left (test q) _ (sym (ap test same) ∙ passes)
-  | inr later ↦ or_right (test q) _ (found_place test p qs passes later)
-]
+found_place test p (q ∷ qs) passes among =
+    search (rules, or_cases, and_parts, eqb-true, or_left, or_right, (found_place test p qs passes))
 
 any_among : (test : ℕ × ℕ → Bool) (ps qs : List (ℕ × ℕ)) → all_among ps qs ≡ true → list_any test ps ≡ true → list_any test qs ≡ true
 any_among test [] qs all some = absurd (false≢true some)
-any_among test (p ∷ ps) qs all some =
-    let parts = and_parts (list_any (place_eq p) qs) (all_among ps qs) all in
-    elim (or_cases (test p) _ some) [
-      | inl here ↦ found_place test p qs here parts.0
-      | inr later ↦ any_among test ps qs parts.1 later
-    ]
+any_among test (p ∷ ps) qs all some = search (rules, and_parts, or_cases, found_place, (any_among test ps qs))
 
 -- cells that are sent, by their places
 sent_by_places : (place : Cell → ℕ × ℕ) (move : ℤ) (row : ℤ → ℕ) (x : ℕ) (rows : ℕ → ℕ) (a b : ℕ) (cells : List Cell) →
@@ -200,14 +179,11 @@ sent_by_places : (place : Cell → ℕ × ℕ) (move : ℤ) (row : ℤ → ℕ) 
     is_among (map (sent move row) cells) (pos a, pos b) ≡ list_any (at_place x rows a b) (map place cells)
 unfolding is_among
 sent_by_places place move row x rows a b [] each = refl
-sent_by_places place move row x rows a b (c ∷ cells) each = ap₂ ◌||◌
-    (each c (has_cell-head c cells))
-    (sent_by_places place move row x rows a b cells (λ d has. each d (or_right (cell_eq c d) _ has)))
+sent_by_places place move row x rows a b (c ∷ cells) each =
+    search (rules, has_cell-head, or_right, (sent_by_places place move row x rows a b cells))
 
 pub int_eq-pos : (m n : ℕ) → int_eq (pos m) (pos n) ≡ (m == n)
-int_eq-pos m n = same_from_both _ _
-    (λ e. let same : pos m ≡ pos n = (Decides-int_eq (pos m) (pos n)).0 e in eq-eqb m n (omega (arith, ints)))
-    (λ e. (Decides-int_eq (pos m) (pos n)).1 (ap pos (eqb-true m n e)))
+int_eq-pos m n = search (rules, same_from_both, Decides-int_eq, eq-eqb, eqb-true)
 
 -- Columns and rows to which a shape is sent, and those of its spans.
 pub record Matches (piece : Piece) (rotation : Rotation) (move : ℤ) (row : ℤ → ℕ) (x : ℕ) (rows : ℕ → ℕ) : Type 0 where
@@ -242,10 +218,7 @@ same_cells piece rotation move row x rows matches a b =
 pub some_cell : (test : Cell → Bool) (cells : List Cell) → list_any test cells ≡ true → (c : Cell) × (is_among cells c ≡ true) × (test c ≡ true)
 unfolding is_among
 some_cell test [] some = absurd (false≢true some)
-some_cell test (c ∷ cells) some = elim (or_cases (test c) _ some) [
-  | inl here ↦ (c, has_cell-head c cells, here)
-  | inr later ↦ let found = some_cell test cells later in (found.0, or_right (cell_eq c found.0) _ found.1, found.2)
-]
+some_cell test (c ∷ cells) some = search (rules, or_cases, has_cell-head, or_right, (some_cell test cells))
 
 -- a cell in the leftmost column of a shape
 pub left_cell : (piece : Piece) (rotation : Rotation) → (c : Cell) × (is_among (shape piece rotation) c ≡ true) × (c.0 ≡ leftmost piece rotation)
@@ -268,18 +241,13 @@ left_in_stack piece rotation x rows =
 
 right_of : (columns : List ℕ) (x a : ℕ) → list_any (λ column. x + column == a) columns ≡ true → x ≤ a
 right_of [] x a some = absurd (false≢true some)
-right_of (c ∷ columns) x a some = elim (or_cases (x + c == a) _ some) [
-  | inl here ↦ let same : x + c ≡ a = eqb-true _ _ here in omega arith
-  | inr later ↦ right_of columns x a later
-]
+right_of (c ∷ columns) x a some = search (rules, or_cases, eqb-true, (right_of columns x a))
 
 pub stack_right_of : (x : ℕ) (rows : ℕ → ℕ) (spans : List Span) (a b : ℕ) → in_stack x rows spans a b ≡ true → x ≤ a
 unfolding in_stack
 stack_right_of x rows [] a b here = absurd (false≢true here)
-stack_right_of x rows (span ∷ spans) a b here = elim (or_cases (list_any (λ column. x + column == a) (columns_of span) && (rows 0 == b)) _ here) [
-  | inl first ↦ right_of (columns_of span) x a (and_parts (list_any (λ column. x + column == a) (columns_of span)) _ first).0
-  | inr later ↦ stack_right_of x (λ k. rows (suc k)) spans a b later
-]
+stack_right_of x rows (span ∷ spans) a b here =
+    search (rules, or_cases, right_of, and_parts, (stack_right_of x (λ k. rows (suc k)) spans a b))
 
 level_rise : (piece : Piece) (rotation : Rotation) (c d : Cell) → is_among (shape piece rotation) c ≡ true → is_among (shape piece rotation) d ≡ true → level_rises piece rotation c d ≡ true
 unfolding rises_in
@@ -300,8 +268,7 @@ level_up piece rotation c d has_c has_d up =
 
 -- the row rises with the level
 pub row_up : (piece : Piece) (rotation : Rotation) (c d : Cell) → is_among (shape piece rotation) c ≡ true → is_among (shape piece rotation) d ≡ true → level piece rotation c < level piece rotation d → int_lt c.1 d.1 ≡ true
-row_up piece rotation c d has_c has_d up =
-    implied (nat_lt (level piece rotation c) (level piece rotation d)) _ (lt-ltb _ _ up) (and_parts (not (int_lt c.1 d.1) || nat_lt (level piece rotation c) (level piece rotation d)) _ (level_rise piece rotation c d has_c has_d)).1
+row_up piece rotation c d has_c has_d up = search (rules, implied, lt-ltb, and_parts, level_rise)
 
 -- a cell at a level
 pub cell_at_level : (piece : Piece) (rotation : Rotation) (k : ℕ) → k < length (form piece rotation) → (c : Cell) × (is_among (shape piece rotation) c ≡ true) × (level piece rotation c ≡ k)
@@ -323,6 +290,4 @@ form_within piece rotation = ltb-true _ _ (at_within piece rotation)
 
 pub form_of_place : (piece : Piece) (i : ℕ) → i < length (forms_of piece) → form piece (rotation_at i) ≡ get_or (forms_of piece) i []
 form_of_place piece i below =
-    let test = list_all_each (λ i. form_at piece (rotation_at i) == i) (range_with_len 0 (length (forms_of piece))) i 0 (form_found piece) (omega (arith, length-range_with_len 0 (length (forms_of piece)))) in
-    let here : get_or (range_with_len 0 (length (forms_of piece))) i 0 ≡ i = get_or-range_with_len 0 (length (forms_of piece)) i 0 below ∙ omega arith in
-    ap (λ k. get_or (forms_of piece) k []) (subst (λ k. form_at piece (rotation_at k) ≡ k) here (eqb-true _ _ test))
+    search (rules, list_all_each, form_found, length-range_with_len, get_or-range_with_len, eqb-true)

@@ -1,8 +1,7 @@
 -- The empty cells of a well, found row by row: the ten cells of a row are set eight bits apart.
-use Rattle.std.proofs.Common.{◌≡◌, ℕ, zero, suc, ◌+◌, ◌-◌, ◌*◌, ◌/◌, ◌%◌, ◌^◌, ◌<◌, ◌≤◌, Bool, true, false, not, ◌&&◌, ◌||◌, ◌==◌, nat_lt, bit_and, bit_or, bit_xor, refl, ap, ap₂, ◌∙◌, sym, inl, inr, arith}
+use Rattle.std.proofs.Common.{◌≡◌, ℕ, zero, suc, ◌+◌, ◌-◌, ◌*◌, ◌/◌, ◌%◌, ◌^◌, ◌<◌, ◌≤◌, Bool, true, false, not, ◌&&◌, ◌||◌, ◌==◌, nat_lt, bit_and, bit_or, bit_xor, refl, ap, ap₂, ◌∙◌, sym, inl, inr, arith, rules}
 use Rattle.std.proofs.Math.Path.{fun_ext}
 use Rattle.std.proofs.lemmas.Bool.{agree_below, agree_below_at, and_left, and_right, and_parts, cases_eq, cases_lt, eq-eqb, eqb-true, le-ltb, lt-ltb, ne_eqb}
-use Rattle.std.proofs.lemmas.Bool.Decides.{nat_tests}
 use Rattle.std.proofs.lemmas.Nat.{and_le_l, mul-le, or_lt, pow_below, xor_lt}
 use Rattle.lane_board.specs.Field.{Field, rows_below, difference}
 use Rattle.lane_board.specs.Lanes.{has_bit}
@@ -55,10 +54,7 @@ pub record IsFound (F : Field) (cells y : ℕ) : Type 0 where
   pub bits : (a b : ℕ) → a ≤ 9 → b < 8 → has_bit cells (8 * a + b) ≡ (nat_lt b y && not (F a b))
 
 pub found-start : (F : Field) → IsFound F 0 0
-found-start F = record {
-  small = omega arith;
-  bits = λ a b _ _. has_bit-zero (8 * a + b) ∙ sym (and_left _ _ (le-ltb b 0 (omega arith)));
-}
+found-start F = search (rules, has_bit-zero, and_left, le-ltb)
 
 -- the cells of a row, moved up to their row
 module _ (s : ℕ) (has : ℕ → Bool) (bits : (x y : ℕ) → x ≤ 9 → y < 8 → has_bit s (8 * x + y) ≡ ((y == 0) && has x)) where
@@ -75,22 +71,14 @@ module _ (s : ℕ) (has : ℕ → Bool) (bits : (x y : ℕ) → x ≤ 9 → y < 
   raised-bits : (y a b : ℕ) → y < 8 → a ≤ 9 → b < 8 → has_bit (s * 2 ^ y) (8 * a + b) ≡ ((b == y) && has a)
   raised-bits y a b row column low = elim (cases_lt b y) [
     | inl below ↦ none_below y a b row column below ∙ sym (and_left _ _ (ne_eqb b y (omega arith)))
-    | inr from ↦
-        has_bit-shifted_high s y (8 * a + b) (omega arith)
-        ∙ ap (has_bit s) {x = 8 * a + b - y} {y = 8 * a + (b - y)} (omega arith)
-        ∙ bits a (b - y) column (omega arith)
-        ∙ ap (λ t. t && has a) (same_row from)
+    | inr from ↦ search (rules, has_bit-shifted_high, same_row)
   ]
     where
       same_row : y ≤ b → (b - y == 0) ≡ (b == y)
-      same_row from = elim (cases_eq b y) [
-        | inl same ↦ eq-eqb (b - y) 0 (omega arith) ∙ sym (eq-eqb b y same)
-        | inr other ↦ ne_eqb (b - y) 0 (λ e. other (omega arith)) ∙ sym (ne_eqb b y other)
-      ]
+      same_row from = search (rules, cases_eq, eq-eqb, ne_eqb)
 
 one_more : (b y : ℕ) (p : Bool) → ((nat_lt b y && p) || ((b == y) && p)) ≡ (nat_lt b (y + 1) && p)
-one_more b y true = grind (arith, nat_tests)
-one_more b y false = grind (arith, nat_tests)
+one_more b y p = search rules
 
 pub found-next : (F : Field) (cells s y : ℕ) → y < 8 → s < 2 ^ 73 →
     ((a b : ℕ) → a ≤ 9 → b < 8 → has_bit s (8 * a + b) ≡ ((b == 0) && not (F a y))) →
@@ -104,10 +92,7 @@ found-next F cells s y row small bits found = record {
 }
   where
     seven : 2 ^ y ≤ 2 ^ 7
-    seven = elim (cases_lt y 7) [
-      | inl less ↦ omega (arith, pow_below y 7 less)
-      | inr last ↦ omega (arith, ap (λ k. 2 ^ k) {x = y} {y = 7} (omega arith))
-    ]
+    seven = search (rules, cases_lt, pow_below)
 
     raised_small : s * 2 ^ y < 2 ^ 80
     raised_small = omega (arith, small, mul-le s (2 ^ y) s (2 ^ 7) (omega arith) seven)
@@ -116,10 +101,7 @@ found-next F cells s y row small bits found = record {
     whole = omega (arith, raised_small)
 
     in_row : (a b : ℕ) → ((b == y) && not (F a y)) ≡ ((b == y) && not (F a b))
-    in_row a b = elim (cases_eq b y) [
-      | inl same ↦ ap (λ r. (b == y) && not (F a r)) (sym same)
-      | inr other ↦ and_left _ _ (ne_eqb b y other) ∙ sym (and_left _ _ (ne_eqb b y other))
-    ]
+    in_row a b = search (rules, cases_eq, and_left, ne_eqb)
 
 -- the bits of a row that is empty where the well's is filled
 pub empty_bits : (row x : ℕ) → x ≤ 9 → has_bit (bit_xor 1023 (bit_and 1023 row)) x ≡ not (has_bit row x)
@@ -136,9 +118,6 @@ empty-small row = xor_lt 10 1023 (bit_and 1023 row) (omega arith) (omega (arith,
 pub found-all : (F : Field) (rows y : ℕ) (e : Empties) → rows ≤ 8 → y ≡ rows → IsFound F e.cells y → empty_cells e ≡ difference (rows_below rows) F
 unfolding empty_cells difference rows_below
 found-all F rows y e few last found = fun_ext (λ a. fun_ext (λ b. elim (cases_lt a 10) [
-  | inl near ↦ elim (cases_lt b 8) [
-    | inl low ↦ ap₂ ◌&&◌ (lt-ltb b 8 low) (found.bits a b (omega arith) low ∙ ap (λ k. nat_lt b k && not (F a b)) last) ∙ ap (λ t. (t && nat_lt b rows) && not (F a b)) (sym (lt-ltb a 10 near))
-    | inr high ↦ and_left _ _ (le-ltb b 8 high) ∙ sym (and_left _ _ (and_right _ _ (le-ltb b rows (omega arith))))
-  ]
+  | inl near ↦ search (rules, cases_lt, lt-ltb, and_left, le-ltb, and_right)
   | inr far ↦ and_right _ _ (has_bit-past e.cells 80 (8 * a + b) e.in_columns (omega arith)) ∙ sym (and_left _ _ (and_left _ _ (le-ltb a 10 far)))
 ]))

@@ -1,5 +1,5 @@
 -- The test of a tiling is true exactly where one exists.
-use Rattle.std.proofs.Common.{◌≡◌, ℕ, zero, suc, ◌+◌, ◌-◌, ◌<◌, ◌≤◌, Bool, true, false, not, ◌&&◌, ◌==◌, nat_lt, nat_le, List, [], ◌∷◌, length, get_or, ◌↔◌, refl, sym, ap, subst, ◌∙◌, inl, inr, arith}
+use Rattle.std.proofs.Common.{◌≡◌, ℕ, zero, suc, ◌+◌, ◌-◌, ◌<◌, ◌≤◌, Bool, true, false, not, ◌&&◌, nat_lt, nat_le, List, [], ◌∷◌, length, get_or, ◌↔◌, refl, sym, ap, subst, ◌∙◌, inl, inr, arith, rules}
 use Rattle.std.specs.Prelude.{sum_by}
 use Rattle.std.specs.List.{list_any, list_all, range_with_len}
 use Rattle.std.proofs.lemmas.Bool.{cases_Bool, both_ways, and_parts, and_from, and_cases, or_cases, or_left, or_right, not-true, not-false, false≢true, true≢false, false_from_ne_true, leb-true, le-leb, ltb-true, lt-ltb}
@@ -9,7 +9,7 @@ use Rattle.lane_board.specs.Field.{Field, rows_below, difference}
 use Rattle.lane_board.specs.FullRows.{columns}
 use Rattle.lane_board.proofs.CallerLemmas.{same_from_both, column_is}
 use Rattle.srs.specs.declared.piece.Piece.{Piece}
-use Rattle.srs.specs.declared.piece.Piece.TheVariants.{I, L, O, Z, T, J, S}
+use Rattle.srs.specs.declared.piece.Piece.TheVariants.{I}
 use Rattle.srs.specs.Piece.{all_pieces, piece_code}
 use Rattle.srs.proofs.CallerLemmas.{list_all_each, piece_code-some, piece_code-small}
 use Rattle.prune.specs.Tiling.{Tiling, Supply}
@@ -70,17 +70,11 @@ some_cell height E some =
     (get_or columns column.0 0, get_or (range_with_len 0 height) row.0 0, not-false _ row.2)
 
 smaller : (height : ℕ) (E : Field) (x row : ℕ) (span : Span) → IsSmall height E → IsSmall height (without_span E x span row)
-smaller height E x row span small = record {
-  column = λ a b here. small.column a b (was_there E x span row a b here);
-  row = λ a b here. small.row a b (was_there E x span row a b here);
-}
+smaller height E x row span small = search (rules, was_there)
 
 smaller_by_stack : (height : ℕ) (E : Field) (x : ℕ) (rows : ℕ → ℕ) (spans : List Span) → IsSmall height E → IsSmall height (without_stack E x rows spans)
 unfolding without_stack
-smaller_by_stack height E x rows spans small = record {
-  column = λ a b here. small.column a b (and_parts (E a b) _ here).0;
-  row = λ a b here. small.row a b (and_parts (E a b) _ here).0;
-}
+smaller_by_stack height E x rows spans small = search (rules, and_parts)
 
 -- any row may be taken
 abbrev Any : ℕ → Span → ℕ → Bool
@@ -131,13 +125,7 @@ fill-from_test (suc n) height supply E small passes = elim (or_cases (is_empty h
 ]
 
 some_in_total : (supply : Supply) (piece : Piece) → supply piece ≤ total supply
-some_in_total supply I = omega arith
-some_in_total supply L = omega arith
-some_in_total supply O = omega arith
-some_in_total supply Z = omega arith
-some_in_total supply T = omega arith
-some_in_total supply J = omega arith
-some_in_total supply S = omega arith
+some_in_total supply piece = search rules
 
 pub test-from_fill : (n height : ℕ) (supply : Supply) (E : Field) → total supply ≤ n → IsSmall height E → CanFill height supply E → can_fill n height supply E ≡ true
 unfolding can_fill
@@ -174,27 +162,16 @@ sum_is_total supply = omega arith
 
 below_small : (F : Field) (rows : ℕ) → IsSmall rows (difference (rows_below rows) F)
 unfolding difference rows_below
-below_small F rows = record {
-  column = λ a b here. ltb-true a 10 (and_parts (nat_lt a 10) (nat_lt b rows) (and_parts (nat_lt a 10 && nat_lt b rows) (not (F a b)) here).0).0;
-  row = λ a b here. ltb-true b rows (and_parts (nat_lt a 10) (nat_lt b rows) (and_parts (nat_lt a 10 && nat_lt b rows) (not (F a b)) here).0).1;
-}
+below_small F rows = search (rules, ltb-true, and_parts)
 
 -- the test of a tiling
 pub tiling_decided : (F : Field) (rows : ℕ) (supply : Supply) → (has_tiling F rows supply ≡ true) ↔ Tiling F rows supply
 unfolding has_tiling
-tiling_decided F rows supply =
-    let both = tiling_below F rows rows supply (omega arith) in
-    let E = difference (rows_below rows) F in
-    let n = sum_by supply all_pieces in (
-      λ passes. both.0 (fill-from_test n rows supply E (below_small F rows) passes),
-      λ t. test-from_fill n rows supply E (omega (arith, sum_is_total supply)) (below_small F rows) (both.1 t),
-    )
+tiling_decided F rows supply = search (rules, tiling_below, fill-from_test, below_small, test-from_fill, sum_is_total)
 
 -- an answer that is right is that of the test, and one that is that of the test is right
 pub answer-from_right : (answer : Bool) (F : Field) (rows : ℕ) (supply : Supply) → (answer ≡ true) ↔ Tiling F rows supply → answer ≡ has_tiling F rows supply
-answer-from_right answer F rows supply right = let test = tiling_decided F rows supply in
-    same_from_both _ _ (λ e. test.1 (right.0 e)) (λ e. right.1 (test.0 e))
+answer-from_right answer F rows supply right = search (rules, tiling_decided, same_from_both)
 
 pub right-from_answer : (answer : Bool) (F : Field) (rows : ℕ) (supply : Supply) → answer ≡ has_tiling F rows supply → (answer ≡ true) ↔ Tiling F rows supply
-right-from_answer answer F rows supply same = let test = tiling_decided F rows supply in
-    (λ e. test.0 (sym same ∙ e), λ t. same ∙ test.1 t)
+right-from_answer answer F rows supply same = search (rules, tiling_decided)

@@ -1,5 +1,5 @@
 -- The bits of a set whose columns are counted from the right, and the tilings of such a set.
-use Rattle.std.proofs.Common.{◌≡◌, ◌↔◌, ℕ, ◌+◌, ◌-◌, ◌*◌, ◌%◌, ◌^◌, ◌<◌, ◌≤◌, false, not, ◌&&◌, ◌||◌, nat_lt, bit_or, pos, negsuc, refl, sym, ap, subst, ◌∙◌, inl, inr, arith}
+use Rattle.std.proofs.Common.{◌≡◌, ◌↔◌, ℕ, ◌+◌, ◌-◌, ◌*◌, ◌%◌, ◌^◌, ◌<◌, ◌≤◌, false, ◌||◌, bit_or, sym, ap, subst, ◌∙◌, inl, inr, arith, rules}
 use Rattle.std.proofs.Math.Path.{fun_ext}
 use Rattle.std.proofs.lemmas.Bool.{and_left, cases_lt, le-ltb, lt-ltb}
 use Rattle.std.proofs.lemmas.Nat.{or_lt, pow-add, pow_below, pow_pos}
@@ -53,10 +53,7 @@ turned-next E cells x rows near small here t = record {
 
 pub turned-all : (E : Field) (e : Empties) (x : ℕ) → x ≡ 10 → IsTurned E e.cells x → ((a b : ℕ) → 8 ≤ b → E a b ≡ false) → (a b : ℕ) → a ≤ 9 → empty_cells e a b ≡ E (9 - a) b
 unfolding empty_cells
-turned-all E e x last t none a b near = elim (cases_lt b 8) [
-  | inl low ↦ ap (λ p. p && has_bit e.cells (8 * a + b)) (lt-ltb b 8 low) ∙ t.bits a b (omega arith) low ∙ ap (λ k. E k b) {x = x - 1 - a} {y = 9 - a} (omega arith)
-  | inr high ↦ and_left _ _ (le-ltb b 8 high) ∙ sym (none (9 - a) b high)
-]
+turned-all E e x last t none a b near = search (rules, cases_lt, lt-ltb, and_left, le-ltb)
 
 pub none_above : (e : Empties) (a b : ℕ) → 8 ≤ b → empty_cells e a b ≡ false
 unfolding empty_cells
@@ -69,13 +66,7 @@ turned-small E cells x last t = omega (arith, t.small, ap (λ k. 2 ^ (8 * k)) la
 module _ (E G : Field) (turned : (x y : ℕ) → x ≤ 9 → G x y ≡ E (9 - x) y) where
   shown : (cell : Cell) → is_empty_below (mirrored (all_but E)) 8 cell ≡ is_empty_below (all_but G) 8 cell
   unfolding is_empty_below mirrored all_but rows_below
-  shown (pos x, pos y) = elim (cases_lt x 10) [
-    | inl near ↦ ap (λ b. (nat_lt x 10 && nat_lt y 8) && not (not b)) (sym (turned x y (omega arith)))
-    | inr far ↦ and_left _ _ (and_left _ _ (le-ltb x 10 far)) ∙ sym (and_left _ _ (and_left _ _ (le-ltb x 10 far)))
-  ]
-  shown (pos x, negsuc y) = refl
-  shown (negsuc x, pos y) = refl
-  shown (negsuc x, negsuc y) = refl
+  shown cell = search (rules, cases_lt, and_left, le-ltb)
 
   to_mirror : (supply : Supply) → Tiling (all_but E) 8 supply → Tiling (all_but G) 8 (mirrored_supply supply)
   to_mirror supply t = same_tiling (mirrored (all_but E)) (all_but G) 8 8 (mirrored_supply supply) shown (tiling_mirrored (all_but E) 8 supply t)

@@ -1,5 +1,5 @@
 -- A set and the same with its columns counted from another one: a tiling of one, moved, is a tiling of the other.
-use Rattle.std.proofs.Common.{◌≡◌, ◌↔◌, ℕ, ◌+◌, ◌-◌, ◌<◌, false, cond, ◌&&◌, ◌==◌, List, [], ◌∷◌, ◌++◌, map, ℤ, pos, negsuc, ◌+ℤ◌, neg_ℤ, refl, sym, ap, ap₂, ◌∙◌, inl, inr, arith}
+use Rattle.std.proofs.Common.{◌≡◌, ◌↔◌, ℕ, ◌<◌, false, cond, ◌&&◌, List, [], ◌∷◌, map, ℤ, pos, negsuc, ◌+ℤ◌, neg_ℤ, refl, sym, ap, ◌∙◌, arith, rules}
 use Rattle.std.proofs.Math.Path.{fun_ext}
 use Rattle.std.specs.Prelude.{All, count_by}
 use Rattle.std.specs.List.{flat_map}
@@ -13,8 +13,7 @@ use Rattle.std.proofs.lemmas.List.Elements.{All-cons, All-head, All-nil, All-tai
 use Rattle.std.proofs.lemmas.List.Sums.{sum_by-cons}
 use Rattle.lane_board.specs.Field.{Field}
 use Rattle.lane_board.proofs.CallerLemmas.{same_from_both}
-use Rattle.srs.specs.Piece.{piece_code}
-use Rattle.srs.specs.Cells.{Cell, shape}
+use Rattle.srs.specs.Cells.{Cell}
 use Rattle.srs.specs.SameCells.{cell_eq}
 use Rattle.prune.specs.Tiling.{IsGeneralized, Part, Supply, Tiling, covers, is_empty_below, parts_of, sent}
 use Rattle.empty_cells.specs.Empties.{all_but}
@@ -33,19 +32,11 @@ moved_part k part = record { piece = part.piece; cells = map (moved_cell k) part
 moved_sent : (k move : ℤ) (row : ℤ → ℕ) (cells : List Cell) → map (moved_cell k) (map (sent move row) cells) ≡ map (sent (move +ℤ k) row) cells
 unfolding moved_cell sent
 moved_sent k move row [] = refl
-moved_sent k move row (cell ∷ cells) =
-    let column : (cell.0 +ℤ move) +ℤ k ≡ cell.0 +ℤ (move +ℤ k) = omega (arith, ints) in
-    ap₂ {A = Cell} {B = List Cell} (λ c cs. c ∷ cs) (λ i. (column i, pos (row cell.1))) (moved_sent k move row cells)
+moved_sent k move row (cell ∷ cells) = search (rules, (moved_sent k move row cells))
 
 moved_generalized : (k : ℤ) (part : Part) → IsGeneralized part → IsGeneralized (moved_part k part)
 unfolding moved_part
-moved_generalized k part is = record {
-  rotation = is.rotation;
-  move = is.move +ℤ k;
-  row = is.row;
-  rising = is.rising;
-  cells = ap (map (moved_cell k)) is.cells ∙ moved_sent k is.move is.row (shape part.piece is.rotation);
-}
+moved_generalized k part is = search (rules, moved_sent)
 
 all_generalized : (k : ℤ) (parts : List Part) → All IsGeneralized parts → All IsGeneralized (map (moved_part k) parts)
 all_generalized k [] all = All-nil IsGeneralized
@@ -62,24 +53,12 @@ moved_eq k c cell = ap (λ b. b && int_eq c.1 cell.1) (same_from_both (int_eq (c
 
 count_moved : (k : ℤ) (cell : Cell) (cells : List Cell) → count_by (λ c. cell_eq c cell) (map (moved_cell (neg_ℤ k)) cells) ≡ count_by (λ c. cell_eq c (moved_cell k cell)) cells
 count_moved k cell [] = refl
-count_moved k cell (c ∷ cells) =
-    let here : ◌≡◌ {A = ℕ} (cond (cell_eq (moved_cell (neg_ℤ k) c) cell) 1 0) (cond (cell_eq c (moved_cell k cell)) 1 0) = ap (λ b. cond b 1 0) (moved_eq k c cell) in
-    omega (
-      arith,
-      sum_by-cons (λ c. cond (cell_eq c cell) 1 0) (moved_cell (neg_ℤ k) c) (map (moved_cell (neg_ℤ k)) cells),
-      sum_by-cons (λ c. cond (cell_eq c (moved_cell k cell)) 1 0) c cells,
-      here,
-      count_moved k cell cells,
-    )
+count_moved k cell (c ∷ cells) = search (rules, moved_eq, sum_by-cons, (count_moved k cell cells))
 
 cells_moved : (k : ℤ) (parts : List Part) → flat_map (λ part. part.cells) (map (moved_part k) parts) ≡ map (moved_cell k) (flat_map (λ part. part.cells) parts)
 unfolding moved_part
 cells_moved k [] = refl
-cells_moved k (part ∷ parts) =
-    flat_map-cons (λ part. part.cells) (moved_part k part) (map (moved_part k) parts)
-    ∙ ap (λ cells. map (moved_cell k) part.cells ++ cells) (cells_moved k parts)
-    ∙ sym (map-append (moved_cell k) part.cells (flat_map (λ part. part.cells) parts))
-    ∙ ap (map (moved_cell k)) (sym (flat_map-cons (λ part. part.cells) part parts))
+cells_moved k (part ∷ parts) = search (rules, flat_map-cons, map-append, (cells_moved k parts))
 
 covers_moved : (k : ℤ) (parts : List Part) (cell : Cell) → covers (map (moved_part (neg_ℤ k)) parts) cell ≡ covers parts (moved_cell k cell)
 unfolding covers
@@ -92,12 +71,7 @@ kinds_moved k parts = fun_ext (λ piece. each parts piece)
   where
     each : (parts : List Part) → (piece : _) → parts_of (map (moved_part k) parts) piece ≡ parts_of parts piece
     each [] piece = refl
-    each (part ∷ parts) piece = omega (
-      arith,
-      sum_by-cons (λ part. cond (piece_code part.piece == piece_code piece) 1 0) (moved_part k part) (map (moved_part k) parts),
-      sum_by-cons (λ part. cond (piece_code part.piece == piece_code piece) 1 0) part parts,
-      each parts piece,
-    )
+    each (part ∷ parts) piece = search (rules, sum_by-cons, (each parts piece))
 
 -- where the cells of one field are those of another that far to the right, a tiling moves from there
 moved_tiling : (F G : Field) (k : ℤ) (supply : Supply) → ((cell : Cell) → is_empty_below F 8 cell ≡ is_empty_below G 8 (moved_cell k cell)) → Tiling G 8 supply → Tiling F 8 supply
@@ -110,36 +84,17 @@ moved_tiling F G k supply same t = record {
 
 no_row : (F : Field) (column : ℤ) (b : ℕ) → is_empty_below F 8 (column, negsuc b) ≡ false
 unfolding is_empty_below
-no_row F (pos a) b = refl
-no_row F (negsuc a) b = refl
+no_row F column b = search rules
 
 no_column : (F : Field) (a b : ℕ) → is_empty_below F 8 (negsuc a, pos b) ≡ false
 unfolding is_empty_below
 no_column F a b = refl
 
 module _ (E : Field) (x : ℕ) (small : IsSmall 8 E) (none : (a b : ℕ) → a < x → E a b ≡ false) where
-  small_from : IsSmall 8 (from_column x E)
-  unfolding from_column
-  small_from = record {
-    column = λ a b here. let near = small.column (x + a) b here in omega (arith, near);
-    row = λ a b here. small.row (x + a) b here;
-  }
-
   -- the cells that are empty
   same_empty : (cell : Cell) → is_empty_below (all_but (from_column x E)) 8 cell ≡ is_empty_below (all_but E) 8 (moved_cell (pos x) cell)
   unfolding moved_cell from_column
-  same_empty (pos a, pos b) =
-      let column : pos (x + a) ≡ pos a +ℤ pos x = omega (arith, ints) in
-      empty_is 8 (from_column x E) a b small_from ∙ sym (empty_is 8 E (x + a) b small) ∙ ap (λ z. is_empty_below (all_but E) 8 (z, pos b)) column
-  same_empty (negsuc a, pos b) = no_column (all_but (from_column x E)) a b ∙ sym (elim (cases_lt a x) [
-    | inl near ↦
-        let column : negsuc a +ℤ pos x ≡ pos (x - a - 1) = omega (arith, ints) in
-        ap (λ z. is_empty_below (all_but E) 8 (z, pos b)) column ∙ empty_is 8 E (x - a - 1) b small ∙ none (x - a - 1) b (omega arith)
-    | inr far ↦
-        let column : negsuc a +ℤ pos x ≡ negsuc (a - x) = omega (arith, ints) in
-        ap (λ z. is_empty_below (all_but E) 8 (z, pos b)) column ∙ no_column (all_but E) (a - x) b
-  ])
-  same_empty (column, negsuc b) = no_row (all_but (from_column x E)) column b ∙ sym (no_row (all_but E) (column +ℤ pos x) b)
+  same_empty cell = search (rules, empty_is, no_column, cases_lt, no_row)
 
   same_back : (cell : Cell) → is_empty_below (all_but E) 8 cell ≡ is_empty_below (all_but (from_column x E)) 8 (moved_cell (neg_ℤ (pos x)) cell)
   unfolding moved_cell
@@ -157,10 +112,4 @@ module _ (E : Field) (x : ℕ) (small : IsSmall 8 E) (none : (a b : ℕ) → a <
 -- the first cell, its column counted from itself
 pub first_moved : (E : Field) (x y : ℕ) → IsFirst E x y → IsFirst (from_column x E) 0 y
 unfolding from_column
-first_moved E x y first = record {
-  filled = ap (λ k. E k y) {x = x + 0} {y = x} (omega arith) ∙ first.filled;
-  column = omega arith;
-  row = first.row;
-  leftmost = λ a b left. absurd (omega (arith, left));
-  lowest = λ b below. ap (λ k. E k b) {x = x + 0} {y = x} (omega arith) ∙ first.lowest b below;
-}
+first_moved E x y first = search rules

@@ -1,5 +1,5 @@
 -- Pivots: each placement of a piece has a bit of its own.
-use Rattle.std.proofs.Common.{◌≡◌, ◌≢◌, ℕ, ◌+◌, ◌*◌, ◌/◌, ◌%◌, ◌^◌, ◌<◌, ◌≤◌, Bool, true, false, ◌&&◌, ◌||◌, ◌==◌, nat_lt, bit_or, List, length, replicate, set, get_or, refl, sym, ap, ap₂, ◌∙◌, inl, inr, arith}
+use Rattle.std.proofs.Common.{◌≡◌, ◌≢◌, ℕ, ◌+◌, ◌*◌, ◌/◌, ◌%◌, ◌^◌, ◌<◌, ◌≤◌, true, false, ◌&&◌, ◌||◌, ◌==◌, nat_lt, bit_or, List, length, replicate, set, get_or, sym, ap, ap₂, ◌∙◌, inl, inr, arith, rules}
 use Rattle.std.proofs.lemmas.Bool.{both_ways, cases_eq, cases_lt, and_parts, and_from, or_cases, or_left, or_right, eq-eqb, eqb-true, lt-ltb, ltb-true}
 use Rattle.std.proofs.lemmas.List.{get_or-replicate, get_or-set_same, get_or-set_other, get_or_past}
 use Rattle.lane_board.specs.Lanes.{has_bit}
@@ -72,30 +72,16 @@ module _ (p : Pivots) (whole : length p.rotations ≡ 8) (q : Placement) (column
       elim (cases_eq (word_of r) word) [
         | inl same ↦ elim (or_cases (has_bit (bits_at p.rotations r) (bit_of r)) _ (sym (bits_here r same reach.0 reach.1) ∙ parts.1)) [
           | inl old ↦ absurd (both_ways _ none (and_from _ _ parts.0 old))
-          | inr new ↦
-              let there : word_of r ≡ word_of q = same ∙ is_word in
-              let at : bit_of q ≡ bit_of r = sym is_bit ∙ eqb-true bit (bit_of r) new in
-              let x : r.x ≡ q.x = omega (arith, at, reach.0) in
-              let y : r.y ≡ q.y = omega (arith, at, there, reach.0, reach.1) in
-              let place : rotation_place r.rotation ≡ rotation_place q.rotation = omega (arith, there, reach.1) in
-              let rotation : r.rotation ≡ q.rotation = rotation_place-injective r.rotation q.rotation place in
-              λ i. record { piece = piece i; rotation = rotation i; x = x i; y = y i }
+          | inr new ↦ search (rules, eqb-true, rotation_place-injective)
         ]
         | inr other ↦ absurd (both_ways _ none (and_from _ _ parts.0 (sym (ap (λ n. has_bit n (bit_of r)) (bits_there r other)) ∙ parts.1)))
       ]
 
 -- no word of these has a bit
 pub no_words : (k : ℕ) → get_or {A = ℕ} (replicate 8 0) k 0 ≡ 0
-no_words k = elim (cases_lt k 8) [
-  | inl within ↦ get_or-replicate 8 k 0 0 within
-  | inr past ↦ get_or_past {X = ℕ} (replicate 8 0) k 0 past
-]
+no_words k = search (rules, cases_lt, get_or-replicate, get_or_past)
 
 -- words without a bit have no placement
 pub no_pivot : (words : List ℕ) (rotation : Rotation) (x y : ℕ) → get_or words (2 * rotation_place rotation + y / 4) 0 ≡ 0 → cells_of_words words (rotation_place rotation) x y ≡ false
 unfolding cells_of_words
-no_pivot words rotation x y none = and_none (nat_lt x 16 && nat_lt y 8) (ap (λ n. has_bit n (16 * (y % 4) + x)) none ∙ has_bit-zero (16 * (y % 4) + x))
-  where
-    and_none : {b : Bool} (a : Bool) → b ≡ false → (a && b) ≡ false
-    and_none true e = e
-    and_none false e = refl
+no_pivot words rotation x y none = search (rules, has_bit-zero)

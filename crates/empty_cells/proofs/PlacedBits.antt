@@ -1,5 +1,5 @@
 -- The bits of a shape, moved with its pivot, are those of the placement's cells.
-use Rattle.std.proofs.Common.{◌≡◌, ℕ, ◌+◌, ◌-◌, ◌*◌, ◌/◌, ◌%◌, ◌^◌, ◌<◌, ◌≤◌, Bool, true, false, ◌&&◌, ◌||◌, ◌==◌, nat_le, nat_lt, ℤ, pos, ◌+ℤ◌, ◌≤ℤ◌, nat_abs, bit_and, List, [], ◌∷◌, map, refl, sym, ap, ap₂, ◌∙◌, inl, inr, arith}
+use Rattle.std.proofs.Common.{◌≡◌, ℕ, ◌+◌, ◌*◌, ◌/◌, ◌%◌, ◌^◌, ◌<◌, ◌≤◌, Bool, true, false, ◌&&◌, ◌==◌, nat_le, nat_lt, ℤ, pos, ◌+ℤ◌, ◌≤ℤ◌, nat_abs, bit_and, List, [], ◌∷◌, map, refl, sym, ◌∙◌, inl, inr, arith, rules}
 use Rattle.std.specs.List.{list_all, list_any}
 use Rattle.std.specs.Ordering.{int_eq}
 use Rattle.std.proofs.lemmas.Bool.{agree_below, agree_below_at, and_from, and_parts, cases_lt, eq-eqb, eqb-true, false_from_ne_true, le-leb, leb-true, ltb-true, ne_eqb}
@@ -21,9 +21,7 @@ has_shape_bit cells k = list_any (λ c. bit_place c == k) cells
 
 -- a number by which a cell lies beside or above the pivot
 at_number : (z : ℤ) (x a : ℕ) → minus 2 ≤ℤ z → z ≤ℤ pos 2 → int_eq (pos x +ℤ z) (pos a) ≡ (x + nat_abs (pos 2 +ℤ z) == a + 2)
-at_number z x a low high = same_from_both _ _
-    (λ e. let same : pos x +ℤ z ≡ pos a = (Decides-int_eq (pos x +ℤ z) (pos a)).0 e in eq-eqb _ _ (omega (arith, ints)))
-    (λ e. let same : x + nat_abs (pos 2 +ℤ z) ≡ a + 2 = eqb-true _ _ e in (Decides-int_eq (pos x +ℤ z) (pos a)).1 (omega (arith, ints)))
+at_number z x a low high = search (rules, same_from_both, Decides-int_eq, eq-eqb, eqb-true)
 
 few : (z : ℤ) → minus 2 ≤ℤ z → z ≤ℤ pos 2 → nat_abs (pos 2 +ℤ z) ≤ 4
 few z low high = omega (arith, ints)
@@ -34,66 +32,36 @@ is_here x y a b c = (x + nat_abs (pos 2 +ℤ c.0) == a + 2) && (y + nat_abs (pos
 
 here : (x y a b : ℕ) (c : Cell) → is_near c ≡ true → cell_eq (moved (pos x, pos y) c) (pos a, pos b) ≡ is_here x y a b c
 unfolding moved
-here x y a b c near =
-    let w = near_within c near in
-    ap₂ ◌&&◌ (at_number c.0 x a w.left w.right) (at_number c.1 y b w.down w.up)
+here x y a b c near = search (rules, near_within, at_number)
 
 all_here : (x y a b : ℕ) (cells : List Cell) → list_all is_near cells ≡ true → is_among (map (moved (pos x, pos y)) cells) (pos a, pos b) ≡ list_any (is_here x y a b) cells
 unfolding is_among
 all_here x y a b [] near = refl
-all_here x y a b (c ∷ cells) near =
-    let parts = and_parts (is_near c) (list_all is_near cells) near in
-    ap₂ ◌||◌ (here x y a b c parts.0) (all_here x y a b cells parts.1)
+all_here x y a b (c ∷ cells) near = search (rules, and_parts, here, (all_here x y a b cells))
 
 none_low : (x y a b : ℕ) (cells : List Cell) → 8 * a + b + 18 < 8 * x + y → list_any (is_here x y a b) cells ≡ false
 none_low x y a b [] low = refl
-none_low x y a b (c ∷ cells) low = ap₂ ◌||◌ (false_from_ne_true _ (λ e.
-    let parts = and_parts (x + nat_abs (pos 2 +ℤ c.0) == a + 2) (y + nat_abs (pos 2 +ℤ c.1) == b + 2) e in
-    let column : x + nat_abs (pos 2 +ℤ c.0) ≡ a + 2 = eqb-true _ _ parts.0 in
-    let row : y + nat_abs (pos 2 +ℤ c.1) ≡ b + 2 = eqb-true _ _ parts.1 in
-    omega arith)) (none_low x y a b cells low)
+none_low x y a b (c ∷ cells) low = search (rules, false_from_ne_true, and_parts, eqb-true, (none_low x y a b cells low))
 
 -- the rows of a shape that come to rows 0 to 7
 pub record Keeps (rows y : ℕ) : Type 0 where
   pub kept : (c r : ℕ) → c ≤ 4 → r ≤ 4 → has_bit rows (8 * c + r) ≡ (nat_le 2 (y + r) && nat_le (y + r) 9)
 
 placed_here : (rows x y a b k q r : ℕ) → q ≤ 4 → r ≤ 4 → Keeps rows y → b ≤ 7 → 8 * x + y + k ≡ 8 * a + b + 18 → ((8 * q + r == k) && has_bit rows k) ≡ ((x + q == a + 2) && (y + r == b + 2))
-placed_here rows x y a b k q r few_columns few_rows keeps low at = same_from_both _ _
-    (λ e.
-    let parts = and_parts (8 * q + r == k) (has_bit rows k) e in
-    let place : 8 * q + r ≡ k = eqb-true _ _ parts.0 in
-    let within = and_parts (nat_le 2 (y + r)) (nat_le (y + r) 9) (sym kept ∙ ap (has_bit rows) place ∙ parts.1) in
-    let above : 2 ≤ y + r = leb-true _ _ within.0 in
-    let below : y + r ≤ 9 = leb-true _ _ within.1 in
-    and_from _ _ (eq-eqb (x + q) (a + 2) (omega arith)) (eq-eqb (y + r) (b + 2) (omega arith)))
-    (λ e.
-    let parts = and_parts (x + q == a + 2) (y + r == b + 2) e in
-    let column : x + q ≡ a + 2 = eqb-true _ _ parts.0 in
-    let row : y + r ≡ b + 2 = eqb-true _ _ parts.1 in
-    let place : 8 * q + r ≡ k = omega arith in
-    and_from _ _ (eq-eqb _ _ place) (ap (has_bit rows) (sym place) ∙ kept ∙ and_from _ _ (le-leb 2 (y + r) (omega arith)) (le-leb (y + r) 9 (omega arith))))
-  where
-    kept : has_bit rows (8 * q + r) ≡ (nat_le 2 (y + r) && nat_le (y + r) 9)
-    kept = keeps.kept q r few_columns few_rows
+placed_here rows x y a b k q r few_columns few_rows keeps low at =
+    search (rules, same_from_both, and_parts, eqb-true, leb-true, and_from, eq-eqb, le-leb, keeps)
 
 bit_here : (rows x y a b k : ℕ) (c : Cell) → is_near c ≡ true → Keeps rows y → b ≤ 7 → 8 * x + y + k ≡ 8 * a + b + 18 → ((bit_place c == k) && has_bit rows k) ≡ is_here x y a b c
-bit_here rows x y a b k c near =
-    let w = near_within c near in
-    placed_here rows x y a b k (nat_abs (pos 2 +ℤ c.0)) (nat_abs (pos 2 +ℤ c.1)) (few c.0 w.left w.right) (few c.1 w.down w.up)
+bit_here rows x y a b k c near = search (rules, near_within, placed_here, few)
 
 bits_here : (rows x y a b k : ℕ) (cells : List Cell) → list_all is_near cells ≡ true → Keeps rows y → b ≤ 7 → 8 * x + y + k ≡ 8 * a + b + 18 → (has_shape_bit cells k && has_bit rows k) ≡ list_any (is_here x y a b) cells
 bits_here rows x y a b k [] near keeps low at = refl
 bits_here rows x y a b k (c ∷ cells) near keeps low at =
-    let parts = and_parts (is_near c) (list_all is_near cells) near in
-    and-or_distrib_right (bit_place c == k) (has_shape_bit cells k) (has_bit rows k)
-    ∙ ap₂ ◌||◌ (bit_here rows x y a b k c parts.0 keeps low at) (bits_here rows x y a b k cells parts.1 keeps low at)
+    search (rules, and_parts, and-or_distrib_right, bit_here, keeps, (bits_here rows x y a b k cells))
 
 none_past : (k : ℕ) (cells : List Cell) → list_all is_near cells ≡ true → 40 ≤ k → has_shape_bit cells k ≡ false
 none_past k [] near past = refl
-none_past k (c ∷ cells) near past =
-    let parts = and_parts (is_near c) (list_all is_near cells) near in
-    let w = near_within c parts.0 in
-    ap₂ ◌||◌ (ne_eqb (bit_place c) k (λ e. omega (arith, few c.0 w.left w.right, few c.1 w.down w.up))) (none_past k cells parts.1 past)
+none_past k (c ∷ cells) near past = search (rules, and_parts, near_within, ne_eqb, few, (none_past k cells))
 
 -- the bits of the table are those of the shapes
 shape_bit : (p : Piece) (r : Rotation) (k : ℕ) → has_bit (shape_bits p r) k ≡ has_shape_bit (shape p r) k
@@ -126,23 +94,10 @@ placed_bit p r rows x y a b keeps column row =
     ∙ has_bit-low (n * 2 ^ (8 * x + y)) 128 (18 + (8 * a + b)) (omega arith)
     ∙ elim (cases_lt (18 + (8 * a + b)) (8 * x + y)) [
       | inl low ↦ has_bit-shifted_low n (8 * x + y) (18 + (8 * a + b)) low ∙ sym (none_low x y a b (shape p r) (omega arith))
-      | inr high ↦
-          let k = 18 + (8 * a + b) - (8 * x + y) in
-          has_bit-shifted_high n (8 * x + y) (18 + (8 * a + b)) high
-          ∙ has_bit-and (shape_bits p r) rows k
-          ∙ ap (λ t. t && has_bit rows k) (shape_bit p r k)
-          ∙ bits_here rows x y a b k (shape p r) (shape_near p r) keeps row (omega arith)
+      | inr high ↦ search (rules, has_bit-shifted_high, has_bit-and, shape_bit, bits_here, shape_near, keeps)
     ]
     ∙ sym (all_here x y a b (shape p r) (shape_near p r))
 
 -- where the pivot lies further off, no cell lies in the columns and rows
 pub none_placed : (p : Piece) (r : Rotation) (x y a b : ℕ) → a ≤ 9 → b ≤ 7 → (x < 12 → y < 10 → ⊥) → is_among (map (moved (pos x, pos y)) (shape p r)) (pos a, pos b) ≡ false
-none_placed p r x y a b column row off = all_here x y a b (shape p r) (shape_near p r) ∙ none (shape p r)
-  where
-    none : (cells : List Cell) → list_any (is_here x y a b) cells ≡ false
-    none [] = refl
-    none (c ∷ cells) = ap₂ ◌||◌ (false_from_ne_true _ (λ e.
-        let parts = and_parts (x + nat_abs (pos 2 +ℤ c.0) == a + 2) (y + nat_abs (pos 2 +ℤ c.1) == b + 2) e in
-        let at_column : x + nat_abs (pos 2 +ℤ c.0) ≡ a + 2 = eqb-true _ _ parts.0 in
-        let at_row : y + nat_abs (pos 2 +ℤ c.1) ≡ b + 2 = eqb-true _ _ parts.1 in
-        off (omega arith) (omega arith))) (none cells)
+none_placed p r x y a b column row off = search (rules, all_here, shape_near, false_from_ne_true, and_parts, eqb-true)

@@ -1,5 +1,5 @@
 -- The rows that the lowest span may take, as bits.
-use Rattle.std.proofs.Common.{◌≡◌, ℕ, ◌<◌, bit_and, Bool, true, false, not, ◌&&◌, nat_le, refl, sym, ap, ap₂, ◌∙◌}
+use Rattle.std.proofs.Common.{◌≡◌, ℕ, ◌<◌, bit_and, Bool, true, false, not, ◌&&◌, nat_le, refl, sym, ap₂, ◌∙◌, rules}
 use Rattle.std.proofs.lemmas.Bool.{and_from, and_parts, both_ways, le-leb, leb-true, agree_below_at}
 use Rattle.lane_board.specs.Field.{Field}
 use Rattle.lane_board.specs.Lanes.{has_bit}
@@ -29,5 +29,4 @@ module _ (E : Field) (x y floor : ℕ) (span : Span) (rows permitted : ℕ) (has
 
 -- a bit that isn't set once another one is taken away wasn't set before
 pub was_unset : (p q : Bool) → q ≡ false → (p && not q) ≡ false → p ≡ false
-was_unset true q other left = absurd (both_ways true (ap (λ t. true && not t) (sym other) ∙ left) refl)
-was_unset false q other left = refl
+was_unset p q other left = search (rules, both_ways)

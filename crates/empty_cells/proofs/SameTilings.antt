@@ -1,5 +1,5 @@
 -- A tiling of the empty cells below some rows is one of the set of these cells.
-use Rattle.std.proofs.Common.{◌≡◌, ℕ, ◌≤◌, Bool, true, false, not, ◌&&◌, ◌||◌, nat_lt, ◌↔◌, pos, negsuc, refl, sym, arith}
+use Rattle.std.proofs.Common.{◌≡◌, ℕ, ◌≤◌, ◌↔◌, pos, rules}
 use Rattle.std.proofs.Math.Path.{fun_ext}
 use Rattle.std.proofs.lemmas.Bool.{false≢true, and_right, lt-ltb, ltb-true}
 use Rattle.lane_board.specs.Field.{Field, rows_below, difference}
@@ -14,24 +14,11 @@ use Rattle.empty_cells.proofs.StackLemmas.{apart}
 
 empties_same : (F : Field) (rows height : ℕ) → rows ≤ height → (cell : Cell) → is_empty_below (all_but (difference (rows_below rows) F)) height cell ≡ is_empty_below F rows cell
 unfolding is_empty_below all_but difference rows_below
-empties_same F rows height few (pos x, pos y) = inside (nat_lt x 10) (nat_lt y height) (nat_lt y rows) (F x y) (λ low. lt-ltb y height (omega (arith, ltb-true y rows low)))
-  where
-    inside : (a b c d : Bool) → (c ≡ true → b ≡ true) → ((a && b) && not (not ((a && c) && not d))) ≡ ((a && c) && not d)
-    inside false b c d low = refl
-    inside true b false d low = and_right b false refl
-    inside true false true d low = absurd (false≢true (low refl))
-    inside true true true true low = refl
-    inside true true true false low = refl
-empties_same F rows height few (pos x, negsuc y) = refl
-empties_same F rows height few (negsuc x, pos y) = refl
-empties_same F rows height few (negsuc x, negsuc y) = refl
+empties_same F rows height few h4 = search (rules, lt-ltb, ltb-true, and_right, false≢true)
 
 -- the empty cells of rows 0 to rows - 1, as a set
 pub tiling_below : (F : Field) (rows height : ℕ) (supply : Supply) → rows ≤ height → Tiling (all_but (difference (rows_below rows) F)) height supply ↔ Tiling F rows supply
-tiling_below F rows height supply few = (
-  same_tiling _ _ _ _ supply (empties_same F rows height few),
-  same_tiling _ _ _ _ supply (λ cell. sym (empties_same F rows height few cell)),
-)
+tiling_below F rows height supply few = search (rules, same_tiling, empties_same)
 
 -- what a placement leaves of the empty cells
 pub left_by_placement : (F : Field) (rows : ℕ) (q : Placement) → without_placement (difference (rows_below rows) F) q ≡ difference (rows_below rows) (together F q)

@@ -1,5 +1,5 @@
 -- A set with one cell more, and cells whose rows are sent to others.
-use Rattle.std.proofs.Common.{◌≡◌, ℕ, ◌+◌, ◌-◌, ◌*◌, ◌^◌, ◌%◌, ◌<◌, ◌≤◌, true, ◌&&◌, ◌||◌, ◌==◌, nat_lt, bit_or, List, [], ◌∷◌, map, refl, sym, ap, subst, ◌∙◌, inl, inr, arith}
+use Rattle.std.proofs.Common.{◌≡◌, ℕ, ◌+◌, ◌-◌, ◌*◌, ◌^◌, ◌%◌, ◌<◌, ◌≤◌, true, ◌&&◌, ◌||◌, ◌==◌, nat_lt, bit_or, List, [], ◌∷◌, map, refl, sym, ap, subst, ◌∙◌, inl, inr, arith, rules}
 use Rattle.std.specs.List.{list_any}
 use Rattle.std.proofs.lemmas.Bool.{cases_eq, cases_lt, and_from, and_left, and_parts, and_right, eq-eqb, eqb-true, le-ltb, lt-ltb, ne_eqb}
 use Rattle.std.proofs.lemmas.Nat.{one_shl, or_lt, pow_below}
@@ -32,17 +32,7 @@ own_bit x y a b column row low = elim (cases_lt (8 * a + b) 128) [
 ]
 
 pub bit_added : (n x y a b : ℕ) → x ≤ 9 → y ≤ 7 → (nat_lt b 8 && has_bit (bit_or n (1 * 2 ^ (8 * x + y) % 2 ^ 128)) (8 * a + b)) ≡ ((nat_lt b 8 && has_bit n (8 * a + b)) || (x == a && y == b))
-bit_added n x y a b column row = elim (cases_lt b 8) [
-  | inl low ↦
-      let t = lt-ltb b 8 low in
-      ap (λ p. p && has_bit (bit_or n (1 * 2 ^ (8 * x + y) % 2 ^ 128)) (8 * a + b)) t ∙ has_bit-or n (1 * 2 ^ (8 * x + y) % 2 ^ 128) (8 * a + b)
-      ∙ ap (λ p. has_bit n (8 * a + b) || p) (own_bit x y a b column row low)
-      ∙ ap (λ p. (p && has_bit n (8 * a + b)) || (x == a && y == b)) (sym t)
-  | inr high ↦
-      let f = le-ltb b 8 high in
-      ap (λ p. p && has_bit (bit_or n (1 * 2 ^ (8 * x + y) % 2 ^ 128)) (8 * a + b)) f
-      ∙ sym (ap (λ p. (p && has_bit n (8 * a + b)) || (x == a && y == b)) f ∙ and_right (x == a) (y == b) (ne_eqb y b (λ e. omega (arith, e))))
-]
+bit_added n x y a b column row = search (rules, cases_lt, lt-ltb, has_bit-or, own_bit, le-ltb, and_right, ne_eqb)
 
 -- a cell among others that were sent is one that was sent from among them
 pub among_sent : (f : Cell → Cell) (cells : List Cell) (cell : Cell) → is_among (map f cells) cell ≡ list_any (λ c. cell_eq (f c) cell) cells

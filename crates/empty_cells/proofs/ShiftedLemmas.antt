@@ -1,7 +1,7 @@
 -- A set whose columns are counted from one of them, beside the same with its columns counted from 0.
-use Rattle.std.proofs.Common.{◌≡◌, ◌↔◌, ℕ, ◌+◌, ◌-◌, ◌<◌, ◌≤◌, true, false, not, ◌&&◌, ◌||◌, ◌==◌, nat_le, List, [], ◌∷◌, refl, sym, ap, ap₂, subst, ◌∙◌, inl, inr, arith}
+use Rattle.std.proofs.Common.{◌≡◌, ◌↔◌, ℕ, ◌+◌, ◌-◌, ◌<◌, ◌≤◌, true, false, not, ◌&&◌, ◌==◌, nat_le, List, sym, ap, subst, ◌∙◌, inl, inr, arith, rules}
 use Rattle.std.proofs.Math.Path.{fun_ext}
-use Rattle.std.specs.List.{list_all, list_any}
+use Rattle.std.specs.List.{list_any}
 use Rattle.std.proofs.lemmas.Bool.{and_left, and_right, and_parts, cases_lt, le-leb, leb-true, eq-eqb, eqb-true, false_from_ne_true}
 use Rattle.lane_board.specs.Field.{Field}
 use Rattle.lane_board.proofs.CallerLemmas.{same_from_both}
@@ -32,43 +32,21 @@ back_from x E = fun_ext (λ a. fun_ext (λ b. from_there x E (x + a) b (omega ar
 
 pub span_there : (x : ℕ) (E : Field) (span : Span) (y : ℕ) → has_span E 0 span y ≡ has_span (to_column x E) x span y
 unfolding has_span
-span_there x E span y = each (columns_of span)
-  where
-    each : (columns : List ℕ) → list_all (λ c. E (0 + c) y) columns ≡ list_all (λ c. to_column x E (x + c) y) columns
-    each [] = refl
-    each (c ∷ columns) = ap₂ ◌&&◌ (ap (λ k. E k y) {x = 0 + c} {y = x + c - x} (omega arith) ∙ sym (from_there x E (x + c) y (omega arith))) (each columns)
+span_there x E span y = search (rules, from_there)
 
 pub without_there : (x : ℕ) (E : Field) (span : Span) (y : ℕ) → to_column x (without_span E 0 span y) ≡ without_span (to_column x E) x span y
 unfolding without_span
 without_there x E span y = fun_ext (λ a. fun_ext (λ b. elim (cases_lt a x) [
   | inl before ↦ none_before x (λ a b. E a b && not (list_any (λ c. 0 + c == a) (columns_of span) && y == b)) a b before ∙ sym (and_left _ _ (none_before x E a b before))
-  | inr from ↦ from_there x (λ a b. E a b && not (list_any (λ c. 0 + c == a) (columns_of span) && y == b)) a b from
-      ∙ ap₂ (λ p q. p && not (q && y == b)) (sym (from_there x E a b from)) (each a from (columns_of span))
+  | inr from ↦ search (rules, from_there, each)
 ]))
   where
     each : (a : ℕ) → x ≤ a → (columns : List ℕ) → list_any (λ c. 0 + c == a - x) columns ≡ list_any (λ c. x + c == a) columns
-    each a from [] = refl
-    each a from (c ∷ columns) = ap₂ ◌||◌
-        (same_from_both (0 + c == a - x) (x + c == a)
-        (λ e. let eq : 0 + c ≡ a - x = eqb-true _ _ e in eq-eqb _ _ (omega (arith, from)))
-        (λ e. let eq : x + c ≡ a = eqb-true _ _ e in eq-eqb _ _ (omega arith)))
-        (each a from columns)
+    each a from h2 = search (rules, same_from_both, eqb-true, eq-eqb)
 
 -- the first cell
 pub first_there : (x : ℕ) (E : Field) (d y : ℕ) → ((a b : ℕ) → E a b ≡ true → x + a ≤ 9) → IsFirst E d y → IsFirst (to_column x E) (x + d) y
-first_there x E d y within first = record {
-  filled = at d y ∙ first.filled;
-  column = within d y first.filled;
-  row = first.row;
-  leftmost = λ a b left. elim (cases_lt a x) [
-    | inl before ↦ none_before x E a b before
-    | inr from ↦ from_there x E a b from ∙ first.leftmost (a - x) b (omega (arith, left, from))
-  ];
-  lowest = λ b below. at d b ∙ first.lowest b below;
-}
-  where
-    at : (a b : ℕ) → to_column x E (x + a) b ≡ E a b
-    at a b = from_there x E (x + a) b (omega arith) ∙ ap (λ k. E k b) {x = x + a - x} {y = a} (omega arith)
+first_there x E d y within first = search (rules, cases_lt, none_before, from_there)
 
 pub none_there : (x : ℕ) (E : Field) → HasNoCell E → HasNoCell (to_column x E)
 unfolding to_column
@@ -77,13 +55,7 @@ none_there x E none = record { none = λ a b. and_right (nat_le x a) _ (none.non
 -- no column before that cell is lost
 pub counted_from : (x : ℕ) (E : Field) (d y : ℕ) → IsFirst E d y → to_column (x + d) (from_column d E) ≡ to_column x E
 unfolding from_column
-counted_from x E d y first = fun_ext (λ a. fun_ext (λ b. elim (cases_lt a (x + d)) [
-  | inl before ↦ none_before (x + d) (λ a b. E (d + a) b) a b before ∙ sym (elim (cases_lt a x) [
-    | inl outside ↦ none_before x E a b outside
-    | inr from ↦ from_there x E a b from ∙ first.leftmost (a - x) b (omega (arith, before, from))
-  ])
-  | inr from ↦ from_there (x + d) (λ a b. E (d + a) b) a b from ∙ ap (λ k. E k b) {x = d + (a - (x + d))} {y = a - x} (omega (arith, from)) ∙ sym (from_there x E a b (omega (arith, from)))
-]))
+counted_from x E d y first = search (rules, fun_ext, cases_lt, none_before, from_there)
 
 -- the cells lie in columns 0 to 9 and rows 0 to 7
 pub shifted_small : (s : Shifted) → IsSmall 8 (shifted_cells s)

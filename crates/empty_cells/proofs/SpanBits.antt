@@ -1,15 +1,13 @@
 -- The bits that stand for the cells of a span.
-use Rattle.std.proofs.Common.{◌≡◌, ℕ, ◌+◌, ◌-◌, ◌*◌, ◌%◌, ◌^◌, ◌<◌, ◌≤◌, Bool, true, false, ◌&&◌, ◌||◌, ◌==◌, bit_and, bit_xor, List, [], ◌∷◌, refl, ap, ◌∙◌, sym, inl, inr, arith}
+use Rattle.std.proofs.Common.{◌≡◌, ℕ, ◌+◌, ◌-◌, ◌*◌, ◌%◌, ◌^◌, ◌<◌, ◌≤◌, Bool, true, false, ◌&&◌, ◌||◌, ◌==◌, bit_and, bit_xor, List, [], ◌∷◌, refl, ap, ◌∙◌, sym, inl, inr, arith, rules}
 use Rattle.std.specs.List.{list_any}
 use Rattle.std.proofs.lemmas.Bool.{cases_lt, eqb-true, eq-eqb, ne_eqb, and_parts, and_from}
-use Rattle.std.proofs.lemmas.Bool.Decides.{nat_tests}
 use Rattle.std.proofs.lemmas.Nat.{xor_lt, and_le_l, mul-lt, pow-add, pow_below}
 use Rattle.std.proofs.Math.Nat.{mul_assoc}
 use Rattle.std.proofs.Math.Bool.{and-true, and-or_distrib_right}
 use Rattle.lane_board.specs.Lanes.{has_bit}
 use Rattle.lane_board.proofs.CallerLemmas.{same_from_both, has_bit-past, has_bit-low, has_bit-shifted_low, has_bit-shifted_high}
 use Rattle.empty_cells.specs.declared.span.Span.{Span}
-use Rattle.empty_cells.specs.declared.span.Span.TheVariants.{First, Second, Third, FirstTwo, SecondTwo, FirstThree, AllFour}
 use Rattle.empty_cells.specs.Spans.{columns_of}
 
 -- the bits of the columns of a span
@@ -18,13 +16,7 @@ is_column_bit span k = list_any (λ column. 8 * column == k) (columns_of span)
 
 -- they are four columns of eight rows at most
 none_above : (span : Span) (k : ℕ) → 32 ≤ k → is_column_bit span k ≡ false
-none_above First k above = grind (arith, nat_tests)
-none_above Second k above = grind (arith, nat_tests)
-none_above Third k above = grind (arith, nat_tests)
-none_above FirstTwo k above = grind (arith, nat_tests)
-none_above SecondTwo k above = grind (arith, nat_tests)
-none_above FirstThree k above = grind (arith, nat_tests)
-none_above AllFour k above = grind (arith, nat_tests)
+none_above span k above = search rules
 
 pub each_column_bit : (span : Span) (n k : ℕ) → n < 2 ^ 32 → ((j : ℕ) → j < 32 → has_bit n j ≡ is_column_bit span j) → has_bit n k ≡ is_column_bit span k
 each_column_bit span n k small below = elim (cases_lt k 32) [
@@ -35,47 +27,32 @@ each_column_bit span n k small below = elim (cases_lt k 32) [
 -- bits further up, taken together
 
 pub and_two : (a b : Bool) → (a && b) ≡ (a && (b && true))
-and_two true b = sym (and-true b)
-and_two false b = refl
+and_two a b = search (rules, and-true)
 
 pub and_three : (a b c : Bool) → ((a && b) && c) ≡ (a && (b && (c && true)))
-and_three true b c = and_two b c
-and_three false b c = refl
+and_three a b c = search (rules, and_two)
 
 pub and_four : (a b c d : Bool) → (((a && b) && c) && d) ≡ (a && (b && (c && (d && true))))
-and_four true b c d = and_three b c d
-and_four false b c d = refl
+and_four a b c d = search (rules, and_three)
 
 pub bit_here : (n k : ℕ) → has_bit n k ≡ has_bit n (8 * 0 + k)
 bit_here n k = ap (has_bit n) (omega arith)
 
 -- a bit of a number is that of a cell
 elem : (c x y a b : ℕ) → y < 8 → b < 8 → (8 * c + (8 * x + y) == 8 * a + b) ≡ ((x + c == a) && (y == b))
-elem c x y a b small_y small_b = same_from_both _ _
-    (λ e. let eq : 8 * c + (8 * x + y) ≡ 8 * a + b = eqb-true _ _ e in and_from _ _ (eq-eqb (x + c) a (omega arith)) (eq-eqb y b (omega arith)))
-    (λ e. let parts = and_parts (x + c == a) (y == b) e in
-    let column : x + c ≡ a = eqb-true _ _ parts.0 in
-    let row : y ≡ b = eqb-true _ _ parts.1 in
-    eq-eqb (8 * c + (8 * x + y)) (8 * a + b) (omega arith))
+elem c x y a b small_y small_b = search (rules, same_from_both, eqb-true, and_from, eq-eqb, and_parts)
 
 each_elem : (columns : List ℕ) (x y a b : ℕ) → y < 8 → b < 8 → list_any (λ c. 8 * c + (8 * x + y) == 8 * a + b) columns ≡ (list_any (λ c. x + c == a) columns && (y == b))
 each_elem [] x y a b small_y small_b = refl
 each_elem (c ∷ columns) x y a b small_y small_b =
-    ap (λ t. t || list_any (λ c. 8 * c + (8 * x + y) == 8 * a + b) columns) (elem c x y a b small_y small_b)
-    ∙ ap (λ t. ((x + c == a) && (y == b)) || t) (each_elem columns x y a b small_y small_b)
-    ∙ sym (and-or_distrib_right (x + c == a) (list_any (λ c. x + c == a) columns) (y == b))
+    search (rules, elem, and-or_distrib_right, (each_elem columns x y a b small_y small_b))
 
 above_all : (columns : List ℕ) (k j : ℕ) → j < k → list_any (λ c. 8 * c + k == j) columns ≡ false
 above_all [] k j below = refl
 above_all (c ∷ columns) k j below = ap (λ t. t || list_any (λ c. 8 * c + k == j) columns) (ne_eqb (8 * c + k) j (λ e. omega arith)) ∙ above_all columns k j below
 
 moved_elem : (columns : List ℕ) (k j : ℕ) → k ≤ j → list_any (λ c. 8 * c == j - k) columns ≡ list_any (λ c. 8 * c + k == j) columns
-moved_elem [] k j above = refl
-moved_elem (c ∷ columns) k j above =
-    ap (λ t. t || list_any (λ c. 8 * c == j - k) columns) (same_from_both (8 * c == j - k) (8 * c + k == j)
-    (λ e. let eq : 8 * c ≡ j - k = eqb-true _ _ e in eq-eqb _ _ (omega arith))
-    (λ e. let eq : 8 * c + k ≡ j = eqb-true _ _ e in eq-eqb _ _ (omega arith)))
-    ∙ ap (λ t. (8 * c + k == j) || t) (moved_elem columns k j above)
+moved_elem columns k j above = search (rules, same_from_both, eqb-true, eq-eqb)
 
 -- the bits of a span that is moved to the cell (x, y)
 moved_bit : (span : Span) (m x y a b : ℕ) → ((k : ℕ) → has_bit m k ≡ is_column_bit span k) → y < 8 → b < 8 →

@@ -1,5 +1,5 @@
 -- Stacks of spans, and the rows that were chosen for them.
-use Rattle.std.proofs.Common.{◌≡◌, ℕ, zero, suc, ◌+◌, ◌<◌, ◌≤◌, Bool, true, false, not, ◌&&◌, ◌||◌, ◌==◌, List, [], ◌∷◌, length, refl, ap, subst, inl, inr, arith}
+use Rattle.std.proofs.Common.{◌≡◌, ℕ, zero, suc, ◌+◌, ◌<◌, ◌≤◌, Bool, true, not, ◌&&◌, ◌||◌, ◌==◌, List, [], ◌∷◌, length, refl, rules}
 use Rattle.std.proofs.Math.Path.{fun_ext}
 use Rattle.std.specs.List.{list_any, list_all}
 use Rattle.std.proofs.lemmas.Bool.{and_parts, and_from, or_cases, or_left, or_right, eqb-true, eq-eqb, false≢true}
@@ -40,17 +40,12 @@ pub record Chosen (Fact : Field → Type 0) (E : Field) (x floor : ℕ) (spans :
 pub in_columns : (columns : List ℕ) (x a : ℕ) (test : ℕ → Bool) → list_all (λ c. test (x + c)) columns ≡ true → list_any (λ c. x + c == a) columns ≡ true → test a ≡ true
 in_columns [] x a test all some = absurd (false≢true some)
 in_columns (c ∷ columns) x a test all some =
-    let parts = and_parts (test (x + c)) (list_all (λ c. test (x + c)) columns) all in
-    elim (or_cases (x + c == a) _ some) [
-      | inl here ↦ subst (λ k. test k ≡ true) (eqb-true _ _ here) parts.0
-      | inr later ↦ in_columns columns x a test parts.1 later
-    ]
+    search (rules, and_parts, or_cases, eqb-true, (in_columns columns x a test))
 
 pub all_columns : (columns : List ℕ) (x : ℕ) (test : ℕ → Bool) → ((a : ℕ) → list_any (λ c. x + c == a) columns ≡ true → test a ≡ true) → list_all (λ c. test (x + c)) columns ≡ true
 all_columns [] x test each = refl
-all_columns (c ∷ columns) x test each = and_from _ _
-    (each (x + c) (or_left (x + c == x + c) _ (eq-eqb _ _ refl)))
-    (all_columns columns x test (λ a some. each a (or_right (x + c == a) _ some)))
+all_columns (c ∷ columns) x test each =
+    search (rules, and_from, or_left, eq-eqb, or_right, (all_columns columns x test))
 
 -- each span has a column
 pub some_column : (span : Span) → (c : ℕ) × (list_any (λ column. column == c) (columns_of span) ≡ true)
@@ -63,43 +58,22 @@ some_column FirstThree = (0, refl)
 some_column AllFour = (0, refl)
 
 moved_column : (columns : List ℕ) (x c : ℕ) → list_any (λ column. column == c) columns ≡ true → list_any (λ column. x + column == x + c) columns ≡ true
-moved_column [] x c some = some
-moved_column (d ∷ columns) x c some = elim (or_cases (d == c) _ some) [
-  | inl here ↦ or_left (x + d == x + c) _ (eq-eqb _ _ (ap (λ k. x + k) (eqb-true d c here)))
-  | inr later ↦ or_right (x + d == x + c) _ (moved_column columns x c later)
-]
+moved_column columns x c some = search (rules, or_cases, or_left, eq-eqb, eqb-true, or_right)
 
 -- where all columns of a span are cells of a set, one of them is
 pub some_in_span : (E : Field) (x : ℕ) (span : Span) (row : ℕ) → has_span E x span row ≡ true → (a : ℕ) × (E a row ≡ true)
 unfolding has_span
-some_in_span E x span row has =
-    let some = some_column span in
-    (x + some.0, in_columns (columns_of span) x (x + some.0) (λ a. E a row) has (moved_column (columns_of span) x some.0 some.1))
+some_in_span E x span row has = search (rules, some_column, in_columns, moved_column)
 
 -- a cell of the spans is in one of their rows
 pub row_of : (x : ℕ) (rows : ℕ → ℕ) (spans : List Span) (a b : ℕ) → in_stack x rows spans a b ≡ true → (k : ℕ) × (k < length spans) × (rows k ≡ b)
 unfolding in_stack
 row_of x rows [] a b here = absurd (false≢true here)
-row_of x rows (span ∷ spans) a b here = elim (or_cases (list_any (λ column. x + column == a) (columns_of span) && (rows 0 == b)) _ here) [
-  | inl first ↦ (0, omega arith, eqb-true (rows 0) b (and_parts (list_any (λ column. x + column == a) (columns_of span)) (rows 0 == b) first).1)
-  | inr later ↦ let found = row_of x (λ k. rows (suc k)) spans a b later in (suc found.0, omega (arith, found.1), found.2)
-]
-
--- each span has a cell in its row
-pub cell_in_row : (x : ℕ) (rows : ℕ → ℕ) (spans : List Span) (k : ℕ) → k < length spans → (a : ℕ) × (in_stack x rows spans a (rows k) ≡ true)
-unfolding in_stack
-cell_in_row x rows [] k below = absurd (omega arith)
-cell_in_row x rows (span ∷ spans) zero below =
-    let some = some_column span in
-    (x + some.0, or_left (list_any (λ column. x + column == x + some.0) (columns_of span) && (rows 0 == rows 0)) _ (and_from _ _ (moved_column (columns_of span) x some.0 some.1) (eq-eqb (rows 0) (rows 0) refl)))
-cell_in_row x rows (span ∷ spans) (suc k) below =
-    let found = cell_in_row x (λ k. rows (suc k)) spans k (omega arith) in
-    (found.0, or_right (list_any (λ column. x + column == found.0) (columns_of span) && (rows 0 == rows (suc k))) _ found.1)
+row_of x rows (span ∷ spans) a b here =
+    search (rules, or_cases, eqb-true, and_parts, (row_of x (λ k. rows (suc k)) spans a b))
 
 pub apart : (p q r : Bool) → ((p && not q) && not r) ≡ (p && not (q || r))
-apart true true r = refl
-apart true false r = refl
-apart false q r = refl
+apart p q r = search rules
 
 -- to take spans away one by one is to take all away
 pub without_each : (E : Field) (x : ℕ) (rows : ℕ → ℕ) (span : Span) (spans : List Span) →

@@ -1,5 +1,5 @@
 -- How many pieces a supply has, in all and after one is taken.
-use Rattle.std.proofs.Common.{◌≡◌, ℕ, ◌+◌, ◌-◌, ◌<◌, ◌≤◌, get_or, refl, ap, ◌∙◌, arith}
+use Rattle.std.proofs.Common.{◌≡◌, ℕ, ◌+◌, ◌-◌, ◌<◌, get_or, ap, ◌∙◌, rules}
 use Rattle.srs.specs.declared.piece.Piece.{Piece}
 use Rattle.srs.specs.declared.piece.Piece.TheVariants.{I, L, O, Z, T, J, S}
 use Rattle.srs.specs.Piece.{all_pieces, piece_code}
@@ -7,13 +7,7 @@ use Rattle.prune.specs.Tiling.{Supply}
 use Rattle.prune.specs.OnePart.{less_one}
 
 pub piece_in_all : (piece : Piece) → get_or all_pieces (piece_code piece - 1) I ≡ piece
-piece_in_all I = refl
-piece_in_all L = refl
-piece_in_all O = refl
-piece_in_all Z = refl
-piece_in_all T = refl
-piece_in_all J = refl
-piece_in_all S = refl
+piece_in_all piece = search rules
 
 -- how many pieces there are
 abbrev pub total : Supply → ℕ
@@ -21,13 +15,7 @@ total supply = supply I + supply L + supply O + supply Z + supply T + supply J +
 
 pub total-less_one : (supply : Supply) (piece : Piece) → 0 < supply piece → total (less_one supply piece) + 1 ≡ total supply
 unfolding less_one
-total-less_one supply I some = omega arith
-total-less_one supply L some = omega arith
-total-less_one supply O some = omega arith
-total-less_one supply Z some = omega arith
-total-less_one supply T some = omega arith
-total-less_one supply J some = omega arith
-total-less_one supply S some = omega arith
+total-less_one supply piece some = search rules
 
 -- with one piece of this kind fewer
 pub fewer : (supply left : Supply) (piece : Piece) → left ≡ less_one supply piece → 0 < supply piece → total left + 1 ≡ total supply

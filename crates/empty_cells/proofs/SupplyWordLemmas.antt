@@ -1,12 +1,11 @@
 -- One byte of a word is one less.
-use Rattle.std.proofs.Common.{◌≡◌, ℕ, zero, suc, ◌+◌, ◌-◌, ◌*◌, ◌/◌, ◌%◌, ◌^◌, ◌<◌, ◌≤◌, ◌==◌, bit_and, List, [], ◌∷◌, get_or, refl, sym, ap, ◌∙◌, inl, inr, arith}
+use Rattle.std.proofs.Common.{◌≡◌, ℕ, zero, suc, ◌+◌, ◌-◌, ◌*◌, ◌/◌, ◌%◌, ◌^◌, ◌<◌, ◌≤◌, bit_and, List, [], ◌∷◌, get_or, sym, ap, ◌∙◌, inl, inr, arith, rules}
 use Rattle.std.proofs.Math.Nat.{add-mul-div_left, div-eq-sub-div, div-eq_of_lt}
 use Rattle.std.proofs.Math.Path.{fun_ext}
 use Rattle.std.specs.Int.{to_le_bytes, w64}
 use Rattle.std.proofs.lemmas.Bool.{cases_Bool, cases_eq, cases_lt, eq-eqb, eqb-true, ne_eqb, cond-true, cond-false}
 use Rattle.std.proofs.lemmas.Nat.{and_mask, one_shl, pow-add, pow_pos, shr-shr}
 use Rattle.srs.specs.declared.piece.Piece.{Piece}
-use Rattle.srs.specs.declared.piece.Piece.TheVariants.{I, L, O, Z, T, J, S}
 use Rattle.srs.specs.Piece.{piece_code}
 use Rattle.srs.proofs.CallerLemmas.{piece_code-injective, piece_code-some, piece_code-small}
 use Rattle.prune.specs.Tiling.{Supply, supply_in}
@@ -18,13 +17,7 @@ use Rattle.empty_cells.specs.SupplyWords.{supply_of}
 -- the byte of a kind
 byte_of : (n : ℕ) (piece : Piece) → n / 2 ^ (8 * (piece_code piece - 1)) % 256 ≡ supply_in (to_le_bytes w64 n) piece
 unfolding supply_in
-byte_of n I = omega arith
-byte_of n L = refl
-byte_of n O = refl
-byte_of n Z = refl
-byte_of n T = refl
-byte_of n J = refl
-byte_of n S = refl
+byte_of n piece = search rules
 
 pub masked_byte : (word : SupplyWord) (piece : Piece) → bit_and (word.counts / 2 ^ (8 * (piece_code piece - 1))) 255 ≡ supply_of word piece
 unfolding supply_of
@@ -33,10 +26,7 @@ masked_byte word piece = and_mask (word.counts / 2 ^ (8 * (piece_code piece - 1)
 -- a number whose byte k isn't 0, less one there
 module _ (n k : ℕ) (some : 0 < n / 2 ^ (8 * k) % 256) where
   pub holds_one : 2 ^ (8 * k) ≤ n
-  holds_one = elim (cases_lt n (2 ^ (8 * k))) [
-    | inl less ↦ absurd (omega (arith, some, div-eq_of_lt less))
-    | inr from ↦ from
-  ]
+  holds_one = search (rules, cases_lt, div-eq_of_lt)
 
   quotient : n / 2 ^ (8 * k) ≡ (n - 2 ^ (8 * k)) / 2 ^ (8 * k) + 1
   quotient = div-eq-sub-div (pow_pos (8 * k)) holds_one
@@ -100,12 +90,7 @@ one_less_of word fewer piece some is = fun_ext (λ other. ap (λ n. supply_in (t
 
 pub less_none : (supply : Supply) (piece : Piece) → supply piece ≡ 0 → less_one supply piece ≡ supply
 unfolding less_one
-less_none supply piece none = fun_ext (λ other. elim (cases_Bool (piece_code piece == piece_code other)) [
-  | inl same ↦
-      let zero : supply other ≡ 0 = ap supply (sym (piece_code-injective piece other (eqb-true _ _ same))) ∙ none in
-      cond-true _ _ _ same ∙ omega (arith, zero)
-  | inr different ↦ cond-false _ _ _ different
-])
+less_none supply piece none = search (rules, fun_ext, cases_Bool, piece_code-injective, eqb-true, cond-true, cond-false)
 
 -- one piece of a kind, as a word
 pub counted_once : (code : ℕ) (piece : Piece) → code ≡ piece_code piece → 1 * 2 ^ (8 * (code - 1)) % 2 ^ 64 ≡ 2 ^ (8 * (piece_code piece - 1))
@@ -128,25 +113,10 @@ bytes_small s small (suc (suc (suc (suc (suc (suc (suc (suc i)))))))) = omega ar
 
 pub seven_bytes : (s : List ℕ) → supply_in (word_bytes s) ≡ supply_in s
 unfolding supply_in
-seven_bytes s = fun_ext each
-  where
-    each : (piece : Piece) → supply_in (word_bytes s) piece ≡ supply_in s piece
-    each I = refl
-    each L = refl
-    each O = refl
-    each Z = refl
-    each T = refl
-    each J = refl
-    each S = refl
+seven_bytes s = search (rules, fun_ext)
 
 -- the entries of the mirror image of a supply
 pub places_changed : (s : List ℕ) (piece : Piece) →
     supply_in (get_or s 0 0 ∷ get_or s 5 0 ∷ get_or s 2 0 ∷ get_or s 6 0 ∷ get_or s 4 0 ∷ get_or s 1 0 ∷ get_or s 3 0 ∷ []) piece ≡ mirrored_supply (supply_in s) piece
 unfolding supply_in
-places_changed s I = refl
-places_changed s L = refl
-places_changed s O = refl
-places_changed s Z = refl
-places_changed s T = refl
-places_changed s J = refl
-places_changed s S = refl
+places_changed s piece = search rules

@@ -1,5 +1,5 @@
 -- The column's cells are the bits of its rows.
-use Rattle.std.proofs.Common.{◌≡◌, ℕ, ◌<◌, ◌^◌, not, ◌&&◌, ◌+◌, count_ones, ap, ◌∙◌, arith, sym}
+use Rattle.std.proofs.Common.{◌≡◌, ℕ, ◌<◌, ◌^◌, not, ◌+◌, count_ones, ap, ◌∙◌, arith, sym}
 use Rattle.std.proofs.Math.Bool.{and-true, not-not}
 use Rattle.lane_board.specs.Field.{Field}
 use Rattle.lane_board.specs.Lanes.{has_bit}

@@ -1,5 +1,5 @@
 -- Each column comes below those before it.
-use Rattle.std.proofs.Common.{◌≡◌, ◌&&◌, ◌+◌, ap, ◌∙◌, arith}
+use Rattle.std.proofs.Common.{◌+◌, ap, ◌∙◌, arith}
 use Rattle.std.proofs.Math.Bool.{and-true}
 use Rattle.lane_board.specs.Lanes.{has_bit}
 use Rattle.empty_cells.specs.Empties.{empty_cells}

@@ -1,5 +1,5 @@
 -- The lowest eight bits of the shifted set.
-use Rattle.std.proofs.Common.{ℕ, ◌+◌, ◌*◌, ◌<◌, ◌≡◌, ◌&&◌, nat_lt, List, [], ◌∷◌, refl, sym, ap, ap₂, ◌∙◌, ◌/◌, ◌^◌, arith}
+use Rattle.std.proofs.Common.{ℕ, ◌+◌, ◌*◌, ◌<◌, ◌≡◌, ◌&&◌, nat_lt, List, ◌∙◌, ◌/◌, ◌^◌, rules}
 use Rattle.std.specs.List.{list_all}
 use Rattle.std.proofs.lemmas.Bool.{lt-ltb}
 use Rattle.lane_board.specs.Lanes.{has_bit}
@@ -10,10 +10,7 @@ use Rattle.empty_cells.proofs.RowLemmas.{ones}
 use Rattle.empty_cells.proofs.empties.Empties.rows_with.Goals as goal
 
 each_column : (columns : List ℕ) (n x y : ℕ) → y < 8 → list_all (λ c. has_bit (n / 2 ^ (8 * x)) (8 * c + y)) columns ≡ list_all (λ c. nat_lt y 8 && has_bit n (8 * (x + c) + y)) columns
-each_column [] n x y low = refl
-each_column (c ∷ columns) n x y low = ap₂ ◌&&◌
-    (has_bit-shifted_right n (8 * x) (8 * c + y) ∙ ap (has_bit n) {y = 8 * (x + c) + y} (omega arith) ∙ ap (λ t. t && has_bit n (8 * (x + c) + y)) (sym (lt-ltb y 8 low)))
-    (each_column columns n x y low)
+each_column columns n x y low = search (rules, has_bit-shifted_right, lt-ltb)
 
 pub returns : goal.returns
 unfolding empty_cells has_span

@@ -1,5 +1,5 @@
 -- One cell more.
-use Rattle.std.proofs.Common.{◌≡◌, ◌<◌, ℕ, true, ◌&&◌, ◌||◌, ◌==◌, ◌+◌, List, take, map, get_or, pos, nat_abs, length, sym, ap, ap₂, subst, ◌∙◌, arith}
+use Rattle.std.proofs.Common.{◌≡◌, ◌<◌, ℕ, true, ◌&&◌, ◌||◌, ◌==◌, ◌+◌, List, take, get_or, pos, nat_abs, length, sym, ap, ap₂, subst, ◌∙◌, arith, rules}
 use Rattle.std.proofs.Math.Path.{fun_ext}
 use Rattle.std.proofs.lemmas.Bool.{and_parts, eq-eqb, eqb-true, ltb-true}
 use Rattle.std.proofs.lemmas.Bool.Decides.{Decides-int_eq}
@@ -9,7 +9,6 @@ use Rattle.std.proofs.lemmas.Int.{ints}
 use Rattle.std.proofs.lemmas.List.{take_all}
 use Rattle.std.proofs.lemmas.List.Folds.{list_any_more}
 use Rattle.std.specs.List.{list_all}
-use Rattle.std.specs.Prelude.{nat_lt}
 use mir.Syntax.{w8}
 use mir.Val.{to_z, of_z}
 use Rattle.srs.proofs.CallerLemmas.{list_all_each}
@@ -32,10 +31,7 @@ record IsNear (cell : Cell) : Type 0 where
 
 near : (cells : List Cell) (i : ℕ) → list_all (has_cell (rows_below 8)) cells ≡ true → i < length cells → IsNear (get_or cells i (pos 0, pos 0))
 unfolding rows_below
-near cells i inside within =
-    let at = cell_of (rows_below 8) (get_or cells i (pos 0, pos 0)) (list_all_each (has_cell (rows_below 8)) cells i (pos 0, pos 0) inside within) in
-    let both = and_parts (nat_lt at.x 10) (nat_lt at.y 8) at.has in
-    record { x = at.x; y = at.y; is = at.is; column = ltb-true at.x 10 both.0; row = ltb-true at.y 8 both.1 }
+near cells i inside within = search (rules, cell_of, list_all_each, and_parts, ltb-true)
 
 same_number : (x a : ℕ) → (x == a) ≡ int_eq (pos x) (pos a)
 same_number x a = same_from_both _ _ (λ e. (Decides-int_eq (pos x) (pos a)).1 (ap pos (eqb-true x a e))) (λ e. eq-eqb x a (ap nat_abs ((Decides-int_eq (pos x) (pos a)).0 e)))
@@ -84,6 +80,4 @@ loop-x-preserved c = λ a b.
 
 pub returns : goal.returns
 unfolding sent_cells
-returns c = fun_ext (λ a. fun_ext (λ b.
-    c.loop-x.invariant a b
-    ∙ ap (λ cells. is_among (map (sent_up c.args.rows.now) cells) (pos a, pos b)) (take_all c.loop-x.x-index c.cells-x-items.result (omega (arith, c.loop-x-test.false, c.cells-x-items.type_inv)) ∙ c.cells-x-items.ensures)))
+returns c = search (rules, fun_ext, take_all)

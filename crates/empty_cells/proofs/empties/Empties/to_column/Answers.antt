@@ -1,5 +1,5 @@
 -- The bits further down, up to the last column.
-use Rattle.std.proofs.Common.{◌≡◌, ℕ, ◌+◌, ◌-◌, ◌*◌, ◌%◌, ◌^◌, ◌<◌, Bool, true, false, ◌&&◌, nat_le, nat_lt, bit_and, refl, sym, ap, ◌∙◌, inl, inr, arith}
+use Rattle.std.proofs.Common.{◌≡◌, ℕ, ◌+◌, ◌-◌, ◌*◌, ◌%◌, ◌^◌, ◌<◌, Bool, true, ◌&&◌, nat_le, bit_and, sym, ap, ◌∙◌, inl, inr, arith, rules}
 use Rattle.std.proofs.lemmas.Bool.{and_left, and_right, cases_lt, false_from_ne_true, le-leb, le-ltb, leb-true}
 use Rattle.std.proofs.lemmas.Nat.{and_mask}
 use Rattle.std.proofs.Math.Bool.{and-false}
@@ -24,20 +24,13 @@ bits n x a b low = ap (λ m. has_bit m (8 * a + b)) (masked (n * 2 ^ (8 * x) % 2
   | inr near ↦
       has_bit-low (n * 2 ^ (8 * x) % 2 ^ 128) 80 (8 * a + b) (omega (arith, near, low)) ∙ has_bit-low (n * 2 ^ (8 * x)) 128 (8 * a + b) (omega (arith, near, low)) ∙ elim (cases_lt a x) [
         | inl before ↦ has_bit-shifted_low n (8 * x) (8 * a + b) (omega (arith, before, low)) ∙ sym (and_right _ _ (and_left _ _ (false_from_ne_true _ (λ (le : nat_le x a ≡ true). omega (arith, before, leb-true x a le)))))
-        | inr from ↦ has_bit-shifted_high n (8 * x) (8 * a + b) (omega (arith, from)) ∙ ap (has_bit n) {y = 8 * (a - x) + b} (omega (arith, from))
-            ∙ sym (ap (λ t. t && (nat_le x a && has_bit n (8 * (a - x) + b))) (le-leb a 9 near) ∙ ap (λ t. t && has_bit n (8 * (a - x) + b)) (le-leb x a from))
+        | inr from ↦ search (rules, has_bit-shifted_high, le-leb)
       ]
 ]
 
 swapped : (p q r s : Bool) → (p && (q && (r && s))) ≡ (q && (r && (p && s)))
-swapped p true true s = refl
-swapped p true false s = and-false p
-swapped p false r s = and-false p
+swapped p q r s = search (rules, and-false)
 
 pub returns : goal.returns
 unfolding empty_cells to_column
-returns c = λ a b. let n = c.args.self.now.cells in let x = c.args.x in
-    elim (cases_lt b 8) [
-      | inl low ↦ ap (λ t. nat_lt b 8 && t) (bits n x a b low) ∙ swapped (nat_lt b 8) (nat_le a 9) (nat_le x a) (has_bit n (8 * (a - x) + b))
-      | inr high ↦ and_left _ _ (le-ltb b 8 high) ∙ sym (and_right _ _ (and_right _ _ (and_left _ _ (le-ltb b 8 high))))
-    ]
+returns c = search (rules, cases_lt, bits, swapped, and_left, le-ltb, and_right)

@@ -1,5 +1,5 @@
 -- Both sets have cells in rows 0 to 7 alone.
-use Rattle.std.proofs.Common.{◌≡◌, ◌+◌, ◌*◌, Bool, true, false, not, ◌&&◌, nat_lt, refl, ◌∙◌}
+use Rattle.std.proofs.Common.{◌≡◌, ◌+◌, ◌*◌, Bool, not, ◌&&◌, nat_lt, ◌∙◌, rules}
 use Rattle.std.proofs.Math.Path.{fun_ext}
 use Rattle.lane_board.specs.Field.{difference}
 use Rattle.lane_board.specs.Lanes.{has_bit}
@@ -7,8 +7,7 @@ use Rattle.empty_cells.specs.Empties.{empty_cells}
 use Rattle.empty_cells.proofs.empties.Empties.without_cells.Goals as goal
 
 in_rows : (low here taken : Bool) → ((low && here) && not taken) ≡ ((low && here) && not (low && taken))
-in_rows true here taken = refl
-in_rows false here taken = refl
+in_rows low here taken = search rules
 
 pub returns : goal.returns
 unfolding difference empty_cells

@@ -1,5 +1,5 @@
 -- No cell lies past column 9.
-use Rattle.std.proofs.Common.{◌≡◌, Bool, true, false, ◌&&◌, nat_le, refl, ◌∙◌, arith}
+use Rattle.std.proofs.Common.{◌≡◌, Bool, true, ◌&&◌, nat_le, ◌∙◌, arith, rules}
 use Rattle.std.proofs.Math.Path.{fun_ext}
 use Rattle.std.proofs.lemmas.Bool.{le-leb}
 use Rattle.empty_cells.specs.ShiftedCells.{shifted_cells}
@@ -7,9 +7,7 @@ use Rattle.empty_cells.proofs.ShiftedLemmas.{shifted_small}
 use Rattle.empty_cells.proofs.shifted.Shifted.cells.Goals as goal
 
 within : (p q : Bool) → (q ≡ true → p ≡ true) → (p && q) ≡ q
-within true q all = refl
-within false true all = all refl
-within false false all = refl
+within p q all = search rules
 
 pub returns : goal.returns
 returns c = fun_ext (λ a. fun_ext (λ b. c.to_column.ensures a b

@@ -1,8 +1,7 @@
 -- The span lies in column 0 of the set.
-use Rattle.std.proofs.Common.{ap, sym, ◌∙◌}
+use Rattle.std.proofs.Common.{ap, sym, ◌∙◌, rules}
 use Rattle.lane_board.specs.Field.{Field}
 use Rattle.empty_cells.specs.Empties.{empty_cells}
-use Rattle.empty_cells.specs.ShiftedCells.{to_column}
 use Rattle.empty_cells.proofs.ChosenLemmas.{was_there}
 use Rattle.empty_cells.proofs.ShiftedLemmas.{without_there}
 use Rattle.empty_cells.proofs.shifted.Shifted.without_span.Goals as goal
@@ -15,5 +14,4 @@ invariant_of-result c = let s = c.args.self.now in
     }
 
 pub returns-clause-cells : goal.returns-clause-cells
-returns-clause-cells c = let s = c.args.self.now in
-    ap (λ (E : Field). to_column s.x E) c.without_span.ensures ∙ without_there s.x (empty_cells s.cells) c.args.span c.args.y
+returns-clause-cells c = search (rules, without_there)

@@ -1,6 +1,5 @@
 -- Each entry is at most so many.
-use Rattle.std.proofs.Common.{◌≡◌, min, ◌∙◌, arith}
-use Rattle.std.specs.Int.{to_le_bytes}
+use Rattle.std.proofs.Common.{min, ◌∙◌}
 use Rattle.srs.specs.declared.piece.Piece.TheVariants.{I, L, O, Z, T, J, S}
 use Rattle.prune.specs.Tiling.{supply_in}
 use Rattle.empty_cells.specs.SupplyWords.{supply_of}
