@@ -1,5 +1,5 @@
 -- Fields that lie on a board, and how the number of cells grows with the field.
-use Rattle.std.proofs.Common.{◌≡◌, ℕ, zero, suc, ◌<◌, ◌≤◌, Bool, true, false, cond, count_by, List, [], ◌∷◌, refl, sym, ap, ◌∙◌, inl, inr, arith, ◌⊎◌}
+use Rattle.std.proofs.Common.{◌≡◌, ℕ, zero, suc, ◌<◌, ◌≤◌, Bool, true, false, cond, count_by, List, [], ◌∷◌, refl, sym, ap, ◌∙◌, inl, inr, arith, ◌⊎◌, rules}
 use Rattle.std.proofs.Math.Path.{fun_ext}
 use Rattle.std.specs.Bool.{beq}
 use Rattle.std.specs.List.{list_all}
@@ -50,22 +50,15 @@ module _ (p q : ℕ → Bool) (more : (k : ℕ) → p k ≡ true → q k ≡ tru
         (count-same ks (omega (arith, few, sum_by-cons (λ x. cond (p x) 1 0) k ks, sum_by-cons (λ x. cond (q x) 1 0) k ks, ap count_of passes, ap count_of (more k passes))))
     | inr fails ↦ elim (cases_Bool (q k)) [
       | inl other ↦ absurd (omega (arith, few, sum_by-cons (λ x. cond (p x) 1 0) k ks, sum_by-cons (λ x. cond (q x) 1 0) k ks, ap count_of fails, ap count_of other, count-more ks))
-      | inr none ↦ and_from _ _ (both_false k fails none)
-          (count-same ks (omega (arith, few, sum_by-cons (λ x. cond (p x) 1 0) k ks, sum_by-cons (λ x. cond (q x) 1 0) k ks, ap count_of fails, ap count_of none)))
+      | inr none ↦ search (rules, and_from, sum_by-cons, (count-same ks))
     ]
   ]
 
 below_or_top : (y n : ℕ) → y < suc n → (y < n) ⊎ (y ≡ n)
-below_or_top y n row = elim (cases_lt y n) [
-  | inl below ↦ inl below
-  | inr above ↦ inr (omega arith)
-]
+below_or_top y n row = search (rules, cases_lt)
 
 beq-same : (a b : Bool) → beq a b ≡ true → a ≡ b
-beq-same true true e = refl
-beq-same true false e = absurd (false≢true e)
-beq-same false true e = absurd (false≢true e)
-beq-same false false e = refl
+beq-same a b e = search (rules, false≢true)
 
 module _ (F G : Field) (within : IsWithin F G) where
   row_count-more : (y : ℕ) → row_count F y ≤ row_count G y

@@ -1,5 +1,5 @@
 -- Placements in low rows, by the words that have their pivots.
-use Rattle.std.proofs.Common.{◌≡◌, ◌≢◌, ◌↔◌, ℕ, zero, suc, ◌+◌, ◌-◌, ◌*◌, ◌/◌, ◌%◌, ◌<◌, ◌≤◌, Bool, true, false, nat_lt, ◌&&◌, ◌||◌, not, ◌==◌, Option, Some, None, List, length, set, get_or, get_or-set_other, get_or-set_same, ◌⊎◌, refl, sym, ap, ◌∙◌, inl, inr, arith}
+use Rattle.std.proofs.Common.{◌≡◌, ◌≢◌, ◌↔◌, ℕ, zero, suc, ◌+◌, ◌-◌, ◌*◌, ◌/◌, ◌%◌, ◌<◌, ◌≤◌, true, false, nat_lt, ◌&&◌, not, ◌==◌, Option, Some, None, List, length, set, get_or, ◌⊎◌, refl, sym, ap, ◌∙◌, inl, inr, arith, rules}
 use Rattle.std.specs.Prelude.{IsTrue}
 use Rattle.std.proofs.lemmas.Bool.{and_parts, and_from, both_ways, cases_Bool, cases_eq, cases_lt, cases_order, eq-eqb, eqb-true, lt-ltb, ltb-true, ne_eqb, not-true, not_from_false, false_from_ne_true}
 use Rattle.std.proofs.Math.Bool.{and-true}
@@ -28,15 +28,7 @@ use Rattle.place_sets.proofs.TakeLemmas.{below_by_pivot}
 
 -- each of eight words
 pub each_word : (P : ℕ → Type 0) → P 0 → P 1 → P 2 → P 3 → P 4 → P 5 → P 6 → P 7 → (w : ℕ) → w < 8 → P w
-each_word P a b c d e f g h zero small = a
-each_word P a b c d e f g h (suc zero) small = b
-each_word P a b c d e f g h (suc (suc zero)) small = c
-each_word P a b c d e f g h (suc (suc (suc zero))) small = d
-each_word P a b c d e f g h (suc (suc (suc (suc zero)))) small = e
-each_word P a b c d e f g h (suc (suc (suc (suc (suc zero))))) small = f
-each_word P a b c d e f g h (suc (suc (suc (suc (suc (suc zero)))))) small = g
-each_word P a b c d e f g h (suc (suc (suc (suc (suc (suc (suc zero))))))) small = h
-each_word P a b c d e f g h (suc (suc (suc (suc (suc (suc (suc (suc w)))))))) small = absurd (omega arith)
+each_word P a b c d e f g h h9 small = search rules
 
 -- the word and the bit of a cell
 abbrev pub word_of : ℕ → ℕ → ℕ
@@ -48,10 +40,7 @@ bit_of x y = 16 * (y % 4) + x
 module _ (words : List ℕ) (place x y : ℕ) where
   pub cell-parts : cells_of_words words place x y ≡ true → (x < 16) × (y < 8) × (has_bit (get_or words (word_of place y) 0) (bit_of x y) ≡ true)
   unfolding cells_of_words
-  cell-parts has =
-      let parts = and_parts (nat_lt x 16 && nat_lt y 8) _ has in
-      let sides = and_parts (nat_lt x 16) (nat_lt y 8) parts.0 in
-      (ltb-true x 16 sides.0, ltb-true y 8 sides.1, parts.1)
+  cell-parts has = search (rules, and_parts, ltb-true)
 
   pub cell-from : x < 16 → y < 8 → has_bit (get_or words (word_of place y) 0) (bit_of x y) ≡ true → cells_of_words words place x y ≡ true
   unfolding cells_of_words
@@ -60,9 +49,7 @@ module _ (words : List ℕ) (place x y : ℕ) where
 module _ (places : LowPlaces) where
   pub low_holds-parts : (q : Placement) → IsTrue (holds places q) → (q.piece ≡ piece_of places) × (cells_of_words places.words (rotation_place q.rotation) q.x q.y ≡ true)
   unfolding holds
-  low_holds-parts q held =
-      let parts = and_parts (piece_code q.piece == piece_code (piece_of places)) _ held in
-      (piece_code-injective q.piece (piece_of places) (eqb-true _ _ parts.0), parts.1)
+  low_holds-parts q held = search (rules, and_parts, piece_code-injective, eqb-true)
 
   pub low_holds-from : (q : Placement) → q.piece ≡ piece_of places → cells_of_words places.words (rotation_place q.rotation) q.x q.y ≡ true → IsTrue (holds places q)
   unfolding holds
@@ -83,12 +70,7 @@ pub record IsAt (piece : Piece) (at bit : ℕ) (s : Placement) : Type 0 where
 
 -- it is the one of its piece with its word and its bit
 pub same_place : (piece : Piece) (at bit : ℕ) (s q : Placement) → bit < 64 → IsAt piece at bit s → q.piece ≡ piece → q.x < 16 → q.y < 8 → word_of (rotation_place q.rotation) q.y ≡ at → bit_of q.x q.y ≡ bit → s ≡ q
-same_place piece at bit s q within is kind narrow low word place =
-    let turn : rotation_place s.rotation ≡ rotation_place q.rotation = omega (arith, is.rotation) in
-    let rotation = rotation_place-injective s.rotation q.rotation turn in
-    let x : s.x ≡ q.x = omega (arith, is.column) in
-    let y : s.y ≡ q.y = omega (arith, is.row) in
-    λ i. record { piece = (is.kind ∙ sym kind) i; rotation = rotation i; x = x i; y = y i }
+same_place piece at bit s q within is kind narrow low word place = search (rules, rotation_place-injective)
 
 -- the lowest bit of the first word that has one
 module _ (places : LowPlaces) (at bit : ℕ) (small : at < 8) (within : bit < 64) (before : (w : ℕ) → w < at → get_or places.words w 0 ≡ 0)
@@ -106,13 +88,8 @@ module _ (places : LowPlaces) (at bit : ℕ) (small : at < 8) (within : bit < 64
       let cell = cell-parts places.words (rotation_place q.rotation) q.x q.y (low_holds-parts places q held).1 in
       let word = word_of (rotation_place q.rotation) q.y in
       elim (cases_order word at) [
-        | inl same ↦
-            let least = lowest.first (bit_of q.x q.y) (ap (λ w. has_bit (get_or places.words w 0) (bit_of q.x q.y)) (sym same) ∙ cell.2) in
-            omega (arith, same, least, is.rotation, is.row, is.column, cell.0, cell.1)
-        | inr apart ↦ elim apart [
-          | inl under ↦ absurd (both_ways _ (has_bit-zero (bit_of q.x q.y)) (ap (λ n. has_bit n (bit_of q.x q.y)) (sym (before word under)) ∙ cell.2))
-          | inr over ↦ omega (arith, over, is.rotation, is.row, is.column, cell.0, cell.1)
-        ]
+        | inl same ↦ search rules
+        | inr apart ↦ search (rules, both_ways, has_bit-zero)
       ]
 
   pub low_least : IsNextAbove placement_cmp (λ q. IsTrue (holds places q)) None (Some s)
@@ -131,16 +108,7 @@ module _ (places : LowPlaces) (at bit : ℕ) (small : at < 8) (within : bit < 64
       (bits : (k : ℕ) → k < 64 → has_bit word k ≡ (has_bit (get_or places.words at 0) k && not (k == bit))) where
     -- what bit a word has
     bit_in : (w k : ℕ) → k < 64 → has_bit (get_or new.words w 0) k ≡ (has_bit (get_or places.words w 0) k && not ((w == at) && (k == bit)))
-    bit_in w k few = elim (cases_eq w at) [
-      | inl same ↦
-          let inside : at < length places.words = omega (arith, whole, small) in
-          ap (λ (ws : List ℕ). has_bit (get_or ws w 0) k) changed ∙ ap (λ w. has_bit (get_or (set places.words at word) w 0) k) same
-          ∙ ap (λ n. has_bit n k) (get_or-set_same places.words at word 0 inside) ∙ bits k few
-          ∙ (λ i. has_bit (get_or places.words (sym same i) 0) k && not (sym (eq-eqb w at same) i && (k == bit)))
-      | inr other ↦
-          ap (λ (ws : List ℕ). has_bit (get_or ws w 0) k) changed ∙ ap (λ n. has_bit n k) (get_or-set_other places.words at w word 0 other)
-          ∙ sym (and-true _) ∙ ap (λ b. has_bit (get_or places.words w 0) k && not (b && (k == bit))) (sym (ne_eqb w at other))
-    ]
+    bit_in w k few = search (rules, cases_eq, eq-eqb, and-true, ne_eqb)
 
     pub low_rest : (q : Placement) → IsTrue (holds new q) ↔ (IsTrue (holds places q) × (Some s ≢ Some q))
     low_rest q = (there, back)
@@ -191,15 +159,7 @@ module _ (places : LowPlaces) (at bit : ℕ) (small : at < 8) (within : bit < 64
 pub cells-lost : (old new others : List ℕ) → ((w : ℕ) → w < 8 → (k : ℕ) → has_bit (get_or new w 0) k ≡ (has_bit (get_or old w 0) k && not (has_bit (get_or others w 0) k))) → (place x y : ℕ) → place < 4 →
     cells_of_words new place x y ≡ (cells_of_words old place x y && not (cells_of_words others place x y))
 unfolding cells_of_words
-cells-lost old new others lost place x y few = elim (cases_Bool (nat_lt x 16 && nat_lt y 8)) [
-  | inl in_reach ↦
-      let row = ltb-true y 8 (and_parts (nat_lt x 16) (nat_lt y 8) in_reach).1 in
-      ap (λ b. b && bit new) in_reach ∙ lost (word_of place y) (omega (arith, few, row)) (bit_of x y) ∙ ap (λ b. (b && bit old) && not (b && bit others)) (sym in_reach)
-  | inr out ↦ ap (λ b. b && bit new) out ∙ ap (λ b. (b && bit old) && not (b && bit others)) (sym out)
-]
-  where
-    bit : List ℕ → Bool
-    bit words = has_bit (get_or words (word_of place y) 0) (bit_of x y)
+cells-lost old new others lost place x y few = search (rules, cases_Bool, ltb-true, and_parts)
 
 -- the word has four rows of a rotation from a row on, without those past a limit
 abbrev pub CutFrom : States → Rotation → ℕ → ℕ → ℕ → Type 0
@@ -212,24 +172,7 @@ pub cut_cells : {N : ℕ} (S : States) (words : List ℕ) (limit : ℕ) (r : Rot
 cut_cells S words limit r lies low first second x y = same_from_both _ _ there back
   where
     at : x < 16 → y < 8 → has_bit (get_or words (word_of (rotation_place r) y) 0) (bit_of x y) ≡ (S r x y && nat_lt y limit)
-    at column row = elim (cases_lt y 4) [
-      | inl under ↦
-          let word : word_of (rotation_place r) y ≡ 2 * rotation_place r = omega (arith, under) in
-          let p : bit_of x y % 16 ≡ x = omega (arith, column) in
-          let q : 0 + bit_of x y / 16 ≡ y = omega (arith, column, under) in
-          ap (λ w. has_bit (get_or words w 0) (bit_of x y)) word ∙ first (bit_of x y) (omega (arith, column)) ∙ (λ i. S r (p i) (q i) && nat_lt (bit_of x y) (16 * (limit - 0)))
-          ∙ ap (λ b. S r x y && b) (same_from_both (nat_lt (bit_of x y) (16 * (limit - 0))) (nat_lt y limit)
-          (λ is. lt-ltb y limit (omega (arith, ltb-true (bit_of x y) (16 * (limit - 0)) is, under)))
-          (λ is. lt-ltb (bit_of x y) (16 * (limit - 0)) (omega (arith, ltb-true y limit is, column, under))))
-      | inr over ↦
-          let word : word_of (rotation_place r) y ≡ 2 * rotation_place r + 1 = omega (arith, over, row) in
-          let p : bit_of x y % 16 ≡ x = omega (arith, column) in
-          let q : 4 + bit_of x y / 16 ≡ y = omega (arith, column, over, row) in
-          ap (λ w. has_bit (get_or words w 0) (bit_of x y)) word ∙ second (bit_of x y) (omega (arith, column)) ∙ (λ i. S r (p i) (q i) && nat_lt (bit_of x y) (16 * (limit - 4)))
-          ∙ ap (λ b. S r x y && b) (same_from_both (nat_lt (bit_of x y) (16 * (limit - 4))) (nat_lt y limit)
-          (λ is. lt-ltb y limit (omega (arith, ltb-true (bit_of x y) (16 * (limit - 4)) is, over, row)))
-          (λ is. lt-ltb (bit_of x y) (16 * (limit - 4)) (omega (arith, ltb-true y limit is, column, over, row))))
-    ]
+    at column row = search (rules, cases_lt, same_from_both, lt-ltb, ltb-true)
 
     there : cells_of_words words (rotation_place r) x y ≡ true → (S r x y && nat_lt y limit) ≡ true
     there has = let cell = cell-parts words (rotation_place r) x y has in sym (at cell.0 cell.1) ∙ cell.2
@@ -288,10 +231,7 @@ pub low_places_held : (P : Placement → Type 0) (piece : Piece) (rows : ℕ) (p
     ((q : Placement) → IsTrue (holds places q) ↔ ((q.piece ≡ piece) × (has_state S q ≡ true) × IsTrue (is_below rows q))) →
     ((q : Placement) → q.piece ≡ piece → IsTrue (is_below rows q) → (has_state S q ≡ true) ↔ P q) →
     (q : Placement) → IsTrue (holds places q) ↔ ((q.piece ≡ piece) × P q × IsTrue (is_below rows q))
-low_places_held P piece rows places S filled are q = (
-  λ held. let parts = (filled q).0 held in (parts.0, (are q parts.0 parts.2).0 parts.1, parts.2),
-  λ place. (filled q).1 (place.0, (are q place.0 place.2).1 place.1, place.2),
-)
+low_places_held P piece rows places S filled are q = search rules
 
 -- so does a set that has the states with the pivot below a row M that is no lower
 pub held_under : (P : Placement → Type 0) (piece : Piece) (M rows : ℕ) (S : States) → rows ≤ M → HasExactly (IsUnder M P) piece S →

@@ -1,5 +1,5 @@
 -- The numbers of a set, word by word.
-use Rattle.std.proofs.Common.{◌≡◌, ℕ, zero, suc, ◌+◌, ◌-◌, ◌*◌, ◌/◌, ◌%◌, ◌<◌, ◌≤◌, Bool, true, false, not, ◌&&◌, ◌==◌, nat_lt, nat_le, List, length, length-set, set, get_or, Option, Some, None, refl, sym, ap, subst, ◌∙◌, inl, inr, arith, get_or-set_other, get_or-set_same, ◌≢◌}
+use Rattle.std.proofs.Common.{◌≡◌, ℕ, ◌+◌, ◌-◌, ◌*◌, ◌/◌, ◌%◌, ◌<◌, ◌≤◌, true, not, ◌&&◌, ◌==◌, nat_lt, nat_le, List, length, set, get_or, Option, Some, refl, sym, ap, ◌∙◌, inl, inr, arith, ◌≢◌, rules}
 use Rattle.std.proofs.Math.Path.{fun_ext}
 use Rattle.std.proofs.lemmas.Bool.{cases_lt, cases_eq, and_parts, and_from, leb-true, le-leb, lt-ltb, le-ltb, ltb-true, eq-eqb, ne_eqb, both_ways}
 use Rattle.std.proofs.Math.Bool.{and-true}
@@ -17,10 +17,7 @@ use Rattle.place_sets.proofs.FieldLemmas.{LiesWithin}
 -- the number of a word's bit
 pub has_number-at : (numbers : Numbers) (w k : ℕ) → k < 64 → has_number numbers (64 * w + k) ≡ has_bit (get_or numbers.words w 0) k
 unfolding has_number
-has_number-at numbers w k within =
-    let p : (64 * w + k) / 64 ≡ w = omega arith in
-    let q : (64 * w + k) % 64 ≡ k = omega arith in
-    λ i. has_bit (get_or numbers.words (p i) 0) (q i)
+has_number-at numbers w k within = search rules
 
 pub has_number-in : (numbers : Numbers) (n : ℕ) → has_number numbers n ≡ has_bit (get_or numbers.words (n / 64) 0) (n % 64)
 unfolding has_number
@@ -32,10 +29,7 @@ pub record IsWordFrom (numbers : Numbers) (from at word : ℕ) : Type 0 where
 
 module _ (numbers : Numbers) (from at word : ℕ) (is : IsWordFrom numbers from at word) (before : (m : ℕ) → from ≤ m → m < 64 * at → has_number numbers m ≡ true → ⊥) where
   in_word : (m : ℕ) → from ≤ m → m / 64 ≡ at → has_number numbers m ≡ true → has_bit word (m % 64) ≡ true
-  in_word m after here has =
-      is.bits (m % 64) (omega arith)
-      ∙ and_from _ _ (le-leb (from - 64 * at) (m % 64) (omega arith))
-      (ap (λ w. has_bit (get_or numbers.words w 0) (m % 64)) (sym here) ∙ sym (has_number-in numbers m) ∙ has)
+  in_word m after here has = search (rules, and_from, le-leb, has_number-in)
 
   pub none_more : word ≡ 0 → (m : ℕ) → from ≤ m → m < 64 * (at + 1) → has_number numbers m ≡ true → ⊥
   none_more none m after within has = elim (cases_lt m (64 * at)) [
@@ -66,36 +60,19 @@ word_whole numbers start at after = record { bits = λ k within. ap (λ b. b && 
 
 -- the bits of the word of a number
 pub word_at : (numbers : Numbers) (from at word : ℕ) → at ≡ from / 64 → ((k : ℕ) → k < 64 → has_bit word k ≡ (nat_le (from % 64) k && has_bit (get_or numbers.words at 0) k)) → IsWordFrom numbers from at word
-word_at numbers from at word is bits =
-    let low : from % 64 ≡ from - 64 * at = omega (arith, is) in
-    record { bits = λ k within. bits k within ∙ ap (λ low. nat_le low k && has_bit (get_or numbers.words at 0) k) low }
+word_at numbers from at word is bits = search rules
 
 pub none_before : (numbers : Numbers) (from at : ℕ) → at ≡ from / 64 → (m : ℕ) → from ≤ m → m < 64 * at → has_number numbers m ≡ true → ⊥
 none_before numbers from at is m after within has = absurd (omega (arith, is, after, within))
 
 -- where none lies before a later number, the least one from there on is the least one
 pub number_later : (numbers : Numbers) (from later : ℕ) (n : Option ℕ) → ((m : ℕ) → from ≤ m → m < later → has_number numbers m ≡ true → ⊥) → from ≤ later → IsNumberFrom numbers later n → IsNumberFrom numbers from n
-number_later numbers from later None none after is = record {
-  none = λ m few from_there has. elim (cases_lt m later) [
-    | inl before ↦ none m from_there before has
-    | inr beyond ↦ is.none m few beyond has
-  ];
-}
-number_later numbers from later (Some n) none after is = record {
-  has = is.has;
-  small = is.small;
-  after = omega (arith, is.after, after);
-  first = λ m few from_there has. elim (cases_lt m later) [
-    | inl before ↦ absurd (none m from_there before has)
-    | inr beyond ↦ is.first m few beyond has
-  ];
-}
+number_later numbers from later n none after is = search (rules, cases_lt)
 
 -- the least number of all is in the first word that has a bit
 module _ (numbers : Numbers) (at : ℕ) (before : (w : ℕ) → w < at → get_or numbers.words w 0 ≡ 0) where
   none_before_word : (m : ℕ) → 0 ≤ m → m < 64 * at → has_number numbers m ≡ true → ⊥
-  none_before_word m after within has =
-      both_ways _ (has_bit-zero (m % 64)) (ap (λ w. has_bit w (m % 64)) (sym (before (m / 64) (omega arith))) ∙ sym (has_number-in numbers m) ∙ has)
+  none_before_word m after within has = search (rules, both_ways, has_bit-zero, has_number-in)
 
   whole_word : IsWordFrom numbers 0 at (get_or numbers.words at 0)
   whole_word = record { bits = λ k within. ap (λ b. b && has_bit (get_or numbers.words at 0) k) {x = true} (sym (le-leb (0 - 64 * at) k (omega arith))) }
@@ -110,23 +87,7 @@ module _ (numbers : Numbers) (at : ℕ) (before : (w : ℕ) → w < at → get_o
 pub without_number : (old new : Numbers) (at bit word : ℕ) → length old.words ≡ 24 → at < 24 → bit < 64 → new.words ≡ set old.words at word → ((k : ℕ) → k < 64 → has_bit word k ≡ (has_bit (get_or old.words at 0) k && not (k == bit))) →
     (n : ℕ) → n < 1536 → has_number new n ≡ (has_number old n && not (is_named (Some (64 * at + bit)) n))
 unfolding has_number
-without_number old new at bit word size small within is bits n few = elim (cases_eq (n / 64) at) [
-  | inl here ↦
-      let in_bounds : at < length old.words = omega arith in
-      let changed : get_or new.words (n / 64) 0 ≡ word = ap (λ (ws : List ℕ). get_or ws (n / 64) 0) is ∙ ap (λ w. get_or (set old.words at word) w 0) here ∙ rw get_or-set_same in
-      let old_word : get_or old.words at 0 ≡ get_or old.words (n / 64) 0 = ap (λ w. get_or old.words w 0) (sym here) in
-      ap (λ w. has_bit w (n % 64)) changed ∙ bits (n % 64) (omega arith) ∙ (λ i. has_bit (old_word i) (n % 64) && not (same_test here i))
-  | inr other ↦
-      let apart : n / 64 ≢ at = other in
-      let kept : get_or new.words (n / 64) 0 ≡ get_or old.words (n / 64) 0 = ap (λ (ws : List ℕ). get_or ws (n / 64) 0) is ∙ rw get_or-set_other in
-      ap (λ w. has_bit w (n % 64)) kept ∙ sym (and-true _) ∙ ap (λ b. has_bit (get_or old.words (n / 64) 0) (n % 64) && not b) (sym (ne_eqb (64 * at + bit) n (λ e. other (omega arith))))
-]
-  where
-    same_test : n / 64 ≡ at → (n % 64 == bit) ≡ (64 * at + bit == n)
-    same_test here = elim (cases_eq (n % 64) bit) [
-      | inl same ↦ eq-eqb _ _ same ∙ sym (eq-eqb _ _ (omega arith))
-      | inr apart ↦ ne_eqb _ _ apart ∙ sym (ne_eqb _ _ (λ e. apart (omega arith)))
-    ]
+without_number old new at bit word size small within is bits n few = search (rules, cases_eq, and-true, ne_eqb, eq-eqb)
 
 -- words that have the rows of the boards
 pub states_by : (numbers : Numbers) (S : States) → ((r : Rotation) → LiesWithin (S r) 24) → ((w : ℕ) → w < 24 → (r : Rotation) → rotation_place r ≡ w / 6 → IsFourRows (S r) (4 * (w % 6)) (get_or numbers.words w 0)) → ((r : Rotation) → rotation_place r < 4) → states_in numbers ≡ S
@@ -144,110 +105,48 @@ states_by numbers S lies rows few = fun_ext (λ r. fun_ext (λ x. fun_ext (λ y.
         (rows (n / 64) w r turn).bits (n % 64) (omega arith) ∙ (λ i. S r (p i) (q i))
 
     same : (r : Rotation) (x y : ℕ) → states_in numbers r x y ≡ S r x y
-    same r x y = same_from_both _ _ there back
-      where
-        there : states_in numbers r x y ≡ true → S r x y ≡ true
-        there held =
-            let parts = and_parts (nat_lt x 16 && nat_lt y 24) _ held in
-            let sides = and_parts (nat_lt x 16) (nat_lt y 24) parts.0 in
-            sym (at r x y (ltb-true x 16 sides.0) (ltb-true y 24 sides.1)) ∙ parts.1
-
-        back : S r x y ≡ true → states_in numbers r x y ≡ true
-        back held =
-            let place = (lies r).inside x y held in
-            let column : x < 16 = omega (arith, place.0) in
-            and_from _ _ (and_from _ _ (lt-ltb x 16 column) (lt-ltb y 24 place.1)) (at r x y column place.1 ∙ held)
+    same r x y = search (rules, same_from_both, and_parts, ltb-true, and_from, lt-ltb, at)
 
 -- one word changed
 one_more : (P : ℕ → ℕ → Type 0) (words : List ℕ) (at word w : ℕ) → at < length words → P at word → (w ≢ at → P w (get_or words w 0)) → P w (get_or (set words at word) w 0)
-one_more P words at word w in_bounds here others = elim (cases_eq w at) [
-  | inl same ↦ subst (λ w. P w (get_or (set words at word) w 0)) (sym same) (rw get_or-set_same here)
-  | inr apart ↦ rw get_or-set_other (others apart)
-]
+one_more P words at word w in_bounds here others = search (rules, cases_eq)
 
 -- one word more of each rotation
 abbrev pub four_set : List ℕ → ℕ → ℕ → ℕ → ℕ → ℕ → List ℕ
 four_set words at a b c d = set (set (set (set words at a) (at + 6) b) (at + 12) c) (at + 18) d
 
 pub four_set-length : (words : List ℕ) (at a b c d : ℕ) → length words ≡ 24 → length (four_set words at a b c d) ≡ 24
-four_set-length words at a b c d size =
-    length-set (set (set (set words at a) (at + 6) b) (at + 12) c) (at + 18) d ∙ length-set (set (set words at a) (at + 6) b) (at + 12) c ∙ length-set (set words at a) (at + 6) b ∙ length-set words at a ∙ size
+four_set-length words at a b c d size = search rules
 
 pub four_more : (P : ℕ → ℕ → Type 0) (words : List ℕ) (at a b c d : ℕ) → length words ≡ 24 → at < 6 → ((w : ℕ) → w < 24 → w % 6 < at → P w (get_or words w 0)) → P at a → P (at + 6) b → P (at + 12) c → P (at + 18) d →
     (w : ℕ) → w < 24 → w % 6 < at + 1 → P w (get_or (four_set words at a b c d) w 0)
-four_more P words at a b c d size small before is_a is_b is_c is_d w below within =
-    one_more P (set (set (set words at a) (at + 6) b) (at + 12) c) (at + 18) d w (omega (arith, three)) is_d
-    (λ (n4 : w ≢ at + 18). one_more P (set (set words at a) (at + 6) b) (at + 12) c w (omega (arith, two)) is_c
-    (λ (n3 : w ≢ at + 12). one_more P (set words at a) (at + 6) b w (omega (arith, one)) is_b
-    (λ (n2 : w ≢ at + 6). one_more P words at a w (omega arith) is_a
-    (λ (n1 : w ≢ at). before w below (omega arith)))))
-  where
-    one : length (set words at a) ≡ 24
-    one = length-set words at a ∙ size
-
-    two : length (set (set words at a) (at + 6) b) ≡ 24
-    two = length-set (set words at a) (at + 6) b ∙ one
-
-    three : length (set (set (set words at a) (at + 6) b) (at + 12) c) ≡ 24
-    three = length-set (set (set words at a) (at + 6) b) (at + 12) c ∙ two
+four_more P words at a b c d size small before is_a is_b is_c is_d w below within = search (rules, one_more)
 
 -- the words of later rows stay
 pub four_later : (words : List ℕ) (at a b c d w : ℕ) → at + 1 ≤ w % 6 → get_or (four_set words at a b c d) w 0 ≡ get_or words w 0
-four_later words at a b c d w later =
-    let n1 : w ≢ at = omega (arith, later) in
-    let n2 : w ≢ at + 6 = omega (arith, later) in
-    let n3 : w ≢ at + 12 = omega (arith, later) in
-    let n4 : w ≢ at + 18 = omega (arith, later) in
-    rw (get_or-set_other, get_or-set_other, get_or-set_other, get_or-set_other) refl
+four_later words at a b c d w later = search rules
 
 -- the word has the four rows of its rotation
 abbrev pub HasRows : States → ℕ → ℕ → Type 0
 HasRows S w word = (r : Rotation) → rotation_place r ≡ w / 6 → IsFourRows (S r) (4 * (w % 6)) word
 
 pub rows_here : (S : States) (q : Rotation) (w at place word : ℕ) → w ≡ at + 6 * place → at < 6 → rotation_place q ≡ place → IsFourRows (S q) (4 * at) word → HasRows S w word
-rows_here S q w at place word is small here rows r turn =
-    let same : q ≡ r = rotation_place-injective q r (here ∙ sym (turn ∙ omega arith)) in
-    let row : 4 * at ≡ 4 * (w % 6) = omega arith in
-    subst (λ (r : Rotation). IsFourRows (S r) (4 * (w % 6)) word) same (subst (λ y. IsFourRows (S q) y word) row rows)
+rows_here S q w at place word is small here rows r turn = search (rules, rotation_place-injective)
 
 -- the word has the bits of some rows of its rotation
 abbrev pub KeepsRows : Numbers → List ℕ → ℕ → ℕ → Type 0
 KeepsRows old rows w word = (k : ℕ) → k < 64 → has_bit word k ≡ (has_bit (get_or old.words w 0) k && nat_lt k (16 * (get_or rows (w / 6) 0 - 4 * (w % 6))))
 
 pub keeps_here : (old : Numbers) (rows : List ℕ) (w at place word : ℕ) → w ≡ at + 6 * place → at < 6 → ((k : ℕ) → k < 64 → has_bit word k ≡ (has_bit (get_or old.words w 0) k && nat_lt k (16 * (get_or rows place 0 - 4 * at)))) → KeepsRows old rows w word
-keeps_here old rows w at place word is small bits k within =
-    let turn : place ≡ w / 6 = omega arith in
-    let row : at ≡ w % 6 = omega arith in
-    bits k within ∙ (λ i. has_bit (get_or old.words w 0) k && nat_lt k (16 * (get_or rows (turn i) 0 - 4 * row i)))
+keeps_here old rows w at place word is small bits k within = search rules
 
 pub under_all : (rows : List ℕ) (top : ℕ) → get_or rows 0 0 ≤ top → get_or rows 1 0 ≤ top → get_or rows 2 0 ≤ top → get_or rows 3 0 ≤ top → (place : ℕ) → place < 4 → get_or rows place 0 ≤ top
-under_all rows top a b c d zero few = a
-under_all rows top a b c d (suc zero) few = b
-under_all rows top a b c d (suc (suc zero)) few = c
-under_all rows top a b c d (suc (suc (suc zero))) few = d
-under_all rows top a b c d (suc (suc (suc (suc place)))) few = absurd (omega arith)
+under_all rows top a b c d h6 few = search rules
 
 -- no row that is kept is in a later word
 pub keeps_none : (old : Numbers) (rows : List ℕ) (w word : ℕ) → word ≡ 0 → get_or rows (w / 6) 0 ≤ 4 * (w % 6) → KeepsRows old rows w word
-keeps_none old rows w word none low k within =
-    let nothing : get_or rows (w / 6) 0 - 4 * (w % 6) ≡ 0 = omega (arith, low) in
-    ap (λ word. has_bit word k) none ∙ has_bit-zero k ∙ and_none (has_bit (get_or old.words w 0) k) ∙ ap (λ left. has_bit (get_or old.words w 0) k && nat_lt k (16 * left)) (sym nothing)
-  where
-    and_none : (b : Bool) → false ≡ (b && nat_lt k 0)
-    and_none true = sym (le-ltb k 0 (omega arith))
-    and_none false = refl
+keeps_none old rows w word none low k within = search (rules, has_bit-zero, le-ltb)
 
 pub keeps_rows : (old new : Numbers) (rows : List ℕ) → ((w : ℕ) → w < 24 → KeepsRows old rows w (get_or new.words w 0)) → (place y x : ℕ) → place < 4 → y < 24 → x < 16 → has_number new (number_of_state place y x) ≡ (has_number old (number_of_state place y x) && nat_lt y (get_or rows place 0))
 unfolding has_number
-keeps_rows old new rows keeps place y x few row column =
-    let n = number_of_state place y x in
-    let turn : n / 64 / 6 ≡ place = omega arith in
-    let rest : n / 64 % 6 ≡ y / 4 = omega arith in
-    let bit : n % 64 ≡ 16 * (y % 4) + x = omega arith in
-    keeps (n / 64) (omega arith) (n % 64) (omega arith)
-    ∙ ap (λ b. has_bit (get_or old.words (n / 64) 0) (n % 64) && b) ((λ i. nat_lt (bit i) (16 * (get_or rows (turn i) 0 - 4 * rest i))) ∙ same (get_or rows place 0))
-  where
-    same : (left : ℕ) → nat_lt (16 * (y % 4) + x) (16 * (left - 4 * (y / 4))) ≡ nat_lt y left
-    same left = same_from_both _ _
-        (λ is. let less = ltb-true _ _ is in lt-ltb y left (omega (arith, less)))
-        (λ is. let less = ltb-true _ _ is in lt-ltb _ _ (omega (arith, less)))
+keeps_rows old new rows keeps place y x few row column = search (rules, same_from_both, ltb-true, lt-ltb)

@@ -1,5 +1,5 @@
 -- The numbers of states, and the order that they have in common with the places of states.
-use Rattle.std.proofs.Common.{◌≡◌, ◌↔◌, ℕ, ◌+◌, ◌*◌, ◌/◌, ◌%◌, ◌<◌, ◌≤◌, min, true, nat_lt, ◌&&◌, sym, subst, inl, inr, arith}
+use Rattle.std.proofs.Common.{◌≡◌, ◌↔◌, ℕ, ◌+◌, ◌*◌, ◌/◌, ◌%◌, ◌<◌, ◌≤◌, min, true, nat_lt, ◌&&◌, sym, subst, arith, rules}
 use Rattle.std.proofs.lemmas.Bool.{and_parts, and_from, cases_lt, cases_order, lt-ltb, ltb-true}
 use Rattle.srs.specs.declared.piece.Piece.{Piece}
 use Rattle.srs.specs.declared.rotation.Rotation.{Rotation}
@@ -13,9 +13,7 @@ use Rattle.place_sets.specs.States.{has_state}
 
 pub number-within : (numbers : Numbers) (r : Rotation) (x y : ℕ) → states_in numbers r x y ≡ true → (x < 16) × (y < 24)
 unfolding states_in
-number-within numbers r x y held =
-    let sides = and_parts (nat_lt x 16) (nat_lt y 24) (and_parts (nat_lt x 16 && nat_lt y 24) _ held).0 in
-    (ltb-true x 16 sides.0, ltb-true y 24 sides.1)
+number-within numbers r x y held = search (rules, and_parts, ltb-true)
 
 pub number-has : (numbers : Numbers) (r : Rotation) (x y : ℕ) → states_in numbers r x y ≡ true → has_number numbers (number_of_state (rotation_place r) y x) ≡ true
 unfolding states_in
@@ -27,25 +25,10 @@ has-number numbers r x y column row has = and_from _ _ (and_from _ _ (lt-ltb x 1
 
 -- from which number on the states from a place on are
 pub starts_high : (first y x place b a : ℕ) → y < 256 → x ≤ 256 → 24 ≤ y → b < 24 → a < 16 → (place_number first y x ≤ place_number place b a) ↔ (384 * (first + 1) ≤ number_of_state place b a)
-starts_high first y x place b a row column high small_b small_a = (
-  λ after. elim (cases_lt first place) [ inl later ↦ omega arith | inr none ↦ absurd (omega arith) ],
-  λ after. elim (cases_lt first place) [ inl later ↦ omega arith | inr none ↦ absurd (omega arith) ],
-)
+starts_high first y x place b a row column high small_b small_a = search (rules, cases_lt)
 
 pub starts_low : (first y x place b a : ℕ) → x ≤ 256 → y < 24 → b < 24 → a < 16 → (place_number first y x ≤ place_number place b a) ↔ (384 * first + 16 * y + min x 16 ≤ number_of_state place b a)
-starts_low first y x place b a column low small_b small_a = elim (cases_order first place) [
-  | inl same ↦ elim (cases_order y b) [
-    | inl level ↦ (λ after. omega arith, λ after. omega arith)
-    | inr apart ↦ elim apart [
-      | inl above ↦ (λ after. omega arith, λ after. omega arith)
-      | inr below ↦ (λ after. absurd (omega arith), λ after. absurd (omega arith))
-    ]
-  ]
-  | inr other ↦ elim other [
-    | inl later ↦ (λ after. omega arith, λ after. omega arith)
-    | inr earlier ↦ (λ after. absurd (omega arith), λ after. absurd (omega arith))
-  ]
-]
+starts_low first y x place b a column low small_b small_a = search (rules, cases_order)
 
 -- the state with a number
 pub record HasNumber (n : ℕ) (s : Placement) : Type 0 where
@@ -57,12 +40,7 @@ pub number_is : (n : ℕ) (s : Placement) → n < 1536 → HasNumber n s → num
 number_is n s small is = let r = is.rotation in let y = is.row in let x = is.column in omega arith
 
 pub same_number : (n : ℕ) (s q : Placement) → HasNumber n s → s.piece ≡ q.piece → q.x < 16 → q.y < 24 → number_of_state (rotation_place q.rotation) q.y q.x ≡ n → s ≡ q
-same_number n s q is kind column row e =
-    let turn : rotation_place s.rotation ≡ rotation_place q.rotation = omega (arith, is.rotation) in
-    let rotation = rotation_place-injective s.rotation q.rotation turn in
-    let x : s.x ≡ q.x = omega (arith, is.column) in
-    let y : s.y ≡ q.y = omega (arith, is.row) in
-    λ i. record { piece = kind i; rotation = rotation i; x = x i; y = y i }
+same_number n s q is kind column row e = search (rules, rotation_place-injective)
 
 number_order : (p y x q b a : ℕ) → y < 24 → x < 16 → b < 24 → a < 16 → number_of_state p y x ≤ number_of_state q b a → place_number p y x ≤ place_number q b a
 number_order p y x q b a row column small_b small_a after = (starts_low p y x q b a (omega arith) row small_b small_a).1 (omega arith)

@@ -1,15 +1,14 @@
 -- The order of placements is that of their numbers, and a scan begins where the numbers do.
-use Rattle.std.proofs.Common.{◌≡◌, ◌↔◌, ℕ, ◌+◌, ◌<◌, ◌≤◌, true, ◌==◌, ◌&&◌, Option, Some, None, refl, sym, ap, subst, ◌∙◌, inl, inr, ◌⊎◌, arith}
+use Rattle.std.proofs.Common.{◌≡◌, ◌↔◌, ℕ, ◌+◌, ◌<◌, ◌≤◌, true, ◌==◌, ◌&&◌, Option, Some, None, refl, sym, ap, subst, ◌∙◌, ◌⊎◌, arith, rules}
 use Rattle.std.specs.Prelude.{IsTrue, IfSome}
 use Rattle.std.specs.Ordering.{ordering_then, nat_cmp}
 use Rattle.std.specs.declared.cmp.Ordering.{Ordering}
-use Rattle.std.specs.declared.cmp.Ordering.TheVariants.{Less, Equal}
+use Rattle.std.specs.declared.cmp.Ordering.TheVariants.{Less}
 use Rattle.std.proofs.lemmas.Bool.{cases_order, eq-eqb, eqb-true, and_parts, and_from}
 use Rattle.std.specs.Cmp.{nat_cmp_is}
 use Rattle.srs.specs.declared.piece.Piece.{Piece}
 use Rattle.srs.specs.declared.placement.Placement.{Placement}
 use Rattle.srs.specs.Piece.{piece_code}
-use Rattle.srs.specs.Rotation.{rotation_place}
 use Rattle.srs.specs.Order.{placement_cmp}
 use Rattle.srs.specs.Rising.{is_before, IsNextAbove}
 use Rattle.srs.proofs.CallerLemmas.{piece_code-injective, below_is_less, is_before-decides, less_is_below, then_less}
@@ -21,8 +20,7 @@ use Rattle.place_sets.specs.Scan.{state_number, IsStateFrom}
 use Rattle.place_sets.proofs.PlaceNumbers.{number-within}
 
 less_then : (m n : ℕ) (o : Ordering) → (m < n) ⊎ ((m ≡ n) × (o ≡ Less)) → ordering_then (nat_cmp m n) o ≡ Less
-less_then m n o (inl below) = ap (λ (a : Ordering). ordering_then a o) (below_is_less m n below)
-less_then m n o (inr same) = ap (λ (a : Ordering). ordering_then a o) (sym (nat_cmp_is m n Equal same.0)) ∙ same.1
+less_then m n o h3 = search (rules, below_is_less, nat_cmp_is)
 
 -- a state whose column and row are bytes
 pub record IsByte (s : Placement) : Type 0 where
@@ -30,42 +28,16 @@ pub record IsByte (s : Placement) : Type 0 where
   pub row : s.y < 256
 
 pub number_less : (s t : Placement) → IsByte s → IsByte t → s.piece ≡ t.piece → placement_cmp s t ≡ Less → state_number s < state_number t
-number_less s t p q kind less = elim (then_less (piece_code s.piece) (piece_code t.piece) _ less) [
-  | inl other ↦ absurd (let same : piece_code s.piece ≡ piece_code t.piece = ap (λ (p : Piece). piece_code p) kind in omega (arith, other, same))
-  | inr one ↦ elim (then_less (rotation_place s.rotation) (rotation_place t.rotation) (ordering_then (nat_cmp s.y t.y) (nat_cmp s.x t.x)) one.1) [
-    | inl turn ↦ omega (arith, p.column, p.row, turn)
-    | inr two ↦ elim (then_less s.y t.y (nat_cmp s.x t.x) two.1) [
-      | inl row ↦ omega (arith, p.column, row, two.0)
-      | inr three ↦ omega (arith, less_is_below s.x t.x three.1, three.0, two.0)
-    ]
-  ]
-]
+number_less s t p q kind less = search (rules, then_less, less_is_below)
 
 pub less_number : (s t : Placement) → IsByte s → IsByte t → s.piece ≡ t.piece → state_number s < state_number t → placement_cmp s t ≡ Less
-less_number s t p q kind less =
-    less_then _ _ _ (inr (ap (λ (p : Piece). piece_code p) kind, less_then _ _ _ (by_rotation (cases_order (rotation_place s.rotation) (rotation_place t.rotation)))))
-  where
-    by_column : s.x < t.x → nat_cmp s.x t.x ≡ Less
-    by_column below = below_is_less s.x t.x below
-
-    by_row : rotation_place s.rotation ≡ rotation_place t.rotation → (s.y ≡ t.y) ⊎ ((s.y < t.y) ⊎ (t.y < s.y)) → (s.y < t.y) ⊎ ((s.y ≡ t.y) × (nat_cmp s.x t.x ≡ Less))
-    by_row turn (inl same) = inr (same, by_column (omega (arith, less, turn, same)))
-    by_row turn (inr (inl below)) = inl below
-    by_row turn (inr (inr above)) = absurd (omega (arith, less, turn, above, q.column, p.column))
-
-    by_rotation : (rotation_place s.rotation ≡ rotation_place t.rotation) ⊎ ((rotation_place s.rotation < rotation_place t.rotation) ⊎ (rotation_place t.rotation < rotation_place s.rotation)) →
-        (rotation_place s.rotation < rotation_place t.rotation) ⊎ ((rotation_place s.rotation ≡ rotation_place t.rotation) × (ordering_then (nat_cmp s.y t.y) (nat_cmp s.x t.x) ≡ Less))
-    by_rotation (inl same) = inr (same, less_then s.y t.y _ (by_row same (cases_order s.y t.y)))
-    by_rotation (inr (inl below)) = inl below
-    by_rotation (inr (inr above)) = absurd (omega (arith, less, above, q.column, q.row))
+less_number s t p q kind less = search (rules, less_then, cases_order, below_is_less)
 
 -- what the places hold
 module _ (places : Places) where
   pub holds-parts : (q : Placement) → IsTrue (holds places q) → (q.piece ≡ places.piece) × (has_state (states_in places.numbers) q ≡ true)
   unfolding holds
-  holds-parts q held =
-      let parts = and_parts (piece_code q.piece == piece_code places.piece) _ held in
-      (piece_code-injective q.piece places.piece (eqb-true _ _ parts.0), parts.1)
+  holds-parts q held = search (rules, and_parts, piece_code-injective, eqb-true)
 
   pub holds-from : (q : Placement) → q.piece ≡ places.piece → has_state (states_in places.numbers) q ≡ true → IsTrue (holds places q)
   unfolding holds
@@ -124,7 +96,4 @@ holds-piece places q held = (holds-parts places q held).0
 -- where a set has exactly the states of which P holds, the places of its states hold these
 pub places_held : (P : Placement → Type 0) (piece : Piece) (S : States) (places : Places) → ((q : Placement) → holds places q ≡ (piece_code q.piece == piece_code piece && has_state S q)) →
     HasExactly P piece S → (q : Placement) → IsTrue (holds places q) ↔ ((q.piece ≡ piece) × P q)
-places_held P piece S places is are q = (
-  λ held. let parts = and_parts (piece_code q.piece == piece_code piece) _ (sym (is q) ∙ held) in let kind = piece_code-injective q.piece piece (eqb-true _ _ parts.0) in (kind, (are.exact q kind).0 parts.1),
-  λ place. is q ∙ and_from _ _ (eq-eqb _ _ (ap (λ (p : Piece). piece_code p) place.0)) ((are.exact q place.0).1 place.1),
-)
+places_held P piece S places is are q = search (rules, and_parts, piece_code-injective, eqb-true, and_from, eq-eqb)

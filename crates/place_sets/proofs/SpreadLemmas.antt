@@ -1,5 +1,5 @@
 -- How a set of pivots spreads: each new pivot comes from one beside it, and at the end none is missing.
-use Rattle.std.proofs.Common.{◌≡◌, ℕ, zero, suc, ◌*◌, ◌-◌, ◌<◌, true, sym, ap, subst, ◌∙◌, inl, inr, ◌⊎◌, arith}
+use Rattle.std.proofs.Common.{◌≡◌, ℕ, zero, suc, ◌*◌, ◌-◌, ◌<◌, true, sym, ap, subst, ◌∙◌, inl, inr, ◌⊎◌, arith, rules}
 use Rattle.std.proofs.lemmas.Bool.{and_parts, and_from, or_cases, or_left, or_right, cases_lt}
 use Rattle.lane_board.specs.Field.{Field, intersection, union}
 use Rattle.lane_board.specs.CellCount.{cell_count}
@@ -31,10 +31,7 @@ still-has shifts N free S result spread x y is_free beside = sym (ap (λ (F : Fi
 -- a wider set has what was there, and free pivots beside it
 pub widened-from : (shifts : Shifts) (N : ℕ) (free S : Field) (x y : ℕ) → widened shifts N free S x y ≡ true → (S x y ≡ true) ⊎ ((free x y ≡ true) × (neighbours shifts N S x y ≡ true))
 unfolding widened union intersection
-widened-from shifts N free S x y wide = elim (or_cases (S x y) _ wide) [
-  | inl old ↦ inl old
-  | inr new ↦ inr (and_parts (free x y) _ new)
-]
+widened-from shifts N free S x y wide = search (rules, or_cases, and_parts)
 
 -- fewer pivots are missing after a round, but for the last
 pub widened-fewer : (shifts : Shifts) (N : ℕ) (free S wider : Field) → wider ≡ widened shifts N free S → LiesWithin wider N → (wider ≡ S → ⊥) → 10 * N - cell_count wider N < 10 * N - cell_count S N

@@ -1,5 +1,5 @@
 -- Sets of states: their boards, and one board changed.
-use Rattle.std.proofs.Common.{◌≡◌, ℕ, ◌+◌, ◌-◌, ◌*◌, true, false, ◌==◌, pos, negsuc, refl, sym, ap, subst, ◌∙◌, inl, inr, ◌⊎◌}
+use Rattle.std.proofs.Common.{◌≡◌, ℕ, ◌+◌, ◌-◌, ◌*◌, true, false, ◌==◌, pos, sym, subst, ◌⊎◌, rules}
 use Rattle.std.proofs.Math.Path.{fun_ext}
 use Rattle.std.proofs.lemmas.Bool.{cond-true, cond-false, cases_Bool, eqb-true, false≢true}
 use Rattle.lane_board.specs.Field.{Field, has_cell}
@@ -21,20 +21,11 @@ state_of piece rotation x y = record { piece = piece; rotation = rotation; x = x
 
 -- sets with the same pivots in each rotation are the same
 pub same_states : (S T : States) → S Spawn ≡ T Spawn → S Right ≡ T Right → S Reverse ≡ T Reverse → S Left ≡ T Left → S ≡ T
-same_states S T a b c d = fun_ext each
-  where
-    each : (r : Rotation) → S r ≡ T r
-    each Spawn = a
-    each Right = b
-    each Reverse = c
-    each Left = d
+same_states S T a b c d = search (rules, fun_ext)
 
 pub with_here : (S : States) (r : Rotation) (F : Field) → states_with S r F r ≡ F
 unfolding states_with
-with_here S Spawn F = refl
-with_here S Right F = refl
-with_here S Reverse F = refl
-with_here S Left F = refl
+with_here S r F = search rules
 
 pub with_other : (S : States) (r s : Rotation) (F : Field) → (rotation_place s == rotation_place r) ≡ false → states_with S r F s ≡ S s
 unfolding states_with
@@ -56,10 +47,7 @@ pub record PivotAt (F : Field) (pivot : Cell) : Type 0 where
 
 pub pivot_at : (S : States) (r : Rotation) (pivot : Cell) → has_pivot S r pivot ≡ true → PivotAt (S r) pivot
 unfolding has_pivot has_cell
-pivot_at S r (pos x, pos y) has = record { x = x; y = y; is = refl; filled = has }
-pivot_at S r (pos x, negsuc y) has = absurd (false≢true has)
-pivot_at S r (negsuc x, pos y) has = absurd (false≢true has)
-pivot_at S r (negsuc x, negsuc y) has = absurd (false≢true has)
+pivot_at S r pivot has = search (rules, false≢true)
 
 pub has_pivot-at : (S : States) (r : Rotation) (pivot : Cell) (x y : ℕ) → pivot ≡ (pos x, pos y) → S r x y ≡ true → has_pivot S r pivot ≡ true
 unfolding has_pivot has_cell
@@ -68,13 +56,7 @@ has_pivot-at S r pivot x y e filled = subst (λ c. has_pivot S r c ≡ true) (sy
 -- the set with more pivots in one rotation includes the set before
 pub includes_with : (S : States) (r : Rotation) (F : Field) → IsWithin (S r) F → Includes (states_with S r F) S
 unfolding states_with has_state
-includes_with S r F within = record { has = λ s held. at s held (cases_Bool (rotation_place s.rotation == rotation_place r)) }
-  where
-    at : (s : Placement) → has_state S s ≡ true → ((rotation_place s.rotation == rotation_place r) ≡ true) ⊎ ((rotation_place s.rotation == rotation_place r) ≡ false) → has_state (states_with S r F) s ≡ true
-    at s held (inl here) =
-        let same : s.rotation ≡ r = rotation_place-injective s.rotation r (eqb-true _ _ here) in
-        ap (λ (G : Field). G s.x s.y) (cond-true _ F (S s.rotation) here) ∙ within.has s.x s.y (subst (λ r. S r s.x s.y ≡ true) same held)
-    at s held (inr other) = ap (λ (G : Field). G s.x s.y) (cond-false _ F (S s.rotation) other) ∙ held
+includes_with S r F within = search (rules, cases_Bool, rotation_place-injective, eqb-true, cond-true, cond-false)
 
 pub includes_trans : (S T U : States) → Includes T S → Includes U T → Includes U S
 includes_trans S T U one two = record { has = λ s held. two.has s (one.has s held) }
@@ -86,14 +68,7 @@ pub record ChangedIn (S : States) (r : Rotation) (F : Field) (s : Placement) : T
 
 pub with_cases : (S : States) (r : Rotation) (F : Field) (s : Placement) → has_state (states_with S r F) s ≡ true → ChangedIn S r F s ⊎ (has_state S s ≡ true)
 unfolding states_with has_state
-with_cases S r F s held = at (cases_Bool (rotation_place s.rotation == rotation_place r))
-  where
-    at : ((rotation_place s.rotation == rotation_place r) ≡ true) ⊎ ((rotation_place s.rotation == rotation_place r) ≡ false) → ChangedIn S r F s ⊎ (has_state S s ≡ true)
-    at (inl here) = inl (record {
-      here = rotation_place-injective s.rotation r (eqb-true _ _ here);
-      filled = ap (λ (G : Field). G s.x s.y) (sym (cond-true _ F (S s.rotation) here)) ∙ held;
-    })
-    at (inr other) = inr (ap (λ (G : Field). G s.x s.y) (sym (cond-false _ F (S s.rotation) other)) ∙ held)
+with_cases S r F s held = search (rules, cases_Bool, rotation_place-injective, eqb-true, cond-true, cond-false)
 
 pub with_at : (T S : States) (r q : Rotation) (F : Field) → r ≡ q → T ≡ states_with S q F → T ≡ states_with S r F
 with_at T S r q F is e = subst (λ q. T ≡ states_with S q F) (sym is) e

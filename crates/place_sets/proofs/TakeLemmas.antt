@@ -1,17 +1,16 @@
 -- What is held after the least placement is taken, and what lies below a row.
-use Rattle.std.proofs.Common.{◌≡◌, ◌≢◌, ◌↔◌, ℕ, ◌-◌, ◌<◌, Bool, true, false, cond, nat_lt, ◌&&◌, not, ◌==◌, ℤ, pos, negsuc, ◌+ℤ◌, ◌≤ℤ◌, T, Option, Some, None, List, [], ◌∷◌, get_or, ◌⊎◌, refl, sym, ap, subst, ◌∙◌, inl, inr, arith}
+use Rattle.std.proofs.Common.{◌≡◌, ◌≢◌, ◌↔◌, ℕ, ◌-◌, ◌<◌, Bool, true, false, cond, nat_lt, ◌&&◌, not, ◌==◌, ℤ, pos, Option, Some, None, List, [], ◌∷◌, get_or, ◌⊎◌, refl, sym, ap, ◌∙◌, inl, inr, arith, rules}
 use Rattle.std.specs.Prelude.{IsTrue, int_lt, int_le, ◌<ℤ◌}
 use Rattle.std.specs.Int.Signed.{le_z_yes}
 use Rattle.std.specs.List.{list_all}
 use Rattle.std.specs.Ordering.{int_eq}
 use Rattle.std.specs.Cmp.{signed_Decides}
-use Rattle.std.proofs.lemmas.Int.{ints}
 use Rattle.std.proofs.lemmas.Bool.{and_parts, and_from, lt-ltb, ltb-true, eqb-true, eq-eqb, not-true, not_from_false, both_ways, cases_Bool}
 use Rattle.std.proofs.lemmas.List.Folds.{list_all-map}
 use Rattle.srs.specs.declared.piece.Piece.{Piece}
 use Rattle.srs.specs.declared.rotation.Rotation.{Rotation}
 use Rattle.srs.specs.declared.placement.Placement.{Placement}
-use Rattle.srs.specs.Cells.{Cell, minus, moved, shape, pivot_of}
+use Rattle.srs.specs.Cells.{Cell, minus, moved, shape}
 use Rattle.srs.specs.SameCells.{is_among}
 use Rattle.srs.specs.Rotation.{rotation_place}
 use Rattle.srs.proofs.CallerLemmas.{is_among-all, list_all-from_is_among, each_state, rotation_place-small}
@@ -29,21 +28,8 @@ module _ (old new : Places) (kind : new.piece ≡ old.piece) where
   pub held_where : (q : Placement) (test : Bool) → (q.x < 16 → q.y < 24 → has_number new.numbers (number_of_state (rotation_place q.rotation) q.y q.x) ≡ (has_number old.numbers (number_of_state (rotation_place q.rotation) q.y q.x) && test)) →
       IsTrue (holds new q) ↔ (IsTrue (holds old q) × (test ≡ true))
   unfolding has_state
-  held_where q test same = (there, back)
-    where
-      there : IsTrue (holds new q) → IsTrue (holds old q) × (test ≡ true)
-      there held =
-          let parts = holds-parts new q held in
-          let within = number-within new.numbers q.rotation q.x q.y parts.1 in
-          let both = and_parts (has_number old.numbers (number_of_state (rotation_place q.rotation) q.y q.x)) test (sym (same within.0 within.1) ∙ number-has new.numbers q.rotation q.x q.y parts.1) in
-          (holds-from old q (parts.0 ∙ kind) (has-number old.numbers q.rotation q.x q.y within.0 within.1 both.0), both.1)
-
-      back : IsTrue (holds old q) × (test ≡ true) → IsTrue (holds new q)
-      back (held, passes) =
-          let parts = holds-parts old q held in
-          let within = number-within old.numbers q.rotation q.x q.y parts.1 in
-          holds-from new q (parts.0 ∙ sym kind)
-          (has-number new.numbers q.rotation q.x q.y within.0 within.1 (same within.0 within.1 ∙ and_from _ _ (number-has old.numbers q.rotation q.x q.y parts.1) passes))
+  held_where q test same =
+      search (rules, holds-parts, number-within, and_parts, number-has, holds-from, has-number, and_from)
 
   -- one number is taken out
   pub taken_one : (n : ℕ) (s : Placement) → n < 1536 → HasNumber n s → s.piece ≡ old.piece → ((m : ℕ) → m < 1536 → has_number new.numbers m ≡ (has_number old.numbers m && not (n == m))) → (q : Placement) →
@@ -98,32 +84,16 @@ unfolding is_under_top
 all_under_top = each_state (λ p r. list_all (is_under_top p r) (shape p r)) refl
 
 less_yes : (z : ℤ) (n : ℕ) → int_lt z (pos n) ≡ true → z <ℤ pos n
-less_yes (pos y) n is = let less = ltb-true y n is in omega (arith, ints)
-less_yes (negsuc y) n is = omega (arith, ints)
+less_yes z n is = search (rules, ltb-true)
 
 less_is : (z : ℤ) (n : ℕ) → z <ℤ pos n → int_lt z (pos n) ≡ true
-less_is (pos y) n less = lt-ltb y n (omega (arith, ints))
-less_is (negsuc y) n less = refl
+less_is z n less = search (rules, lt-ltb)
 
 -- all cells lie below the row where the pivot does so by as much as the highest cell lies above it
 pub below_by_pivot : (rows : ℕ) (q : Placement) → (nat_lt q.y (rows - rows_over_pivot q.piece q.rotation) ≡ true) ↔ (is_below rows q ≡ true)
 unfolding moved is_under_top
-below_by_pivot rows q = (there, back)
-  where
-    there : nat_lt q.y (rows - rows_over_pivot q.piece q.rotation) ≡ true → is_below rows q ≡ true
-    there is =
-        let less = ltb-true q.y (rows - rows_over_pivot q.piece q.rotation) is in
-        list_all-map (λ (cell : Cell). int_lt cell.1 (pos rows)) (moved (pivot_of q)) (shape q.piece q.rotation)
-        ∙ list_all-from_is_among (λ c. int_lt (moved (pivot_of q) c).1 (pos rows)) (shape q.piece q.rotation) (λ c has.
-        let under : c.1 ≤ℤ pos (rows_over_pivot q.piece q.rotation) = le_z_yes (subst T (sym (is_among-all (is_under_top q.piece q.rotation) (shape q.piece q.rotation) c (all_under_top q.piece q.rotation) has)) tt) in
-        less_is (pos q.y +ℤ c.1) rows (omega (arith, ints)))
-
-    back : is_below rows q ≡ true → nat_lt q.y (rows - rows_over_pivot q.piece q.rotation) ≡ true
-    back is =
-        let top = is_among-all (λ c. int_lt (moved (pivot_of q) c).1 (pos rows)) (shape q.piece q.rotation) (top_cell (shape q.piece q.rotation)) (sym (list_all-map (λ (cell : Cell). int_lt cell.1 (pos rows)) (moved (pivot_of q)) (shape q.piece q.rotation)) ∙ is) (has_top q.piece q.rotation) in
-        let less = less_yes (pos q.y +ℤ (top_cell (shape q.piece q.rotation)).1) rows top in
-        let height = top_is q.piece q.rotation in
-        lt-ltb q.y (rows - rows_over_pivot q.piece q.rotation) (omega (arith, ints))
+below_by_pivot rows q =
+    search (rules, ltb-true, list_all-map, list_all-from_is_among, le_z_yes, is_among-all, all_under_top, less_is, has_top, less_yes, top_is, lt-ltb)
 
 pub below_held : (old new : Places) (rows : ℕ) (left : List ℕ) → new.piece ≡ old.piece → ((r : Rotation) → get_or left (rotation_place r) 0 ≡ rows - rows_over_pivot old.piece r) →
     ((place y x : ℕ) → place < 4 → y < 24 → x < 16 → has_number new.numbers (number_of_state place y x) ≡ (has_number old.numbers (number_of_state place y x) && nat_lt y (get_or left place 0))) → (q : Placement) →

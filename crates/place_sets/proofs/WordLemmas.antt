@@ -1,5 +1,5 @@
 -- The bits of words after shifts and masks.
-use Rattle.std.proofs.Common.{◌≡◌, ℕ, zero, suc, ◌+◌, ◌-◌, ◌*◌, ◌/◌, ◌%◌, ◌^◌, ◌<◌, ◌≤◌, Bool, true, false, not, ◌&&◌, ◌||◌, ◌==◌, nat_le, nat_lt, bit_and, bit_or, w64, sym, ap, ◌∙◌, inl, inr, arith}
+use Rattle.std.proofs.Common.{◌≡◌, ℕ, zero, suc, ◌+◌, ◌-◌, ◌*◌, ◌/◌, ◌%◌, ◌^◌, ◌<◌, ◌≤◌, Bool, true, false, not, ◌&&◌, ◌||◌, ◌==◌, nat_le, nat_lt, bit_and, bit_or, w64, sym, ap, ◌∙◌, inl, inr, arith, rules}
 use Rattle.std.specs.Int.{trailing_zeros}
 use Rattle.std.proofs.lemmas.Bool.{cases_lt, cases_eq, cases_Bool, lt-leb, le-leb, lt-ltb, le-ltb, eq-eqb, eqb-true, ne_eqb, both_ways}
 use Rattle.std.proofs.lemmas.Nat.Bits.{bit_at-trailing_zeros, bit_at-suc, bit_at_lowest, bit_at_ones, bit_at_ones_above}
@@ -16,9 +16,7 @@ has_bit-bits_from n low k within =
     has_bit-low (n / 2 ^ low * 2 ^ low) 64 k within
     ∙ elim (cases_lt k low) [
       | inl below ↦ has_bit-shifted_low (n / 2 ^ low) low k below ∙ ap (λ b. b && has_bit n k) (sym (lt-leb low k below))
-      | inr from ↦
-          has_bit-shifted_high (n / 2 ^ low) low k from ∙ has_bit-shifted_right n low (k - low) ∙ ap (has_bit n) {x = low + (k - low)} {y = k} (omega arith)
-          ∙ ap (λ b. b && has_bit n k) (sym (le-leb low k from))
+      | inr from ↦ search (rules, has_bit-shifted_high, has_bit-shifted_right, le-leb)
     ]
 
 pub lowest-is : (n : ℕ) → 0 < n → n < 2 ^ 64 → IsLowestBit n (trailing_zeros w64 n)
@@ -44,9 +42,7 @@ record IsOneLess (bit n less : ℕ) : Type 0 where
   same : (k : ℕ) → bit < k → has_bit less k ≡ has_bit n k
 
 one_less : (bit n : ℕ) → IsLowestBit n bit → IsOneLess bit n (n - 1)
-one_less zero n lowest =
-    let odd : n % 2 ≡ 1 = true_odd n lowest.has in
-    record { cleared = even (n - 1) (omega (arith, odd)); same = same odd }
+one_less zero n lowest = search (rules, true_odd, even, same)
   where
     even : (n : ℕ) → n % 2 ≡ 0 → has_bit n 0 ≡ false
     even n e = false_from_bit n 0 (bit_at_lowest n ∙ e)
@@ -54,12 +50,7 @@ one_less zero n lowest =
     same : n % 2 ≡ 1 → (k : ℕ) → 0 < k → has_bit (n - 1) k ≡ has_bit n k
     same odd zero above = absurd (omega (arith, above))
     same odd (suc k) above = has_bit-suc (n - 1) k ∙ ap (λ m. has_bit m k) {x = (n - 1) / 2} {y = n / 2} (omega (arith, odd)) ∙ sym (has_bit-suc n k)
-one_less (suc bit) n lowest =
-    let half = one_less bit (n / 2) halved in
-    record {
-      cleared = has_bit-suc (n - 1) bit ∙ ap (λ m. has_bit m bit) less ∙ half.cleared;
-      same = same half;
-    }
+one_less (suc bit) n lowest = search (rules, has_bit-suc, halved, less, same, (one_less bit (n / 2)))
   where
     halved : IsLowestBit (n / 2) bit
     halved = record { has = sym (has_bit-suc n bit) ∙ lowest.has; first = λ k has. let next = lowest.first (suc k) (has_bit-suc n k ∙ has) in omega (arith, next) }
@@ -79,13 +70,9 @@ one_less (suc bit) n lowest =
 
 pub has_bit-without : (n bit k : ℕ) → IsLowestBit n bit → has_bit (bit_and n (n - 1)) k ≡ (has_bit n k && not (k == bit))
 has_bit-without n bit k lowest = has_bit-and n (n - 1) k ∙ elim (cases_eq k bit) [
-  | inl same ↦
-      ap (λ b. has_bit n k && b) (ap (has_bit (n - 1)) same ∙ (one_less bit n lowest).cleared)
-      ∙ ap (λ b. has_bit n k && not b) (sym (eq-eqb k bit same))
+  | inl same ↦ search (rules, one_less, eq-eqb)
   | inr other ↦ elim (cases_lt k bit) [
-    | inl below ↦
-        let none : has_bit n k ≡ false = none_below below in
-        ap (λ b. b && has_bit (n - 1) k) none ∙ ap (λ b. b && not (k == bit)) (sym none)
+    | inl below ↦ search (rules, none_below)
     | inr above ↦
         ap (λ b. has_bit n k && b) ((one_less bit n lowest).same k (omega (arith, other, above)))
         ∙ and_self (has_bit n k) ∙ sym (and-true (has_bit n k)) ∙ ap (λ b. has_bit n k && not b) (sym (ne_eqb k bit other))
@@ -93,19 +80,12 @@ has_bit-without n bit k lowest = has_bit-and n (n - 1) k ∙ elim (cases_eq k bi
 ]
   where
     none_below : k < bit → has_bit n k ≡ false
-    none_below below = elim (cases_Bool (has_bit n k)) [
-      | inl has ↦ absurd (let least = lowest.first k has in omega (arith, least, below))
-      | inr none ↦ none
-    ]
+    none_below below = search (rules, cases_Bool)
 
 -- the lowest bits, so many of them
 pub has_bit-ones : (n count k : ℕ) → has_bit (bit_and n (2 ^ count - 1)) k ≡ (has_bit n k && nat_lt k count)
 has_bit-ones n count k =
-    has_bit-and n (2 ^ count - 1) k
-    ∙ ap (λ b. has_bit n k && b) (elim (cases_lt k count) [
-      | inl below ↦ true_from_bit _ k (bit_at_ones count k below) ∙ sym (lt-ltb k count below)
-      | inr above ↦ false_from_bit _ k (bit_at_ones_above count k above) ∙ sym (le-ltb k count above)
-    ])
+    search (rules, has_bit-and, cases_lt, true_from_bit, bit_at_ones, lt-ltb, false_from_bit, bit_at_ones_above, le-ltb)
 
 -- a row moved up
 has_bit-raised : (n at k : ℕ) → k < 64 → has_bit (n * 2 ^ at % 2 ^ 64) k ≡ (nat_le at k && has_bit n (k - at))
@@ -133,41 +113,16 @@ module _ (F : Field) (N y a b c d : ℕ) (lies : LiesWithin F N)
 
   -- a cell of the rows, seen from its row
   none_past : (x z : ℕ) → 10 ≤ x → F x z ≡ false
-  none_past x z past = elim (cases_Bool (F x z)) [
-    | inl filled ↦ absurd (let place = lies.inside x z filled in omega (arith, place.0))
-    | inr none ↦ none
-  ]
+  none_past x z past = search (rules, cases_Bool)
 
   pub four_rows-is : IsFourRows F y word
   four_rows-is = record { bits = bits }
     where
       at_row : (k j : ℕ) → 16 * j ≤ k → k < 16 * j + 16 → F (k - 16 * j) (y + j) ≡ F (k % 16) (y + k / 16)
-      at_row k j low high =
-          let p : k - 16 * j ≡ k % 16 = omega arith in
-          let q : y + j ≡ y + k / 16 = omega arith in
-          λ i. F (p i) (q i)
+      at_row k j low high = search rules
 
       bits : (k : ℕ) → k < 64 → has_bit word k ≡ F (k % 16) (y + k / 16)
       bits k within = parts k within ∙ by_row
         where
           by_row : (((F k y || (nat_le 16 k && F (k - 16) (y + 1))) || (nat_le 32 k && F (k - 32) (y + 2))) || (nat_le 48 k && F (k - 48) (y + 3))) ≡ F (k % 16) (y + k / 16)
-          by_row = elim (cases_lt k 16) [
-            | inl one ↦
-                let p : k ≡ k % 16 = omega arith in
-                let q : y ≡ y + k / 16 = omega arith in
-                (λ i. ((F k y || (lt-leb 16 k one i && F (k - 16) (y + 1))) || (lt-leb 32 k (omega arith) i && F (k - 32) (y + 2))) || (lt-leb 48 k (omega arith) i && F (k - 48) (y + 3)))
-                ∙ (or-false _ ∙ or-false _ ∙ or-false _) ∙ (λ i. F (p i) (q i))
-            | inr past_one ↦ elim (cases_lt k 32) [
-              | inl two ↦
-                  (λ i. ((none_past k y (omega arith) i || (le-leb 16 k past_one i && F (k - 16) (y + 1))) || (lt-leb 32 k two i && F (k - 32) (y + 2))) || (lt-leb 48 k (omega arith) i && F (k - 48) (y + 3)))
-                  ∙ (or-false _ ∙ or-false _) ∙ at_row k 1 past_one (omega arith)
-              | inr past_two ↦ elim (cases_lt k 48) [
-                | inl three ↦
-                    (λ i. ((none_past k y (omega arith) i || (le-leb 16 k past_one i && none_past (k - 16) (y + 1) (omega arith) i)) || (le-leb 32 k past_two i && F (k - 32) (y + 2))) || (lt-leb 48 k three i && F (k - 48) (y + 3)))
-                    ∙ or-false _ ∙ at_row k 2 past_two (omega arith)
-                | inr past_three ↦
-                    (λ i. ((none_past k y (omega arith) i || (le-leb 16 k past_one i && none_past (k - 16) (y + 1) (omega arith) i)) || (le-leb 32 k past_two i && none_past (k - 32) (y + 2) (omega arith) i)) || (le-leb 48 k past_three i && F (k - 48) (y + 3)))
-                    ∙ at_row k 3 past_three (omega arith)
-              ]
-            ]
-          ]
+          by_row = search (rules, cases_lt, lt-leb, or-false, le-leb, at_row)

@@ -1,5 +1,5 @@
 -- The words of a set that are in use.
-use Rattle.std.proofs.Common.{◌≡◌, ℕ, ◌+◌, ◌-◌, ◌*◌, ◌/◌, ◌%◌, ◌^◌, ◌<◌, ◌≤◌, true, false, ◌&&◌, nat_lt, nat_le, not, ◌==◌, bit_or, get_or, refl, sym, ap, ◌∙◌, inl, inr, arith}
+use Rattle.std.proofs.Common.{◌≡◌, ℕ, ◌+◌, ◌-◌, ◌*◌, ◌/◌, ◌%◌, ◌^◌, ◌<◌, ◌≤◌, true, false, ◌&&◌, nat_lt, nat_le, not, ◌==◌, bit_or, get_or, refl, sym, ap, ◌∙◌, inl, inr, arith, rules}
 use Rattle.std.proofs.lemmas.Bool.{agree_below_at, and_parts, and_from, cases_Bool, cases_eq, le-leb, leb-true, ne_eqb, both_ways}
 use Rattle.lane_board.specs.Lanes.{has_bit}
 use Rattle.lane_board.proofs.CallerLemmas.{has_bit-zero}
@@ -23,10 +23,7 @@ first_words-bits count w few within =
 
 -- a word is empty unless it is in use and may have a bit
 pub empty_unless : (numbers : Numbers) (w : ℕ) → w < 24 → (has_bit numbers.in_use w ≡ true → get_or numbers.words w 0 ≡ 0) → get_or numbers.words w 0 ≡ 0
-empty_unless numbers w small empty = elim (cases_Bool (has_bit numbers.in_use w)) [
-  | inl used ↦ empty used
-  | inr unused ↦ numbers.none_else w small unused
-]
+empty_unless numbers w small empty = search (rules, cases_Bool)
 
 pub none_before_first : (numbers : Numbers) (at : ℕ) → IsFirstWord numbers numbers.in_use at → (w : ℕ) → w < at → get_or numbers.words w 0 ≡ 0
 none_before_first numbers at is w below = empty_unless numbers w (omega (arith, is.small, below)) (is.first w below)

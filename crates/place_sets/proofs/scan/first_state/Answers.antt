@@ -1,11 +1,11 @@
 -- The first number is that of the first state.
+use Rattle.std.proofs.Common.{rules}
 use Rattle.place_sets.specs.Scan.{place_number}
 use Rattle.place_sets.proofs.PlaceNumbers.{first_state-some, first_state-none}
 use Rattle.place_sets.proofs.scan.first_state.Goals as goal
 
 pub returns-in-None : goal.returns-in-None
-returns-in-None c =
-    first_state-none c.args.numbers.now (place_number c.args.first c.args.y c.args.x) c.number_from.result c.number_from.ensures.start c.in-None.ensures
+returns-in-None c = search (rules, first_state-none)
 
 pub returns-in-Some : goal.returns-in-Some
 returns-in-Some c =

@@ -1,5 +1,5 @@
 -- One round more, and fewer pivots are missing after it.
-use Rattle.std.proofs.Common.{suc, refl, sym, ap, ◌∙◌}
+use Rattle.std.proofs.Common.{suc, refl, ap, ◌∙◌, rules}
 use Rattle.std.proofs.lemmas.Bool.{both_ways}
 use Rattle.lane_board.specs.Board.{field_of}
 use Rattle.lane_board.proofs.CallerLemmas.{field_of-within}
@@ -16,13 +16,7 @@ unfolding widened_by
 rounds-preserved g c = (suc c.rounds.invariant.0, c.widened-wider.ensures ∙ ap (widened c.args.shifts g.row.N (field_of c.args.free.now)) c.rounds.invariant.1)
 
 pub rounds-smaller : goal.rounds-smaller
-rounds-smaller g c =
-    widened-fewer c.args.shifts g.row.N (field_of c.args.free.now) (field_of c.rounds.reached) (field_of c.widened-wider.result) c.widened-wider.ensures
-    (record { inside = field_of-within c.widened-wider.result }) (λ same. both_ways _ c.if-equal.false (c.equal.ensures.1 same))
+rounds-smaller g c = search (rules, widened-fewer, field_of-within, both_ways)
 
 pub returns-then-equal : goal.returns-then-equal
-returns-then-equal g c = record {
-  rounds = c.rounds.invariant.0;
-  grown = c.rounds.invariant.1;
-  still = sym c.widened-wider.ensures ∙ c.equal.ensures.0 c.if-equal.true;
-}
+returns-then-equal g c = search rules

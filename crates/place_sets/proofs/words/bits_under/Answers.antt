@@ -1,5 +1,5 @@
 -- The mask has the bits of the rows.
-use Rattle.std.proofs.Common.{◌≡◌, ℕ, zero, suc, ◌∷◌, [], List, ◌*◌, ◌+◌, ◌-◌, ◌/◌, ◌%◌, ◌^◌, ◌<◌, ◌≤◌, ◌&&◌, bit_and, nat_lt, min, get_or, ap, ◌∙◌, refl, arith}
+use Rattle.std.proofs.Common.{◌≡◌, ℕ, ◌∷◌, [], List, ◌*◌, ◌+◌, ◌-◌, ◌/◌, ◌%◌, ◌^◌, ◌<◌, ◌≤◌, ◌&&◌, bit_and, nat_lt, min, get_or, ap, ◌∙◌, arith, rules}
 use Rattle.std.proofs.lemmas.Bool.{lt-ltb, ltb-true}
 use Rattle.lane_board.specs.Lanes.{has_bit}
 use Rattle.lane_board.proofs.CallerLemmas.{same_from_both}
@@ -13,25 +13,7 @@ abbrev masks : List ℕ
 masks = 0 ∷ 0 ∷ 65535 ∷ 0 ∷ 4294967295 ∷ 0 ∷ 281474976710655 ∷ 0 ∷ all_rows ∷ 0 ∷ all_rows ∷ 65535 ∷ all_rows ∷ 4294967295 ∷ all_rows ∷ 281474976710655 ∷ all_rows ∷ all_rows ∷ []
 
 ones : (at : ℕ) → at ≤ 17 → get_or masks at 0 ≡ 2 ^ (16 * min (at / 2 - 4 * (at % 2)) 4) - 1
-ones zero few = refl
-ones (suc zero) few = refl
-ones (suc (suc zero)) few = refl
-ones (suc (suc (suc zero))) few = refl
-ones (suc (suc (suc (suc zero)))) few = refl
-ones (suc (suc (suc (suc (suc zero))))) few = refl
-ones (suc (suc (suc (suc (suc (suc zero)))))) few = refl
-ones (suc (suc (suc (suc (suc (suc (suc zero))))))) few = refl
-ones (suc (suc (suc (suc (suc (suc (suc (suc zero)))))))) few = refl
-ones (suc (suc (suc (suc (suc (suc (suc (suc (suc zero))))))))) few = refl
-ones (suc (suc (suc (suc (suc (suc (suc (suc (suc (suc zero)))))))))) few = refl
-ones (suc (suc (suc (suc (suc (suc (suc (suc (suc (suc (suc zero))))))))))) few = refl
-ones (suc (suc (suc (suc (suc (suc (suc (suc (suc (suc (suc (suc zero)))))))))))) few = refl
-ones (suc (suc (suc (suc (suc (suc (suc (suc (suc (suc (suc (suc (suc zero))))))))))))) few = refl
-ones (suc (suc (suc (suc (suc (suc (suc (suc (suc (suc (suc (suc (suc (suc zero)))))))))))))) few = refl
-ones (suc (suc (suc (suc (suc (suc (suc (suc (suc (suc (suc (suc (suc (suc (suc zero))))))))))))))) few = refl
-ones (suc (suc (suc (suc (suc (suc (suc (suc (suc (suc (suc (suc (suc (suc (suc (suc zero)))))))))))))))) few = refl
-ones (suc (suc (suc (suc (suc (suc (suc (suc (suc (suc (suc (suc (suc (suc (suc (suc (suc zero))))))))))))))))) few = refl
-ones (suc (suc (suc (suc (suc (suc (suc (suc (suc (suc (suc (suc (suc (suc (suc (suc (suc (suc at)))))))))))))))))) few = absurd (omega arith)
+ones at few = search rules
 
 kept : (word four rows at k : ℕ) → at ≡ 2 * rows + four → four ≤ 1 → rows ≤ 8 → k < 64 →
     has_bit (bit_and word (get_or masks at 0)) k ≡ (has_bit word k && nat_lt k (16 * (rows - 4 * four)))

@@ -1,5 +1,5 @@
 -- The least number is taken out.
-use Rattle.std.proofs.Common.{refl, Some, None, arith}
+use Rattle.std.proofs.Common.{refl, Some, None, arith, rules}
 use Rattle.place_sets.specs.Places.{piece_of}
 use Rattle.place_sets.proofs.PlaceNumbers.{first_state-some, first_state-none}
 use Rattle.place_sets.proofs.ScanLemmas.{next_of_all}
@@ -29,6 +29,4 @@ returns-in-Some-clause-least c =
     (record { rotation = c.state_with.ensures.rotation; row = c.state_with.ensures.row; column = c.state_with.ensures.column }))
 
 pub returns-in-Some-clause-rest : goal.returns-in-Some-clause-rest
-returns-in-Some-clause-rest c =
-    taken_one c.args.self.now _ refl c.in-Some.number c.state_with.result c.in-Some.ensures.first.small
-    (record { rotation = c.state_with.ensures.rotation; row = c.state_with.ensures.row; column = c.state_with.ensures.column }) c.state_with.ensures.piece c.in-Some.ensures.rest
+returns-in-Some-clause-rest c = search (rules, taken_one)

@@ -1,5 +1,4 @@
 -- Two words of each rotation.
-use Rattle.std.proofs.Common.{arith}
 use Rattle.srs.specs.declared.rotation.Rotation.{Rotation}
 use Rattle.place_sets.specs.States.{states_of}
 use Rattle.place_sets.proofs.LowPlaceLemmas.{eight_filled}

@@ -1,8 +1,7 @@
 -- The first word in use has the least number, and loses that bit.
-use Rattle.std.proofs.Common.{◌≡◌, ◌==◌, ◌&&◌, not, get_or, set, ap, ◌∙◌, sym}
+use Rattle.std.proofs.Common.{get_or, ap, sym, rules}
 use Rattle.std.proofs.lemmas.Bool.{both_ways}
 use Rattle.std.proofs.Math.Bool.{and-true}
-use Rattle.lane_board.specs.Lanes.{has_bit}
 use Rattle.lane_board.proofs.CallerLemmas.{has_bit-zero}
 use Rattle.place_sets.specs.Numbers.{has_number}
 use Rattle.place_sets.proofs.NumberLemmas.{without_number}
@@ -17,10 +16,7 @@ returns-in-Some-clause-first c =
     first_in_use c.args.self.now c.in-Some.at c.lowest_bit.result _ c.in-Some.ensures (ap (λ w. get_or c.args.self.now.words w 0) c.from.ensures) c.lowest_bit.ensures.below c.lowest_bit.ensures.lowest
 
 pub returns-in-Some-clause-rest : goal.returns-in-Some-clause-rest
-returns-in-Some-clause-rest c =
-    without_number c.args.self.now _ c.in-Some.at c.lowest_bit.result c.without_lowest.result c.args.self.now.size c.in-Some.ensures.small c.lowest_bit.ensures.below
-    (ap (λ at. set c.args.self.now.words at c.without_lowest.result) c.from-in-Some.ensures)
-    (λ k within. c.without_lowest.ensures.bits c.lowest_bit.result k c.lowest_bit.ensures.lowest within ∙ ap (λ w. has_bit (get_or c.args.self.now.words w 0) k && not (k == c.lowest_bit.result)) c.from.ensures)
+returns-in-Some-clause-rest c = search (rules, without_number)
 
 pub invariant_of-self-clause-few : goal.invariant_of-self-clause-few
 invariant_of-self-clause-few c = λ w small has. absurd (both_ways _ (has_bit-zero w) has)

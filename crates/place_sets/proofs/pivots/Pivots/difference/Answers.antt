@@ -1,4 +1,5 @@
 -- The sets differ where one of their boards does.
+use Rattle.std.proofs.Common.{rules}
 use Rattle.std.proofs.lemmas.Bool.{both_ways}
 use Rattle.place_sets.specs.States.{states_of}
 use Rattle.place_sets.proofs.StateSets.{same_states}
@@ -22,6 +23,4 @@ returns-then-not-equal-4 g c = λ same. both_ways _ c.if-not-equal-4.true (c.equ
 
 pub returns : goal.returns
 unfolding states_of
-returns g c =
-    same_states _ _ (c.equal.ensures.0 c.if-not-equal.false) (c.equal-2.ensures.0 c.if-not-equal-2.false)
-    (c.equal-3.ensures.0 c.if-not-equal-3.false) (c.equal-4.ensures.0 c.if-not-equal-4.false)
+returns g c = search (rules, same_states)
