@@ -1,5 +1,5 @@
 -- What comes to a list, one step after the other.
-use Rattle.std.proofs.Common.{◌≡◌, ◌⊎◌, ℕ, ◌+◌, ◌<◌, bit_and, Bool, true, false, not, ◌&&◌, ◌==◌, nat_le, List, [], ◌∷◌, ◌++◌, refl, sym, ap, subst, ◌∙◌, inl, inr}
+use Rattle.std.proofs.Common.{◌≡◌, ◌⊎◌, ℕ, ◌+◌, ◌<◌, bit_and, Bool, true, false, not, ◌&&◌, ◌==◌, nat_le, List, [], ◌∷◌, ◌++◌, sym, subst, ◌∙◌, inl, inr, rules}
 use Rattle.std.specs.List.{Contains}
 use Rattle.std.proofs.lemmas.Bool.{and_parts, both_ways, cases_eq, ne_eqb, eq-eqb, false_from_ne_true}
 use Rattle.std.proofs.lemmas.List.{append-nil, append_assoc}
@@ -27,44 +27,18 @@ not_full x y implied room = false_from_ne_true x (λ is. both_ways y room (impli
 
 -- nothing is added where there is nothing to add
 pub adds_none : (list : Listing) (Least Most : Fact) → ((path found : List LaidPiece) → Least path found → ⊥) → Adds list list Least Most
-adds_none list Least Most none = record {
-  more = [];
-  longer = sym (append-nil list.tilings.items);
-  path = refl;
-  full = λ is. is;
-  gained = λ _ found least. absurd (none _ found least);
-  only = λ tiling listed. absurd (none_listed tiling listed);
-}
+adds_none list Least Most none = search (rules, append-nil, none_listed)
 
 -- or where the list is full
 pub adds_full : (old new : Listing) (Least Most : Fact) → new.tilings.items ≡ old.tilings.items → path_of new.path ≡ path_of old.path → new.is_full ≡ true → Adds old new Least Most
-adds_full old new Least Most same path full = record {
-  more = [];
-  longer = same ∙ sym (append-nil old.tilings.items);
-  path = path;
-  full = λ _. full;
-  gained = λ room found least. absurd (both_ways _ room full);
-  only = λ tiling listed. absurd (none_listed tiling listed);
-}
+adds_full old new Least Most same path full = search (rules, append-nil, both_ways, none_listed)
 
 -- one step and then another one
 pub adds_then : (a b c : Listing) (Least More Most : Fact) → Adds a b Least Most → Adds b c More Most → Adds a c (λ path found. Least path found ⊎ More path found) Most
-adds_then a b c Least More Most first second = record {
-  more = first.more ++ second.more;
-  longer = second.longer ∙ ap (λ l. l ++ second.more) first.longer ∙ append_assoc a.tilings.items first.more second.more;
-  path = second.path ∙ first.path;
-  full = λ is. second.full (first.full is);
-  gained = gained;
-  only = only;
-}
+adds_then a b c Least More Most first second = search (rules, append_assoc, gained, only)
   where
     gained : c.is_full ≡ false → (found : List LaidPiece) → Least (path_of a.path) found ⊎ More (path_of a.path) found → Lists (first.more ++ second.more) found
-    gained room found (inl least) =
-        let l = first.gained (not_full b.is_full c.is_full second.full room) found least in
-        record { tiling = l.tiling; listed = Contains-append_left first.more second.more l.tiling l.listed; spells = l.spells }
-    gained room found (inr more) =
-        let l = second.gained room found (subst (λ path. More path found) (sym first.path) more) in
-        record { tiling = l.tiling; listed = Contains-append_right first.more second.more l.tiling l.listed; spells = l.spells }
+    gained room found h2 = search (rules, not_full, Contains-append_left, Contains-append_right)
 
     only : (tiling : ListedTiling) → Contains (first.more ++ second.more) tiling → Lies (Most (path_of a.path)) tiling
     only tiling listed = elim (Contains-append_cases first.more second.more tiling listed) [
@@ -100,38 +74,20 @@ pub record RowsGone (By All : List LaidPiece → List LaidPiece → Field → Ty
 pub rows-start : (By All : List LaidPiece → List LaidPiece → Field → Type 0) (E : Field) (x y floor : ℕ) (span : Span) (spans : List Span) (rows permitted : ℕ) (old : Listing) → IsSmall 8 E →
     ((row : ℕ) → row < 8 → has_bit rows row ≡ has_span E x span row) → ((row : ℕ) → row < 8 → has_bit permitted row ≡ (nat_le floor row && is_allowed y floor span row)) →
     RowsGone By All E x y floor span spans (bit_and rows permitted) old old
-rows-start By All E x y floor span spans rows permitted old small has allowed = record {
-  may = may_from_bit E x y floor span rows permitted has allowed;
-  adds = adds_none old (StacksGone By E x y floor span spans (bit_and rows permitted)) (StacksGone All E x y floor span spans (bit_and rows permitted)) (λ path found gone.
-      let cell = some_in_span E x span gone.row gone.may.has in
-      let low = small.row cell.0 gone.row cell.1 in
-      both_ways _ gone.gone (bit_from_may E x y floor span rows permitted has allowed gone.row low gone.may));
-}
+rows-start By All E x y floor span spans rows permitted old small has allowed =
+    search (rules, may_from_bit, adds_none, some_in_span, both_ways, bit_from_may)
 
 module _ (E rest : Field) (x y floor : ℕ) (span : Span) (spans : List Span) (rows less row : ℕ) (small : IsSmall 8 E) (low : row < 8) (here : has_bit rows row ≡ true)
     (may : MayTake (is_allowed y) E x floor span row) (left : rest ≡ without_span E x span row) (others : (k : ℕ) → k < 8 → has_bit less k ≡ (has_bit rows k && not (k == row))) where
   before : (By : List LaidPiece → List LaidPiece → Field → Type 0) (path found : List LaidPiece) → StacksGone By E x y floor span spans rows path found → StacksGone By E x y floor span spans less path found
-  before By path found f =
-      let cell = some_in_span E x span f.row f.may.has in
-      record { row = f.row; may = f.may; gone = others f.row (small.row cell.0 f.row cell.1) ∙ ap (λ b. b && not (f.row == row)) f.gone; stacks = f.stacks }
+  before By path found f = search (rules, some_in_span)
 
   at_row : (By : List LaidPiece → List LaidPiece → Field → Type 0) (path found : List LaidPiece) → StacksAll By rest x y (row + 1) spans path found → StacksGone By E x y floor span spans less path found
-  at_row By path found stacks = record {
-    row = row;
-    may = may;
-    gone = others row low ∙ ap (λ b. has_bit rows row && not b) (eq-eqb row row refl) ∙ and-false (has_bit rows row);
-    stacks = subst (λ (G : Field). Stacks (is_allowed y) (By path found) G x (row + 1) spans) left stacks;
-  }
+  at_row By path found stacks = search (rules, eq-eqb, and-false)
 
   split : (By : List LaidPiece → List LaidPiece → Field → Type 0) (path found : List LaidPiece) → StacksGone By E x y floor span spans less path found →
       StacksGone By E x y floor span spans rows path found ⊎ StacksAll By rest x y (row + 1) spans path found
-  split By path found g = elim (cases_eq g.row row) [
-    | inl same ↦ inr (subst (λ (G : Field). Stacks (is_allowed y) (By path found) G x (row + 1) spans) (sym left)
-        (subst (λ k. Stacks (is_allowed y) (By path found) (without_span E x span k) x (k + 1) spans) same g.stacks))
-    | inr other ↦
-        let cell = some_in_span E x span g.row g.may.has in
-        inl (record { row = g.row; may = g.may; gone = was_unset (has_bit rows g.row) (g.row == row) (ne_eqb g.row row other) (sym (others g.row (small.row cell.0 g.row cell.1)) ∙ g.gone); stacks = g.stacks })
-  ]
+  split By path found g = search (rules, cases_eq, some_in_span, was_unset, ne_eqb)
 
 pub rows-next : (By All : List LaidPiece → List LaidPiece → Field → Type 0) (E rest : Field) (x column y floor : ℕ) (span : Span) (spans : List Span) (rows less row : ℕ) (a b c : Listing) → IsSmall 8 E → row < 8 → has_bit rows row ≡ true →
     rest ≡ without_span E x span row → column ≡ x → ((k : ℕ) → k < 8 → has_bit less k ≡ (has_bit rows k && not (k == row))) → RowsGone By All E x y floor span spans rows a b →
@@ -155,13 +111,7 @@ rows-next By All E rest x column y floor span spans rows less row a b c small lo
 pub rows-all : (By All : List LaidPiece → List LaidPiece → Field → Type 0) (E : Field) (x y floor : ℕ) (span : Span) (spans all : List Span) (rows : ℕ) (old new : Listing) → all ≡ span ∷ spans → rows ≡ 0 →
     RowsGone By All E x y floor span spans rows old new → Adds old new (StacksAll By E x y floor all) (StacksAll All E x y floor all)
 unfolding Stacks
-rows-all By All E x y floor span spans all rows old new is none gone =
-    subst (λ all. Adds old new (StacksAll By E x y floor all) (StacksAll All E x y floor all)) (sym is)
-    (adds_as old new (StacksGone By E x y floor span spans rows) (StacksGone All E x y floor span spans rows) (StacksAll By E x y floor (span ∷ spans)) (StacksAll All E x y floor (span ∷ spans))
-    gone_of (λ path found g. (g.row, g.may, g.stacks)) gone.adds)
-  where
-    gone_of : (path found : List LaidPiece) → Stacks (is_allowed y) (By path found) E x floor (span ∷ spans) → StacksGone By E x y floor span spans rows path found
-    gone_of path found (row, may, stacks) = record { row = row; may = may; gone = ap (λ n. has_bit n row) none ∙ has_bit-zero row; stacks = stacks }
+rows-all By All E x y floor span spans all rows old new is none gone = search (rules, adds_as, has_bit-zero)
 
 -- with no span left, it is what the search finds
 pub rows-none : (By All : List LaidPiece → List LaidPiece → Field → Type 0) (E : Field) (x y floor : ℕ) (spans : List Span) (old new : Listing) → spans ≡ [] → Adds old new (λ path found. By path found E) (λ path found. All path found E) →

@@ -1,5 +1,5 @@
 -- Pieces laid one after the other are the parts of a tiling, and each tiling can be laid so that each piece has the first cell of what is left.
-use Rattle.std.proofs.Common.{◌≡◌, ◌⊎◌, ℕ, zero, suc, ◌<◌, ◌≤◌, Bool, true, false, not, ◌&&◌, cond, List, [], ◌∷◌, ◌++◌, map, pos, negsuc, refl, sym, ap, ap₂, subst, ◌∙◌, inl, inr, arith}
+use Rattle.std.proofs.Common.{◌≡◌, ◌⊎◌, ℕ, zero, suc, ◌<◌, ◌≤◌, Bool, true, false, not, ◌&&◌, cond, List, [], ◌∷◌, ◌++◌, map, pos, refl, sym, ap, ap₂, subst, ◌∙◌, inl, inr, arith, rules}
 use Rattle.std.specs.Prelude.{All}
 use Rattle.std.proofs.Math.Path.{fun_ext}
 use Rattle.std.specs.List.{Contains}
@@ -26,18 +26,12 @@ use Rattle.tiled_pieces.proofs.SupplyLemmas.{less_with, some_with}
 -- what is left of a small set
 pub left_small : (E cells : Field) → IsSmall 8 E → IsSmall 8 (difference E cells)
 unfolding difference
-left_small E cells small = record {
-  column = λ a b here. small.column a b (and_parts (E a b) _ here).0;
-  row = λ a b here. small.row a b (and_parts (E a b) _ here).0;
-}
+left_small E cells small = search (rules, and_parts)
 
 -- no cell of such a set is empty
 pub none_empty : (E : Field) → IsSmall 8 E → HasNoCell E → (cell : Cell) → is_empty_below (all_but E) 8 cell ≡ false
 unfolding is_empty_below
-none_empty E small none (pos x, pos y) = empty_is 8 E x y small ∙ none.none x y
-none_empty E small none (pos x, negsuc y) = refl
-none_empty E small none (negsuc x, pos y) = refl
-none_empty E small none (negsuc x, negsuc y) = refl
+none_empty E small none h3 = search (rules, empty_is)
 
 -- a tiling whose parts are these pieces
 pub record TilingOf (supply : Supply) (E : Field) (laid : List LaidPiece) : Type 0 where
@@ -105,40 +99,16 @@ record FirstOf (E : Field) : Type 0 where
 
 first_of : (E : Field) → IsSmall 8 E → FirstOf E ⊎ HasNoCell E
 first_of E small = elim (first_before E 10) [
-  | inl f ↦ inl (record {
-    x = f.column;
-    y = f.lowest.row;
-    first = record { filled = f.lowest.filled; column = omega (arith, f.before); row = omega (arith, f.lowest.below); leftmost = λ a b less. outside a b (λ low. f.leftmost a b less low); lowest = f.lowest.lowest };
-  })
-  | inr none ↦ inr (record {
-    none = λ a b. elim (cases_Bool (E a b)) [
-      | inl has ↦ absurd (both_ways _ (none a b (small.column a b has) (small.row a b has)) has)
-      | inr hasnt ↦ hasnt
-    ];
-  })
+  | inl f ↦ search (rules, outside)
+  | inr none ↦ search (rules, cases_Bool, both_ways)
 ]
   where
     outside : (a b : ℕ) → (b < 8 → E a b ≡ false) → E a b ≡ false
-    outside a b low = elim (cases_Bool (E a b)) [
-      | inl has ↦ low (small.row a b has)
-      | inr hasnt ↦ hasnt
-    ]
+    outside a b low = search (rules, cases_Bool)
 
 -- there is one first cell
 one_first : (E : Field) (x y a b : ℕ) → IsFirst E x y → IsFirst E a b → (cells : Field) → cells x y ≡ true → cells a b ≡ true
-one_first E x y a b first other cells has =
-    let column : x ≡ a = same x a (λ less. both_ways _ (other.leftmost x y less) first.filled) (λ less. both_ways _ (first.leftmost a b less) other.filled) in
-    let row : y ≡ b = same y b (λ less. both_ways _ (ap (λ k. E k y) column ∙ other.lowest y less) first.filled) (λ less. both_ways _ (ap (λ k. E k b) (sym column) ∙ first.lowest b less) other.filled) in
-    subst (λ k. cells a k ≡ true) row (subst (λ k. cells k y ≡ true) column has)
-  where
-    same : (m n : ℕ) → (m < n → ⊥) → (n < m → ⊥) → m ≡ n
-    same m n up down = elim (cases_lt m n) [
-      | inl less ↦ absurd (up less)
-      | inr from ↦ elim (cases_lt n m) [
-        | inl more ↦ absurd (down more)
-        | inr back ↦ omega arith
-      ]
-    ]
+one_first E x y a b first other cells has = search (rules, both_ways, cases_lt)
 
 -- pieces in the order of a walk that are the parts
 pub record InOrder (supply : Supply) (E : Field) (parts : List Part) : Type 0 where
@@ -148,10 +118,7 @@ pub record InOrder (supply : Supply) (E : Field) (parts : List Part) : Type 0 wh
 
 has_from_empty : (E : Field) (cell : Cell) → IsSmall 8 E → is_empty_below (all_but E) 8 cell ≡ true → has_cell E cell ≡ true
 unfolding is_empty_below
-has_from_empty E (pos x, pos y) small empty = sym (empty_is 8 E x y small) ∙ empty
-has_from_empty E (pos x, negsuc y) small empty = absurd (false≢true empty)
-has_from_empty E (negsuc x, pos y) small empty = absurd (false≢true empty)
-has_from_empty E (negsuc x, negsuc y) small empty = absurd (false≢true empty)
+has_from_empty E cell small empty = search (rules, empty_is, false≢true)
 
 -- what is left of a tiling without a part
 abbrev rest_of : (E : Field) (supply : Supply) (cell : Cell) (parts : List Part) (p : TakenPart (all_but E) 8 supply cell parts) → Tiling (all_but (left_by_part E p.part)) 8 (less_one supply p.part.piece)
@@ -166,17 +133,7 @@ lay_first : (supply : Supply) (E : Field) (parts : List Part) → IsSmall 8 E �
 unfolding AreLaid
 lay_first supply E parts small f p later = record {
   laid = laid_part p.part ∷ later.laid;
-  are = (
-    record {
-      part = p.part;
-      is = refl;
-      generalized = p.generalized;
-      some = p.some;
-      inside = list_all-from_is_among (has_cell E) p.part.cells (λ c has. has_from_empty E c small (is_among-all (is_empty_below (all_but E) 8) p.part.cells c p.empty has));
-      next = λ x y first. one_first E f.x f.y x y f.first first (laid_part p.part).cells p.has;
-    },
-    later.are,
-  );
+  are = search (rules, list_all-from_is_among, has_from_empty, is_among-all, one_first);
   all = p.others (λ part. Contains (laid_part p.part ∷ later.laid) (laid_part part)) (Contains-append_left (laid_part p.part ∷ []) later.laid (laid_part p.part) (0, omega arith, refl))
       (All-weaker (λ part. Contains later.laid (laid_part part)) (λ part. Contains (laid_part p.part ∷ later.laid) (laid_part part)) (λ part. Contains-append_right (laid_part p.part ∷ []) later.laid (laid_part part)) p.rest.parts later.all);
 }
@@ -207,15 +164,10 @@ in_order (suc n) supply E enough small t = elim (first_of E small) [
 
 -- cells that were taken are those that aren't left
 taken_again : (e s : Bool) → (s ≡ true → e ≡ true) → (e && not (e && not s)) ≡ s
-taken_again true true within = refl
-taken_again true false within = refl
-taken_again false true within = absurd (false≢true (within refl))
-taken_again false false within = refl
+taken_again e s within = search (rules, false≢true)
 
 left_again : (e s : Bool) → (e && not (e && not (e && not s))) ≡ (e && not s)
-left_again true true = refl
-left_again true false = refl
-left_again false s = refl
+left_again e s = search rules
 
 -- some kind has the first cell
 pub record SomeTakes (supply : Supply) (E : Field) (x y : ℕ) (path found : List LaidPiece) : Type 0 where

@@ -1,10 +1,10 @@
 -- What a list of all tilings says of one piece: it is in some of them where the others fill the rest, and those that have it are all tilings of the rest.
-use Rattle.std.proofs.Common.{◌≡◌, ◌<◌, true, cond, List, ◌∷◌, pos, sym, subst}
+use Rattle.srs.specs.Cells.{Cell}
+use Rattle.std.proofs.Common.{◌≡◌, ◌<◌, true, List, ◌∷◌, pos, sym, subst, cond}
 use Rattle.std.proofs.Math.Path.{fun_ext}
 use Rattle.std.specs.List.{Contains, list_all}
 use Rattle.std.proofs.lemmas.List.Elements.{All-head, All-tail}
 use Rattle.lane_board.specs.Field.{Field, difference}
-use Rattle.srs.specs.Cells.{Cell}
 use Rattle.srs.specs.SameCells.{is_among}
 use Rattle.prune.specs.Tiling.{IsGeneralized, Part, Supply, Tiling, covers, is_empty_below}
 use Rattle.prune.specs.OnePart.{less_one, with_cells}

@@ -1,5 +1,5 @@
 -- What a walk has added to an empty list: all tilings, and nothing else.
-use Rattle.std.proofs.Common.{Global, Vec, ◌≡◌, ◌↔◌, ◌⊎◌, ℕ, zero, suc, ◌<◌, true, false, List, [], ◌∷◌, ◌++◌, length, sym, ap, subst, ◌∙◌, inl, inr, arith}
+use Rattle.std.proofs.Common.{Global, Vec, ◌≡◌, ◌↔◌, ◌⊎◌, ℕ, ◌<◌, true, false, List, [], ◌∷◌, ◌++◌, sym, ap, subst, ◌∙◌, arith, rules}
 use Rattle.std.specs.List.{Contains}
 use Rattle.std.proofs.lemmas.Bool.{cases_lt}
 use Rattle.std.proofs.lemmas.List.{get_or_default, get_or_past}
@@ -26,15 +26,7 @@ use Rattle.tiled_pieces.proofs.StandsLemmas.{listed_stands}
 pub nowhere : (none : Empties) → empty_cells none ≡ empty_field → (place : ℕ) → place < 8 →
     laid_at (record { kinds = I ∷ I ∷ I ∷ I ∷ I ∷ I ∷ I ∷ I ∷ []; cells = none ∷ none ∷ none ∷ none ∷ none ∷ none ∷ none ∷ none ∷ [] }) place ≡ no_piece
 unfolding laid_at
-nowhere none is zero low = ap (λ (cells : Field). record { piece = I; cells = cells }) is
-nowhere none is (suc zero) low = ap (λ (cells : Field). record { piece = I; cells = cells }) is
-nowhere none is (suc (suc zero)) low = ap (λ (cells : Field). record { piece = I; cells = cells }) is
-nowhere none is (suc (suc (suc zero))) low = ap (λ (cells : Field). record { piece = I; cells = cells }) is
-nowhere none is (suc (suc (suc (suc zero)))) low = ap (λ (cells : Field). record { piece = I; cells = cells }) is
-nowhere none is (suc (suc (suc (suc (suc zero))))) low = ap (λ (cells : Field). record { piece = I; cells = cells }) is
-nowhere none is (suc (suc (suc (suc (suc (suc zero)))))) low = ap (λ (cells : Field). record { piece = I; cells = cells }) is
-nowhere none is (suc (suc (suc (suc (suc (suc (suc zero))))))) low = ap (λ (cells : Field). record { piece = I; cells = cells }) is
-nowhere none is (suc (suc (suc (suc (suc (suc (suc (suc n)))))))) low = absurd (omega (arith, low))
+nowhere none is h2 low = search rules
 
 -- a listed tiling has each piece that it spells
 pub has_spelled : (tiling : ListedTiling) (found : List LaidPiece) (laid : LaidPiece) → Spells tiling found → Contains found laid → HasPiece tiling laid
@@ -47,10 +39,7 @@ has_spelled tiling found laid spells (place, below, is) = record {
 -- and at each place one of them, or nothing
 pub spelled_at : (tiling : ListedTiling) (found : List LaidPiece) → Spells tiling found → (place : ℕ) → place < 8 → HasNoCell (laid_at tiling place).cells ⊎ Contains found (laid_at tiling place)
 unfolding empty_field
-spelled_at tiling found spells place low = elim (cases_lt place (length found)) [
-  | inl below ↦ inr (subst (λ laid. Contains found laid) (sym (spells.each place low)) (Contains-get_or found place no_piece below))
-  | inr past ↦ inl (record { none = λ x y. ap (λ (laid : LaidPiece). laid.cells x y) (spells.each place low ∙ get_or_past found place no_piece past) })
-]
+spelled_at tiling found spells place low = search (rules, cases_lt, Contains-get_or, get_or_past)
 
 module _ (supply : Supply) (E : Field) (old new : Listing) (small : IsSmall 8 E) (path : path_of old.path ≡ []) (none : old.tilings.items ≡ []) (adds : Adds old new (GoesOn HasFirst supply E) (GoesOn IsAny supply E)) where
   longer : new.tilings.items ≡ adds.more
@@ -100,8 +89,7 @@ listed supply E old new word F tilings small path none same_supply same_cells ad
 })
   where
     walked : Adds old new (GoesOn HasFirst supply E) (GoesOn IsAny supply E)
-    walked = subst (λ (s : Supply). Adds old new (GoesOn HasFirst s E) (GoesOn IsAny s E)) same_supply
-        (subst (λ (G : Field). Adds old new (GoesOn HasFirst (supply_of word) G) (GoesOn IsAny (supply_of word) G)) same_cells adds)
+    walked = search rules
 
     all : ListsAll E supply new.tilings.items
     all = lists_all supply E old new small path none walked room

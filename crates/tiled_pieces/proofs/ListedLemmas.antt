@@ -1,10 +1,10 @@
 -- Listed tilings, and lists of them.
-use Rattle.std.proofs.Common.{◌≡◌, ◌↔◌, ℕ, ◌+◌, ◌<◌, ◌≤◌, Bool, true, false, ◌&&◌, ◌==◌, List, [], ◌∷◌, ◌++◌, length, get_or, map, take, refl, sym, ap, subst, ◌∙◌, inl, inr, arith}
+use Rattle.std.proofs.Common.{◌≡◌, ◌↔◌, ℕ, ◌+◌, ◌<◌, ◌≤◌, Bool, true, false, ◌&&◌, ◌==◌, List, [], ◌∷◌, ◌++◌, length, get_or, take, refl, sym, ap, subst, ◌∙◌, inl, inr, arith, rules}
 use Rattle.std.specs.List.{Contains}
 use Rattle.std.proofs.lemmas.Bool.{and_parts, and_from, eqb-true, eq-eqb, cases_eq, false≢true}
 use Rattle.std.proofs.lemmas.List.{get_or-map, take_all, take_more}
 use Rattle.std.proofs.lemmas.List.Elements.{Contains-append_left, Contains-push, Contains-push_cases}
-use Rattle.lane_board.specs.Field.{Field, empty_field}
+use Rattle.lane_board.specs.Field.{Field}
 use Rattle.srs.specs.declared.piece.Piece.{Piece}
 use Rattle.srs.specs.declared.piece.Piece.TheVariants.{I}
 use Rattle.srs.specs.Piece.{piece_code}
@@ -18,17 +18,8 @@ use Rattle.tiled_pieces.specs.TilingLists.{HasPiece, LaidPiece, SomeHas, laid_at
 pub laid_is : (tiling : ListedTiling) (place : ℕ) (e : Empties) (piece kind : Piece) (cells : Field) (same equal : Bool) → place < length tiling.cells → kind ≡ get_or tiling.kinds place I →
     ((equal ≡ true) ↔ (empty_cells (get_or tiling.cells place e) ≡ cells)) → same ≡ (equal && (piece_code kind == piece_code piece)) → (same ≡ true) ↔ (laid_at tiling place ≡ record { piece = piece; cells = cells })
 unfolding laid_at
-laid_is tiling place e piece kind cells same equal known kind_at both is = (
-  λ yes.
-      let parts = and_parts equal (piece_code kind == piece_code piece) (sym is ∙ yes) in
-      let one : get_or tiling.kinds place I ≡ piece = sym kind_at ∙ piece_code-injective kind piece (eqb-true _ _ parts.1) in
-      let two : get_or (map empty_cells tiling.cells) place empty_field ≡ cells = cells_at ∙ both.0 parts.0 in
-      (λ i. record { piece = one i; cells = two i }),
-  λ there. is ∙ and_from equal (piece_code kind == piece_code piece) (both.1 (sym cells_at ∙ ap (λ (l : LaidPiece). l.cells) there)) (eq-eqb _ _ (ap piece_code (kind_at ∙ ap (λ (l : LaidPiece). l.piece) there))),
-)
-  where
-    cells_at : get_or (map empty_cells tiling.cells) place empty_field ≡ empty_cells (get_or tiling.cells place e)
-    cells_at = get_or-map empty_cells tiling.cells place e empty_field known
+laid_is tiling place e piece kind cells same equal known kind_at both is =
+    search (rules, and_parts, piece_code-injective, eqb-true, and_from, eq-eqb, get_or-map)
 
 pub laid_kind : (tiling : ListedTiling) (place : ℕ) → (laid_at tiling place).piece ≡ get_or tiling.kinds place I
 unfolding laid_at
@@ -36,9 +27,7 @@ laid_kind tiling place = refl
 
 pub laid_of : (tiling : ListedTiling) (place : ℕ) (e : Empties) (piece : Piece) → place < length tiling.cells → get_or tiling.kinds place I ≡ piece → laid_at tiling place ≡ record { piece = piece; cells = empty_cells (get_or tiling.cells place e) }
 unfolding laid_at
-laid_of tiling place e piece known kind =
-    let cells = get_or-map empty_cells tiling.cells place e empty_field known in
-    (λ i. record { piece = kind i; cells = cells i })
+laid_of tiling place e piece known kind = search (rules, get_or-map)
 
 -- no place before this one has the piece
 pub record NoneBefore (tiling : ListedTiling) (laid : LaidPiece) (place : ℕ) : Type 0 where
@@ -48,13 +37,7 @@ pub none_first : (tiling : ListedTiling) (laid : LaidPiece) → NoneBefore tilin
 none_first tiling laid = record { none = λ k below. absurd (omega arith) }
 
 pub none_next : (tiling : ListedTiling) (laid : LaidPiece) (place : ℕ) (answer : Bool) → NoneBefore tiling laid place → ((answer ≡ true) ↔ (laid_at tiling place ≡ laid)) → answer ≡ false → NoneBefore tiling laid (place + 1)
-none_next tiling laid place answer before both none_here = record { none = none }
-  where
-    none : (k : ℕ) → k < place + 1 → laid_at tiling k ≡ laid → ⊥
-    none k below there = elim (cases_eq k place) [
-      | inl same ↦ false≢true (sym none_here ∙ both.1 (subst (λ n. laid_at tiling n ≡ laid) same there))
-      | inr other ↦ before.none k (omega (arith, other)) there
-    ]
+none_next tiling laid place answer before both none_here = search (rules, cases_eq, false≢true)
 
 pub none_at_all : (tiling : ListedTiling) (laid : LaidPiece) (place : ℕ) → NoneBefore tiling laid place → 8 ≤ place → HasPiece tiling laid → ⊥
 none_at_all tiling laid place before last has = before.none has.place (omega (arith, has.known, last)) has.there
@@ -65,9 +48,6 @@ pub record NoneHave (list : List ListedTiling) (laid : LaidPiece) (index : ℕ) 
 
 pub none_listed : (tiling : ListedTiling) → Contains [] tiling → ⊥
 none_listed tiling (k, below, _) = absurd (omega arith)
-
-pub have_first : (list : List ListedTiling) (laid : LaidPiece) → NoneHave list laid 0
-have_first list laid = record { none = λ tiling listed has. none_listed tiling listed }
 
 pub have_next : (list : List ListedTiling) (laid : LaidPiece) (index : ℕ) (x : ListedTiling) (answer : Bool) → index < length list → x ≡ get_or list index x → NoneHave list laid index → ((answer ≡ true) ↔ HasPiece x laid) → answer ≡ false →
     NoneHave list laid (index + 1)
@@ -88,9 +68,6 @@ one_further list index x below at = take_more list index x below ∙ ap (λ t. t
 -- the tilings before this one that have the piece
 pub record KeptWith (list kept : List ListedTiling) (laid : LaidPiece) (index : ℕ) : Type 0 where
   pub both : (tiling : ListedTiling) → Contains kept tiling ↔ (Contains (take index list) tiling × HasPiece tiling laid)
-
-pub kept_first : (list : List ListedTiling) (laid : LaidPiece) → KeptWith list [] laid 0
-kept_first list laid = record { both = λ tiling. (λ listed. absurd (none_listed tiling listed), λ told. absurd (none_listed tiling told.0)) }
 
 pub kept_next : (list kept more : List ListedTiling) (laid : LaidPiece) (index : ℕ) (x : ListedTiling) → index < length list → x ≡ get_or list index x → KeptWith list kept laid index → HasPiece x laid → more ≡ kept ++ x ∷ [] →
     KeptWith list more laid (index + 1)

@@ -1,5 +1,5 @@
 -- Pieces that are put at a place of a listed tiling, and the pieces of a path.
-use Rattle.std.proofs.Common.{◌≡◌, ◌≢◌, ℕ, zero, suc, ◌+◌, ◌-◌, ◌<◌, List, [], ◌∷◌, ◌++◌, length, get_or, map, set, refl, sym, ap, ap₂, subst, ◌∙◌, inl, inr, arith}
+use Rattle.std.proofs.Common.{◌≡◌, ◌≢◌, ℕ, zero, suc, ◌+◌, ◌-◌, ◌<◌, List, [], ◌∷◌, ◌++◌, length, get_or, map, set, refl, sym, ap, ap₂, subst, ◌∙◌, arith, rules}
 use Rattle.std.specs.List.{Contains, range_with_len}
 use Rattle.std.proofs.lemmas.Bool.{cases_lt}
 use Rattle.std.proofs.lemmas.List.{get_or-map, get_or_past, get_or-set_same, get_or-set_other, length-append, length-set}
@@ -90,13 +90,7 @@ none_to_take tiling count path last none is = absurd (omega (arith, none, sym (l
 -- a path spells its pieces
 pub spells_path : (path : Path) → Spells path.tiling (path_of path)
 unfolding path_of
-spells_path path = record { few = omega (arith, path.few, length-map-range_with_len (laid_at path.tiling) 0 path.count); each = each }
-  where
-    each : (place : ℕ) → place < 8 → laid_at path.tiling place ≡ get_or (map (laid_at path.tiling) (range_with_len 0 path.count)) place no_piece
-    each place low = elim (cases_lt place path.count) [
-      | inl below ↦ sym (get_or-map-range_with_len (laid_at path.tiling) 0 path.count place place no_piece below (omega arith))
-      | inr past ↦ path.none place past low ∙ sym (get_or_past (map (laid_at path.tiling) (range_with_len 0 path.count)) place no_piece (omega (arith, past, length-map-range_with_len (laid_at path.tiling) 0 path.count)))
-    ]
+spells_path path = search (rules, length-map-range_with_len, cases_lt, get_or-map-range_with_len, get_or_past)
 
 -- the path is added as a tiling
 pub adds_path : (old new : Listing) → new.path ≡ old.path → new.is_full ≡ old.is_full → new.tilings.items ≡ old.tilings.items ++ old.path.tiling ∷ [] → Adds old new (λ path found. found ≡ path) (λ path found. found ≡ path)
@@ -110,5 +104,4 @@ adds_path old new path full longer = record {
 }
   where
     one_listed : (x y : ListedTiling) → Contains (x ∷ []) y → x ≡ y
-    one_listed x y (zero, below, is) = is
-    one_listed x y (suc k, below, is) = absurd (omega (arith, below))
+    one_listed x y h2 = search rules

@@ -1,7 +1,6 @@
 -- The cell of a placement's pivot.
-use Rattle.std.proofs.Common.{◌≡◌, true, pos, ◌+ℤ◌, refl, ap, ◌∙◌, arith}
+use Rattle.std.proofs.Common.{◌≡◌, true, pos, refl, rules}
 use Rattle.std.specs.List.{list_all}
-use Rattle.std.proofs.lemmas.Int.{ints}
 use Rattle.lane_board.specs.Field.{Field}
 use Rattle.srs.specs.declared.piece.Piece.{Piece}
 use Rattle.srs.specs.declared.rotation.Rotation.{Rotation}
@@ -23,10 +22,4 @@ module _ (E : Field) (q : Placement) (inside : list_all (has_cell E) (cells_of q
   -- the pivot is one of the cells
   pub pivot_in : E q.x q.y ≡ true
   unfolding moved
-  pivot_in =
-      let p = at (pos 0, pos 0) (each_pivot q.piece q.rotation) in
-      let column : pos q.x +ℤ pos 0 ≡ pos p.x = ap (λ (c : Cell). c.0) p.is in
-      let row : pos q.y +ℤ pos 0 ≡ pos p.y = ap (λ (c : Cell). c.1) p.is in
-      let x : q.x ≡ p.x = omega (arith, ints) in
-      let y : q.y ≡ p.y = omega (arith, ints) in
-      ap (λ k. E k q.y) x ∙ ap (E p.x) y ∙ p.has
+  pivot_in = search (rules, each_pivot)

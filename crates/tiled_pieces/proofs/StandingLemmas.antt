@@ -1,5 +1,5 @@
 -- Pieces that stand in the tilings of lists.
-use Rattle.std.proofs.Common.{◌≡◌, ◌↔◌, ◌⊎◌, ℕ, ◌+◌, ◌-◌, ◌*◌, ◌%◌, ◌^◌, ◌<◌, ◌≤◌, Bool, true, false, ◌||◌, bit_or, List, [], ◌∷◌, ◌++◌, length, get_or, take, refl, sym, ap, subst, ◌∙◌, inl, inr, arith}
+use Rattle.std.proofs.Common.{◌≡◌, ◌↔◌, ◌⊎◌, ℕ, ◌+◌, ◌-◌, ◌*◌, ◌%◌, ◌^◌, ◌<◌, ◌≤◌, Bool, true, false, ◌||◌, bit_or, List, [], ◌∷◌, ◌++◌, length, get_or, take, refl, sym, ap, subst, ◌∙◌, inl, inr, arith, rules}
 use Rattle.std.specs.List.{Contains}
 use Rattle.std.proofs.Math.Bool.{or-true, true-or}
 use Rattle.std.proofs.lemmas.Bool.{cases_eq, cases_lt, false≢true}
@@ -58,8 +58,7 @@ one_bit a k small = (
 )
 
 either_set : (a b : Bool) → (a || b) ≡ true → (a ≡ true) ⊎ (b ≡ true)
-either_set true b set = inl refl
-either_set false b set = inr set
+either_set a b set = search rules
 
 -- one piece more
 pub lists_more : (pieces : List StandingPiece) (cells : Field) (lists index : ℕ) (piece : StandingPiece) (same : Bool) → index < length pieces → piece ≡ get_or pieces index piece → ((same ≡ true) ↔ (empty_cells piece.cells ≡ cells)) → same ≡ true →
@@ -97,25 +96,9 @@ lists_pass pieces cells lists index piece same below at both differ before = rec
 
 pub lists_all : (pieces all : List StandingPiece) (cells : Field) (lists index : ℕ) → length pieces ≤ index → pieces ≡ all → AreLists pieces cells lists index →
     (number : ℕ) → number < 64 → (has_bit lists number ≡ true) ↔ Stands all cells number
-lists_all pieces all cells lists index last same found number small =
-    subst (λ ps. (has_bit lists number ≡ true) ↔ Stands ps cells number) (take_all index pieces last ∙ same) (found.both number small)
+lists_all pieces all cells lists index last same found number small = search (rules, take_all)
 
 -- ---- pieces that are added
-
-pub grows_by_none : (pieces : List StandingPiece) (number : ℕ) (Such : Field → Type 0) → ((cells : Field) → Such cells → ⊥) → GrowsBy pieces pieces number Such
-grows_by_none pieces number Such none = record { both = λ cells other. (λ stands. inl stands, λ either. elim either as (λ _. Stands pieces cells other) [ inl before ↦ before | inr such ↦ absurd (none cells such.1) ]) }
-
--- where they stand already
-pub grows_by_known : (pieces : List StandingPiece) (number : ℕ) (known : Field) → Stands pieces known number → GrowsBy pieces pieces number (λ cells. cells ≡ known)
-grows_by_known pieces number known there = record {
-  both = λ cells other. (
-    λ stands. inl stands,
-    λ either. elim either as (λ _. Stands pieces cells other) [
-      | inl before ↦ before
-      | inr such ↦ record { piece = there.piece; there = there.there; same = there.same ∙ sym such.1; list = there.list ∙ sym such.0 }
-    ],
-  );
-}
 
 pub grows_by_push : (pieces more : List StandingPiece) (number : ℕ) (piece : StandingPiece) → piece.list ≡ number → more ≡ pieces ++ piece ∷ [] → GrowsBy pieces more number (λ cells. cells ≡ empty_cells piece.cells)
 grows_by_push pieces more number piece own is = record {
@@ -134,33 +117,11 @@ grows_by_push pieces more number piece own is = record {
 -- one after the other
 pub grows_on : (pieces more most : List StandingPiece) (number : ℕ) (One Other Either : Field → Type 0) → GrowsBy pieces more number One → GrowsBy more most number Other → ((cells : Field) → Either cells ↔ (One cells ⊎ Other cells)) →
     GrowsBy pieces most number Either
-grows_on pieces more most number One Other Either first second split = record {
-  both = λ cells other. (
-    λ stands. elim ((second.both cells other).0 stands) [
-      | inl before ↦ elim ((first.both cells other).0 before) [
-        | inl earlier ↦ inl earlier
-        | inr such ↦ inr (such.0, (split cells).1 (inl such.1))
-      ]
-      | inr such ↦ inr (such.0, (split cells).1 (inr such.1))
-    ],
-    λ either. (second.both cells other).1 (elim either as (λ _. Stands more cells other ⊎ ((other ≡ number) × Other cells)) [
-      | inl earlier ↦ inl ((first.both cells other).1 (inl earlier))
-      | inr such ↦ elim ((split cells).0 such.1) [
-        | inl one ↦ inl ((first.both cells other).1 (inr (such.0, one)))
-        | inr rest ↦ inr (such.0, rest)
-      ]
-    ]),
-  );
-}
+grows_on pieces more most number One Other Either first second split = search rules
 
 -- the same pieces in other words
 pub grows_same : (pieces more : List StandingPiece) (number : ℕ) (Such Same : Field → Type 0) → GrowsBy pieces more number Such → ((cells : Field) → Same cells ↔ Such cells) → GrowsBy pieces more number Same
-grows_same pieces more number Such Same grows both = record {
-  both = λ cells other. (
-    λ stands. elim ((grows.both cells other).0 stands) [ inl before ↦ inl before | inr such ↦ inr (such.0, (both cells).1 such.1) ],
-    λ either. (grows.both cells other).1 (elim either as (λ _. Stands pieces cells other ⊎ ((other ≡ number) × Such cells)) [ inl before ↦ inl before | inr such ↦ inr (such.0, (both cells).0 such.1) ]),
-  );
-}
+grows_same pieces more number Such Same grows both = search rules
 
 -- ---- the places of a tiling, and the tilings of a list
 
@@ -170,59 +131,18 @@ pub record HasBefore (tiling : ListedTiling) (laid : LaidPiece) (index : ℕ) : 
   pub below : place < index
   pub there : laid_at tiling place ≡ laid
 
-pub before_none : (tiling : ListedTiling) (laid : LaidPiece) → HasBefore tiling laid 0 → ⊥
-before_none tiling laid has = let below = has.below in absurd (omega arith)
-
 pub before_more : (tiling : ListedTiling) (laid : LaidPiece) (index : ℕ) → HasBefore tiling laid (index + 1) ↔ (HasBefore tiling laid index ⊎ (laid_at tiling index ≡ laid))
-before_more tiling laid index = (
-  λ has. elim (cases_eq has.place index) [
-    | inl same ↦ inr (subst (λ n. laid_at tiling n ≡ laid) same has.there)
-    | inr other ↦ inl (record { place = has.place; below = (let below = has.below in omega (arith, other)); there = has.there })
-  ],
-  λ either. elim either as (λ _. HasBefore tiling laid (index + 1)) [
-    | inl before ↦ record { place = before.place; below = (let below = before.below in omega arith); there = before.there }
-    | inr here ↦ record { place = index; below = omega arith; there = here }
-  ],
-)
+before_more tiling laid index = search (rules, cases_eq)
 
 -- the place has a piece of the kind
 pub before_here : (tiling : ListedTiling) (piece : Piece) (index : ℕ) (known : Field) → laid_at tiling index ≡ record { piece = piece; cells = known } → (cells : Field) →
     HasBefore tiling (record { piece = piece; cells = cells }) (index + 1) ↔ (HasBefore tiling (record { piece = piece; cells = cells }) index ⊎ (cells ≡ known))
-before_here tiling piece index known at cells =
-    let laid : LaidPiece = record { piece = piece; cells = cells } in
-    let more = before_more tiling laid index in (
-      λ has. elim (more.0 has) [
-        | inl before ↦ inl before
-        | inr here ↦ inr (ap (λ (l : LaidPiece). l.cells) (sym here ∙ at))
-      ],
-      λ either. more.1 (elim either as (λ _. HasBefore tiling laid index ⊎ (laid_at tiling index ≡ laid)) [
-        | inl before ↦ inl before
-        | inr same ↦ inr (at ∙ ap (λ (c : Field). record { piece = piece; cells = c }) (sym same))
-      ]),
-    )
+before_here tiling piece index known at cells = search (rules, before_more)
 
 -- or one of another kind
 pub before_other : (tiling : ListedTiling) (piece : Piece) (index : ℕ) → ((laid_at tiling index).piece ≡ piece → ⊥) → (cells : Field) →
     HasBefore tiling (record { piece = piece; cells = cells }) (index + 1) ↔ HasBefore tiling (record { piece = piece; cells = cells }) index
-before_other tiling piece index other cells =
-    let laid : LaidPiece = record { piece = piece; cells = cells } in
-    let more = before_more tiling laid index in (
-      λ has. elim (more.0 has) [
-        | inl before ↦ before
-        | inr here ↦ absurd (other (ap (λ (l : LaidPiece). l.piece) here))
-      ],
-      λ before. more.1 (inl before),
-    )
-
-pub before_all : (tiling : ListedTiling) (laid : LaidPiece) (index : ℕ) → index ≡ 8 → HasPiece tiling laid ↔ HasBefore tiling laid index
-before_all tiling laid index last = (
-  λ has. record { place = has.place; below = (let known = has.known in omega arith); there = has.there },
-  λ has. record { place = has.place; known = (let below = has.below in omega arith); there = has.there },
-)
-
--- the first of the tilings have the piece, and one more
-pub some_first : (laid : LaidPiece) → SomeHas [] laid → ⊥
-some_first laid some = let (k, below, _) = some.listed in absurd (omega arith)
+before_other tiling piece index other cells = search (rules, before_more)
 
 pub some_more : (list : List ListedTiling) (index : ℕ) (tiling : ListedTiling) (laid : LaidPiece) → index < length list → tiling ≡ get_or list index tiling →
     SomeHas (take (index + 1) list) laid ↔ (SomeHas (take index list) laid ⊎ HasPiece tiling laid)

@@ -1,12 +1,12 @@
 -- A placement is in a listed tiling exactly where the others fill what it leaves.
-use Rattle.std.proofs.Common.{◌≡◌, ◌↔◌, ℕ, zero, suc, ◌<◌, Bool, true, false, not, ◌&&◌, List, [], ◌∷◌, map, pos, negsuc, refl, sym, ap, subst, ◌∙◌, inl, inr, arith}
+use Rattle.std.proofs.Common.{◌≡◌, ◌↔◌, ℕ, zero, suc, ◌<◌, Bool, true, not, ◌&&◌, List, [], ◌∷◌, map, pos, sym, ap, subst, ◌∙◌, inl, inr, arith, rules}
 use Rattle.std.proofs.Math.Path.{fun_ext}
 use Rattle.std.specs.List.{Contains, list_all}
 use Rattle.std.proofs.lemmas.Bool.{and_parts, and_from, both_ways, not-true, not_from_false, false_from_ne_true, false≢true}
 use Rattle.std.proofs.lemmas.List.Elements.{All-contains, All-map}
 use Rattle.lane_board.specs.Field.{Field, difference}
 use Rattle.srs.specs.declared.placement.Placement.{Placement}
-use Rattle.srs.specs.Cells.{Cell, cells_of, in_well, is_inside_of}
+use Rattle.srs.specs.Cells.{Cell, cells_of, is_inside_of}
 use Rattle.srs.specs.SameCells.{is_among}
 use Rattle.srs.proofs.CallerLemmas.{is_among-all, list_all-from_is_among}
 use Rattle.prune.specs.Tiling.{Supply}
@@ -37,11 +37,7 @@ all_any Next supply E [] none = none
 all_any Next supply E (laid ∷ more) (is, later) = (any_of Next supply E laid is, all_any Next (less_one supply laid.piece) (difference E laid.cells) more later)
 
 swap : (p q r : Bool) → ((p && not q) && not r) ≡ ((p && not r) && not q)
-swap true true true = refl
-swap true true false = refl
-swap true false true = refl
-swap true false false = refl
-swap false q r = refl
+swap p q r = search rules
 
 behind : (supply : Supply) (E : Field) (front laid : LaidPiece) → IsLaid IsAny supply E front → LaidBefore (less_one supply front.piece) (difference E front.cells) laid → LaidBefore supply E laid
 unfolding AreLaid difference
@@ -87,13 +83,7 @@ laid_before supply E (front ∷ more) laid (is, later) (suc k, below, same) = be
 
 -- a placement within the well has just the cells that it is laid on
 in_laid : (m : Placement) → is_inside_of m ≡ true → (F : Field) → ((x y : ℕ) → (laid_placement m).cells x y ≡ true → F x y ≡ true) → list_all (has_cell F) (cells_of m) ≡ true
-in_laid m inside F each = list_all-from_is_among (has_cell F) (cells_of m) (λ c has. one c has (is_among-all in_well (cells_of m) c inside has))
-  where
-    one : (c : Cell) → is_among (cells_of m) c ≡ true → in_well c ≡ true → has_cell F c ≡ true
-    one (pos x, pos y) has there = each x y has
-    one (pos x, negsuc y) has there = absurd (false≢true there)
-    one (negsuc x, pos y) has there = absurd (false≢true there)
-    one (negsuc x, negsuc y) has there = absurd (false≢true there)
+in_laid m inside F each = search (rules, list_all-from_is_among, is_among-all, false≢true)
 
 stands : (E : Field) (supply : Supply) (m : Placement) → IsSmall 8 E → is_inside_of m ≡ true → LaidBefore supply E (laid_placement m) → StandsInTiling E supply m
 unfolding difference without_placement

@@ -1,5 +1,5 @@
 -- The steps of a walk that lists tilings.
-use Rattle.std.proofs.Common.{◌≡◌, ◌⊎◌, ℕ, zero, suc, ◌<◌, false, List, [], ◌∷◌, ◌++◌, length, map, get_or, refl, sym, ap, subst, ◌∙◌, inl, inr, arith}
+use Rattle.std.proofs.Common.{◌≡◌, ◌⊎◌, ℕ, ◌<◌, false, List, [], ◌∷◌, ◌++◌, length, map, get_or, refl, sym, ap, subst, ◌∙◌, arith, rules}
 use Rattle.std.proofs.lemmas.List.{append-nil, length-append}
 use Rattle.lane_board.specs.Field.{Field, difference}
 use Rattle.srs.specs.declared.piece.Piece.{Piece}
@@ -55,22 +55,14 @@ leaves_adds supply E left piece a b c d taken is pushed items_b full_b adds popp
 -- a piece of the supply is taken
 pub takes_adds : (supply less : Supply) (E : Field) (x y : ℕ) (piece : Piece) (a b : Listing) → 0 < supply piece → less ≡ less_one supply piece →
     Adds a b (StacksSome HasFirst less E x y piece) (GoesOn IsAny (with_one less piece) E) → Adds a b (TakesFirst HasFirst supply E x y piece) (GoesOn IsAny supply E)
-takes_adds supply less E x y piece a b some is adds = adds_as a b _ _ (TakesFirst HasFirst supply E x y piece) (GoesOn IsAny supply E)
-    (λ path found takes. subst (λ (s : Supply). StacksSome HasFirst s E x y piece path found) (sym is) takes.stacks)
-    (λ path found goes. subst (λ (s : Supply). GoesOn IsAny s E path found) (ap (λ (s : Supply). with_one s piece) is ∙ one_back supply piece some) goes) adds
+takes_adds supply less E x y piece a b some is adds = search (rules, adds_as, one_back)
 
 -- the kinds, one after the other
 abbrev Seven : (Piece → Fact) → Fact
 Seven By path found = (((((By I path found ⊎ By L path found) ⊎ By O path found) ⊎ By Z path found) ⊎ By T path found) ⊎ By J path found) ⊎ By S path found
 
 one_of_seven : (By : Piece → Fact) (path found : List LaidPiece) (piece : Piece) → By piece path found → Seven By path found
-one_of_seven By path found I fact = inl (inl (inl (inl (inl (inl fact)))))
-one_of_seven By path found L fact = inl (inl (inl (inl (inl (inr fact)))))
-one_of_seven By path found O fact = inl (inl (inl (inl (inr fact))))
-one_of_seven By path found Z fact = inl (inl (inl (inr fact)))
-one_of_seven By path found T fact = inl (inl (inr fact))
-one_of_seven By path found J fact = inl (inr fact)
-one_of_seven By path found S fact = inr fact
+one_of_seven By path found piece fact = search rules
 
 pub seven_add : (supply : Supply) (E : Field) (x y : ℕ) → IsSmall 8 E → IsFirst E x y → (l0 l1 l2 l3 l4 l5 l6 l7 : Listing) →
     Adds l0 l1 (TakesFirst HasFirst supply E x y I) (GoesOn IsAny supply E) → Adds l1 l2 (TakesFirst HasFirst supply E x y L) (GoesOn IsAny supply E) →
@@ -93,16 +85,14 @@ AnyForm supply E x y a b piece = Adds a b (StacksSome HasFirst supply E x y piec
 module _ (supply : Supply) (E : Field) (x y : ℕ) (small : IsSmall 8 E) where
   form_adds : (piece : Piece) (place : ℕ) (a b : Listing) → place < length (forms_of piece) → Adds a b (Spans HasFirst supply E x y piece place) (Spans IsAny supply E x y piece place) →
       Adds a b (StacksForm HasFirst supply E x y piece place) (GoesOn IsAny (with_one supply piece) E)
-  form_adds piece place a b known adds = adds_as a b _ _ (StacksForm HasFirst supply E x y piece place) (GoesOn IsAny (with_one supply piece) E)
-      (λ path found s. s.stacks) (λ path found stacks. form_found supply E x y piece place path found small (record { known = known; stacks = stacks })) adds
+  form_adds piece place a b known adds = search (rules, adds_as, form_found)
 
   pub one_of : (piece kind : Piece) → piece ≡ kind → length (forms_of kind) ≡ 1 → (a b : Listing) → Adds a b (Spans HasFirst supply E x y kind 0) (Spans IsAny supply E x y kind 0) → AnyForm supply E x y a b piece
   one_of piece kind is count a b first = subst (AnyForm supply E x y a b) (sym is)
       (adds_as a b _ _ (StacksSome HasFirst supply E x y kind) _ (λ path found some. one path found some.place some.stacks) (λ path found goes. goes) (form_adds kind 0 a b (omega (arith, count)) first))
     where
       one : (path found : List LaidPiece) (place : ℕ) → StacksForm HasFirst supply E x y kind place path found → StacksForm HasFirst supply E x y kind 0 path found
-      one path found zero form = form
-      one path found (suc n) form = absurd (omega (arith, form.known, count))
+      one path found place form = search rules
 
   pub two_of : (piece kind : Piece) → piece ≡ kind → length (forms_of kind) ≡ 2 → (a b c : Listing) → Adds a b (Spans HasFirst supply E x y kind 0) (Spans IsAny supply E x y kind 0) →
       Adds b c (Spans HasFirst supply E x y kind 1) (Spans IsAny supply E x y kind 1) → AnyForm supply E x y a c piece
@@ -111,9 +101,7 @@ module _ (supply : Supply) (E : Field) (x y : ℕ) (small : IsSmall 8 E) where
       (adds_then a b c _ _ _ (form_adds kind 0 a b (omega (arith, count)) first) (form_adds kind 1 b c (omega (arith, count)) second)))
     where
       one : (path found : List LaidPiece) (place : ℕ) → StacksForm HasFirst supply E x y kind place path found → StacksForm HasFirst supply E x y kind 0 path found ⊎ StacksForm HasFirst supply E x y kind 1 path found
-      one path found zero form = inl form
-      one path found (suc zero) form = inr form
-      one path found (suc (suc n)) form = absurd (omega (arith, form.known, count))
+      one path found place form = search rules
 
   pub four_of : (piece kind : Piece) → piece ≡ kind → length (forms_of kind) ≡ 4 → (a b c d e : Listing) → Adds a b (Spans HasFirst supply E x y kind 0) (Spans IsAny supply E x y kind 0) →
       Adds b c (Spans HasFirst supply E x y kind 1) (Spans IsAny supply E x y kind 1) → Adds c d (Spans HasFirst supply E x y kind 2) (Spans IsAny supply E x y kind 2) →
@@ -125,11 +113,7 @@ module _ (supply : Supply) (E : Field) (x y : ℕ) (small : IsSmall 8 E) where
     where
       one : (path found : List LaidPiece) (place : ℕ) → StacksForm HasFirst supply E x y kind place path found →
           ((StacksForm HasFirst supply E x y kind 0 path found ⊎ StacksForm HasFirst supply E x y kind 1 path found) ⊎ StacksForm HasFirst supply E x y kind 2 path found) ⊎ StacksForm HasFirst supply E x y kind 3 path found
-      one path found zero form = inl (inl (inl form))
-      one path found (suc zero) form = inl (inl (inr form))
-      one path found (suc (suc zero)) form = inl (inr form)
-      one path found (suc (suc (suc zero))) form = inr form
-      one path found (suc (suc (suc (suc n)))) form = absurd (omega (arith, form.known, count))
+      one path found place form = search rules
 
 -- where nothing was added and the list isn't full, there is no tiling
 pub none_added : (supply : Supply) (E : Field) (a b : Listing) → IsSmall 8 E → Adds a b (GoesOn HasFirst supply E) (GoesOn IsAny supply E) → length b.tilings.items ≡ length a.tilings.items → b.is_full ≡ false → CanFill 8 supply E → ⊥

@@ -1,5 +1,5 @@
 -- Supplies with one piece more or fewer.
-use Rattle.std.proofs.Common.{◌≡◌, ℕ, suc, ◌-◌, ◌<◌, ◌≤◌, Bool, true, false, cond, ◌==◌, refl, sym, subst, inl, inr, arith}
+use Rattle.std.proofs.Common.{◌≡◌, ℕ, suc, ◌-◌, ◌<◌, ◌≤◌, Bool, cond, ◌==◌, refl, arith, rules}
 use Rattle.std.proofs.Math.Path.{fun_ext}
 use Rattle.std.proofs.lemmas.Bool.{cases_Bool, eq-eqb, cond-true, cond-false, eqb-true}
 use Rattle.srs.specs.declared.piece.Piece.{Piece}
@@ -11,16 +11,10 @@ use Rattle.prune.specs.OnePart.{less_one}
 
 pub less-le : (s : Supply) (p other : Piece) → less_one s p other ≤ s other
 unfolding less_one
-less-le s p other = elim (cases_Bool (piece_code p == piece_code other)) [
-  | inl same ↦ omega (arith, cond-true {A = ℕ} _ (s other - 1) (s other) same)
-  | inr different ↦ omega (arith, cond-false {A = ℕ} _ (s other - 1) (s other) different)
-]
+less-le s p other = search (rules, cases_Bool, cond-true, cond-false)
 
 twice : (a b : Bool) (n : ℕ) → cond b (cond a (n - 1) n - 1) (cond a (n - 1) n) ≡ cond a (cond b (n - 1) n - 1) (cond b (n - 1) n)
-twice true true n = refl
-twice true false n = refl
-twice false true n = refl
-twice false false n = refl
+twice a b n = search rules
 
 pub less_swap : (s : Supply) (p q : Piece) → less_one (less_one s p) q ≡ less_one (less_one s q) p
 unfolding less_one
@@ -28,16 +22,10 @@ less_swap s p q = fun_ext (λ other. twice (piece_code p == piece_code other) (p
 
 pub some_swap : (s : Supply) (p q : Piece) → 0 < s p → 0 < less_one s p q → 0 < less_one s q p
 unfolding less_one
-some_swap s p q some more = elim (cases_Bool (piece_code q == piece_code p)) [
-  | inl same ↦
-      let is : q ≡ p = piece_code-injective q p (eqb-true _ _ same) in
-      subst (λ k. 0 < less_one s k p) (sym is) (subst (λ k. 0 < less_one s p k) is more)
-  | inr different ↦ omega (arith, some, cond-false {A = ℕ} _ (s p - 1) (s p) different)
-]
+some_swap s p q some more = search (rules, cases_Bool, piece_code-injective, eqb-true, cond-false)
 
 back_again : (a : Bool) (n : ℕ) → cond a (cond a (suc n) n - 1) (cond a (suc n) n) ≡ n
-back_again true n = omega arith
-back_again false n = refl
+back_again a n = search rules
 
 pub less_with : (s : Supply) (p : Piece) → less_one (with_one s p) p ≡ s
 unfolding with_one less_one

@@ -1,5 +1,5 @@
 -- A tiling is kept where it has the piece.
-use Rattle.std.proofs.Common.{◌↔◌, ◌+◌, List, sym, subst}
+use Rattle.std.proofs.Common.{◌↔◌, ◌+◌, List, sym, subst, rules}
 use Rattle.std.specs.List.{Contains}
 use Rattle.empty_cells.specs.Empties.{empty_cells}
 use Rattle.tiled_pieces.specs.declared.listed.ListedTiling.{ListedTiling}
@@ -17,8 +17,7 @@ loop-tiling-preserved c =
     elim c.if-has.branch [
       | then-has+in_ok-push w ↦ subst (λ tilings. KeptWith list tilings.items laid (index + 1)) (sym w.tilings-is)
           (kept_next list kept w.push.new.self.items laid index c.tiling-item.result c.loop-tiling-test.true c.tiling-item.is c.loop-tiling.invariant (c.has.ensures.0 w.if-has.true) w.in_ok-push.ensures.items)
-      | else-has w ↦ subst (λ tilings. KeptWith list tilings.items laid (index + 1)) (sym w.tilings-is)
-          (kept_passed list kept laid index c.tiling-item.result c.has.result c.loop-tiling-test.true c.tiling-item.is c.loop-tiling.invariant c.has.ensures w.if-has.false)
+      | else-has w ↦ search (rules, kept_passed)
     ]
 
 pub returns : goal.returns

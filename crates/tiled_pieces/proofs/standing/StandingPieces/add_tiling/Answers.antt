@@ -1,5 +1,5 @@
 -- One place after the other.
-use Rattle.std.proofs.Common.{◌≡◌, ◌+◌, ap, sym, subst, ◌∙◌}
+use Rattle.std.proofs.Common.{◌≡◌, ◌+◌, ap, sym, subst, ◌∙◌, rules}
 use Rattle.lane_board.specs.Field.{Field}
 use Rattle.srs.specs.declared.piece.Piece.{Piece}
 use Rattle.empty_cells.specs.Empties.{empty_cells}
@@ -26,9 +26,5 @@ loop-place-preserved c =
             grows_on before c.loop-place.self.pieces.items _ c.args.number Had (λ cells. cells ≡ known) Has c.loop-place.invariant.0 w.in_ok-add_piece.ensures.added (before_here tiling piece place known at),
             w.in_ok-add_piece.ensures.kind ∙ c.loop-place.invariant.1,
           )
-      | in_default w ↦
-          subst (λ (self : StandingPieces). GrowsBy before self.pieces.items c.args.number Has × (self.piece ≡ piece)) (sym w.self-is) (
-            grows_same before c.loop-place.self.pieces.items c.args.number Had Has c.loop-place.invariant.0 (before_other tiling piece place (λ same. w.in_default.ensures (same ∙ sym c.loop-place.invariant.1))),
-            c.loop-place.invariant.1,
-          )
+      | in_default w ↦ search (rules, grows_same, before_other)
     ]
