@@ -1,5 +1,5 @@
 -- How often a cell stands in a list of cells.
-use Rattle.std.proofs.Common.{◌≡◌, ℕ, ◌+◌, ◌≤◌, Bool, true, false, cond, ◌||◌, List, [], ◌∷◌, ◌++◌, map, refl, sym, ap, subst, ◌∙◌, inl, inr, arith}
+use Rattle.std.proofs.Common.{◌≡◌, ℕ, ◌+◌, ◌≤◌, Bool, true, false, cond, ◌||◌, List, [], ◌∷◌, ◌++◌, map, refl, sym, ap, subst, ◌∙◌, inl, inr, arith, rules}
 use Rattle.std.specs.Prelude.{count_by}
 use Rattle.std.specs.List.{list_all}
 use Rattle.std.specs.Cmp.{both_ways}
@@ -30,14 +30,11 @@ count-agree p q ok (x ∷ xs) all agree =
 -- none of them passes
 pub count-none : {X : Type 0} (p ok : X → Bool) (xs : List X) → list_all ok xs ≡ true → ((x : X) → ok x ≡ true → p x ≡ false) → count_by p xs ≡ 0
 count-none p ok [] all none = refl
-count-none p ok (x ∷ xs) all none =
-    let parts = and_parts (ok x) (list_all ok xs) all in
-    omega (arith, count-no p x xs (none x parts.0), count-none p ok xs parts.1 none)
+count-none p ok (x ∷ xs) all none = search (rules, and_parts, count-no, (count-none p ok xs))
 
 pub count-map : {X Y : Type 0} (p : Y → Bool) (f : X → Y) (xs : List X) → count_by p (map f xs) ≡ count_by (λ x. p (f x)) xs
 count-map p f [] = refl
-count-map p f (x ∷ xs) =
-    omega (arith, sum_by-cons (λ y. cond (p y) 1 0) (f x) (map f xs), sum_by-cons (λ x. cond (p (f x)) 1 0) x xs, count-map p f xs)
+count-map p f (x ∷ xs) = search (rules, sum_by-cons, (count-map p f xs))
 
 -- how often the cell stands in the list
 unfoldable pub count_in : List Cell → Cell → ℕ
@@ -59,9 +56,7 @@ count_in-some (c ∷ cs) cell has = elim (cases_Bool (cell_eq c cell)) [
 pub count_in-none : (cells : List Cell) (cell : Cell) → is_among cells cell ≡ false → count_in cells cell ≡ 0
 unfolding count_in is_among
 count_in-none [] cell none = refl
-count_in-none (c ∷ cs) cell none =
-    let parts = or_parts (cell_eq c cell) (is_among cs cell) none in
-    omega (arith, count-no (λ c. cell_eq c cell) c cs parts.0, count_in-none cs cell parts.1)
+count_in-none (c ∷ cs) cell none = search (rules, or_parts, count-no, (count_in-none cs cell))
 
 -- a cell that a changed list has comes from a cell of the list
 pub record Source (f : Cell → Cell) (cells : List Cell) (cell : Cell) : Type 0 where
@@ -75,18 +70,14 @@ source_of f [] cell has = absurd (false≢true has)
 source_of f (c ∷ cs) cell has = elim (cases_Bool (cell_eq (f c) cell)) [
   | inl same ↦ record { from = c; listed = has_cell-head c cs; sent = (cell_eq-decides (f c) cell).0 same }
   | inr other ↦
-      let rest = source_of f cs cell (subst (λ b. (b || is_among (map f cs) cell) ≡ true) other has) in
-      record { from = rest.from; listed = or_right (cell_eq c rest.from) _ rest.listed; sent = rest.sent }
+      search (rules, or_right, (source_of f cs cell (subst (λ b. (b || is_among (map f cs) cell) ≡ true) other has)))
 ]
 
 -- and the changed list has what a cell of the list becomes
 pub has_cell-map : (f : Cell → Cell) (cells : List Cell) (cell : Cell) → is_among cells cell ≡ true → is_among (map f cells) (f cell) ≡ true
 unfolding is_among
 has_cell-map f [] cell has = absurd (false≢true has)
-has_cell-map f (c ∷ cs) cell has = elim (cases_Bool (cell_eq c cell)) [
-  | inl same ↦ ap (λ b. b || is_among (map f cs) (f cell)) ((cell_eq-decides (f c) (f cell)).1 (ap f ((cell_eq-decides c cell).0 same)))
-  | inr other ↦ or_right (cell_eq (f c) (f cell)) _ (has_cell-map f cs cell (subst (λ b. (b || is_among cs cell) ≡ true) other has))
-]
+has_cell-map f (c ∷ cs) cell has = search (rules, cases_Bool, cell_eq-decides, or_right, (has_cell-map f cs cell))
 
 -- where cells of a list that stand in it once become different ones, none stands twice in the changed list
 pub once_sent : (f : Cell → Cell) (cells : List Cell) → ((c : Cell) → is_among cells c ≡ true → count_in cells c ≤ 1) →

@@ -1,5 +1,5 @@
 -- The empty cells column by column: how many there are, and how many cells of a tiling stand there.
-use Rattle.std.proofs.Common.{◌≡◌, ◌≢◌, ◌⊎◌, ℕ, zero, suc, ◌+◌, ◌*◌, ◌<◌, ◌≤◌, Bool, true, false, not, cond, ◌&&◌, ◌||◌, ◌==◌, List, [], ◌∷◌, ◌++◌, pos, nat_abs, nat_lt, nat_le, refl, sym, ap, ◌∙◌, inl, inr, arith}
+use Rattle.std.proofs.Common.{◌≡◌, ◌≢◌, ◌⊎◌, ℕ, zero, suc, ◌+◌, ◌*◌, ◌<◌, ◌≤◌, Bool, true, false, not, cond, ◌&&◌, ◌||◌, ◌==◌, List, [], ◌∷◌, ◌++◌, pos, nat_abs, nat_lt, nat_le, refl, sym, ap, ◌∙◌, arith, rules}
 use Rattle.std.specs.Prelude.{sum_by, count_by}
 use Rattle.std.specs.List.{list_all, range_with_len}
 use Rattle.std.specs.Cmp.{both_ways}
@@ -35,44 +35,18 @@ column_empties-zero F x = refl
 
 pub column_empties-le : (F : Field) (n x : ℕ) → column_empties F n x ≤ n
 column_empties-le F zero x = omega (arith, column_empties-zero F x)
-column_empties-le F (suc n) x = elim (cases_Bool (not (F x n))) [
-  | inl empty ↦ omega (arith, column_empties-suc F n x, cond-true {A = ℕ} _ 1 0 empty, column_empties-le F n x)
-  | inr filled ↦ omega (arith, column_empties-suc F n x, cond-false {A = ℕ} _ 1 0 filled, column_empties-le F n x)
-]
+column_empties-le F (suc n) x =
+    search (rules, cases_Bool, column_empties-suc, cond-true, cond-false, (column_empties-le F n x))
 
 -- a row has ten cells, of which some are filled and the others empty
 one_each : (b : Bool) → ◌≡◌ {A = ℕ} (cond (not b) 1 0 + cond b 1 0) 1
-one_each true = refl
-one_each false = refl
+one_each b = search rules
 
 -- the empty cells of the ten columns are those of all rows
 pub all_columns : (F : Field) (n : ℕ) → sum_by (column_empties F n) (range_with_len 0 10) + cell_count F n ≡ 10 * n
 unfolding cell_count row_count
 all_columns F zero = omega (arith, column_empties-zero F 0, column_empties-zero F 1, column_empties-zero F 2, column_empties-zero F 3, column_empties-zero F 4, column_empties-zero F 5, column_empties-zero F 6, column_empties-zero F 7, column_empties-zero F 8, column_empties-zero F 9)
-all_columns F (suc n) = omega (
-  arith,
-  all_columns F n,
-  column_empties-suc F n 0,
-  column_empties-suc F n 1,
-  column_empties-suc F n 2,
-  column_empties-suc F n 3,
-  column_empties-suc F n 4,
-  column_empties-suc F n 5,
-  column_empties-suc F n 6,
-  column_empties-suc F n 7,
-  column_empties-suc F n 8,
-  column_empties-suc F n 9,
-  one_each (F 0 n),
-  one_each (F 1 n),
-  one_each (F 2 n),
-  one_each (F 3 n),
-  one_each (F 4 n),
-  one_each (F 5 n),
-  one_each (F 6 n),
-  one_each (F 7 n),
-  one_each (F 8 n),
-  one_each (F 9 n),
-)
+all_columns F (suc n) = search (rules, column_empties-suc, one_each, (all_columns F n))
 
 pub all_empties : (F : Field) (n : ℕ) → sum_by (column_empties F n) (range_with_len 0 10) ≡ empties_below F n
 all_empties F n = omega (arith, all_columns F n)
@@ -92,13 +66,7 @@ count-either p q r ok (x ∷ xs) all either apart =
     )
   where
     here : (a b c : Bool) → a ≡ (b || c) → (b && c) ≡ false → ◌≡◌ {A = ℕ} (cond a 1 0) (cond b 1 0 + cond c 1 0)
-    here a true true e none = absurd (true≢false none)
-    here true true false e none = refl
-    here true false true e none = refl
-    here true false false e none = absurd (true≢false e)
-    here false true false e none = absurd (true≢false (sym e))
-    here false false true e none = absurd (true≢false (sym e))
-    here false false false e none = refl
+    here a b c e none = search (rules, true≢false)
 
 abbrev pub column_of : Cell → ℕ
 column_of cell = nat_abs cell.0
@@ -117,10 +85,8 @@ module _ (F : Field) (rows : ℕ) (cells : List Cell) (empty : list_all (is_empt
 
   column_count : (x n : ℕ) → x < 10 → n ≤ rows → count_by (in_column x n) cells ≡ column_empties F n x
   unfolding in_column count_in
-  column_count x zero column below = count-none (in_column x 0) (is_empty_below F rows) cells empty (λ c _. and_right (column_of c == x) _ (none (row_of c))) ∙ sym (column_empties-zero F x)
-    where
-      none : (y : ℕ) → nat_lt y 0 ≡ false
-      none y = false_from_ne_true _ (λ below. omega (arith, ltb-true y 0 below))
+  column_count x zero column below =
+      search (rules, count-none, and_right, column_empties-zero, false_from_ne_true, ltb-true)
   column_count x (suc n) column below =
       count-either (in_column x (suc n)) (in_column x n) (λ c. cell_eq c (pos x, pos n)) (is_empty_below F rows) cells empty either apart
       ∙ added (count_by (in_column x n) cells) (column_empties F n x) (count_by (λ c. cell_eq c (pos x, pos n)) cells) _ (column_count x n column (omega arith)) (once (pos x, pos n) ∙ ap (λ b. cond b 1 0) here)
@@ -138,41 +104,19 @@ module _ (F : Field) (rows : ℕ) (cells : List Cell) (empty : list_all (is_empt
           (λ e. is_empty_at F rows x n column (omega arith) (not-true (F x n) e))
 
       apart : (c : Cell) → (in_column x n c && cell_eq c (pos x, pos n)) ≡ false
-      apart c = false_from_ne_true _ (λ both.
-          let parts = and_parts (in_column x n c) (cell_eq c (pos x, pos n)) both in
-          let lower = ltb-true (row_of c) n (and_parts (column_of c == x) (nat_lt (row_of c) n) parts.0).1 in
-          let row : row_of c ≡ n = ap (λ (c : Cell). nat_abs c.1) ((cell_eq-decides c (pos x, pos n)).0 parts.1) in
-          omega arith)
+      apart c = search (rules, false_from_ne_true, and_parts, ltb-true, cell_eq-decides)
 
       either : (c : Cell) → is_empty_below F rows c ≡ true → in_column x (suc n) c ≡ (in_column x n c || cell_eq c (pos x, pos n))
       either c ok = both_ways _ _ there back
         where
           there : in_column x (suc n) c ≡ true → (in_column x n c || cell_eq c (pos x, pos n)) ≡ true
-          there h =
-              let parts = and_parts (column_of c == x) (nat_lt (row_of c) (suc n)) h in
-              let e = empty_cell F rows c ok in
-              split parts.0 (ltb-true (row_of c) (suc n) parts.1) (cases_eq (row_of c) n) e
+          there h = search (rules, and_parts, empty_cell, ltb-true, cases_eq, split)
             where
               split : (column_of c == x) ≡ true → row_of c < suc n → (row_of c ≡ n) ⊎ (row_of c ≢ n) → EmptyCell F rows c → (in_column x n c || cell_eq c (pos x, pos n)) ≡ true
-              split column low (inl same) e =
-                  let k : column_of c ≡ x = eqb-true (column_of c) x column in
-                  let cx : column_of c ≡ e.x = ap (λ (c : Cell). nat_abs c.0) e.is in
-                  let cy : row_of c ≡ e.y = ap (λ (c : Cell). nat_abs c.1) e.is in
-                  let is_x : e.x ≡ x = omega arith in
-                  let is_y : e.y ≡ n = omega arith in
-                  or_right (in_column x n c) _ ((cell_eq-decides c (pos x, pos n)).1 (e.is ∙ (λ i. (pos (is_x i), pos (is_y i)))))
-              split column low (inr other) e = or_left _ _ (and_from _ _ column (lt-ltb (row_of c) n (omega (arith, low, other))))
+              split column low h2 e = search (rules, eqb-true, or_right, cell_eq-decides, or_left, and_from, lt-ltb)
 
           back : (in_column x n c || cell_eq c (pos x, pos n)) ≡ true → in_column x (suc n) c ≡ true
-          back h = cases (or_cases (in_column x n c) (cell_eq c (pos x, pos n)) h)
-            where
-              cases : (in_column x n c ≡ true) ⊎ (cell_eq c (pos x, pos n) ≡ true) → in_column x (suc n) c ≡ true
-              cases (inl old) = let parts = and_parts (column_of c == x) (nat_lt (row_of c) n) old in and_from _ _ parts.0 (lt-ltb (row_of c) (suc n) (omega (arith, ltb-true (row_of c) n parts.1)))
-              cases (inr here) =
-                  let is = (cell_eq-decides c (pos x, pos n)).0 here in
-                  let column : column_of c ≡ x = ap (λ (c : Cell). nat_abs c.0) is in
-                  let row : row_of c ≡ n = ap (λ (c : Cell). nat_abs c.1) is in
-                  and_from _ _ (eq-eqb (column_of c) x column) (lt-ltb (row_of c) (suc n) (omega arith))
+          back h = search (rules, or_cases, and_parts, and_from, lt-ltb, ltb-true, cell_eq-decides, eq-eqb, here)
 
   -- as many of the cells stand in a column as it has empty cells
   pub one_column : (x : ℕ) → x < 10 → count_by (λ c. column_of c == x) cells ≡ column_empties F rows x
@@ -187,39 +131,21 @@ module _ (F : Field) (rows : ℕ) (cells : List Cell) (empty : list_all (is_empt
 
   -- as many of the cells stand in neighbouring columns as these have empty cells
   pub columns_count : (first n : ℕ) → first + n ≤ 10 → count_by (in_columns first n) cells ≡ sum_by (column_empties F rows) (range_with_len first n)
-  columns_count first zero within = count-none (in_columns first 0) (is_empty_below F rows) cells empty (λ c _. false_from_ne_true _ (λ both.
-      let parts = and_parts (nat_le first (column_of c)) (nat_lt (column_of c) (first + 0)) both in
-      omega (arith, leb-true first (column_of c) parts.0, ltb-true (column_of c) (first + 0) parts.1)))
+  columns_count first zero within = search (rules, count-none, false_from_ne_true, and_parts, leb-true, ltb-true)
   columns_count first (suc n) within =
       let one = one_column first (omega arith) in
       let more = columns_count (first + 1) n (omega arith) in
       omega (arith, count-either (in_columns first (suc n)) (λ c. column_of c == first) (in_columns (first + 1) n) (is_empty_below F rows) cells empty (λ c _. either (column_of c)) (λ c. apart (column_of c)), one, more, sum_by-cons (column_empties F rows) first (range_with_len (first + 1) n))
     where
       either : (k : ℕ) → (nat_le first k && nat_lt k (first + suc n)) ≡ (k == first || (nat_le (first + 1) k && nat_lt k (first + 1 + n)))
-      either k = both_ways _ _
-          (λ h. let parts = and_parts (nat_le first k) (nat_lt k (first + suc n)) h in there (leb-true first k parts.0) (ltb-true k (first + suc n) parts.1) (cases_eq k first))
-          (λ h. back (or_cases (k == first) _ h))
-        where
-          there : first ≤ k → k < first + suc n → (k ≡ first) ⊎ (k ≢ first) → (k == first || (nat_le (first + 1) k && nat_lt k (first + 1 + n))) ≡ true
-          there low high (inl same) = or_left _ _ (eq-eqb k first same)
-          there low high (inr other) = or_right (k == first) _ (and_from _ _ (le-leb (first + 1) k (omega arith)) (lt-ltb k (first + 1 + n) (omega arith)))
-
-          back : ((k == first) ≡ true) ⊎ ((nat_le (first + 1) k && nat_lt k (first + 1 + n)) ≡ true) → (nat_le first k && nat_lt k (first + suc n)) ≡ true
-          back (inl same) = let e = eqb-true k first same in and_from _ _ (le-leb first k (omega arith)) (lt-ltb k (first + suc n) (omega arith))
-          back (inr above) =
-              let parts = and_parts (nat_le (first + 1) k) (nat_lt k (first + 1 + n)) above in
-              and_from _ _ (le-leb first k (omega (arith, leb-true (first + 1) k parts.0))) (lt-ltb k (first + suc n) (omega (arith, ltb-true k (first + 1 + n) parts.1)))
+      either k =
+          search (rules, both_ways, and_parts, leb-true, ltb-true, cases_eq, or_cases, or_left, eq-eqb, or_right, and_from, le-leb, lt-ltb, eqb-true)
 
       apart : (k : ℕ) → (k == first && (nat_le (first + 1) k && nat_lt k (first + 1 + n))) ≡ false
-      apart k = false_from_ne_true _ (λ both.
-          let parts = and_parts (k == first) _ both in
-          let above = and_parts (nat_le (first + 1) k) (nat_lt k (first + 1 + n)) parts.1 in
-          omega (arith, eqb-true k first parts.0, leb-true (first + 1) k above.0))
+      apart k = search (rules, false_from_ne_true, and_parts, eqb-true, leb-true)
 
 -- a column with an empty cell isn't without one
 pub column_empties-some : (F : Field) (n x y : ℕ) → y < n → F x y ≡ false → 1 ≤ column_empties F n x
 column_empties-some F zero x y below empty = absurd (omega arith)
-column_empties-some F (suc n) x y below empty = elim (cases_eq y n) [
-  | inl same ↦ omega (arith, column_empties-suc F n x, cond-true {A = ℕ} (not (F x n)) 1 0 (ap not (ap (F x) (sym same) ∙ empty)))
-  | inr other ↦ omega (arith, column_empties-suc F n x, column_empties-some F n x y (omega (arith, other)) empty)
-]
+column_empties-some F (suc n) x y below empty =
+    search (rules, cases_eq, column_empties-suc, cond-true, (column_empties-some F n x y))

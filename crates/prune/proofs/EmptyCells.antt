@@ -1,5 +1,5 @@
 -- The empty cells below a row, one by one.
-use Rattle.std.proofs.Common.{◌≡◌, ℕ, ◌<◌, true, false, not, ◌&&◌, pos, negsuc, nat_lt, refl, arith}
+use Rattle.std.proofs.Common.{◌≡◌, ℕ, ◌<◌, true, false, pos, arith, rules}
 use Rattle.std.proofs.lemmas.Bool.{and_parts, and_from, false≢true, false_from_ne_true, not-true, not_from_false, ltb-true, lt-ltb}
 use Rattle.lane_board.specs.Field.{Field, rows_below}
 use Rattle.srs.specs.Cells.{Cell}
@@ -16,13 +16,7 @@ pub record EmptyCell (F : Field) (rows : ℕ) (cell : Cell) : Type 0 where
 
 pub empty_cell : (F : Field) (rows : ℕ) (cell : Cell) → is_empty_below F rows cell ≡ true → EmptyCell F rows cell
 unfolding is_empty_below rows_below
-empty_cell F rows (pos x, pos y) here =
-    let parts = and_parts (nat_lt x 10 && nat_lt y rows) (not (F x y)) here in
-    let place = and_parts (nat_lt x 10) (nat_lt y rows) parts.0 in
-    record { x = x; y = y; is = refl; in_columns = ltb-true x 10 place.0; below = ltb-true y rows place.1; empty = not-true (F x y) parts.1 }
-empty_cell F rows (pos x, negsuc y) here = absurd (false≢true here)
-empty_cell F rows (negsuc x, pos y) here = absurd (false≢true here)
-empty_cell F rows (negsuc x, negsuc y) here = absurd (false≢true here)
+empty_cell F rows cell here = search (rules, and_parts, ltb-true, not-true, false≢true)
 
 pub is_empty_at : (F : Field) (rows x y : ℕ) → x < 10 → y < rows → F x y ≡ false → is_empty_below F rows (pos x, pos y) ≡ true
 unfolding is_empty_below rows_below

@@ -1,10 +1,9 @@
 -- Each part has an even number of cells in even columns, but for L and J, which have an odd one, and T.
-use Rattle.std.proofs.Common.{◌≡◌, ℕ, ◌+◌, ◌%◌, ◌<◌, ◌≤◌, Bool, true, false, cond, ◌||◌, ◌==◌, List, [], ◌∷◌, ℤ, pos, negsuc, nat_abs, ◌+ℤ◌, refl, sym, ap, subst, ◌∙◌, inl, inr, arith}
+use Rattle.std.proofs.Common.{◌≡◌, ℕ, ◌+◌, ◌%◌, ◌<◌, ◌≤◌, Bool, true, false, cond, ◌||◌, ◌==◌, List, [], ◌∷◌, ℤ, nat_abs, ◌+ℤ◌, refl, sym, ap, ◌∙◌, inl, inr, arith, rules}
 use Rattle.std.proofs.Math.Path.{fun_ext}
 use Rattle.std.specs.Prelude.{All, sum_by, count_by}
 use Rattle.std.specs.List.{list_all}
 use Rattle.std.proofs.lemmas.Bool.{agree_below_at, and_parts, cases_eq, eqb-true, or_cases, true≢false}
-use Rattle.std.proofs.lemmas.Int.{ints}
 use Rattle.std.proofs.lemmas.List.Elements.{All-head, All-tail}
 use Rattle.std.proofs.lemmas.List.Sums.{sum_by-cons}
 use Rattle.srs.specs.declared.piece.Piece.{Piece}
@@ -26,14 +25,7 @@ use Rattle.prune.proofs.RefusalLemmas.{all_cells, counted, empty, kinds_of_parts
 
 -- the number of columns from column 0 to a sum is even where those to both or to none of its terms are
 abs_sum : (a b c : ℤ) → a +ℤ b ≡ c → nat_abs c % 2 ≡ (nat_abs a + nat_abs b) % 2
-abs_sum (pos a) (pos b) (pos c) is = omega (arith, ints, is)
-abs_sum (pos a) (pos b) (negsuc c) is = omega (arith, ints, is)
-abs_sum (pos a) (negsuc b) (pos c) is = omega (arith, ints, is)
-abs_sum (pos a) (negsuc b) (negsuc c) is = omega (arith, ints, is)
-abs_sum (negsuc a) (pos b) (pos c) is = omega (arith, ints, is)
-abs_sum (negsuc a) (pos b) (negsuc c) is = omega (arith, ints, is)
-abs_sum (negsuc a) (negsuc b) (pos c) is = omega (arith, ints, is)
-abs_sum (negsuc a) (negsuc b) (negsuc c) is = omega (arith, ints, is)
+abs_sum a b c is = search rules
 
 -- a cell is in an even column once it is moved so far
 is_even_from : ℕ → Cell → Bool
@@ -48,10 +40,7 @@ shape_parity move piece rotation = (count_by (is_even_from move) (shape piece ro
 
 shape_parity-holds : (move : ℕ) → move < 2 → (piece : Piece) (rotation : Rotation) → shape_parity move piece rotation ≡ true
 unfolding shape_parity is_even_from is_odd_kind
-shape_parity-holds move small piece rotation = elim (cases_eq move 0) [
-  | inl none ↦ subst (λ m. shape_parity m piece rotation ≡ true) (sym none) (each_state (shape_parity 0) refl piece rotation)
-  | inr some ↦ let one : 1 ≡ move = omega (arith, small, some) in subst (λ m. shape_parity m piece rotation ≡ true) one (each_state (shape_parity 1) refl piece rotation)
-]
+shape_parity-holds move small piece rotation = search (rules, cases_eq, each_state)
 
 -- so it is with a part, wherever it is moved
 part_parity : (part : Part) → IsGeneralized part → (piece_code part.piece == piece_code T) ≡ false → (count_by (is_even_from 0) part.cells + is_odd_kind part.piece) % 2 ≡ 0
@@ -82,8 +71,7 @@ parts_parity (part ∷ parts) all none =
     )
   where
     not_counted : (b : Bool) → ◌≡◌ {A = ℕ} (cond b 1 0) 0 → b ≡ false
-    not_counted true one = absurd (omega (arith, one))
-    not_counted false none = refl
+    not_counted b one = search rules
 
 -- the cells in even columns are those of columns 0, 2, 4, 6 and 8
 even_split : (F : Field) (rows : ℕ) (cells : List Cell) → list_all (is_empty_below F rows) cells ≡ true →

@@ -1,5 +1,5 @@
 -- A tiling seen in a mirror is a tiling of what the mirror shows.
-use Rattle.std.proofs.Common.{◌≡◌, ℕ, ◌+◌, ◌-◌, true, false, not, cond, ◌&&◌, ◌==◌, List, [], ◌∷◌, map, ℤ, pos, negsuc, ◌+ℤ◌, neg_ℤ, nat_lt, refl, sym, ap, subst, ◌∙◌, inl, inr, arith}
+use Rattle.std.proofs.Common.{◌≡◌, ℕ, true, cond, ◌==◌, List, [], ◌∷◌, map, ℤ, pos, ◌+ℤ◌, neg_ℤ, refl, sym, ap, subst, ◌∙◌, inl, inr, arith, rules}
 use Rattle.std.specs.Prelude.{All}
 use Rattle.std.specs.List.{list_all}
 use Rattle.std.specs.Cmp.{both_ways}
@@ -8,7 +8,6 @@ use Rattle.std.proofs.lemmas.Int.{ints}
 use Rattle.std.proofs.lemmas.List.Elements.{All-cons, All-head, All-tail}
 use Rattle.lane_board.specs.Field.{Field, rows_below}
 use Rattle.srs.specs.declared.piece.Piece.{Piece}
-use Rattle.srs.specs.declared.piece.Piece.TheVariants.{I, L, O, Z, T, J, S}
 use Rattle.srs.specs.declared.rotation.Rotation.{Rotation}
 use Rattle.srs.specs.Piece.{piece_code}
 use Rattle.srs.specs.Cells.{Cell, shape}
@@ -22,13 +21,7 @@ use Rattle.prune.proofs.PartsOfTilings.{parts_of-cons}
 
 -- a mirror in a mirror shows what there is
 pub kind_again : (piece : Piece) → mirror_kind (mirror_kind piece) ≡ piece
-kind_again I = refl
-kind_again L = refl
-kind_again O = refl
-kind_again Z = refl
-kind_again T = refl
-kind_again J = refl
-kind_again S = refl
+kind_again piece = search rules
 
 pub cell_again : (cell : Cell) → mirror_cell (mirror_cell cell) ≡ cell
 unfolding mirror_cell
@@ -38,9 +31,7 @@ flip_again : (cell : Cell) → flip (flip cell) ≡ cell
 flip_again cell = let column : neg_ℤ (neg_ℤ cell.0) ≡ cell.0 = omega (arith, ints) in λ i. (column i, cell.1)
 
 pub same_kind : (a b : Piece) → (piece_code (mirror_kind a) == piece_code (mirror_kind b)) ≡ (piece_code a == piece_code b)
-same_kind a b = both_ways (piece_code (mirror_kind a) == piece_code (mirror_kind b)) (piece_code a == piece_code b)
-    (λ e. eq-eqb _ _ (ap piece_code (sym (kind_again a) ∙ ap mirror_kind (piece_code-injective (mirror_kind a) (mirror_kind b) (eqb-true _ _ e)) ∙ kind_again b)))
-    (λ e. eq-eqb _ _ (ap (λ p. piece_code (mirror_kind p)) (piece_code-injective a b (eqb-true _ _ e))))
+same_kind a b = search (rules, both_ways, eq-eqb, kind_again, piece_code-injective, eqb-true)
 
 -- the shapes
 pub flips_in : (piece : Piece) (rotation : Rotation) → list_all (λ c. is_among (shape (mirror_kind piece) (mirror_rotation piece rotation)) (flip c)) (shape piece rotation) ≡ true
@@ -118,13 +109,7 @@ shown_all (part ∷ parts) all =
       shown_parts = shown part is ∷ rest.shown_parts;
       all = All-cons IsGeneralized (shown part is) rest.shown_parts (shown_generalized part is) rest.all;
       covered = λ cell. omega (arith, covers-cons (shown part is) rest.shown_parts (mirror_cell cell), covers-cons part parts cell, shown_count part is cell, rest.covered cell);
-      kinds = λ piece. omega (
-        arith,
-        parts_of-cons (shown part is) rest.shown_parts (mirror_kind piece),
-        parts_of-cons part parts piece,
-        rest.kinds piece,
-        same part is piece,
-      );
+      kinds = search (rules, parts_of-cons, same);
     }
   where
     shown_piece : (part : Part) (is : IsGeneralized part) → (shown part is).piece ≡ mirror_kind part.piece
@@ -136,30 +121,7 @@ shown_all (part ∷ parts) all =
 -- the empty cells in the mirror
 empty_shown : (F : Field) (rows : ℕ) (cell : Cell) → is_empty_below F rows (mirror_cell cell) ≡ is_empty_below (mirrored F) rows cell
 unfolding is_empty_below mirror_cell mirrored rows_below
-empty_shown F rows (pos x, pos y) = elim (cases_lt x 10) [
-  | inl near ↦
-      let column : pos 9 +ℤ neg_ℤ (pos x) ≡ pos (9 - x) = omega (arith, ints) in
-      ap (λ n. is_empty_below F rows (n, pos y)) column
-      ∙ ap (λ b. (b && nat_lt y rows) && not (F (9 - x) y)) (lt-ltb (9 - x) 10 (omega arith) ∙ sym (lt-ltb x 10 near))
-  | inr far ↦
-      let column : pos 9 +ℤ neg_ℤ (pos x) ≡ negsuc (x - 10) = omega (arith, ints) in
-      ap (λ n. is_empty_below F rows (n, pos y)) column
-      ∙ sym (ap (λ b. (b && nat_lt y rows) && not (F (9 - x) y)) (le-ltb x 10 far))
-]
-empty_shown F rows (negsuc x, pos y) =
-    let column : pos 9 +ℤ neg_ℤ (negsuc x) ≡ pos (10 + x) = omega (arith, ints) in
-    ap (λ n. is_empty_below F rows (n, pos y)) column
-    ∙ ap (λ b. (b && nat_lt y rows) && not (F (10 + x) y)) (le-ltb (10 + x) 10 (omega arith))
-empty_shown F rows (pos x, negsuc y) = none (pos 9 +ℤ neg_ℤ (pos x))
-  where
-    none : (n : ℤ) → is_empty_below F rows (n, negsuc y) ≡ false
-    none (pos n) = refl
-    none (negsuc n) = refl
-empty_shown F rows (negsuc x, negsuc y) = none (pos 9 +ℤ neg_ℤ (negsuc x))
-  where
-    none : (n : ℤ) → is_empty_below F rows (n, negsuc y) ≡ false
-    none (pos n) = refl
-    none (negsuc n) = refl
+empty_shown F rows cell = search (rules, cases_lt, lt-ltb, le-ltb)
 
 pub tiling_mirrored : (F : Field) (rows : ℕ) (supply : Supply) → Tiling F rows supply → Tiling (mirrored F) rows (mirrored_supply supply)
 tiling_mirrored F rows supply t =

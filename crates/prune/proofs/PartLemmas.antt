@@ -1,9 +1,8 @@
 -- The cells of parts, and which cells they cover.
-use Rattle.std.proofs.Common.{◌≡◌, ℕ, ◌+◌, ◌≤◌, true, false, cond, ◌==◌, List, ◌∷◌, length, ℤ, pos, negsuc, nat_abs, ◌+ℤ◌, ◌⊎◌, refl, sym, ap, subst, ◌∙◌, inl, inr, arith}
+use Rattle.std.proofs.Common.{◌≡◌, ℕ, ◌+◌, ◌≤◌, true, false, cond, ◌==◌, List, ◌∷◌, length, ℤ, refl, sym, ap, subst, ◌∙◌, arith, rules}
 use Rattle.std.specs.Prelude.{int_lt}
 use Rattle.std.specs.List.{list_all, flat_map}
 use Rattle.std.proofs.lemmas.Bool.{cases_Bool, eqb-true, cond-false, true≢false, ltb-false, true_from_ne_false}
-use Rattle.std.proofs.lemmas.Int.{ints}
 use Rattle.std.proofs.lemmas.List.{length-map}
 use Rattle.srs.specs.declared.piece.Piece.{Piece}
 use Rattle.srs.specs.declared.rotation.Rotation.{Rotation}
@@ -40,26 +39,13 @@ part_length part is = ap length is.cells ∙ length-map (shape part.piece is.rot
 
 -- neither of two whole numbers is below the other: they are the same
 neither : (a b : ℤ) → int_lt a b ≡ false → int_lt b a ≡ false → a ≡ b
-neither (pos a) (pos b) upper lower = let below = ltb-false a b upper in let above = ltb-false b a lower in ap pos (omega arith)
-neither (pos a) (negsuc b) upper lower = absurd (true≢false lower)
-neither (negsuc a) (pos b) upper lower = absurd (true≢false upper)
-neither (negsuc a) (negsuc b) upper lower = let below = ltb-false b a upper in let above = ltb-false a b lower in ap negsuc (omega arith)
+neither a b upper lower = search (rules, ltb-false, true≢false)
 
 -- cells of a shape that are sent to one place are the same
 sent_apart : (part : Part) (is : IsGeneralized part) (c d : Cell) → is_among (shape part.piece is.rotation) c ≡ true → is_among (shape part.piece is.rotation) d ≡ true →
     sent is.move is.row c ≡ sent is.move is.row d → c ≡ d
 unfolding sent
-sent_apart part is c d has_c has_d same =
-    let columns : c.0 +ℤ is.move ≡ d.0 +ℤ is.move = ap (λ (cell : Cell). cell.0) same in
-    let rows : is.row c.1 ≡ is.row d.1 = ap (λ (cell : Cell). nat_abs cell.1) same in
-    let x : c.0 ≡ d.0 = omega (arith, ints) in
-    let y : c.1 ≡ d.1 = same_row (cases_Bool (int_lt c.1 d.1)) (cases_Bool (int_lt d.1 c.1)) rows in
-    λ i. (x i, y i)
-  where
-    same_row : (int_lt c.1 d.1 ≡ true) ⊎ (int_lt c.1 d.1 ≡ false) → (int_lt d.1 c.1 ≡ true) ⊎ (int_lt d.1 c.1 ≡ false) → is.row c.1 ≡ is.row d.1 → c.1 ≡ d.1
-    same_row (inl lower) other same = absurd (omega (arith, is.rising c d has_c has_d lower, same))
-    same_row (inr _) (inl lower) same = absurd (omega (arith, is.rising d c has_d has_c lower, same))
-    same_row (inr upper) (inr lower) same = neither c.1 d.1 upper lower
+sent_apart part is c d has_c has_d same = search (rules, cases_Bool, neither)
 
 -- no cell stands twice in a generalized piece
 pub part_once : (part : Part) → IsGeneralized part → (cell : Cell) → count_in part.cells cell ≤ 1

@@ -1,5 +1,5 @@
 -- A tiling with one part more or fewer, and the test of rows that rise.
-use Rattle.std.proofs.Common.{◌≡◌, ℕ, suc, ◌+◌, ◌-◌, ◌<◌, ◌≤◌, Bool, true, false, not, cond, ◌&&◌, ◌||◌, ◌==◌, List, [], ◌∷◌, length, ℤ, pos, negsuc, nat_lt, refl, sym, ap, ◌∙◌, inl, inr, arith}
+use Rattle.std.proofs.Common.{◌≡◌, ℕ, suc, ◌+◌, ◌-◌, ◌<◌, ◌≤◌, Bool, true, false, not, cond, ◌&&◌, ◌||◌, ◌==◌, List, [], ◌∷◌, length, ℤ, nat_lt, refl, ap, ◌∙◌, inl, inr, arith, rules}
 use Rattle.std.specs.Prelude.{◌↔◌, All, int_lt}
 use Rattle.std.specs.List.{list_all}
 use Rattle.std.proofs.lemmas.Bool.{cases_Bool, cond-true, cond-false, true_from_ne_false, and_right, ltb-true, eq-eqb, not_from_true}
@@ -21,15 +21,7 @@ use Rattle.prune.proofs.PartLemmas.{covers-cons, part_length, part_once}
 -- what is empty once some cells are filled
 pub is_empty-with_cells : (F : Field) (cells : List Cell) (rows : ℕ) (cell : Cell) → is_empty_below (with_cells F cells) rows cell ≡ (is_empty_below F rows cell && not (is_among cells cell))
 unfolding is_empty_below with_cells
-is_empty-with_cells F cells rows (pos x, pos y) = apart (rows_below rows x y) (F x y) (is_among cells (pos x, pos y))
-  where
-    apart : (a b c : Bool) → (a && not (b || c)) ≡ ((a && not b) && not c)
-    apart false b c = refl
-    apart true false c = refl
-    apart true true c = refl
-is_empty-with_cells F cells rows (pos x, negsuc y) = refl
-is_empty-with_cells F cells rows (negsuc x, pos y) = refl
-is_empty-with_cells F cells rows (negsuc x, negsuc y) = refl
+is_empty-with_cells F cells rows cell = search rules
 
 -- how many parts of a kind there are with one part more
 pub parts_of-cons : (part : Part) (parts : List Part) (piece : Piece) → parts_of (part ∷ parts) piece ≡ cond (piece_code part.piece == piece_code piece) 1 0 + parts_of parts piece
@@ -55,14 +47,8 @@ one_part_more F rows part supply is empty t = record {
 }
   where
     covered : (cell : Cell) → covers t.parts cell ≡ cond (is_empty_below F rows cell && not (is_among part.cells cell)) 1 0 → count_in part.cells cell + covers t.parts cell ≡ cond (is_empty_below F rows cell) 1 0
-    covered cell rest = elim (cases_Bool (is_among part.cells cell)) [
-      | inl has ↦
-          let here : is_empty_below F rows cell ≡ true = is_among-all (is_empty_below F rows) part.cells cell empty has in
-          omega (arith, part_once part is cell, count_in-some part.cells cell has, rest, cond-false {A = ℕ} _ 1 0 (and_right (is_empty_below F rows cell) _ (not_from_true _ has)), cond-true {A = ℕ} (is_empty_below F rows cell) 1 0 here)
-      | inr none ↦
-          let same : (is_empty_below F rows cell && not (is_among part.cells cell)) ≡ is_empty_below F rows cell = ap (λ b. is_empty_below F rows cell && not b) none ∙ and-true (is_empty_below F rows cell) in
-          omega (arith, count_in-none part.cells cell none, rest ∙ ap (λ b. cond b 1 0) same)
-    ]
+    covered cell rest =
+        search (rules, cases_Bool, is_among-all, part_once, count_in-some, cond-false, and_right, not_from_true, cond-true, and-true, count_in-none)
 
     supplied : (piece : Piece) → parts_of t.parts piece ≤ supply piece → parts_of (part ∷ t.parts) piece ≤ cond (piece_code part.piece == piece_code piece) (suc (supply piece)) (supply piece)
     supplied piece enough = elim (cases_Bool (piece_code part.piece == piece_code piece)) [
@@ -146,12 +132,7 @@ taken_part F rows supply cell here t = taken (split t.parts cell (omega (arith, 
       has = s.has;
       empty = list_all-from_is_among (is_empty_below F rows) s.part.cells empty;
       some = omega (arith, s.counted s.part.piece, t.supplied s.part.piece, cond-true {A = ℕ} _ 1 0 (eq-eqb (piece_code s.part.piece) (piece_code s.part.piece) refl));
-      rest = record {
-        parts = s.rest;
-        generalized = (s.generalized t.generalized).1;
-        covered = λ c. covered c ∙ ap (λ b. cond b 1 0) (sym (is_empty-with_cells F s.part.cells rows c));
-        supplied = λ piece. supplied piece (t.supplied piece);
-      };
+      rest = search (rules, is_empty-with_cells, covered, supplied);
       others = s.others;
     }
       where
@@ -159,19 +140,11 @@ taken_part F rows supply cell here t = taken (split t.parts cell (omega (arith, 
         empty c has = true_from_ne_false _ (λ filled. omega (arith, s.covered c, count_in-some s.part.cells c has, t.covered c, cond-false {A = ℕ} _ 1 0 filled))
 
         covered : (c : Cell) → covers s.rest c ≡ cond (is_empty_below F rows c && not (is_among s.part.cells c)) 1 0
-        covered c = elim (cases_Bool (is_among s.part.cells c)) [
-          | inl has ↦ omega (arith, s.covered c, count_in-some s.part.cells c has, t.covered c, cond-true {A = ℕ} _ 1 0 (empty c has), cond-false {A = ℕ} _ 1 0 (and_right (is_empty_below F rows c) _ (not_from_true _ has)))
-          | inr none ↦
-              let same : (is_empty_below F rows c && not (is_among s.part.cells c)) ≡ is_empty_below F rows c = ap (λ b. is_empty_below F rows c && not b) none ∙ and-true (is_empty_below F rows c) in
-              let there : covers s.rest c ≡ covers t.parts c = omega (arith, s.covered c, count_in-none s.part.cells c none) in
-              there ∙ t.covered c ∙ ap (λ b. cond b 1 0) (sym same)
-        ]
+        covered c =
+            search (rules, cases_Bool, count_in-some, cond-true, cond-false, and_right, not_from_true, and-true, count_in-none, empty)
 
         supplied : (piece : Piece) → parts_of t.parts piece ≤ supply piece → parts_of s.rest piece ≤ cond (piece_code s.part.piece == piece_code piece) (supply piece - 1) (supply piece)
-        supplied piece enough = elim (cases_Bool (piece_code s.part.piece == piece_code piece)) [
-          | inl same ↦ omega (arith, s.counted piece, cond-true {A = ℕ} _ 1 0 same, cond-true {A = ℕ} _ (supply piece - 1) (supply piece) same, enough)
-          | inr other ↦ omega (arith, s.counted piece, cond-false {A = ℕ} _ 1 0 other, cond-false {A = ℕ} _ (supply piece - 1) (supply piece) other, enough)
-        ]
+        supplied piece enough = search (rules, cases_Bool, cond-true, cond-false)
 
 -- rows rise where the test of each two cells of a list says so
 abbrev pub rises : (ℤ → ℕ) → List Cell → Bool
@@ -179,33 +152,16 @@ rises row cells = list_all (λ c. list_all (λ d. not (int_lt c.1 d.1) || nat_lt
 
 pub rising-from_test : (row : ℤ → ℕ) (cells : List Cell) → rises row cells ≡ true →
     (c d : Cell) → is_among cells c ≡ true → is_among cells d ≡ true → int_lt c.1 d.1 ≡ true → row c.1 < row d.1
-rising-from_test row cells all c d has_c has_d lower =
-    ltb-true (row c.1) (row d.1) (implied (int_lt c.1 d.1) _ lower (is_among-all (λ d. not (int_lt c.1 d.1) || nat_lt (row c.1) (row d.1)) cells d (is_among-all (λ c. list_all (λ d. not (int_lt c.1 d.1) || nat_lt (row c.1) (row d.1)) cells) cells c all has_c) has_d))
+rising-from_test row cells all c d has_c has_d lower = search (rules, ltb-true, implied, is_among-all)
 
 -- fields with the same empty cells below their rows have the same tilings there
 pub same_tiling : (F G : Field) (n m : ℕ) (supply : Supply) → ((cell : Cell) → is_empty_below F n cell ≡ is_empty_below G m cell) → Tiling F n supply → Tiling G m supply
-same_tiling F G n m supply same t = record {
-  parts = t.parts;
-  generalized = t.generalized;
-  covered = λ cell. t.covered cell ∙ ap (λ b. cond b 1 0) (same cell);
-  supplied = t.supplied;
-}
+same_tiling F G n m supply same t = search rules
 
 is_empty-below : (F : Field) (rows : ℕ) (cell : Cell) → is_empty_below F rows cell ≡ is_empty_below (intersection F (rows_below rows)) rows cell
 unfolding is_empty_below intersection
-is_empty-below F rows (pos x, pos y) = same (rows_below rows x y) (F x y)
-  where
-    same : (a b : Bool) → (a && not b) ≡ (a && not (b && a))
-    same true true = refl
-    same true false = refl
-    same false b = refl
-is_empty-below F rows (pos x, negsuc y) = refl
-is_empty-below F rows (negsuc x, pos y) = refl
-is_empty-below F rows (negsuc x, negsuc y) = refl
+is_empty-below F rows cell = search rules
 
 -- cells at or above the rows don't count
 pub tiling-intersection : (F : Field) (rows : ℕ) (supply : Supply) → Tiling F rows supply ↔ Tiling (intersection F (rows_below rows)) rows supply
-tiling-intersection F rows supply = (
-  same_tiling F (intersection F (rows_below rows)) rows rows supply (is_empty-below F rows),
-  same_tiling (intersection F (rows_below rows)) F rows rows supply (λ cell. sym (is_empty-below F rows cell)),
-)
+tiling-intersection F rows supply = search (rules, same_tiling, is_empty-below)

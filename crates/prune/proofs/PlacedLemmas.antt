@@ -1,5 +1,5 @@
 -- A placement is a generalized piece: what one of them, and a run of them, does to tilings.
-use Rattle.std.proofs.Common.{◌≡◌, ℕ, suc, ◌-◌, ◌<◌, ◌≤◌, Bool, true, false, not, ◌==◌, List, [], ◌∷◌, map, ℤ, pos, negsuc, nat_abs, ◌+ℤ◌, ◌<ℤ◌, nat_le, refl, sym, ap, subst, ◌∙◌, inl, inr, arith}
+use Rattle.std.proofs.Common.{◌≡◌, ℕ, suc, ◌-◌, ◌<◌, ◌≤◌, Bool, true, ◌==◌, List, [], ◌∷◌, map, ℤ, pos, negsuc, nat_abs, ◌+ℤ◌, refl, sym, ap, subst, ◌∙◌, inl, inr, arith, rules}
 use Rattle.std.specs.Prelude.{int_lt}
 use Rattle.std.specs.List.{list_all}
 use Rattle.std.proofs.lemmas.Bool.{cases_Bool, cond-true, cond-false, and_parts, false≢true, ltb-true, leb-true, not-true}
@@ -7,7 +7,7 @@ use Rattle.std.proofs.lemmas.Int.{ints}
 use Rattle.srs.specs.declared.piece.Piece.{Piece}
 use Rattle.srs.specs.declared.placement.Placement.{Placement}
 use Rattle.srs.specs.Piece.{piece_code}
-use Rattle.srs.specs.Cells.{Cell, shape, moved, cells_of, pivot_of, in_well, is_inside_of}
+use Rattle.srs.specs.Cells.{Cell, shape, moved, cells_of, pivot_of, is_inside_of}
 use Rattle.srs.specs.SameCells.{is_among}
 use Rattle.srs.proofs.CallerLemmas.{is_among-all, list_all-from_is_among, in_well-place, inside_cell}
 use Rattle.lane_board.specs.Field.{Field}
@@ -26,9 +26,7 @@ use Rattle.prune.proofs.PartsOfTilings.{with_part}
 -- two functions that agree on the cells of a list
 map-agree : (f g : Cell → Cell) (ok : Cell → Bool) (cells : List Cell) → list_all ok cells ≡ true → ((c : Cell) → ok c ≡ true → f c ≡ g c) → map f cells ≡ map g cells
 map-agree f g ok [] all agree = refl
-map-agree f g ok (c ∷ cs) all agree =
-    let parts = and_parts (ok c) (list_all ok cs) all in
-    λ i. agree c parts.0 i ∷ map-agree f g ok cs parts.1 agree i
+map-agree f g ok (c ∷ cs) all agree = search (rules, and_parts, (map-agree f g ok cs))
 
 abbrev pub placed : Placement → Part
 placed q = record { piece = q.piece; cells = cells_of q }
@@ -52,13 +50,7 @@ module _ (q : Placement) (inside : is_inside_of q ≡ true) where
       λ i. (x i, at c has i)
 
   rise : (a b : ℤ) → int_lt a b ≡ true → pos q.y +ℤ a ≡ pos (row_of q a) → pos q.y +ℤ b ≡ pos (row_of q b) → row_of q a < row_of q b
-  rise a b lower at_a at_b = let order = below_of a b lower in omega (arith, ints)
-    where
-      below_of : (a b : ℤ) → int_lt a b ≡ true → a <ℤ b
-      below_of (pos a) (pos b) lower = omega (arith, ints, ltb-true a b lower)
-      below_of (pos a) (negsuc b) lower = absurd (false≢true lower)
-      below_of (negsuc a) (pos b) lower = omega (arith, ints)
-      below_of (negsuc a) (negsuc b) lower = omega (arith, ints, ltb-true b a lower)
+  rise a b lower at_a at_b = search (rules, ltb-true, false≢true)
 
   pub placed_generalized : IsGeneralized (placed q)
   placed_generalized = record {
@@ -72,18 +64,14 @@ module _ (q : Placement) (inside : is_inside_of q ≡ true) where
 -- the cells of a free placement below a row are empty ones
 open_below : (F : Field) (rows : ℕ) (cell : Cell) → is_open F cell ≡ true → int_lt cell.1 (pos rows) ≡ true → is_empty_below F rows cell ≡ true
 unfolding is_open
-open_below F rows (pos x, pos y) opened below =
-    let parts = and_parts (in_well (pos x, pos y)) (not (F x y)) opened in
-    let within = and_parts (nat_le x 9) (nat_le y 22) parts.0 in
-    is_empty_at F rows x y (omega (arith, leb-true x 9 within.0)) (ltb-true y rows below) (not-true (F x y) parts.1)
+open_below F rows (pos x, pos y) opened below = search (rules, and_parts, is_empty_at, leb-true, ltb-true, not-true)
 open_below F rows (pos x, negsuc y) opened below = absurd (false≢true opened)
 open_below F rows (negsuc x, pos y) opened below = absurd (false≢true opened)
 open_below F rows (negsuc x, negsuc y) opened below = absurd (false≢true opened)
 
 pub placed_empty : (F : Field) (rows : ℕ) (q : Placement) → is_free F q ≡ true → is_below rows q ≡ true → list_all (is_empty_below F rows) (cells_of q) ≡ true
 unfolding is_free_at
-placed_empty F rows q free below = list_all-from_is_among (is_empty_below F rows) (cells_of q) (λ c has.
-    open_below F rows c (is_among-all (is_open F) (cells_of q) c free has) (is_among-all (λ cell. int_lt cell.1 (pos rows)) (cells_of q) c below has))
+placed_empty F rows q free below = search (rules, list_all-from_is_among, open_below, is_among-all)
 
 pub together_is : (F : Field) (q : Placement) → together F q ≡ with_cells F (cells_of q)
 unfolding together with_cells
@@ -108,12 +96,7 @@ more_pieces F rows supply more enough t = record {
 
 no_rows : (F : Field) (rows : ℕ) (supply : Supply) → rows ≡ 0 → Tiling F rows supply
 unfolding covers
-no_rows F rows supply none = record {
-  parts = [];
-  generalized = λ k d below. absurd (omega arith);
-  covered = λ cell. sym (cond-false {A = ℕ} (is_empty_below F rows cell) 1 0 (none_below F rows cell none));
-  supplied = λ piece. omega arith;
-}
+no_rows F rows supply none = search (rules, cond-false, none_below)
 
 one_more : (q : Placement) (rest : List Placement) (piece : Piece) → with_one (kinds_placed rest) q.piece piece ≤ kinds_placed (q ∷ rest) piece
 unfolding with_one kinds_placed

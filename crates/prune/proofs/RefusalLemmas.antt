@@ -1,5 +1,5 @@
 -- Where one of the counts refuses there is no tiling: each part has four cells, in neighbouring columns.
-use Rattle.std.proofs.Common.{◌≡◌, ◌⊎◌, ℕ, suc, ◌+◌, ◌-◌, ◌*◌, ◌≤◌, Bool, true, cond, ◌==◌, List, [], ◌∷◌, length, nat_abs, refl, sym, ap, ◌∙◌, inl, inr, arith}
+use Rattle.std.proofs.Common.{◌≡◌, ◌⊎◌, ℕ, suc, ◌+◌, ◌-◌, ◌*◌, ◌≤◌, Bool, true, cond, ◌==◌, List, [], ◌∷◌, length, nat_abs, refl, sym, ap, ◌∙◌, inl, inr, arith, rules}
 use Rattle.std.specs.Prelude.{All, sum_by, count_by}
 use Rattle.std.specs.List.{list_all, range_with_len}
 use Rattle.std.proofs.lemmas.Bool.{cases_Bool, and_parts, and_from, false_from_ne_true, true≢false, lt-ltb, le-leb}
@@ -35,9 +35,7 @@ right_wall F rows first last run = record {
 -- where a test passes at all cells of a list or at none, it counts all or none
 count-all : (p ok : Cell → Bool) (cells : List Cell) → list_all ok cells ≡ true → ((c : Cell) → ok c ≡ true → p c ≡ true) → count_by p cells ≡ length cells
 count-all p ok [] all each = refl
-count-all p ok (c ∷ cs) all each =
-    let parts = and_parts (ok c) (list_all ok cs) all in
-    omega (arith, count-yes p c cs (each c parts.0), count-all p ok cs parts.1 each)
+count-all p ok (c ∷ cs) all each = search (rules, and_parts, count-yes, (count-all p ok cs))
 
 alike : (p : Cell → Bool) (cells : List Cell) → ((c d : Cell) → is_among cells c ≡ true → is_among cells d ≡ true → p c ≡ true → p d ≡ true) → (count_by p cells ≡ 0) ⊎ (count_by p cells ≡ length cells)
 alike p [] same = inl refl
@@ -73,13 +71,7 @@ kinds_of_parts [] = refl
 kinds_of_parts (part ∷ parts) = omega (arith, kinds_of_parts parts, one_kind part.piece, parts_of-cons part parts I, parts_of-cons part parts L, parts_of-cons part parts O, parts_of-cons part parts Z, parts_of-cons part parts T, parts_of-cons part parts J, parts_of-cons part parts S)
   where
     one_kind : (piece : Piece) → sum_by (λ p. cond (piece_code piece == piece_code p) 1 0) all_pieces ≡ 1
-    one_kind I = refl
-    one_kind L = refl
-    one_kind O = refl
-    one_kind Z = refl
-    one_kind T = refl
-    one_kind J = refl
-    one_kind S = refl
+    one_kind piece = search rules
 
 module _ (F : Field) (rows : ℕ) (supply : Supply) (t : Tiling F rows supply) where
   abbrev cells : List Cell

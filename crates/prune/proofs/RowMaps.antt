@@ -1,5 +1,5 @@
 -- A tiling stays one where its rows are sent to others, in their order.
-use Rattle.std.proofs.Common.{◌≡◌, ℕ, ◌<◌, true, false, cond, ◌==◌, List, [], ◌∷◌, ◌++◌, map, ℤ, pos, negsuc, nat_abs, ◌+ℤ◌, ◌⊎◌, refl, sym, ap, subst, ◌∙◌, inl, inr, arith}
+use Rattle.std.proofs.Common.{◌≡◌, ℕ, ◌<◌, true, false, cond, ◌==◌, List, [], ◌∷◌, ◌++◌, map, ℤ, pos, negsuc, ◌+ℤ◌, refl, sym, ap, subst, ◌∙◌, inl, inr, arith, rules}
 use Rattle.std.specs.Prelude.{All, count_by}
 use Rattle.std.specs.List.{list_all}
 use Rattle.std.specs.Cmp.{both_ways}
@@ -63,23 +63,14 @@ sent_to f move row (c ∷ cs) = ap (λ rest. (c.0 +ℤ move, pos (f (row c.1))) 
 module _ (F : Field) (rows : ℕ) (G : Field) (left : ℕ) (f : ℕ → ℕ) (sends : SendsRows F rows G left f) where
   pub generalized_to : (part : Part) → list_all (is_empty_below F rows) part.cells ≡ true → IsGeneralized part → IsGeneralized (part_to f part)
   unfolding sent
-  generalized_to part empty is = record {
-    rotation = is.rotation;
-    move = is.move;
-    row = λ z. f (is.row z);
-    rising = λ c d has_c has_d lower. rise c d (at c has_c) (at d has_d) (is.rising c d has_c has_d lower);
-    cells = ap (map (cell_to f)) is.cells ∙ sent_to f is.move is.row (shape part.piece is.rotation);
-  }
+  generalized_to part empty is = search (rules, sent_to, at, rise)
     where
       at : (c : Cell) → is_among (shape part.piece is.rotation) c ≡ true → EmptyCell F rows (c.0 +ℤ is.move, pos (is.row c.1))
       at c has = empty_cell F rows _ (is_among-all (is_empty_below F rows) part.cells (sent is.move is.row c) empty
           (subst (λ cells. is_among cells (sent is.move is.row c) ≡ true) (sym is.cells) (has_cell-map (sent is.move is.row) (shape part.piece is.rotation) c has)))
 
       rise : (c d : Cell) → EmptyCell F rows (c.0 +ℤ is.move, pos (is.row c.1)) → EmptyCell F rows (d.0 +ℤ is.move, pos (is.row d.1)) → is.row c.1 < is.row d.1 → f (is.row c.1) < f (is.row d.1)
-      rise c d e g lower =
-          let y : is.row c.1 ≡ e.y = ap (λ (c : Cell). nat_abs c.1) e.is in
-          let z : is.row d.1 ≡ g.y = ap (λ (c : Cell). nat_abs c.1) g.is in
-          subst (λ z. f (is.row c.1) < f z) (sym z) (subst (λ y. f y < f g.y) (sym y) (sends.rises e.x g.x e.y g.y e.in_columns g.in_columns e.below g.below e.empty g.empty (omega arith)))
+      rise c d e g lower = search rules
 
   all_generalized_to : (parts : List Part) → list_all (is_empty_below F rows) (cells_in parts) ≡ true → All IsGeneralized parts → All IsGeneralized (parts_to f parts)
   all_generalized_to [] empty all = All-nil IsGeneralized
@@ -104,16 +95,7 @@ module _ (F : Field) (rows : ℕ) (G : Field) (left : ℕ) (f : ℕ → ℕ) (se
       (λ same. (cell_eq-decides (cell_to f cell) (pos x, pos (f y))).1 (ap (cell_to f) ((cell_eq-decides cell (pos x, pos y)).0 same)))
     where
       back : (e : EmptyCell F rows cell) → ◌≡◌ {A = Cell} (pos e.x, pos (f e.y)) (pos x, pos (f y)) → ◌≡◌ {A = Cell} (pos e.x, pos e.y) (pos x, pos y)
-      back e same =
-          let columns : e.x ≡ x = ap (λ (c : Cell). nat_abs c.0) same in
-          let there : f e.y ≡ f y = ap (λ (c : Cell). nat_abs c.1) same in
-          let row : e.y ≡ y = one_row (cases_order e.y y) there in
-          λ i. (pos (columns i), pos (row i))
-        where
-          one_row : (e.y ≡ y) ⊎ ((e.y < y) ⊎ (y < e.y)) → f e.y ≡ f y → e.y ≡ y
-          one_row (inl same) there = same
-          one_row (inr (inl lower)) there = let g = sends.rises e.x x e.y y e.in_columns column e.below below e.empty empty lower in absurd (omega arith)
-          one_row (inr (inr upper)) there = let g = sends.rises x e.x y e.y column e.in_columns below e.below empty e.empty upper in absurd (omega arith)
+      back e same = search (rules, cases_order)
 
   covered_to : (parts : List Part) → ((cell : Cell) → covers parts cell ≡ cond (is_empty_below F rows cell) 1 0) → (cell : Cell) → covers (parts_to f parts) cell ≡ cond (is_empty_below G left cell) 1 0
   unfolding count_in

@@ -1,5 +1,5 @@
 -- Rows before and after full ones are removed: each row that is left was one that isn't full, and they keep their order.
-use Rattle.std.proofs.Common.{◌≡◌, ℕ, zero, suc, ◌+◌, ◌-◌, ◌<◌, ◌≤◌, false, cond, ◌==◌, sym, ap, ◌∙◌, inl, inr, arith}
+use Rattle.std.proofs.Common.{◌≡◌, ℕ, zero, suc, ◌+◌, ◌-◌, ◌<◌, ◌≤◌, false, cond, ◌==◌, sym, ap, ◌∙◌, arith, rules}
 use Rattle.std.specs.Prelude.{◌↔◌}
 use Rattle.std.proofs.lemmas.Bool.{cases_Bool, cases_eq, cases_order, cond-true, cond-false, false_from_ne_true, false≢true, eq-eqb, ne_eqb}
 use Rattle.lane_board.specs.Field.{Field}
@@ -22,24 +22,8 @@ record IsOrigin (G : Field) (n y row : ℕ) : Type 0 where
 origin_is : (G : Field) (n y : ℕ) → y + full_below G n < n → IsOrigin G n y (origin G n y)
 unfolding origin
 origin_is G zero y within = absurd (omega arith)
-origin_is G (suc n) y within = elim (cases_Bool (is_full G n)) [
-  | inl full ↦
-      let old = origin_is G n y (omega (arith, full_below-full G n full)) in
-      let same : origin G (suc n) y ≡ origin G n y = cond-true _ _ _ full in
-      moved (sym same) (record { below = omega (arith, old.below); stays = old.stays; lowered = old.lowered })
-  | inr stays ↦ elim (cases_eq (y + full_below G n) n) [
-    | inl here ↦
-        let same : origin G (suc n) y ≡ n = cond-false _ _ _ stays ∙ cond-true _ _ _ (eq-eqb _ _ here) in
-        moved (sym same) (record { below = omega arith; stays = stays; lowered = here })
-    | inr other ↦
-        let old = origin_is G n y (omega (arith, full_below-other G n stays, other)) in
-        let same : origin G (suc n) y ≡ origin G n y = cond-false _ _ _ stays ∙ cond-false _ _ _ (ne_eqb _ _ other) in
-        moved (sym same) (record { below = omega (arith, old.below); stays = old.stays; lowered = old.lowered })
-  ]
-]
-  where
-    moved : {a b : ℕ} → a ≡ b → IsOrigin G (suc n) y a → IsOrigin G (suc n) y b
-    moved same is = rw (← same) is
+origin_is G (suc n) y within =
+    search (rules, cases_Bool, full_below-full, cond-true, cases_eq, cond-false, eq-eqb, full_below-other, ne_eqb, (origin_is G n y))
 
 module _ (G : Field) (height : ℕ) (within : height ≤ 23) (none : (x y : ℕ) → height ≤ y → G x y ≡ false) where
   abbrev left : ℕ
@@ -62,8 +46,7 @@ module _ (G : Field) (height : ℕ) (within : height ≤ 23) (none : (x y : ℕ)
       false≢true (sym empty ∙ ap (G x) (one_row G y row was.row stays was.stays lowered was.lowered) ∙ was.filled))
 
   was_empty : (x y row : ℕ) → row < height → is_full G row ≡ false → y + full_below G row ≡ row → without_full_rows G 23 x y ≡ false → G x row ≡ false
-  was_empty x y row below stays lowered empty = false_from_ne_true _ (λ filled.
-      false≢true (sym empty ∙ lowered_to G 23 x y (record { row = row; below = omega arith; filled = filled; stays = stays; lowered = lowered })))
+  was_empty x y row below stays lowered empty = search (rules, false_from_ne_true, false≢true, lowered_to)
 
   raises : SendsRows (without_full_rows G 23) left G height (origin G height)
   raises = record {
@@ -74,13 +57,7 @@ module _ (G : Field) (height : ℕ) (within : height ≤ 23) (none : (x y : ℕ)
   }
     where
       rise : (y z : ℕ) → IsOrigin G height y (origin G height y) → IsOrigin G height z (origin G height z) → y < z → origin G height y < origin G height z
-      rise y z o p lower = elim (cases_order (origin G height y) (origin G height z)) [
-        | inl same ↦ absurd (omega (arith, ap (full_below G) same, o.lowered, p.lowered, same, lower))
-        | inr apart ↦ elim apart [
-          | inl below ↦ below
-          | inr above ↦ absurd (omega (arith, lowered_rises G (origin G height z) (origin G height y) p.stays above, o.lowered, p.lowered, lower))
-        ]
-      ]
+      rise y z o p lower = search (rules, cases_order, lowered_rises)
 
       from : (x z : ℕ) → z < height → G x z ≡ false → is_full G z ≡ false → Before (without_full_rows G 23) left (origin G height) x z
       from x z below empty stays =

@@ -1,5 +1,5 @@
 -- A walk over the columns finds an uneven part where there is one.
-use Rattle.std.proofs.Common.{◌≡◌, ◌≢◌, ◌⊎◌, ℕ, zero, suc, ◌+◌, ◌-◌, ◌*◌, ◌%◌, ◌≤◌, refl, sym, ap, subst, ◌∙◌, inl, inr, arith}
+use Rattle.std.proofs.Common.{◌≡◌, ◌≢◌, ℕ, zero, suc, ◌+◌, ◌-◌, ◌*◌, ◌%◌, ◌≤◌, refl, ap, ◌∙◌, arith, rules}
 use Rattle.std.specs.Prelude.{sum_by}
 use Rattle.std.specs.List.{range_with_len}
 use Rattle.std.proofs.lemmas.Bool.{cases_eq}
@@ -34,21 +34,7 @@ parts-start F rows = record { counted = refl; even = λ wall low _. ap (λ n. em
 
 -- one column more, behind which stands no wall, or a multiple of four before it
 pub parts-next : (F : Field) (rows x count empties : ℕ) → rows ≤ 8 → empties ≡ column_empties F rows x → ((count + empties) % 4 ≢ 0 → IsWall F rows (x + 1) → ⊥) → Parts F rows x count → Parts F rows (x + 1) (count + empties)
-parts-next F rows x count empties low here closed p = record {
-  counted = counted;
-  even = λ wall within is. at wall within is (cases_eq wall (x + 1));
-  small = omega (arith, p.small, here, column_empties-le F rows x);
-}
-  where
-    counted : count + empties ≡ empties_in F rows 0 (x + 1)
-    counted = let more : x + 1 ≡ suc x = omega arith in let column : 0 + x ≡ x = omega arith in omega (arith, ap (empties_in F rows 0) more, in-suc F rows 0 x, ap (column_empties F rows) column, p.counted, here)
-
-    at : (wall : ℕ) → wall ≤ x + 1 → IsWall F rows wall → (wall ≡ x + 1) ⊎ (wall ≢ x + 1) → empties_in F rows 0 wall % 4 ≡ 0
-    at wall within is (inr other) = p.even wall (omega (arith, other)) is
-    at wall within is (inl same) = elim (cases_eq ((count + empties) % 4) 0) [
-      | inl even ↦ ap (λ n. empties_in F rows 0 n % 4) same ∙ ap (λ n. n % 4) (sym counted) ∙ even
-      | inr uneven ↦ absurd (closed uneven (subst (λ n. IsWall F rows n) same is))
-    ]
+parts-next F rows x count empties low here closed p = search (rules, cases_eq, column_empties-le, in-suc)
 
 pub parts-found : (F : Field) (rows x count empties : ℕ) → x ≤ 9 → empties ≡ column_empties F rows x → (count + empties) % 4 ≢ 0 → IsWall F rows (x + 1) → Parts F rows x count → HasUnevenPart F rows
 unfolding run_empties
@@ -59,10 +45,7 @@ parts-found F rows x count empties within here uneven is p = record {
   within = within;
   left = record { apart = λ some _ y below before at. absurd (omega arith) };
   right = is;
-  uneven = λ even.
-      let size : x + 1 - 0 ≡ suc x = omega arith in
-      let column : 0 + x ≡ x = omega arith in
-      uneven (omega (arith, even, ap (empties_in F rows 0) size, in-suc F rows 0 x, ap (column_empties F rows) column, p.counted, here));
+  uneven = search (rules, in-suc);
 }
 
 -- at the end there is none

@@ -1,5 +1,5 @@
 -- A part does not reach over a wall: where it has cells on both sides, two of them stand side by side in one row.
-use Rattle.std.proofs.Common.{◌≡◌, ◌⊎◌, ℕ, zero, suc, ◌+◌, ◌-◌, ◌<◌, ◌≤◌, Bool, true, false, not, ◌&&◌, ◌||◌, List, [], ◌∷◌, ℤ, pos, negsuc, nat_abs, ◌+ℤ◌, ◌<ℤ◌, nat_lt, nat_le, refl, sym, ap, subst, ◌∙◌, inl, inr, arith}
+use Rattle.std.proofs.Common.{◌≡◌, ◌⊎◌, ℕ, zero, suc, ◌+◌, ◌-◌, ◌<◌, ◌≤◌, Bool, true, not, ◌&&◌, ◌||◌, List, [], ◌∷◌, ℤ, pos, nat_abs, ◌+ℤ◌, ◌<ℤ◌, refl, sym, ap, subst, ◌∙◌, inl, inr, arith, rules}
 use Rattle.std.specs.Prelude.{int_lt}
 use Rattle.std.specs.List.{list_all, list_any}
 use Rattle.std.specs.Ordering.{int_eq}
@@ -37,19 +37,13 @@ beside_in : (cells all : List Cell) (c : Cell) → some_beside cells all c ≡ t
 unfolding some_beside is_among
 beside_in [] all c some = absurd (false≢true some)
 beside_in (e ∷ es) all c some = elim (cases_Bool (int_eq e.0 c.0 && is_among all (e.0 +ℤ pos 1, e.1))) [
-  | inl here ↦
-      let both = and_parts (int_eq e.0 c.0) (is_among all (e.0 +ℤ pos 1, e.1)) here in
-      record { cell = e; listed = has_cell-head e es; column = (signed_Decides e.0 c.0).0 both.0; next = both.1 }
+  | inl here ↦ search (rules, and_parts, has_cell-head, signed_Decides)
   | inr other ↦
-      let rest = beside_in es all c (subst (λ b. (b || some_beside es all c) ≡ true) other some) in
-      record { cell = rest.cell; listed = or_right _ _ rest.listed; column = rest.column; next = rest.next }
+      search (rules, or_right, (beside_in es all c (subst (λ b. (b || some_beside es all c) ≡ true) other some)))
 ]
 
 below_to : (a b : ℤ) → a <ℤ b → int_lt a b ≡ true
-below_to (pos a) (pos b) order = lt-ltb a b (omega (arith, ints))
-below_to (pos a) (negsuc b) order = absurd (omega (arith, ints))
-below_to (negsuc a) (pos b) order = refl
-below_to (negsuc a) (negsuc b) order = lt-ltb b a (omega (arith, ints))
+below_to a b order = search (rules, lt-ltb)
 
 module _ (F : Field) (rows : ℕ) (part : Part) (is : IsGeneralized part) (empty : list_all (is_empty_below F rows) part.cells ≡ true) where
   pub at : (c : Cell) → is_among part.cells c ≡ true → EmptyCell F rows c
@@ -133,10 +127,7 @@ module _ (F : Field) (rows : ℕ) (part : Part) (is : IsGeneralized part) (empty
   pub together : (first last : ℕ) → first ≤ last → IsWall F rows first → IsWall F rows (last + 1) → (c d : Cell) → is_among part.cells c ≡ true → is_among part.cells d ≡ true →
       in_columns first (last + 1 - first) c ≡ true → in_columns first (last + 1 - first) d ≡ true
   together first last order left right c d has_c has_d inside =
-      let parts = and_parts (nat_le first (column_of c)) (nat_lt (column_of c) (first + (last + 1 - first))) inside in
-      let low = leb-true first (column_of c) parts.0 in
-      let high = ltb-true (column_of c) (first + (last + 1 - first)) parts.1 in
-      and_from _ _ (le-leb first (column_of d) (from_left (cases_lt (column_of d) first) low)) (lt-ltb (column_of d) (first + (last + 1 - first)) (omega (arith, from_right (cases_lt last (column_of d)) (omega arith))))
+      search (rules, and_parts, leb-true, ltb-true, and_from, le-leb, cases_lt, lt-ltb, from_left, from_right)
     where
       from_left : (column_of d < first) ⊎ (first ≤ column_of d) → first ≤ column_of c → first ≤ column_of d
       from_left (inr inside) low = inside

@@ -1,5 +1,5 @@
 -- One row more has one empty cell more, or none.
-use Rattle.std.proofs.Common.{◌≡◌, ℕ, suc, ◌+◌, not, sym, ap, ◌∙◌, arith}
+use Rattle.std.proofs.Common.{◌≡◌, suc, ◌+◌, sym, ap, ◌∙◌, arith, rules}
 use Rattle.std.proofs.lemmas.Bool.{cond-true, cond-false, not_from_false, not_from_true}
 use Rattle.well.specs.Well.{filled}
 use Rattle.prune.specs.Counts.{column_empties}
@@ -17,12 +17,6 @@ loop-y-preserved c =
     let next = ap (λ n. column_empties F n c.args.x) more ∙ column_empties-suc F c.loop-y.y c.args.x in
     let i = c.loop-y.invariant in
     elim c.if-not-cell.branch [
-      | then-not-cell w ↦ record {
-        counted = omega (arith, i.counted, next, w.empties-is, cond-true {A = ℕ} (not (F c.args.x c.loop-y.y)) 1 0 (not_from_false _ (sym c.cell.ensures ∙ w.if-not-cell.true)));
-        small = omega (arith, i.small, w.empties-is);
-      }
-      | else-not-cell w ↦ record {
-        counted = omega (arith, i.counted, next, w.empties-is, cond-false {A = ℕ} (not (F c.args.x c.loop-y.y)) 1 0 (not_from_true _ (sym c.cell.ensures ∙ w.if-not-cell.false)));
-        small = omega (arith, i.small, w.empties-is);
-      }
+      | then-not-cell w ↦ search (rules, cond-true, not_from_false)
+      | else-not-cell w ↦ search (rules, cond-false, not_from_true)
     ]
