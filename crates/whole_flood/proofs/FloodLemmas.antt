@@ -1,11 +1,10 @@
 -- The flood's loop: what holds while it runs, how it comes to an end, and what holds then.
-use Rattle.std.proofs.Common.{◌≡◌, ◌≢◌, ℕ, ◌<◌, true, sym, ap, subst, ◌∙◌, inl, inr, ◌⊎◌, arith}
+use Rattle.std.proofs.Common.{◌≡◌, ◌≢◌, ℕ, ◌<◌, true, sym, ap, subst, ◌∙◌, inl, inr, ◌⊎◌, rules}
 use Rattle.std.proofs.lemmas.Bool.{false≢true, cases_lt}
 use Rattle.lane_board.specs.Field.{Field, empty_field}
 use Rattle.lane_board.specs.CellCount.{cell_count}
 use Rattle.lane_board.proofs.CallerLemmas.{cell_count-le}
 use Rattle.srs.specs.declared.rotation.Rotation.{Rotation}
-use Rattle.srs.specs.declared.rotation.Rotation.TheVariants.{Spawn, Right, Reverse, Left}
 use Rattle.srs.specs.declared.piece.Piece.TheVariants.{I}
 use Rattle.srs.specs.declared.placement.Placement.{Placement}
 use Rattle.place_sets.specs.States.{States, has_state, states_with, no_states, Includes}
@@ -22,28 +21,17 @@ pub record Progress (ground : Ground) (start done reached : States) : Type 0 whe
 
 pub begins : (ground : Ground) (start : States) → Progress ground start no_states start
 unfolding has_state empty_field
-begins ground start = record {
-  kept = record { has = λ s held. held };
-  sound = record { reached = λ s kind held. none_more ground start s kind held };
-  behind = record { has = λ s held. absurd (false≢true held) };
-  covered = λ s kind held. absurd (false≢true held);
-}
+begins ground start = search (rules, none_more, false≢true)
 
 pub goes_on : (ground : Ground) (r : Rotation) (start done reached next : States) → Progress ground start done reached → IsSettled ground r reached next → Progress ground start (states_with done r (next r)) next
 unfolding has_state
-goes_on ground r start done reached next before is = record {
-  kept = includes_trans start reached next before.kept is.kept;
-  sound = is.sound start before.sound;
-  behind = record { has = λ s held. behind s (with_cases done r (next r) s held) };
-  covered = λ s kind held. covered s kind (with_cases done r (next r) s held);
-}
+goes_on ground r start done reached next before is = search (rules, includes_trans, with_cases, behind, covered)
   where
     in_next : (s : Placement) → ChangedIn done r (next r) s → has_state next s ≡ true
     in_next s changed = subst (λ r. next r s.x s.y ≡ true) (sym changed.here) changed.filled
 
     behind : (s : Placement) → ChangedIn done r (next r) s ⊎ (has_state done s ≡ true) → has_state next s ≡ true
-    behind s (inl changed) = in_next s changed
-    behind s (inr old) = is.kept.has s (before.behind.has s old)
+    behind s h1 = search (rules, in_next)
 
     covered : (s : Placement) → s.piece ≡ ground.piece → ChangedIn done r (next r) s ⊎ (has_state done s ≡ true) → IsLeftWithin ground next s
     covered s kind (inl changed) = is.covers s kind changed.here (in_next s changed)
@@ -62,10 +50,7 @@ ends ground start done reached so_far same = record {
 
 -- fewer are missing after a round
 field_grows : (N : ℕ) (F G H : Field) → IsWithin F G → IsWithin G H → LiesWithin G N → F ≢ G → cell_count F N < cell_count H N
-field_grows N F G H one two lies differ = elim (cases_lt (cell_count F N) (cell_count G N)) [
-  | inl less ↦ omega (arith, less, cell_count-more G H two N)
-  | inr none ↦ absurd (differ (fields-same F G one N lies none))
-]
+field_grows N F G H one two lies differ = search (rules, cases_lt, cell_count-more, fields-same)
 
 pub field_within : (S T : States) (r : Rotation) → Includes T S → IsWithin (S r) (T r)
 unfolding has_state
@@ -73,10 +58,7 @@ field_within S T r is = record { has = λ x y filled. is.has (state_of I r x y) 
 
 missing_falls : (N : ℕ) (done : States) (r : Rotation) (F : Field) → cell_count (done r) N < cell_count F N → missing N (states_with done r F) < missing N done
 unfolding states_with
-missing_falls N done Spawn F more = omega (arith, cell_count-le F N, more)
-missing_falls N done Right F more = omega (arith, cell_count-le F N, more)
-missing_falls N done Reverse F more = omega (arith, cell_count-le F N, more)
-missing_falls N done Left F more = omega (arith, cell_count-le F N, more)
+missing_falls N done r F more = search (rules, cell_count-le)
 
 pub falls : (N : ℕ) (ground : Ground) (r : Rotation) (start done reached next : States) → Progress ground start done reached → IsSettled ground r reached next → LiesWithin (reached r) N → done r ≢ reached r → missing N (states_with done r (next r)) < missing N done
 falls N ground r start done reached next before is lies differ =
@@ -88,8 +70,7 @@ goes_on_by ground r start done reached next after F f e before is =
     subst (λ done. Progress ground start done next) (sym (e ∙ ap (states_with done r) f)) (goes_on ground r start done reached next before is)
 
 pub falls_by : (N : ℕ) (ground : Ground) (r : Rotation) (start done reached next after : States) (F : Field) → F ≡ next r → after ≡ states_with done r F → Progress ground start done reached → IsSettled ground r reached next → LiesWithin (reached r) N → done r ≢ reached r → missing N after < missing N done
-falls_by N ground r start done reached next after F f e before is lies differ =
-    subst (λ after. missing N after < missing N done) (sym (e ∙ ap (states_with done r) f)) (falls N ground r start done reached next before is lies differ)
+falls_by N ground r start done reached next after F f e before is lies differ = search (rules, falls)
 
 pub begins_by : (ground : Ground) (start none : States) → none ≡ no_states → Progress ground start none start
 begins_by ground start none e = subst (λ done. Progress ground start done start) (sym e) (begins ground start)

@@ -1,5 +1,5 @@
 -- Which placements resting states are folded into.
-use Rattle.std.proofs.Common.{◌≡◌, ℕ, ◌<◌, true, pos, sym, ap, subst, ◌∙◌, inl, inr, ◌⊎◌}
+use Rattle.std.proofs.Common.{◌≡◌, ℕ, ◌<◌, true, pos, sym, ap, subst, ◌∙◌, inl, inr, ◌⊎◌, rules}
 use Rattle.std.proofs.lemmas.Bool.{or_cases, or_left, or_right, false≢true}
 use Rattle.lane_board.specs.Field.{Field, empty_field, union, moved_within}
 use Rattle.srs.specs.declared.piece.Piece.{Piece}
@@ -10,7 +10,7 @@ use Rattle.srs.specs.Cells.{moved, pivot_of}
 use Rattle.srs.specs.Canonical.{canonical_rotation, canonical_move}
 use Rattle.place_sets.specs.States.{States, has_state, states_with, no_states}
 use Rattle.whole_flood.specs.Folded.{folded_with, folded}
-use Rattle.place_sets.proofs.CallerLemmas.{moved_from, moved_to, with_here, with_cases, ChangedIn, includes_with}
+use Rattle.place_sets.proofs.CallerLemmas.{moved_from, moved_to, with_here, with_cases, includes_with}
 
 -- a resting state that is folded into the placement
 pub record FoldsTo (piece : Piece) (resting : States) (r : Rotation) (q : Placement) : Type 0 where
@@ -23,19 +23,7 @@ pub record FoldsTo (piece : Piece) (resting : States) (r : Rotation) (q : Placem
 module _ (piece : Piece) (N : ℕ) (resting : States) where
   folded-cases : (r : Rotation) (S : States) (q : Placement) → has_state (folded_with piece N resting r S) q ≡ true → (has_state S q ≡ true) ⊎ FoldsTo piece resting r q
   unfolding folded_with union has_state
-  folded-cases r S q held = at (with_cases S to _ q held)
-    where
-      to : Rotation
-      to = canonical_rotation piece r
-
-      at : ChangedIn S to (union (S to) (moved_within (resting r) N (canonical_move piece r).0 (canonical_move piece r).1)) q ⊎ (has_state S q ≡ true) → (has_state S q ≡ true) ⊎ FoldsTo piece resting r q
-      at (inr old) = inl old
-      at (inl changed) = elim (or_cases (S to q.x q.y) (moved_within (resting r) N (canonical_move piece r).0 (canonical_move piece r).1 q.x q.y) changed.filled) [
-        | inl old ↦ inl (subst (λ r. S r q.x q.y ≡ true) (sym changed.here) old)
-        | inr new ↦
-            let way = moved_from (resting r) N (canonical_move piece r) q.x q.y new in
-            inr (record { x = way.from_x; y = way.from_y; rests = way.filled; turn = changed.here; pivot = way.there })
-      ]
+  folded-cases r S q held = search (rules, with_cases, or_cases, moved_from)
 
   folded-keeps : (r : Rotation) (S : States) (q : Placement) → has_state S q ≡ true → has_state (folded_with piece N resting r S) q ≡ true
   unfolding folded_with union

@@ -1,6 +1,5 @@
 -- The canonical placement of one whose pivot is in column 4 and row 4.
-use Rattle.std.proofs.Common.{◌≡◌, ◌≤◌, true, pos, ◌+ℤ◌, ◌-ℤ◌, ap, refl, arith}
-use Rattle.std.proofs.lemmas.Int.{ints}
+use Rattle.std.proofs.Common.{◌≡◌, ◌≤◌, true, pos, ◌-ℤ◌, refl, rules}
 use Rattle.srs.specs.declared.piece.Piece.{Piece}
 use Rattle.srs.specs.declared.rotation.Rotation.{Rotation}
 use Rattle.srs.specs.declared.placement.Placement.{Placement}
@@ -21,11 +20,4 @@ pub record FromFour (move : Cell) (q : Placement) : Type 0 where
 
 pub from_four : (piece : Piece) (r : Rotation) (q : Placement) → pivot_of q ≡ moved (pos 4, pos 4) (canonical_move piece r) → FromFour (canonical_move piece r) q
 unfolding moved
-from_four piece r q pivot =
-    let move : Cell = canonical_move piece r in
-    let near = near_within move (canonical_move_near piece r) in
-    let x : pos q.x ≡ pos 4 +ℤ move.0 = ap (λ (c : Cell). c.0) pivot in
-    let y : pos q.y ≡ pos 4 +ℤ move.1 = ap (λ (c : Cell). c.1) pivot in
-    let e : pos q.x -ℤ pos 4 ≡ move.0 = omega (arith, ints) in
-    let f : pos q.y -ℤ pos 4 ≡ move.1 = omega (arith, ints) in
-    record { column = omega (arith, ints); row = omega (arith, ints); is = λ i. (e i, f i) }
+from_four piece r q pivot = search (rules, near_within, canonical_move_near)

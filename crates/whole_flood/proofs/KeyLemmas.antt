@@ -1,5 +1,5 @@
 -- A flood over the free states of a field reaches what keys lead to there.
-use Rattle.std.proofs.Common.{◌≡◌, true, ◌==◌, pos, Option, Some, None, List, [], ◌∷◌, refl, sym, ap, subst, ◌∙◌, inl, inr, ◌⊎◌}
+use Rattle.std.proofs.Common.{◌≡◌, true, Option, Some, None, List, [], ◌∷◌, refl, sym, ap, ◌∙◌, rules}
 use Rattle.std.specs.Prelude.{IsTrue, if◌then◌else◌}
 use Rattle.std.specs.List.{All}
 use Rattle.std.proofs.lemmas.Bool.{cases_Bool, and_parts, cond-true, cond-false, eqb-true, false≢true}
@@ -12,7 +12,6 @@ use Rattle.srs.specs.Cells.{Cell}
 use Rattle.srs.specs.Kick.{Table}
 use Rattle.well.specs.Free.{is_free}
 use Rattle.moves.specs.declared.key.Key.{Key}
-use Rattle.moves.specs.declared.key.Key.TheVariants.{Left, Right, Down, Clockwise, Anti}
 use Rattle.moves.specs.declared.key.DropMode.{DropMode}
 use Rattle.moves.specs.Keys.{allows}
 use Rattle.moves.specs.Step.{state_at, first_free, shifted, turned, step_of}
@@ -35,20 +34,12 @@ first_same F free piece r (pivot ∷ pivots) is = λ i. if sym (is.exact r pivot
 
 pub step_same : (table : Table) (F : Field) (free : States) (s : Placement) (key : Key) → IsFreeMap F s.piece free → step_in table free s key ≡ step_of table F s key
 unfolding shifted_in turned_in shifted turned
-step_same table F free s Left is = first_same F free s.piece s.rotation _ is
-step_same table F free s Right is = first_same F free s.piece s.rotation _ is
-step_same table F free s Down is = first_same F free s.piece s.rotation _ is
-step_same table F free s Clockwise is = first_same F free s.piece _ _ is
-step_same table F free s Anti is = first_same F free s.piece _ _ is
+step_same table F free s key is = search (rules, first_same)
 
 pub led_same : (table : Table) (F : Field) (free : States) (piece : Piece) → IsFreeMap F piece free → (keys : List Key) (s : Placement) → s.piece ≡ piece → led (step_in table free) (Some s) keys ≡ led (step_of table F) (Some s) keys
 led_same table F free piece is [] s kind = refl
-led_same table F free piece is (key ∷ keys) s kind = at (step_of table F s key) (step_same table F free s key (subst (λ p. IsFreeMap F p free) (sym kind) is)) refl
-    (λ u e. led_same table F free piece is keys u (step_in-kind table free s key u e ∙ kind))
-  where
-    at : (next : Option Placement) → step_in table free s key ≡ step_of table F s key → step_of table F s key ≡ next → ((u : Placement) → step_in table free s key ≡ Some u → led (step_in table free) (Some u) keys ≡ led (step_of table F) (Some u) keys) → led (step_in table free) (step_in table free s key) keys ≡ led (step_of table F) (step_of table F s key) keys
-    at None same e later = ap (λ (o : Option Placement). led (step_in table free) o keys) (same ∙ e) ∙ led_none (step_in table free) keys ∙ sym (led_none (step_of table F) keys) ∙ ap (λ (o : Option Placement). led (step_of table F) o keys) (sym e)
-    at (Some u) same e later = ap (λ (o : Option Placement). led (step_in table free) o keys) (same ∙ e) ∙ later u (same ∙ e) ∙ ap (λ (o : Option Placement). led (step_of table F) o keys) (sym e)
+led_same table F free piece is (key ∷ keys) s kind =
+    search (rules, step_same, step_in-kind, led_none, (led_same table F free piece is keys))
 
 -- a start state is the spawn, and free
 record StartsAt (free : States) (s : Placement) : Type 0 where
@@ -59,16 +50,7 @@ record StartsAt (free : States) (s : Placement) : Type 0 where
 
 started-at : (free : States) (s : Placement) → has_state (started free) s ≡ true → StartsAt free s
 unfolding started intersection with_cell empty_field has_state
-started-at free s held = at (with_cases no_states Turn.Spawn (intersection (with_cell empty_field 4 20) (free Turn.Spawn)) s held)
-  where
-    at : ChangedIn no_states Turn.Spawn (intersection (with_cell empty_field 4 20) (free Turn.Spawn)) s ⊎ (has_state no_states s ≡ true) → StartsAt free s
-    at (inr none) = absurd (false≢true none)
-    at (inl changed) =
-        let parts = and_parts (with_cell empty_field 4 20 s.x s.y) (free Turn.Spawn s.x s.y) changed.filled in
-        let cell = and_parts (s.x == 4) (s.y == 20) parts.0 in
-        let x = eqb-true s.x 4 cell.0 in
-        let y = eqb-true s.y 20 cell.1 in
-        record { turn = changed.here; column = x; row = y; is_free = subst (λ x. free Turn.Spawn x 20 ≡ true) x (subst (λ y. free Turn.Spawn s.x y ≡ true) y parts.1) }
+started-at free s held = search (rules, with_cases, ChangedIn, false≢true, and_parts, eqb-true)
 
 started-has : (free : States) (piece : Piece) → free Turn.Spawn 4 20 ≡ true → has_state (started free) (spawn_of piece) ≡ true
 unfolding started intersection with_cell empty_field has_state
@@ -77,19 +59,11 @@ started-has free piece is_free = ap (λ (F : Field). F 4 20) (with_here no_state
 -- the flood begins at the spawn, where that is free
 pub starts_at : (F : Field) (piece : Piece) (free : States) (s : Placement) → IsFreeMap F piece free → s.piece ≡ piece → has_state (started free) s ≡ true → spawned F piece ≡ Some s
 unfolding spawned has_pivot has_cell
-starts_at F piece free s is kind held =
-    let at = started-at free s held in
-    let same : spawn_of piece ≡ s = λ i. record { piece = sym kind i; rotation = sym at.turn i; x = sym at.column i; y = sym at.row i } in
-    cond-true _ (Some (spawn_of piece)) None (is.exact Turn.Spawn (pos 4, pos 20) ∙ at.is_free) ∙ ap (λ (s : Placement). Some s) same
+starts_at F piece free s is kind held = search (rules, started-at, cond-true)
 
 pub spawn_starts : (F : Field) (piece : Piece) (free : States) (s : Placement) → IsFreeMap F piece free → spawned F piece ≡ Some s → (s.piece ≡ piece) × (has_state (started free) s ≡ true)
 unfolding spawned has_pivot has_cell
-spawn_starts F piece free s is e = elim (cases_Bool (is_free F (spawn_of piece))) [
-  | inl free_there ↦
-      let same : spawn_of piece ≡ s = some_same (sym (cond-true _ (Some (spawn_of piece)) None free_there) ∙ e) in
-      (sym (ap (λ (s : Placement). s.piece) same), subst (λ s. has_state (started free) s ≡ true) same (started-has free piece (sym (is.exact Turn.Spawn (pos 4, pos 20)) ∙ free_there)))
-  | inr blocked ↦ absurd (not_some (sym (cond-false _ (Some (spawn_of piece)) None blocked) ∙ e))
-]
+spawn_starts F piece free s is e = search (rules, cases_Bool, some_same, cond-true, started-has, not_some, cond-false)
 
 module _ (table : Table) (F : Field) (mode : DropMode) (piece : Piece) (free : States) (is : IsFreeMap F piece free) where
   abbrev pub ground : Ground

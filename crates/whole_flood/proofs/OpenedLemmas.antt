@@ -1,5 +1,5 @@
 -- A piece is free exactly at the pivots from which each offset leads to an open cell.
-use Rattle.std.proofs.Common.{◌≡◌, ℕ, ◌<◌, true, not, pos, negsuc, List, [], ◌∷◌, map, refl, sym, ap, subst, ◌∙◌, arith}
+use Rattle.std.proofs.Common.{◌≡◌, ℕ, ◌<◌, true, pos, negsuc, List, [], ◌∷◌, map, refl, sym, ap, subst, ◌∙◌, rules}
 use Rattle.std.specs.Prelude.{neg_ℤ}
 use Rattle.std.specs.List.{list_all}
 use Rattle.std.proofs.lemmas.Bool.{and_parts, and_from, lt-ltb, ltb-true, leb-true, le-leb, false≢true, false_from_ne_true}
@@ -8,8 +8,7 @@ use Rattle.lane_board.proofs.CallerLemmas.{same_from_both}
 use Rattle.srs.specs.declared.piece.Piece.{Piece}
 use Rattle.srs.specs.declared.rotation.Rotation.{Rotation}
 use Rattle.srs.specs.declared.rotation.Rotation.TheVariants.{Spawn, Right, Reverse, Left}
-use Rattle.srs.specs.Cells.{Cell, moved, shape, in_well}
-use Rattle.srs.proofs.CallerLemmas.{LiesAt}
+use Rattle.srs.specs.Cells.{Cell, moved, shape}
 use Rattle.well.specs.Free.{is_open, is_free_at}
 use Rattle.well.proofs.CallerLemmas.{free_pivot, free_pivot_open}
 use Rattle.place_sets.specs.States.{States, has_pivot}
@@ -24,31 +23,15 @@ module _ (F : Field) where
 
   open_from_blank : (x y : ℕ) → blank x y ≡ true → is_open F (pos x, pos y) ≡ true
   unfolding difference rows_below is_open
-  open_from_blank x y filled =
-      let parts = and_parts (rows_below 23 x y) (not (F x y)) filled in
-      let sides = and_parts _ _ parts.0 in
-      let column : x < 10 = ltb-true x 10 sides.0 in
-      let row : y < 23 = ltb-true y 23 sides.1 in
-      and_from _ _ (and_from _ _ (le-leb x 9 (omega arith)) (le-leb y 22 (omega arith))) parts.1
+  open_from_blank x y filled = search (rules, and_parts, ltb-true, and_from, le-leb)
 
   blank_inside : (x y : ℕ) → blank x y ≡ true → (x < 10) × (y < 24)
   unfolding difference rows_below
-  blank_inside x y filled =
-      let sides = and_parts _ _ (and_parts (rows_below 23 x y) (not (F x y)) filled).0 in
-      let row : y < 23 = ltb-true y 23 sides.1 in
-      (ltb-true x 10 sides.0, omega arith)
+  blank_inside x y filled = search (rules, and_parts, ltb-true)
 
   blank_from_open : (cell : Cell) → is_open F cell ≡ true → PivotAt blank cell
   unfolding difference rows_below is_open
-  blank_from_open (pos x, pos y) opens =
-      let parts = and_parts (in_well (pos x, pos y)) (not (F x y)) opens in
-      let sides = and_parts _ _ parts.0 in
-      let column = leb-true x 9 sides.0 in
-      let row = leb-true y 22 sides.1 in
-      record { x = x; y = y; is = refl; filled = and_from _ _ (and_from _ _ (lt-ltb x 10 (omega arith)) (lt-ltb y 23 (omega arith))) parts.1 }
-  blank_from_open (pos x, negsuc y) opens = absurd (false≢true opens)
-  blank_from_open (negsuc x, pos y) opens = absurd (false≢true opens)
-  blank_from_open (negsuc x, negsuc y) opens = absurd (false≢true opens)
+  blank_from_open cell opens = search (rules, and_parts, leb-true, and_from, lt-ltb, false≢true)
 
   all_open : (N : ℕ) (offsets : List Cell) (S : Field) (x y : ℕ) → opened_at blank N offsets S x y ≡ true → (S x y ≡ true) × (list_all (is_open F) (map (moved (pos x, pos y)) offsets) ≡ true)
   unfolding opened_at opened intersection
@@ -84,18 +67,9 @@ module _ (F : Field) where
           let here = subst (λ y. blank x y ≡ true) (sym (same_row x y at.x at.y at.is)) filled in
           let inside = blank_inside x y here in
           ap (λ (G : Field). G x y) e ∙ opens_all 24 (shape piece r) blank x y here inside.0 inside.1 free_here
-  free_exact piece r G e (pos x, negsuc y) = false_from_ne_true _ (λ free_here. not_there (free_pivot F piece r (pos x, negsuc y) free_here))
-    where
-      not_there : LiesAt (pos x, negsuc y) → ⊥
-      not_there lies = let e : negsuc y ≡ pos lies.y = ap (λ (c : Cell). c.1) lies.is in cc
-  free_exact piece r G e (negsuc x, pos y) = false_from_ne_true _ (λ free_here. not_there (free_pivot F piece r (negsuc x, pos y) free_here))
-    where
-      not_there : LiesAt (negsuc x, pos y) → ⊥
-      not_there lies = let e : negsuc x ≡ pos lies.x = ap (λ (c : Cell). c.0) lies.is in cc
-  free_exact piece r G e (negsuc x, negsuc y) = false_from_ne_true _ (λ free_here. not_there (free_pivot F piece r (negsuc x, negsuc y) free_here))
-    where
-      not_there : LiesAt (negsuc x, negsuc y) → ⊥
-      not_there lies = let e : negsuc x ≡ pos lies.x = ap (λ (c : Cell). c.0) lies.is in cc
+  free_exact piece r G e (pos x, negsuc y) = search (rules, false_from_ne_true, free_pivot)
+  free_exact piece r G e (negsuc x, pos y) = search (rules, false_from_ne_true, free_pivot)
+  free_exact piece r G e (negsuc x, negsuc y) = search (rules, false_from_ne_true, free_pivot)
 
 -- a board made so holds the free pivots
 pub free_pivots-exact : (F B : Field) (piece : Piece) (r : Rotation) (G : Field) → B ≡ difference (rows_below 23) F → G ≡ opened_at B 24 (shape piece r) B → AreFreePivots F piece r G
@@ -106,10 +80,4 @@ free_pivots-exact F B piece r G is made =
 pub free_map : (F : Field) (piece : Piece) (free : States) →
     AreFreePivots F piece Spawn (free Spawn) → AreFreePivots F piece Right (free Right) → AreFreePivots F piece Reverse (free Reverse) → AreFreePivots F piece Left (free Left) → IsFreeMap F piece free
 unfolding has_pivot
-free_map F piece free a b c d = record { exact = λ r. (each r).exact }
-  where
-    each : (r : Rotation) → AreFreePivots F piece r (free r)
-    each Spawn = a
-    each Right = b
-    each Reverse = c
-    each Left = d
+free_map F piece free a b c d = search rules

@@ -1,6 +1,6 @@
 -- What is reached from a start set, and that a set which each key leads back into has all of it.
-use Rattle.std.proofs.Common.{◌≡◌, ℕ, zero, suc, true, Option, Some, None, List, [], ◌∷◌, ◌++◌, refl, sym, ap, subst, ◌∙◌, inl, inr, ◌⊎◌, arith}
-use Rattle.std.specs.Prelude.{IsTrue, option_and_then}
+use Rattle.std.proofs.Common.{◌≡◌, ℕ, suc, true, Option, Some, List, [], ◌∷◌, ◌++◌, refl, sym, ap, subst, ◌∙◌, inl, inr, arith, rules}
+use Rattle.std.specs.Prelude.{IsTrue}
 use Rattle.std.specs.List.{All}
 use Rattle.std.proofs.lemmas.Bool.{cases_Bool, cond-true, cond-false}
 use Rattle.std.proofs.lemmas.List.Sums.{fold-append}
@@ -30,14 +30,11 @@ one_more ground start s key t way allowed step = record {
   starts = way.starts;
   keys = way.keys ++ key ∷ [];
   allowed = All-append (λ key. IsTrue (allows ground.mode key)) way.keys (key ∷ []) way.allowed one;
-  leads =
-      fold-append (λ (reached : Option Placement) (key : Key). option_and_then (λ s. step_in ground.table ground.free s key) reached) (Some way.from) way.keys (key ∷ [])
-      ∙ ap (λ (reached : Option Placement). option_and_then (λ s. step_in ground.table ground.free s key) reached) way.leads ∙ step;
+  leads = search (rules, fold-append);
 }
   where
     one : All (λ key. IsTrue (allows ground.mode key)) (key ∷ [])
-    one zero d within = allowed
-    one (suc k) d within = absurd (omega arith)
+    one h0 d within = search rules
 
 -- the start itself
 pub none_more : (ground : Ground) (start : States) (s : Placement) → s.piece ≡ ground.piece → has_state start s ≡ true → IsReached ground start s
@@ -56,11 +53,7 @@ same_state s piece rotation p r = λ i. record { piece = sym p i; rotation = sym
 
 -- a set stays reached where the new pivots of one rotation are reached
 pub with_reached : (ground : Ground) (start S : States) (rotation : Rotation) (F : Field) → AreReached ground start S → FieldReached ground start rotation F → AreReached ground start (states_with S rotation F)
-with_reached ground start S rotation F all new = record { reached = λ s kind held. at s kind (with_cases S rotation F s held) }
-  where
-    at : (s : Placement) → s.piece ≡ ground.piece → ChangedIn S rotation F s ⊎ (has_state S s ≡ true) → IsReached ground start s
-    at s kind (inl changed) = subst (IsReached ground start) (same_state s ground.piece rotation kind changed.here) (new.reached s.x s.y changed.filled)
-    at s kind (inr before) = all.reached s kind before
+with_reached ground start S rotation F all new = search (rules, with_cases, ChangedIn, same_state)
 
 -- where the pivots that a key tries lead to
 pub record LandsAt (free : States) (piece : Piece) (rotation : Rotation) (t : Placement) : Type 0 where
@@ -69,9 +62,7 @@ pub record LandsAt (free : States) (piece : Piece) (rotation : Rotation) (t : Pl
   pub is_free : free rotation t.x t.y ≡ true
 
 state_at-lands : (free : States) (piece : Piece) (rotation : Rotation) (pivot : Cell) (t : Placement) → PivotAt (free rotation) pivot → state_at piece rotation pivot ≡ Some t → LandsAt free piece rotation t
-state_at-lands free piece rotation pivot t at e =
-    let f : state_of piece rotation at.x at.y ≡ t = some_same (sym (ap (state_at piece rotation) at.is) ∙ e) in
-    subst (LandsAt free piece rotation) f (record { kind = refl; turn = refl; is_free = at.filled })
+state_at-lands free piece rotation pivot t at e = search (rules, some_same)
 
 pub first_in-lands : (free : States) (piece : Piece) (rotation : Rotation) (pivots : List Cell) (t : Placement) → first_in free piece rotation pivots ≡ Some t → LandsAt free piece rotation t
 unfolding first_in
@@ -101,8 +92,7 @@ stays_in ground S is (key ∷ keys) s t kind held allowed e = next_in (step_in g
     (λ k d within. allowed (suc k) d (omega arith)) (ap (λ (o : Option Placement). led (step_in ground.table ground.free) o keys) (sym f) ∙ e))
   where
     next_in : (next : Option Placement) → step_in ground.table ground.free s key ≡ next → ((u : Placement) → step_in ground.table ground.free s key ≡ Some u → has_state S t ≡ true) → has_state S t ≡ true
-    next_in None f later = absurd (not_some (sym (led_none (step_in ground.table ground.free) keys) ∙ ap (λ (o : Option Placement). led (step_in ground.table ground.free) o keys) (sym f) ∙ e))
-    next_in (Some u) f later = later u f
+    next_in next f later = search (rules, not_some, led_none)
 
 -- so a closed set with the start states has all that is reached
 pub closed_has : (ground : Ground) (start S : States) → IsClosed ground S → ((s : Placement) → has_state start s ≡ true → has_state S s ≡ true) → (s : Placement) → IsReached ground start s → has_state S s ≡ true

@@ -1,13 +1,12 @@
 -- Where states come to rest, rotation by rotation.
-use Rattle.std.proofs.Common.{◌≡◌, ℕ, zero, suc, ◌≤◌, true, false, pos, ◌+ℤ◌, refl, sym, ap, subst, ◌∙◌, inl, inr, arith}
+use Rattle.std.proofs.Common.{◌≡◌, ℕ, zero, suc, ◌≤◌, true, false, pos, refl, sym, ap, subst, ◌∙◌, inl, inr, arith, rules}
 use Rattle.std.proofs.lemmas.Bool.{cases_Bool, cases_lt, and_parts, and_from, not-true, not_from_false, cond-true, cond-false, both_ways, false_from_ne_true}
-use Rattle.std.proofs.lemmas.Int.{ints}
 use Rattle.lane_board.specs.Field.{Field, difference}
 use Rattle.srs.specs.declared.piece.Piece.{Piece}
 use Rattle.srs.specs.declared.rotation.Rotation.{Rotation}
 use Rattle.srs.specs.declared.rotation.Rotation.TheVariants.{Spawn, Right, Reverse, Left}
 use Rattle.srs.specs.declared.placement.Placement.{Placement}
-use Rattle.srs.specs.Cells.{Cell, minus, moved}
+use Rattle.srs.specs.Cells.{minus, moved}
 use Rattle.well.specs.Free.{is_free_at}
 use Rattle.moves.specs.Rest.{rest_from}
 use Rattle.place_sets.specs.declared.spreading.Shifts.TheVariants as Shift
@@ -17,42 +16,24 @@ use Rattle.whole_flood.specs.Rested.{IsRested, AreRested}
 use Rattle.place_sets.proofs.CallerLemmas.{LiesWithin, IsWithin, moved_from, moved_to, spread-has, still-has, widened-from, state_of}
 
 pub rested_each : (N : ℕ) (free S R : States) → IsRested N (free Spawn) (S Spawn) (R Spawn) → IsRested N (free Right) (S Right) (R Right) → IsRested N (free Reverse) (S Reverse) (R Reverse) → IsRested N (free Left) (S Left) (R Left) → AreRested N free S R
-rested_each N free S R a b c d = record { each = each }
-  where
-    each : (r : Rotation) → IsRested N (free r) (S r) (R r)
-    each Spawn = a
-    each Right = b
-    each Reverse = c
-    each Left = d
+rested_each N free S R a b c d = search rules
 
 -- moved by one row up or down
 row_below : (a b x y : ℕ) → moved (pos a, pos b) (pos 0, minus 1) ≡ (pos x, pos y) → (a ≡ x) × (b ≡ suc y)
 unfolding moved
-row_below a b x y there =
-    let p : pos a +ℤ pos 0 ≡ pos x = ap (λ (c : Cell). c.0) there in
-    let q : pos b +ℤ minus 1 ≡ pos y = ap (λ (c : Cell). c.1) there in
-    (omega (arith, ints), omega (arith, ints))
+row_below a b x y there = search rules
 
 to_row_below : (x y : ℕ) → moved (pos x, pos (suc y)) (pos 0, minus 1) ≡ (pos x, pos y)
 unfolding moved
-to_row_below x y =
-    let p : pos x +ℤ pos 0 ≡ pos x = omega (arith, ints) in
-    let q : pos (suc y) +ℤ minus 1 ≡ pos y = omega (arith, ints) in
-    λ i. (p i, q i)
+to_row_below x y = search rules
 
 row_above : (a b x y : ℕ) → moved (pos a, pos b) (pos 0, pos 1) ≡ (pos x, pos y) → (a ≡ x) × (suc b ≡ y)
 unfolding moved
-row_above a b x y there =
-    let p : pos a +ℤ pos 0 ≡ pos x = ap (λ (c : Cell). c.0) there in
-    let q : pos b +ℤ pos 1 ≡ pos y = ap (λ (c : Cell). c.1) there in
-    (omega (arith, ints), omega (arith, ints))
+row_above a b x y there = search rules
 
 to_row_above : (x y : ℕ) → moved (pos x, pos y) (pos 0, pos 1) ≡ (pos x, pos (suc y))
 unfolding moved
-to_row_above x y =
-    let p : pos x +ℤ pos 0 ≡ pos x = omega (arith, ints) in
-    let q : pos y +ℤ pos 1 ≡ pos (suc y) = omega (arith, ints) in
-    λ i. (p i, q i)
+to_row_above x y = search rules
 
 -- a pivot of the set from which a fall through free pivots leads to a cell
 pub record FallsTo (free S : Field) (x y : ℕ) : Type 0 where
@@ -63,24 +44,11 @@ pub record FallsTo (free S : Field) (x y : ℕ) : Type 0 where
 
 module _ (N : ℕ) (free S : Field) (within : IsWithin S free) where
   one_down : (x y : ℕ) → free x y ≡ true → FallsTo free S x (suc y) → FallsTo free S x y
-  one_down x y is_free way = record {
-    from = way.from;
-    above = omega arith;
-    starts = way.starts;
-    through = λ k low high. elim (cases_lt y k) [
-      | inl more ↦ way.through k (omega arith) high
-      | inr none ↦ let same : y ≡ k = omega arith in subst (λ k. free x k ≡ true) same is_free
-    ];
-  }
+  one_down x y is_free way = search (rules, cases_lt)
 
   falls_by_rounds : (rounds : ℕ) (x y : ℕ) → widened_by rounds Shift.Down N free S x y ≡ true → FallsTo free S x y
   unfolding widened_by lower
-  falls_by_rounds zero x y held = record {
-    from = y;
-    above = omega arith;
-    starts = held;
-    through = λ k low high. let same : y ≡ k = omega arith in subst (λ k. free x k ≡ true) same (within.has x y held);
-  }
+  falls_by_rounds zero x y held = search rules
   falls_by_rounds (suc rounds) x y held = elim (widened-from Shift.Down N free (widened_by rounds Shift.Down N free S) x y held) [
     | inl old ↦ falls_by_rounds rounds x y old
     | inr new ↦
@@ -138,14 +106,8 @@ module _ (N : ℕ) (free S : Field) (within : IsWithin S free) where
     rest_reaches : (x from y : ℕ) → y ≤ from → ((k : ℕ) → y ≤ k → k ≤ from → free x k ≡ true) → ((below : ℕ) → y ≡ suc below → free x below ≡ false) → rest_from F piece r x from ≡ state_of piece r x y
     unfolding rest_from
     rest_reaches x zero y above through blocked = let same : 0 ≡ y = omega arith in ap (state_of piece r x) same
-    rest_reaches x (suc from) y above through blocked = elim (cases_lt from y) [
-      | inl top ↦
-          let same : y ≡ suc from = omega arith in
-          cond-false _ (rest_from F piece r x from) (state_of piece r x (suc from)) (exact x from ∙ blocked from same) ∙ ap (state_of piece r x) (sym same)
-      | inr further ↦
-          cond-true _ (rest_from F piece r x from) (state_of piece r x (suc from)) (exact x from ∙ through from further (omega arith))
-          ∙ rest_reaches x from y further (λ k low high. through k low (omega arith)) blocked
-    ]
+    rest_reaches x (suc from) y above through blocked =
+        search (rules, cases_lt, cond-false, cond-true, (rest_reaches x from y))
 
     pub held_rest : (x y : ℕ) → R x y ≡ true → (from : ℕ) × (S x from ≡ true) × (rest_from F piece r x from ≡ state_of piece r x y)
     held_rest x y held =

@@ -1,11 +1,10 @@
 -- One rotation is settled: its pivots spread, and then turn both ways.
-use Rattle.std.proofs.Common.{◌≡◌, ℕ, true, false, ◌==◌, pos, Some, refl, sym, ap, subst, ◌∙◌, inl, inr}
+use Rattle.std.proofs.Common.{◌≡◌, ℕ, true, false, ◌==◌, pos, Some, sym, ap, subst, ◌∙◌, inl, inr, rules}
 use Rattle.std.specs.Prelude.{IsTrue}
 use Rattle.std.proofs.lemmas.Bool.{or_cases, or_left, or_right, false≢true}
 use Rattle.lane_board.specs.Field.{Field, empty_field, union}
 use Rattle.srs.specs.declared.piece.Piece.{Piece}
 use Rattle.srs.specs.declared.rotation.Rotation.{Rotation}
-use Rattle.srs.specs.declared.rotation.Rotation.TheVariants as Turn
 use Rattle.srs.specs.declared.placement.Placement.{Placement}
 use Rattle.srs.specs.Cells.{minus}
 use Rattle.srs.specs.Rotation.{rotation_place, clockwise_of, anticlockwise_of}
@@ -13,7 +12,6 @@ use Rattle.srs.specs.Kick.{Table, kicks_of}
 use Rattle.moves.specs.declared.key.Key.{Key}
 use Rattle.moves.specs.declared.key.Key.TheVariants.{Left, Right, Down, Clockwise, Anti}
 use Rattle.moves.specs.declared.key.DropMode.{DropMode}
-use Rattle.moves.specs.declared.key.DropMode.TheVariants.{Soft, Hard}
 use Rattle.moves.specs.Keys.{allows}
 use Rattle.place_sets.specs.declared.spreading.Shifts.{Shifts}
 use Rattle.place_sets.specs.States.{States, has_state, states_with, Includes}
@@ -32,30 +30,10 @@ record IsTurn (key : Key) (from to : Rotation) : Type 0 where
   step : (table : Table) (free : States) (piece : Piece) (x y : ℕ) → step_in table free (state_of piece from x y) key ≡ turned_in table free (state_of piece from x y) to
 
 clockwise_turn : (r : Rotation) → IsTurn Clockwise r (clockwise_of r)
-clockwise_turn r = record { allowed = allowed; apart = apart r; step = λ table free piece x y. refl }
-  where
-    allowed : (mode : DropMode) → IsTrue (allows mode Clockwise)
-    allowed Soft = refl
-    allowed Hard = refl
-
-    apart : (r : Rotation) → (rotation_place r == rotation_place (clockwise_of r)) ≡ false
-    apart Turn.Spawn = refl
-    apart Turn.Right = refl
-    apart Turn.Reverse = refl
-    apart Turn.Left = refl
+clockwise_turn r = search rules
 
 anti_turn : (r : Rotation) → IsTurn Anti r (anticlockwise_of r)
-anti_turn r = record { allowed = allowed; apart = apart r; step = λ table free piece x y. refl }
-  where
-    allowed : (mode : DropMode) → IsTrue (allows mode Anti)
-    allowed Soft = refl
-    allowed Hard = refl
-
-    apart : (r : Rotation) → (rotation_place r == rotation_place (anticlockwise_of r)) ≡ false
-    apart Turn.Spawn = refl
-    apart Turn.Right = refl
-    apart Turn.Reverse = refl
-    apart Turn.Left = refl
+anti_turn r = search rules
 
 module _ (N : ℕ) (ground : Ground) (lies : (r : Rotation) → LiesWithin (ground.free r) N) where
   abbrev arrivals : Rotation → Rotation → States → Field
@@ -78,10 +56,7 @@ module _ (N : ℕ) (ground : Ground) (lies : (r : Rotation) → LiesWithin (grou
       with_reached ground start S to _ all (record {
         reached = λ x y filled. elim (or_cases (S to x y) (arrivals from to S x y) filled) [
           | inl old ↦ (field_of_reached ground start S to all).reached x y old
-          | inr new ↦ elim (arrives ground.free N ground.piece to (lies to) (kicks_of ground.table ground.piece from to) (S from) empty_field x y within new) [
-            | inl none ↦ absurd (false≢true none)
-            | inr way ↦ arrived x y way
-          ]
+          | inr new ↦ search (rules, arrives, false≢true, arrived)
         ];
       })
     where

@@ -1,5 +1,5 @@
 -- What spreads from reached pivots is reached by keys, and no key leads out of what has spread.
-use Rattle.std.proofs.Common.{◌≡◌, ℕ, zero, suc, true, pos, Some, None, refl, sym, ap, subst, ◌∙◌, inl, inr, ◌⊎◌}
+use Rattle.std.proofs.Common.{◌≡◌, ℕ, zero, suc, true, pos, Some, None, refl, sym, ap, subst, ◌∙◌, inl, inr, ◌⊎◌, rules}
 use Rattle.std.specs.Prelude.{IsTrue}
 use Rattle.std.proofs.lemmas.Bool.{cases_Bool, or_cases, or_left, or_right, cond-true, cond-false, false≢true}
 use Rattle.lane_board.specs.Field.{Field, union, moved_within}
@@ -15,7 +15,7 @@ use Rattle.moves.specs.declared.key.DropMode.TheVariants.{Soft, Hard}
 use Rattle.moves.specs.Keys.{allows}
 use Rattle.moves.specs.Step.{state_at}
 use Rattle.moves.proofs.CallerLemmas.{not_some}
-use Rattle.place_sets.specs.States.{States, has_pivot}
+use Rattle.place_sets.specs.States.{States}
 use Rattle.place_sets.specs.Shifts.{sideways, lower, neighbours, widened, widened_by, IsSpread}
 use Rattle.whole_flood.specs.Flood.{shifts_in, Ground, IsReached, first_in, shifted_in, step_in}
 use Rattle.place_sets.proofs.CallerLemmas.{LiesWithin, MovedFrom, moved_from, moved_to, state_of, PivotAt, pivot_at, has_pivot-at, still-has, widened-from}
@@ -38,12 +38,10 @@ sideways-from table mode N S x y beside = elim (or_cases (moved_within S N (minu
 ]
   where
     each : (mode : DropMode) → IsTrue (allows mode Left)
-    each Soft = refl
-    each Hard = refl
+    each mode = search rules
 
     other : (mode : DropMode) → IsTrue (allows mode Right)
-    other Soft = refl
-    other Hard = refl
+    other mode = search rules
 
 lower-from : (table : Table) (N : ℕ) (S : Field) (x y : ℕ) → lower N S x y ≡ true → Shifted table Soft S x y
 unfolding lower
@@ -52,10 +50,7 @@ lower-from table N S x y beside = record { key = Down; move = (pos 0, minus 1); 
 neighbours-from : (table : Table) (mode : DropMode) (N : ℕ) (S : Field) (x y : ℕ) → neighbours (shifts_in mode) N S x y ≡ true → Shifted table mode S x y
 unfolding union
 neighbours-from table Hard N S x y beside = sideways-from table Hard N S x y beside
-neighbours-from table Soft N S x y beside = elim (or_cases (sideways N S x y) (lower N S x y) beside) [
-  | inl side ↦ sideways-from table Soft N S x y side
-  | inr down ↦ lower-from table N S x y down
-]
+neighbours-from table Soft N S x y beside = search (rules, or_cases, sideways-from, lower-from)
 
 -- a free pivot to which a move leads
 shifted_to : (free : States) (piece : Piece) (rotation : Rotation) (move : Cell) (a b x y : ℕ) → moved (pos a, pos b) move ≡ (pos x, pos y) → free rotation x y ≡ true → shifted_in free (state_of piece rotation a b) move ≡ Some (state_of piece rotation x y)
@@ -91,15 +86,10 @@ pub record ShiftsTo (free : States) (s : Placement) (move : Cell) (t : Placement
 
 pub shifts_to : (free : States) (s : Placement) (move : Cell) (t : Placement) → shifted_in free s move ≡ Some t → ShiftsTo free s move t
 unfolding shifted_in first_in
-shifts_to free s move t e = elim (cases_Bool (has_pivot free s.rotation (moved (pivot_of s) move))) [
-  | inl has ↦ at (pivot_at free s.rotation _ has) (sym (cond-true _ (state_at s.piece s.rotation (moved (pivot_of s) move)) None has) ∙ e)
-  | inr none ↦ absurd (not_some (sym (cond-false _ (state_at s.piece s.rotation (moved (pivot_of s) move)) None none) ∙ e))
-]
+shifts_to free s move t e = search (rules, cases_Bool, pivot_at, cond-true, not_some, cond-false, at)
   where
     at : PivotAt (free s.rotation) (moved (pivot_of s) move) → state_at s.piece s.rotation (moved (pivot_of s) move) ≡ Some t → ShiftsTo free s move t
-    at pivot f =
-        let same : state_of s.piece s.rotation pivot.x pivot.y ≡ t = some_same (sym (ap (state_at s.piece s.rotation) pivot.is) ∙ f) in
-        subst (ShiftsTo free s move) same (record { is = refl; there = pivot.is; is_free = pivot.filled })
+    at pivot f = search (rules, some_same)
 
 -- a set that is spread has each free pivot to which an allowed move leads from it
 module _ (N : ℕ) (free : States) (r : Rotation) (lies : LiesWithin (free r) N) (S result : Field) where

@@ -1,5 +1,5 @@
 -- Where the flood begins.
-use Rattle.std.proofs.Common.{◌≡◌, ap, ◌∙◌}
+use Rattle.std.proofs.Common.{◌≡◌, rules}
 use Rattle.lane_board.specs.Field.{Field, empty_field, intersection, with_cell}
 use Rattle.srs.specs.declared.rotation.Rotation.TheVariants.{Spawn}
 use Rattle.whole_flood.specs.Started.{started}
@@ -7,6 +7,4 @@ use Rattle.place_sets.specs.States.{States, states_with, no_states}
 
 pub started_by : (free S E : States) (A W Z G : Field) → S ≡ states_with E Spawn A → E ≡ no_states → A ≡ intersection W G → W ≡ with_cell Z 4 20 → Z ≡ empty_field → G ≡ free Spawn → S ≡ started free
 unfolding started
-started_by free S E A W Z G s e a w z g =
-    s ∙ ap (λ (E : States). states_with E Spawn A) e
-    ∙ ap (states_with no_states Spawn) (a ∙ ap (λ (W : Field). intersection W G) (w ∙ ap (λ (Z : Field). with_cell Z 4 20) z) ∙ ap (intersection (with_cell empty_field 4 20)) g)
+started_by free S E A W Z G s e a w z g = search rules

@@ -1,5 +1,5 @@
 -- A set of pivots that turns goes where each of its pivots turns to.
-use Rattle.std.proofs.Common.{◌≡◌, ℕ, true, false, ◌&&◌, pos, Some, List, [], ◌∷◌, map, sym, ap, subst, ◌∙◌, inl, inr, ◌⊎◌}
+use Rattle.std.proofs.Common.{◌≡◌, ℕ, true, false, ◌&&◌, pos, Some, List, [], ◌∷◌, map, sym, ap, subst, ◌∙◌, inl, inr, ◌⊎◌, rules}
 use Rattle.std.specs.Prelude.{neg_ℤ}
 use Rattle.std.proofs.lemmas.Bool.{cases_Bool, and_parts, and_from, or_cases, or_left, or_right, not-true, not_from_false, cond-true, cond-false, both_ways, false_from_ne_true}
 use Rattle.lane_board.specs.Field.{Field, intersection, union, difference, moved_within}
@@ -79,10 +79,7 @@ module _ (free : States) (N : ℕ) (piece : Piece) (to : Rotation) (lies : LiesW
           }
 
       here : union before (kicked_to (free to) N move S) x y ≡ true → (before x y ≡ true) ⊎ Arrives S (move ∷ moves) x y
-      here now = elim (or_cases (before x y) (kicked_to (free to) N move S x y) now) [
-        | inl old ↦ inl old
-        | inr hit ↦ inr (landed hit)
-      ]
+      here now = search (rules, or_cases, landed)
 
       passed : Arrives (left_by N move (kicked_to (free to) N move S) S) moves x y → Arrives S (move ∷ moves) x y
       passed way =
