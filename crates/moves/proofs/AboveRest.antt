@@ -1,5 +1,5 @@
 -- The rest of a state, seen from the rest: the state stands so many rows above it, and is free on the way.
-use Rattle.std.proofs.Common.{◌≡◌, ℕ, ◌+◌, ◌-◌, ◌≤◌, true, false, ℤ, pos, ◌-ℤ◌, refl, sym, ap, subst, ◌∙◌, arith}
+use Rattle.std.proofs.Common.{◌≡◌, ℕ, ◌+◌, ◌-◌, ◌≤◌, true, ℤ, pos, ◌-ℤ◌, refl, sym, ap, subst, ◌∙◌, arith, rules}
 use Rattle.std.proofs.lemmas.Int.{ints}
 use Rattle.lane_board.specs.Field.{Field}
 use Rattle.srs.specs.declared.placement.Placement.{Placement}
@@ -37,12 +37,7 @@ stands_above F s t rest =
       free = λ j within.
           let up : s.y ≡ (lies.y + j) + (rest.rows - j) = omega arith in
           subst (λ (c : Cell). is_free_at F s.piece s.rotation c ≡ true) (lowered_is s.x s.y (lies.y + j) (rest.rows - j) up) (rest.free (rest.rows - j) (omega arith));
-      rests = record {
-        free = subst (λ (c : Cell). is_free_at F s.piece s.rotation c ≡ true) (lowered_is s.x s.y lies.y rest.rows height) (rest.free rest.rows (omega arith));
-        blocked =
-            let below : pos s.y -ℤ pos (rest.rows + 1) ≡ pos lies.y -ℤ pos 1 = omega (arith, ints) in
-            subst (λ (z : ℤ). is_free_at F s.piece s.rotation (pos s.x, z) ≡ false) below rest.blocked;
-      };
+      rests = search (rules, lowered_is);
     })
 
 -- and back
@@ -53,8 +48,6 @@ comes_to_rest F t rows free rests = record {
   free = λ k within.
       let up : t.y + rows ≡ (t.y + (rows - k)) + k = omega arith in
       subst (λ (c : Cell). is_free_at F t.piece t.rotation c ≡ true) (sym (lowered_is t.x (t.y + rows) (t.y + (rows - k)) k up)) (free (rows - k) (omega arith));
-  blocked =
-      let below : pos (t.y + rows) -ℤ pos (rows + 1) ≡ pos t.y -ℤ pos 1 = omega (arith, ints) in
-      subst (λ (z : ℤ). is_free_at F t.piece t.rotation (pos t.x, z) ≡ false) (sym below) rests.blocked;
+  blocked = search rules;
   rests = ap (state_at t.piece t.rotation) (lowered_is t.x (t.y + rows) t.y rows refl);
 }

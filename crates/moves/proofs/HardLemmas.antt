@@ -1,5 +1,5 @@
 -- Without Down the upright height does not change, so the places are the resting states under the sky.
-use Rattle.std.proofs.Common.{◌≡◌, ℕ, suc, ◌+◌, ◌-◌, ◌<◌, ◌≤◌, true, false, not, ◌&&◌, ◌||◌, ℤ, pos, ◌+ℤ◌, ◌-ℤ◌, ◌≤ℤ◌, Option, Some, None, List, [], ◌∷◌, refl, sym, ap, subst, ◌∙◌, inl, inr, arith}
+use Rattle.std.proofs.Common.{◌≡◌, ℕ, suc, ◌+◌, ◌-◌, ◌<◌, ◌≤◌, true, false, not, ◌&&◌, ◌||◌, ℤ, pos, ◌+ℤ◌, ◌-ℤ◌, ◌≤ℤ◌, Option, Some, None, List, [], ◌∷◌, refl, sym, ap, subst, ◌∙◌, inl, inr, arith, rules}
 use Rattle.std.specs.Prelude.{IsTrue, int_le}
 use Rattle.std.specs.List.{list_all, All}
 use Rattle.std.proofs.lemmas.Int.{ints}
@@ -42,19 +42,13 @@ pub record StandsAt (h : ℕ) (piece : Piece) (s : Placement) : Type 0 where
   pub column : s.x < 10
 
 some_of : (o : Option Spot) → is_some o ≡ true → (spot : Spot) × (o ≡ Some spot)
-some_of None e = absurd (false≢true e)
-some_of (Some spot) e = (spot, refl)
+some_of o e = search (rules, false≢true)
 
 -- a move sideways keeps the row
 shift_level : (F : Field) (s : Placement) (dx : ℤ) (t : Placement) → shifted F s (dx, pos 0) ≡ Some t → upright t ≡ upright s
 unfolding shifted first_free moved
 shift_level F s dx t e = elim (cases_Bool (is_free_at F s.piece s.rotation (pos s.x +ℤ dx, pos s.y +ℤ pos 0))) [
-  | inl free ↦
-      let lies = free_pivot F s.piece s.rotation (pos s.x +ℤ dx, pos s.y +ℤ pos 0) free in
-      let same : record { piece = s.piece; rotation = s.rotation; x = lies.x; y = lies.y } ≡ t = some_same (ap (state_at s.piece s.rotation) (sym lies.is) ∙ sym (cond-true _ (state_at s.piece s.rotation (pos s.x +ℤ dx, pos s.y +ℤ pos 0)) None free) ∙ e) in
-      let row : pos s.y +ℤ pos 0 ≡ pos lies.y = ap (λ (c : Cell). c.1) lies.is in
-      let still : pos lies.y ≡ pos s.y = omega (arith, ints) in
-      ap upright (sym same) ∙ ap (λ (z : ℤ). z +ℤ rise s.piece s.rotation) still
+  | inl free ↦ search (rules, free_pivot, some_same, cond-true)
   | inr blocked ↦ absurd (not_some (sym (cond-false _ (state_at s.piece s.rotation (pos s.x +ℤ dx, pos s.y +ℤ pos 0)) None blocked) ∙ e))
 ]
 

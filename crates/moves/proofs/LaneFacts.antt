@@ -1,5 +1,5 @@
 -- The lane of a state against its cells and its upright height.
-use Rattle.std.proofs.Common.{◌≡◌, ℕ, ◌+◌, ◌-◌, ◌<◌, ◌≤◌, Bool, true, false, not, ◌&&◌, pos, ◌+ℤ◌, ◌-ℤ◌, ◌≤ℤ◌, refl, sym, ap, ◌∙◌, arith, inl, inr, ◌⊎◌}
+use Rattle.std.proofs.Common.{◌≡◌, ℕ, ◌+◌, ◌-◌, ◌<◌, ◌≤◌, Bool, true, false, not, ◌&&◌, pos, ◌+ℤ◌, ◌-ℤ◌, ◌≤ℤ◌, refl, sym, ap, ◌∙◌, arith, inl, inr, ◌⊎◌, rules}
 use Rattle.std.specs.Prelude.{int_le, ◌<ℤ◌}
 use Rattle.std.specs.List.{list_all}
 use Rattle.std.proofs.lemmas.Int.{ints}
@@ -36,22 +36,14 @@ pub record IsNear (s : Placement) : Type 0 where
   pub high : lane s ≤ℤ upright s
 
 pub near : (s : Placement) → IsNear s
-near s =
-    let parts = and_parts (int_le (minus 2) (lowest (shape s.piece s.rotation) -ℤ rise s.piece s.rotation)) (int_le (lowest (shape s.piece s.rotation) -ℤ rise s.piece s.rotation) (pos 0)) (lane_near s.piece s.rotation) in
-    let a = int_le-true (minus 2) (lowest (shape s.piece s.rotation) -ℤ rise s.piece s.rotation) parts.0 in
-    let b = int_le-true (lowest (shape s.piece s.rotation) -ℤ rise s.piece s.rotation) (pos 0) parts.1 in
-    record { low = omega (arith, ints); high = omega (arith, ints) }
+near s = search (rules, and_parts, lane_near, int_le-true)
 
 deep : (p : Piece) (r : Rotation) → int_le (minus 3) (lowest (shape p r)) ≡ true
 deep = each_state (λ p r. int_le (minus 3) (lowest (shape p r))) refl
 
 -- a lane is below N or not
 pub cases_lane : (N : ℕ) (t : Placement) → (lane t <ℤ pos N) ⊎ (pos N ≤ℤ lane t)
-cases_lane N t =
-    let low = int_le-true (minus 3) (lowest (shape t.piece t.rotation)) (deep t.piece t.rotation) in
-    let n = natural (lane t +ℤ pos 3) (omega (arith, ints)) in
-    let is = n.is in
-    elim (cases_lt n.n (N + 3)) [ inl below ↦ inl (omega (arith, ints)) | inr high ↦ inr (omega (arith, ints)) ]
+cases_lane N t = search (rules, int_le-true, deep, natural, cases_lt)
 
 -- a resting state has its lane no higher than the rows that may be filled
 pub rest_lane : (F : Field) (r : ℕ) → IsClearFrom r F → (t : Placement) → IsResting F t → lane t ≤ℤ pos r

@@ -1,5 +1,5 @@
 -- What lies at lane N or above needs no lane: each such state that keys can reach is open, and so are its neighbours.
-use Rattle.std.proofs.Common.{◌&&◌, ◌≡◌, ◌⊎◌, ℕ, ◌+◌, ◌≤◌, Bool, true, false, pos, ◌+ℤ◌, ◌-ℤ◌, ◌≤ℤ◌, Option, Some, None, List, [], ◌∷◌, map, refl, sym, ap, subst, ◌∙◌, inl, inr, arith}
+use Rattle.std.proofs.Common.{◌≡◌, ◌⊎◌, ℕ, ◌+◌, ◌≤◌, Bool, true, false, pos, ◌+ℤ◌, ◌-ℤ◌, ◌≤ℤ◌, Option, Some, None, List, [], ◌∷◌, map, refl, sym, ap, subst, ◌∙◌, inl, inr, arith, rules}
 use Rattle.std.specs.Prelude.{IsTrue, int_le, ◌<ℤ◌}
 use Rattle.std.specs.List.{list_all}
 use Rattle.std.proofs.lemmas.Int.{ints}
@@ -63,10 +63,7 @@ pub lifts_by : (F : Field) (piece : Piece) (to : Rotation) (pivot : Cell) (test 
 unfolding first_free moved
 lifts_by F piece to pivot test [] t all e = absurd (not_some e)
 lifts_by F piece to pivot test (k ∷ ks) t all e = elim (cases_Bool (is_free_at F piece to (moved pivot k))) [
-  | inl free ↦
-      let lies = free_pivot F piece to (moved pivot k) free in
-      let same : record { piece = piece; rotation = to; x = lies.x; y = lies.y } ≡ t = some_same (ap (state_at piece to) (sym lies.is) ∙ sym (cond-true _ (state_at piece to (moved pivot k)) (first_free F piece to (map (moved pivot) ks)) free) ∙ e) in
-      subst (LiftsBy piece to pivot test) same (record { move = k; passes = (and_parts (test k) (list_all test ks) all).0; lifts = record { kind = refl; turn = refl; column = sym (ap (λ (c : Cell). c.0) lies.is); row = sym (ap (λ (c : Cell). c.1) lies.is) } })
+  | inl free ↦ search (rules, free_pivot, some_same, cond-true, and_parts)
   | inr blocked ↦ lifts_by F piece to pivot test ks t (and_parts (test k) (list_all test ks) all).1 (sym (cond-false _ (state_at piece to (moved pivot k)) (first_free F piece to (map (moved pivot) ks)) blocked) ∙ e)
 ]
 
@@ -121,9 +118,7 @@ pub record IsRiseNear (p : Piece) (r : Rotation) : Type 0 where
   pub high : rise p r ≤ℤ pos 1
 
 pub rise_near : (p : Piece) (r : Rotation) → IsRiseNear p r
-rise_near p r =
-    let parts = and_parts (int_le (minus 1) (rise p r)) (int_le (rise p r) (pos 1)) (each_state (λ p r. int_le (minus 1) (rise p r) && int_le (rise p r) (pos 1)) refl p r) in
-    record { low = int_le-true (minus 1) (rise p r) parts.0; high = int_le-true (rise p r) (pos 1) parts.1 }
+rise_near p r = search (rules, and_parts, each_state, int_le-true)
 
 -- a free state above the lanes
 pub record IsAbove (N : ℕ) (F : Field) (piece : Piece) (s : Placement) : Type 0 where
@@ -141,9 +136,7 @@ pub record IsOpenState (r : ℕ) (F : Field) (piece : Piece) (s : Placement) : T
 
 module _ (F : Field) (r N : ℕ) (clear : IsClearFrom r F) (over : r + 2 ≤ N) (few : N ≤ 16) (piece : Piece) (S : Placement → Type 0) (flood : IsFloodBelow N F piece S) where
   stands : (s : Placement) → IsAbove N F piece s → (h : ℕ) → upright s ≡ pos h → StandsAt h piece s
-  stands s above h e =
-      let pivot = pivot_of_free F s above.free in
-      record { kind = above.kind; height = e; fits = free_fits F s.piece s.rotation (pos s.x, pos s.y) above.free; column = omega (arith, pivot.in_columns) }
+  stands s above h e = search (rules, pivot_of_free, free_fits)
 
   level_open : (s t : Placement) (key : Key) → IsAbove N F piece s → IsTrue (allows Hard key) → step_of srs_table F s key ≡ Some t → IsOpenState r F piece t
   level_open s t key above allowed e =
@@ -175,10 +168,7 @@ module _ (F : Field) (r N : ℕ) (clear : IsClearFrom r F) (over : r + 2 ≤ N) 
 
   -- below lane N or not
   by_lane : (t : Placement) → IsOpenState r F piece t → S t ⊎ IsAbove N F piece t
-  by_lane t open_t = elim (cases_lane N t) [
-    | inl below ↦ inl (flood.sky t open_t.kind (inside_under_sky F r clear t (free_inside F t open_t.free) open_t.clear) below)
-    | inr lanes ↦ inr (record { kind = open_t.kind; free = open_t.free; lanes = lanes; low = open_t.low })
-  ]
+  by_lane t open_t = search (rules, cases_lane, inside_under_sky, free_inside)
 
   next_in : (s t : Placement) (key : Key) → S s ⊎ IsAbove N F piece s → step_of srs_table F s key ≡ Some t → S t ⊎ IsAbove N F piece t
   next_in s t key (inr above) e = by_lane t (step_open s t key above e)
@@ -220,5 +210,4 @@ keyed_in F r N piece S clear over few flood t kind keyed below = elim (cases_Boo
     keyed_from = ap (λ (p : Piece). state_after srs_table F p keyed.keys) (sym kind) ∙ keyed.leads_there
 
     from : S t ⊎ IsAbove N F piece t → S t
-    from (inl here) = here
-    from (inr above) = let lanes = above.lanes in absurd (omega (arith, ints))
+    from h0 = search rules

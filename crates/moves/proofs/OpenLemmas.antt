@@ -1,5 +1,5 @@
 -- Keys in the open do what the model says.
-use Rattle.std.proofs.Common.{◌&&◌, ◌≡◌, ℕ, ◌+◌, ◌≤◌, Bool, true, not, ℤ, pos, negsuc, ◌+ℤ◌, ◌-ℤ◌, ◌≤ℤ◌, Option, Some, None, List, [], ◌∷◌, map, refl, sym, ap, subst, ◌∙◌, inl, inr, arith}
+use Rattle.std.proofs.Common.{◌&&◌, ◌≡◌, ℕ, ◌+◌, ◌≤◌, Bool, true, not, ℤ, pos, negsuc, ◌+ℤ◌, ◌-ℤ◌, ◌≤ℤ◌, Option, Some, None, List, [], ◌∷◌, map, refl, sym, ap, subst, ◌∙◌, inl, inr, arith, rules}
 use Rattle.std.specs.Prelude.{int_le, nat_le, option_and_then}
 use Rattle.std.specs.Cmp.{signed_Decides}
 use Rattle.std.specs.Ordering.{int_eq}
@@ -30,10 +30,7 @@ use Rattle.moves.proofs.TableFacts.{is_level, shape_level, is_not_deep, shape_no
 -- what holds of all by two tests holds by one that follows from them
 all_both : (p q t : Cell → Bool) (xs : List Cell) → ((c : Cell) → p c ≡ true → q c ≡ true → t c ≡ true) → list_all p xs ≡ true → list_all q xs ≡ true → list_all t xs ≡ true
 all_both p q t [] so all_p all_q = refl
-all_both p q t (c ∷ cs) so all_p all_q =
-    let ps = and_parts (p c) (list_all p cs) all_p in
-    let qs = and_parts (q c) (list_all q cs) all_q in
-    and_from _ _ (so c ps.0 qs.0) (all_both p q t cs so ps.1 qs.1)
+all_both p q t (c ∷ cs) so all_p all_q = search (rules, and_parts, and_from, (all_both p q t cs so))
 
 pub all_so : (p t : Cell → Bool) (xs : List Cell) → ((c : Cell) → p c ≡ true → t c ≡ true) → list_all p xs ≡ true → list_all t xs ≡ true
 all_so p t xs so all = all_both p p t xs (λ c h k. so c h) all all
@@ -44,8 +41,7 @@ pub record IsNatural (z : ℤ) : Type 0 where
   pub is : z ≡ pos n
 
 pub natural : (z : ℤ) → pos 0 ≤ℤ z → IsNatural z
-natural (pos n) h = record { n = n; is = refl }
-natural (negsuc n) h = absurd (omega (arith, ints))
+natural z h = search rules
 
 pub record IsColumn (z : ℤ) : Type 0 where
   pub n : ℕ
@@ -53,25 +49,19 @@ pub record IsColumn (z : ℤ) : Type 0 where
   pub within : n ≤ 9
 
 pub column : (z : ℤ) → is_column z ≡ true → IsColumn z
-column (pos n) h = record { n = n; is = refl; within = leb-true n 9 h }
-column (negsuc n) h = absurd (false≢true h)
+column z h = search (rules, leb-true, false≢true)
 
 cells_same : (a b c d : ℤ) → a ≡ c → b ≡ d → ◌≡◌ {A = Cell} (a, b) (c, d)
 cells_same a b c d e f = λ i. (e i, f i)
 
 -- an open cell lies in a column of the well
 open_column : (F : Field) (cell : Cell) → is_open F cell ≡ true → is_column cell.0 ≡ true
-open_column F (pos x, pos y) opened = (and_parts (nat_le x 9) (nat_le y 22) (open_in_well F (pos x, pos y) opened)).0
-open_column F (pos x, negsuc y) opened = absurd (false≢true (open_in_well F (pos x, negsuc y) opened))
-open_column F (negsuc x, pos y) opened = absurd (false≢true (open_in_well F (negsuc x, pos y) opened))
-open_column F (negsuc x, negsuc y) opened = absurd (false≢true (open_in_well F (negsuc x, negsuc y) opened))
+open_column F cell opened = search (rules, and_parts, open_in_well, false≢true)
 
 -- a free piece fits the columns
 pub free_fits : (F : Field) (piece : Piece) (rotation : Rotation) (pivot : Cell) → is_free_at F piece rotation pivot ≡ true → fits_column piece rotation pivot.0 ≡ true
 unfolding is_free_at moved
-free_fits F piece rotation pivot free =
-    all_so (λ c. is_open F (moved pivot c)) (λ c. is_column (pivot.0 +ℤ c.0)) (shape piece rotation) (λ c h. open_column F (moved pivot c) h)
-    (sym (list_all-map (is_open F) (moved pivot) (shape piece rotation)) ∙ free)
+free_fits F piece rotation pivot free = search (rules, all_so, open_column, list_all-map)
 
 rise_small : (piece : Piece) (rotation : Rotation) → int_le (rise piece rotation) (pos 1) ≡ true
 rise_small = each_state (λ p r. int_le (rise p r) (pos 1)) refl
@@ -83,8 +73,7 @@ record Passes {A B : Type 0} (f : A → Option B) (o : Option A) (b : B) : Type 
   gives : f a ≡ Some b
 
 and_then_some : {A B : Type 0} (f : A → Option B) (o : Option A) (b : B) → option_and_then f o ≡ Some b → Passes f o b
-and_then_some f None b e = absurd (not_some e)
-and_then_some f (Some a) b e = record { a = a; is = refl; gives = e }
+and_then_some f o b e = search (rules, not_some)
 
 open_none : (piece : Piece) (keys : List Key) → open_led piece None keys ≡ None
 open_none piece [] = refl
@@ -137,14 +126,8 @@ module _ (F : Field) (r : ℕ) (clear : IsClearFrom r F) (h : ℕ) (piece : Piec
   first_taken : (to : Rotation) (pivot : Cell) (kicks : List Cell) (kick : Cell) → first_fitting piece to pivot.0 kicks ≡ Some kick → is_free_at F piece to (moved pivot kick) ≡ true → first_free F piece to (map (moved pivot) kicks) ≡ state_at piece to (moved pivot kick)
   unfolding first_free moved
   first_taken to pivot [] kick e free = absurd (not_some e)
-  first_taken to pivot (k ∷ ks) kick e free = elim (cases_Bool (fits_column piece to (pivot.0 +ℤ k.0))) [
-    | inl fits ↦
-        let same : k ≡ kick = some_same (sym (cond-true _ (Some k) (first_fitting piece to pivot.0 ks) fits) ∙ e) in
-        ap (λ (k : Cell). first_free F piece to (moved pivot k ∷ map (moved pivot) ks)) same ∙ cond-true _ (state_at piece to (moved pivot kick)) (first_free F piece to (map (moved pivot) ks)) free
-    | inr out ↦
-        cond-false _ (state_at piece to (moved pivot k)) (first_free F piece to (map (moved pivot) ks)) (false_from_ne_true _ (λ h. both_ways _ out (free_fits F piece to (moved pivot k) h)))
-        ∙ first_taken to pivot ks kick (sym (cond-false _ (Some k) (first_fitting piece to pivot.0 ks) out) ∙ e) free
-  ]
+  first_taken to pivot (k ∷ ks) kick e free =
+      search (rules, cases_Bool, some_same, cond-true, cond-false, false_from_ne_true, both_ways, free_fits, (first_taken to pivot ks kick))
 
   -- a free pivot at the height
   record Lands (to : Rotation) (pivot : Cell) (spot : Spot) : Type 0 where
@@ -200,10 +183,8 @@ module _ (F : Field) (r : ℕ) (clear : IsClearFrom r F) (h : ℕ) (piece : Piec
 
   fitting_fits : (to : Rotation) (x : ℤ) (kicks : List Cell) (kick : Cell) → first_fitting piece to x kicks ≡ Some kick → fits_column piece to (x +ℤ kick.0) ≡ true
   fitting_fits to x [] kick e = absurd (not_some e)
-  fitting_fits to x (k ∷ ks) kick e = elim (cases_Bool (fits_column piece to (x +ℤ k.0))) [
-    | inl fits ↦ subst (λ (k : Cell). fits_column piece to (x +ℤ k.0) ≡ true) (some_same (sym (cond-true _ (Some k) (first_fitting piece to x ks) fits) ∙ e)) fits
-    | inr out ↦ fitting_fits to x ks kick (sym (cond-false _ (Some k) (first_fitting piece to x ks) out) ∙ e)
-  ]
+  fitting_fits to x (k ∷ ks) kick e =
+      search (rules, cases_Bool, some_same, cond-true, cond-false, (fitting_fits to x ks kick))
 
   turn_goes : (from to : Rotation) (x y : ℕ) (spot : Spot) → pos y +ℤ rise piece from ≡ pos h → option_and_then (λ (kick : Cell). spot_in piece to (pos x +ℤ kick.0)) (open_turn piece from to x) ≡ Some spot → Goes (turned srs_table F (state from x y) to) spot
   unfolding turned moved

@@ -1,5 +1,5 @@
 -- The rest of a free state exists, is one, and is what the function gives.
-use Rattle.std.proofs.Common.{◌≡◌, ℕ, zero, suc, ◌+◌, ◌<◌, ◌≤◌, true, false, ℤ, pos, negsuc, ◌-ℤ◌, sym, ap, subst, ◌∙◌, inl, inr, arith}
+use Rattle.std.proofs.Common.{◌≡◌, ℕ, zero, suc, ◌+◌, ◌≤◌, true, false, ℤ, pos, negsuc, ◌-ℤ◌, sym, ap, subst, ◌∙◌, inl, inr, arith, rules}
 use Rattle.std.proofs.lemmas.Bool.{cases_Bool, cond-true, cond-false, both_ways, cases_order, false_from_ne_true}
 use Rattle.std.proofs.lemmas.Int.{ints}
 use Rattle.lane_board.specs.Field.{Field}
@@ -7,7 +7,7 @@ use Rattle.srs.specs.declared.piece.Piece.{Piece}
 use Rattle.srs.specs.declared.rotation.Rotation.{Rotation}
 use Rattle.srs.specs.declared.placement.Placement.{Placement}
 use Rattle.srs.specs.Cells.{Cell}
-use Rattle.srs.proofs.CallerLemmas.{LiesAt, some_same}
+use Rattle.srs.proofs.CallerLemmas.{some_same}
 use Rattle.well.specs.Free.{is_free_at, is_free}
 use Rattle.well.proofs.CallerLemmas.{free_pivot}
 use Rattle.moves.specs.Step.{state_at}
@@ -18,10 +18,7 @@ state_of piece rotation x y = record { piece = piece; rotation = rotation; x = x
 
 -- below row 0 no piece is free
 below_is_blocked : (F : Field) (piece : Piece) (rotation : Rotation) (x : ℤ) (n : ℕ) → is_free_at F piece rotation (x, negsuc n) ≡ false
-below_is_blocked F piece rotation x n = false_from_ne_true _ (λ free. not_below (free_pivot F piece rotation (x, negsuc n) free))
-  where
-    not_below : LiesAt (x, negsuc n) → ⊥
-    not_below lies = let e : negsuc n ≡ pos lies.y = ap (λ c. c.1) lies.is in cc
+below_is_blocked F piece rotation x n = search (rules, false_from_ne_true, free_pivot)
 
 -- a row further down from a row higher up is the same cell
 one_lower : (x y k : ℕ) → ◌≡◌ {A = Cell} (pos x, pos (suc y) -ℤ pos (suc k)) (pos x, pos y -ℤ pos k)
@@ -32,12 +29,7 @@ none_lower x y = let e : pos y -ℤ pos 0 ≡ pos y = omega (arith, ints) in λ 
 
 module _ (F : Field) (piece : Piece) (rotation : Rotation) (x : ℕ) where
   stays : (y : ℕ) → is_free_at F piece rotation (pos x, pos y) ≡ true → is_free_at F piece rotation (lowered (state_of piece rotation x y) 1) ≡ false → IsRest F (state_of piece rotation x y) (state_of piece rotation x y)
-  stays y free blocked = record {
-    rows = 0;
-    free = λ k within. let none : 0 ≡ k = omega arith in subst (λ c. is_free_at F piece rotation c ≡ true) (sym (none_lower x y) ∙ ap (λ k. (pos x, pos y -ℤ pos k)) none) free;
-    blocked = blocked;
-    rests = ap (state_at piece rotation) (none_lower x y);
-  }
+  stays y free blocked = search (rules, none_lower)
 
   falls : (y : ℕ) (rest : Placement) → is_free_at F piece rotation (pos x, pos (suc y)) ≡ true → IsRest F (state_of piece rotation x y) rest → IsRest F (state_of piece rotation x (suc y)) rest
   falls y rest free below = record {
@@ -57,8 +49,7 @@ module _ (F : Field) (piece : Piece) (rotation : Rotation) (x : ℕ) where
   rest_from-is zero free = stays 0 free (below_is_blocked F piece rotation (pos x) 0)
   rest_from-is (suc y) free = elim (cases_Bool (is_free_at F piece rotation (pos x, pos y))) [
     | inl lower ↦ subst (IsRest F (state_of piece rotation x (suc y))) (sym (cond-true _ (rest_from F piece rotation x y) (state_of piece rotation x (suc y)) lower)) (falls y _ free (rest_from-is y lower))
-    | inr blocked ↦ subst (IsRest F (state_of piece rotation x (suc y))) (sym (cond-false _ (rest_from F piece rotation x y) (state_of piece rotation x (suc y)) blocked))
-        (stays (suc y) free (ap (is_free_at F piece rotation) (one_lower x y 0 ∙ none_lower x y) ∙ blocked))
+    | inr blocked ↦ search (rules, cond-false, one_lower, none_lower)
   ]
 
 pub rest_of-is : (F : Field) (s : Placement) → is_free F s ≡ true → IsRest F s (rest_of F s)
@@ -66,19 +57,7 @@ rest_of-is F s free = rest_from-is F s.piece s.rotation s.x s.y free
 
 -- a state has one rest
 pub rest_unique : (F : Field) (s p q : Placement) → IsRest F s p → IsRest F s q → p ≡ q
-rest_unique F s p q one other = some_same (sym one.rests ∙ ap (λ n. state_at s.piece s.rotation (lowered s n)) same ∙ other.rests)
-  where
-    further : (p q : Placement) (one : IsRest F s p) (other : IsRest F s q) → one.rows < other.rows → ⊥
-    further p q one other less = both_ways _ one.blocked (other.free (one.rows + 1) (omega arith))
-
-    same : one.rows ≡ other.rows
-    same = elim (cases_order one.rows other.rows) [
-      | inl e ↦ e
-      | inr apart ↦ elim apart [
-        | inl less ↦ absurd (further p q one other less)
-        | inr more ↦ absurd (further q p other one more)
-      ]
-    ]
+rest_unique F s p q one other = search (rules, some_same, both_ways, cases_order)
 
 -- and the function gives it
 pub rest_of-only : (F : Field) (s rest : Placement) → is_free F s ≡ true → IsRest F s rest → rest ≡ rest_of F s
@@ -91,13 +70,9 @@ rests_in_row_0 F s bottom = ap (rest_from F s.piece s.rotation s.x) bottom ∙ (
 
 pub rests_blocked : (F : Field) (s : Placement) (y : ℕ) → s.y ≡ suc y → is_free_at F s.piece s.rotation (pos s.x, pos y) ≡ false → rest_of F s ≡ s
 unfolding rest_from
-rests_blocked F s y above blocked =
-    ap (rest_from F s.piece s.rotation s.x) above
-    ∙ cond-false _ (rest_from F s.piece s.rotation s.x y) (state_of s.piece s.rotation s.x (suc y)) blocked
-    ∙ (λ i. state_of s.piece s.rotation s.x (sym above i))
+rests_blocked F s y above blocked = search (rules, cond-false)
 
 -- a state has the rest of the free state a row lower
 pub falls_further : (F : Field) (s : Placement) (y : ℕ) → s.y ≡ suc y → is_free_at F s.piece s.rotation (pos s.x, pos y) ≡ true → rest_of F s ≡ rest_from F s.piece s.rotation s.x y
 unfolding rest_from
-falls_further F s y above free =
-    ap (rest_from F s.piece s.rotation s.x) above ∙ cond-true _ (rest_from F s.piece s.rotation s.x y) (state_of s.piece s.rotation s.x (suc y)) free
+falls_further F s y above free = search (rules, cond-true)

@@ -1,5 +1,5 @@
 -- Keys that lead to a state whose rest has a placement's cells: said by tests, and by `LeadsToRest`.
-use Rattle.std.proofs.Common.{◌≡◌, ◌↔◌, suc, Bool, true, false, Option, Some, None, List, [], ◌∷◌, refl, sym, subst, arith}
+use Rattle.std.proofs.Common.{◌≡◌, ◌↔◌, suc, Bool, true, false, Option, Some, None, List, [], ◌∷◌, refl, sym, subst, arith, rules}
 use Rattle.std.specs.List.{list_all, All}
 use Rattle.std.specs.Option.{option_map_or}
 use Rattle.std.specs.Prelude.{IsTrue}
@@ -70,9 +70,7 @@ to_test table F mode placement keys leads =
 
 from_test : (table : Table) (F : Field) (mode : DropMode) (placement : Placement) (keys : List Key) → leads_to_rest table F mode placement keys ≡ true → LeadsToRest table F mode keys placement
 unfolding leads_to_rest state_after
-from_test table F mode placement keys passes =
-    let parts = and_parts (list_all (allows mode) keys) _ passes in
-    by_state (led (step_of table F) (spawned F placement.piece) keys) refl parts.0 parts.1
+from_test table F mode placement keys passes = search (rules, and_parts, by_state)
   where
     by_state : (o : Option Placement) → led (step_of table F) (spawned F placement.piece) keys ≡ o → list_all (allows mode) keys ≡ true → option_map_or (comes_to_rest F placement) o false ≡ true → LeadsToRest table F mode keys placement
     by_state None e each rests = absurd (false≢true rests)

@@ -1,6 +1,6 @@
 -- Each state under an open sky is reached: at the spawn's height by turns and moves sideways, and from there down.
-use Rattle.std.proofs.Common.{◌≡◌, ℕ, zero, suc, ◌+◌, ◌-◌, ◌<◌, ◌≤◌, true, not, ◌||◌, ◌==◌, ℤ, pos, ◌+ℤ◌, ◌-ℤ◌, ◌≤ℤ◌, Option, Some, None, [], ◌∷◌, ◌++◌, refl, sym, ap, subst, ◌∙◌, arith}
-use Rattle.std.specs.Prelude.{int_le, option_and_then}
+use Rattle.std.proofs.Common.{◌≡◌, ℕ, zero, suc, ◌+◌, ◌-◌, ◌<◌, ◌≤◌, true, not, ◌||◌, ℤ, pos, ◌+ℤ◌, ◌-ℤ◌, ◌≤ℤ◌, Option, Some, None, ◌++◌, refl, sym, ap, subst, ◌∙◌, arith, rules}
+use Rattle.std.specs.Prelude.{int_le}
 use Rattle.std.proofs.lemmas.Int.{ints}
 use Rattle.std.proofs.lemmas.Bool.{and_parts, cond-true, false≢true, eqb-true}
 use Rattle.std.proofs.lemmas.List.Folds.{list_all-map}
@@ -13,15 +13,13 @@ use Rattle.srs.specs.declared.placement.Placement.{Placement}
 use Rattle.srs.specs.Cells.{Cell, minus, moved, shape, cells_of, pivot_of}
 use Rattle.srs.specs.SameCells.{is_among}
 use Rattle.srs.specs.Kick.{Table, srs_table}
-use Rattle.srs.specs.Rotation.{rotation_place}
 use Rattle.srs.proofs.CallerLemmas.{is_among-moved, is_among-all, list_all-from_is_among, each_piece, rotation_place-injective, in_well-place, inside_cell, pivot_inside, int_le-true, less-moved}
 use Rattle.std.specs.Cmp.{signed_Decides}
 use Rattle.std.specs.Ordering.{int_eq}
 use Rattle.well.specs.Free.{is_open, is_free_at, is_free}
 use Rattle.well.proofs.CallerLemmas.{open_at}
-use Rattle.moves.specs.declared.key.Key.{Key}
 use Rattle.moves.specs.declared.key.Key.TheVariants.{Down}
-use Rattle.moves.specs.Step.{state_at, first_free, shifted, step_of}
+use Rattle.moves.specs.Step.{first_free, shifted, step_of}
 use Rattle.moves.specs.Leads.{spawn_of, spawned, state_after}
 use Rattle.moves.specs.Walk.{led}
 use Rattle.moves.specs.Height.{rise, upright, fits_column}
@@ -35,12 +33,7 @@ path_is : (piece : Piece) (rotation : Rotation) (x : ℕ) → x < 10 → fits_co
 path_is piece rotation x within fits = from (open_led piece (Some (Turn.Spawn, 4)) (path piece rotation x)) refl (subst (λ b. (not b || is_spot rotation x (open_led piece (Some (Turn.Spawn, 4)) (path piece rotation x))) ≡ true) fits (paths_lead piece rotation x within))
   where
     from : (o : Option Spot) → open_led piece (Some (Turn.Spawn, 4)) (path piece rotation x) ≡ o → is_spot rotation x o ≡ true → o ≡ Some (rotation, x)
-    from None e there = absurd (false≢true there)
-    from (Some spot) e there =
-        let parts = and_parts (rotation_place spot.0 == rotation_place rotation) (spot.1 == x) there in
-        let turn = rotation_place-injective spot.0 rotation (eqb-true _ _ parts.0) in
-        let at = eqb-true spot.1 x parts.1 in
-        λ i. Some (turn i, at i)
+    from o e there = search (rules, false≢true, and_parts, rotation_place-injective, eqb-true)
 
 pub rise_spawn : (piece : Piece) → rise piece Turn.Spawn ≡ pos 0
 rise_spawn piece = (signed_Decides (rise piece Turn.Spawn) (pos 0)).0 (each_piece (λ p. int_eq (rise p Turn.Spawn) (pos 0)) refl piece)
@@ -74,11 +67,7 @@ module _ (table : Table) (F : Field) (piece : Piece) (rotation : Rotation) (x : 
 
   pub down_step : (y : ℕ) → is_free_at F piece rotation (pos x, pos y) ≡ true → step_of table F (at_row (suc y)) Down ≡ Some (at_row y)
   unfolding shifted first_free moved
-  down_step y free =
-      let column : pos x +ℤ pos 0 ≡ pos x = omega (arith, ints) in
-      let row : pos (suc y) +ℤ minus 1 ≡ pos y = omega (arith, ints) in
-      let same : ◌≡◌ {A = Cell} (pos x +ℤ pos 0, pos (suc y) +ℤ minus 1) (pos x, pos y) = λ i. (column i, row i) in
-      ap (λ (c : Cell). first_free F piece rotation (c ∷ [])) same ∙ cond-true _ (state_at piece rotation (pos x, pos y)) None free
+  down_step y free = search (rules, cond-true)
 
   pub falls : (y k : ℕ) → ((j : ℕ) → j ≤ k → is_free_at F piece rotation (pos x, pos (y + j)) ≡ true) →
       led (step_of table F) (Some (at_row (y + k))) (repeated Down k) ≡ Some (at_row y)
@@ -124,9 +113,5 @@ sky_is_reached F r s clear low sky under =
     let fall = falls srs_table F s.piece s.rotation s.x s.y k (λ j within. sky_free F s sky j (omega (arith, ints))) in
     record {
       keys = path s.piece s.rotation s.x ++ repeated Down k;
-      leads_there =
-          fold-append (λ (reached : Option Placement) (key : Key). option_and_then (λ s. step_of srs_table F s key) reached) (spawned F s.piece) (path s.piece s.rotation s.x) (repeated Down k)
-          ∙ ap (λ (o : Option Placement). led (step_of srs_table F) o (repeated Down k)) above.leads_there
-          ∙ ap (λ (y : ℕ). led (step_of srs_table F) (Some (record { piece = s.piece; rotation = s.rotation; x = s.x; y = y })) (repeated Down k)) row
-          ∙ fall;
+      leads_there = search (rules, fold-append);
     }

@@ -1,5 +1,5 @@
 -- A step, and any keys, lead to a free state of the same piece.
-use Rattle.std.proofs.Common.{◌≡◌, true, pos, negsuc, Some, None, List, [], ◌∷◌, refl, sym, subst, ◌∙◌, inl, inr}
+use Rattle.std.proofs.Common.{◌≡◌, true, Some, List, [], ◌∷◌, sym, ◌∙◌, rules}
 use Rattle.std.proofs.lemmas.Bool.{cases_Bool, cond-true, cond-false}
 use Rattle.lane_board.specs.Field.{Field}
 use Rattle.srs.specs.declared.piece.Piece.{Piece}
@@ -12,7 +12,7 @@ use Rattle.well.proofs.CallerLemmas.{free_pivot_inside}
 use Rattle.moves.specs.declared.key.Key.{Key}
 use Rattle.moves.specs.declared.key.Key.TheVariants.{Left, Right, Down, Clockwise, Anti}
 use Rattle.moves.specs.Step.{state_at, first_free, shifted, turned, step_of}
-use Rattle.moves.specs.Leads.{spawn_of, spawned}
+use Rattle.moves.specs.Leads.{spawned}
 use Rattle.moves.specs.States.{IsPivot, state_code}
 use Rattle.moves.proofs.StateLemmas.{code_below, one_state}
 use Rattle.moves.proofs.WalkLemmas.{not_some, IsFinite}
@@ -24,18 +24,13 @@ pub record IsFreeState (F : Field) (piece : Piece) (s : Placement) : Type 0 wher
   pub free : is_free F s ≡ true
 
 pub state_at-free : (F : Field) (piece : Piece) (rotation : Rotation) (pivot : Cell) (t : Placement) → is_free_at F piece rotation pivot ≡ true → state_at piece rotation pivot ≡ Some t → IsFreeState F piece t
-state_at-free F piece rotation (pos x, pos y) t free e = subst (IsFreeState F piece) (some_same e) (record { kind = refl; free = free })
-state_at-free F piece rotation (pos x, negsuc y) t free e = absurd (not_some e)
-state_at-free F piece rotation (negsuc x, pos y) t free e = absurd (not_some e)
-state_at-free F piece rotation (negsuc x, negsuc y) t free e = absurd (not_some e)
+state_at-free F piece rotation pivot t free e = search (rules, some_same, not_some)
 
 pub first_free-free : (F : Field) (piece : Piece) (rotation : Rotation) (pivots : List Cell) (t : Placement) → first_free F piece rotation pivots ≡ Some t → IsFreeState F piece t
 unfolding first_free
 first_free-free F piece rotation [] t e = absurd (not_some e)
-first_free-free F piece rotation (pivot ∷ pivots) t e = elim (cases_Bool (is_free_at F piece rotation pivot)) [
-  | inl free ↦ state_at-free F piece rotation pivot t free (sym (cond-true _ (state_at piece rotation pivot) (first_free F piece rotation pivots) free) ∙ e)
-  | inr blocked ↦ first_free-free F piece rotation pivots t (sym (cond-false _ (state_at piece rotation pivot) (first_free F piece rotation pivots) blocked) ∙ e)
-]
+first_free-free F piece rotation (pivot ∷ pivots) t e =
+    search (rules, cases_Bool, state_at-free, cond-true, cond-false, (first_free-free F piece rotation pivots t))
 
 pub step_of-free : (table : Table) (F : Field) (s : Placement) (key : Key) (t : Placement) → step_of table F s key ≡ Some t → IsFreeState F s.piece t
 unfolding shifted turned
@@ -61,7 +56,4 @@ step_is_finite table F piece = record {
 -- the spawn, where it is free
 pub spawned-free : (F : Field) (piece : Piece) (s : Placement) → spawned F piece ≡ Some s → IsFreeState F piece s
 unfolding spawned
-spawned-free F piece s e = elim (cases_Bool (is_free F (spawn_of piece))) [
-  | inl free ↦ subst (IsFreeState F piece) (some_same (sym (cond-true _ (Some (spawn_of piece)) None free) ∙ e)) (record { kind = refl; free = free })
-  | inr blocked ↦ absurd (not_some (sym (cond-false _ (Some (spawn_of piece)) None blocked) ∙ e))
-]
+spawned-free F piece s e = search (rules, cases_Bool, some_same, cond-true, not_some, cond-false)

@@ -1,5 +1,5 @@
 -- Facts of the tables, tried at each piece, rotation and column.
-use Rattle.std.proofs.Common.{◌≡◌, ℕ, zero, suc, ◌<◌, Bool, true, ◌&&◌, pos, ◌-ℤ◌, refl, arith, subst, sym, inl, inr}
+use Rattle.std.proofs.Common.{◌≡◌, ℕ, zero, suc, ◌<◌, Bool, true, ◌&&◌, pos, ◌-ℤ◌, refl, arith, rules}
 use Rattle.std.specs.Prelude.{nat_le, int_le}
 use Rattle.std.specs.List.{list_all}
 use Rattle.std.proofs.lemmas.Bool.{and_parts, cases_order}
@@ -18,12 +18,7 @@ all_below (suc n) test = test n && all_below n test
 pub below_each : (n : ℕ) (test : ℕ → Bool) → all_below n test ≡ true → (x : ℕ) → x < n → test x ≡ true
 unfolding all_below
 below_each zero test all x within = absurd (omega arith)
-below_each (suc n) test all x within =
-    let parts = and_parts (test n) (all_below n test) all in
-    elim (cases_order x n) [
-      | inl same ↦ subst (λ k. test k ≡ true) (sym same) parts.0
-      | inr apart ↦ below_each n test parts.1 x (omega arith)
-    ]
+below_each (suc n) test all x within = search (rules, and_parts, cases_order, (below_each n test))
 
 -- the cells of a state lie from two rows below its upright height to one above
 unfoldable pub is_level : Piece → Rotation → Cell → Bool

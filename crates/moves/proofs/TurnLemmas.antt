@@ -1,5 +1,5 @@
 -- One test of a turn after another, and how far a test moves the pivot.
-use Rattle.std.proofs.Common.{◌≡◌, ℕ, suc, ◌+◌, ◌-◌, ◌<◌, ◌≤◌, Bool, true, false, cond, pos, neg_ℤ, ◌-ℤ◌, Option, Some, None, List, [], ◌∷◌, map, refl, sym, ap, ◌∙◌, inl, inr, arith}
+use Rattle.std.proofs.Common.{◌≡◌, ℕ, suc, ◌+◌, ◌-◌, ◌<◌, ◌≤◌, Bool, cond, pos, neg_ℤ, ◌-ℤ◌, Option, Some, None, List, [], ◌∷◌, map, refl, ap, arith, rules}
 use Rattle.std.specs.Bool.{then_some}
 use Rattle.std.specs.List.{range_with_len}
 use Rattle.std.proofs.lemmas.Bool.{cases_Bool, cond-true, cond-false, false_from_ne_true}
@@ -10,47 +10,36 @@ use Rattle.srs.specs.declared.piece.Piece.{Piece}
 use Rattle.srs.specs.declared.rotation.Rotation.{Rotation}
 use Rattle.srs.specs.declared.placement.Placement.{Placement}
 use Rattle.srs.specs.Cells.{Cell}
-use Rattle.srs.specs.Kick.{Table, IsSmallTable, is_small_move, pair_of, offset_in, kick_in}
+use Rattle.srs.specs.Kick.{Table, IsSmallTable, pair_of, offset_in, kick_in}
 use Rattle.srs.proofs.CallerLemmas.{LiesAt, IsWithin, small_within, list_all_each}
 use Rattle.well.specs.Free.{is_free_at}
 use Rattle.well.proofs.CallerLemmas.{free_pivot}
-use Rattle.moves.specs.Step.{IsShort, state_at, first_free}
+use Rattle.moves.specs.Step.{IsShort, first_free}
 use Rattle.moves.proofs.WalkLemmas.{not_some}
 
 -- a piece with its pivot outside the well is not free
 pub none_outside : (F : Field) (piece : Piece) (rotation : Rotation) (pivot : Cell) → (LiesAt pivot → ⊥) → None ≡ first_free F piece rotation (pivot ∷ [])
 unfolding first_free
-none_outside F piece rotation pivot outside =
-    sym (cond-false _ (state_at piece rotation pivot) None (false_from_ne_true _ (λ free. outside (free_pivot F piece rotation pivot free))))
+none_outside F piece rotation pivot outside = search (rules, cond-false, false_from_ne_true, free_pivot)
 
 as_test : (free : Bool) (s : Placement) → then_some free s ≡ cond free (Some s) None
-as_test true s = refl
-as_test false s = refl
+as_test free s = search rules
 
 pub some_inside : (F : Field) (piece : Piece) (rotation : Rotation) (pivot : Cell) (x y : ℕ) (free : Bool) (result : Option Placement) →
     result ≡ then_some free (record { piece = piece; rotation = rotation; x = x; y = y }) → free ≡ is_free_at F piece rotation (pos x, pos y) → pivot ≡ (pos x, pos y) → result ≡ first_free F piece rotation (pivot ∷ [])
 unfolding first_free
-some_inside F piece rotation pivot x y free result told tested e =
-    told ∙ ap (λ b. then_some b (record { piece = piece; rotation = rotation; x = x; y = y })) tested ∙ as_test (is_free_at F piece rotation (pos x, pos y)) _ ∙ ap (λ c. first_free F piece rotation (c ∷ [])) (sym e)
+some_inside F piece rotation pivot x y free result told tested e = search (rules, as_test)
 
 -- where one pivot is not free the next are tried, and where it is they are not
 pub next_pivot : (F : Field) (piece : Piece) (rotation : Rotation) (pivot : Cell) (pivots : List Cell) → None ≡ first_free F piece rotation (pivot ∷ []) →
     first_free F piece rotation (pivot ∷ pivots) ≡ first_free F piece rotation pivots
 unfolding first_free
-next_pivot F piece rotation pivot pivots none = elim (cases_Bool (is_free_at F piece rotation pivot)) [
-  | inl free ↦
-      let lies = free_pivot F piece rotation pivot free in
-      absurd (not_some (none ∙ cond-true _ (state_at piece rotation pivot) None free ∙ ap (state_at piece rotation) lies.is))
-  | inr blocked ↦ cond-false _ (state_at piece rotation pivot) (first_free F piece rotation pivots) blocked
-]
+next_pivot F piece rotation pivot pivots none = search (rules, cases_Bool, free_pivot, not_some, cond-true, cond-false)
 
 pub this_pivot : (F : Field) (piece : Piece) (rotation : Rotation) (pivot : Cell) (pivots : List Cell) (s : Placement) → Some s ≡ first_free F piece rotation (pivot ∷ []) →
     Some s ≡ first_free F piece rotation (pivot ∷ pivots)
 unfolding first_free
-this_pivot F piece rotation pivot pivots s some = elim (cases_Bool (is_free_at F piece rotation pivot)) [
-  | inl free ↦ some ∙ cond-true _ (state_at piece rotation pivot) None free ∙ sym (cond-true _ (state_at piece rotation pivot) (first_free F piece rotation pivots) free)
-  | inr blocked ↦ absurd (not_some (sym (some ∙ cond-false _ (state_at piece rotation pivot) None blocked)))
-]
+this_pivot F piece rotation pivot pivots s some = search (rules, cases_Bool, cond-true, not_some, cond-false)
 
 -- the pivots of this test and those after it
 pub pivots_from : (ℕ → Cell) → ℕ → List Cell
@@ -70,20 +59,16 @@ no_pivots f test past = let none : 6 - test ≡ 0 = omega arith in ap (λ n. map
 
 pub test_fails : (F : Field) (piece : Piece) (rotation : Rotation) (f : ℕ → Cell) (test : ℕ) (pivot : Cell) → test < 6 → pivot ≡ f test → None ≡ first_free F piece rotation (pivot ∷ []) →
     first_free F piece rotation (pivots_from f (test + 1)) ≡ first_free F piece rotation (pivots_from f test)
-test_fails F piece rotation f test pivot below at none =
-    sym (ap (first_free F piece rotation) (pivots_more f test below) ∙ next_pivot F piece rotation (f test) _ (none ∙ ap (λ c. first_free F piece rotation (c ∷ [])) at))
+test_fails F piece rotation f test pivot below at none = search (rules, pivots_more, next_pivot)
 
 pub test_holds : (F : Field) (piece : Piece) (rotation : Rotation) (f : ℕ → Cell) (test : ℕ) (pivot : Cell) (s : Placement) → test < 6 → pivot ≡ f test → Some s ≡ first_free F piece rotation (pivot ∷ []) →
     Some s ≡ first_free F piece rotation (pivots_from f test)
-test_holds F piece rotation f test pivot s below at some =
-    this_pivot F piece rotation (f test) (pivots_from f (test + 1)) s (some ∙ ap (λ c. first_free F piece rotation (c ∷ [])) at) ∙ sym (ap (first_free F piece rotation) (pivots_more f test below))
+test_holds F piece rotation f test pivot s below at some = search (rules, this_pivot, pivots_more)
 
 -- an offset of a small table is small
 small_offset : (table : Table) (piece : Piece) (rotation : Rotation) (test : ℕ) → IsSmallTable table → 1 ≤ test → test ≤ 5 →
     IsWithin (neg_ℤ (pos 3)) (pos 3) (offset_in table piece rotation test).0 (offset_in table piece rotation test).1
-small_offset table piece rotation test small first last =
-    small_within (record { dx = (offset_in table piece rotation test).0; dy = (offset_in table piece rotation test).1 })
-    (list_all_each is_small_move (table piece rotation) (test - 1) (pos 0, pos 0) (small.small piece rotation) (omega (arith, small.five piece rotation)))
+small_offset table piece rotation test small first last = search (rules, small_within, list_all_each)
 
 -- a kick is the difference of two of them
 pub kick_is_short : (table : Table) (piece : Piece) (from to : Rotation) (test : ℕ) (change : Offset) → IsSmallTable table → 1 ≤ test → test ≤ 5 → pair_of change ≡ kick_in table piece from to test → IsShort change

@@ -1,5 +1,5 @@
 -- Where keys lead from a state to another, fewer keys than there are states do so; and the search for keys finds them.
-use Rattle.std.proofs.Common.{◌≡◌, ℕ, zero, suc, ◌+◌, ◌<◌, ◌≤◌, Bool, true, false, ◌&&◌, eqb, Option, Some, None, List, [], ◌∷◌, length, map, refl, sym, subst, ◌∙◌, inl, inr, arith}
+use Rattle.std.proofs.Common.{◌≡◌, ℕ, zero, suc, ◌+◌, ◌<◌, ◌≤◌, Bool, true, false, ◌&&◌, eqb, Option, Some, None, List, [], ◌∷◌, length, map, refl, sym, subst, ◌∙◌, inl, inr, arith, rules}
 use Rattle.std.specs.Option.{option_map_or}
 use Rattle.std.specs.List.{list_all, list_any, AllByRecursion, IsDistinct}
 use Rattle.std.proofs.lemmas.Bool.{and_parts, and_from, or_cases, or_parts, or_left, or_right, cases_Bool, false≢true, eqb-true}
@@ -8,7 +8,6 @@ use Rattle.std.proofs.lemmas.List.{length-map}
 use Rattle.std.proofs.lemmas.List.Folds.{list_any_at}
 use Rattle.srs.specs.declared.placement.Placement.{Placement}
 use Rattle.moves.specs.declared.key.Key.{Key}
-use Rattle.moves.specs.declared.key.Key.TheVariants.{Left, Right, Down, Clockwise, Anti}
 use Rattle.moves.specs.Keys.{all_keys}
 use Rattle.moves.specs.Walk.{led, Leads, some_keys_lead}
 use Rattle.srs.proofs.CallerLemmas.{some_same}
@@ -36,9 +35,7 @@ visited next (Some s) (key ∷ keys) = s ∷ visited next (next s key) keys
 
 where_false : (p : ℕ → Bool) (xs : List ℕ) → list_any p xs ≡ false → AllByRecursion (λ x. p x ≡ false) xs
 where_false p [] none = tt
-where_false p (x ∷ xs) none =
-    let parts = or_parts (p x) (list_any p xs) none in
-    (parts.0, where_false p xs parts.1)
+where_false p (x ∷ xs) none = search (rules, or_parts, (where_false p xs))
 
 visited_length : (next : Placement → Key → Option Placement) (start : Option Placement) (target : Placement) (keys : List Key) → led next start keys ≡ Some target → length (visited next start keys) ≡ length keys + 1
 unfolding visited
@@ -68,14 +65,8 @@ module _ (next : Placement → Key → Option Placement) (good : Placement → T
   codes_below : (start : Option Placement) (keys : List Key) → Good start → (q : ℕ) → list_any (eqb q) (codes start keys) ≡ true → q < bound
   unfolding codes visited Good
   codes_below None keys start q has = absurd (false≢true has)
-  codes_below (Some s) [] start q has = elim (or_cases (eqb q (code s)) false has) [
-    | inl same ↦ subst (λ n. n < bound) (sym (eqb-true _ _ same)) (finite.below s (start s refl))
-    | inr none ↦ absurd (false≢true none)
-  ]
-  codes_below (Some s) (key ∷ keys) start q has = elim (or_cases (eqb q (code s)) (list_any (eqb q) (map code (visited next (next s key) keys))) has) [
-    | inl same ↦ subst (λ n. n < bound) (sym (eqb-true _ _ same)) (finite.below s (start s refl))
-    | inr later ↦ codes_below (next s key) keys (good_next s key start) q later
-  ]
+  codes_below (Some s) [] start q has = search (rules, or_cases, eqb-true, false≢true)
+  codes_below (Some s) (key ∷ keys) start q has = search (rules, or_cases, eqb-true, (codes_below (next s key) keys))
 
   -- keys that lead there and pass no state twice
   record Simple (start : Option Placement) (target : Placement) : Type 0 where
@@ -95,10 +86,8 @@ module _ (next : Placement → Key → Option Placement) (good : Placement → T
     | inl same ↦ subst (λ u. Simple (Some u) target) (finite.one t s (start t refl) here (sym (eqb-true _ _ same))) (record { keys = []; leads = leads; distinct = distinct })
     | inr none ↦ absurd (false≢true none)
   ]
-  from_passed (Some t) target (key ∷ keys) s start here leads distinct has = elim (or_cases (eqb (code s) (code t)) (list_any (eqb (code s)) (map code (visited next (next t key) keys))) has) [
-    | inl same ↦ subst (λ u. Simple (Some u) target) (finite.one t s (start t refl) here (sym (eqb-true _ _ same))) (record { keys = key ∷ keys; leads = leads; distinct = distinct })
-    | inr later ↦ from_passed (next t key) target keys s (good_next t key start) here (tail_leads t target key keys leads) distinct.1 later
-  ]
+  from_passed (Some t) target (key ∷ keys) s start here leads distinct has =
+      search (rules, or_cases, eqb-true, (from_passed (next t key) target keys s))
 
   simple : (start : Option Placement) (target : Placement) (keys : List Key) → Good start → Leads next allowed start target keys → Simple start target
   unfolding codes visited Good IsDistinct
@@ -134,18 +123,11 @@ module _ (next : Placement → Key → Option Placement) (good : Placement → T
 
 -- some key passes the test where one does
 any_key : (test : Key → Bool) (key : Key) → test key ≡ true → list_any test all_keys ≡ true
-any_key test Left passes = list_any_at test all_keys 0 Left (omega arith) passes
-any_key test Right passes = list_any_at test all_keys 1 Left (omega arith) passes
-any_key test Down passes = list_any_at test all_keys 2 Left (omega arith) passes
-any_key test Clockwise passes = list_any_at test all_keys 3 Left (omega arith) passes
-any_key test Anti passes = list_any_at test all_keys 4 Left (omega arith) passes
+any_key test key passes = search (rules, list_any_at)
 
 first_passing : (test : Key → Bool) (keys : List Key) → list_any test keys ≡ true → (key : Key) × (test key ≡ true)
 first_passing test [] any = absurd (false≢true any)
-first_passing test (key ∷ keys) any = elim (or_cases (test key) (list_any test keys) any) [
-  | inl here ↦ (key, here)
-  | inr later ↦ first_passing test keys later
-]
+first_passing test (key ∷ keys) any = search (rules, or_cases, (first_passing test keys))
 
 -- allowed keys that lead from the start to a state that passes the test
 pub record Found (next : Placement → Key → Option Placement) (allowed : Key → Bool) (passes : Placement → Bool) (start : Option Placement) : Type 0 where

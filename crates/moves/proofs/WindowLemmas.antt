@@ -1,5 +1,5 @@
 -- The window loses nothing.
-use Rattle.std.proofs.Common.{T, ◌≡◌, ◌↔◌, ◌⊎◌, ℕ, ◌+◌, ◌-◌, ◌≤◌, Bool, true, false, ℤ, pos, ◌+ℤ◌, ◌-ℤ◌, ◌≤ℤ◌, Option, Some, None, List, [], ◌∷◌, ◌++◌, get_or, refl, sym, ap, subst, ◌∙◌, inl, inr, arith}
+use Rattle.std.proofs.Common.{◌≡◌, ◌↔◌, ◌⊎◌, ℕ, ◌+◌, ◌-◌, ◌≤◌, Bool, true, ℤ, pos, ◌+ℤ◌, ◌≤ℤ◌, Option, Some, None, List, [], ◌∷◌, ◌++◌, get_or, refl, sym, ap, subst, ◌∙◌, inl, inr, arith, rules}
 use Rattle.std.specs.Prelude.{IsTrue, ◌<ℤ◌, int_le, option_and_then, if◌then◌else◌}
 use Rattle.std.specs.List.{list_all}
 use Rattle.std.proofs.lemmas.Int.{ints}
@@ -11,7 +11,7 @@ use Rattle.lane_board.specs.Field.{Field}
 use Rattle.srs.specs.declared.piece.Piece.{Piece}
 use Rattle.srs.specs.declared.rotation.Rotation.{Rotation}
 use Rattle.srs.specs.declared.placement.Placement.{Placement}
-use Rattle.srs.specs.Cells.{Cell, minus, moved, shape, cells_of, pivot_of}
+use Rattle.srs.specs.Cells.{Cell, moved, shape, cells_of, pivot_of}
 use Rattle.srs.specs.Kick.{srs_table}
 use Rattle.srs.proofs.CallerLemmas.{same_cells-piece, origin, is_among-all, each_state, pivot_in_shape, some_same, int_le-true}
 use Rattle.well.specs.Free.{is_free_at, is_free}
@@ -31,7 +31,7 @@ use Rattle.moves.specs.Height.{rise, depth, upright}
 use Rattle.moves.specs.Sky.{IsClearFrom, IsUnderSky}
 use Rattle.moves.specs.RestingStates.{IsResting, IsKeyed}
 use Rattle.moves.specs.Lanes.{lowest, lane}
-use Rattle.moves.specs.Window.{is_low_cell, is_low, low_step, IsStart, IsWindowed, IsWindowPlace}
+use Rattle.moves.specs.Window.{is_low, low_step, IsStart, IsWindowed, IsWindowPlace}
 use Rattle.moves.proofs.TableFacts.{is_level, shape_level}
 use Rattle.moves.proofs.OpenLemmas.{all_so, natural, open_height, IsOpenHeight, free_fits}
 use Rattle.moves.proofs.SkyLemmas.{rise_spawn, sky_is_reached, sky_free}
@@ -47,25 +47,16 @@ all_from : (f t : Cell → Bool) (s : Placement) → ((c : Cell) → f c ≡ tru
 all_from f t s so all = list_all-map t (moved (pivot_of s)) (shape s.piece s.rotation) ∙ all_so f (λ c. t (moved (pivot_of s) c)) (shape s.piece s.rotation) so all
 
 no : (a b : ℤ) → a ≤ℤ b → int_le a b ≡ true
-no a b h = passes (int_le a b) h.le
-  where
-    passes : (b : Bool) → T b → b ≡ true
-    passes true t = refl
-    passes false t = absurd t
+no a b h = search rules
 
 low_from : (s : Placement) → upright s ≤ℤ pos 14 → is_low s ≡ true
 unfolding moved is_level
-low_from s low = all_from (is_level s.piece s.rotation) is_low_cell s
-    (λ c h. let up = int_le-true (c.1 -ℤ rise s.piece s.rotation) (pos 1) (and_parts (int_le (minus 2) (c.1 -ℤ rise s.piece s.rotation)) (int_le (c.1 -ℤ rise s.piece s.rotation) (pos 1)) h).1 in no (pos s.y +ℤ c.1) (pos 15) (omega (arith, ints))) (shape_level s.piece s.rotation)
+low_from s low = search (rules, all_from, int_le-true, and_parts, no, shape_level)
 
 -- and what lies in it is low
 low_upright : (s : Placement) → is_low s ≡ true → upright s ≤ℤ pos 16
 unfolding moved origin
-low_upright s low =
-    let at = is_among-all (λ c. is_low_cell (moved (pivot_of s) c)) (shape s.piece s.rotation) origin (sym (list_all-map is_low_cell (moved (pivot_of s)) (shape s.piece s.rotation)) ∙ low) (pivot_in_shape s.piece s.rotation) in
-    let row = int_le-true (pos s.y +ℤ pos 0) (pos 15) at in
-    let by = rise_near s.piece s.rotation in
-    omega (arith, ints, by.high)
+low_upright s low = search (rules, is_among-all, list_all-map, pivot_in_shape, int_le-true, rise_near)
 
 -- a low step is a step, and leads low
 low_is_step : (F : Field) (s : Placement) (key : Key) (t : Placement) → low_step F s key ≡ Some t → (step_of srs_table F s key ≡ Some t) × (is_low t ≡ true)
@@ -114,10 +105,7 @@ windowed_soft F r s clear few way =
     record {
       keys = to.keys ++ way.keys;
       allowed = λ k d within. soft_allows (get_or (to.keys ++ way.keys) k d);
-      leads_there =
-          leads-append srs_table F s.piece to.keys way.keys
-          ∙ ap (λ (o : Option Placement). led (step_of srs_table F) o way.keys) (ap (λ (p : Piece). state_after srs_table F p to.keys) (sym way.kind) ∙ to.leads_there)
-          ∙ low_leads F way.keys way.from s way.leads_there;
+      leads_there = search (rules, leads-append, low_leads);
     }
 
 -- What is reached with soft drop stands high, or is reached in the window.
@@ -190,10 +178,7 @@ module _ (F : Field) (r : ℕ) (clear : IsClearFrom r F) (few : r ≤ 8) (piece 
           starts = way.starts;
           keys = way.keys ++ key ∷ [];
           allowed = λ k d within. soft_allows (get_or (way.keys ++ key ∷ []) k d);
-          leads_there =
-              fold-append (λ (reached : Option Placement) (key : Key). option_and_then (λ s. low_step F s key) reached) (Some way.from) way.keys (key ∷ [])
-              ∙ ap (λ (o : Option Placement). led (low_step F) o (key ∷ [])) way.leads_there
-              ∙ step_is_low F s key t e low;
+          leads_there = search (rules, fold-append, step_is_low);
         } in
         inr (record { kind = free.kind ∙ here.kind; windowed = more; low = low_upright t low })
     | inr high ↦

@@ -1,5 +1,5 @@
 -- The five tests, one after another.
-use Rattle.std.proofs.Common.{sym, ap, ◌∙◌, arith}
+use Rattle.std.proofs.Common.{sym, ap, ◌∙◌, arith, rules}
 use Rattle.srs.specs.Cells.{moved, pivot_of}
 use Rattle.srs.specs.Kick.{kick_in}
 use Rattle.srs.specs.Rules.{table_of}
@@ -17,16 +17,10 @@ unfolding turned
 loop-test-init c = ap (first_free (filled c.args.well.now) c.args.state.now.piece c.args.to) (all_pivots (λ test. moved (pivot_of c.args.state.now) (kick_in (table_of c.args.rules.now) c.args.state.now.piece c.args.state.now.rotation c.args.to test)))
 
 pub returns-in-Some : goal.returns-in-Some
-returns-in-Some c =
-    test_holds (filled c.args.well.now) c.args.state.now.piece c.args.to (λ test. moved (pivot_of c.args.state.now) (kick_in (table_of c.args.rules.now) c.args.state.now.piece c.args.state.now.rotation c.args.to test)) c.loop-test.test _ c.in-Some.next c.loop-test-test.true
-    (ap (moved (pivot_of c.args.state.now)) c.kick-change.ensures) (sym c.in-Some.is ∙ c.free_at.ensures)
-    ∙ c.loop-test.invariant
+returns-in-Some c = search (rules, test_holds)
 
 pub loop-test-preserved : goal.loop-test-preserved
-loop-test-preserved c =
-    test_fails (filled c.args.well.now) c.args.state.now.piece c.args.to (λ test. moved (pivot_of c.args.state.now) (kick_in (table_of c.args.rules.now) c.args.state.now.piece c.args.state.now.rotation c.args.to test)) c.loop-test.test _ c.loop-test-test.true
-    (ap (moved (pivot_of c.args.state.now)) c.kick-change.ensures) (sym c.in_default.is ∙ c.free_at.ensures)
-    ∙ c.loop-test.invariant
+loop-test-preserved c = search (rules, test_fails)
 
 pub returns : goal.returns
 unfolding first_free
