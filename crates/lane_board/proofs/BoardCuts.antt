@@ -1,5 +1,5 @@
 -- Boards that are filled or copied below a height.
-use Rattle.std.proofs.Common.{◌≡◌, ℕ, ◌+◌, ◌<◌, ◌≤◌, min, true, false, ◌&&◌, nat_lt, List, length, get_or, refl, ap, ◌∙◌, sym, inl, inr, arith}
+use Rattle.std.proofs.Common.{◌≡◌, ℕ, ◌+◌, ◌<◌, ◌≤◌, min, true, nat_lt, List, length, get_or, refl, ap, ◌∙◌, sym, inl, inr, arith, rules}
 use Rattle.std.proofs.Math.Path.{fun_ext}
 use Rattle.std.specs.Simd.Lanes.{chunk, put_chunk}
 use Rattle.std.proofs.lemmas.List.{get_or_past}
@@ -22,14 +22,8 @@ full_row_bits x = elim (cases_lt x 10) [
 pub filled_below : (height end : ℕ) (rows : List ℕ) → end ≡ height → ((y : ℕ) → y < end → get_or rows y 0 ≡ 1023) → ((y : ℕ) → end ≤ y → get_or rows y 0 ≡ 0) →
     cells_of_bits rows ≡ rows_below height
 unfolding cells_of_bits rows_below
-filled_below height end rows end_is filled empty = fun_ext (λ x. fun_ext (λ y. elim (cases_lt y end) [
-  | inl below ↦
-      ap (λ row. has_bit row x) (filled y below)
-      ∙ full_row_bits x
-      ∙ sym (ap (λ b. nat_lt x 10 && b) (lt-ltb y height (omega arith)) ∙ and_true (nat_lt x 10) true refl)
-  | inr above ↦
-      ap (λ row. has_bit row x) (empty y above) ∙ has_bit-zero x ∙ sym (and_right _ _ (le-ltb y height (omega arith)))
-]))
+filled_below height end rows end_is filled empty =
+    search (rules, fun_ext, cases_lt, full_row_bits, lt-ltb, and_true, has_bit-zero, and_right, le-ltb)
 
 -- the rows below `end` are those of another board, and the others are empty
 pub record IsCopiedBelow (xs rows : List ℕ) (size end : ℕ) : Type 0 where
@@ -48,28 +42,8 @@ copied_more size at next xs rows lanes written next_is within lanes_are eight wr
 pub copied_all : (n m end : ℕ) (xs rows : List ℕ) → end ≡ min n m → length xs ≡ n → ((z : ℕ) → get_or xs z 0 < 1024) → IsCopiedBelow xs rows m end →
     cells_of_bits rows ≡ intersection (cells_of_bits xs) (rows_below m)
 unfolding intersection rows_below cells_of_bits
-copied_all n m end xs rows end_is size small all = fun_ext (λ x. fun_ext (λ y. elim (cases_lt y end) [
-  | inl below ↦
-      ap (λ row. has_bit row x) (all.copied y below)
-      ∙ in_columns x y
-      ∙ sym (ap (λ b. has_bit (get_or xs y 0) x && (nat_lt x 10 && b)) (lt-ltb y m (omega arith)))
-  | inr above ↦ ap (λ row. has_bit row x) (all.empty y above) ∙ has_bit-zero x ∙ sym (outside x y above)
-]))
-  where
-    in_columns : (x y : ℕ) → has_bit (get_or xs y 0) x ≡ (has_bit (get_or xs y 0) x && (nat_lt x 10 && true))
-    in_columns x y = elim (cases_lt x 10) [
-      | inl column ↦ sym (ap (λ b. has_bit (get_or xs y 0) x && (b && true)) (lt-ltb x 10 column) ∙ and_true (has_bit (get_or xs y 0) x) true refl)
-      | inr right ↦ has_bit-above (get_or xs y 0) x (small y) right ∙ sym (and_left _ _ (has_bit-above (get_or xs y 0) x (small y) right))
-    ]
-
-    outside : (x y : ℕ) → end ≤ y → (has_bit (get_or xs y 0) x && (nat_lt x 10 && nat_lt y m)) ≡ false
-    outside x y above = elim (cases_lt y n) [
-      | inl within ↦ and_right _ _ (and_right _ _ (le-ltb y m (omega arith)))
-      | inr past ↦ and_left _ _ (ap (λ row. has_bit row x) (get_or_past xs y 0 (omega (arith, size))) ∙ has_bit-zero x)
-    ]
+copied_all n m end xs rows end_is size small all =
+    search (rules, fun_ext, cases_lt, lt-ltb, has_bit-zero, and_true, has_bit-above, and_left, and_right, le-ltb, get_or_past)
 
 pub copied_in_columns : (xs rows : List ℕ) (size end : ℕ) → ((z : ℕ) → get_or xs z 0 < 1024) → IsCopiedBelow xs rows size end → (y : ℕ) → get_or rows y 0 < 1024
-copied_in_columns xs rows size end small all y = elim (cases_lt y end) [
-  | inl below ↦ omega (arith, all.copied y below, small y)
-  | inr above ↦ omega (arith, all.empty y above)
-]
+copied_in_columns xs rows size end small all y = search (rules, cases_lt)

@@ -1,5 +1,5 @@
 -- Lists of rows, and the fields that they stand for.
-use Rattle.std.proofs.Common.{◌≡◌, ℕ, ◌%◌, ◌<◌, ◌≤◌, Bool, true, false, ◌&&◌, ◌||◌, ◌==◌, nat_le, IsTrue, ◌↔◌, List, length, get_or, set, replicate, ap, ap₂, ◌∙◌, sym, inl, inr, arith}
+use Rattle.std.proofs.Common.{◌≡◌, ℕ, ◌%◌, ◌<◌, ◌≤◌, Bool, true, false, ◌&&◌, ◌||◌, ◌==◌, nat_le, IsTrue, ◌↔◌, List, length, get_or, set, replicate, ap, ap₂, ◌∙◌, sym, inl, inr, arith, rules}
 use Rattle.std.proofs.Math.Path.{fun_ext}
 use Rattle.std.proofs.lemmas.Bool.{both_ways, cases_lt, cases_eq, and_parts, and_right, eqb-true, leb-true, eq-eqb, ne_eqb}
 use Rattle.std.proofs.lemmas.List.{get_or_past, ext_get_or, get_or-replicate, length-replicate, get_or-set_same, get_or-set_other, set_past}
@@ -22,10 +22,7 @@ no_cell_above n x y rows size above = ap (λ row. has_bit row x) (get_or_past ro
 
 -- each row of a list is in the ten columns where each that it holds is
 pub each_in_columns : (n : ℕ) (rows : List ℕ) → length rows ≡ n → ((y : ℕ) → y < n → get_or rows y 0 < 1024) → (y : ℕ) → get_or rows y 0 < 1024
-each_in_columns n rows size each y = elim (cases_lt y n) [
-  | inl below ↦ each y below
-  | inr above ↦ omega (arith, get_or_past rows y 0 (omega arith))
-]
+each_in_columns n rows size each y = search (rules, cases_lt, get_or_past)
 
 -- the cells of rows that are made of the rows of two boards
 pub combined_cells : (of_rows : ℕ → ℕ → ℕ) (of_cells : Bool → Bool → Bool) → of_cells false false ≡ false → ((a b k : ℕ) → has_bit (of_rows a b) k ≡ of_cells (has_bit a k) (has_bit b k)) →
@@ -47,10 +44,7 @@ same_cells n xs ys size_xs size_ys = (
 )
 
 pub zero_at : (n y : ℕ) → get_or {A = ℕ} (replicate n 0) y 0 ≡ 0
-zero_at n y = elim (cases_lt y n) [
-  | inl below ↦ get_or-replicate n y 0 0 below
-  | inr above ↦ get_or_past (replicate n 0) y 0 (omega (arith, length-replicate {A = ℕ} n 0))
-]
+zero_at n y = search (rules, cases_lt, get_or-replicate, get_or_past, length-replicate)
 
 pub cells_in-zeros : (n : ℕ) → cells_of_bits (replicate n 0) ≡ empty_field
 unfolding cells_of_bits empty_field
@@ -59,37 +53,14 @@ cells_in-zeros n = fun_ext (λ x. fun_ext (λ y. ap (λ row. has_bit row x) (zer
 -- the cells of a board are in its columns and rows
 pub cell_within : (n : ℕ) (rows : List ℕ) (x y : ℕ) → length rows ≡ n → ((z : ℕ) → get_or rows z 0 < 1024) → cells_of_bits rows x y ≡ true → (x < 10) × (y < n)
 unfolding cells_of_bits
-cell_within n rows x y size small filled = (
-  elim (cases_lt x 10) [
-    | inl in_columns ↦ in_columns
-    | inr right ↦ absurd (both_ways _ (has_bit-above (get_or rows y 0) x (small y) right) filled)
-  ],
-  elim (cases_lt y n) [
-    | inl below ↦ below
-    | inr above ↦ absurd (both_ways _ (no_cell_above n x y rows size above) filled)
-  ],
-)
+cell_within n rows x y size small filled = search (rules, cases_lt, both_ways, has_bit-above, no_cell_above)
 
 -- a board with one more cell
 pub cells_in-with : (rows : List ℕ) (column y row : ℕ) → y < length rows → ((k : ℕ) → has_bit row k ≡ (has_bit (get_or rows y 0) k || k == column)) → cells_of_bits (set rows y row) ≡ with_cell (cells_of_bits rows) column y
 unfolding cells_of_bits with_cell
-cells_in-with rows column y row within added = fun_ext (λ x. fun_ext (λ z. elim (cases_eq z y) [
-  | inl same ↦
-      ap (λ k. has_bit (get_or (set rows y row) k 0) x) same
-      ∙ ap (λ r. has_bit r x) (get_or-set_same rows y row 0 within)
-      ∙ added x
-      ∙ ap (λ k. has_bit (get_or rows k 0) x || x == column) (sym same)
-      ∙ ap (λ b. has_bit (get_or rows z 0) x || b) (sym (and_true (x == column) (z == y) (eq-eqb z y same)))
-  | inr other ↦
-      ap (λ r. has_bit r x) (get_or-set_other rows y z row 0 other)
-      ∙ sym (or_none (has_bit (get_or rows z 0) x) (x == column && z == y) (and_right (x == column) (z == y) (ne_eqb z y other)))
-]))
+cells_in-with rows column y row within added =
+    search (rules, fun_ext, cases_eq, get_or-set_same, and_true, eq-eqb, get_or-set_other, or_none, and_right, ne_eqb)
 
 pub in_columns-set : (rows : List ℕ) (y row : ℕ) → ((z : ℕ) → get_or rows z 0 < 1024) → row < 1024 → (z : ℕ) → get_or (set rows y row) z 0 < 1024
-in_columns-set rows y row before small z = elim (cases_eq z y) [
-  | inl same ↦ elim (cases_lt y (length rows)) [
-    | inl within ↦ omega (arith, ap (λ k. get_or (set rows y row) k 0) same, get_or-set_same rows y row 0 within)
-    | inr past ↦ omega (arith, ap (λ l. get_or l z 0) (set_past rows y row past), before z)
-  ]
-  | inr other ↦ omega (arith, get_or-set_other rows y z row 0 other, before z)
-]
+in_columns-set rows y row before small z =
+    search (rules, cases_eq, cases_lt, get_or-set_same, set_past, get_or-set_other)

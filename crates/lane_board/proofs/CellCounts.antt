@@ -1,5 +1,5 @@
 -- How many cells a field has, and how many are left after full rows are removed.
-use Rattle.std.proofs.Common.{◌≡◌, ℕ, zero, suc, ◌+◌, ◌-◌, ◌*◌, ◌<◌, ◌≤◌, Bool, true, false, cond, count_by, List, [], ◌∷◌, length, refl, ap, ◌∙◌, inl, inr, arith}
+use Rattle.std.proofs.Common.{◌≡◌, ℕ, zero, suc, ◌+◌, ◌-◌, ◌*◌, ◌<◌, ◌≤◌, Bool, true, false, cond, count_by, List, [], ◌∷◌, length, refl, ap, ◌∙◌, inl, inr, arith, rules}
 use Rattle.std.proofs.Math.Path.{fun_ext}
 use Rattle.std.specs.List.{list_all}
 use Rattle.std.proofs.lemmas.Bool.{cases_Bool, and_parts, and_from, false_from_ne_true}
@@ -58,9 +58,7 @@ left_above F n x y above = false_from_ne_true _ (λ left. omega (arith, left_bel
 
 takes_ten_below : (F : Field) (n m : ℕ) → m + full_below F n ≡ n → cell_count (without_full_rows F n) m + 10 * full_below F n ≡ cell_count F n
 unfolding cell_count full_below
-takes_ten_below F zero m at =
-    let none : m ≡ zero = omega arith in
-    omega (arith, ap (cell_count (without_full_rows F zero)) none)
+takes_ten_below F zero m at = search rules
 takes_ten_below F (suc n) m at = elim (cases_Bool (is_full F n)) [
   | inl full ↦
       let one_more = full_below-full F n full in

@@ -1,9 +1,8 @@
 -- How many cells a field has with one more cell, or with an empty row above.
-use Rattle.std.proofs.Common.{◌≡◌, ◌≢◌, ℕ, zero, suc, ◌+◌, ◌<◌, Bool, true, false, ◌&&◌, ◌||◌, ◌==◌, count_by, List, [], ◌∷◌, length, get_or, refl, sym, ap, ◌∙◌, inl, inr, arith}
+use Rattle.std.proofs.Common.{◌≡◌, ◌≢◌, ℕ, zero, suc, ◌+◌, ◌<◌, Bool, true, false, count_by, List, [], ◌∷◌, length, get_or, refl, sym, ap, inl, inr, arith, rules}
 use Rattle.std.proofs.lemmas.Bool.{and_from, and_left, and_right, or_right, cases_eq, eq-eqb, ne_eqb}
 use Rattle.std.proofs.lemmas.List.Sums.{sum_by-cons}
 use Rattle.lane_board.specs.Field.{Field, with_cell}
-use Rattle.lane_board.specs.FullRows.{columns}
 use Rattle.lane_board.specs.CellCount.{row_count, cell_count}
 use Rattle.lane_board.proofs.CellCounts.{count_of, cell_count-same, row_count-same}
 use Rattle.lane_board.proofs.CellTests.{or_none}
@@ -26,10 +25,8 @@ count_one_more p q (x ∷ xs) (suc i) within fails passes same =
 
 row_count-with : (F : Field) (column row : ℕ) → column < 10 → F column row ≡ false → row_count (with_cell F column row) row ≡ row_count F row + 1
 unfolding row_count with_cell
-row_count-with F column row within empty = count_one_more (λ x. F x row) (λ x. F x row || (x == column && row == row)) columns column within
-    (ap (λ x. F x row) (column_is column within) ∙ empty)
-    (ap (λ x. F x row || (x == column && row == row)) (column_is column within) ∙ or_right _ _ (and_from _ _ (eq-eqb column column refl) (eq-eqb row row refl)))
-    (λ k below other. or_none _ _ (and_left _ _ (ne_eqb _ _ (λ e. other (sym (column_is k below) ∙ e)))))
+row_count-with F column row within empty =
+    search (rules, count_one_more, column_is, or_right, and_from, eq-eqb, or_none, and_left, ne_eqb)
 
 row_count-elsewhere : (F : Field) (column row y : ℕ) → y ≢ row → row_count (with_cell F column row) y ≡ row_count F y
 unfolding with_cell
@@ -40,8 +37,6 @@ pub cell_count-with : (F : Field) (column row n : ℕ) → column < 10 → row <
 unfolding cell_count with_cell
 cell_count-with F column row zero within below empty = absurd (omega arith)
 cell_count-with F column row (suc n) within below empty = elim (cases_eq row n) [
-  | inl same ↦
-      let under = cell_count-same (with_cell F column row) F n (λ x y lower. or_none _ _ (and_right _ _ (ne_eqb y row (λ e. omega (arith, e))))) in
-      omega (arith, under, ap (row_count (with_cell F column row)) same, ap (row_count F) same, row_count-with F column row within empty)
+  | inl same ↦ search (rules, cell_count-same, or_none, and_right, ne_eqb, row_count-with)
   | inr other ↦ omega (arith, cell_count-with F column row n within (omega (arith, other)) empty, row_count-elsewhere F column row n (λ e. other (sym e)))
 ]

@@ -1,5 +1,5 @@
 -- Rows taken eight at a time: what a load, an operator and a store do to each row.
-use Rattle.std.proofs.Common.{◌≡◌, ℕ, zero, suc, ◌+◌, ◌-◌, ◌*◌, ◌/◌, ◌%◌, ◌^◌, ◌<◌, ◌≤◌, ◌↔◌, Bool, true, false, not, cond, eqb, map, w16, count_ones, sum_by, replicate, List, [], ◌∷◌, ◌++◌, length, get_or, refl, ap, ap₂, ◌∙◌, sym, inl, inr, arith}
+use Rattle.std.proofs.Common.{◌≡◌, ℕ, zero, suc, ◌+◌, ◌-◌, ◌*◌, ◌/◌, ◌%◌, ◌^◌, ◌<◌, ◌≤◌, ◌↔◌, Bool, false, not, cond, eqb, map, w16, count_ones, sum_by, replicate, List, [], ◌∷◌, ◌++◌, length, get_or, refl, ap, ap₂, ◌∙◌, sym, inl, inr, arith, rules}
 use Rattle.std.specs.Simd.Lanes.{chunk, put_chunk, zip2, mask_l, top, fold_l, pick_l}
 use Rattle.std.specs.List.{range_with_len}
 use Rattle.std.proofs.lemmas.List.{get_or_past, get_or-map, get_or_append_left, get_or-append_right, length-append}
@@ -21,14 +21,7 @@ pub written_more : (of_row : ℕ → ℕ) (at next : ℕ) (rows lanes written : 
     ((k : ℕ) → k < 8 → get_or lanes k 0 ≡ of_row (at + k)) → ((y : ℕ) → y < at → get_or rows y 0 ≡ of_row y) →
     (y : ℕ) → y < next → get_or written y 0 ≡ of_row y
 written_more of_row at next rows lanes written next_is within eight written_is new before y below =
-    ap (λ l. get_or l y 0) written_is ∙ elim (cases_lt y at) [
-      | inl under ↦ get_or-put_chunk_below at rows lanes y 0 under ∙ before y under
-      | inr from ↦
-          ap (λ k. get_or (put_chunk at rows lanes) k 0) (omega arith)
-          ∙ get_or-put_chunk_at at rows lanes (y - at) 0 (omega arith) (omega arith)
-          ∙ new (y - at) (omega arith)
-          ∙ ap of_row (omega arith)
-    ]
+    search (rules, cases_lt, get_or-put_chunk_below, get_or-put_chunk_at)
 
 -- row k of eight rows that are loaded from row `at` on
 pub loaded : (at k : ℕ) (rows lanes : List ℕ) → lanes ≡ chunk at 8 rows → k < 8 → get_or lanes k 0 ≡ get_or rows (at + k) 0
@@ -108,8 +101,7 @@ full_by_mask at full k rows lanes lanes_are eight below =
     ∙ ap (λ row. eqb row full) (get_or-chunk at 8 rows k 0 below)
   where
     bit_of : (b : Bool) → eqb (cond b 1 0) 1 ≡ b
-    bit_of true = refl
-    bit_of false = refl
+    bit_of b = search rules
 
 -- eight lanes are few enough that the sum of their counts does not wrap
 fold_ones : (a : ℕ) (xs : List ℕ) → ((k : ℕ) → get_or xs k 0 < 2 ^ 16) → a + 16 * length xs < 2 ^ 16 →
@@ -130,9 +122,7 @@ loaded_small at k rows lanes small lanes_are eight = elim (cases_lt k 8) [
 
 pub count_lanes : (at : ℕ) (rows lanes : List ℕ) → ((k : ℕ) → get_or rows k 0 < 2 ^ 16) → lanes ≡ chunk at 8 rows → length lanes ≡ 8 →
     fold_l (λ s x. (s + x) % 2 ^ 16) 0 (map (λ (n : ℕ). n) (map count_ones lanes)) ≡ sum_by count_ones (chunk at 8 rows)
-count_lanes at rows lanes small lanes_are eight =
-    fold_ones 0 lanes (λ k. loaded_small at k rows lanes small lanes_are eight) (omega (arith, eight))
-    ∙ omega (arith, ap (sum_by count_ones) lanes_are)
+count_lanes at rows lanes small lanes_are eight = search (rules, fold_ones, loaded_small)
 
 -- eight of sixteen rows
 pub eight_of : (from n : ℕ) (low high result : List ℕ) → length low ≡ 8 → length high ≡ 8 → n ≤ 8 → result ≡ pick_l 0 (low ++ high) (range_with_len n 8) → from ≡ n → (k : ℕ) → k < 8 → get_or result k 0 ≡ get_or (low ++ high) (from + k) 0
@@ -140,9 +130,7 @@ eight_of from n low high result is_low is_high small is e k below =
     loaded n k (low ++ high) result (is ∙ pick_l-range_with_len 0 (low ++ high) n 8 (omega (arith, length-append low high))) below ∙ ap (λ m. get_or (low ++ high) (m + k) 0) (sym e)
 
 pub low_eight : (from : ℕ) (low high result : List ℕ) → length low ≡ 8 → result ≡ low → from ≡ 0 → (k : ℕ) → k < 8 → get_or result k 0 ≡ get_or (low ++ high) (from + k) 0
-low_eight from low high result is_low is e k below =
-    ap (λ l. get_or l k 0) is ∙ sym (get_or_append_left low high 0 k (omega arith)) ∙ ap (λ m. get_or (low ++ high) m 0) {x = k} {y = from + k} (omega arith)
+low_eight from low high result is_low is e k below = search (rules, get_or_append_left)
 
 pub high_eight : (from : ℕ) (low high result : List ℕ) → length low ≡ 8 → result ≡ high → from ≡ 8 → (k : ℕ) → k < 8 → get_or result k 0 ≡ get_or (low ++ high) (from + k) 0
-high_eight from low high result is_low is e k below =
-    ap (λ l. get_or l k 0) is ∙ ap (λ m. get_or high m 0) {x = k} {y = from + k - 8} (omega arith) ∙ sym (get_or-append_right low high 8 (from + k) 0 is_low (omega arith))
+high_eight from low high result is_low is e k below = search (rules, get_or-append_right)

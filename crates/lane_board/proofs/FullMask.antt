@@ -1,5 +1,5 @@
 -- The number whose bits tell which rows are full.
-use Rattle.std.proofs.Common.{◌≡◌, ℕ, zero, suc, ◌+◌, ◌-◌, ◌*◌, ◌/◌, ◌%◌, ◌^◌, ◌<◌, ◌≤◌, cond, ◌||◌, ◌==◌, bit_or, count_ones, List, length, get_or, refl, ap, ◌∙◌, sym, inl, inr, arith}
+use Rattle.std.proofs.Common.{◌≡◌, ℕ, zero, suc, ◌+◌, ◌*◌, ◌/◌, ◌%◌, ◌^◌, ◌<◌, ◌≤◌, cond, ◌||◌, ◌==◌, bit_or, count_ones, List, length, get_or, ap, ◌∙◌, arith, rules}
 use Rattle.std.specs.Int.Count.{ones}
 use Rattle.std.proofs.Math.Path.{fun_ext}
 use Rattle.std.proofs.lemmas.Bool.{cases_lt}
@@ -28,20 +28,11 @@ eight_more full m at rows next next_is so_far told small told_new room = (bound,
     parts y = ap (λ n. has_bit (bit_or full n) y) whole ∙ has_bit-or full (m * 2 ^ at) y
 
     bit : (y : ℕ) → y < next → has_bit (bit_or full (m * 2 ^ at % 2 ^ 32)) y ≡ (get_or rows y 0 == 1023)
-    bit y below = parts y ∙ elim (cases_lt y at) [
-      | inl old ↦ or_none _ _ (has_bit-shifted_low m at y old) ∙ told y old
-      | inr new ↦
-          ap (λ b. b || has_bit (m * 2 ^ at) y) (has_bit-past full at y so_far new)
-          ∙ has_bit-shifted_high m at y new
-          ∙ told_new (y - at) (omega arith)
-          ∙ ap (λ k. get_or rows k 0 == 1023) (omega arith)
-    ]
+    bit y below = search (rules, cases_lt, or_none, has_bit-shifted_low, has_bit-past, has_bit-shifted_high, parts)
 
 pub one_bit : (q : ℕ) → q < 2 → ones q ≡ cond (q % 2 == 1) 1 0
 unfolding ones
-one_bit zero small = refl
-one_bit (suc zero) small = refl
-one_bit (suc (suc q)) small = absurd (omega arith)
+one_bit q small = search rules
 
 -- where each bit of a number tells whether its row is full, it has as many ones as rows are full
 pub ones_full : (F : Field) (n mask : ℕ) → mask < 2 ^ n → ((y : ℕ) → y < n → has_bit mask y ≡ is_full F y) → count_ones mask ≡ full_below F n
@@ -65,13 +56,5 @@ ones_full F (suc n) mask small told =
 pub mask_tells : (rows : List ℕ) (n seen mask : ℕ) → seen ≡ n → length rows ≡ n → ((y : ℕ) → get_or rows y 0 < 1024) → mask < 2 ^ seen →
     ((y : ℕ) → y < seen → has_bit mask y ≡ (get_or rows y 0 == 1023)) →
     (has_bit mask ≡ is_full (cells_of_bits rows)) × (count_ones mask ≡ full_below (cells_of_bits rows) n)
-mask_tells rows n seen mask all size small below told = (fun_ext bit, ones_full (cells_of_bits rows) seen mask below (λ y _. bit y) ∙ ap (full_below (cells_of_bits rows)) all)
-  where
-    bit : (y : ℕ) → has_bit mask y ≡ is_full (cells_of_bits rows) y
-    bit y = elim (cases_lt y seen) [
-      | inl within ↦ told y within ∙ sym (is_full_row rows y (small y))
-      | inr past ↦
-          has_bit-past mask seen y below past
-          ∙ sym (ap (λ row. row == 1023) (get_or_past rows y 0 (omega arith)))
-          ∙ sym (is_full_row rows y (small y))
-    ]
+mask_tells rows n seen mask all size small below told =
+    search (rules, fun_ext, ones_full, cases_lt, is_full_row, has_bit-past, get_or_past)

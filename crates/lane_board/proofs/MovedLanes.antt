@@ -1,5 +1,5 @@
 -- Eight rows moved by columns, as shifts of each lane.
-use Rattle.std.proofs.Common.{◌≡◌, ℕ, zero, suc, ◌+◌, ◌-◌, ◌*◌, ◌/◌, ◌%◌, ◌^◌, ◌<◌, ◌≤◌, ℤ, pos, negsuc, ◌+ℤ◌, ◌-ℤ◌, bit_and, List, ◌++◌, length, get_or, map, replicate, ap, ◌∙◌, sym, inl, inr, arith}
+use Rattle.std.proofs.Common.{◌≡◌, ℕ, ◌+◌, ◌-◌, ◌*◌, ◌/◌, ◌%◌, ◌^◌, ◌<◌, ◌≤◌, ℤ, pos, ◌+ℤ◌, ◌-ℤ◌, bit_and, List, ◌++◌, length, get_or, map, replicate, ap, ◌∙◌, sym, inl, inr, arith, rules}
 use Rattle.std.proofs.Math.Path.{fun_ext}
 use Rattle.std.specs.Simd.Lanes.{chunk, put_chunk, zip2}
 use Rattle.std.proofs.lemmas.Bool.{cases_lt}
@@ -22,10 +22,7 @@ shifted_left lanes right eight =
 
 pub moved_by_left : (dx : ℤ) (left : ℕ) (lanes : List ℕ) → 0 < left → pos left +ℤ dx ≡ pos 0 → map (λ row. row / 2 ^ left) lanes ≡ map (moved_row dx) lanes
 unfolding moved_row
-moved_by_left dx zero lanes some opposite = absurd (omega arith)
-moved_by_left dx (suc k) lanes some opposite =
-    let e : dx ≡ negsuc k = omega (arith, ints) in
-    ap (λ d. map (moved_row d) lanes) (sym e)
+moved_by_left dx left lanes some opposite = search rules
 
 pub moved_by_right : (dx : ℤ) (right : ℕ) (lanes : List ℕ) → dx ≡ pos right → map (λ row. row * 2 ^ right % 1024) lanes ≡ map (moved_row dx) lanes
 unfolding moved_row
@@ -49,13 +46,7 @@ pub record IsFramed (dx : ℤ) (rows framed : List ℕ) (end : ℕ) : Type 0 whe
 
 pub framed_none : (dx : ℤ) (rows : List ℕ) (n : ℕ) → IsFramed dx rows (replicate n 0) 9
 unfolding row_at
-framed_none dx rows n = record {
-  moved = λ z below. (
-      let under : pos z -ℤ pos 9 ≡ negsuc (8 - z) = omega (arith, ints) in
-      zero_at n z ∙ sym (moved_row-zero dx) ∙ sym (ap (λ y. moved_row dx (row_at rows y)) under)
-      );
-  empty = λ z above. zero_at n z;
-}
+framed_none dx rows n = search (rules, zero_at, moved_row-zero)
 
 pub framed_more : (dx : ℤ) (at end next : ℕ) (rows framed lanes moved written : List ℕ) → end ≡ 9 + at → next ≡ end + 8 → end + 8 ≤ length framed →
     lanes ≡ chunk at 8 rows → length lanes ≡ 8 → moved ≡ map (moved_row dx) lanes → written ≡ put_chunk end framed moved →
@@ -73,15 +64,7 @@ framed_more dx at end next rows framed lanes moved written end_is next_is within
 
 pub framed_all : (dx : ℤ) (n end : ℕ) (rows framed : List ℕ) → length rows ≡ n → end ≡ 9 + n → IsFramed dx rows framed end → (z : ℕ) → get_or framed z 0 ≡ framed_row dx rows z
 unfolding row_at
-framed_all dx n end rows framed size end_is all z = elim (cases_lt z end) [
-  | inl below ↦ all.moved z below
-  | inr above ↦
-      let past : pos z -ℤ pos 9 ≡ pos (z - 9) = omega (arith, ints) in
-      all.empty z above
-      ∙ sym (moved_row-zero dx)
-      ∙ ap (moved_row dx) (sym (get_or_past rows (z - 9) 0 (omega (arith, size))))
-      ∙ sym (ap (λ y. moved_row dx (row_at rows y)) past)
-]
+framed_all dx n end rows framed size end_is all z = search (rules, cases_lt, moved_row-zero, get_or_past)
 
 -- eight rows that lie so many rows higher: of these eight and the next
 pub eight_higher : (at up : ℕ) (dy : ℤ) (rows lanes next result : List ℕ) → pos up +ℤ dy ≡ pos 0 → up ≤ 8 → length lanes ≡ 8 → lanes ≡ chunk at 8 rows → ((k : ℕ) → k < 8 → get_or next k 0 ≡ get_or rows (at + 8 + k) 0) →
@@ -100,9 +83,7 @@ pub eight_lower : (at from : ℕ) (dy : ℤ) (rows before lanes result : List �
 unfolding row_at
 eight_lower at from dy rows before lanes result dy_is small eight_before eight lanes_are before_is joined k below =
     joined k below ∙ elim (cases_lt (from + k) 8) [
-      | inl early ↦
-          let there : pos (at + (from + k)) -ℤ pos 8 ≡ pos (at + k) -ℤ dy = omega (arith, ints) in
-          get_or_append_left before lanes 0 (from + k) (omega (arith, eight_before)) ∙ before_is (from + k) early ∙ ap (row_at rows) there
+      | inl early ↦ search (rules, get_or_append_left, eight_before)
       | inr late ↦
           let there : pos (at + (from + k - 8)) ≡ pos (at + k) -ℤ dy = omega (arith, ints) in
           get_or-append_right before lanes 8 (from + k) 0 eight_before late ∙ loaded at (from + k - 8) rows lanes lanes_are (omega arith) ∙ ap (row_at rows) there
@@ -111,9 +92,7 @@ eight_lower at from dy rows before lanes result dy_is small eight_before eight l
 -- the eight rows before row `at`, or none below the board
 pub none_before : (at k : ℕ) (rows : List ℕ) → at ≡ 0 → k < 8 → get_or (replicate 8 0) k 0 ≡ row_at rows (pos (at + k) -ℤ pos 8)
 unfolding row_at
-none_before at k rows first below =
-    let under : pos (at + k) -ℤ pos 8 ≡ negsuc (7 - k) = omega (arith, ints) in
-    zero_at 8 k ∙ sym (ap (row_at rows) under)
+none_before at k rows first below = search (rules, zero_at)
 
 pub eight_before : (at k : ℕ) (rows lanes : List ℕ) → 8 ≤ at → lanes ≡ chunk (at - 8) 8 rows → k < 8 → get_or lanes k 0 ≡ row_at rows (pos (at + k) -ℤ pos 8)
 unfolding row_at
@@ -124,5 +103,4 @@ eight_before at k rows lanes some lanes_are below =
 -- eight rows moved by columns
 pub lane_near : (dx dy : ℤ) (at : ℕ) (rows lanes moved : List ℕ) → ((k : ℕ) → k < 8 → get_or lanes k 0 ≡ row_at rows (pos (at + k) -ℤ dy)) → length lanes ≡ 8 → moved ≡ map (moved_row dx) lanes → (k : ℕ) → k < 8 →
     get_or moved k 0 ≡ moved_row dx (row_at rows (pos (at + k) -ℤ dy))
-lane_near dx dy at rows lanes moved lanes_are eight moved_is k below =
-    ap (λ l. get_or l k 0) moved_is ∙ get_or-map (moved_row dx) lanes k 0 0 (omega (arith, eight)) ∙ ap (moved_row dx) (lanes_are k below)
+lane_near dx dy at rows lanes moved lanes_are eight moved_is k below = search (rules, get_or-map)

@@ -1,5 +1,5 @@
 -- Which cells are left after full rows are removed.
-use Rattle.std.proofs.Common.{◌≡◌, ◌≢◌, ℕ, zero, suc, ◌+◌, ◌-◌, ◌<◌, ◌≤◌, true, false, not, cond, ◌&&◌, ◌==◌, ◌⊎◌, inl, inr, refl, sym, ap, ◌∙◌, subst, arith}
+use Rattle.std.proofs.Common.{◌≡◌, ◌≢◌, ℕ, zero, suc, ◌+◌, ◌-◌, ◌<◌, ◌≤◌, true, false, not, cond, ◌&&◌, ◌⊎◌, inl, inr, refl, sym, ap, ◌∙◌, arith, rules}
 use Rattle.std.proofs.Math.Path.{fun_ext}
 use Rattle.std.proofs.lemmas.Bool.{and_parts, and_from, or_cases, or_left, or_right, not-true, not_from_false, eqb-true, eq-eqb, cases_Bool, cases_eq, cases_order, ne_eqb, false≢true, and_left, and_right}
 use Rattle.lane_board.specs.Field.{Field}
@@ -18,41 +18,23 @@ full_below-other F n other = let e = ap (λ b. full_below F n + cond b 1 0) othe
 pub full_below-le : (F : Field) (n : ℕ) → full_below F n ≤ n
 unfolding full_below
 full_below-le F zero = omega arith
-full_below-le F (suc n) = elim (cases_Bool (is_full F n)) [
-  | inl full ↦ let e = full_below-full F n full in omega (arith, full_below-le F n)
-  | inr other ↦ let e = full_below-other F n other in omega (arith, full_below-le F n)
-]
+full_below-le F (suc n) = search (rules, cases_Bool, full_below-full, full_below-other, (full_below-le F n))
 
 -- the two cases of a cell that is left
 left_cases : (F : Field) (n x y : ℕ) → without_full_rows F (suc n) x y ≡ true → (without_full_rows F n x y ≡ true) ⊎ ((F x n ≡ true) × (is_full F n ≡ false) × (n - full_below F n ≡ y))
 unfolding without_full_rows
-left_cases F n x y h = elim (or_cases (without_full_rows F n x y) ((F x n && not (is_full F n)) && n - full_below F n == y) h) [
-  | inl old ↦ inl old
-  | inr new ↦
-      let parts = and_parts (F x n && not (is_full F n)) (n - full_below F n == y) new in
-      let row = and_parts (F x n) (not (is_full F n)) parts.0 in
-      inr (row.0, not-true (is_full F n) row.1, eqb-true (n - full_below F n) y parts.1)
-]
+left_cases F n x y h = search (rules, or_cases, and_parts, not-true, eqb-true)
 
 pub lowered_from : (F : Field) (n x y : ℕ) → without_full_rows F n x y ≡ true → IsLowered F n x y
 unfolding without_full_rows
 lowered_from F zero x y h = absurd (false≢true h)
-lowered_from F (suc n) x y h = elim (left_cases F n x y h) [
-  | inl old ↦ let was = lowered_from F n x y old in record { row = was.row; below = omega arith; filled = was.filled; stays = was.stays; lowered = was.lowered }
-  | inr new ↦ record { row = n; below = omega arith; filled = new.0; stays = new.1; lowered = omega (arith, full_below-le F n, new.2) }
-]
+lowered_from F (suc n) x y h = search (rules, left_cases, full_below-le, (lowered_from F n x y))
 
 pub lowered_to : (F : Field) (n x y : ℕ) → IsLowered F n x y → without_full_rows F n x y ≡ true
 unfolding without_full_rows
 lowered_to F zero x y was = absurd (omega (arith, was.below))
-lowered_to F (suc n) x y was = elim (cases_eq was.row n) [
-  | inl same ↦
-      let filled : F x n ≡ true = subst (λ row. F x row ≡ true) same was.filled in
-      let stays : is_full F n ≡ false = subst (λ row. is_full F row ≡ false) same was.stays in
-      let lowered : y + full_below F n ≡ n = subst (λ row. y + full_below F row ≡ row) same was.lowered in
-      or_right (without_full_rows F n x y) _ (and_from _ _ (and_from _ _ filled (not_from_false _ stays)) (eq-eqb _ _ (omega arith)))
-  | inr other ↦ or_left _ _ (lowered_to F n x y (record { row = was.row; below = omega (arith, was.below, other); filled = was.filled; stays = was.stays; lowered = was.lowered }))
-]
+lowered_to F (suc n) x y was =
+    search (rules, cases_eq, or_right, and_from, not_from_false, eq-eqb, or_left, (lowered_to F n x y))
 
 pub lowers_each_cell : LowersEachCell
 lowers_each_cell F n x y = (lowered_from F n x y, lowered_to F n x y)
@@ -61,13 +43,8 @@ lowers_each_cell F n x y = (lowered_from F n x y, lowered_to F n x y)
 pub left_below : (F : Field) (n x y : ℕ) → without_full_rows F n x y ≡ true → y + full_below F n < n
 unfolding without_full_rows
 left_below F zero x y h = absurd (false≢true h)
-left_below F (suc n) x y h = elim (left_cases F n x y h) [
-  | inl old ↦ elim (cases_Bool (is_full F n)) [
-    | inl full ↦ let e = full_below-full F n full in omega (arith, left_below F n x y old)
-    | inr other ↦ let e = full_below-other F n other in omega (arith, left_below F n x y old)
-  ]
-  | inr new ↦ let e = full_below-other F n new.1 in omega (arith, new.2, full_below-le F n)
-]
+left_below F (suc n) x y h =
+    search (rules, left_cases, cases_Bool, full_below-full, full_below-other, full_below-le, (left_below F n x y))
 
 -- a row that goes, or one with no cell, adds nothing to what is left
 left_same : (F : Field) (n : ℕ) → ((x : ℕ) → (F x n && not (is_full F n)) ≡ false) → without_full_rows F (suc n) ≡ without_full_rows F n
@@ -96,16 +73,12 @@ full_below-empty F n empty = full_below-other F n (and_left _ _ (empty 0))
 -- a row that stays is the row above those that are left of the rows below it
 pub row_left : (F : Field) (n m x : ℕ) → is_full F n ≡ false → m + full_below F n ≡ n → without_full_rows F (suc n) x m ≡ F x n
 unfolding without_full_rows
-row_left F n m x stays at = same_from_both _ _ (λ left. elim (left_cases F n x m left) [
-  | inl old ↦ absurd (omega (arith, left_below F n x m old, at))
-  | inr new ↦ new.0
-]) (λ filled. lowered_to F (suc n) x m (record { row = n; below = omega arith; filled = filled; stays = stays; lowered = at }))
+row_left F n m x stays at = search (rules, same_from_both, left_cases, left_below, lowered_to)
 
 -- the other rows stay as they are
 pub rows_left : (F : Field) (n x y : ℕ) → y + full_below F n ≢ n → without_full_rows F (suc n) x y ≡ without_full_rows F n x y
 unfolding without_full_rows
-rows_left F n x y other =
-    or_none _ _ (and_right _ _ (ne_eqb (n - full_below F n) y (λ e. other (omega (arith, e, full_below-le F n)))))
+rows_left F n x y other = search (rules, or_none, and_right, ne_eqb, full_below-le)
 
 -- a field with no full row stays
 none_full_below : (F : Field) (n : ℕ) → ((y : ℕ) → is_full F y ≡ false) → full_below F n ≡ 0
@@ -140,13 +113,7 @@ lowered_rises F a b stays below = omega (arith, full_rises F (suc a) b (omega ar
 
 -- so two of them are lowered to one row only where they are the same
 pub one_row : (F : Field) (y a b : ℕ) → is_full F a ≡ false → is_full F b ≡ false → y + full_below F a ≡ a → y + full_below F b ≡ b → a ≡ b
-one_row F y a b stays_a stays_b from_a from_b = elim (cases_order a b) [
-  | inl same ↦ same
-  | inr apart ↦ elim apart [
-    | inl below ↦ absurd (omega (arith, from_a, from_b, lowered_rises F a b stays_a below))
-    | inr above ↦ absurd (omega (arith, from_a, from_b, lowered_rises F b a stays_b above))
-  ]
-]
+one_row F y a b stays_a stays_b from_a from_b = search (rules, cases_order, lowered_rises)
 
 -- no row from a height on is full, so no more go
 pub full_above : (F : Field) (height more : ℕ) → ((y : ℕ) → height ≤ y → is_full F y ≡ false) → full_below F (height + more) ≡ full_below F height

@@ -1,5 +1,5 @@
 -- The bits of a row after an operator.
-use Rattle.std.proofs.Common.{◌≡◌, ℕ, ◌+◌, ◌-◌, ◌*◌, ◌/◌, ◌%◌, ◌^◌, ◌<◌, ◌≤◌, min, max, false, not, ◌&&◌, ◌||◌, ◌==◌, eqb, bit_and, bit_or, bit_xor, ap, ◌∙◌, sym, subst, inl, inr, arith}
+use Rattle.std.proofs.Common.{◌≡◌, ℕ, ◌+◌, ◌-◌, ◌*◌, ◌/◌, ◌%◌, ◌^◌, ◌<◌, ◌≤◌, min, max, false, not, ◌&&◌, ◌||◌, ◌==◌, eqb, bit_and, bit_or, bit_xor, ap, ◌∙◌, sym, subst, arith, rules}
 use Rattle.std.specs.Int.{bit_at}
 use Rattle.std.proofs.lemmas.Bool.{cases_eq, eq-eqb, ne_eqb}
 use Rattle.std.proofs.lemmas.Bool.Decides.{nat_tests}
@@ -35,9 +35,7 @@ has_bit-or a b k = ap (λ n. n == 1) (bit_at_or a b k) ∙ max_of_bits (bit_at a
 
 pub has_bit-and_not : (a b k : ℕ) → has_bit (bit_xor a (bit_and a b)) k ≡ (has_bit a k && not (has_bit b k))
 unfolding has_bit
-has_bit-and_not a b k =
-    ap (λ n. n == 1) (bit_at_xor a (bit_and a b) k ∙ ap (λ n. (bit_at a k + n) % 2) (bit_at_and a b k))
-    ∙ less_of_bits (bit_at a k) (bit_at b k) (bit_at-lt a k) (bit_at-lt b k)
+has_bit-and_not a b k = search (rules, bit_at_xor, bit_at_and, less_of_bits, bit_at-lt)
 
 -- two rows with the same columns are equal
 pub same_from_columns : (a b : ℕ) → ((k : ℕ) → has_bit a k ≡ has_bit b k) → a ≡ b
@@ -49,11 +47,7 @@ same_from_columns a b same = same_from_bits a b (λ k. bits_same (bit_at a k) (b
 
 has_bit-pow : (x k : ℕ) → has_bit (2 ^ x) k ≡ (k == x)
 unfolding has_bit
-has_bit-pow x k = elim (cases_eq k x) [
-  | inl same ↦
-      ap (λ j. bit_at (2 ^ x) j == 1) same ∙ ap (λ b. b == 1) (bit_at-pow_same x) ∙ sym (eq-eqb k x same)
-  | inr other ↦ ap (λ b. b == 1) (bit_at-pow_other x k other) ∙ sym (ne_eqb k x other)
-]
+has_bit-pow x k = search (rules, cases_eq, bit_at-pow_same, eq-eqb, bit_at-pow_other, ne_eqb)
 
 -- a row with one more column
 pub has_bit-with : (row x k : ℕ) → x ≤ 9 → has_bit (bit_or row (1 * 2 ^ x % 2 ^ 16)) k ≡ (has_bit row k || k == x)

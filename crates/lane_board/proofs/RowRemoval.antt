@@ -1,11 +1,11 @@
 -- Rows that are copied downwards past the full ones.
-use Rattle.std.proofs.Common.{◌≡◌, ◌≢◌, ℕ, suc, ◌+◌, ◌<◌, true, false, List, length, get_or, set, replicate, ap, ◌∙◌, sym, subst, inl, inr, arith}
+use Rattle.std.proofs.Common.{◌≡◌, ◌≢◌, ℕ, suc, ◌+◌, ◌<◌, true, false, List, length, get_or, set, replicate, ◌∙◌, sym, subst, arith, rules}
 use Rattle.std.proofs.Math.Path.{fun_ext, subst₃}
 use Rattle.std.proofs.lemmas.Bool.{cases_eq, eq-eqb, ne_eqb}
 use Rattle.std.proofs.lemmas.List.{get_or-set_same, get_or-set_other, length-set, length-replicate}
-use Rattle.lane_board.specs.Field.{Field, empty_field}
+use Rattle.lane_board.specs.Field.{empty_field}
 use Rattle.lane_board.specs.FullRows.{is_full, full_below, without_full_rows}
-use Rattle.lane_board.specs.Lanes.{has_bit, cells_of_bits}
+use Rattle.lane_board.specs.Lanes.{cells_of_bits}
 use Rattle.lane_board.proofs.Removal.{full_below-full, full_below-other, without_full_rows-full, row_left, rows_left}
 use Rattle.lane_board.proofs.BoardRows.{in_columns-set, cells_in-zeros, zero_at}
 use Rattle.lane_board.proofs.RowTables.{is_full_row}
@@ -19,12 +19,7 @@ pub record IsCopied (from rows : List ℕ) (kept y : ℕ) : Type 0 where
 
 pub copied_none : (from : List ℕ) (n : ℕ) → length from ≡ n → IsCopied from (replicate n 0) 0 0
 unfolding full_below without_full_rows empty_field
-copied_none from n size = record {
-  counted = omega arith;
-  cells = cells_in-zeros n;
-  small = λ z. omega (arith, zero_at n z);
-  size = length-replicate {A = ℕ} n 0 ∙ sym size;
-}
+copied_none from n size = search (rules, cells_in-zeros, zero_at, length-replicate)
 
 -- a full row is passed over
 pub copied_full : (from rows left : List ℕ) (kept more y next : ℕ) → next ≡ y + 1 → left ≡ rows → more ≡ kept → get_or from y 0 < 1024 → get_or from y 0 ≡ 1023 →
@@ -56,14 +51,4 @@ copied_row from rows written kept more y next next_is written_is more_is within 
     stays = is_full_row from y small ∙ ne_eqb _ _ other
 
     cell : (x z : ℕ) → cells_of_bits (set rows kept (get_or from y 0)) x z ≡ without_full_rows (cells_of_bits from) (suc y) x z
-    cell x z = elim (cases_eq z kept) [
-      | inl same ↦
-          ap (λ k. has_bit (get_or (set rows kept (get_or from y 0)) k 0) x) same
-          ∙ ap (λ row. has_bit row x) (get_or-set_same rows kept (get_or from y 0) 0 (omega (arith, so_far.counted, so_far.size)))
-          ∙ sym (row_left (cells_of_bits from) y kept x stays so_far.counted)
-          ∙ ap (without_full_rows (cells_of_bits from) (suc y) x) (sym same)
-      | inr elsewhere ↦
-          ap (λ row. has_bit row x) (get_or-set_other rows kept z (get_or from y 0) 0 elsewhere)
-          ∙ ap (λ (F : Field). F x z) so_far.cells
-          ∙ sym (rows_left (cells_of_bits from) y x z (λ e. elsewhere (omega (arith, e, so_far.counted))))
-    ]
+    cell x z = search (rules, cases_eq, get_or-set_same, row_left, get_or-set_other, rows_left, stays)

@@ -1,5 +1,5 @@
 -- Eight rows more are counted, and a board has few rows.
-use Rattle.std.proofs.Common.{◌+◌, ◌*◌, ◌≤◌, length, ap, ◌∙◌, arith}
+use Rattle.std.proofs.Common.{◌+◌, ◌*◌, ◌≤◌, length, ap, arith, rules}
 use Rattle.lane_board.specs.Board.{field_of}
 use Rattle.lane_board.specs.CellCount.{cell_count}
 use Rattle.lane_board.specs.Lanes.{cells_of_bits}
@@ -31,7 +31,4 @@ loop-eight-preserved g c =
 
 pub returns : goal.returns
 unfolding field_of
-returns g c =
-    let b = c.args.self.now in
-    let eights = in_eights g.row.N b.lane_count in
-    c.loop-eight.invariant ∙ ap (cell_count (cells_of_bits b.rows)) (omega arith)
+returns g c = search (rules, in_eights)

@@ -1,5 +1,5 @@
 -- What lies at or above a row is what the board has beyond the rows below it.
-use Rattle.std.proofs.Common.{◌≡◌, ◌↔◌, ℕ, ◌<◌, ◌≤◌, true, false, sym, ap, ◌∙◌, inl, inr, arith}
+use Rattle.std.proofs.Common.{◌≡◌, ◌↔◌, ℕ, ◌<◌, ◌≤◌, true, false, sym, ap, ◌∙◌, inl, inr, rules}
 use Rattle.std.proofs.Math.Path.{fun_ext}
 use Rattle.std.proofs.lemmas.Bool.{and_from, and_left, and_right, both_ways, cases_Bool, cases_lt, false_from_ne_true, le-ltb, lt-ltb, not_from_false, not_from_true}
 use Rattle.lane_board.specs.Board.{field_of}
@@ -14,10 +14,7 @@ clear_by F rest row columns is_rest = (
   λ none x y high. false_from_ne_true _ (λ filled.
       both_ways _ (ap (λ (G : Field). G x y) (sym is_rest ∙ none)) (and_from _ _ filled (not_from_false _ (and_right _ _ (le-ltb y row high))))),
   λ clear. is_rest ∙ fun_ext (λ x. fun_ext (λ y. elim (cases_Bool (F x y)) [
-    | inl filled ↦ elim (cases_lt y row) [
-      | inl low ↦ and_right _ _ (not_from_true _ (and_from _ _ (lt-ltb x 10 (columns x y filled)) (lt-ltb y row low)))
-      | inr high ↦ and_left _ _ (clear x y high)
-    ]
+    | inl filled ↦ search (rules, cases_lt, and_right, not_from_true, and_from, lt-ltb, and_left)
     | inr none ↦ and_left _ _ none
   ])),
 )

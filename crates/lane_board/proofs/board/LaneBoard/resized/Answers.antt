@@ -1,5 +1,5 @@
 -- One more eight, and all that both boards have.
-use Rattle.std.proofs.Common.{ℕ, ◌+◌, ◌*◌, ◌≤◌, length, arith}
+use Rattle.std.proofs.Common.{ℕ, ◌+◌, ◌*◌, ◌≤◌, length, arith, rules}
 use Rattle.std.proofs.lemmas.List.{length-replicate}
 use Rattle.lane_board.specs.Board.{field_of}
 use Rattle.lane_board.proofs.BoardCuts.{copied_more, copied_all, copied_in_columns}
@@ -16,13 +16,8 @@ loop-eight-preserved g c =
     copied_more g.row.M at _ c.args.self.now.rows c.loop-eight.rows _ _ (omega arith) within c.load.ensures.lanes c.load.ensures.eight c.store.ensures c.loop-eight.invariant
 
 pub invariant_of-result-clause-in_columns : goal.invariant_of-result-clause-in_columns
-invariant_of-result-clause-in_columns g c =
-    copied_in_columns _ _ _ _ c.args.self.now.in_columns c.loop-eight.invariant
+invariant_of-result-clause-in_columns g c = search (rules, copied_in_columns)
 
 pub returns : goal.returns
 unfolding field_of
-returns g c =
-    let b = c.args.self.now in
-    let eights = in_eights g.row.N b.lane_count in
-    let new_eights = in_eights g.row.M c.requires in
-    copied_all g.row.N g.row.M (8 * c.loop-eight.eight) b.rows c.loop-eight.rows (omega (arith, c.min-eight-end.ensures)) b.size b.in_columns c.loop-eight.invariant
+returns g c = search (rules, in_eights, copied_all)

@@ -1,8 +1,6 @@
 -- One row more, and all that may have cells.
-use Rattle.std.proofs.Common.{refl, ap, ◌∙◌, arith}
+use Rattle.std.proofs.Common.{refl, ◌∙◌, arith, rules}
 use Rattle.lane_board.specs.Board.{field_of}
-use Rattle.lane_board.specs.FullRows.{without_full_rows}
-use Rattle.lane_board.specs.Lanes.{cells_of_bits}
 use Rattle.lane_board.proofs.Removal.{without_full_rows-above}
 use Rattle.lane_board.proofs.RowRemoval.{copied_none, copied_full, copied_row}
 use Rattle.lane_board.proofs.board.LaneBoard.without_full_rows.Goals as goal
@@ -27,7 +25,4 @@ invariant_of-result-clause-size g c = c.loop-y.invariant.size ∙ c.args.self.no
 
 pub returns : goal.returns
 unfolding field_of
-returns g c =
-    c.loop-y.invariant.cells
-    ∙ ap (without_full_rows (cells_of_bits c.args.self.now.rows)) (omega arith)
-    ∙ without_full_rows-above (cells_of_bits c.args.self.now.rows) c.used_rows-used.result g.row.N c.used_rows-used.ensures.within c.used_rows-used.ensures.above
+returns g c = search (rules, without_full_rows-above)
