@@ -1,5 +1,5 @@
 -- The lowest row of a kind is the first that a search finds.
-use Rattle.std.proofs.Common.{◌≡◌, ℕ, zero, suc, ◌+◌, ◌<◌, ◌≤◌, ◌^◌, nat_le, Bool, true, false, not, ◌&&◌, eqb, get_or, Some, None, w16, w32, refl, sym, ap, subst, ◌∙◌, inl, inr, arith}
+use Rattle.std.proofs.Common.{◌≡◌, ℕ, zero, suc, ◌+◌, ◌<◌, ◌≤◌, ◌^◌, nat_le, Bool, true, false, not, ◌&&◌, eqb, get_or, Some, None, w16, w32, refl, sym, ap, ◌∙◌, inl, inr, arith, rules}
 use Rattle.std.specs.List.{find, range_with_len}
 use Rattle.std.specs.Int.{trailing_zeros}
 use Rattle.std.proofs.lemmas.Bool.{cases_eq, cond-true, cond-false, and_left, and_right, and_from, eq-eqb, ne_eqb, leb-true, le-leb, cases_Bool}
@@ -13,10 +13,8 @@ use Rattle.well.specs.Counts.{is_filled_row, lowest_full, lowest_filled_from}
 
 first_in_range : (p : ℕ → Bool) (n from at : ℕ) → from ≤ at → at < from + n → p at ≡ true → ((k : ℕ) → from ≤ k → k < at → p k ≡ false) → find p (range_with_len from n) ≡ Some at
 first_in_range p zero from at low high here before = absurd (omega arith)
-first_in_range p (suc n) from at low high here before = elim (cases_eq from at) [
-  | inl same ↦ cond-true (p from) (Some from) _ (subst (λ k. p k ≡ true) (sym same) here) ∙ ap Some same
-  | inr other ↦ cond-false (p from) (Some from) _ (before from (omega arith) (omega (arith, other))) ∙ first_in_range p n (from + 1) at (omega (arith, other)) (omega arith) here (λ k above below. before k (omega arith) below)
-]
+first_in_range p (suc n) from at low high here before =
+    search (rules, cases_eq, cond-true, cond-false, (first_in_range p n (from + 1) at))
 
 none_in_range : (p : ℕ → Bool) (n from : ℕ) → ((k : ℕ) → from ≤ k → k < from + n → p k ≡ false) → find p (range_with_len from n) ≡ None
 none_in_range p zero from none = refl
@@ -52,17 +50,8 @@ unfolding lowest_filled_from
 lowest_filled_some F height y above within here before = sym (first_in_range (λ y. nat_le height y && is_filled_row F y) 23 0 y (omega arith) within (and_from _ _ (le-leb height y above) here) lower)
   where
     lower : (k : ℕ) → 0 ≤ k → k < y → (nat_le height k && is_filled_row F k) ≡ false
-    lower k low below = elim (cases_Bool (nat_le height k)) [
-      | inl from ↦ and_right _ _ (before k (leb-true height k from) below)
-      | inr under ↦ and_left _ _ under
-    ]
+    lower k low below = search (rules, cases_Bool, and_right, leb-true, and_left)
 
 pub lowest_filled_none : (F : Field) (height : ℕ) → ((k : ℕ) → height ≤ k → k < 23 → is_filled_row F k ≡ false) → None ≡ lowest_filled_from F height
 unfolding lowest_filled_from
-lowest_filled_none F height none = sym (none_in_range (λ y. nat_le height y && is_filled_row F y) 23 0 lower)
-  where
-    lower : (k : ℕ) → 0 ≤ k → k < 0 + 23 → (nat_le height k && is_filled_row F k) ≡ false
-    lower k low below = elim (cases_Bool (nat_le height k)) [
-      | inl from ↦ and_right _ _ (none k (leb-true height k from) (omega arith))
-      | inr under ↦ and_left _ _ under
-    ]
+lowest_filled_none F height none = search (rules, none_in_range, cases_Bool, and_right, leb-true, and_left)

@@ -1,5 +1,5 @@
 -- The first fault of a text that is no rows text is the one that its reading meets.
-use Rattle.std.proofs.Common.{◌≡◌, ◌≢◌, ℕ, ◌+◌, ◌<◌, ◌≤◌, true, false, ◌==◌, Some, List, [], ◌∷◌, ◌++◌, length, length-append, append-nil, append_assoc, refl, sym, ap, subst, ◌∙◌, ◌⊎◌, inl, inr, arith, All, true≢false}
+use Rattle.std.proofs.Common.{◌≡◌, ◌≢◌, ℕ, ◌+◌, ◌<◌, ◌≤◌, true, false, ◌==◌, Some, List, [], ◌∷◌, ◌++◌, length, length-append, append-nil, append_assoc, refl, sym, ap, subst, ◌∙◌, ◌⊎◌, inl, inr, arith, All, true≢false, rules}
 use Rattle.std.proofs.lemmas.Bool.{cases_Bool, eqb-true, eqb-false, ne_eqb, eq-eqb}
 use Rattle.std.proofs.lemmas.Grind.{flat_map-append}
 use Rattle.std.proofs.lemmas.List.Elements.{All-nil, All-cons, All-append, All-head, All-tail}
@@ -82,9 +82,7 @@ past_last text rows begun bytes row n place byte s slash ten last = record {
 
 bad_length : (text : List ℕ) (rows : List (List ℕ)) (begun bytes : List ℕ) (row n place : ℕ) (fault : RowsFault) → Stands text rows begun bytes row n place
     → IsBadLength begun bytes → Some (BadRowLength row) ≡ Some fault → IsRowsFault text fault
-bad_length text rows begun bytes row n place fault s wrong is =
-    subst (IsRowsFault text) (same_Some (BadRowLength row) fault is)
-    (record { rows = rows; begun = begun; rest = bytes; some = s.some; begins = s.begins; wrong = wrong; number = s.number })
+bad_length text rows begun bytes row n place fault s wrong is = search (rules, same_Some)
 
 below_ten : (begun : List ℕ) (n : ℕ) → n ≡ length begun → length begun ≤ 10 → (n == 10) ≡ false → length begun < 10
 below_ten begun n size short other = omega (arith, size, short, eqb-false n 10 other)
@@ -97,9 +95,7 @@ IsMet bytes = (text : List ℕ) (rows : List (List ℕ)) (begun : List ℕ) (row
 at_end : (text : List ℕ) (rows : List (List ℕ)) (begun : List ℕ) (row n place : ℕ) (fault : RowsFault) → Stands text rows begun [] row n place
     → fault_from row n place [] ≡ Some fault → ((n == 10) ≡ true) ⊎ ((n == 10) ≡ false) → IsRowsFault text fault
 unfolding fault_from
-at_end text rows begun row n place fault s is (inl ten) = absurd (none-some fault (rw ten at is))
-at_end text rows begun row n place fault s is (inr other) =
-    bad_length text rows begun [] row n place fault s (below_ten begun n s.size s.begins.short other) (rw other at is)
+at_end text rows begun row n place fault s is h9 = search (rules, none-some, bad_length, below_ten)
 
 at_slash : (text : List ℕ) (rows : List (List ℕ)) (begun bytes : List ℕ) (row n place byte : ℕ) (fault : RowsFault) → IsMet bytes → Stands text rows begun (byte ∷ bytes) row n place
     → fault_from row n place (byte ∷ bytes) ≡ Some fault → is_slash byte ≡ true → ((n == 10) ≡ true) ⊎ ((n == 10) ≡ false) → ((row == 23) ≡ true) ⊎ ((row == 23) ≡ false) → IsRowsFault text fault
@@ -112,14 +108,12 @@ at_slash text rows begun bytes row n place byte fault later s is slash (inl ten)
     (after_slash text rows begun bytes row n place byte s (eqb-true byte 47 slash) (eqb-true n 10 ten) few)
     (sym (slash_goes_on row n place byte bytes slash ten more) ∙ is)
 at_slash text rows begun bytes row n place byte fault later s is slash (inr other) last =
-    bad_length text rows begun (byte ∷ bytes) row n place fault s (inr (below_ten begun n s.size s.begins.short other, eqb-true byte 47 slash))
-    (sym (slash_short row n place byte bytes slash other) ∙ is)
+    search (rules, bad_length, below_ten, eqb-true, slash_short)
 
 at_other : (text : List ℕ) (rows : List (List ℕ)) (begun bytes : List ℕ) (row n place byte : ℕ) (fault : RowsFault) → IsMet bytes → Stands text rows begun (byte ∷ bytes) row n place
     → fault_from row n place (byte ∷ bytes) ≡ Some fault → is_slash byte ≡ false → (is_row_char byte ≡ true) ⊎ (is_row_char byte ≡ false) → ((n == 10) ≡ true) ⊎ ((n == 10) ≡ false) → IsRowsFault text fault
 at_other text rows begun bytes row n place byte fault later s is other (inl character) (inl ten) =
-    bad_length text rows begun (byte ∷ bytes) row n place fault s (inl (sym s.size ∙ eqb-true n 10 ten, character))
-    (sym (character_past row n place byte bytes other character ten) ∙ is)
+    search (rules, bad_length, eqb-true, character_past)
 at_other text rows begun bytes row n place byte fault later s is other (inl character) (inr few) =
     later text rows (begun ++ byte ∷ []) row (n + 1) (place + 1) fault (after_character text rows begun bytes row n place byte s character (eqb-false n 10 few))
     (sym (character_goes_on row n place byte bytes other character few) ∙ is)
@@ -140,16 +134,7 @@ fault_explained [] fault is = absurd (none-some fault is)
 fault_explained (byte ∷ bytes) fault is = met (byte ∷ bytes) (byte ∷ bytes) [] [] 1 0 0 fault start is
   where
     start : Stands (byte ∷ bytes) [] [] (byte ∷ bytes) 1 0 0
-    start = record {
-      some = no_bytes;
-      begins = record { divided = refl; each = All-nil IsRow; few = omega arith; characters = All-nil IsRowChar; short = omega arith };
-      number = refl;
-      size = refl;
-      at = refl;
-    }
-      where
-        no_bytes : byte ∷ bytes ≡ [] → ⊥
-        no_bytes none = cc
+    start = search (rules, All-nil)
 
 -- ---- the text's fault is met
 
@@ -174,8 +159,7 @@ characters-pass (byte ∷ begun) row n place rest characters few =
 
 -- a row passes up to the slash behind it
 row-passes : (row : List ℕ) (number place : ℕ) (rest : List ℕ) → IsRow row → fault_from number 0 place (row ++ 47 ∷ rest) ≡ fault_from number 10 (place + length row) (47 ∷ rest)
-row-passes row number place rest is =
-    characters-pass row number 0 place (47 ∷ rest) is.characters (omega (arith, is.ten)) ∙ ap (λ m. fault_from number m (place + length row) (47 ∷ rest)) (omega (arith, is.ten))
+row-passes row number place rest is = search (rules, characters-pass)
 
 slashed-first : (row : List ℕ) (rows : List (List ℕ)) (rest : List ℕ) → slashed (row ∷ rows) ++ rest ≡ row ++ 47 ∷ (slashed rows ++ rest)
 slashed-first row rows rest = simp append_assoc
@@ -207,8 +191,7 @@ rows-many (row ∷ next ∷ rows) number place rest each some last =
 
 rows_fault-some : (text : List ℕ) → text ≢ [] → rows_fault text ≡ fault_from 1 0 0 text
 unfolding rows_fault
-rows_fault-some [] some = absurd (some refl)
-rows_fault-some (byte ∷ bytes) some = refl
+rows_fault-some text some = search rules
 
 -- what a text begins with passes
 begun-passes : (text : List ℕ) (rows : List (List ℕ)) (begun rest : List ℕ) → text ≢ [] → Begins text rows begun rest
@@ -227,11 +210,7 @@ some_byte front rest text byte is none = absurd (omega (arith, ap length (sym no
 bad_length-met : (text rest begun : List ℕ) (rows : List (List ℕ)) → IsBadLength begun rest
     → fault_from (length rows + 1) (length begun) (length (slashed rows ++ begun)) rest ≡ Some (BadRowLength (length rows + 1))
 unfolding fault_from
-bad_length-met text [] begun rows wrong = rw (ne_eqb (length begun) 10 (λ ten. omega (arith, ten, wrong))) refl
-bad_length-met text (byte ∷ rest) begun rows (inl past) =
-    character_past (length rows + 1) (length begun) (length (slashed rows ++ begun)) byte rest (no_slash byte past.1) past.1 (eq-eqb (length begun) 10 past.0)
-bad_length-met text (byte ∷ rest) begun rows (inr short) =
-    slash_short (length rows + 1) (length begun) (length (slashed rows ++ begun)) byte rest (eq-eqb byte 47 short.1) (ne_eqb (length begun) 10 (λ ten. omega (arith, ten, short.0)))
+bad_length-met text rest begun rows wrong = search (rules, ne_eqb, character_past, no_slash, eq-eqb, slash_short)
 
 pub explained_fault : (text : List ℕ) (fault : RowsFault) → IsRowsFault text fault → rows_fault text ≡ Some fault
 explained_fault text (BadRowChar place) f =
@@ -240,8 +219,7 @@ explained_fault text (BadRowChar place) f =
     ∙ ap (λ p. Some (BadRowChar p)) (sym f.stands)
 explained_fault text (BadRowLength row) f =
     begun-passes text f.rows f.begun f.rest f.some f.begins ∙ bad_length-met text f.rest f.begun f.rows f.wrong ∙ ap (λ r. Some (BadRowLength r)) (sym f.number)
-explained_fault text TooManyRows f =
-    rows_fault-some text some ∙ ap (fault_from 1 0 0) f.divided ∙ rows-many f.rows 1 0 f.rest f.each (omega (arith, f.many)) (omega (arith, f.many))
+explained_fault text TooManyRows f = search (rules, rows_fault-some, rows-many, some)
   where
     some : text ≢ []
     some none = absurd (nonempty f.rows f.many (sym none ∙ f.divided))

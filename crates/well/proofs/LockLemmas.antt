@@ -1,6 +1,5 @@
 -- The cells of a placement one by one, how many cells locking leaves, and below which row they lie.
-use Rattle.std.proofs.Common.{◌≡◌, ℕ, zero, suc, ◌+◌, ◌-◌, ◌≤◌, Bool, true, false, not, ◌&&◌, ◌||◌, ◌==◌, pos, negsuc, nat_le, ◌+ℤ◌, nat_abs, List, [], ◌∷◌, length, get_or, map, refl, sym, ap, ◌∙◌, arith}
-use Rattle.std.specs.Prelude.{int_lt}
+use Rattle.std.proofs.Common.{◌≡◌, ℕ, zero, suc, ◌+◌, ◌-◌, ◌≤◌, Bool, true, false, not, ◌&&◌, ◌||◌, pos, negsuc, ◌+ℤ◌, List, [], ◌∷◌, length, get_or, map, refl, sym, ap, ◌∙◌, arith, rules}
 use Rattle.std.proofs.Math.Path.{fun_ext}
 use Rattle.std.specs.List.{list_all}
 use Rattle.std.specs.Cmp.{both_ways}
@@ -14,7 +13,7 @@ use Rattle.lane_board.proofs.CallerLemmas.{takes_ten_each, or_none, cell_count-w
 use Rattle.srs.specs.declared.piece.Piece.{Piece}
 use Rattle.srs.specs.declared.rotation.Rotation.{Rotation}
 use Rattle.srs.specs.declared.placement.Placement.{Placement}
-use Rattle.srs.specs.Cells.{Cell, moved, shape, cells_of, in_well, pivot_of}
+use Rattle.srs.specs.Cells.{Cell, moved, shape, cells_of, pivot_of}
 use Rattle.srs.specs.SameCells.{cell_eq, is_among}
 use Rattle.srs.proofs.CallerLemmas.{cell_eq-decides, is_among-all, each_state, cells_length}
 use Rattle.well.specs.Free.{is_open, is_free_at, is_free}
@@ -24,24 +23,7 @@ use Rattle.well.specs.LockLaws.{AddsFourCells, LiesBelow, is_below, StaysBelow, 
 -- a cell of the well is added as a column and a row are
 pub placed : (F : Field) (column row : ℕ) → with_place F (pos column, pos row) ≡ with_cell F column row
 unfolding with_place with_cell
-placed F column row = fun_ext (λ x. fun_ext (λ y. ap (λ b. F x y || b) (same x y)))
-  where
-    there : (x y : ℕ) → cell_eq (pos column, pos row) (pos x, pos y) ≡ true → (x == column && y == row) ≡ true
-    there x y e =
-        let at : ◌≡◌ {A = Cell} (pos column, pos row) (pos x, pos y) = (cell_eq-decides _ _).0 e in
-        let c : column ≡ x = ap (λ (c : Cell). nat_abs c.0) at in
-        let r : row ≡ y = ap (λ (c : Cell). nat_abs c.1) at in
-        and_from _ _ (eq-eqb x column (sym c)) (eq-eqb y row (sym r))
-
-    back : (x y : ℕ) → (x == column && y == row) ≡ true → cell_eq (pos column, pos row) (pos x, pos y) ≡ true
-    back x y e =
-        let parts = and_parts (x == column) (y == row) e in
-        let c = eqb-true x column parts.0 in
-        let r = eqb-true y row parts.1 in
-        (cell_eq-decides (pos column, pos row) (pos x, pos y)).1 (λ i. (pos (sym c i), pos (sym r i)))
-
-    same : (x y : ℕ) → cell_eq (pos column, pos row) (pos x, pos y) ≡ (x == column && y == row)
-    same x y = both_ways _ _ (there x y) (back x y)
+placed F column row = search (rules, fun_ext, cell_eq-decides, and_from, eq-eqb, and_parts, eqb-true, both_ways)
 
 -- the field and the cells of a list
 unfoldable added : Field → List Cell → Field
@@ -92,14 +74,12 @@ moved_apart move c d apart = not_from_false _ (false_from_ne_true _ (λ e. both 
         λ i. (x i, y i)
 
     both : (b : Bool) → not b ≡ true → b ≡ true → ⊥
-    both true n y = cc
-    both false n y = cc
+    both b n y = search rules
 
 moved_from_each : (move cell : Cell) (cells : List Cell) → list_all (λ other. not (cell_eq cell other)) cells ≡ true → list_all (λ other. not (cell_eq (moved move cell) other)) (map (moved move) cells) ≡ true
 moved_from_each move cell [] apart = refl
 moved_from_each move cell (c ∷ cs) apart =
-    let parts = and_parts _ _ apart in
-    and_from _ _ (moved_apart move cell c parts.0) (moved_from_each move cell cs parts.1)
+    search (rules, and_parts, and_from, moved_apart, (moved_from_each move cell cs))
 
 moved_distinct : (move : Cell) (cells : List Cell) → are_distinct cells ≡ true → are_distinct (map (moved move) cells) ≡ true
 unfolding are_distinct
@@ -111,27 +91,18 @@ moved_distinct move (c ∷ cs) distinct =
 -- an open cell that is added leaves the others open
 still_open : (F : Field) (cell other : Cell) → not (cell_eq cell other) ≡ true → is_open F other ≡ true → is_open (with_place F cell) other ≡ true
 unfolding is_open with_place
-still_open F cell (pos x, pos y) apart opened =
-    let parts = and_parts (in_well (pos x, pos y)) (not (F x y)) opened in
-    and_from _ _ parts.0 (not_from_false _ (or_from _ _ (not-true _ parts.1) (not-true _ apart)))
-still_open F cell (pos x, negsuc y) apart opened = absurd (false≢true opened)
-still_open F cell (negsuc x, pos y) apart opened = absurd (false≢true opened)
-still_open F cell (negsuc x, negsuc y) apart opened = absurd (false≢true opened)
+still_open F cell other apart opened =
+    search (rules, and_parts, and_from, not_from_false, or_from, not-true, false≢true)
 
 all_still_open : (F : Field) (cell : Cell) (cells : List Cell) → list_all (λ other. not (cell_eq cell other)) cells ≡ true → list_all (is_open F) cells ≡ true → list_all (is_open (with_place F cell)) cells ≡ true
 all_still_open F cell [] apart opened = refl
 all_still_open F cell (c ∷ cs) apart opened =
-    let aparts = and_parts _ _ apart in
-    let parts = and_parts (is_open F c) _ opened in
-    and_from _ _ (still_open F cell c aparts.0 parts.0) (all_still_open F cell cs aparts.1 parts.1)
+    search (rules, and_parts, and_from, still_open, (all_still_open F cell cs))
 
 -- an open cell is one more
 place_count : (F : Field) (cell : Cell) → is_open F cell ≡ true → cell_count (with_place F cell) 23 ≡ cell_count F 23 + 1
 unfolding is_open
-place_count F (pos x, pos y) opened =
-    let parts = and_parts (in_well (pos x, pos y)) (not (F x y)) opened in
-    let within = and_parts (nat_le x 9) (nat_le y 22) parts.0 in
-    ap (λ G. cell_count G 23) (placed F x y) ∙ cell_count-with F x y 23 (omega (arith, leb-true x 9 within.0)) (omega (arith, leb-true y 22 within.1)) (not-true _ parts.1)
+place_count F (pos x, pos y) opened = search (rules, and_parts, placed, cell_count-with, leb-true, not-true)
 place_count F (pos x, negsuc y) opened = absurd (false≢true opened)
 place_count F (negsuc x, pos y) opened = absurd (false≢true opened)
 place_count F (negsuc x, negsuc y) opened = absurd (false≢true opened)
@@ -140,9 +111,7 @@ added_count : (F : Field) (cells : List Cell) → list_all (is_open F) cells ≡
 unfolding are_distinct
 added_count F [] opened distinct = omega (arith, ap (λ G. cell_count G 23) (added-nil F))
 added_count F (c ∷ cs) opened distinct =
-    let aparts = and_parts (list_all (λ other. not (cell_eq c other)) cs) (are_distinct cs) distinct in
-    let parts = and_parts (is_open F c) (list_all (is_open F) cs) opened in
-    omega (arith, ap (λ G. cell_count G 23) (added-cons F c cs), place_count F c parts.0, added_count (with_place F c) cs (all_still_open F c cs aparts.0 parts.1) aparts.1)
+    search (rules, and_parts, added-cons, place_count, all_still_open, (added_count (with_place F c) cs))
 
 together_count : (F : Field) (q : Placement) → is_free F q ≡ true → cell_count (together F q) 23 ≡ cell_count F 23 + 4
 unfolding together added is_free_at
@@ -162,8 +131,7 @@ removal_above G height (suc k) none =
 
 -- a cell of the placement is not in row `height` or above
 below_cell : (q : Placement) (height x y : ℕ) → is_below height q ≡ true → height ≤ y → is_among (cells_of q) (pos x, pos y) ≡ false
-below_cell q height x y below above =
-    false_from_ne_true _ (λ has. omega (arith, ints, ltb-true y height (is_among-all (λ cell. int_lt cell.1 (pos height)) (cells_of q) (pos x, pos y) below has)))
+below_cell q height x y below above = search (rules, false_from_ne_true, ltb-true, is_among-all)
 
 -- no cell stands above the height once the placement is there
 pub together_below : (F : Field) (q : Placement) (height : ℕ) → LiesBelow F height → is_below height q ≡ true → (x y : ℕ) → height ≤ y → together F q x y ≡ false

@@ -1,5 +1,5 @@
 -- Rows of ten bits in one number.
-use Rattle.std.proofs.Common.{◌≡◌, ℕ, zero, suc, ◌+◌, ◌-◌, ◌*◌, ◌/◌, ◌%◌, ◌^◌, ◌<◌, ◌≤◌, true, false, ◌&&◌, ◌==◌, nat_lt, sym, ap, subst, ◌∙◌, ◌⊎◌, inl, inr, arith}
+use Rattle.std.proofs.Common.{◌≡◌, ℕ, zero, suc, ◌+◌, ◌-◌, ◌*◌, ◌/◌, ◌%◌, ◌^◌, ◌<◌, ◌≤◌, true, false, ◌&&◌, ◌==◌, nat_lt, sym, ap, subst, ◌∙◌, inl, inr, arith, rules}
 use Rattle.std.proofs.Math.Path.{fun_ext}
 use Rattle.std.specs.Int.{bit_at}
 use Rattle.std.proofs.lemmas.Bool.{cases_lt, and_left, and_right, false_from_ne_true, lt-ltb, ltb-true}
@@ -27,10 +27,7 @@ pub record IsPacked (F : Field) (rows y cells : ℕ) : Type 0 where
   pub small : cells < 1024 ^ (rows - y)
 
 pub packed_none : (F : Field) (rows : ℕ) → IsPacked F rows rows 0
-packed_none F rows = record {
-  bits = λ x j column. has_bit-zero (10 * j + x) ∙ sym (and_right (F x (rows + j)) _ (false_from_ne_true _ (λ below. omega (arith, ltb-true (rows + j) rows below))));
-  small = let none : rows - rows ≡ 0 = omega arith in subst (λ n. 0 < 1024 ^ n) (sym none) (omega arith);
-}
+packed_none F rows = search (rules, has_bit-zero, and_right, false_from_ne_true, ltb-true)
 
 low_bit : (m r k : ℕ) → k < 10 → has_bit (m * 1024 + r) k ≡ has_bit r k
 unfolding has_bit
@@ -48,11 +45,7 @@ module _ (F : Field) (rows y t cells row next : ℕ) (step : y ≡ t + 1) (withi
   packed_more = record { bits = bits; small = small }
     where
       bits : (x j : ℕ) → x < 10 → has_bit next (10 * j + x) ≡ (F x (t + j) && nat_lt (t + j) rows)
-      bits x zero column =
-          let place : 10 * 0 + x ≡ x = omega arith in
-          let row_is : t + 0 ≡ t = omega arith in
-          ap (λ n. has_bit n (10 * 0 + x)) is ∙ ap (has_bit (cells * 1024 + row)) place ∙ low_bit cells row x column ∙ ap (λ f. f x) here
-          ∙ sym (and-true (F x t)) ∙ ap (λ b. F x t && b) (sym (lt-ltb t rows (omega arith))) ∙ ap (λ k. F x k && nat_lt k rows) (sym row_is)
+      bits x zero column = search (rules, low_bit, and-true, lt-ltb)
       bits x (suc j) column =
           let place : 10 * suc j + x ≡ 10 * j + x + 10 = omega arith in
           let row_is : y + j ≡ t + suc j = omega arith in
@@ -71,16 +64,8 @@ packed_fits F rows y cells low some packed =
 
 pub packed_all : (F : Field) (rows cells : ℕ) → ((x y : ℕ) → F x y ≡ true → x < 10) → IsPacked F rows 0 cells → cells_in_bits cells ≡ intersection F (rows_below rows)
 unfolding cells_in_bits intersection rows_below
-packed_all F rows cells columns packed = fun_ext (λ x. fun_ext (λ y. at x y (cases_lt x 10)))
-  where
-    at : (x y : ℕ) → (x < 10) ⊎ (10 ≤ x) → (nat_lt x 10 && has_bit cells (10 * y + x)) ≡ (F x y && (nat_lt x 10 && nat_lt y rows))
-    at x y (inl column) =
-        let row_is : 0 + y ≡ y = omega arith in
-        let inside = lt-ltb x 10 column in
-        ap (λ b. b && has_bit cells (10 * y + x)) inside ∙ packed.bits x y column ∙ ap (λ k. F x k && nat_lt k rows) row_is ∙ ap (λ b. F x y && (b && nat_lt y rows)) (sym inside)
-    at x y (inr outside) =
-        let beyond : nat_lt x 10 ≡ false = false_from_ne_true _ (λ inside. omega (arith, ltb-true x 10 inside)) in
-        and_left _ _ beyond ∙ sym (and_left (F x y) _ (false_from_ne_true _ (λ filled. omega (arith, columns x y filled))))
+packed_all F rows cells columns packed =
+    search (rules, fun_ext, cases_lt, lt-ltb, false_from_ne_true, ltb-true, and_left)
 
 -- numbers with the same cells are the same
 pub same_from_cells : (a b : ℕ) → cells_in_bits a ≡ cells_in_bits b → a ≡ b

@@ -1,8 +1,7 @@
 -- What is read of a rows text, byte by byte.
-use Rattle.std.proofs.Common.{◌≡◌, ℕ, zero, suc, ◌+◌, ◌<◌, ◌≤◌, true, false, cond, ◌&&◌, ◌||◌, ◌==◌, Some, None, List, [], ◌∷◌, ◌++◌, length, get_or, take, drop, reverse, refl, sym, ap, subst, ◌∙◌, ◌⊎◌, inl, inr, arith}
+use Rattle.std.proofs.Common.{◌≡◌, ℕ, zero, suc, ◌+◌, ◌<◌, ◌≤◌, true, false, cond, ◌&&◌, ◌||◌, ◌==◌, Some, None, List, [], ◌∷◌, ◌++◌, length, get_or, take, drop, reverse, refl, sym, ap, subst, ◌∙◌, inl, inr, arith, rules}
 use Rattle.std.proofs.Math.Path.{fun_ext}
 use Rattle.std.specs.List.{slice_split, onto_first}
-use Rattle.std.specs.Option.{option_or}
 use Rattle.std.proofs.lemmas.Bool.{cases_Bool, cases_order, cond-true, cond-false, and_left, and_right, ne_eqb, eq-eqb}
 use Rattle.std.proofs.lemmas.List.{reverse-append, length-reverse, get_or_append_left, get_or_push, get_or_past, length_push, take_more, drop_more, take_all, drop_all}
 use Rattle.std.proofs.lemmas.List.Splits.{length-slice_split, slice_split-cons_yes, slice_split-cons_no}
@@ -30,43 +29,30 @@ push_first c [] = (c ∷ []) ∷ []
 push_first c (row ∷ rows) = (row ++ c ∷ []) ∷ rows
 
 onto_first-append : (x : ℕ) (rows more : List (List ℕ)) → 0 < length rows → onto_first x (rows ++ more) ≡ onto_first x rows ++ more
-onto_first-append x [] more some = absurd (omega arith)
-onto_first-append x (row ∷ rows) more some = refl
+onto_first-append x rows more some = search rules
 
 push_last-cons : (c : ℕ) (row : List ℕ) (rows : List (List ℕ)) → 0 < length rows → push_last c (row ∷ rows) ≡ row ∷ push_last c rows
 unfolding push_last
-push_last-cons c row [] some = absurd (omega arith)
-push_last-cons c row (next ∷ rows) some = refl
+push_last-cons c row rows some = search rules
 
 push_last-onto : (x c : ℕ) (rows : List (List ℕ)) → 0 < length rows → onto_first x (push_last c rows) ≡ push_last c (onto_first x rows)
 unfolding push_last
-push_last-onto x c [] some = absurd (omega arith)
-push_last-onto x c (row ∷ []) some = refl
-push_last-onto x c (row ∷ next ∷ rows) some = refl
+push_last-onto x c rows some = search rules
 
 push_first-append : (c : ℕ) (rows more : List (List ℕ)) → 0 < length rows → push_first c rows ++ more ≡ push_first c (rows ++ more)
 unfolding push_first
-push_first-append c [] more some = absurd (omega arith)
-push_first-append c (row ∷ rows) more some = refl
+push_first-append c rows more some = search rules
 
 split_slash : (text : List ℕ) (c : ℕ) → is_slash c ≡ true → slice_split is_slash (text ++ c ∷ []) ≡ slice_split is_slash text ++ [] ∷ []
 split_slash [] c slash = slice_split-cons_yes is_slash c [] slash
-split_slash (x ∷ xs) c slash = elim (cases_Bool (is_slash x)) [
-  | inl ends ↦ slice_split-cons_yes is_slash x (xs ++ c ∷ []) ends ∙ ap (λ rows. [] ∷ rows) (split_slash xs c slash) ∙ sym (ap (λ rows. rows ++ [] ∷ []) (slice_split-cons_yes is_slash x xs ends))
-  | inr stays ↦
-      slice_split-cons_no is_slash x (xs ++ c ∷ []) stays ∙ ap (onto_first x) (split_slash xs c slash) ∙ onto_first-append x (slice_split is_slash xs) ([] ∷ []) (has_row xs)
-      ∙ sym (ap (λ rows. rows ++ [] ∷ []) (slice_split-cons_no is_slash x xs stays))
-]
+split_slash (x ∷ xs) c slash =
+    search (rules, cases_Bool, slice_split-cons_yes, slice_split-cons_no, onto_first-append, has_row, (split_slash xs c slash))
 
 split_character : (text : List ℕ) (c : ℕ) → is_slash c ≡ false → slice_split is_slash (text ++ c ∷ []) ≡ push_last c (slice_split is_slash text)
 unfolding push_last
 split_character [] c other = slice_split-cons_no is_slash c [] other
-split_character (x ∷ xs) c other = elim (cases_Bool (is_slash x)) [
-  | inl ends ↦ slice_split-cons_yes is_slash x (xs ++ c ∷ []) ends ∙ ap (λ rows. [] ∷ rows) (split_character xs c other) ∙ sym (push_last-cons c [] (slice_split is_slash xs) (has_row xs)) ∙ sym (ap (push_last c) (slice_split-cons_yes is_slash x xs ends))
-  | inr stays ↦
-      slice_split-cons_no is_slash x (xs ++ c ∷ []) stays ∙ ap (onto_first x) (split_character xs c other) ∙ push_last-onto x c (slice_split is_slash xs) (has_row xs)
-      ∙ sym (ap (push_last c) (slice_split-cons_no is_slash x xs stays))
-]
+split_character (x ∷ xs) c other =
+    search (rules, cases_Bool, slice_split-cons_yes, push_last-cons, has_row, slice_split-cons_no, push_last-onto, (split_character xs c other))
 
 reverse_cons : (row : List ℕ) (rows : List (List ℕ)) → reverse (row ∷ rows) ≡ reverse rows ++ row ∷ []
 reverse_cons row rows = reverse-append (row ∷ []) rows
@@ -99,23 +85,13 @@ cells_of_rows rows x y = is_filled_char (get_or (get_or rows y []) x 0)
 -- a row with one more character
 one_more : (row : List ℕ) (c x n : ℕ) → n ≡ length row → is_filled_char (get_or (row ++ c ∷ []) x 0) ≡ (is_filled_char (get_or row x 0) || (x == n && is_filled_char c))
 one_more row c x n size = elim (cases_order x n) [
-  | inl same ↦
-      ap is_filled_char (get_or_push row c 0 x (omega arith))
-      ∙ sym (λ i. is_filled_char (get_or_past row x 0 (omega arith) i) || (eq-eqb x n same i && is_filled_char c))
-  | inr apart ↦ sym (or_none _ _ (and_left _ _ (ne_eqb x n (λ e. elim apart [ inl less ↦ omega arith | inr more ↦ omega arith ])))
-      ∙ elim apart [
-        | inl less ↦ ap is_filled_char (sym (get_or_append_left row (c ∷ []) 0 x (omega arith)))
-        | inr more ↦ ap is_filled_char (get_or_past row x 0 (omega arith) ∙ sym (get_or_past (row ++ c ∷ []) x 0 (omega (arith, length_push row c))))
-      ])
+  | inl same ↦ search (rules, get_or_push, get_or_past, eq-eqb)
+  | inr apart ↦ search (rules, or_none, and_left, ne_eqb, get_or_append_left, get_or_past, length_push)
 ]
 
 cells_slash : (rows : List (List ℕ)) → cells_of_rows ([] ∷ rows) ≡ raised (cells_of_rows rows)
 unfolding cells_of_rows raised
-cells_slash rows = fun_ext (λ x. fun_ext (at x))
-  where
-    at : (x y : ℕ) → cells_of_rows ([] ∷ rows) x y ≡ raised (cells_of_rows rows) x y
-    at x zero = refl
-    at x (suc y) = refl
+cells_slash rows = search (rules, fun_ext)
 
 cells_filled : (rows : List (List ℕ)) (c n : ℕ) → 0 < length rows → length (get_or rows 0 []) ≡ n → is_filled_char c ≡ true → cells_of_rows (push_first c rows) ≡ with_cell (cells_of_rows rows) n 0
 unfolding cells_of_rows push_first with_cell
@@ -123,8 +99,7 @@ cells_filled [] c n some size filled = absurd (omega arith)
 cells_filled (row ∷ rows) c n some size filled = fun_ext (λ x. fun_ext (at x))
   where
     at : (x y : ℕ) → cells_of_rows (push_first c (row ∷ rows)) x y ≡ with_cell (cells_of_rows (row ∷ rows)) n 0 x y
-    at x zero = one_more row c x n (sym size) ∙ ap (λ b. is_filled_char (get_or row x 0) || (x == n && b)) filled
-    at x (suc y) = sym (or_none _ _ (and_right _ _ (ne_eqb (suc y) 0 (λ e. omega arith))))
+    at x y = search (rules, one_more, or_none, and_right, ne_eqb)
 
 cells_empty : (rows : List (List ℕ)) (c n : ℕ) → 0 < length rows → length (get_or rows 0 []) ≡ n → is_filled_char c ≡ false → cells_of_rows (push_first c rows) ≡ cells_of_rows rows
 unfolding cells_of_rows push_first
@@ -142,33 +117,16 @@ pub record HasRead (text : List ℕ) (characters : ℕ) (F : Field) : Type 0 whe
 
 has_read_nothing : cells_of_rows (rows_of []) ≡ empty_field
 unfolding cells_of_rows rows_of empty_field
-has_read_nothing = fun_ext (λ x. fun_ext (at x))
-  where
-    at : (x y : ℕ) → cells_of_rows (rows_of []) x y ≡ false
-    at x zero = refl
-    at x (suc y) = refl
+has_read_nothing = search (rules, fun_ext)
 
 pushed_length : (rows : List (List ℕ)) (c n : ℕ) → 0 < length rows → length (get_or rows 0 []) ≡ n → length (get_or (push_first c rows) 0 []) ≡ n + 1
 unfolding push_first
-pushed_length [] c n some size = absurd (omega arith)
-pushed_length (row ∷ rows) c n some size = omega (arith, length_push row c)
+pushed_length rows c n some size = search (rules, length_push)
 
 has_read_more : (text : List ℕ) (n byte m : ℕ) (F G : Field) → HasRead text n F → m ≡ cond (is_slash byte) 0 (n + 1) →
     G ≡ cond (is_slash byte) (raised F) (cond (is_filled_char byte) (with_cell F n 0) F) → HasRead (text ++ byte ∷ []) m G
-has_read_more text n byte m F G read characters cells = elim (cases_Bool (is_slash byte)) [
-  | inl slash ↦ record {
-    cells = cells ∙ cond-true _ (raised F) _ slash ∙ ap raised read.cells ∙ sym (ap cells_of_rows (rows_slash text byte slash) ∙ cells_slash (rows_of text));
-    characters_are = ap (λ rows. length (get_or rows 0 [])) (rows_slash text byte slash) ∙ sym (characters ∙ cond-true _ 0 (n + 1) slash);
-  }
-  | inr other ↦ record {
-    cells = cells ∙ cond-false _ (raised F) _ other ∙ by_character (cases_Bool (is_filled_char byte)) ∙ sym (ap cells_of_rows (rows_character text byte other));
-    characters_are = ap (λ rows. length (get_or rows 0 [])) (rows_character text byte other) ∙ pushed_length (rows_of text) byte n (some_rows text) read.characters_are ∙ sym (characters ∙ cond-false _ 0 (n + 1) other);
-  }
-]
-  where
-    by_character : ((is_filled_char byte ≡ true) ⊎ (is_filled_char byte ≡ false)) → cond (is_filled_char byte) (with_cell F n 0) F ≡ cells_of_rows (push_first byte (rows_of text))
-    by_character (inl filled) = cond-true _ (with_cell F n 0) F filled ∙ ap (λ H. with_cell H n 0) read.cells ∙ sym (cells_filled (rows_of text) byte n (some_rows text) read.characters_are filled)
-    by_character (inr empty) = cond-false _ (with_cell F n 0) F empty ∙ read.cells ∙ sym (cells_empty (rows_of text) byte n (some_rows text) read.characters_are empty)
+has_read_more text n byte m F G read characters cells =
+    search (rules, cases_Bool, cond-true, rows_slash, cells_slash, cond-false, rows_character, pushed_length, some_rows, cells_filled, cells_empty)
 
 -- what is due after the first i bytes is the first fault of the text
 pub record Progress (text : List ℕ) (i row characters : ℕ) (F : Field) : Type 0 where
@@ -177,35 +135,23 @@ pub record Progress (text : List ℕ) (i row characters : ℕ) (F : Field) : Typ
 
 pub starts : (text : List ℕ) (row n : ℕ) (F : Field) → 0 < length text → F ≡ empty_field → row ≡ 1 → n ≡ 0 → Progress text 0 row n F
 unfolding rows_fault rows_of
-starts [] row n F some cells first none = absurd (omega arith)
-starts (x ∷ xs) row n F some cells first none = record {
-  read = record { cells = cells ∙ sym has_read_nothing; characters_are = sym none };
-  due = λ i. fault_from (first i) (none i) 0 (x ∷ xs);
-}
+starts text row n F some cells first none = search (rules, has_read_nothing)
 
 due_more : (row n place byte row' n' : ℕ) (rest : List ℕ) → fault_at_byte row n place byte ≡ None → row' ≡ cond (is_slash byte) (row + 1) row → n' ≡ cond (is_slash byte) 0 (n + 1) →
     fault_from row n place (byte ∷ rest) ≡ fault_from row' n' (place + 1) rest
 unfolding fault_from
-due_more row n place byte row' n' rest none next characters =
-    ap (λ o. option_or o (cond (is_slash byte) (fault_from (row + 1) 0 (place + 1) rest) (fault_from row (n + 1) (place + 1) rest))) none
-    ∙ elim (cases_Bool (is_slash byte)) [
-      | inl slash ↦ cond-true _ (fault_from (row + 1) 0 (place + 1) rest) _ slash ∙ sym (λ i. fault_from ((next ∙ cond-true _ (row + 1) row slash) i) ((characters ∙ cond-true _ 0 (n + 1) slash) i) (place + 1) rest)
-      | inr other ↦ cond-false _ (fault_from (row + 1) 0 (place + 1) rest) _ other ∙ sym (λ i. fault_from ((next ∙ cond-false _ (row + 1) row other) i) ((characters ∙ cond-false _ 0 (n + 1) other) i) (place + 1) rest)
-    ]
+due_more row n place byte row' n' rest none next characters = search (rules, cases_Bool, cond-true, cond-false)
 
 pub goes_on : (text : List ℕ) (i row n byte row' n' : ℕ) (F G : Field) → i < length text → byte ≡ get_or text i 0 → Progress text i row n F → fault_at_byte row n i byte ≡ None →
     row' ≡ cond (is_slash byte) (row + 1) row → n' ≡ cond (is_slash byte) 0 (n + 1) → G ≡ cond (is_slash byte) (raised F) (cond (is_filled_char byte) (with_cell F n 0) F) → Progress text (i + 1) row' n' G
 goes_on text i row n byte row' n' F G within at progress none next characters cells = record {
   read = subst (λ front. HasRead front n' G) (ap (λ b. take i text ++ b ∷ []) at ∙ sym (take_more text i 0 within)) (has_read_more (take i text) n byte n' F G progress.read characters cells);
-  due = sym (due_more row n i byte row' n' (drop (i + 1) text) none next characters)
-      ∙ ap (λ b. fault_from row n i (b ∷ drop (i + 1) text)) at ∙ sym (ap (fault_from row n i) (drop_more text i 0 within)) ∙ progress.due;
+  due = search (rules, due_more, drop_more);
 }
 
 pub faults : (text : List ℕ) (i row n byte : ℕ) (F : Field) (fault : RowsFault) → i < length text → byte ≡ get_or text i 0 → Progress text i row n F → fault_at_byte row n i byte ≡ Some fault → rows_fault text ≡ Some fault
 unfolding fault_from
-faults text i row n byte F fault within at progress due =
-    sym progress.due ∙ ap (fault_from row n i) (drop_more text i 0 within ∙ ap (λ b. b ∷ drop (i + 1) text) (sym at))
-    ∙ ap (λ o. option_or o (cond (is_slash byte) (fault_from (row + 1) 0 (i + 1) (drop (i + 1) text)) (fault_from row (n + 1) (i + 1) (drop (i + 1) text)))) due
+faults text i row n byte F fault within at progress due = search (rules, drop_more)
 
 pub due_at_end : (text : List ℕ) (i row n : ℕ) (F : Field) → length text ≤ i → Progress text i row n F → rows_fault text ≡ fault_at_end row n
 unfolding fault_from
@@ -223,11 +169,9 @@ nothing_written (x ∷ xs) none = absurd (omega arith)
 
 pub nothing_at_fault : (text : List ℕ) → length text ≡ 0 → rows_fault text ≡ None
 unfolding rows_fault
-nothing_at_fault [] none = refl
-nothing_at_fault (x ∷ xs) none = absurd (omega arith)
+nothing_at_fault text none = search rules
 
 -- what lies below a row lies, raised, below the next
 pub raised-above : (F : Field) (row x y : ℕ) → ((x y : ℕ) → row ≤ y → F x y ≡ false) → row + 1 ≤ y → raised F x y ≡ false
 unfolding raised
-raised-above F row x zero low above = refl
-raised-above F row x (suc y) low above = low x y (omega arith)
+raised-above F row x y low above = search rules

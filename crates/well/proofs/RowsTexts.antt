@@ -1,5 +1,5 @@
 -- A rows text has no fault exactly where it is of the form.
-use Rattle.std.proofs.Common.{◌≡◌, ℕ, ◌+◌, ◌<◌, ◌≤◌, true, false, ◌==◌, if◌then◌else◌, Some, None, List, [], ◌∷◌, length, refl, sym, subst, ◌∙◌, ◌⊎◌, inl, inr, arith, All}
+use Rattle.std.proofs.Common.{◌≡◌, ℕ, ◌+◌, ◌<◌, ◌≤◌, true, false, ◌==◌, Some, None, List, [], ◌∷◌, length, refl, subst, ◌∙◌, ◌⊎◌, inl, inr, arith, All, rules}
 use Rattle.std.specs.List.{slice_split, onto_first}
 use Rattle.std.proofs.lemmas.Bool.{cases_Bool, eqb-true, eqb-false, ne_eqb, eq-eqb}
 use Rattle.std.proofs.lemmas.List.Elements.{All-nil, All-cons, All-head, All-tail}
@@ -49,13 +49,7 @@ character_bad row n place byte bytes other bad = rw (other, bad) refl
 
 -- the parts before and after a byte was read
 after_slash : (row n : ℕ) (parts : List (List ℕ)) → n ≡ 10 → Fits (row + 1) 0 parts → Fits row n ([] ∷ parts)
-after_slash row n [] ten fits = absurd fits
-after_slash row n (part ∷ parts) ten fits = (
-  omega (arith, ten),
-  All-nil IsRowChar,
-  omega (arith, fits.2),
-  All-cons IsRow part parts (record { ten = omega (arith, fits.0); characters = fits.1 }) fits.3,
-)
+after_slash row n parts ten fits = search (rules, All-nil, All-cons)
 
 before_slash : (row n : ℕ) (parts : List (List ℕ)) → 0 < length parts → Fits row n ([] ∷ parts) → Fits (row + 1) 0 parts
 before_slash row n [] some fits = absurd (omega (arith, some))
@@ -65,9 +59,7 @@ before_slash row n (part ∷ parts) some fits =
 
 after_character : (row n byte : ℕ) (parts : List (List ℕ)) → IsRowChar byte → Fits row (n + 1) parts
     → Fits row n (onto_first byte parts)
-after_character row n byte [] character fits = absurd fits
-after_character row n byte (part ∷ parts) character fits =
-    (omega (arith, fits.0), All-cons IsRowChar byte part character fits.1, fits.2, fits.3)
+after_character row n byte parts character fits = search (rules, All-cons)
 
 record FitsBefore (row n byte : ℕ) (parts : List (List ℕ)) : Type 0 where
   character : IsRowChar byte
@@ -91,43 +83,25 @@ AreFitting bytes = (row n place : ℕ) → row ≤ 23 → fault_from row n place
 at_slash : (row n place byte : ℕ) (bytes : List ℕ) → AreFitting bytes → row ≤ 23 → fault_from row n place (byte ∷ bytes) ≡ None
     → is_slash byte ≡ true → ((n == 10) ≡ true) ⊎ ((n == 10) ≡ false) → ((row == 23) ≡ true) ⊎ ((row == 23) ≡ false)
     → Fits row n ([] ∷ slice_split is_slash bytes)
-at_slash row n place byte bytes later low none slash (inl ten) (inl last) =
-    let bad : Some TooManyRows ≡ None = sym (slash_last row n place byte bytes slash ten last) ∙ none in cc
-at_slash row n place byte bytes later low none slash (inl ten) (inr more) =
-    after_slash row n (slice_split is_slash bytes) (eqb-true n 10 ten)
-    (later (row + 1) 0 (place + 1) (omega (arith, low, eqb-false row 23 more))
-    (sym (slash_goes_on row n place byte bytes slash ten more) ∙ none))
-at_slash row n place byte bytes later low none slash (inr short) last =
-    let bad : Some (BadRowLength row) ≡ None = sym (slash_short row n place byte bytes slash short) ∙ none in cc
+at_slash row n place byte bytes later low none slash h9 last =
+    search (rules, slash_last, after_slash, eqb-true, eqb-false, slash_goes_on, slash_short)
 
 at_character : (row n place byte : ℕ) (bytes : List ℕ) → AreFitting bytes → row ≤ 23
     → fault_from row n place (byte ∷ bytes) ≡ None → is_slash byte ≡ false
     → (is_row_char byte ≡ true) ⊎ (is_row_char byte ≡ false) → ((n == 10) ≡ true) ⊎ ((n == 10) ≡ false)
     → Fits row n (onto_first byte (slice_split is_slash bytes))
-at_character row n place byte bytes later low none other (inl character) (inl ten) =
-    let bad : Some (BadRowLength row) ≡ None = sym (character_past row n place byte bytes other character ten) ∙ none in cc
-at_character row n place byte bytes later low none other (inl character) (inr short) =
-    after_character row n byte (slice_split is_slash bytes) character
-    (later row (n + 1) (place + 1) low (sym (character_goes_on row n place byte bytes other character short) ∙ none))
-at_character row n place byte bytes later low none other (inr wrong) size =
-    let bad : Some (BadRowChar place) ≡ None = sym (character_bad row n place byte bytes other wrong) ∙ none in cc
+at_character row n place byte bytes later low none other h9 size =
+    search (rules, character_past, after_character, character_goes_on, character_bad)
 
 at_end : (row n place : ℕ) → row ≤ 23 → fault_from row n place [] ≡ None → ((n == 10) ≡ true) ⊎ ((n == 10) ≡ false)
     → Fits row n ([] ∷ [])
 unfolding fault_from
-at_end row n place low none (inl ten) = (omega (arith, eqb-true n 10 ten), All-nil IsRowChar, omega (arith, low), All-nil IsRow)
-at_end row n place low none (inr short) =
-    let bad : Some (BadRowLength row) ≡ None = subst (λ b. (if b then None else Some (BadRowLength row)) ≡ None) short none in cc
+at_end row n place low none h5 = search (rules, eqb-true, All-nil)
 
 fits-from_none : (bytes : List ℕ) → AreFitting bytes
 fits-from_none [] row n place low none = at_end row n place low none (cases_Bool (n == 10))
-fits-from_none (byte ∷ bytes) row n place low none = elim (cases_Bool (is_slash byte)) [
-  | inl slash ↦ subst (Fits row n) (sym (slice_split-cons_yes is_slash byte bytes slash))
-      (at_slash row n place byte bytes (fits-from_none bytes) low none slash (cases_Bool (n == 10)) (cases_Bool (row == 23)))
-  | inr other ↦ subst (Fits row n) (sym (slice_split-cons_no is_slash byte bytes other))
-      (at_character row n place byte bytes (fits-from_none bytes) low none other (cases_Bool (is_row_char byte))
-      (cases_Bool (n == 10)))
-]
+fits-from_none (byte ∷ bytes) row n place low none =
+    search (rules, cases_Bool, slice_split-cons_yes, at_slash, slice_split-cons_no, at_character, (fits-from_none bytes))
 
 none-from_fits : (bytes : List ℕ) (row n place : ℕ) → Fits row n (slice_split is_slash bytes) → fault_from row n place bytes ≡ None
 unfolding fault_from
@@ -139,16 +113,11 @@ none-from_fits (byte ∷ bytes) row n place fits = elim (cases_Bool (is_slash by
       slash_goes_on row n place byte bytes slash (eq-eqb n 10 (omega (arith, cut.0)))
       (ne_eqb row 23 (λ last. omega (arith, last, cut.2, has_row bytes))) ∙ none-from_fits bytes (row + 1) 0 (place + 1) later
   | inr other ↦
-      let cut : Fits row n (onto_first byte (slice_split is_slash bytes)) = subst (Fits row n) (slice_split-cons_no is_slash byte bytes other) fits in
-      let later = before_character row n byte (slice_split is_slash bytes) (has_row bytes) cut in
-      character_goes_on row n place byte bytes other later.character (ne_eqb n 10 (λ ten. omega (arith, ten, later.short)))
-      ∙ none-from_fits bytes row (n + 1) (place + 1) later.fits
+      search (rules, slice_split-cons_no, before_character, has_row, character_goes_on, ne_eqb, (none-from_fits bytes row (n + 1) (place + 1)))
 ]
 
 rows-from_fits : (rows : List (List ℕ)) → Fits 1 0 rows → (length rows ≤ 23) × All IsRow rows
-rows-from_fits [] fits = absurd fits
-rows-from_fits (row ∷ rows) fits =
-    (omega (arith, fits.2), All-cons IsRow row rows (record { ten = omega (arith, fits.0); characters = fits.1 }) fits.3)
+rows-from_fits rows fits = search (rules, All-cons)
 
 fits-from_rows : (rows : List (List ℕ)) → 0 < length rows → (length rows ≤ 23) × All IsRow rows → Fits 1 0 rows
 fits-from_rows [] some form = absurd (omega (arith, some))
@@ -158,12 +127,8 @@ fits-from_rows (row ∷ rows) some form =
 
 pub rows-from_none : (text : List ℕ) → rows_fault text ≡ None → IsRowsText text
 unfolding rows_fault
-rows-from_none [] none = tt
-rows-from_none (byte ∷ bytes) none =
-    rows-from_fits (slice_split is_slash (byte ∷ bytes)) (fits-from_none (byte ∷ bytes) 1 0 0 (omega arith) none)
+rows-from_none text none = search (rules, rows-from_fits, fits-from_none)
 
 pub none-from_rows : (text : List ℕ) → IsRowsText text → rows_fault text ≡ None
 unfolding rows_fault
-none-from_rows [] form = refl
-none-from_rows (byte ∷ bytes) form =
-    none-from_fits (byte ∷ bytes) 1 0 0 (fits-from_rows (slice_split is_slash (byte ∷ bytes)) (has_row (byte ∷ bytes)) form)
+none-from_rows text form = search (rules, none-from_fits, fits-from_rows, has_row)

@@ -1,6 +1,5 @@
 -- The cells below the height are at most ten a row.
-use Rattle.std.proofs.Common.{◌≡◌, ap, ◌∙◌, arith}
-use Rattle.lane_board.specs.Field.{intersection}
+use Rattle.std.proofs.Common.{◌≡◌, arith, rules}
 use Rattle.lane_board.specs.CellCount.{cell_count}
 use Rattle.lane_board.proofs.CallerLemmas.{cell_count-le}
 use Rattle.well.specs.Well.{filled}
@@ -10,10 +9,7 @@ use Rattle.well.proofs.well.Well.empties_below.Goals.{After-count-cells}
 
 counted : (c : After-count-cells) → c.count-cells.result ≡ cell_count (filled c.args.self.now) c.args.height
 unfolding filled
-counted c =
-    c.count-cells.ensures
-    ∙ ap (λ F. cell_count F 24) (c.and.ensures ∙ ap (intersection (filled c.args.self.now)) c.rows_below.ensures)
-    ∙ counted_below (filled c.args.self.now) c.args.height (omega (arith, c.requires)) (λ x y has. (filled-within c.args.self.now x y has).0)
+counted c = search (rules, counted_below, filled-within)
 
 pub overflow_cast-result : goal.overflow_cast-result
 overflow_cast-result c = omega (arith, counted c, cell_count-le (filled c.args.self.now) c.args.height, c.requires)

@@ -1,5 +1,5 @@
 -- The four cells of a free placement lie in the well.
-use Rattle.std.proofs.Common.{◌≡◌, ℕ, ◌<◌, true, get_or, pos, ap, ◌∙◌, arith}
+use Rattle.std.proofs.Common.{◌≡◌, ℕ, ◌<◌, true, get_or, pos, ap, ◌∙◌, arith, rules}
 use Rattle.srs.specs.declared.placement.Placement.{Placement}
 use Rattle.srs.specs.Cells.{Cell, in_well, cells_of}
 use Rattle.srs.proofs.CallerLemmas.{list_all_each, cells_length}
@@ -13,8 +13,7 @@ use Rattle.well.proofs.LockLemmas.{together_of}
 use Rattle.well.proofs.well.Well.fill.Goals as goal
 
 each_in_well : (F : Field) (q : Placement) (cells : List Cell) (k : ℕ) → cells ≡ cells_of q → is_free F q ≡ true → k < 4 → in_well (get_or cells k (pos 0, pos 0)) ≡ true
-each_in_well F q cells k e free below =
-    ap (λ cs. in_well (get_or cs k (pos 0, pos 0))) e ∙ list_all_each in_well (cells_of q) k (pos 0, pos 0) (free_inside F q free) (omega (arith, cells_length q))
+each_in_well F q cells k e free below = search (rules, list_all_each, free_inside, cells_length)
 
 pub cells-requires-clause-column : goal.cells-requires-clause-column
 cells-requires-clause-column c = omega (arith, (free_pivot_inside _ c.args.placement.now c.requires).in_columns)

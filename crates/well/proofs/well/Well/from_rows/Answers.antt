@@ -1,6 +1,6 @@
 -- The reader's progress through the text.
 use Rattle.std.proofs.Common.{◌≡◌, length, sym, ap, ◌∙◌, arith, rules, refl, Some, None}
-use Rattle.std.specs.Prelude.{Result, Ok, Err, IfOk, IfErr}
+use Rattle.std.specs.Prelude.{Result, IfOk, IfErr}
 use Rattle.std.proofs.lemmas.Bool.{eqb-true, eqb-false}
 use Rattle.well.specs.Rows.{rows_fault, fault_at_end, written_cells}
 use Rattle.well.specs.Well.{filled}
@@ -8,12 +8,10 @@ use Rattle.well.proofs.RowsLemmas.{starts, goes_on, faults, due_at_end, cells_at
 use Rattle.well.proofs.well.Well.from_rows.Goals as goal
 
 if_ok : {A E : Type 0} (r : Result A E) (P Q : A → Type 0) → ((a : A) → P a → Q a) → IfOk r P → IfOk r Q
-if_ok (Ok a) P Q more p = more a p
-if_ok (Err e) P Q more p = tt
+if_ok r P Q more p = search rules
 
 if_err : {A E : Type 0} (r : Result A E) (P Q : E → Type 0) → ((e : E) → P e → Q e) → IfErr r P → IfErr r Q
-if_err (Ok a) P Q more p = tt
-if_err (Err e) P Q more p = more e p
+if_err r P Q more p = search rules
 
 pub returns-then-is_empty-clause-cells : goal.returns-then-is_empty-clause-cells
 returns-then-is_empty-clause-cells c = c.empty.ensures ∙ sym (nothing_written c.args.text.now (eqb-true _ _ (sym c.is_empty.ensures ∙ c.if-is_empty.true)))
