@@ -1,10 +1,9 @@
 -- What a reader answered, from what reading gives, and the other way round.
-use Rattle.std.proofs.Common.{◌≡◌, ℕ, Result, Ok, Err, refl, sym, ap, subst, ◌∙◌}
+use Rattle.std.proofs.Common.{◌≡◌, Result, Ok, Err, subst, rules}
 use Rattle.std.specs.Prelude.{IfOk}
 use Rattle.pc_outside.specs.declared.answers.Refused.{Refused}
 use Rattle.pc_outside.specs.declared.answers.Refused.TheVariants as refused
 use Rattle.fumen_digits.specs.declared.number.DigitFault.{DigitFault}
-use Rattle.fumen_digits.specs.declared.number.DigitFault.TheVariants as digit
 use Rattle.fumen_digits.specs.declared.fault.FumenFault.{FumenFault}
 use Rattle.fumen_digits.specs.Fault.{digit_fault}
 use Rattle.fumen_digits.specs.Answers.{Reads, Gives}
@@ -16,29 +15,22 @@ pub reads_err : {X Y E : Type 0} (view : X → Y) (fault : E → FumenFault) (r 
 reads_err {X = X} {E = E} view fault r read d reads e = let P : Result X E → Type 0 = λ q. Reads view fault q read in subst P e reads
 
 pub ok_from_read : {X Y E : Type 0} (view : X → Y) (fault : E → FumenFault) (r : Result X E) (read : Result Y FumenFault) (y : Y) → Reads view fault r read → read ≡ Ok y → (x : X) × (r ≡ Ok x) × (view x ≡ y)
-ok_from_read view fault (Ok x) read y reads e = let same = sym reads ∙ e in (x, refl, cc)
-ok_from_read view fault (Err d) read y reads e = absurd (let bad = sym reads ∙ e in cc)
+ok_from_read view fault r read y reads e = search rules
 
 pub err_from_read : {X Y E : Type 0} (view : X → Y) (fault : E → FumenFault) (r : Result X E) (read : Result Y FumenFault) (f : FumenFault) → Reads view fault r read → read ≡ Err f → (d : E) × (r ≡ Err d) × (fault d ≡ f)
-err_from_read view fault (Ok x) read f reads e = absurd (let bad = sym reads ∙ e in cc)
-err_from_read view fault (Err d) read f reads e = let same = sym reads ∙ e in (d, refl, cc)
+err_from_read view fault r read f reads e = search rules
 
 -- two faults of a digit are one where they are seen as one
 pub same_digit_fault : (a b : DigitFault) → digit_fault a ≡ digit_fault b → a ≡ b
-same_digit_fault (digit.Bad j) (digit.Bad k) e = let same : j ≡ k = cc in ap (λ (n : ℕ). digit.Bad n) same
-same_digit_fault (digit.Bad j) (digit.Truncated k) e = absurd cc
-same_digit_fault (digit.Truncated j) (digit.Bad k) e = absurd cc
-same_digit_fault (digit.Truncated j) (digit.Truncated k) e = let same : j ≡ k = cc in ap (λ (n : ℕ). digit.Truncated n) same
+same_digit_fault a b e = search rules
 
 -- ---- a reader that takes memory
 
 pub gives_found : {X Y E : Type 0} (view : X → Y) (fault : E → FumenFault) (P : Y → Type 0) (r : Result X (Refused E)) (read : Result Y FumenFault) → ((y : Y) → read ≡ Ok y → P y) → Gives view fault r read → IfOk r (λ x. P (view x))
-gives_found view fault P (Ok x) read means gives = means (view x) gives
-gives_found view fault P (Err e) read means gives = tt
+gives_found view fault P r read means gives = search rules
 
 pub gives_fault : {X Y E : Type 0} (view : X → Y) (fault : E → FumenFault) (r : Result X (Refused E)) (read : Result Y FumenFault) (d : E) → Gives view fault r read → r ≡ Err (refused.Fault d) → read ≡ Err (fault d)
-gives_fault {X = X} {E = E} view fault r read d gives e =
-    let P : Result X (Refused E) → Type 0 = λ q. Gives view fault q read in subst P e gives
+gives_fault {X = X} {E = E} view fault r read d gives e = search rules
 
 pub gives_same : {X Y E : Type 0} (view : X → Y) (fault : E → FumenFault) (r : Result X (Refused E)) (read other : Result Y FumenFault) → read ≡ other → Gives view fault r read → Gives view fault r other
 gives_same view fault r read other same gives = subst (λ q. Gives view fault r q) same gives

@@ -1,11 +1,10 @@
 -- The text round the digits, one byte at a time.
-use Rattle.std.proofs.Common.{◌≡◌, ℕ, suc, ◌+◌, ◌<◌, ◌≤◌, Bool, true, false, cond, eqb, not, ◌||◌, take, List, [], ◌∷◌, ◌++◌, length, get_or, drop, Option, Some, None, refl, sym, ap, ◌∙◌, arith}
-use Rattle.std.specs.List.{flat_map, enumerate_from, filter, prefix_len}
+use Rattle.std.proofs.Common.{◌≡◌, ℕ, ◌+◌, ◌<◌, ◌≤◌, Bool, true, false, cond, eqb, ◌||◌, List, [], ◌∷◌, ◌++◌, length, get_or, drop, Option, Some, None, refl, sym, ap, ◌∙◌, rules}
+use Rattle.std.specs.List.{flat_map, enumerate_from}
 use Rattle.std.specs.Option.{option_map_or}
 use Rattle.std.proofs.lemmas.List.{drop_more, drop_all}
 use Rattle.std.proofs.lemmas.Bool.{agree_below_at, or_parts}
 use Rattle.fumen_digits.specs.declared.dialect.Dialect.{Dialect}
-use Rattle.fumen_digits.specs.declared.dialect.Dialect.TheVariants.{V110, V115}
 use Rattle.fumen_digits.specs.Digit.{digit, IsDigit, AreDigits}
 use Rattle.fumen_digits.specs.Framing.{begins_line, broken_digit, broken, is_dropped, version, dialect_at, digits_behind, digits_in}
 
@@ -28,10 +27,7 @@ none_here text i rest lt is none =
 
 -- the first prefix stands at this place, from which rest is left
 pub found_here : (text : List ℕ) (i : ℕ) (rest behind : List ℕ) (d : Dialect) → i < length text → rest ≡ drop i text → behind ≡ drop 5 rest → dialect_at rest ≡ Some d → digits_in (drop i text) ≡ Some (d, digits_behind behind)
-found_here text i rest behind d lt is behind_is found =
-    let one = drop_more text i 0 lt in
-    let whole : digits_in (drop i text) ≡ Some (d, digits_behind (drop 5 (drop i text))) = rw one (at_some (get_or text i 0) (drop (i + 1) text) d (ap dialect_at (sym one) ∙ (ap dialect_at (sym is) ∙ found))) in
-    whole ∙ ap (λ (x : List ℕ). Some (d, digits_behind x)) (sym (behind_is ∙ ap (λ (x : List ℕ). drop 5 x) is))
+found_here text i rest behind d lt is behind_is found = search (rules, drop_more, digits_in, at_some)
 
 pub none_left : (text : List ℕ) (i : ℕ) → length text ≤ i → digits_in (drop i text) ≡ None
 unfolding digits_in
@@ -39,19 +35,9 @@ none_left text i le = rw (drop_all i text le) refl
 
 -- ---- what was broken into lines is read again
 
-cond-not : {A : Type 0} (b : Bool) (x y : A) → cond (not b) x y ≡ cond b y x
-cond-not true x y = refl
-cond-not false x y = refl
-
-take_one_more : (n x : ℕ) (xs : List ℕ) → take (1 + n) (x ∷ xs) ≡ x ∷ take n xs
-take_one_more n x xs = let e : 1 + n ≡ suc n = omega arith in ap (λ (k : ℕ). take k (x ∷ xs)) e
-
 digits_behind-cons : (byte : ℕ) (rest : List ℕ) → eqb byte 38 ≡ false → digits_behind (byte ∷ rest) ≡ cond (is_dropped byte) (digits_behind rest) (byte ∷ digits_behind rest)
 unfolding digits_behind
-digits_behind-cons byte rest e =
-    let n = prefix_len (λ b. not (eqb b 38)) rest in
-    let inside : take (cond (not (eqb byte 38)) (1 + n) 0) (byte ∷ rest) ≡ byte ∷ take n rest = ap (λ (b : Bool). take (cond (not b) (1 + n) 0) (byte ∷ rest)) e ∙ take_one_more n byte rest in
-    ap (λ (text : List ℕ). filter (λ b. not (is_dropped b)) text) inside ∙ cond-not (is_dropped byte) (byte ∷ digits_behind rest) (digits_behind rest)
+digits_behind-cons byte rest e = search rules
 
 digit_stays : (v : ℕ) → v < 64 → (eqb (digit v) 38 || is_dropped (digit v)) ≡ false
 unfolding digit
@@ -75,15 +61,12 @@ digits_behind-lines place (d ∷ ds) each =
     ]
 
 dialect_at-broken : (dialect : Dialect) (rest : List ℕ) → dialect_at ((118 ∷ version dialect) ++ rest) ≡ Some dialect
-dialect_at-broken V110 rest = refl
-dialect_at-broken V115 rest = refl
+dialect_at-broken dialect rest = search rules
 
 drop-prefix : (dialect : Dialect) (rest : List ℕ) → drop 5 ((118 ∷ version dialect) ++ rest) ≡ rest
-drop-prefix V110 rest = refl
-drop-prefix V115 rest = refl
+drop-prefix dialect rest = search rules
 
 pub digits_in-broken : (dialect : Dialect) (ds : List ℕ) → AreDigits ds → digits_in (broken dialect ds) ≡ Some (dialect, ds)
 unfolding broken
 digits_in-broken dialect ds each =
-    let text = (118 ∷ version dialect) ++ lines_from 0 ds in
-    at_some 118 (version dialect ++ lines_from 0 ds) dialect (dialect_at-broken dialect (lines_from 0 ds)) ∙ ap (λ (x : List ℕ). Some (dialect, x)) (ap digits_behind (drop-prefix dialect (lines_from 0 ds)) ∙ digits_behind-lines 0 ds each)
+    search (rules, version, at_some, dialect_at-broken, drop-prefix, digits_behind-lines)

@@ -1,5 +1,5 @@
 -- A number that is read stands there, and what stands there is read; a fault is the first one there.
-use Rattle.std.proofs.Common.{◌≡◌, ℕ, zero, suc, ◌+◌, ◌*◌, ◌/◌, ◌%◌, ◌^◌, ◌<◌, ◌≤◌, List, [], ◌∷◌, length, get_or, Option, Some, None, Ok, Err, refl, sym, ap, subst, ◌∙◌, ◌⊎◌, inl, inr, arith}
+use Rattle.std.proofs.Common.{◌≡◌, ℕ, zero, suc, ◌+◌, ◌*◌, ◌/◌, ◌%◌, ◌^◌, ◌<◌, ◌≤◌, List, [], ◌∷◌, length, get_or, Option, Some, None, Ok, Err, refl, sym, ap, subst, ◌∙◌, ◌⊎◌, inl, inr, arith, rules}
 use Rattle.std.specs.Option.{ok_or}
 use Rattle.std.proofs.Math.Nat.{pow-succ'}
 use Rattle.std.proofs.lemmas.Bool.{cases_lt, lt-ltb, le-ltb}
@@ -7,7 +7,7 @@ use Rattle.fumen_digits.specs.Digit.{digit, digit_value, IsDigit, AreDigits}
 use Rattle.fumen_digits.specs.Number.{digits, Stands, NumberStands, IsBadDigit, IsTruncated}
 use Rattle.fumen_digits.specs.declared.fault.FumenFault.{FumenFault}
 use Rattle.fumen_digits.specs.Fault.{IsNumberFault}
-use Rattle.fumen_digits.specs.declared.fault.FumenFault.TheVariants.{NoFumen, BadDigit, Truncated, RunPastEnd, BadCell, BadAction, PieceOutside, BadComment, TooManyPages}
+use Rattle.fumen_digits.specs.declared.fault.FumenFault.TheVariants.{BadDigit, Truncated}
 use Rattle.fumen_digits.specs.Reading.{◌>>=◌, value_at, number_from, number_at}
 use Rattle.fumen_digits.proofs.DigitTable.{value_of_digit, digit_of_value}
 use Rattle.fumen_digits.proofs.Binds.{bind_ok, bind_err, ok_bind, err_bind}
@@ -27,12 +27,10 @@ unfolding value_at
 value_at_past ds start place le = rw (le-ltb place (length ds) le) refl
 
 ok_or_some : (o : Option ℕ) (e : FumenFault) (v : ℕ) → ok_or o e ≡ Ok v → o ≡ Some v
-ok_or_some None e v is = absurd cc
-ok_or_some (Some x) e v is = let same : x ≡ v = cc in ap (λ (n : ℕ). Some n) same
+ok_or_some o e v is = search rules
 
 ok_or_none : (o : Option ℕ) (e d : FumenFault) → ok_or o e ≡ Err d → (o ≡ None) × (d ≡ e)
-ok_or_none None e d is = (refl, let same : d ≡ e = cc in same)
-ok_or_none (Some x) e d is = absurd cc
+ok_or_none o e d is = search rules
 
 -- the byte at the place is a digit, and the value is its own
 record Here (ds : List ℕ) (place v : ℕ) : Type 0 where
@@ -51,8 +49,7 @@ value_at_ok ds start place v e =
     ]
 
 value_at_here : (ds : List ℕ) (start place v : ℕ) → Here ds place v → value_at ds start place ≡ Ok v
-value_at_here ds start place v h =
-    value_at_inside ds start place h.lt ∙ ap (λ (o : Option ℕ). ok_or o (BadDigit place)) (ap digit_value h.byte ∙ value_of_digit v h.small)
+value_at_here ds start place v h = search (rules, value_at_inside, value_of_digit)
 
 -- why the byte at a place has no value
 abbrev Missing : List ℕ → ℕ → ℕ → FumenFault → Type 0
@@ -61,35 +58,21 @@ Missing ds start place f =
 
 value_at_err : (ds : List ℕ) (start place : ℕ) (f : FumenFault) → value_at ds start place ≡ Err f → Missing ds start place f
 value_at_err ds start place f e =
-    elim (cases_lt place (length ds)) [
-      | inl lt ↦
-          let is = ok_or_none (digit_value (byte_at ds place)) (BadDigit place) f (sym (value_at_inside ds start place lt) ∙ e) in
-          inl (lt, λ d. absurd (let both : None ≡ Some d.0 = sym is.0 ∙ (ap digit_value d.2 ∙ value_of_digit d.0 d.1) in cc), is.1)
-      | inr le ↦ inr (le, let same = sym (value_at_past ds start place le) ∙ e in cc)
-    ]
+    search (rules, cases_lt, ok_or_none, value_at_inside, value_of_digit, value_at_past)
 
 no_value : (b : ℕ) → (IsDigit b → ⊥) → (o : Option ℕ) → digit_value b ≡ o → digit_value b ≡ None
 no_value b not None e = e
 no_value b not (Some v) e = let d = digit_of_value b v e in absurd (not (v, d.0, sym d.1))
 
 value_at_missing : (ds : List ℕ) (start place : ℕ) (f : FumenFault) → Missing ds start place f → value_at ds start place ≡ Err f
-value_at_missing ds start place f (inl m) =
-    let none = no_value (byte_at ds place) m.1 (digit_value (byte_at ds place)) refl in
-    value_at_inside ds start place m.0 ∙ (ap (λ (o : Option ℕ). ok_or o (BadDigit place)) none ∙ ap (λ (d : FumenFault). Err d) (sym m.2))
-value_at_missing ds start place f (inr m) = value_at_past ds start place m.0 ∙ ap (λ (d : FumenFault). Err d) (sym m.1)
+value_at_missing ds start place f h4 = search (rules, no_value, value_at_inside, value_at_past)
 
 -- ---- a number that is read
 
 -- a digit, and the higher ones behind it
 number_more : (ds : List ℕ) (place count v high n : ℕ) → Here ds place v → NumberStands ds (place + 1) count high → v + 64 * high ≡ n → NumberStands ds place (suc count) n
 unfolding digits
-number_more ds place count v high n here above is =
-    let small : v < 64 = here.small in
-    let low : n % 64 ≡ v = omega arith in
-    let rest : n / 64 ≡ high = omega arith in
-    let more : 64 ^ suc count ≡ 64 * 64 ^ count = pow-succ' 64 count in
-    let behind : Stands ds (place + 1) (digits count (n / 64)) (place + suc count) = rw rest (subst (λ (j : ℕ). Stands ds (place + 1) (digits count high) j) (omega arith) above.stands) in
-    record { below = omega (arith, above.below); stands = Stands-cons ds place (digit (n % 64)) (digits count (n / 64)) (place + suc count) here.lt (rw low here.byte) behind }
+number_more ds place count v high n here above is = search (rules, pow-succ', digits, Stands-cons, digit)
 
 number_parts : (ds : List ℕ) (place count n : ℕ) → NumberStands ds place (suc count) n → Here ds place (n % 64) × NumberStands ds (place + 1) count (n / 64)
 unfolding digits
@@ -101,9 +84,7 @@ number_parts ds place count n s =
 
 pub stands_from_read : (ds : List ℕ) (start place count n : ℕ) → place ≤ length ds → number_from ds start place count ≡ Ok n → NumberStands ds place count n
 unfolding number_from digits
-stands_from_read ds start place zero n le e =
-    let is : 0 ≡ n = cc in
-    record { below = omega arith; stands = subst (λ (j : ℕ). Stands ds place [] j) (omega arith) (Stands-nil ds place le) }
+stands_from_read ds start place zero n le e = search (rules, Stands-nil)
 stands_from_read ds start place (suc count) n le e =
     let v = bind_ok (value_at ds start place) (λ value. number_from ds start (place + 1) count >>= λ high. Ok (value + 64 * high)) n e in
     let h = bind_ok (number_from ds start (place + 1) count) (λ high. Ok (v.0 + 64 * high)) n v.2 in
@@ -114,8 +95,7 @@ stands_from_read ds start place (suc count) n le e =
 
 pub read_from_stands : (ds : List ℕ) (start place count n : ℕ) → NumberStands ds place count n → number_from ds start place count ≡ Ok n
 unfolding number_from digits
-read_from_stands ds start place zero n s =
-    let is : 0 ≡ n = omega (arith, s.below) in ap (λ (k : ℕ). Ok k) is
+read_from_stands ds start place zero n s = search rules
 read_from_stands ds start place (suc count) n s =
     let parts = number_parts ds place count n s in
     let above = read_from_stands ds start (place + 1) count (n / 64) parts.1 in
@@ -151,15 +131,10 @@ truncated_more ds place count v here cut =
     }
 
 missing_here : (ds : List ℕ) (start place count : ℕ) (f : FumenFault) → place ≤ length ds → Missing ds start place f → IsFaultFrom ds start place (suc count) f
-missing_here ds start place count f le (inl m) =
-    inl (place, record { front = []; digits_stand = Stands-nil ds place le; each = tt; early = omega arith; there = m.0; none = m.1 }, m.2)
-missing_here ds start place count f le (inr m) =
-    let end : place ≡ length ds = omega (arith, m.0) in
-    inr (record { front = []; digits_stand = subst (λ (j : ℕ). Stands ds place [] j) end (Stands-nil ds place le); each = tt; short = omega arith }, m.1)
+missing_here ds start place count f le h6 = search rules
 
 fault_more : (ds : List ℕ) (start place count v : ℕ) (f : FumenFault) → Here ds place v → IsFaultFrom ds start (place + 1) count f → IsFaultFrom ds start place (suc count) f
-fault_more ds start place count v f here (inl bad) = inl (bad.0, bad_more ds place count v bad.0 here bad.1, bad.2)
-fault_more ds start place count v f here (inr cut) = inr (truncated_more ds place count v here cut.0, cut.1)
+fault_more ds start place count v f here h7 = search (rules, bad_more, truncated_more)
 
 pub fault_from_read : (ds : List ℕ) (start place count : ℕ) (f : FumenFault) → place ≤ length ds → number_from ds start place count ≡ Err f → IsFaultFrom ds start place count f
 unfolding number_from
@@ -185,14 +160,11 @@ bad_cases ds place there (x ∷ behind) s each =
 
 read_digit_fault : (ds : List ℕ) (start place count v : ℕ) (f : FumenFault) → Here ds place v → number_from ds start (place + 1) count ≡ Err f → number_from ds start place (suc count) ≡ Err f
 unfolding number_from
-read_digit_fault ds start place count v f here above =
-    ok_bind (value_at ds start place) (λ value. number_from ds start (place + 1) count >>= λ high. Ok (value + 64 * high)) v (value_at_here ds start place v here)
-    ∙ err_bind (number_from ds start (place + 1) count) (λ high. Ok (v + 64 * high)) f above
+read_digit_fault ds start place count v f here above = search (rules, ok_bind, value_at, value_at_here, err_bind)
 
 read_missing : (ds : List ℕ) (start place count : ℕ) (f : FumenFault) → Missing ds start place f → number_from ds start place (suc count) ≡ Err f
 unfolding number_from
-read_missing ds start place count f m =
-    err_bind (value_at ds start place) (λ value. number_from ds start (place + 1) count >>= λ high. Ok (value + 64 * high)) f (value_at_missing ds start place f m)
+read_missing ds start place count f m = search (rules, err_bind, value_at, value_at_missing)
 
 pub read_from_bad : (ds : List ℕ) (start place count there : ℕ) → IsBadDigit ds place count there → number_from ds start place count ≡ Err (BadDigit there)
 read_from_bad ds start place zero there bad = absurd (omega (arith, bad.early, bad.digits_stand.upto))
@@ -216,20 +188,7 @@ read_from_truncated ds start place (suc count) cut =
 -- ---- a number at its own place
 
 pub number_fault_from_read : (ds : List ℕ) (place count : ℕ) (f : FumenFault) → place ≤ length ds → number_at ds place count ≡ Err f → IsNumberFault ds place count f
-number_fault_from_read ds place count f le e =
-    elim (fault_from_read ds place place count f le e) [
-      | inl bad ↦ subst (λ (d : FumenFault). IsNumberFault ds place count d) (sym bad.2) bad.1
-      | inr cut ↦ subst (λ (d : FumenFault). IsNumberFault ds place count d) (sym cut.1) (refl, cut.0)
-    ]
+number_fault_from_read ds place count f le e = search (rules, fault_from_read)
 
 pub read_from_number_fault : (ds : List ℕ) (place count : ℕ) (f : FumenFault) → IsNumberFault ds place count f → number_at ds place count ≡ Err f
-read_from_number_fault ds place count (BadDigit there) fault = read_from_bad ds place place count there fault
-read_from_number_fault ds place count (Truncated begin) fault =
-    read_from_truncated ds place place count fault.1 ∙ ap (λ (k : ℕ). Err (Truncated k)) (sym fault.0)
-read_from_number_fault ds place count NoFumen fault = absurd fault
-read_from_number_fault ds place count (RunPastEnd k) fault = absurd fault
-read_from_number_fault ds place count (BadCell k) fault = absurd fault
-read_from_number_fault ds place count (BadAction k) fault = absurd fault
-read_from_number_fault ds place count (PieceOutside k) fault = absurd fault
-read_from_number_fault ds place count (BadComment k) fault = absurd fault
-read_from_number_fault ds place count TooManyPages fault = absurd fault
+read_from_number_fault ds place count f fault = search (rules, read_from_bad, read_from_truncated)

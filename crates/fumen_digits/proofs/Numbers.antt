@@ -1,7 +1,8 @@
 -- Digits of numbers, one more at a time.
-use Rattle.std.proofs.Common.{◌≡◌, ℕ, zero, suc, ◌+◌, ◌-◌, ◌/◌, ◌%◌, ◌<◌, List, [], ◌∷◌, ◌++◌, length, take, set, refl, sym, ap, ◌∙◌, append_assoc, arith}
+use Rattle.std.proofs.lemmas.Grind.{common_steps}
+use Rattle.std.proofs.Common.{◌≡◌, ℕ, zero, suc, ◌+◌, ◌-◌, ◌/◌, ◌%◌, ◌<◌, List, [], ◌∷◌, ◌++◌, length, take, set, refl, ap, ◌∙◌, append_assoc, arith, rules}
 use Rattle.std.specs.List.{flat_map}
-use Rattle.std.proofs.lemmas.List.{append-nil, take_more_set}
+use Rattle.std.proofs.lemmas.List.{take_more_set}
 use Rattle.fumen_digits.specs.Digit.{digit, AreDigits}
 use Rattle.fumen_digits.specs.Number.{digits}
 
@@ -23,20 +24,16 @@ digits_more spelled count i rest d total lt inside is so_far =
 -- all digits are written
 pub digits_all : (spelled : List ℕ) (count i rest : ℕ) (total : List ℕ) → i ≡ count → take i spelled ++ digits (count - i) rest ≡ total → take count spelled ≡ total
 unfolding digits
-digits_all spelled count i rest total same so_far =
-    let k : count - i ≡ 0 = omega arith in
-    ap (λ n. take n spelled) (sym same) ∙ (sym (append-nil (take i spelled)) ∙ (rw k at so_far))
+digits_all spelled count i rest total same so_far = search rules
 
 -- ---- digits only
 
 pub AreDigits-append : (a b : List ℕ) → AreDigits a → AreDigits b → AreDigits (a ++ b)
-AreDigits-append [] b one other = other
-AreDigits-append (x ∷ a) b one other = (one.0, AreDigits-append a b one.1 other)
+AreDigits-append a b one other = grind (arith, common_steps)
 
 pub AreDigits-flat_map : {X : Type 0} (spelling : X → List ℕ) → ((x : X) → AreDigits (spelling x)) → (xs : List X) → AreDigits (flat_map spelling xs)
 AreDigits-flat_map spelling each [] = tt
-AreDigits-flat_map spelling each (x ∷ xs) =
-    AreDigits-append (spelling x) (flat_map spelling xs) (each x) (AreDigits-flat_map spelling each xs)
+AreDigits-flat_map spelling each (x ∷ xs) = search (rules, AreDigits-append, AreDigits-flat_map spelling each xs)
 
 pub AreDigits-digits : (count n : ℕ) → AreDigits (digits count n)
 unfolding digits

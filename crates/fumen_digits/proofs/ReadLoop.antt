@@ -1,9 +1,8 @@
 -- Reading a number digit by digit, as a loop does.
-use Rattle.std.proofs.Common.{◌≡◌, ℕ, suc, ◌+◌, ◌-◌, ◌*◌, ◌^◌, ◌<◌, ◌≤◌, List, Result, Ok, Err, refl, sym, ap, ◌∙◌, arith}
+use Rattle.std.proofs.Common.{◌≡◌, ℕ, suc, ◌+◌, ◌-◌, ◌*◌, ◌^◌, ◌<◌, ◌≤◌, List, Result, Ok, Err, sym, ap, ◌∙◌, arith, rules}
 use Rattle.std.proofs.Math.Nat.{pow-succ', pow-le-pow_right, mul-le-mul_left, mul-suc}
 use Rattle.fumen_digits.specs.declared.fault.FumenFault.{FumenFault}
 use Rattle.fumen_digits.specs.Reading.{◌>>=◌, value_at, number_from, number_at}
-use Rattle.fumen_digits.proofs.Binds.{ok_bind, err_bind}
 
 -- the number of the digits read so far, and of those above them
 abbrev pub with_low : ℕ → ℕ → Result ℕ FumenFault → Result ℕ FumenFault
@@ -16,30 +15,18 @@ pub record IsSoFar (ds : List ℕ) (place count i number weight : ℕ) : Type 0 
   pub completes : with_low number weight (number_from ds place (place + i) (count - i)) ≡ number_at ds place count
 
 regroup : (number weight value : ℕ) (read : Result ℕ FumenFault) → with_low number weight (read >>= λ high. Ok (value + 64 * high)) ≡ with_low (number + weight * value) (weight * 64) read
-regroup number weight value (Ok x) = let is : number + weight * (value + 64 * x) ≡ number + weight * value + weight * 64 * x = grind arith in ap (λ (n : ℕ). Ok n) is
-regroup number weight value (Err f) = refl
+regroup number weight value read = search rules
 
 -- what the next digit adds fits
 pub fits : (ds : List ℕ) (place count i number weight value : ℕ) → i < count → count ≤ 5 → value < 64 → IsSoFar ds place count i number weight
     → (weight * 64 < 2 ^ 32) × (number + weight * value < weight * 64)
 fits ds place count i number weight value lt most small s =
-    let positive : 0 < 64 = omega arith in
-    let early : suc i ≤ 5 = omega arith in
-    let power : 64 ^ suc i ≤ 64 ^ 5 = pow-le-pow_right positive early in
-    let more : 64 ^ suc i ≡ 64 * 64 ^ i = pow-succ' 64 i in
-    let next : suc value ≤ 64 = omega arith in
-    let product : weight * suc value ≤ weight * 64 = mul-le-mul_left weight next in
-    let apart : weight * suc value ≡ weight * value + weight = mul-suc weight value in
-    (omega (arith, s.weight_is), omega (arith, s.below))
+    search (rules, pow-le-pow_right, pow-succ', mul-le-mul_left, mul-suc)
 
 read_digit : (ds : List ℕ) (place count i value : ℕ) → i < count → value_at ds place (place + i) ≡ Ok value
     → number_from ds place (place + i) (count - i) ≡ (number_from ds place (place + (i + 1)) (count - (i + 1)) >>= λ high. Ok (value + 64 * high))
 unfolding number_from
-read_digit ds place count i value lt read =
-    let k : count - i ≡ suc (count - (i + 1)) = omega arith in
-    let next : place + i + 1 ≡ place + (i + 1) = omega arith in
-    rw k (ok_bind (value_at ds place (place + i)) (λ v. number_from ds place (place + i + 1) (count - (i + 1)) >>= λ high. Ok (v + 64 * high)) value read
-    ∙ ap (λ (p : ℕ). number_from ds place p (count - (i + 1)) >>= λ high. Ok (value + 64 * high)) next)
+read_digit ds place count i value lt read = search rules
 
 pub goes_on : (ds : List ℕ) (place count i number weight value : ℕ) → i < count → count ≤ 5 → value < 64 → value_at ds place (place + i) ≡ Ok value → IsSoFar ds place count i number weight
     → IsSoFar ds place count (i + 1) (number + weight * value) (weight * 64)
@@ -57,15 +44,8 @@ goes_on ds place count i number weight value lt most small read s =
 
 pub stops : (ds : List ℕ) (place count i number weight : ℕ) (f : FumenFault) → i < count → value_at ds place (place + i) ≡ Err f → IsSoFar ds place count i number weight → number_at ds place count ≡ Err f
 unfolding number_from
-stops ds place count i number weight f lt read s =
-    let k : count - i ≡ suc (count - (i + 1)) = omega arith in
-    let failed : number_from ds place (place + i) (count - i) ≡ Err f = rw k (err_bind (value_at ds place (place + i)) (λ v. number_from ds place (place + i + 1) (count - (i + 1)) >>= λ high. Ok (v + 64 * high)) f read) in
-    sym s.completes ∙ ap (λ (r : Result ℕ FumenFault). with_low number weight r) failed
+stops ds place count i number weight f lt read s = search rules
 
 pub is_read : (ds : List ℕ) (place count i number weight : ℕ) → count ≤ i → IsSoFar ds place count i number weight → number_at ds place count ≡ Ok number
 unfolding number_from
-is_read ds place count i number weight le s =
-    let k : count - i ≡ 0 = omega arith in
-    let none : number_from ds place (place + i) (count - i) ≡ Ok 0 = rw k refl in
-    let is : number + weight * 0 ≡ number = omega arith in
-    sym s.completes ∙ (ap (λ (r : Result ℕ FumenFault). with_low number weight r) none ∙ ap (λ (n : ℕ). Ok n) is)
+is_read ds place count i number weight le s = search rules

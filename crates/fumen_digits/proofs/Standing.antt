@@ -1,5 +1,5 @@
 -- Texts that stand among the digits, one behind the other.
-use Rattle.std.proofs.Common.{◌≡◌, ℕ, ◌+◌, ◌<◌, ◌≤◌, List, [], ◌∷◌, ◌++◌, length, get_or, take, drop, refl, sym, ap, ◌∙◌, append_assoc, arith}
+use Rattle.std.proofs.Common.{◌≡◌, ℕ, ◌+◌, ◌<◌, ◌≤◌, List, [], ◌∷◌, ◌++◌, length, get_or, take, drop, refl, sym, ap, ◌∙◌, append_assoc, arith, rules}
 use Rattle.std.proofs.lemmas.List.{drop_more, drop-drop, drop_at, take_at, length-append}
 use Rattle.fumen_digits.specs.Number.{Stands}
 
@@ -8,12 +8,7 @@ Stands-nil ds k le = record { here = refl; upto = omega arith; within = le }
 
 -- a text behind another
 pub Stands-then : (ds : List ℕ) (k : ℕ) (a : List ℕ) (j : ℕ) (b : List ℕ) (m : ℕ) → Stands ds k a j → Stands ds j b m → Stands ds k (a ++ b) m
-Stands-then ds k a j b m one other =
-    record {
-      here = one.here ∙ (ap (λ (x : List ℕ). a ++ x) other.here ∙ sym (append_assoc a b (drop m ds)));
-      upto = omega (arith, one.upto, other.upto, length-append a b);
-      within = other.within;
-    }
+Stands-then ds k a j b m one other = search (rules, append_assoc, length-append)
 
 -- the parts of a text
 pub Stands-parts : (ds : List ℕ) (k : ℕ) (a b : List ℕ) (m : ℕ) → Stands ds k (a ++ b) m → Stands ds k a (k + length a) × Stands ds (k + length a) b m
@@ -33,12 +28,7 @@ Stands-head ds k x text j s =
     (lt, head, record { here = tail; upto = omega (arith, s.upto); within = s.within })
 
 pub Stands-cons : (ds : List ℕ) (k x : ℕ) (text : List ℕ) (j : ℕ) → k < length ds → get_or ds k 0 ≡ x → Stands ds (k + 1) text j → Stands ds k (x ∷ text) j
-Stands-cons ds k x text j lt head s =
-    record {
-      here = drop_more ds k 0 lt ∙ (ap (λ (y : ℕ). y ∷ drop (k + 1) ds) head ∙ ap (λ (y : List ℕ). x ∷ y) s.here);
-      upto = omega (arith, s.upto);
-      within = s.within;
-    }
+Stands-cons ds k x text j lt head s = search (rules, drop_more)
 
 -- a text that stands at a place is the bytes there, as many as it has
 pub Stands-is : (ds : List ℕ) (k : ℕ) (text : List ℕ) (j : ℕ) → Stands ds k text j → text ≡ take (length text) (drop k ds)

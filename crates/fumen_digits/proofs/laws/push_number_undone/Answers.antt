@@ -1,4 +1,5 @@
 -- What was written is digits, and is read again.
+use Rattle.std.proofs.Common.{rules}
 use Rattle.fumen_digits.proofs.Numbers.{AreDigits-digits}
 use Rattle.fumen_digits.proofs.NumberReadAsSpelled.{read_from_stands}
 use Rattle.fumen_digits.proofs.laws.push_number_undone.Goals as goal
@@ -7,5 +8,4 @@ pub returns-clause-digits : goal.returns-clause-digits
 returns-clause-digits c = AreDigits-digits
 
 pub returns-clause-read : goal.returns-clause-read
-returns-clause-read c = λ ds place count n below stands.
-    read_from_stands ds place place count n (record { below = below; stands = stands })
+returns-clause-read c = search (rules, read_from_stands)

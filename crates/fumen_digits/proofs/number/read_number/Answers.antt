@@ -1,5 +1,5 @@
 -- The number that stands there and the first fault there, from what reading gives.
-use Rattle.std.proofs.Common.{ℕ, ◌+◌, ◌^◌, ◌<◌, ◌≤◌, List, length, Result, Ok, Err, ap, ◌∙◌}
+use Rattle.std.proofs.Common.{ℕ, ◌≤◌, List, length, Result, Ok, ap, ◌∙◌, rules}
 use Rattle.std.specs.Prelude.{IfOk}
 use Rattle.std.proofs.lemmas.Result.{IfOk-weaker}
 use Rattle.fumen_digits.specs.Number.{NumberStands}
@@ -12,16 +12,13 @@ use Rattle.fumen_digits.proofs.NumberReadAsSpelled.{stands_from_read, read_from_
 use Rattle.fumen_digits.proofs.number.read_number.Goals as goal
 
 stands : (ds : List ℕ) (place count : ℕ) (r : Result ℕ DigitFault) → place ≤ length ds → Reads (λ (k : ℕ). k) digit_fault r (number_at ds place count) → IfOk r (λ n. NumberStands ds place count n)
-stands ds place count (Ok n) le reads = stands_from_read ds place place count n le reads
-stands ds place count (Err d) le reads = tt
+stands ds place count r le reads = search (rules, stands_from_read)
 
 pub returns-clause-within : goal.returns-clause-within
-returns-clause-within c =
-    IfOk-weaker c.read_digits.result (λ n. NumberStands c.args.digits.now c.args.place c.args.count n) (λ n. c.args.place + c.args.count ≤ length c.args.digits.now) (λ n s. s.stands.within) (stands c.args.digits.now c.args.place c.args.count c.read_digits.result c.requires.place c.read_digits.ensures)
+returns-clause-within c = search (rules, IfOk-weaker, stands)
 
 pub returns-clause-below : goal.returns-clause-below
-returns-clause-below c =
-    IfOk-weaker c.read_digits.result (λ n. NumberStands c.args.digits.now c.args.place c.args.count n) (λ n. n < 64 ^ c.args.count) (λ n s. s.below) (stands c.args.digits.now c.args.place c.args.count c.read_digits.result c.requires.place c.read_digits.ensures)
+returns-clause-below c = search (rules, IfOk-weaker, stands)
 
 pub returns-clause-found : goal.returns-clause-found
 returns-clause-found c = λ n.
@@ -35,12 +32,5 @@ returns-clause-found c = λ n.
     )
 
 pub returns-clause-fault : goal.returns-clause-fault
-returns-clause-fault c = λ f.
-    let ds = c.args.digits.now in
-    let place = c.args.place in
-    let count = c.args.count in (
-      λ e. number_fault_from_read ds place count (digit_fault f) c.requires.place (reads_err (λ (k : ℕ). k) digit_fault c.read_digits.result (number_at ds place count) f c.read_digits.ensures e),
-      λ s.
-          let x = err_from_read (λ (k : ℕ). k) digit_fault c.read_digits.result (number_at ds place count) (digit_fault f) c.read_digits.ensures (read_from_number_fault ds place count (digit_fault f) s) in
-          x.1 ∙ ap (λ d. Err d) (same_digit_fault x.0 f x.2),
-    )
+returns-clause-fault c =
+    search (rules, number_fault_from_read, reads_err, err_from_read, read_from_number_fault, same_digit_fault)
