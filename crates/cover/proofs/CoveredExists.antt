@@ -1,5 +1,5 @@
 -- The rising list of the covered queues: those that a test passes.
-use Rattle.std.proofs.Common.{◌≡◌, ◌∙◌, ◌↔◌, ℕ, ◌-◌, Bool, true, false, ◌&&◌, ◌==◌, eqb-true, eq-eqb, List, [], ◌∷◌, length, Option, Some, None, refl, ap, arith}
+use Rattle.std.proofs.Common.{◌≡◌, ◌∙◌, ◌↔◌, ℕ, ◌-◌, Bool, true, false, ◌&&◌, ◌==◌, eqb-true, eq-eqb, List, [], ◌∷◌, length, Option, Some, None, refl, ap, arith, rules}
 use Rattle.std.specs.Prelude.{filter, slice_get}
 use Rattle.std.specs.List.{list_any, range_with_len}
 use Rattle.std.specs.Ordering.{nat_cmp}
@@ -38,10 +38,7 @@ plays table mode F rows (q ∷ rest) =
 
 plays-decides : (table : Table) (mode : DropMode) (F : Field) (rows : ℕ) (sequence : List Placement) → IsLow F rows → (plays table mode F rows sequence ≡ true) ↔ Plays table mode F rows sequence
 unfolding plays
-plays-decides table mode F rows [] low = (
-  λ is. let none = eqb-true rows 0 is in (none, λ x y. low.none x y (omega (arith, none))),
-  λ ended. eq-eqb rows 0 ended.0,
-)
+plays-decides table mode F rows [] low = search (rules, eqb-true, eq-eqb)
 plays-decides table mode F rows (q ∷ rest) low = (
   λ is.
       let parts = and_parts (is_place table F mode q && is_below rows q) _ is in

@@ -1,5 +1,5 @@
 -- A tree with one node more below another one.
-use Rattle.std.proofs.Common.{◌≡◌, ℕ, zero, suc, ◌+◌, ◌-◌, ◌<◌, ◌≤◌, true, false, ◌&&◌, ◌||◌, ◌==◌, nat_lt, get_or, List, [], ◌∷◌, ◌++◌, length, Some, slice_get, set, refl, sym, ap, subst, ◌∙◌, inl, inr, arith, length-append}
+use Rattle.std.proofs.Common.{◌≡◌, ℕ, ◌+◌, ◌-◌, ◌<◌, ◌≤◌, true, false, ◌&&◌, nat_lt, get_or, List, [], ◌∷◌, ◌++◌, length, Some, slice_get, set, refl, sym, ap, subst, ◌∙◌, inl, inr, arith, length-append, rules}
 use Rattle.std.proofs.lemmas.Bool.{cases_eq, cases_lt, eq-eqb, ne_eqb, and_right, or_right}
 use Rattle.std.proofs.lemmas.List.{length-set}
 use Rattle.std.proofs.lemmas.Option.{slice_get_read, slice_get_past}
@@ -37,17 +37,8 @@ same-end old new at same = ap ends_of same
 
 -- the tree of no list
 pub first-tree : (blank : Node) → IsBlank blank → IsTree (blank ∷ [])
-first-tree blank is = record {
-  rooted = omega arith;
-  later = λ at kind some. absurd (omega (arith, some, none at kind));
-  within = λ at kind. omega (arith, none at kind);
-  one_above = λ at other kind second some same. absurd (omega (arith, some, none at kind));
-  one_kind = λ at other kind second some same. absurd (omega (arith, some, none at kind));
-}
-  where
-    none : (at : ℕ) (kind : Piece) → child (blank ∷ []) at kind ≡ 0
-    none zero kind = child-at (blank ∷ []) 0 blank kind refl ∙ is.none kind
-    none (suc at) kind = child-past (blank ∷ []) (suc at) kind (omega arith)
+unfolding child
+first-tree blank is = search rules
 
 pub first-spells : (blank : Node) (kinds : List Piece) → IsBlank blank → spells (blank ∷ []) 0 kinds ≡ false
 unfolding spells
@@ -237,21 +228,6 @@ grows-same old new same = subst (HasGrown old) (sym same) (record { longer = ome
 
 -- a list ends at a node
 pub ended : (nodes : List Node) (at : ℕ) (first last : Node) → at < length nodes → slice_get nodes at ≡ Some first → last.below ≡ first.below → last.ends ≡ true → Ends nodes (set nodes at last) at
-unfolding node_child
-ended nodes at first last within there below ends = record {
-  same = λ other kind. elim (cases_eq other at) [
-    | inl same ↦
-        subst (λ n. child (set nodes at last) n kind ≡ child nodes n kind) (sym same)
-        (child-at (set nodes at last) at last kind (get-written nodes at last within) ∙ ap (λ l. get_or l (piece_code kind - 1) 0) below ∙ sym (child-at nodes at first kind there))
-    | inr apart ↦ same-child nodes (set nodes at last) other kind (get-others nodes at other last apart)
-  ];
-  ends = λ other. elim (cases_eq other at) [
-    | inl same ↦
-        subst (λ n. has_end (set nodes at last) n ≡ (has_end nodes n || n == at)) (sym same)
-        (end-at (set nodes at last) at last (get-written nodes at last within) ∙ ends ∙ sym (or_right (has_end nodes at) (at == at) (eq-eqb at at refl)))
-    | inr apart ↦
-        same-end nodes (set nodes at last) other (get-others nodes at other last apart)
-        ∙ sym (or_none (has_end nodes other) (other == at) (ne_eqb other at apart))
-  ];
-  long = length-set nodes at last;
-}
+unfolding node_child child
+ended nodes at first last within there below ends =
+    search (rules, cases_eq, child-at, get-written, same-child, get-others, end-at, or_right, eq-eqb, same-end, or_none)

@@ -1,5 +1,5 @@
 -- Where all solutions are among the sequences, a queue is covered exactly where it has one.
-use Rattle.std.proofs.Common.{◌≡◌, ◌↔◌, ℕ, Some, None, List, Contains, slice_get, sym, subst, ◌∙◌, inl, inr, [], ◌∷◌}
+use Rattle.std.proofs.Common.{◌≡◌, ◌↔◌, ℕ, Some, None, List, Contains, slice_get, sym, ◌∙◌, [], ◌∷◌, rules, arith}
 use Rattle.std.proofs.lemmas.Option.{get_or_from_slice_get, slice_get_within}
 use Rattle.srs.specs.declared.piece.Piece.{Piece}
 use Rattle.srs.specs.declared.placement.Placement.{Placement}
@@ -8,7 +8,7 @@ use Rattle.queue_pattern.specs.Queues.{queues}
 use Rattle.hold_queue.specs.Permits.{Permits}
 use Rattle.problem.specs.declared.problem.Problem.{Problem}
 use Rattle.problem.specs.Solution.{IsSolution, pieces_of}
-use Rattle.srs.proofs.CallerLemmas.{Contains-cases, Contains-here, Contains-none}
+use Rattle.srs.proofs.CallerLemmas.{Contains-here}
 use Rattle.cover.specs.Covered.{IsCovered}
 
 among : (lists : List (List Piece)) (number : ℕ) (queue : List Piece) → slice_get lists number ≡ Some queue → Contains lists queue
@@ -19,35 +19,12 @@ same_queue problem number queue other there also = let same : Some other ≡ Som
 
 -- a queue alone among those that count
 alone : (queue other : List Piece) → Contains (queue ∷ []) other → other ≡ queue
-alone queue other one = elim (Contains-cases queue [] other one) [
-  | inl here ↦ sym here
-  | inr there ↦ absurd (Contains-none other there)
-]
+alone queue other one = search rules
 
 pub covered-solved : (problem : Problem) (sequences : List (List Placement)) (number : ℕ) (queue : List Piece) → ((sequence : List Placement) → IsSolution problem None sequence → Contains sequences sequence)
     → slice_get (queues (elements_of problem.pattern)) number ≡ Some queue → IsCovered problem sequences number ↔ ((sequence : List Placement) × IsSolution problem (Some queue) sequence)
-covered-solved problem sequences number queue all there = (
-  λ covered. (
-    covered.sequence,
-    record {
-      plays = covered.plays;
-      permitted = (queue, Contains-here queue [], subst (λ q. Permits problem.hold q problem.held (pieces_of covered.sequence)) (same_queue problem number queue covered.queue there covered.there) covered.permitted);
-    },
-  ),
-  λ solved. record {
-    queue = queue;
-    there = there;
-    sequence = solved.0;
-    given = all solved.0 (record {
-      plays = solved.1.plays;
-      permitted = (queue, among (queues (elements_of problem.pattern)) number queue there, subst (λ q. Permits problem.hold q problem.held (pieces_of solved.0)) (alone queue solved.1.permitted.0 solved.1.permitted.1) solved.1.permitted.2);
-    });
-    plays = solved.1.plays;
-    permitted = subst (λ q. Permits problem.hold q problem.held (pieces_of solved.0)) (alone queue solved.1.permitted.0 solved.1.permitted.1) solved.1.permitted.2;
-  },
-)
+covered-solved problem sequences number queue all there = grind (arith, Contains-here, same_queue, among, alone)
 
 -- a queue alone permits the pieces of its solutions
 pub solved-permits : (problem : Problem) (queue : List Piece) (sequence : List Placement) → IsSolution problem (Some queue) sequence → Permits problem.hold queue problem.held (pieces_of sequence)
-solved-permits problem queue sequence solved =
-    subst (λ q. Permits problem.hold q problem.held (pieces_of sequence)) (alone queue solved.permitted.0 solved.permitted.1) solved.permitted.2
+solved-permits problem queue sequence solved = search rules

@@ -1,6 +1,7 @@
 -- A list is taken by its first piece, which is the first or the second at hand.
-use Rattle.std.proofs.Common.{◌≡◌, ◌⊎◌, ℕ, zero, suc, ◌+◌, ◌<◌, ◌≤◌, true, false, nat_lt, List, [], ◌∷◌, refl, sym, ap, subst, ◌∙◌, inl, inr, arith, length, max, take}
-use Rattle.std.proofs.lemmas.Bool.{and_parts, and_from, lt-ltb, ltb-true}
+use Rattle.std.proofs.lemmas.Grind.{common_steps}
+use Rattle.std.proofs.Common.{◌≡◌, ◌⊎◌, ℕ, ◌+◌, ◌<◌, ◌≤◌, true, false, List, [], ◌∷◌, sym, ap, subst, ◌∙◌, inl, inr, arith, length, max, take, rules}
+use Rattle.std.proofs.lemmas.Bool.{and_from, lt-ltb}
 use Rattle.srs.specs.declared.piece.Piece.{Piece}
 use Rattle.hold_queue.specs.declared.hand.Hand.{Hand}
 use Rattle.hold_queue.specs.declared.hand.Taken.{Taken}
@@ -23,8 +24,7 @@ spells-below nodes at piece kinds some spelled = and_from _ _ (lt-ltb 0 (child n
 
 below-spells : (nodes : List Node) (at : ℕ) (piece : Piece) (kinds : List Piece) → spells nodes at (piece ∷ kinds) ≡ true → (0 < child nodes at piece) × (spells nodes (child nodes at piece) kinds ≡ true)
 unfolding spells
-below-spells nodes at piece kinds spelled =
-    let parts = and_parts (nat_lt 0 (child nodes at piece)) _ spelled in (ltb-true 0 (child nodes at piece) parts.0, parts.1)
+below-spells nodes at piece kinds spelled = search rules
 
 here-spells : (nodes : List Node) (at : ℕ) → spells nodes at [] ≡ true → has_end nodes at ≡ true
 unfolding spells
@@ -57,14 +57,7 @@ taken-begins nodes hold at pieces (kind ∷ kinds) open_end spelled taken =
 
 -- a queue of which all is seen, and more, is the same
 whole-front : (n : ℕ) (queue other : List Piece) → length queue < n → take n other ≡ take n queue → queue ≡ other
-whole-front zero queue other within same = absurd (omega arith)
-whole-front (suc n) [] [] within same = refl
-whole-front (suc n) [] (y ∷ other) within same = cc
-whole-front (suc n) (x ∷ queue) [] within same = cc
-whole-front (suc n) (x ∷ queue) (y ∷ other) within same =
-    let first : x ≡ y = cc in
-    let rest : take n other ≡ take n queue = cc in
-    ap (λ p. p ∷ queue) first ∙ ap (λ l. y ∷ l) (whole-front n queue other (omega arith) rest)
+whole-front n queue other within same = grind (arith, common_steps)
 
 module _ (nodes : List Node) (hold : Hold) (at : ℕ) (queue : List Piece) (hand : Hand) (within : hand.drawn ≤ length queue) (open_end : has_end nodes at ≡ false) where
   -- all of the queue is seen

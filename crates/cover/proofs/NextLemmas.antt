@@ -1,5 +1,5 @@
 -- A queue permits a kept list exactly where one of the tree's can be taken from its pieces at hand.
-use Rattle.std.proofs.Common.{◌≡◌, ℕ, ◌<◌, ◌≤◌, Some, List, length, slice_get, sym, subst, ◌∙◌, inl, inr, arith}
+use Rattle.std.proofs.Common.{◌≡◌, ℕ, ◌<◌, ◌≤◌, Some, List, length, slice_get, sym, subst, ◌∙◌, inl, inr, arith, rules}
 use Rattle.std.proofs.lemmas.Bool.{cases_lt}
 use Rattle.std.proofs.lemmas.Option.{slice_get_within}
 use Rattle.srs.specs.declared.piece.Piece.{Piece}
@@ -68,9 +68,5 @@ module _ (problem : Problem) (lists : List (List Piece)) (nodes : List Node) (ha
     ];
   }
 
-pub none-yet : (problem : Problem) (lists : List (List Piece)) (from : ℕ) → from ≤ length (queues (elements_of problem.pattern)) → NoneBetween problem lists from from
-none-yet problem lists from within = record { later = omega arith; within = within; none = λ number member above before. omega arith }
-
 pub none-at-all : (problem : Problem) (lists : List (List Piece)) (from to : ℕ) → NoneBetween problem lists from to → length (queues (elements_of problem.pattern)) ≤ to → (other : ℕ) → IsPermitted problem lists other → from ≤ other → ⊥
-none-at-all problem lists from to so_far all other member above =
-    so_far.none other member above (omega (arith, slice_get_within (queues (elements_of problem.pattern)) other member.queue member.there, all))
+none-at-all problem lists from to so_far all other member above = search (rules, slice_get_within)

@@ -1,5 +1,6 @@
 -- Lists that lead to nodes, and a list that ends at one node more.
-use Rattle.std.proofs.Common.{◌≡◌, ◌⊎◌, ℕ, ◌<◌, true, ◌&&◌, ◌==◌, nat_lt, List, [], ◌∷◌, ◌++◌, length, reverse, refl, sym, ap, subst, ◌∙◌, inl, inr, arith, append_assoc, append-nil}
+use Rattle.std.proofs.lemmas.Grind.{common_steps}
+use Rattle.std.proofs.Common.{◌≡◌, ◌⊎◌, ℕ, ◌<◌, true, ◌&&◌, ◌==◌, nat_lt, List, [], ◌∷◌, ◌++◌, length, reverse, refl, sym, ap, subst, ◌∙◌, inl, inr, arith, append_assoc, append-nil, rules}
 use Rattle.std.proofs.lemmas.Bool.{ltb-true, lt-ltb, eqb-true, and_parts, and_from, eq-eqb, or_cases, or_left, or_right}
 use Rattle.std.proofs.lemmas.List.{reverse-append, reverse-reverse}
 use Rattle.srs.specs.declared.piece.Piece.{Piece}
@@ -11,18 +12,10 @@ use Rattle.cover.specs.Nodes.{child, has_end, spells, Ends, HasGrown, IsTree, Le
 pub leads-grown : (old new : List Node) (kinds : List Piece) (node : ℕ) → HasGrown old new → LeadsTo old kinds node → LeadsTo new kinds node
 leads-grown old new [] node grows leads = leads
 leads-grown old new (kind ∷ kinds) node grows leads =
-    let some : 0 < child old leads.0 kind = omega (arith, leads.2, leads.3) in
-    (leads.0, leads-grown old new kinds leads.0 grows leads.1, grows.kept leads.0 kind some ∙ leads.2, leads.3)
+    search (rules, leads-grown old new kinds leads.0 grows leads.1)
 
 pub grows-twice : (first second third : List Node) → HasGrown first second → HasGrown second third → HasGrown first third
-grows-twice first second third one two = record {
-  longer = omega (arith, one.longer, two.longer);
-  kept = λ at kind some. two.kept at kind (omega (arith, some, one.kept at kind some)) ∙ one.kept at kind some;
-  spelled = λ at kinds within. two.spelled at kinds (omega (arith, within, one.longer)) ∙ one.spelled at kinds within;
-}
-
-pub grows-none : (nodes : List Node) → HasGrown nodes nodes
-grows-none nodes = record { longer = omega arith; kept = λ at kind some. refl; spelled = λ at kinds within. refl }
+grows-twice first second third one two = search rules
 
 pub leads-within : (nodes : List Node) (kinds : List Piece) (node : ℕ) → IsTree nodes → LeadsTo nodes kinds node → node < length nodes
 leads-within nodes [] node tree leads = omega (arith, leads, tree.rooted)
@@ -50,20 +43,13 @@ onto-reverse : (way kinds : List Piece) → onto way kinds ≡ reverse way ++ ki
 unfolding onto
 onto-reverse [] kinds = refl
 onto-reverse (kind ∷ way) kinds =
-    onto-reverse way (kind ∷ kinds) ∙ sym (append_assoc (reverse way) (kind ∷ []) kinds)
-    ∙ ap (λ front. front ++ kinds) (sym (reverse-append (kind ∷ []) way))
+    grind (arith, common_steps, append_assoc, reverse-append, onto-reverse way (kind ∷ kinds))
 
 onto-none : (kinds : List Piece) → onto (reverse kinds) [] ≡ kinds
 onto-none kinds = onto-reverse (reverse kinds) [] ∙ append-nil (reverse (reverse kinds)) ∙ reverse-reverse kinds
 
 pub ends-tree : (old new : List Node) (node : ℕ) → IsTree old → Ends old new node → IsTree new
-ends-tree old new node tree ends = record {
-  rooted = omega (arith, tree.rooted, ends.long);
-  later = λ at kind some. subst (λ c. at < c) (sym (ends.same at kind)) (tree.later at kind (omega (arith, some, ends.same at kind)));
-  within = λ at kind. omega (arith, tree.within at kind, ends.same at kind, ends.long);
-  one_above = λ at other kind second some same. tree.one_above at other kind second (omega (arith, some, ends.same at kind)) (sym (ends.same at kind) ∙ same ∙ ends.same other second);
-  one_kind = λ at other kind second some same. tree.one_kind at other kind second (omega (arith, some, ends.same at kind)) (sym (ends.same at kind) ∙ same ∙ ends.same other second);
-}
+ends-tree old new node tree ends = search rules
 
 module _ (old new : List Node) (kinds : List Piece) (node : ℕ) (tree : IsTree old) (leads : LeadsTo old (reverse kinds) node) (ends : Ends old new node) where
   -- what was spelled is

@@ -1,6 +1,6 @@
 -- The definitions, tried on a straight piece that clears the field and on two queues: the one that can hold back its first
 -- piece is covered, and the other one isn't.
-use Rattle.std.proofs.Common.{◌≡◌, ◌∙◌, ℕ, zero, suc, List, [], ◌∷◌, Option, Some, None, refl, sym, ap, subst, inl, inr, arith}
+use Rattle.std.proofs.Common.{◌≡◌, ◌∙◌, ℕ, zero, suc, List, [], ◌∷◌, Option, Some, None, refl, sym, ap, subst, arith, rules}
 use Rattle.std.specs.Prelude.{Contains, slice_get}
 use Rattle.srs.specs.declared.piece.Piece.{Piece}
 use Rattle.srs.specs.declared.piece.Piece.TheVariants.{I, T}
@@ -68,5 +68,4 @@ module _ (problem : Problem) (straight : Placement) (kind : straight.piece ≡ I
     none_after_the_first (suc (suc number)) covered above = there_are_two number covered
 
 kept_once : (old new : List ℕ) → Keeps old new 7 → old ≡ 7 ∷ [] → new ≡ 7 ∷ []
-kept_once old new (inl among) is = among.1 ∙ is
-kept_once old new (inr absent) is = absurd (absent.0 (subst (λ xs. Contains xs 7) (sym is) (0, omega arith, refl)))
+kept_once old new h2 is = search rules

@@ -1,5 +1,5 @@
 -- Each placement is looked up in the places of its piece.
-use Rattle.std.proofs.Common.{◌≡◌, ◌+◌, ◌-◌, ◌∙◌, ◌∷◌, sym, ap, subst, arith, drop, get_or, drop-cons, add-one, refl}
+use Rattle.std.proofs.Common.{◌≡◌, ◌+◌, ◌-◌, ◌∙◌, ◌∷◌, sym, ap, drop, get_or, drop-cons, add-one, refl, rules}
 use Rattle.srs.specs.Rules.{table_of}
 use Rattle.srs.specs.declared.placement.Placement.{Placement}
 use Rattle.srs.specs.declared.piece.Piece.TheVariants.{I}
@@ -8,31 +8,20 @@ use Rattle.well.specs.Well.{filled}
 use Rattle.problem.proofs.CallerLemmas.{filled-low}
 use Rattle.well.proofs.CallerLemmas.{free_inside}
 use Rattle.moves.proofs.CallerLemmas.{place-free}
-use Rattle.cover.proofs.PlayLemmas.{IsPlayed, played-starts, played-goes_on}
+use Rattle.cover.proofs.PlayLemmas.{played-starts, played-goes_on}
 use Rattle.cover.proofs.play.plays.Goals as goal
 
 abbrev no_placement : Placement
 no_placement = record { piece = I; rotation = Spawn; x = 0; y = 0 }
 
 pub placements-init : goal.placements-init
-placements-init g c =
-    let problem = c.args.problem.now in
-    subst (λ l. IsPlayed (table_of problem.rules) problem.drop_mode (filled problem.well) problem.height c.args.sequence.now.items (filled problem.well) problem.height l c.args.steps.now c.args.steps.now 0)
-    (sym c.as_slice-placement-items.ensures.value)
-    (played-starts (table_of problem.rules) problem.drop_mode (filled problem.well) problem.height c.args.sequence.now.items c.args.steps.now
-    (filled-low problem.well problem.height (omega (arith, c.requires.low)) c.requires.below))
+placements-init g c = search (rules, played-starts, filled-low)
 
 pub lies_below-requires : goal.lies_below-requires
-lies_below-requires g c =
-    let q = get_or c.as_slice-placement-items.result.now c.placements.placement-index no_placement in
-    let place = ((c.places-places.ensures.held q).0 (sym c.contains.ensures ∙ c.if-not-contains.false)).1 in
-    free_inside (filled c.placements.well) q (place-free (table_of c.args.problem.now.rules) (filled c.placements.well) c.args.problem.now.drop_mode q place)
+lies_below-requires g c = search (rules, free_inside, place-free)
 
 pub lock-removed-requires : goal.lock-removed-requires
-lock-removed-requires g c =
-    let q = get_or c.as_slice-placement-items.result.now c.placements.placement-index no_placement in
-    let place = ((c.places-places.ensures.held q).0 (sym c.contains.ensures ∙ c.if-not-contains.false)).1 in
-    place-free (table_of c.args.problem.now.rules) (filled c.placements.well) c.args.problem.now.drop_mode q place
+lock-removed-requires g c = search (rules, place-free)
 
 pub placements-preserved : goal.placements-preserved
 placements-preserved g c =

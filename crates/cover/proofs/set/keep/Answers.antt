@@ -1,7 +1,7 @@
 -- The tree has the lists that are kept.
-use Rattle.std.proofs.Common.{◌∙◌, map, sym, ap, subst, reverse}
+use Rattle.std.proofs.Common.{map, sym, subst, reverse, rules}
 use Rattle.cover.specs.Covered.{Keeps}
-use Rattle.cover.specs.Lists.{has_kinds, listed_kinds}
+use Rattle.cover.specs.Lists.{listed_kinds}
 use Rattle.cover.specs.Nodes.{LeadsTo}
 use Rattle.cover.specs.Tree.{nodes_of}
 use Rattle.cover.proofs.KeepLemmas.{grown-of, kept-of}
@@ -11,17 +11,13 @@ use Rattle.cover.proofs.WayLemmas.{leads-within}
 use Rattle.cover.proofs.set.keep.Goals as goal
 
 pub returns-in_err-node-clause-listed : goal.returns-in_err-node-clause-listed
-returns-in_err-node-clause-listed c =
-    (grown-of (nodes_of c.args.tree.now) (nodes_of c.way.new.self) (map listed_kinds c.args.lists.now.keys) (branches-of c.args.tree.now) c.in_err-node.ensures.grows (record { each = c.requires })).each
+returns-in_err-node-clause-listed c = search (rules, grown-of, branches-of)
 
 pub returns-in_err-insert-clause-listed : goal.returns-in_err-insert-clause-listed
-returns-in_err-insert-clause-listed c = λ other.
-    (grown-of (nodes_of c.args.tree.now) (nodes_of c.way.new.self) (map listed_kinds c.args.lists.now.keys) (branches-of c.args.tree.now) c.in_ok-node.ensures.grows (record { each = c.requires })).each other
-    ∙ ap (λ keys. has_kinds (map listed_kinds keys) other) (sym c.in_err-insert.ensures.err)
+returns-in_err-insert-clause-listed c = search (rules, grown-of, branches-of)
 
 pub end_at-requires : goal.end_at-requires
-end_at-requires c =
-    leads-within (nodes_of c.way.new.self) (reverse c.as_slice.result.now) c.in_ok-node.node (branches-of c.way.new.self) c.in_ok-node.ensures.leads
+end_at-requires c = search (rules, leads-within, branches-of)
 
 pub returns-clause-kept : goal.returns-clause-kept
 returns-clause-kept c =

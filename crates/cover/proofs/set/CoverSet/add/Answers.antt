@@ -1,15 +1,12 @@
 -- What plays is kept.
-use Rattle.std.proofs.Common.{refl, subst}
+use Rattle.std.proofs.Common.{refl, rules}
 use Rattle.std.specs.Result.{OnErr}
 use Rattle.std.specs.declared.result.Result.{Result}
-use Rattle.std.specs.declared.result.Result.TheVariants.{Ok, Err}
-use Rattle.cover.specs.Covered.{Keeps}
 use Rattle.cover.specs.Kept.{lists_of, kept_problem}
 use Rattle.cover.proofs.set.CoverSet.add.Goals as goal
 
 on_err : {A E : Type 0} (r : Result A E) (P : Type 0) → P → OnErr r P
-on_err (Ok v) P holds = tt
-on_err (Err e) P holds = holds
+on_err r P holds = search rules
 
 pub returns-then-not-plays-clause-plays : goal.returns-then-not-plays-clause-plays
 unfolding kept_problem
@@ -33,8 +30,8 @@ returns-clause-plays g c = c.if-not-plays.ensures.exact
 
 pub returns-clause-kept : goal.returns-clause-kept
 unfolding lists_of
-returns-clause-kept g c = subst (Keeps (lists_of c.args.self.now) _) c.kinds_of.ensures c.in_ok-keep.ensures.kept
+returns-clause-kept g c = search rules
 
 pub returns-in_err-keep-clause-none : goal.returns-in_err-keep-clause-none
 unfolding kept_problem
-returns-in_err-keep-clause-none g c = λ leaves. absurd (leaves (c.if-not-plays.ensures.exact.0 refl))
+returns-in_err-keep-clause-none g c = search rules

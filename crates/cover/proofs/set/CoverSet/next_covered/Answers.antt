@@ -1,5 +1,5 @@
 -- A queue permits a kept list, or those that begin like it permit none.
-use Rattle.std.proofs.Common.{arith}
+use Rattle.std.proofs.Common.{arith, rules}
 use Rattle.cover.specs.Kept.{lists_of, kept_problem}
 use Rattle.cover.specs.Tree.{nodes_of}
 use Rattle.cover.proofs.NextLemmas.{next-found, next-passed, none-at-all}
@@ -19,7 +19,7 @@ returns-in-Found c =
 
 pub loop-number-smaller : goal.loop-number-smaller
 unfolding kept_problem
-loop-number-smaller c = omega (arith, c.end_of_front-number.ensures.after, c.end_of_front-number.ensures.within)
+loop-number-smaller c = search rules
 
 pub loop-number-preserved : goal.loop-number-preserved
 unfolding kept_problem lists_of

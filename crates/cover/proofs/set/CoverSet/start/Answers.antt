@@ -1,13 +1,12 @@
 -- Nothing is kept, and the tree has no list.
-use Rattle.std.proofs.Common.{◌∙◌, sym, ap, refl, map}
+use Rattle.std.proofs.Common.{ap, refl, map, rules}
 use Rattle.cover.specs.Kept.{lists_of, kept_problem}
 use Rattle.cover.specs.Lists.{has_kinds, listed_kinds}
 use Rattle.cover.proofs.set.CoverSet.start.Goals as goal
 
 pub invariant_of-result-clause-listed : goal.invariant_of-result-clause-listed
 unfolding has_kinds
-invariant_of-result-clause-listed c = λ kinds.
-    c.in_ok-tree.ensures.none kinds ∙ sym (ap (λ keys. has_kinds (map listed_kinds keys) kinds) c.new-2.ensures.empty)
+invariant_of-result-clause-listed c = search rules
 
 pub returns-clause-problem : goal.returns-clause-problem
 unfolding kept_problem

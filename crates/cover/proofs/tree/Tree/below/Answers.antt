@@ -1,5 +1,5 @@
 -- The node at a place.
-use Rattle.std.proofs.Common.{◌∙◌, sym, refl}
+use Rattle.std.proofs.Common.{rules}
 use Rattle.std.proofs.lemmas.Option.{slice_get_read}
 use Rattle.cover.specs.Tree.{nodes_of}
 use Rattle.cover.proofs.GrownLemmas.{child-at}
@@ -7,6 +7,4 @@ use Rattle.cover.proofs.tree.Tree.below.Goals as goal
 
 pub returns : goal.returns
 unfolding nodes_of
-returns c =
-    c.child.ensures
-    ∙ sym (child-at c.args.self.now.nodes.items c.args.at c.index.result.now c.args.kind (slice_get_read c.args.self.now.nodes.items _ c.args.at c.index.result.now refl c.requires c.index.ensures))
+returns c = search (rules, child-at, slice_get_read)

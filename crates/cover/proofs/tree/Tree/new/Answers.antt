@@ -1,6 +1,6 @@
 -- The first node has nothing below it.
-use Rattle.std.proofs.Common.{◌∙◌, ◌++◌, ◌∷◌, [], sym, ap, subst}
-use Rattle.cover.specs.Nodes.{spells, IsTree}
+use Rattle.std.proofs.Common.{◌∙◌, ◌++◌, ◌∷◌, [], sym, ap, subst, rules}
+use Rattle.cover.specs.Nodes.{IsTree}
 use Rattle.cover.specs.Tree.{nodes_of}
 use Rattle.cover.proofs.GrownLemmas.{first-tree, first-spells}
 use Rattle.cover.proofs.tree.Tree.new.Goals as goal
@@ -12,6 +12,4 @@ invariant_of-result c =
 
 pub returns : goal.returns
 unfolding nodes_of
-returns c =
-    let items = c.in_ok-push.ensures.items ∙ ap (λ l. l ++ c.blank.result ∷ []) c.new-nodes.ensures.items in
-    record { none = λ kinds. ap (λ l. spells l 0 kinds) items ∙ first-spells c.blank.result kinds c.blank.ensures }
+returns c = search (rules, first-spells)

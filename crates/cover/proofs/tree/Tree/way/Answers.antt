@@ -1,5 +1,5 @@
 -- One kind more leads one node further.
-use Rattle.std.proofs.Common.{◌≡◌, ◌∙◌, ◌+◌, ◌<◌, ◌∷◌, ◌++◌, [], length, sym, ap, subst, take, get_or, reverse}
+use Rattle.std.proofs.Common.{◌≡◌, ◌∙◌, ◌+◌, ◌<◌, ◌∷◌, ◌++◌, [], length, sym, ap, subst, take, get_or, reverse, rules}
 use Rattle.std.proofs.lemmas.List.{reverse-append, take_more}
 use Rattle.srs.specs.declared.piece.Piece.TheVariants.{I}
 use Rattle.cover.specs.Nodes.{LeadsTo}
@@ -9,8 +9,7 @@ use Rattle.cover.proofs.WayLemmas.{grows-twice, leads-grown, leads-within}
 use Rattle.cover.proofs.tree.Tree.way.Goals as goal
 
 pub grown-requires : goal.grown-requires
-grown-requires c =
-    leads-within (nodes_of c.loop-kind.self) (reverse (take c.loop-kind.kind-index c.args.kinds.now)) c.loop-kind.node (branches-of c.loop-kind.self) c.loop-kind.invariant.1
+grown-requires c = search (rules, leads-within, branches-of)
 
 pub loop-kind-preserved : goal.loop-kind-preserved
 loop-kind-preserved c =
