@@ -1,7 +1,6 @@
 -- A turn of the loop over the bytes of a sequence.
-use Rattle.std.proofs.Common.{◌≡◌, ℕ, zero, suc, ◌+◌, ◌-◌, ◌<◌, ◌≤◌, ◌==◌, ◌&&◌, ◌≢◌, Bool, true, false, nat_lt, List, [], ◌∷◌, ◌++◌, length, drop, get_or, Option, Some, None, Ok, Err, refl, sym, ap, ◌∙◌, arith, length-append, drop-cons}
+use Rattle.std.proofs.Common.{◌≡◌, ℕ, suc, ◌+◌, ◌-◌, ◌<◌, ◌≤◌, ◌==◌, ◌&&◌, ◌≢◌, Bool, true, false, nat_lt, List, [], ◌∷◌, ◌++◌, length, drop, get_or, Option, Some, None, Ok, Err, refl, sym, ap, ◌∙◌, arith, length-append, drop-cons, rules}
 use Rattle.std.proofs.lemmas.List.{drop_all}
-use Rattle.std.proofs.lemmas.Bool.{ltb-true}
 use Rattle.srs.specs.declared.placement.Placement.{Placement}
 use Rattle.sequence_text.specs.declared.reading.Reading.{Reading}
 use Rattle.sequence_text.specs.Reading.{read_from, continue_with, step, may_end, unread, sequence_in}
@@ -27,8 +26,7 @@ other read left now place byte rest next no_blank stepped = rw (no_blank, steppe
 
 -- the whole text, where some placement is needed
 pub starts : (needed : ℕ) (text : List ℕ) → needed ≢ 0 → sequence_in needed text ≡ read_from [] (needed - 1) unread 0 text
-starts zero text some = absurd (some refl)
-starts (suc left) text some = let e : left ≡ suc left - 1 = omega arith in ap (λ k. read_from [] k unread 0 text) e
+starts needed text some = search rules
 
 -- the turns of the loop, from the reading before them
 pub turn_blank : (read : List Placement) (left : ℕ) (now : Reading) (text : List ℕ) (i : ℕ) → i < length text → (get_or text i 0 == 32) ≡ true
@@ -43,13 +41,11 @@ stops_blank read left now text i within is_blank test told on = rw (here text i 
 
 pub turn_other : (read : List Placement) (left : ℕ) (now : Reading) (text : List ℕ) (i : ℕ) (next : Reading) → i < length text → (get_or text i 0 == 32) ≡ false
     → Some next ≡ step now (get_or text i 0) → read_from read left next (i + 1) (drop (i + 1) text) ≡ read_from read left now i (drop i text)
-turn_other read left now text i next within no_blank stepped =
-    rw (here text i within) (sym (other read left now i (get_or text i 0) (drop (i + 1) text) (Some next) no_blank stepped))
+turn_other read left now text i next within no_blank stepped = search (rules, no_blank, here, other)
 
 pub stops_other : (read : List Placement) (left : ℕ) (now : Reading) (text : List ℕ) (i : ℕ) → i < length text → (get_or text i 0 == 32) ≡ false
     → None ≡ step now (get_or text i 0) → Err i ≡ read_from read left now i (drop i text)
-stops_other read left now text i within no_blank stepped =
-    rw (here text i within) (sym (other read left now i (get_or text i 0) (drop (i + 1) text) None no_blank stepped))
+stops_other read left now text i within no_blank stepped = search (rules, no_blank, here, other)
 
 -- after all bytes
 pub ends_whole : (read : List Placement) (left : ℕ) (now : Reading) (text : List ℕ) (i : ℕ) → length text ≤ i → (test : Bool) → test ≡ (may_end now.due && left == 0) → test ≡ true
@@ -77,15 +73,13 @@ next_other read left now text i same_read same_left next taken within no_blank s
     rw (kept, less, is) (turn_other read left now text i taken within no_blank stepped)
 
 some_left : (ends : Bool) (left : ℕ) → (ends && nat_lt 0 left) ≡ true → 0 < left
-some_left true left on = ltb-true 0 left on
-some_left false left on = cc
+some_left ends left on = search rules
 
 -- there is room for all placements
 pub room_blank : (read more : List Placement) (placement : Placement) (left fewer total : ℕ) (now : Reading) (test : Bool) → test ≡ (may_end now.due && nat_lt 0 left) → test ≡ true
     → more ≡ read ++ placement ∷ [] → fewer ≡ left - 1 → length read + left ≡ total → length more + fewer ≡ total
 room_blank read more placement left fewer total now test told on kept less all =
-    let some = some_left (may_end now.due) left (sym told ∙ on) in
-    omega (arith, ap length kept, length-append read (placement ∷ []))
+    search (rules, some_left, length-append)
 
 pub room_other : (read more : List Placement) (left same total : ℕ) → more ≡ read → same ≡ left → length read + left ≡ total → length more + same ≡ total
 room_other read more left same total kept less all = omega (arith, ap length kept)

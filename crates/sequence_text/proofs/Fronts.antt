@@ -1,9 +1,9 @@
 -- The place at which a sequence's text is refused is the length of the longest front that begins such a text.
-use Rattle.std.proofs.Common.{◌≡◌, ℕ, zero, suc, ◌+◌, ◌-◌, ◌<◌, ◌≤◌, ◌==◌, ◌&&◌, Bool, true, false, nat_lt, List, [], ◌∷◌, ◌++◌, length, take, Option, Some, None, Result, Ok, Err, refl, sym, ap, subst, ◌∙◌, arith, inl, inr, ◌⊎◌, ◌↔◌}
+use Rattle.std.proofs.Common.{◌≡◌, ℕ, zero, suc, ◌+◌, ◌-◌, ◌<◌, ◌≤◌, ◌==◌, ◌&&◌, Bool, true, false, nat_lt, List, [], ◌∷◌, ◌++◌, length, take, Option, Some, None, Result, Ok, Err, refl, sym, ap, subst, ◌∙◌, arith, inl, inr, ◌⊎◌, ◌↔◌, rules}
 use Rattle.srs.specs.declared.placement.Placement.{Placement}
 use Rattle.srs.specs.declared.piece.Piece.TheVariants.{I}
 use Rattle.srs.specs.declared.rotation.Rotation.TheVariants.{Spawn}
-use Rattle.std.proofs.lemmas.Bool.{lt-ltb, cases_lt}
+use Rattle.std.proofs.lemmas.Bool.{lt-ltb}
 use Rattle.sequence_text.specs.declared.reading.Due.{Due}
 use Rattle.sequence_text.specs.declared.reading.Due.TheVariants as due
 use Rattle.sequence_text.specs.declared.reading.Reading.{Reading}
@@ -90,8 +90,7 @@ at_blank read left now place byte true blank on =
 at_blank read left now place byte false blank on = inl (record { stops = λ bytes. rw (blank, on) refl })
 
 at_byte : (read : List Placement) (left : ℕ) (now : Reading) (place byte : ℕ) (blank : Bool) → (byte == 32) ≡ blank → Stops read left now place byte ⊎ ReadsFurther read left now place byte
-at_byte read left now place byte true is = at_blank read left now place byte (may_end now.due && nat_lt 0 left) is refl
-at_byte read left now place byte false is = at_other read left now place byte (step now byte) is refl
+at_byte read left now place byte blank is = search (rules, at_blank, at_other)
 
 -- a reading is refused at a place: what stands before it may go on to a whole sequence, and nothing longer may
 record Fails (read : List Placement) (left : ℕ) (now : Reading) (start : ℕ) (bytes : List ℕ) (place : ℕ) : Type 0 where
@@ -115,8 +114,7 @@ fails_here read left now start bytes place same longer =
 at_end : (read : List Placement) (left : ℕ) (now : Reading) (start place : ℕ) (whole : Bool) → (may_end now.due && left == 0) ≡ whole
     → read_from read left now start [] ≡ Err place → start ≡ place
 unfolding read_from
-at_end read left now start place true is refused = let h : ◌≡◌ {A = Answer} (Ok (read ++ now.placement ∷ [])) (Err place) = rw is at refused in cc
-at_end read left now start place false is refused = same_place start place (rw is at refused)
+at_end read left now start place whole is refused = search rules
 
 fails : (bytes : List ℕ) (read : List Placement) (left : ℕ) (now : Reading) (start place : ℕ) → read_from read left now start bytes ≡ Err place → Fails read left now start bytes place
 fails [] read left now start place refused =
@@ -184,13 +182,7 @@ bad-from_refused needed text place refused = record {
 }
 
 one_longest : (needed : ℕ) (text : List ℕ) (one other : ℕ) → IsLongestFront needed text one → IsLongestFront needed text other → one ≡ other
-one_longest needed text one other first second = elim (cases_lt one other) [
-  | inl above ↦ absurd (first.longest other above second.within second.begins)
-  | inr not_above ↦ elim (cases_lt other one) [
-    | inl above ↦ absurd (second.longest one above first.within first.begins)
-    | inr not_below ↦ omega (arith, not_above, not_below)
-  ]
-]
+one_longest needed text one other first second = search rules
 
 refused-from_bad : (needed : ℕ) (text : List ℕ) (place : ℕ) → IsRefusedAt needed text place → sequence_in needed text ≡ Err place
 refused-from_bad needed text place bad = by (sequence_in needed text) refl

@@ -1,5 +1,5 @@
 -- The text of placements without keys is that of placements with none.
-use Rattle.std.proofs.Common.{◌≡◌, List, [], ◌∷◌, ◌++◌, append-nil, refl, sym}
+use Rattle.std.proofs.Common.{◌≡◌, List, [], ◌∷◌, ◌++◌, append-nil, refl, sym, rules}
 use Rattle.std.specs.List.{flat_map}
 use Rattle.srs.specs.declared.placement.Placement.{Placement}
 use Rattle.placement_form.specs.Form.{placement_form}
@@ -12,5 +12,4 @@ plain_rest (q ∷ s) = λ i. (32 ∷ sym (append-nil (placement_form q)) i) ++ p
 
 pub plain_is : (s : List Placement) → plain_form s ≡ sequence_form (without_keys s)
 unfolding sequence_form
-plain_is [] = refl
-plain_is (q ∷ s) = λ i. sym (append-nil (placement_form q)) i ++ plain_rest s i
+plain_is s = search (rules, append-nil, plain_rest)

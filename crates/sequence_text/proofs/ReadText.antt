@@ -1,5 +1,5 @@
 -- The form of a sequence's text and the function that reads it agree: what is read is spelled.
-use Rattle.std.proofs.Common.{◌≡◌, ℕ, zero, suc, ◌+◌, ◌-◌, ◌<◌, ◌≤◌, Bool, true, false, ◌&&◌, ◌==◌, nat_lt, eqb-true, ltb-true, List, [], ◌∷◌, ◌++◌, length, map, append_assoc, append-nil, Option, Some, None, Result, Ok, Err, refl, ap, sym, subst, ◌∙◌, arith, inl, inr}
+use Rattle.std.proofs.Common.{◌≡◌, ℕ, zero, suc, ◌+◌, ◌-◌, ◌<◌, ◌≤◌, Bool, true, ◌&&◌, ◌==◌, nat_lt, eqb-true, ltb-true, List, [], ◌∷◌, ◌++◌, length, map, append_assoc, append-nil, Option, Some, None, Result, Ok, Err, refl, ap, sym, subst, ◌∙◌, arith, inl, inr, rules}
 use Rattle.std.specs.Prelude.{decimal, option_map}
 use Rattle.std.proofs.lemmas.Bool.{cases_Bool, and_parts}
 use Rattle.std.proofs.lemmas.Fmt.{decimal_digit}
@@ -7,13 +7,13 @@ use Rattle.std.proofs.lemmas.List.{map-append}
 use Rattle.std.proofs.lemmas.Option.{same_Some}
 use Rattle.srs.specs.declared.placement.Placement.{Placement}
 use Rattle.srs.specs.Piece.{piece_letter}
-use Rattle.srs.specs.Rotation.{rotation_letter, rotation_with_letter}
+use Rattle.srs.specs.Rotation.{rotation_letter}
 use Rattle.moves.specs.declared.key.Key.{Key}
 use Rattle.moves.specs.declared.key.Key.TheVariants as keys
 use Rattle.moves.specs.Keys.{key_letter}
 use Rattle.placement_form.specs.Form.{placement_form, IsPlacementText}
-use Rattle.placement_form.specs.Reading.{capital_piece, digit_in, two_digit_row}
-use Rattle.placement_form.proofs.CallerLemmas.{IsDigit, digit_only, IsRowOf, two_only, both_digits, piece_only, rotation_only}
+use Rattle.placement_form.specs.Reading.{digit_in, two_digit_row}
+use Rattle.placement_form.proofs.CallerLemmas.{IsDigit, digit_only, IsRowOf, two_only, both_digits}
 use Rattle.sequence_text.specs.declared.reading.Due.{Due}
 use Rattle.sequence_text.specs.declared.reading.Due.TheVariants as due
 use Rattle.sequence_text.specs.declared.reading.Reading.{Reading}
@@ -50,8 +50,7 @@ IsRead due.AfterKeys placement front = SpellsPlacement front placement
 
 -- a step that is taken
 when-some : (test : Bool) (next taken : Reading) → when test next ≡ Some taken → (test ≡ true) × (next ≡ taken)
-when-some true next taken e = (refl, cc)
-when-some false next taken e = cc
+when-some test next taken e = search rules
 
 record Found {A B : Type 0} (f : A → B) (found : Option A) (taken : B) : Type 0 where
   item : A
@@ -59,26 +58,11 @@ record Found {A B : Type 0} (f : A → B) (found : Option A) (taken : B) : Type 
   made : f item ≡ taken
 
 map-some : {A B : Type 0} (f : A → B) (found : Option A) (taken : B) → option_map f found ≡ Some taken → Found f found taken
-map-some f (Some item) taken e = record { item = item; is = refl; made = cc }
-map-some f None taken e = cc
+map-some f found taken e = search rules
 
 -- a letter of a key
 pressed_key : (byte : ℕ) → is_key_letter byte ≡ true → (key : Key) × (key_letter key ≡ byte)
-pressed_key byte is = elim (cases_Bool (byte == 76)) [
-  | inl e ↦ (keys.Left, sym (eqb-true byte 76 e))
-  | inr left ↦ elim (cases_Bool (byte == 82)) [
-    | inl e ↦ (keys.Right, sym (eqb-true byte 82 e))
-    | inr right ↦ elim (cases_Bool (byte == 68)) [
-      | inl e ↦ (keys.Down, sym (eqb-true byte 68 e))
-      | inr down ↦ elim (cases_Bool (byte == 67)) [
-        | inl e ↦ (keys.Clockwise, sym (eqb-true byte 67 e))
-        | inr clockwise ↦
-            let e : (byte == 65) ≡ true = rw (left, right, down, clockwise) at is in
-            (keys.Anti, sym (eqb-true byte 65 e))
-      ]
-    ]
-  ]
-]
+pressed_key byte is = search rules
 
 -- one more byte of a placement was read
 abbrev Grown : List ℕ → ℕ → Reading → Type 0
@@ -86,55 +70,33 @@ Grown front byte next = IsRead next.due next.placement (front ++ byte ∷ [])
 
 at_piece : (placement : Placement) (front : List ℕ) (byte : ℕ) (next : Reading) → front ≡ [] → step (reading due.PieceLetter placement) byte ≡ Some next → Grown front byte next
 unfolding step
-at_piece placement front byte next so_far stepped =
-    let found = map-some (λ piece. reading due.RotationLetter (record placement { piece = piece })) (capital_piece byte) next stepped in
-    let letter = piece_only byte found.item found.is in
-    subst (Grown front byte) found.made (rw so_far (ap (λ b. b ∷ []) (sym letter)))
+at_piece placement front byte next so_far stepped = search rules
 
 at_rotation : (placement : Placement) (front : List ℕ) (byte : ℕ) (next : Reading) → front ≡ piece_letter placement.piece ∷ [] → step (reading due.RotationLetter placement) byte ≡ Some next → Grown front byte next
 unfolding step
-at_rotation placement front byte next so_far stepped =
-    let found = map-some (λ rotation. reading due.Colon (record placement { rotation = rotation })) (rotation_with_letter byte) next stepped in
-    let letter = rotation_only byte found.item found.is in
-    subst (Grown front byte) found.made (rw so_far (ap (λ b. piece_letter placement.piece ∷ b ∷ []) (sym letter)))
+at_rotation placement front byte next so_far stepped = search rules
 
 at_colon : (placement : Placement) (front : List ℕ) (byte : ℕ) (next : Reading) → front ≡ piece_letter placement.piece ∷ rotation_letter placement.rotation ∷ [] → step (reading due.Colon placement) byte ≡ Some next
     → Grown front byte next
 unfolding step head
-at_colon placement front byte next so_far stepped =
-    let taken = when-some (byte == 58) (reading due.Column placement) next stepped in
-    subst (Grown front byte) taken.1 (rw so_far (ap (λ b. piece_letter placement.piece ∷ rotation_letter placement.rotation ∷ b ∷ []) (eqb-true byte 58 taken.0)))
+at_colon placement front byte next so_far stepped = search rules
 
 at_column : (placement : Placement) (front : List ℕ) (byte : ℕ) (next : Reading) → front ≡ head placement → step (reading due.Column placement) byte ≡ Some next → Grown front byte next
 unfolding step head
-at_column placement front byte next so_far stepped =
-    let found = map-some (λ column. reading due.Comma (record placement { x = column })) (digit_in byte) next stepped in
-    let digit = digit_only byte found.item found.is in
-    let written : decimal found.item ≡ byte ∷ [] = decimal_digit found.item (omega (arith, digit.small)) ∙ ap (λ b. b ∷ []) digit.is in
-    subst (Grown front byte) found.made (record { column = digit.small; whole = rw (so_far, written) refl })
+at_column placement front byte next so_far stepped = search (rules, map-some, digit_only, decimal_digit)
 
 at_comma : (placement : Placement) (front : List ℕ) (byte : ℕ) (next : Reading) → Column placement front (head placement ++ decimal placement.x) → step (reading due.Comma placement) byte ≡ Some next → Grown front byte next
 unfolding step
-at_comma placement front byte next so_far stepped =
-    let taken = when-some (byte == 44) (reading due.Row placement) next stepped in
-    subst (Grown front byte) taken.1 (record { column = so_far.column; whole = ap (λ t. t ++ byte ∷ []) so_far.whole ∙ ap (λ b. head placement ++ decimal placement.x ++ b ∷ []) (eqb-true byte 44 taken.0) })
+at_comma placement front byte next so_far stepped = search rules
 
 at_row : (placement : Placement) (front : List ℕ) (byte : ℕ) (next : Reading) → Column placement front (head placement ++ decimal placement.x ++ 44 ∷ []) → step (reading due.Row placement) byte ≡ Some next
     → Grown front byte next
 unfolding step head placement_form
-at_row placement front byte next so_far stepped =
-    let found = map-some (λ row. reading due.AfterRow (record placement { y = row })) (digit_in byte) next stepped in
-    let digit = digit_only byte found.item found.is in
-    let written : decimal found.item ≡ byte ∷ [] = decimal_digit found.item (omega (arith, digit.small)) ∙ ap (λ b. b ∷ []) digit.is in
-    subst (Grown front byte) found.made
-    (record { column = so_far.column; row = omega (arith, digit.small); written = ap (λ t. t ++ byte ∷ []) so_far.whole ∙ rw written refl })
+at_row placement front byte next so_far stepped = search (rules, map-some, digit_only, decimal_digit)
 
 -- keys
 at_keys : (placement : Placement) (front : List ℕ) (byte : ℕ) (next : Reading) → IsPlacementText front placement → keys_step placement byte ≡ Some next → Grown front byte next
-at_keys placement front byte next so_far stepped =
-    let taken = when-some (byte == 58) (reading due.Key placement) next stepped in
-    subst (Grown front byte) taken.1
-    (record { text = front; written = so_far; pressed = []; whole = ap (λ b. front ++ b ∷ []) (eqb-true byte 58 taken.0) })
+at_keys placement front byte next so_far stepped = search rules
 
 at_key : (placement : Placement) (front : List ℕ) (byte : ℕ) (next : Reading) → Pressed placement front → step (reading due.Key placement) byte ≡ Some next → Grown front byte next
 unfolding step
@@ -182,27 +144,12 @@ at_after_row placement front byte next so_far stepped = by (digit_in byte) refl
 -- whatever is due
 grown : (kind : Due) (placement : Placement) (front : List ℕ) (byte : ℕ) (next : Reading) → IsRead kind placement front → step (reading kind placement) byte ≡ Some next → Grown front byte next
 unfolding step
-grown due.PieceLetter placement front byte next so_far stepped = at_piece placement front byte next so_far stepped
-grown due.RotationLetter placement front byte next so_far stepped = at_rotation placement front byte next so_far stepped
-grown due.Colon placement front byte next so_far stepped = at_colon placement front byte next so_far stepped
-grown due.Column placement front byte next so_far stepped = at_column placement front byte next so_far stepped
-grown due.Comma placement front byte next so_far stepped = at_comma placement front byte next so_far stepped
-grown due.Row placement front byte next so_far stepped = at_row placement front byte next so_far stepped
-grown due.AfterRow placement front byte next so_far stepped = at_after_row placement front byte next so_far stepped
-grown due.Key placement front byte next so_far stepped = at_key placement front byte next so_far stepped
-grown due.AfterKeys placement front byte next so_far stepped = cc
+grown kind placement front byte next so_far stepped =
+    search (rules, at_piece, at_rotation, at_colon, at_column, at_comma, at_row, at_after_row, at_key)
 
 -- where a placement may end, its text was read
 ended : (kind : Due) (placement : Placement) (front : List ℕ) → IsRead kind placement front → may_end kind ≡ true → SpellsPlacement front placement
-ended due.AfterRow placement front so_far may = alone so_far
-ended due.AfterKeys placement front so_far may = so_far
-ended due.PieceLetter placement front so_far may = cc
-ended due.RotationLetter placement front so_far may = cc
-ended due.Colon placement front so_far may = cc
-ended due.Column placement front so_far may = cc
-ended due.Comma placement front so_far may = cc
-ended due.Row placement front so_far may = cc
-ended due.Key placement front so_far may = cc
+ended kind placement front so_far may = search (rules, alone)
 
 -- what was read after the placements before
 record Spelled (read : List Placement) (left : ℕ) (text : List ℕ) (sequence : List Placement) : Type 0 where
@@ -221,32 +168,13 @@ no_answer place sequence e = cc
 at_end : (read : List Placement) (left : ℕ) (now : Reading) (front : List ℕ) (place : ℕ) (sequence : List Placement) → IsRead now.due now.placement front
     → read_from read left now place [] ≡ Ok sequence → Spelled read left (front ++ []) sequence
 unfolding read_from
-at_end read left now front place sequence so_far gives = elim (cases_Bool (may_end now.due && left == 0)) [
-  | inl is ↦
-      let parts = and_parts _ _ is in
-      let none_left = eqb-true left 0 parts.1 in
-      record {
-        later = now.placement ∷ [];
-        whole = sym (ok_is (read ++ now.placement ∷ []) sequence (rw is at gives));
-        spelled = subst (λ t. SpellsSequence t (now.placement ∷ [])) (sym (append-nil front)) (last (ended now.due now.placement front so_far parts.0));
-        count = omega (arith, none_left);
-      }
-  | inr is ↦ absurd (no_answer place sequence (rw is at gives))
-]
+at_end read left now front place sequence so_far gives =
+    search (rules, cases_Bool, eqb-true, ok_is, append-nil, last, ended, no_answer)
 
 -- a placement before others
 before_others : (read : List Placement) (left : ℕ) (placement : Placement) (front bytes : List ℕ) (sequence : List Placement) → 0 < left → SpellsPlacement front placement
     → Spelled (read ++ placement ∷ []) (left - 1) bytes sequence → Spelled read left (front ++ 32 ∷ bytes) sequence
-before_others read left placement front bytes sequence some first others = by others.later others.whole others.spelled others.count
-  where
-    by : (later : List Placement) → sequence ≡ read ++ placement ∷ [] ++ later → SpellsSequence bytes later → length later ≡ suc (left - 1) → Spelled read left (front ++ 32 ∷ bytes) sequence
-    by [] whole spelled count = absurd (omega (arith, count))
-    by (second ∷ rest) whole spelled count = record {
-      later = placement ∷ second ∷ rest;
-      whole = whole ∙ append_assoc read (placement ∷ []) (second ∷ rest);
-      spelled = more first spelled;
-      count = omega (arith, count);
-    }
+before_others read left placement front bytes sequence some first others = search (rules, append_assoc, more)
 
 -- a byte that is taken
 record Taken (step : Option Reading) (rest : Reading → Result (List Placement) ℕ) (sequence : List Placement) : Type 0 where
@@ -255,8 +183,7 @@ record Taken (step : Option Reading) (rest : Reading → Result (List Placement)
   gives : rest next ≡ Ok sequence
 
 step_taken : (step : Option Reading) (place : ℕ) (rest : Reading → Result (List Placement) ℕ) (sequence : List Placement) → continue_with step place rest ≡ Ok sequence → Taken step rest sequence
-step_taken None place rest sequence gives = absurd (no_answer place sequence gives)
-step_taken (Some next) place rest sequence gives = record { next = next; is = refl; gives = gives }
+step_taken step place rest sequence gives = search rules
 
 spelled_from : (bytes : List ℕ) (read : List Placement) (left : ℕ) (now : Reading) (front : List ℕ) (place : ℕ) (sequence : List Placement) → IsRead now.due now.placement front
     → read_from read left now place bytes ≡ Ok sequence → Spelled read left (front ++ bytes) sequence

@@ -1,5 +1,5 @@
 -- What is written of placements in the well spells them.
-use Rattle.std.proofs.Common.{suc, ◌≤◌, List, [], ◌∷◌, length, map, All, append-nil, append_assoc, Some, None, refl, sym, subst, arith}
+use Rattle.std.proofs.Common.{suc, ◌≤◌, List, [], ◌∷◌, length, map, All, append-nil, append_assoc, Some, None, refl, subst, arith, rules}
 use Rattle.std.proofs.lemmas.List.{length-map}
 use Rattle.srs.specs.declared.placement.Placement.{Placement}
 use Rattle.moves.specs.Keys.{key_letter}
@@ -15,8 +15,7 @@ text_of : (placement : Placement) → (placement.x ≤ 9) → (placement.y ≤ 2
 text_of placement column row = record { column = column; row = row; written = refl }
 
 item_spelled : (item : Keyed) → InWell item → SpellsPlacement (keyed_form item) item.0
-item_spelled (placement, None) inside =
-    subst (λ t. SpellsPlacement t placement) (sym (append-nil (placement_form placement))) (alone (text_of placement inside.0 inside.1))
+item_spelled (placement, None) inside = search (rules, append-nil, alone, text_of)
 item_spelled (placement, Some keys) inside =
     subst (λ t. SpellsPlacement t placement) (append_assoc (placement_form placement) (58 ∷ map key_letter keys) (72 ∷ []))
     (with_keys {text = placement_form placement} {placement = placement} (text_of placement inside.0 inside.1) keys)
@@ -30,8 +29,7 @@ rest_inside item rest inside = λ i d within. inside (suc i) d (omega (arith, wi
 items_spelled : (keyed : List Keyed) → All InWell keyed → SpellsSequence (sequence_form keyed) (map (λ item. item.0) keyed)
 unfolding sequence_form
 items_spelled [] inside = none
-items_spelled (item ∷ []) inside =
-    subst (λ t. SpellsSequence t (item.0 ∷ [])) (sym (append-nil (keyed_form item))) (last (item_spelled item (first_inside item [] inside)))
+items_spelled (item ∷ []) inside = search (rules, append-nil, last, item_spelled, first_inside)
 items_spelled (first ∷ second ∷ rest) inside =
     more (item_spelled first (first_inside first (second ∷ rest) inside)) (items_spelled (second ∷ rest) (rest_inside first (second ∷ rest) inside))
 

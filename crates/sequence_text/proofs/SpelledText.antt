@@ -1,13 +1,11 @@
 -- The form of a sequence's text and the function that reads it agree: what is spelled is read.
-use Rattle.std.proofs.Common.{◌≡◌, ℕ, zero, suc, ◌+◌, ◌-◌, ◌*◌, ◌/◌, ◌%◌, ◌<◌, ◌≤◌, true, false, ◌==◌, nat_lt, List, [], ◌∷◌, ◌++◌, length, map, append_assoc, append-nil, Some, Ok, refl, ap, sym, subst, ◌∙◌, arith, inl, inr}
+use Rattle.std.proofs.Common.{◌≡◌, ℕ, zero, suc, ◌+◌, ◌-◌, ◌*◌, ◌/◌, ◌%◌, ◌<◌, ◌≤◌, true, false, ◌==◌, nat_lt, List, [], ◌∷◌, ◌++◌, length, map, append_assoc, append-nil, Some, Ok, refl, ap, sym, subst, ◌∙◌, arith, inl, inr, rules}
 use Rattle.std.specs.Prelude.{decimal}
 use Rattle.std.proofs.lemmas.Bool.{cases_lt, lt-ltb}
 use Rattle.std.proofs.lemmas.Bool.Decides.{nat_tests}
 use Rattle.std.proofs.lemmas.Fmt.{decimal_digit}
 use Rattle.srs.specs.declared.piece.Piece.{Piece}
-use Rattle.srs.specs.declared.piece.Piece.TheVariants.{I, L, O, Z, T, J, S}
 use Rattle.srs.specs.declared.rotation.Rotation.{Rotation}
-use Rattle.srs.specs.declared.rotation.Rotation.TheVariants.{Spawn, Right, Reverse, Left}
 use Rattle.srs.specs.declared.placement.Placement.{Placement}
 use Rattle.srs.specs.Piece.{piece_letter}
 use Rattle.srs.specs.Rotation.{rotation_letter}
@@ -35,18 +33,10 @@ one_byte byte no_blank stepped later = record { from = λ place. rw (no_blank, s
 -- the keys behind a placement
 key_stays : (placement : Placement) (key : Key) → step (reading due.Key placement) (key_letter key) ≡ Some (reading due.Key placement)
 unfolding step
-key_stays placement keys.Left = refl
-key_stays placement keys.Right = refl
-key_stays placement keys.Down = refl
-key_stays placement keys.Clockwise = refl
-key_stays placement keys.Anti = refl
+key_stays placement key = search rules
 
 key_no_blank : (key : Key) → (key_letter key == 32) ≡ false
-key_no_blank keys.Left = refl
-key_no_blank keys.Right = refl
-key_no_blank keys.Down = refl
-key_no_blank keys.Clockwise = refl
-key_no_blank keys.Anti = refl
+key_no_blank key = search rules
 
 -- the digits of a row
 digit_no_blank : (n : ℕ) → (48 + n == 32) ≡ false
@@ -67,13 +57,7 @@ unfolding step
 piece_step placement piece = rw (piece_read piece) refl
 
 piece_no_blank : (piece : Piece) → (piece_letter piece == 32) ≡ false
-piece_no_blank I = refl
-piece_no_blank L = refl
-piece_no_blank O = refl
-piece_no_blank Z = refl
-piece_no_blank T = refl
-piece_no_blank J = refl
-piece_no_blank S = refl
+piece_no_blank piece = search rules
 
 rotation_step : (placement : Placement) (rotation : Rotation)
     → step (reading due.RotationLetter placement) (rotation_letter rotation) ≡ Some (reading due.Colon (record placement { rotation = rotation }))
@@ -81,10 +65,7 @@ unfolding step
 rotation_step placement rotation = rw (rotation_with_letter-letter rotation) refl
 
 rotation_no_blank : (rotation : Rotation) → (rotation_letter rotation == 32) ≡ false
-rotation_no_blank Spawn = refl
-rotation_no_blank Right = refl
-rotation_no_blank Reverse = refl
-rotation_no_blank Left = refl
+rotation_no_blank rotation = search rules
 
 column_step : (placement : Placement) (n : ℕ) → n ≤ 9 → step (reading due.Column placement) (48 + n) ≡ Some (reading due.Comma (record placement { x = n }))
 unfolding step
