@@ -1,6 +1,6 @@
 -- How long a run can be.
-use Rattle.std.proofs.Common.{◌≡◌, ℕ, ◌/◌, ◌≤◌, ◌<◌, min, List, length, map, arith}
-use Rattle.std.proofs.lemmas.List.{length-map}
+use Rattle.std.proofs.lemmas.Grind.{common_steps}
+use Rattle.std.proofs.Common.{◌≡◌, ℕ, ◌/◌, ◌≤◌, ◌<◌, min, List, length, arith}
 use Rattle.lane_board.specs.Field.{Field}
 use Rattle.lane_board.specs.CellCount.{cell_count}
 use Rattle.srs.specs.declared.piece.Piece.{Piece}
@@ -14,8 +14,7 @@ use Rattle.problem.proofs.CallerLemmas.{runs_take_cells}
 
 -- a run takes the pieces at hand
 taken_length : (table : Table) (mode : DropMode) (F : Field) (hold : Hold) (hand : List Piece) (run : List Placement) → IsTakenRun table mode F hold hand run → length run ≤ length hand
-taken_length table mode F hold hand run member =
-    omega (arith, length-map run (λ (placement : Placement). placement.piece), takes-length hold hand (map (λ (placement : Placement). placement.piece) run) member.taken)
+taken_length table mode F hold hand run member = grind (arith, common_steps, takes-length)
 
 -- so the cells and the pieces at hand bound it
 pub within_cells : (table : Table) (mode : DropMode) (F : Field) (hold : Hold) (hand : List Piece) (most : ℕ) (run : List Placement) → most ≡ min (length hand) (cell_count F 23 / 6)

@@ -1,6 +1,7 @@
 -- The first of the runs of so many placements.
+use Rattle.std.proofs.lemmas.Grind.{common_steps}
 use Rattle.std.proofs.Common.{◌≡◌, ◌≢◌, ℕ, ◌-◌, ◌≤◌, ◌<◌, false, List, [], ◌∷◌, length, refl, ap, sym, subst, ◌∙◌, arith, Option, Some, None, inl, inr, ◌⊎◌, rules}
-use Rattle.std.specs.Ordering.{is_lt, ordering_then, ordering_reverse, nat_cmp}
+use Rattle.std.specs.Ordering.{is_lt, ordering_then, ordering_reverse}
 use Rattle.std.specs.declared.cmp.Ordering.{Ordering}
 use Rattle.std.specs.declared.cmp.Ordering.TheVariants.{Less, Equal, Greater}
 use Rattle.std.specs.Prelude.{IfSome}
@@ -8,12 +9,11 @@ use Rattle.arrayvec.specs.ArrayVec.{ArrayVec}
 use Rattle.std.proofs.lemmas.Bool.{cases_Bool, false≢true}
 use Rattle.lane_board.specs.Field.{Field}
 use Rattle.srs.specs.Rising.{is_above, IsLeastAbove, NoneAbove}
-use Rattle.srs.proofs.CallerLemmas.{below_is_less, placement_cmp-total, sequence_cmp-first, sequence_cmp-total, placement_cmp-antisymmetric}
+use Rattle.srs.proofs.CallerLemmas.{below_is_less, placement_cmp-total, sequence_cmp-first, placement_cmp-antisymmetric}
 use Rattle.srs.specs.declared.piece.Piece.{Piece}
 use Rattle.srs.specs.declared.placement.Placement.{Placement}
 use Rattle.srs.specs.Kick.{Table}
 use Rattle.srs.specs.Piece.{piece_code}
-use Rattle.srs.specs.Rotation.{rotation_place}
 use Rattle.srs.specs.Order.{placement_cmp, sequence_cmp}
 use Rattle.well.specs.Lock.{locked, rows_removed}
 use Rattle.moves.specs.declared.key.DropMode.{DropMode}
@@ -115,11 +115,6 @@ module _ (table : Table) (mode : DropMode) (hold : Hold) (F : Field) (queue : Li
         | inr below ↦ absurd (omega (arith, long, so_far.each (p ∷ other) (member, below)))
       ]
 
--- no piece, no run
-pub none_taken : (table : Table) (mode : DropMode) (hold : Hold) (F : Field) (queue : List Piece) (taken : Option Taken) (count : ℕ) → 0 < count → taken ≡ None → AreShorter (RunsOnIf table mode hold F queue taken) count
-none_taken table mode hold F queue None count some is = record { each = λ run member. omega (arith, some, ap length member) }
-none_taken table mode hold F queue (Some taken) count some is = cc
-
 -- ---- two taken pieces
 
 runs_on : (table : Table) (mode : DropMode) (hold : Hold) (F : Field) (queue : List Piece) (taken : Option Taken) (q : Placement) (run : List Placement) (left : List Piece) → Leaves queue taken q.piece left
@@ -144,11 +139,7 @@ plays table mode hold F queue taken q run on = ap piece_code on.0
 
 -- a run that begins with a lesser piece comes before
 before : (q p : Placement) (run other : List Placement) → piece_code q.piece < piece_code p.piece → sequence_cmp (p ∷ other) (q ∷ run) ≢ Less
-before q p run other kind less =
-    let first : placement_cmp q p ≡ Less =
-    ap (λ o. ordering_then o (ordering_then (nat_cmp (rotation_place q.rotation) (rotation_place p.rotation)) (ordering_then (nat_cmp q.y p.y) (nat_cmp q.x p.x)))) (below_is_less _ _ kind) in
-    let greater : sequence_cmp (p ∷ other) (q ∷ run) ≡ Greater = sequence_cmp-total.antisymm (p ∷ other) (q ∷ run) ∙ ap ordering_reverse (sequence_cmp-first q p run other first) in
-    let apart : Less ≡ Greater = sym less ∙ greater in cc
+before q p run other kind less = grind (arith, common_steps, below_is_less, sequence_cmp-first)
 
 module _ (table : Table) (mode : DropMode) (hold : Hold) (F : Field) (queue : List Piece) (hand : Hand) (one other : Option Taken) (count : ℕ) (some : 0 < count)
     (ways : AreAllTakes hold queue hand one other) where
@@ -217,15 +208,7 @@ module _ (table : Table) (mode : DropMode) (hold : Hold) (F : Field) (queue : Li
 -- the run of no placement
 pub empty_first : (table : Table) (mode : DropMode) (F : Field) (hold : Hold) (hand : List Piece) (count : ℕ) (run : List Placement) → count ≡ 0 → run ≡ []
     → IsFirst (IsTakenRun table mode F hold hand) count run
-empty_first table mode F hold hand count run none is = subst (IsFirst (IsTakenRun table mode F hold hand) count) (sym is) (record {
-  member = record { runs = tt; taken = tt };
-  long = sym none;
-  first = first;
-})
-  where
-    first : (other : List Placement) → IsTakenRun table mode F hold hand other → length other ≡ count → sequence_cmp other [] ≢ Less
-    first [] member long less = cc
-    first (p ∷ other) member long less = absurd (omega (arith, long, none))
+empty_first table mode F hold hand count run none is = grind (arith, common_steps)
 
 -- the first of the longest runs
 pub is_longest : (table : Table) (mode : DropMode) (F : Field) (hold : Hold) (queue : List Piece) (held : Option Piece) (hand : List Piece) (count : ℕ) (run : List Placement) → hand ≡ at_hand hold held queue → 1 ≤ count

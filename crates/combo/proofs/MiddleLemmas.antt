@@ -38,8 +38,7 @@ has_empty-none F x (suc n) filled_below =
     or_from (has_empty F x n) (not (F x n)) (has_empty-none F x n (λ y below. filled_below y (omega (arith, below)))) (ap not (filled_below n (omega arith)))
 
 in_three : (F : Field) (x y : ℕ) → has_three F x y ≡ true → (F x y ≡ true) × (F (x + 1) y ≡ true) × (F (x + 2) y ≡ true)
-in_three F x y three = let two = and_first (F x y && F (x + 1) y) (F (x + 2) y) three in
-    (and_first (F x y) (F (x + 1) y) two, and_second (F x y) (F (x + 1) y) two, and_second (F x y && F (x + 1) y) (F (x + 2) y) three)
+in_three F x y three = search rules
 
 -- an empty cell of a row with gaps lies in the middle
 sides : (F : Field) (y : ℕ) → has_three F 0 y ≡ true → has_three F 7 y ≡ true → (x : ℕ) → x < 10 → F x y ≡ false → is_middle x ≡ true

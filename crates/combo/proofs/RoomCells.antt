@@ -1,4 +1,5 @@
 -- Two cells of one placement, and a column in which it crosses a height.
+use Rattle.std.proofs.lemmas.Grind.{common_steps}
 use Rattle.std.proofs.Common.{◌≡◌, ◌≢◌, ℕ, ◌+◌, ◌-◌, ◌<◌, ◌≤◌, ℤ, pos, ◌+ℤ◌, ◌-ℤ◌, ◌≤ℤ◌, Bool, true, ◌&&◌, ◌||◌, List, [], ◌∷◌, ◌⊎◌, refl, sym, subst, ap, ◌∙◌, inl, inr, arith, rules}
 use Rattle.std.specs.Prelude.{int_le, nat_abs}
 use Rattle.std.specs.List.{list_all}
@@ -95,19 +96,7 @@ crossing_in q height x some inside crossed =
     }
 
 crossing : (q : Placement) (height : ℕ) → 1 ≤ height → is_inside_of q ≡ true → crosses (its_shape q) (pos height -ℤ pos q.y) ≡ true → Crossing q height
-crossing q height some inside crossed = elim (or_cases _ _ crossed) [
-  | inl at ↦ crossing_in q height (minus 2) some inside at
-  | inr later ↦ elim (or_cases _ _ later) [
-    | inl at ↦ crossing_in q height (minus 1) some inside at
-    | inr later ↦ elim (or_cases _ _ later) [
-      | inl at ↦ crossing_in q height (pos 0) some inside at
-      | inr later ↦ elim (or_cases _ _ later) [
-        | inl at ↦ crossing_in q height (pos 1) some inside at
-        | inr at ↦ crossing_in q height (pos 2) some inside at
-      ]
-    ]
-  ]
-]
+crossing q height some inside crossed = grind (arith, common_steps, or_cases, crossing_in)
 
 -- what is tried of a row that lies above the one cell
 tried : (q : Placement) (height y : ℕ) (t : ℤ) → y < height → t ≡ pos height -ℤ pos q.y → (int_le t (pos y -ℤ pos q.y) || crosses (its_shape q) t) ≡ true → crosses (its_shape q) (pos height -ℤ pos q.y) ≡ true

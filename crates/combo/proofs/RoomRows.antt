@@ -1,5 +1,6 @@
 -- Rows and cells after full rows are removed below a height at and above which none is full.
-use Rattle.std.proofs.Common.{◌≡◌, ℕ, zero, suc, ◌+◌, ◌*◌, ◌<◌, ◌≤◌, Bool, true, false, cond, count_by, get_or, List, [], ◌∷◌, length, subst, ap, ◌∙◌, inl, inr, arith, rules}
+use Rattle.std.proofs.lemmas.Grind.{common_steps}
+use Rattle.std.proofs.Common.{◌≡◌, ℕ, zero, suc, ◌+◌, ◌*◌, ◌<◌, ◌≤◌, Bool, true, false, cond, count_by, get_or, List, [], ◌∷◌, length, subst, ap, inl, inr, arith, rules}
 use Rattle.std.proofs.Math.Path.{fun_ext}
 use Rattle.std.proofs.lemmas.Bool.{cases_Bool, cases_eq, cases_order, false_from_ne_true}
 use Rattle.std.proofs.lemmas.List.Sums.{sum_by-cons}
@@ -16,11 +17,7 @@ count_of b = cond b 1 0
 -- fewer pass a test that passes less
 count_le : (p q : ℕ → Bool) (xs : List ℕ) → ((x : ℕ) → p x ≡ true → q x ≡ true) → count_by p xs ≤ count_by q xs
 count_le p q [] less = omega arith
-count_le p q (x ∷ xs) less = elim (cases_Bool (p x)) [
-  | inl passes ↦
-      omega (arith, sum_by-cons (λ x. cond (p x) 1 0) x xs, sum_by-cons (λ x. cond (q x) 1 0) x xs, ap count_of passes, ap count_of (less x passes), count_le p q xs less)
-  | inr fails ↦ omega (arith, sum_by-cons (λ x. cond (p x) 1 0) x xs, sum_by-cons (λ x. cond (q x) 1 0) x xs, ap count_of fails, count_le p q xs less)
-]
+count_le p q (x ∷ xs) less = grind (arith, common_steps, cases_Bool, sum_by-cons, count_le p q xs less)
 
 -- a field with the cells of another has as many or more
 pub cell_count-more : (F G : Field) (n : ℕ) → ((x y : ℕ) → F x y ≡ true → G x y ≡ true) → cell_count F n ≤ cell_count G n
@@ -95,19 +92,13 @@ comes_from_above G height row y above stays lowered = search (rules, cases_order
 -- one element passes the second test alone
 count_less : (p q : ℕ → Bool) (xs : List ℕ) (i : ℕ) → ((x : ℕ) → p x ≡ true → q x ≡ true) → i < length xs → p (get_or xs i 0) ≡ false → q (get_or xs i 0) ≡ true → count_by p xs + 1 ≤ count_by q xs
 count_less p q [] i less within fails passes = absurd (omega (arith, within))
-count_less p q (x ∷ xs) zero less within fails passes =
-    omega (arith, sum_by-cons (λ x. cond (p x) 1 0) x xs, sum_by-cons (λ x. cond (q x) 1 0) x xs, ap count_of fails, ap count_of passes, count_le p q xs less)
+count_less p q (x ∷ xs) zero less within fails passes = grind (arith, common_steps, sum_by-cons, count_le)
 count_less p q (x ∷ xs) (suc i) less within fails passes =
-    let rest = count_less p q xs i less (omega (arith, within)) fails passes in
-    elim (cases_Bool (p x)) [
-      | inl one ↦ omega (arith, sum_by-cons (λ x. cond (p x) 1 0) x xs, sum_by-cons (λ x. cond (q x) 1 0) x xs, ap count_of one, ap count_of (less x one), rest)
-      | inr none ↦ omega (arith, sum_by-cons (λ x. cond (p x) 1 0) x xs, sum_by-cons (λ x. cond (q x) 1 0) x xs, ap count_of none, rest)
-    ]
+    grind (arith, common_steps, cases_Bool, sum_by-cons, count_less p q xs i less (omega (arith, within)) fails passes)
 
 -- of columns
 pub columns_le : (p q : ℕ → Bool) → ((x : ℕ) → p x ≡ true → q x ≡ true) → count_by p columns ≤ count_by q columns
 columns_le p q less = count_le p q columns less
 
 pub columns_less : (p q : ℕ → Bool) (column : ℕ) → column < 10 → ((x : ℕ) → p x ≡ true → q x ≡ true) → p column ≡ false → q column ≡ true → count_by p columns + 1 ≤ count_by q columns
-columns_less p q column within less fails passes =
-    count_less p q columns column less within (ap p (column_is column within) ∙ fails) (ap q (column_is column within) ∙ passes)
+columns_less p q column within less fails passes = search (rules, count_less, column_is)

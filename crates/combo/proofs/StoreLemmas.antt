@@ -1,22 +1,11 @@
 -- What a store says is true.
-use Rattle.std.proofs.Common.{◌≡◌, ◌≤◌, ℕ, List, Option, Some, rules}
-use Rattle.std.specs.Prelude.{Bool, IfSome, IsTrue}
+use Rattle.std.proofs.Common.{◌≡◌, ◌≤◌, ℕ, Option, Some}
+use Rattle.std.specs.Prelude.{Bool, IsTrue}
 use Rattle.lane_board.specs.Field.{Field}
-use Rattle.srs.specs.declared.piece.Piece.{Piece}
-use Rattle.srs.specs.Kick.{Table}
 use Rattle.well.specs.Well.{filled}
-use Rattle.moves.specs.declared.key.DropMode.{DropMode}
 use Rattle.hold_queue.specs.declared.hand.Hand.{Hand}
-use Rattle.hold_queue.specs.declared.hold.Hold.{Hold}
-use Rattle.hold_queue.specs.Hand.{pieces_at}
 use Rattle.combo.specs.declared.searched.SearchedPosition.{SearchedPosition}
-use Rattle.combo.specs.First.{AreShorter, IsTakenRun}
-use Rattle.combo.specs.Searched.{SaysShorter, HasShorterRuns}
-
--- what an entry says
-pub said_shorter : (table : Table) (mode : DropMode) (hold : Hold) (queue : List Piece) (entry : Option SearchedPosition) (F : Field) (hand : Hand) (count : ℕ)
-    → IfSome entry (HasShorterRuns table mode hold queue) → SaysShorter entry F hand count → AreShorter (IsTakenRun table mode F hold (pieces_at queue hand)) count
-said_shorter table mode hold queue entry F hand count stored says = search rules
+use Rattle.combo.specs.Searched.{SaysShorter}
 
 -- an entry that is asked
 pub says_shorter : (result : Bool) (entry : Option SearchedPosition) (position : SearchedPosition) (F : Field) (hand : Hand) (count : ℕ) → entry ≡ Some position

@@ -1,6 +1,6 @@
 -- The definitions, tried on a row with a gap of four columns: a straight piece in the gap is a run, one above the row is
 -- none, and what is held back may be played.
-use Rattle.std.proofs.Common.{◌≡◌, ℕ, ◌≤◌, ◌&&◌, nat_lt, true, List, [], ◌∷◌, length, Option, Some, None, refl, arith}
+use Rattle.std.proofs.Common.{◌≡◌, ℕ, ◌≤◌, ◌&&◌, nat_lt, true, List, [], ◌∷◌, length, Option, Some, None, refl, arith, rules}
 use Rattle.std.specs.declared.cmp.Ordering.TheVariants.{Less}
 use Rattle.lane_board.specs.Field.{Field}
 use Rattle.lane_board.specs.FullRows.{is_full, full_below}
@@ -44,11 +44,7 @@ unfolding leads_to_rest state_after spawned comes_to_rest rest_from first_free s
 leads_into_the_gap = refl
 
 is_a_place : IsPlace srs_table row Soft (straight 0)
-is_a_place = record {
-  canonical = IsCanonical-from_test (straight 0) refl;
-  keys = three_to_the_right;
-  led_to = (leads_to_rest-decides srs_table row Soft (straight 0) three_to_the_right).0 leads_into_the_gap;
-}
+is_a_place = search (rules, IsCanonical-from_test, leads_to_rest-decides, leads_into_the_gap)
 
 fills_the_row : rows_removed row (straight 0) ≡ 1
 unfolding rows_removed together full_below is_full is_among moved

@@ -15,6 +15,7 @@ use queue_pattern::Queue;
 use well::Well;
 
 /// No run of the pieces at hand is longer than this. Between walls, the room there may allow fewer placements.
+#[tactic(auto, using(crate::proofs::BoundLemmas::within_cells))]
 pub fn most(queue: &Queue, well: &Well, hand: Hand) -> u8
     ensures each { (table : Table) (mode : DropMode) (hold : Hold) (run : List Placement)
         → IsTakenRun table mode (filled well.now) hold (pieces_at queue.now.items hand) run

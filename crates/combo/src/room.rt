@@ -53,6 +53,7 @@ fn all_have_gaps(well: &Well, height: u8) -> bool
 }
 
 /// Whether a column is empty at and above the height.
+#[tactic(auto, using(crate::proofs::MiddleLemmas::empty_from))]
 fn is_empty_from(well: &Well, x: u8, height: u8) -> bool
     requires column { x ≤ 9 }
     requires row { height ≤ 22 }
@@ -119,6 +120,7 @@ fn open_gaps(well: &Well, height: u8) -> u8
 
 /// No run in the field is longer than this. `None` if the rows below the height of column 0 have other gaps, or the
 /// outermost columns end at other heights.
+#[tactic(auto, using(crate::proofs::MiddleLemmas::most_by_room))]
 pub fn most_between_walls(well: &Well) -> Option<u8>
     ensures { IfSome result (λ most. (table : Table) (mode : DropMode) (run : List Placement)
         → Runs table mode (filled well.now) run → length run ≤ most) }

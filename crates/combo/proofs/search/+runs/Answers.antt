@@ -1,5 +1,5 @@
 -- One placement after the other, and the two pieces that may be taken.
-use Rattle.std.proofs.Common.{◌≡◌, ◌≤◌, ◌-◌, sym, subst, arith, refl}
+use Rattle.std.proofs.Common.{◌≡◌, ◌≤◌, ◌-◌, sym, subst, arith, refl, rules}
 use Rattle.reach.specs.FloodRules.{flood_table}
 use Rattle.well.specs.Well.{filled}
 use Rattle.well.specs.Lock.{rows_removed}
@@ -12,9 +12,7 @@ use Rattle.combo.proofs.PlacesLeft.{fewer_left, held_inside, kind_kept, least_he
 use Rattle.combo.proofs.search.+runs.Goals as goal
 
 pub first_after-cleared-requires : goal.first_after-cleared-requires
-first_after-cleared-requires g t c =
-    place-free (flood_table c.args.play.now.rules) (filled c.args.well.now) c.args.play.now.drop_mode c.in-Some.placement
-    ((c.places-places.ensures.held c.in-Some.placement).0 (c.in-Some.ensures.member)).1
+first_after-cleared-requires g t c = search (rules, place-free)
 
 pub first_after-returns-in-Some-first_run-clause-first : goal.first_after-returns-in-Some-first_run-clause-first
 first_after-returns-in-Some-first_run-clause-first g t c =
@@ -84,9 +82,7 @@ first_after-returns-clause-none g t c is =
     (none_place c.places-places.result (flood_table c.args.play.now.rules) (filled c.args.well.now) c.args.play.now.drop_mode c.in_ok-taken.taken.piece _ c.loop-placement.entered c.places-places.ensures.held c.as_ref.ensures.value c.in_default.ensures))
 
 pub first_run-returns-then-most-count-clause-none : goal.first_run-returns-then-most-count-clause-none
-first_run-returns-then-most-count-clause-none g t c is =
-    above_bound (flood_table c.args.play.now.rules) c.args.play.now.drop_mode (filled c.args.well.now) c.args.play.now.hold (pieces_at c.args.queue.now.items c.args.hand) c.most.result c.args.count
-    (c.most.ensures.each (flood_table c.args.play.now.rules) c.args.play.now.drop_mode c.args.play.now.hold) c.if-most-count.true
+first_run-returns-then-most-count-clause-none g t c is = search (rules, above_bound)
 
 pub first_of_takes-returns-in-Some-clause-first : goal.first_of_takes-returns-in-Some-clause-first
 first_of_takes-returns-in-Some-clause-first g t c =
@@ -99,6 +95,4 @@ first_of_takes-returns-clause-first g t c =
     c.takes-one.result.0 c.takes-one.result.1 c.args.count c.requires.placements c.takes-one.ensures.all c.first_after-2.result (c.in_default.ensures.none refl) c.first_after-2.ensures.first
 
 pub first_of_takes-returns-clause-none : goal.first_of_takes-returns-clause-none
-first_of_takes-returns-clause-none g t c is =
-    none_of_both (flood_table c.args.play.now.rules) c.args.play.now.drop_mode c.args.play.now.hold (filled c.args.well.now) c.args.queue.now.items c.args.hand
-    c.takes-one.result.0 c.takes-one.result.1 c.args.count c.requires.placements c.takes-one.ensures.all (c.in_default.ensures.none refl) (c.first_after-2.ensures.none is)
+first_of_takes-returns-clause-none g t c is = search (rules, none_of_both)
