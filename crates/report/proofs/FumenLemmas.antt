@@ -1,5 +1,5 @@
 -- The pages of a line, one after the other, and that they can be written.
-use Rattle.std.proofs.Common.{◌≡◌, ℕ, ◌+◌, ◌-◌, ◌<◌, ◌≤◌, Bool, true, false, List, [], ◌∷◌, ◌++◌, length, drop, get_or, Option, None, sym, ap, ◌∙◌, arith, append_assoc, append-nil}
+use Rattle.std.proofs.Common.{◌≡◌, ℕ, ◌+◌, ◌-◌, ◌<◌, ◌≤◌, Bool, false, List, [], ◌∷◌, ◌++◌, length, drop, get_or, Option, None, append_assoc, append-nil, rules}
 use Rattle.std.proofs.lemmas.List.{drop_more, drop_all}
 use Rattle.lane_board.specs.Field.{Field}
 use Rattle.srs.specs.declared.placement.Placement.{Placement}
@@ -22,8 +22,7 @@ use Rattle.report.proofs.LineFields.{AreShort, EndsEmpty, line_fault}
 
 -- a key word has few keys
 pub keys_are_short : (with : Bool) (table : Table) (mode : DropMode) → AreShort (key_part with table mode)
-keys_are_short true table mode = record { few = λ F q word is. omega (arith, named_is_short table F mode q word is) }
-keys_are_short false table mode = record { few = λ F q word is. absurd cc }
+keys_are_short with table mode = search (rules, named_is_short)
 
 -- placements that play lie in the well, and leave no cell
 pub plays_end : (table : Table) (mode : DropMode) (s : List Placement) (F : Field) (rows : ℕ) → Plays table mode F rows s → EndsEmpty F s
@@ -35,8 +34,7 @@ plays_end table mode (q ∷ s) F rows plays =
 -- the pages of a sequence that plays can be written
 pub pages_are_written : (with : Bool) (table : Table) (mode : DropMode) (F : Field) (rows : ℕ) (s : List Placement) → Plays table mode F rows s → length s ≤ most_pages
     → list_encode_fault V115 (sequence_pages (key_part with table mode) F s) ≡ None
-pages_are_written with table mode F rows s plays few =
-    line_fault (key_part with table mode) (keys_are_short with table mode) F s (plays_end table mode s F rows plays) few
+pages_are_written with table mode F rows s plays few = search (rules, line_fault, keys_are_short, plays_end)
 
 -- one more page is made
 pub page_more : (keys : KeysOf) (whole made : List Page) (page : Page) (cells : List ℕ) (colour : Bool) (F after : Field) (s : List Placement) (i : ℕ) (d : Placement) (word : Option (List Key)) → i < length s
@@ -45,15 +43,10 @@ pub page_more : (keys : KeysOf) (whole made : List Page) (page : Page) (cells : 
     → whole ≡ (made ++ page ∷ []) ++ placement_pages keys (next V115 page) false after (drop (i + 1) s)
 unfolding placement_pages
 page_more keys whole made page cells colour F after s i d word within is named left so_far =
-    let q = get_or s i d in
-    let same : placing_page cells colour q (keys F q) ≡ page = sym (is ∙ ap (placing_page cells colour q) named) in
-    so_far ∙ ap (λ l. made ++ placement_pages keys cells colour F l) (drop_more s i d within)
-    ∙ (λ k. made ++ (same k ∷ placement_pages keys (next V115 (same k)) false (sym left k) (drop (i + 1) s)))
-    ∙ sym (append_assoc made (page ∷ []) (placement_pages keys (next V115 page) false after (drop (i + 1) s)))
+    search (rules, drop_more, next, append_assoc)
 
 -- all pages are made
 pub pages_end : (keys : KeysOf) (whole made : List Page) (cells : List ℕ) (colour : Bool) (F : Field) (s : List Placement) (i : ℕ) → length s ≤ i
     → whole ≡ made ++ placement_pages keys cells colour F (drop i s) → made ≡ whole
 unfolding placement_pages
-pages_end keys whole made cells colour F s i past so_far =
-    sym (so_far ∙ ap (λ l. made ++ placement_pages keys cells colour F l) (drop_all i s past) ∙ append-nil made)
+pages_end keys whole made cells colour F s i past so_far = search (rules, drop_all, append-nil)

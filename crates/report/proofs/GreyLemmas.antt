@@ -1,5 +1,5 @@
 -- A field as grey cells, cell by cell and row by row.
-use Rattle.std.proofs.Common.{◌≡◌, ℕ, suc, ◌+◌, ◌-◌, ◌*◌, ◌<◌, List, [], ◌∷◌, ◌++◌, length, set, take, drop, map, refl, sym, ap, ◌∙◌, arith, append_assoc}
+use Rattle.std.proofs.Common.{◌≡◌, ℕ, ◌+◌, ◌-◌, ◌*◌, ◌<◌, List, ◌++◌, length, set, take, drop, map, refl, append_assoc, rules}
 use Rattle.std.specs.Prelude.{if◌then◌else◌}
 use Rattle.std.proofs.lemmas.List.{drop_at, length-take-le, length-set, length-append, length-drop, drop-drop, map-append, take_more_set}
 use borrow.Rule.Slice.PartMut.{put_mid}
@@ -16,11 +16,7 @@ grey F y x = if F x y then 8 else 0
 pub grey_next : (F : Field) (y x value : ℕ) (row : List ℕ) → x < 10 → length row ≡ 10 → value ≡ grey F y x → take x row ≡ map (grey F y) (take x columns)
     → (length (set row x value) ≡ 10) × (take (x + 1) (set row x value) ≡ map (grey F y) (take (x + 1) columns))
 grey_next F y x value row column size is so_far =
-    let within : x < length row = omega arith in (
-      length-set row x value ∙ size,
-      take_more_set row x value within ∙ ap (λ l. l ++ value ∷ []) so_far ∙ ap (λ v. map (grey F y) (take x columns) ++ v ∷ []) is
-          ∙ sym (ap (map (grey F y)) (columns_more x column) ∙ map-append (grey F y) (take x columns) (x ∷ [])),
-    )
+    search (rules, length-set, take_more_set, columns, columns_more, map-append)
 
 -- nothing but the garbage row is looked at
 pub grey_starts : (F : Field) → empty_row ≡ grey_rows F 0 ++ empty_row
@@ -33,16 +29,4 @@ pub grey_more : (F : Field) (cells row : List ℕ) (start k y : ℕ) → y < 23 
     → (length (put_mid start k cells row) ≡ 240) × (drop (230 - 10 * (y + 1)) (put_mid start k cells row) ≡ grey_rows F (y + 1) ++ empty_row)
 unfolding grey_rows
 grey_more F cells row start k y within at ten size is below =
-    let there : start ≡ 230 - 10 * (y + 1) = omega arith in
-    let next : start + k ≡ 230 - 10 * y = omega arith in
-    let rows : y + 1 ≡ suc y = omega arith in
-    let front : length (take start cells) ≡ start = length-take-le start cells (omega arith) in
-    let left = length-drop start cells in
-    let last = length-drop k (drop start cells) in
-    let ten_cells : length row ≡ 10 = ap length is in
-    let behind = length-append row (drop k (drop start cells)) in (
-      length-append (take start cells) (row ++ drop k (drop start cells)) ∙ omega arith,
-      ap (λ n. drop n (put_mid start k cells row)) (sym there) ∙ drop_at (take start cells) (row ++ drop k (drop start cells)) start front
-          ∙ ap (λ l. row ++ l) (drop-drop k start cells ∙ ap (λ n. drop n cells) next ∙ below) ∙ ap (λ l. l ++ (grey_rows F y ++ empty_row)) is
-          ∙ sym (append_assoc (grey_row F y) (grey_rows F y) empty_row) ∙ ap (λ n. grey_rows F n ++ empty_row) (sym rows),
-    )
+    search (rules, length-take-le, length-drop, length-append, drop_at, drop-drop, append_assoc)

@@ -1,10 +1,10 @@
 -- The pages of a line: they can be written, they show the fields between the placements, and the last one leaves none.
-use Rattle.std.proofs.Common.{◌≡◌, ℕ, zero, suc, ◌+◌, ◌*◌, ◌<◌, ◌≤◌, ◌^◌, Bool, true, false, not, cond, ◌==◌, ◌&&◌, pos, negsuc, All, List, [], ◌∷◌, ◌++◌, length, take, drop, map, Option, Some, None, leb, ltb, le-leb, refl, sym, ap, subst, ◌∙◌, arith, append_assoc, append-nil, get_or}
+use Rattle.std.proofs.lemmas.Grind.{common_steps}
+use Rattle.std.proofs.Common.{◌≡◌, ℕ, zero, suc, ◌+◌, ◌*◌, ◌<◌, ◌≤◌, ◌^◌, Bool, true, false, not, cond, ◌==◌, All, List, [], ◌∷◌, ◌++◌, length, take, drop, map, Option, Some, None, leb, le-leb, refl, sym, ap, subst, ◌∙◌, arith, append_assoc, append-nil, get_or, rules}
 use Rattle.std.specs.Prelude.{replicate}
 use Rattle.std.specs.List.{list_all, AllByRecursion}
 use Rattle.std.specs.Option.{option_or}
 use Rattle.std.proofs.Math.Path.{fun_ext}
-use Rattle.std.proofs.Math.Dec.{leb-suc-suc}
 use Rattle.std.proofs.lemmas.Bool.{eqb-true, le-ltb}
 use Rattle.std.proofs.lemmas.List.{take_at, drop_at, length-append, length-map}
 use Rattle.std.proofs.lemmas.List.Elements.{All-append, All-cons, All-nil, All-map, All-replicate}
@@ -12,13 +12,11 @@ use Rattle.std.proofs.lemmas.List.Sums.{list_all-from_AllPass}
 use Rattle.lane_board.specs.Field.{Field}
 use Rattle.lane_board.specs.FullRows.{columns, without_full_rows}
 use Rattle.srs.specs.declared.piece.Piece.{Piece}
-use Rattle.srs.specs.declared.piece.Piece.TheVariants.{I, L, O, Z, T, J, S}
 use Rattle.srs.specs.declared.placement.Placement.{Placement}
 use Rattle.srs.specs.Piece.{piece_code}
 use Rattle.srs.specs.Cells.{Cell, in_well, cells_of, is_inside_of}
 use Rattle.well.specs.Lock.{together, locked}
 use Rattle.moves.specs.declared.key.Key.{Key}
-use Rattle.moves.specs.declared.key.Key.TheVariants.{Left, Right, Down, Clockwise, Anti}
 use Rattle.moves.specs.Keys.{key_letter}
 use Rattle.fumen_digits.specs.declared.dialect.Dialect.TheVariants.{V115}
 use Rattle.fumen_comment.specs.Escape.{escaped, escaped_unit, stays, HasUnits}
@@ -50,10 +48,7 @@ rows_ten F (suc n) (row ∷ rows) same =
 
 length-flat_rows : (rows : List (List ℕ)) → AllByRecursion (λ row. length row ≡ 10) rows → length (flat rows) ≡ 10 * length rows
 length-flat_rows [] each = refl
-length-flat_rows (row ∷ rows) each =
-    let rest = length-flat_rows rows each.1 in
-    let one = each.0 in
-    length-append row (flat rows) ∙ omega arith
+length-flat_rows (row ∷ rows) each = search (rules, length-append, flat, length-flat_rows rows each.1)
 
 -- rows of ten that stand in one list are its first rows
 rows_again : (count : ℕ) (rows : List (List ℕ)) (rest : List ℕ) → AllByRecursion (λ row. length row ≡ 10) rows → length rows ≡ count → rows_in count (flat rows ++ rest) ≡ rows
@@ -71,8 +66,7 @@ rows_again (suc count) (row ∷ rows) rest each len =
 -- ---- the first page
 
 grey_test : (b : Bool) → not (cond b 8 0 == 0) ≡ b
-grey_test true = refl
-grey_test false = refl
+grey_test b = search rules
 
 grey_tests : (F : Field) (y : ℕ) → row_tests (grey_row F y) ≡ field_row F y
 grey_tests F y = ap (λ (f : ℕ → Bool). map f columns) (fun_ext (λ x. grey_test (F x y)))
@@ -81,14 +75,7 @@ grey_shows : (F : Field) (n : ℕ) (rest : List ℕ) → (map row_tests (rows_in
 unfolding grey_rows rows_in field_rows
 grey_shows F zero rest = (refl, refl)
 grey_shows F (suc n) rest =
-    let before = grey_shows F n rest in
-    let parts = append_assoc (grey_row F n) (grey_rows F n) rest in
-    let first : take 10 ((grey_row F n ++ grey_rows F n) ++ rest) ≡ grey_row F n = ap (take 10) parts ∙ take_at (grey_row F n) (grey_rows F n ++ rest) 10 refl in
-    let others : drop 10 ((grey_row F n ++ grey_rows F n) ++ rest) ≡ grey_rows F n ++ rest = ap (drop 10) parts ∙ drop_at (grey_row F n) (grey_rows F n ++ rest) 10 refl in
-    let head : row_tests (take 10 ((grey_row F n ++ grey_rows F n) ++ rest)) ≡ field_row F n = ap row_tests first ∙ grey_tests F n in
-    let tail : map row_tests (rows_in n (drop 10 ((grey_row F n ++ grey_rows F n) ++ rest))) ≡ field_rows F n = ap (λ l. map row_tests (rows_in n l)) others ∙ before.0 in
-    let len = before.1 in
-    ((λ i. head i ∷ tail i), length-append (grey_row F n) (grey_rows F n) ∙ omega arith)
+    search (rules, append_assoc, take_at, drop_at, grey_tests, rows_in, length-append, grey_shows F n rest)
 
 pub first_shows : (F : Field) → Shows (grey_cells F) F
 unfolding grey_cells
@@ -97,11 +84,7 @@ first_shows F =
     record { size = length-append (grey_rows F 23) empty_row ∙ ap (λ n. n + 10) rows.1; rows = rows.0; garbage = drop_at (grey_rows F 23) empty_row 230 rows.1 }
 
 grey_colours : (F : Field) (y : ℕ) → All IsColour (grey_row F y)
-grey_colours F y = All-map IsColour (λ x. cond (F x y) 8 0) columns (λ i d below. grey_colour (F (get_or columns i d) y))
-  where
-    grey_colour : (b : Bool) → cond b 8 0 ≤ 8
-    grey_colour true = omega arith
-    grey_colour false = omega arith
+grey_colours F y = search rules
 
 rows_colours : (F : Field) (n : ℕ) → All IsColour (grey_rows F n)
 unfolding grey_rows
@@ -109,38 +92,22 @@ rows_colours F zero = All-nil IsColour
 rows_colours F (suc n) = All-append IsColour (grey_row F n) (grey_rows F n) (grey_colours F n) (rows_colours F n)
 
 pub first_cells : (F : Field) → AreCells V115 (grey_cells F)
-unfolding grey_cells
-first_cells F = record {
-  size = (first_shows F).size;
-  colours = All-append IsColour (grey_rows F 23) empty_row (rows_colours F 23) (All-replicate IsColour 10 0 (omega arith));
-  missing = refl;
-}
+unfolding grey_cells grey_rows
+first_cells F = search (rules, first_shows, All-append, rows_colours, All-replicate)
 
 -- ---- a page with a placement
 
 in_rows-same : (cell : Cell) → in_rows V115 cell ≡ in_well cell
-in_rows-same (pos x, pos y) = ap (λ b. leb x 9 && b) (leb-suc-suc y 22)
-in_rows-same (pos x, negsuc y) = refl
-in_rows-same (negsuc x, pos y) = refl
-in_rows-same (negsuc x, negsuc y) = refl
+in_rows-same cell = search rules
 
 pub inside_rows : (q : Placement) → is_inside_of q ≡ true → is_inside_in V115 q ≡ true
 inside_rows q inside = ap (λ (test : Cell → Bool). list_all test (cells_of q)) (fun_ext in_rows-same) ∙ inside
 
 pub placing_sound : (cells : List ℕ) (colour : Bool) (q : Placement) (word : Option (List Key)) → AreCells V115 cells → is_inside_of q ≡ true → IsSound V115 (placing_page cells colour q word)
-placing_sound cells colour q word are inside = record {
-  cells = are;
-  inside = λ p is. let same : q ≡ p = cc in subst (λ p. is_inside_in V115 p ≡ true) same (inside_rows q inside);
-}
+placing_sound cells colour q word are inside = search (rules, inside_rows)
 
 code_some : (piece : Piece) → not (piece_code piece == 0) ≡ true
-code_some I = refl
-code_some L = refl
-code_some O = refl
-code_some Z = refl
-code_some T = refl
-code_some J = refl
-code_some S = refl
+code_some piece = search rules
 
 -- the page leaves cells that show what is left of the field
 pub shows_next : (F : Field) (cells : List ℕ) (colour : Bool) (q : Placement) (word : Option (List Key)) → Shows cells F → AreCells V115 cells → is_inside_of q ≡ true
@@ -164,11 +131,7 @@ shows_next F cells colour q word shows are inside =
 
 escaped_key : (key : Key) → escaped_unit (key_letter key) ≡ key_letter key ∷ []
 unfolding stays
-escaped_key Left = refl
-escaped_key Right = refl
-escaped_key Down = refl
-escaped_key Clockwise = refl
-escaped_key Anti = refl
+escaped_key key = search rules
 
 escaped_keys : (word : List Key) → escaped (map key_letter word ++ 72 ∷ []) ≡ map key_letter word ++ 72 ∷ []
 unfolding escaped stays
@@ -176,11 +139,7 @@ escaped_keys [] = refl
 escaped_keys (key ∷ word) = λ i. escaped_key key i ++ escaped_keys word i
 
 letter_fits : (key : Key) → key_letter key < 2 ^ 16
-letter_fits Left = omega arith
-letter_fits Right = omega arith
-letter_fits Down = omega arith
-letter_fits Clockwise = omega arith
-letter_fits Anti = omega arith
+letter_fits key = search rules
 
 comment_units : (word : Option (List Key)) → HasUnits (keys_comment word)
 comment_units None = λ units is. absurd cc
@@ -196,11 +155,7 @@ pub record AreShort (keys : KeysOf) : Type 0 where
 
 comment_short : (word : Option (List Key)) → ((keys : List Key) → word ≡ Some keys → length keys ≤ 920) → is_short (keys_comment word) ≡ true
 comment_short None few = refl
-comment_short (Some word) few =
-    let most = few word refl in
-    let letters = length-map word key_letter in
-    let len : length (escaped (map key_letter word ++ 72 ∷ [])) ≡ length word + 1 = ap length (escaped_keys word) ∙ length-append (map key_letter word) (72 ∷ []) ∙ omega arith in
-    le-leb _ 4095 (omega (arith, len, most))
+comment_short (Some word) few = grind (arith, common_steps, escaped_keys, length-append, le-leb)
 
 four_pass : (a b c d : Bool) (f g h k : EncodeFault) → a ≡ true → b ≡ true → c ≡ true → d ≡ true
     → cond (not a) (Some f) (cond (not b) (Some g) (cond (not c) (Some h) (cond (not d) (Some k) None))) ≡ None
@@ -277,7 +232,4 @@ pub line_pages : (keys : KeysOf) → AreShort keys → (F : Field) (s : List Pla
 line_pages keys short F s ends = good_pages keys short s F (grey_cells F) true 1 ends (first_shows F) (first_cells F)
 
 pub line_fault : (keys : KeysOf) → AreShort keys → (F : Field) (s : List Placement) → EndsEmpty F s → length s ≤ most_pages → list_encode_fault V115 (sequence_pages keys F s) ≡ None
-line_fault keys short F s ends few =
-    let len = length-pages keys s F (grey_cells F) true in
-    let within : ltb most_pages (length (sequence_pages keys F s)) ≡ false = le-ltb most_pages (length (sequence_pages keys F s)) (omega (arith, len, few)) in
-    rw within (line_pages keys short F s ends).none
+line_fault keys short F s ends few = search (rules, length-pages, le-ltb, line_pages)

@@ -1,5 +1,5 @@
 -- A line placement by placement: without keys the fields do not matter, and with keys each placement is free in its field.
-use Rattle.std.proofs.Common.{None, arith, false, ◌≡◌, ℕ, ◌+◌, ◌-◌, ◌<◌, ◌≤◌, true, List, [], ◌∷◌, ◌++◌, length, drop, get_or, refl, sym, ap, subst, ◌∙◌, append_assoc, Option}
+use Rattle.std.proofs.Common.{None, arith, false, ◌≡◌, ℕ, ◌+◌, ◌-◌, ◌<◌, ◌≤◌, true, List, [], ◌∷◌, ◌++◌, length, drop, get_or, refl, ap, subst, append_assoc, Option, rules}
 use Rattle.std.specs.List.{flat_map}
 use Rattle.std.proofs.lemmas.List.{drop_more, drop_all}
 use Rattle.lane_board.specs.Field.{Field}
@@ -58,9 +58,7 @@ whole_line keys F s = ap (λ l. l ++ 10 ∷ []) (all_divided keys F s)
 pub one_placement : (keys : KeysOf) (divider : List ℕ) (F : Field) (s : List Placement) (i : ℕ) (d : Placement) → i < length s →
     line_from keys divider F (drop i s) ≡ (divider ++ keyed_form (get_or s i d, keys F (get_or s i d))) ++ line_from keys (32 ∷ []) (locked F (get_or s i d)) (drop (i + 1) s)
 unfolding line_from divided
-one_placement keys divider F s i d within =
-    ap (λ l. divided keys divider F l ++ 10 ∷ []) (drop_more s i d within)
-    ∙ append_assoc (divider ++ keyed_form (get_or s i d, keys F (get_or s i d))) (divided keys (32 ∷ []) (locked F (get_or s i d)) (drop (i + 1) s)) (10 ∷ [])
+one_placement keys divider F s i d within = search (rules, drop_more, append_assoc, locked)
 
 -- and at the end a newline
 pub no_placement : (keys : KeysOf) (divider : List ℕ) (F : Field) (s : List Placement) (i : ℕ) → length s ≤ i → line_from keys divider F (drop i s) ≡ 10 ∷ []
@@ -117,7 +115,4 @@ next_free F s i d within free = (free_from F s i d within free).1
 pub next_piece : (keys : KeysOf) (divider : List ℕ) (F after : Field) (s : List Placement) (i : ℕ) (d : Placement) (piece : List ℕ) (word : Option (List Key)) → i < length s →
     piece ≡ divider ++ keyed_form (get_or s i d, word) → word ≡ keys F (get_or s i d) → after ≡ locked F (get_or s i d) →
     line_from keys divider F (drop i s) ≡ piece ++ line_from keys (32 ∷ []) after (drop (i + 1) s)
-next_piece keys divider F after s i d piece word within text named left =
-    one_placement keys divider F s i d within
-    ∙ (λ k. (divider ++ keyed_form (get_or s i d, sym named k)) ++ line_from keys (32 ∷ []) (sym left k) (drop (i + 1) s))
-    ∙ (λ k. sym text k ++ line_from keys (32 ∷ []) after (drop (i + 1) s))
+next_piece keys divider F after s i d piece word within text named left = search (rules, one_placement)

@@ -1,10 +1,11 @@
 -- The cells of a page as a field: what a placement fills, and which rows go.
-use Rattle.std.proofs.Common.{◌≡◌, ℕ, zero, suc, ◌+◌, ◌-◌, ◌*◌, ◌<◌, ◌≤◌, Bool, true, false, not, ◌||◌, ◌==◌, pos, nat_abs, List, [], ◌∷◌, ◌++◌, length, set, take, drop, map, get_or, refl, sym, ap, subst, ◌∙◌, inl, inr, arith}
+use Rattle.std.proofs.lemmas.Grind.{common_steps}
+use Rattle.std.proofs.Common.{◌≡◌, ℕ, zero, suc, ◌+◌, ◌-◌, ◌*◌, ◌<◌, ◌≤◌, Bool, true, false, not, ◌||◌, ◌==◌, pos, List, [], ◌∷◌, ◌++◌, length, set, take, drop, map, refl, sym, ap, subst, ◌∙◌, inl, inr, arith, rules}
 use Rattle.std.specs.Prelude.{filter, fold, replicate}
 use Rattle.std.specs.List.{list_all}
 use Rattle.std.proofs.Math.Path.{fun_ext}
-use Rattle.std.proofs.lemmas.Bool.{and_parts, cases_Bool, cases_eq, cases_lt, false_from_ne_true}
-use Rattle.std.proofs.lemmas.List.{length-drop, length-map, length-set, map-append, same_lists, get_or-map, get_or-set_same, get_or-set_other, map-set, take-set-le, drop-set-lt, drop-set-add}
+use Rattle.std.proofs.lemmas.Bool.{and_parts, cases_Bool, cases_eq, cases_lt, false_from_ne_true, or_right}
+use Rattle.std.proofs.lemmas.List.{length-drop, length-set, map-append, same_lists, get_or-map, get_or-set_same, get_or-set_other, map-set, take-set-le, drop-set-lt, drop-set-add}
 use Rattle.std.proofs.Math.Seq.{take-set-lt}
 use Rattle.std.proofs.lemmas.List.Folds.{list_all-map}
 use Rattle.lane_board.specs.Field.{Field}
@@ -47,10 +48,7 @@ same_row F G y same = ap (λ (f : ℕ → Bool). map f columns) (fun_ext same)
 same_rows : (F G : Field) (n : ℕ) → ((x y : ℕ) → y < n → F x y ≡ G x y) → field_rows F n ≡ field_rows G n
 unfolding field_rows
 same_rows F G zero same = refl
-same_rows F G (suc n) same =
-    let first = same_row F G n (λ x. same x n (omega arith)) in
-    let rest = same_rows F G n (λ x y below. same x y (omega (arith, below))) in
-    λ i. first i ∷ rest i
+same_rows F G (suc n) same = search (rules, same_row, same_rows F G n (λ x y below. same x y (omega (arith, below))))
 
 -- ---- a cell is filled
 
@@ -58,9 +56,7 @@ abbrev with_one : Field → Cell → Field
 with_one F cell x y = F x y || cell_eq cell (pos x, pos y)
 
 cell_other : (a b x y : ℕ) → (a ≡ x → b ≡ y → ⊥) → cell_eq (pos a, pos b) (pos x, pos y) ≡ false
-cell_other a b x y other = false_from_ne_true _ (λ e.
-    let at : ◌≡◌ {A = Cell} (pos a, pos b) (pos x, pos y) = (cell_eq-decides _ _).0 e in
-    other (ap (λ (c : Cell). nat_abs c.0) at) (ap (λ (c : Cell). nat_abs c.1) at))
+cell_other a b x y other = search rules
 
 cell_same : (a b : ℕ) → cell_eq (pos a, pos b) (pos a, pos b) ≡ true
 cell_same a b = (cell_eq-decides (pos a, pos b) (pos a, pos b)).1 refl
@@ -68,27 +64,24 @@ cell_same a b = (cell_eq-decides (pos a, pos b) (pos a, pos b)).1 refl
 other_row : (F : Field) (a b x y : ℕ) → (b ≡ y → ⊥) → F x y ≡ with_one F (pos a, pos b) x y
 other_row F a b x y other = sym (or_none (F x y) _ (cell_other a b x y (λ _ same. other same)))
 
-or_true : (b c : Bool) → c ≡ true → (b || c) ≡ true
-or_true true c e = refl
-or_true false c e = e
-
 -- the row of the cell
 filled_row : (F : Field) (a y : ℕ) → a < 10 → set (field_row F y) a true ≡ field_row (with_one F (pos a, pos y)) y
-filled_row F a y column = same_lists _ _ (length-set (field_row F y) a true) (λ k d within.
-    let len : length (set (field_row F y) a true) ≡ 10 = length-set (field_row F y) a true in
-    let below : k < 10 = omega (arith, within) in
-    elim (cases_eq k a) [
-      | inl same ↦
-          let room : a < length (field_row F y) = omega arith in
-          let there : F k y || cell_eq (pos a, pos y) (pos k, pos y) ≡ true = or_true (F k y) _ (subst (λ k. cell_eq (pos a, pos y) (pos k, pos y) ≡ true) (sym same) (cell_same a y)) in
-          ap (λ i. get_or (set (field_row F y) a true) i d) same ∙ get_or-set_same (field_row F y) a true d room ∙ sym there ∙ sym (cell_at (λ x. with_one F (pos a, pos y) x y) k d below)
-      | inr other ↦
-          let here : F k y ≡ with_one F (pos a, pos y) k y = sym (or_none (F k y) _ (cell_other a y k y (λ e _. other (sym e)))) in
-          get_or-set_other (field_row F y) a k true d other ∙ cell_at (λ x. F x y) k d below ∙ here ∙ sym (cell_at (λ x. with_one F (pos a, pos y) x y) k d below)
-    ])
-  where
-    cell_at : (f : ℕ → Bool) (k : ℕ) (d : Bool) → k < 10 → get_or (map f columns) k d ≡ f k
-    cell_at f k d below = let inside : k < length columns = below in get_or-map f columns k 0 d inside ∙ ap f (column_is k below)
+filled_row F a y column =
+    search (
+      rules,
+      same_lists,
+      length-set,
+      cases_eq,
+      or_right,
+      cell_same,
+      get_or-set_same,
+      or_none,
+      cell_other,
+      get_or-set_other,
+      columns,
+      get_or-map,
+      column_is,
+    )
 
 -- the rows of some cells, of which one is filled
 set_rows : (F : Field) (a b value : ℕ) (n : ℕ) (cells : List ℕ) → a < 10 → b < n → 10 * n ≤ length cells → is_cell value ≡ true → map row_tests (rows_in n cells) ≡ field_rows F n
@@ -151,8 +144,7 @@ unfoldable added : Field → List Cell → Field
 added F cells x y = F x y || is_among cells (pos x, pos y)
 
 or_assoc : (a b c : Bool) → ((a || b) || c) ≡ (a || (b || c))
-or_assoc true b c = refl
-or_assoc false b c = refl
+or_assoc a b c = search rules
 
 added-nil : (F : Field) → F ≡ added F []
 unfolding added is_among
@@ -195,16 +187,7 @@ full_page_row row = sym (list_all-map (λ t. t) is_cell row)
 
 page_rows_stay : (rows : List (List ℕ)) → map row_tests (filter (λ row. not (is_full_page_row row)) rows) ≡ filter stays (map row_tests rows)
 page_rows_stay [] = refl
-page_rows_stay (row ∷ rows) = elim (cases_Bool (stays (row_tests row))) [
-  | inl keeps ↦
-      let here : not (is_full_page_row row) ≡ true = ap not (full_page_row row) ∙ keeps in
-      ap (map row_tests) (filter-true (λ row. not (is_full_page_row row)) row rows here) ∙ ap (λ l. row_tests row ∷ l) (page_rows_stay rows)
-      ∙ sym (filter-true stays (row_tests row) (map row_tests rows) keeps)
-  | inr goes ↦
-      let here : not (is_full_page_row row) ≡ false = ap not (full_page_row row) ∙ goes in
-      ap (map row_tests) (filter-false (λ row. not (is_full_page_row row)) row rows here) ∙ page_rows_stay rows
-      ∙ sym (filter-false stays (row_tests row) (map row_tests rows) goes)
-]
+page_rows_stay (row ∷ rows) = search (rules, cases_Bool, full_page_row, filter-true, filter-false, page_rows_stay rows)
 
 -- the rows that stay, and how many of them there are
 record Stays (F : Field) (n : ℕ) : Type 0 where
@@ -213,33 +196,15 @@ record Stays (F : Field) (n : ℕ) : Type 0 where
 
 -- a row that stays is the row above those that are left of the rows below it
 next_row : (F : Field) (n m x : ℕ) → is_full F n ≡ false → m + full_below F n ≡ n → without_full_rows F (suc n) x m ≡ F x n
-next_row F n m x here at = same_from_both _ _ (λ left.
-    let was = lowered_from F (suc n) x m left in
-    elim (cases_lt was.row n) [
-      | inl below ↦ absurd (omega (arith, left_below F n x m (lowered_to F n x m (record { row = was.row; below = below; filled = was.filled; stays = was.stays; lowered = was.lowered })), at))
-      | inr above ↦ let same : was.row ≡ n = omega (arith, above, was.below) in subst (λ r. F x r ≡ true) same was.filled
-    ]) (λ filled. lowered_to F (suc n) x m (record { row = n; below = omega arith; filled = filled; stays = here; lowered = at }))
+unfolding without_full_rows
+next_row F n m x here at = search (rules, same_from_both, lowered_from, cases_lt, left_below, lowered_to)
 
 -- and those below it are left as they were
 rows_below : (F : Field) (n x y : ℕ) → y + full_below F n < n → without_full_rows F (suc n) x y ≡ without_full_rows F n x y
-rows_below F n x y below = same_from_both _ _ (λ left.
-    let was = lowered_from F (suc n) x y left in
-    elim (cases_eq was.row n) [
-      | inl same ↦ let up : y + full_below F n ≡ n = subst (λ r. y + full_below F r ≡ r) same was.lowered in absurd (omega (arith, up, below))
-      | inr other ↦ lowered_to F n x y (record { row = was.row; below = omega (arith, was.below, other); filled = was.filled; stays = was.stays; lowered = was.lowered })
-    ]) (λ filled.
-    let was = lowered_from F n x y filled in
-    lowered_to F (suc n) x y (record { row = was.row; below = omega (arith, was.below); filled = was.filled; stays = was.stays; lowered = was.lowered }))
+rows_below F n x y below = search (rules, same_from_both, lowered_from, cases_eq, lowered_to)
 
 full_goes : (F : Field) (n x y : ℕ) → is_full F n ≡ true → without_full_rows F (suc n) x y ≡ without_full_rows F n x y
-full_goes F n x y full = same_from_both _ _ (λ left.
-    let was = lowered_from F (suc n) x y left in
-    elim (cases_eq was.row n) [
-      | inl same ↦ let e : is_full F n ≡ false = subst (λ r. is_full F r ≡ false) same was.stays in absurd (let never : true ≡ false = sym full ∙ e in cc)
-      | inr other ↦ lowered_to F n x y (record { row = was.row; below = omega (arith, was.below, other); filled = was.filled; stays = was.stays; lowered = was.lowered })
-    ]) (λ filled.
-    let was = lowered_from F n x y filled in
-    lowered_to F (suc n) x y (record { row = was.row; below = omega (arith, was.below); filled = was.filled; stays = was.stays; lowered = was.lowered }))
+full_goes F n x y full = search (rules, same_from_both, lowered_from, cases_eq, is_full, lowered_to)
 
 rows_stay : (F : Field) (n : ℕ) → Stays F n
 unfolding field_rows full_below
@@ -289,16 +254,15 @@ map-replicate (suc k) = ap (λ l. blank ∷ l) (map-replicate k)
 pub cleared_rows : (F : Field) (rows : List (List ℕ)) → map row_tests rows ≡ field_rows F 23 → map row_tests (without_full rows) ≡ field_rows (without_full_rows F 23) 23
 unfolding without_full
 cleared_rows F rows same =
-    let kept = filter (λ row. not (is_full_page_row row)) rows in
-    let tests : map row_tests kept ≡ stay_rows F 23 = page_rows_stay rows ∙ ap (filter stays) same in
-    let all : length rows ≡ 23 = sym (length-map rows row_tests) ∙ ap length same ∙ length-field_rows F 23 in
-    let some : length kept ≡ length (stay_rows F 23) = sym (length-map kept row_tests) ∙ ap length tests in
-    let is = rows_stay F 23 in
-    let count = is.count in
-    let total : (length rows - length kept) + length (stay_rows F 23) ≡ 23 = omega (arith, all, some, count) in
-    let none : (x y : ℕ) → length (stay_rows F 23) ≤ y → without_full_rows F 23 x y ≡ false =
-    λ x y above. false_from_ne_true _ (λ left. absurd (omega (arith, left_below F 23 x y left, above, count))) in
-    map-append row_tests (replicate (length rows - length kept) empty_row) kept
-    ∙ (λ i. map-replicate (length rows - length kept) i ++ (tests ∙ sym is.same) i)
-    ∙ sym (blank_rows (without_full_rows F 23) (length rows - length kept) (length (stay_rows F 23)) none)
-    ∙ ap (field_rows (without_full_rows F 23)) total
+    grind (
+      arith,
+      common_steps,
+      page_rows_stay,
+      length-field_rows,
+      rows_stay,
+      false_from_ne_true,
+      left_below,
+      map-append,
+      map-replicate,
+      blank_rows,
+    )

@@ -89,6 +89,7 @@ fn picture(well: &Well, placement: &Placement, rows: u8) -> Picture
 }
 
 /// Appends a row and a newline.
+#[tactic(auto, using(crate::proofs::GridLemmas::letter_more))]
 fn push_row(picture: &mut Picture, well: &Well, placement: &Placement, y: u8)
     requires column { placement.now.x ≤ 31 }
     requires row { placement.now.y ≤ 31 }

@@ -94,6 +94,7 @@ fn write_each<O: Sink>(
 }
 
 /// Writes the line of placements that are played from a well, each with its keys in the field before it.
+#[tactic(auto, using(crate::proofs::LineLemmas::plain_line))]
 pub(crate) fn write_placements<O: Sink>(
     out: &mut O,
     well: &Well,

@@ -17,6 +17,7 @@ use well::Well;
 
 /// Writes the line of a run from a well, as in `I0:7,0 I0:7,0`, and nothing if the run has no placements. If
 /// keys are written, the key word of each placement in the field before it follows the placement.
+#[tactic(auto, using(crate::proofs::LineLemmas::runs_free, crate::proofs::LineLemmas::runs_few))]
 pub fn write_run<O: Sink>(
     out: &mut O,
     well: &Well,

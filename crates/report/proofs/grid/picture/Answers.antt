@@ -1,14 +1,11 @@
 -- One more row is written, and at the end an empty line.
-use Rattle.std.proofs.Common.{◌∷◌, [], ◌++◌, ap, ◌∙◌, arith}
+use Rattle.std.proofs.Common.{◌∷◌, [], ◌++◌, ap, ◌∙◌, rules}
 use Rattle.well.specs.Well.{filled}
 use Rattle.report.proofs.GridLemmas.{row_more, rows_end}
 use Rattle.report.proofs.grid.picture.Goals as goal
 
 pub loop-y-preserved : goal.loop-y-preserved
-loop-y-preserved c = (
-  row_more (filled c.args.well.now) c.args.placement.now _ _ _ c.loop-y.y c.loop-y-test.true c.loop-y.invariant.0 c.push_row.ensures.items,
-  omega arith,
-)
+loop-y-preserved c = search (rules, row_more)
 
 pub returns : goal.returns
 returns c =

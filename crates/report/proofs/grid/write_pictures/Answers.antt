@@ -1,14 +1,12 @@
 -- One picture after another.
-use Rattle.std.proofs.Common.{◌+◌, ◌-◌, refl, ap, sym, subst, ◌∙◌, arith}
+use Rattle.std.proofs.Common.{◌+◌, ◌-◌, refl, ap, sym, subst, ◌∙◌, arith, rules}
 use Rattle.srs.specs.declared.placement.Placement.{Placement}
 use Rattle.srs.specs.declared.piece.Piece.TheVariants.{I}
 use Rattle.srs.specs.declared.rotation.Rotation.TheVariants.{Spawn}
 use Rattle.srs.specs.Rules.{table_of}
 use Rattle.well.specs.Well.{filled}
 use Rattle.pc_outside.specs.CountLaws.{none_more, none_yet}
-use Rattle.pc_outside.specs.Writes.{GrowsUpTo}
 use Rattle.pc_outside.specs.WriteLaws.{begins, after_piece, ends, failed_piece, at_err}
-use Rattle.report.specs.Grid.{grid_pictures}
 use Rattle.report.proofs.GridLemmas.{next_picture, no_picture}
 use Rattle.report.proofs.LineLemmas.{PlaysOn, plays_free, plays_next, plays_pivot}
 use Rattle.report.proofs.grid.write_pictures.Goals as goal
@@ -18,7 +16,7 @@ abbrev default : Placement
 default = record { piece = I; rotation = Spawn; x = 0; y = 0 }
 
 pub loop-placement-init : goal.loop-placement-init
-loop-placement-init g c = (begins (g.O.Sink.written c.args.out.now) _, record { rows = c.args.problem.now.height; plays = c.requires }, none_yet _ _)
+loop-placement-init g c = search (rules, begins, none_yet)
 
 pub picture-requires-clause-column : goal.picture-requires-clause-column
 picture-requires-clause-column g c =
@@ -37,7 +35,7 @@ returns-in_err-write-clause-written g c =
     c.in_err-write.ensures.written)
 
 pub lock-locked-requires : goal.lock-locked-requires
-lock-locked-requires g c = plays_free (table_of c.args.problem.now.rules) c.args.problem.now.drop_mode (filled c.loop-placement.well) c.args.placements.now c.loop-placement.placement-index default c.loop-placement-test.true c.loop-placement.invariant.1
+lock-locked-requires g c = search (rules, plays_free)
 
 pub loop-placement-preserved : goal.loop-placement-preserved
 loop-placement-preserved g c =
@@ -55,9 +53,4 @@ loop-placement-preserved g c =
     )
 
 pub returns-clause-written : goal.returns-clause-written
-returns-clause-written g c =
-    record {
-      done = ends (subst (GrowsUpTo (g.O.Sink.written c.args.out.now) (g.O.Sink.written c.loop-placement.out) (grid_pictures (filled c.args.problem.now.well) c.args.problem.now.height c.args.placements.now))
-          (no_picture (filled c.loop-placement.well) c.loop-placement.rows c.args.placements.now c.loop-placement.placement-index c.loop-placement-test.false) c.loop-placement.invariant.0);
-      failed = tt;
-    }
+returns-clause-written g c = search (rules, ends, no_picture)

@@ -1,5 +1,5 @@
 -- One placement after another.
-use Rattle.std.proofs.Common.{◌+◌, [], ◌∷◌, ◌++◌, drop, get_or, refl, sym, ap, subst, ◌∙◌, append-nil, arith}
+use Rattle.std.proofs.Common.{◌+◌, [], ◌∷◌, drop, get_or, refl, sym, ap, subst, ◌∙◌, append-nil, arith, rules}
 use Rattle.std.specs.Prelude.{option_map}
 use Rattle.srs.specs.declared.placement.Placement.{Placement}
 use Rattle.srs.specs.declared.piece.Piece.TheVariants.{I}
@@ -21,25 +21,16 @@ abbrev default : Placement
 default = record { piece = I; rotation = Spawn; x = 0; y = 0 }
 
 pub loop-placement-init : goal.loop-placement-init
-loop-placement-init g c =
-    let keys = key_part (has_keys c.args.keys.now) (table_of c.args.rules.now) c.args.drop_mode in
-    let F = filled c.args.well.now in (
-      subst (GrowsUpTo (g.O.Sink.written c.args.out.now) (g.O.Sink.written c.args.out.now) (line_form keys F c.args.placements.now))
-          (whole_line keys F c.args.placements.now ∙ ap (λ held. held ++ line_from keys [] F c.args.placements.now) (sym c.new-held.ensures)) (begins (g.O.Sink.written c.args.out.now) _),
-      c.requires,
-      omega arith,
-      none_yet _ _,
-      refl,
-    )
+loop-placement-init g c = search (rules, whole_line, begins, none_yet)
 
 pub word_of-word-requires-clause-inside : goal.word_of-word-requires-clause-inside
-word_of-word-requires-clause-inside g c = first_inside (filled c.loop-placement.before) c.args.placements.now c.loop-placement.placement-index default c.loop-placement-test.true c.loop-placement.invariant.1
+word_of-word-requires-clause-inside g c = search (rules, first_inside)
 
 pub returns-in_err-append-clause-written : goal.returns-in_err-append-clause-written
 returns-in_err-append-clause-written g c = at_err c.from_residual.ensures.0 (stops _ c.loop-placement.invariant.0 refl c.in_err-append.ensures.failed)
 
 pub lock-requires : goal.lock-requires
-lock-requires g c = first_free (filled c.loop-placement.before) c.args.placements.now c.loop-placement.placement-index default c.loop-placement-test.true c.loop-placement.invariant.1
+lock-requires g c = search (rules, first_free)
 
 pub loop-placement-preserved : goal.loop-placement-preserved
 loop-placement-preserved g c =

@@ -1,5 +1,5 @@
 -- One page after another.
-use Rattle.std.proofs.Common.{◌+◌, ◌++◌, drop, get_or, true, false, refl, sym, ap, subst, ◌∙◌, arith}
+use Rattle.std.proofs.Common.{◌+◌, ◌++◌, drop, get_or, true, false, refl, sym, ap, subst, ◌∙◌, arith, rules}
 use Rattle.std.specs.Prelude.{option_map}
 use Rattle.srs.specs.declared.placement.Placement.{Placement}
 use Rattle.srs.specs.declared.piece.Piece.TheVariants.{I}
@@ -7,7 +7,6 @@ use Rattle.srs.specs.declared.rotation.Rotation.TheVariants.{Spawn}
 use Rattle.srs.specs.Rules.{table_of}
 use Rattle.well.specs.Well.{filled}
 use Rattle.fumen_digits.specs.declared.dialect.Dialect.TheVariants.{V115}
-use Rattle.fumen_pages.specs.Cells.{AreCells}
 use Rattle.report.specs.Forms.{key_part}
 use Rattle.fumen_text.specs.Written.{list_encode_fault}
 use Rattle.report.specs.Keys.{has_keys}
@@ -22,24 +21,16 @@ abbrev default : Placement
 default = record { piece = I; rotation = Spawn; x = 0; y = 0 }
 
 pub loop-placement-init : goal.loop-placement-init
-loop-placement-init c =
-    let keys = key_part (has_keys c.args.keys.now) (table_of c.args.problem.now.rules) c.args.problem.now.drop_mode in
-    let F = filled c.args.problem.now.well in
-    let s = c.args.placements.now in (
-      (λ i. sym c.clear.ensures.items i ++ placement_pages keys (sym c.grey_cells-cells.ensures i) true F s),
-      record { rows = c.args.problem.now.height; plays = c.requires.plays },
-      subst (AreCells V115) (sym c.grey_cells-cells.ensures) (first_cells F),
-      refl,
-    )
+loop-placement-init c = search (rules, first_cells)
 
 pub word_of-word-requires-clause-inside : goal.word_of-word-requires-clause-inside
-word_of-word-requires-clause-inside c = plays_inside (table_of c.args.problem.now.rules) c.args.problem.now.drop_mode (filled c.loop-placement.well) c.args.placements.now c.loop-placement.placement-index default c.loop-placement-test.true c.loop-placement.invariant.1
+word_of-word-requires-clause-inside c = search (rules, plays_inside)
 
 pub push_page-requires-clause-inside : goal.push_page-requires-clause-inside
-push_page-requires-clause-inside c = plays_inside (table_of c.args.problem.now.rules) c.args.problem.now.drop_mode (filled c.loop-placement.well) c.args.placements.now c.loop-placement.placement-index default c.loop-placement-test.true c.loop-placement.invariant.1
+push_page-requires-clause-inside c = search (rules, plays_inside)
 
 pub lock-requires : goal.lock-requires
-lock-requires c = plays_free (table_of c.args.problem.now.rules) c.args.problem.now.drop_mode (filled c.loop-placement.well) c.args.placements.now c.loop-placement.placement-index default c.loop-placement-test.true c.loop-placement.invariant.1
+lock-requires c = search (rules, plays_free)
 
 pub loop-placement-preserved : goal.loop-placement-preserved
 loop-placement-preserved c =
@@ -60,9 +51,7 @@ loop-placement-preserved c =
     )
 
 pub returns-clause-pages : goal.returns-clause-pages
-returns-clause-pages c =
-    pages_end (key_part (has_keys c.args.keys.now) (table_of c.args.problem.now.rules) c.args.problem.now.drop_mode) _ c.loop-placement.self.pages.items c.loop-placement.cells c.loop-placement.colour (filled c.loop-placement.well) c.args.placements.now
-    c.loop-placement.placement-index c.loop-placement-test.false c.loop-placement.invariant.0
+returns-clause-pages c = search (rules, pages_end)
 
 pub returns-clause-fit : goal.returns-clause-fit
 returns-clause-fit c =
