@@ -1,5 +1,5 @@
 -- What `cover` answers once its field is had.
-use Rattle.std.proofs.Common.{◌≡◌, ◌≢◌, ◌∙◌, ℕ, ◌+◌, ◌-◌, ◌≤◌, ◌/◌, List, [], length, map, sum_by, arith, true, Some, None, Ok, Err, refl, sym, ap, subst}
+use Rattle.std.proofs.Common.{◌≡◌, ◌≢◌, ℕ, ◌+◌, ◌-◌, ◌≤◌, ◌/◌, List, length, map, sum_by, arith, true, Some, None, Ok, Err, refl, sym, ap, subst, rules}
 use Rattle.arrayvec.specs.ArrayVec.{ArrayVec}
 use Rattle.lane_board.specs.Field.{Field}
 use Rattle.srs.specs.declared.placement.Placement.{Placement}
@@ -13,7 +13,7 @@ use Rattle.pc_faults.specs.declared.fault.Fault.TheVariants as faults
 use Rattle.pc_faults.specs.declared.status.Status.{Status}
 use Rattle.pc_faults.specs.declared.status.Status.TheVariants.{NoMemory}
 use Rattle.pc_faults.specs.Inner.{IsInner}
-use Rattle.pc_faults.proofs.CallerLemmas.{first_stops, inner_first, second_left}
+use Rattle.pc_faults.proofs.CallerLemmas.{first_stops, inner_first}
 use Rattle.pc_settings.specs.Request.{FieldRequest}
 use Rattle.pc_source.specs.Ends.{CommandEnds}
 use Rattle.pc_source.specs.FieldTask.{its_rest}
@@ -42,26 +42,20 @@ problem_first request F bytes f is = first_stops (problem_fault request F) _ f i
 pub lines_faulty : (request : FieldRequest) (F : Field) (bytes : List ℕ) (needed : ℕ) (f : CoverFault) → problem_fault request F ≡ None → needed ≡ empties_below F request.height / 4 → given_in needed bytes ≡ Err f
     → covering_fault request F bytes ≡ Some (faults.Cover f)
 unfolding covering_fault
-lines_faulty request F bytes needed f none is read =
-    second_left (problem_fault request F) (given_fault (given_in (empties_below F request.height / 4) bytes)) none
-    ∙ ap (λ n. given_fault (given_in n bytes)) (sym is) ∙ ap given_fault read
+lines_faulty request F bytes needed f none is read = search rules
 
 pub lines_read : (request : FieldRequest) (F : Field) (bytes : List ℕ) (needed : ℕ) (sequences : _) → problem_fault request F ≡ None → needed ≡ empties_below F request.height / 4 → given_in needed bytes ≡ Ok sequences
     → covering_fault request F bytes ≡ None
 unfolding covering_fault
-lines_read request F bytes needed sequences none is read =
-    second_left (problem_fault request F) (given_fault (given_in (empties_below F request.height / 4) bytes)) none
-    ∙ ap (λ n. given_fault (given_in n bytes)) (sym is) ∙ ap given_fault read
+lines_read request F bytes needed sequences none is read = search rules
 
 -- no fault of the words, and none that the source is too long
 inner_given : (read : Given) → IsInner (given_fault read)
-inner_given (Ok sequences) = tt
-inner_given (Err fault) = refl
+inner_given read = search rules
 
 inner_covering : (request : FieldRequest) (F : Field) (bytes : List ℕ) → IsInner (covering_fault request F bytes)
 unfolding covering_fault
-inner_covering request F bytes =
-    inner_first _ _ (inner_problem request F) (inner_first _ [] (inner_given (given_in (empties_below F request.height / 4) bytes)) tt)
+inner_covering request F bytes = search (rules, inner_first, inner_problem, inner_given)
 
 pub inner_cover : (request : FieldRequest) (bytes : List ℕ) → IsInner (cover_fault request bytes)
 inner_cover request bytes = inner_of_field its_rest request.field request.page true (covering_task request) bytes (λ F. inner_covering request F bytes)
@@ -81,8 +75,7 @@ module _ (request : FieldRequest) (F : Field) (bytes : List ℕ) (needed : ℕ) 
 
 pub few_floods : (request : FieldRequest) (F : Field) (bytes : List ℕ) (needed : ℕ) (sequences : List (List Placement)) (floods : ℕ) → needed ≡ empties_below F request.height / 4 → given_in needed bytes ≡ Ok sequences
     → floods ≤ sum_by length sequences → IsCoveringWork request F bytes floods
-few_floods request F bytes needed sequences floods is read few =
-    record { sequences = sequences; given = ap (λ n. given_in n bytes) (sym is) ∙ read; few = few }
+few_floods request F bytes needed sequences floods is read few = search rules
 
 pub at_most : (old new : ℕ) (items given : List (ArrayVec Placement)) → items ≡ given → new ≤ old + sum_by length (map listed_placements items) → new - old ≤ sum_by length (map listed_placements given)
 at_most old new items given same few = omega (arith, few, ap (λ (l : List (ArrayVec Placement)). sum_by length (map listed_placements l)) same)

@@ -1,5 +1,6 @@
 -- Kept lists, and the numbers of the queues that permit one.
-use Rattle.std.proofs.Common.{◌≡◌, ◌⊎◌, ◌↔◌, ℕ, zero, suc, ◌+◌, ◌-◌, ◌<◌, ◌≤◌, Bool, true, false, IsTrue, List, [], ◌∷◌, ◌++◌, Contains, Option, Some, filter, length, map, sum_by, take, drop, take-append-drop, slice_get, get_or, refl, sym, ap, subst, ◌∙◌, inl, inr, arith}
+use Rattle.std.proofs.lemmas.Grind.{common_steps}
+use Rattle.std.proofs.Common.{◌≡◌, ◌⊎◌, ◌↔◌, ℕ, zero, suc, ◌+◌, ◌-◌, ◌<◌, ◌≤◌, Bool, true, false, IsTrue, List, [], ◌∷◌, ◌++◌, Contains, Option, Some, filter, length, map, sum_by, take, drop, take-append-drop, slice_get, get_or, refl, sym, ap, subst, ◌∙◌, inl, inr, arith, rules}
 use Rattle.std.specs.List.{flat_map, range_with_len}
 use Rattle.std.specs.Ordering.{nat_cmp}
 use Rattle.std.proofs.lemmas.Bool.{cases_Bool, cases_eq, both_ways}
@@ -26,11 +27,6 @@ use Rattle.pc_cover.specs.Covering.{AreKinds, KeepsKindsOf, numbers_from, permit
 
 -- ---- what is kept
 
-pub kinds-none : (problem : Problem) → KeepsKindsOf problem [] []
-kinds-none problem = record {
-  each = λ kinds. (λ among. absurd (Contains-none kinds among), λ are. absurd (Contains-none are.sequence are.given));
-}
-
 in_kept : {A : Type 0} (old new : List A) (item other : A) → Keeps old new item → Contains old other → Contains new other
 in_kept old new item other (inl there) among = subst (λ l. Contains l other) (sym there.1) among
 in_kept old new item other (inr absent) among = subst (λ l. Contains l other) (sym absent.1) (Contains-append_left old (item ∷ []) other among)
@@ -40,13 +36,7 @@ item_kept old new item (inl there) = subst (λ l. Contains l item) (sym there.1)
 item_kept old new item (inr absent) = subst (λ l. Contains l item) (sym absent.1) (Contains-push old item)
 
 last_cases : {A : Type 0} (old : List A) (item other : A) → Contains (old ++ item ∷ []) other → Contains old other ⊎ (other ≡ item)
-last_cases old item other among = elim (Contains-append_cases old (item ∷ []) other among) [
-  | inl front ↦ inl front
-  | inr back ↦ elim (Contains-cases item [] other back) [
-    | inl here ↦ inr (sym here)
-    | inr there ↦ absurd (Contains-none other there)
-  ]
-]
+last_cases old item other among = grind (arith, common_steps, Contains-append_cases, Contains-cases, Contains-none)
 
 kept_cases : {A : Type 0} (old new : List A) (item other : A) → Keeps old new item → Contains new other → Contains old other ⊎ (other ≡ item)
 kept_cases old new item other (inl there) among = inl (subst (λ l. Contains l other) there.1 among)
@@ -207,9 +197,7 @@ module _ (decides : (hold : Hold) (queue : List Piece) (held : Option Piece) (pi
 pub form-next : (all : List (List Piece)) (numbers rest : List ℕ) (number : ℕ) (queue : List Piece) → numbers ≡ number ∷ rest → slice_get all number ≡ Some queue
     → queues_form all numbers ≡ queue_form queue ++ queues_form all rest
 unfolding queues_form
-form-next all numbers rest number queue is there =
-    ap (λ l. flat_map (λ n. queue_form (get_or all n [])) l) is
-    ∙ ap (λ q. queue_form q ++ flat_map (λ n. queue_form (get_or all n [])) rest) (get_or_from_slice_get all number queue [] there)
+form-next all numbers rest number queue is there = search (rules, get_or_from_slice_get)
 
 pub form-none : (all : List (List Piece)) (numbers : List ℕ) → numbers ≡ [] → queues_form all numbers ≡ []
 unfolding queues_form

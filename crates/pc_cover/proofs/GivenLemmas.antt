@@ -1,5 +1,5 @@
 -- Lines that are read one after the other.
-use Rattle.std.proofs.Common.{◌≡◌, ℕ, ◌+◌, ◌<◌, ◌≤◌, true, false, List, [], ◌∷◌, ◌++◌, length, Ok, Err, refl, sym, ap, subst, ◌∙◌, arith, append_assoc, append-nil, length-append}
+use Rattle.std.proofs.Common.{◌≡◌, ℕ, ◌+◌, ◌<◌, ◌≤◌, true, false, List, [], ◌∷◌, ◌++◌, length, Ok, Err, refl, sym, ap, ◌∙◌, arith, append_assoc, append-nil, length-append, rules}
 use Rattle.pc_outside.specs.declared.answers.Refused.{Refused}
 use Rattle.pc_outside.specs.declared.answers.Refused.TheVariants as refused
 use Rattle.srs.specs.declared.placement.Placement.{Placement}
@@ -12,8 +12,7 @@ use Rattle.pc_cover.specs.Given.{Given, given_from, given_in, is_tail, numbered_
 use Rattle.pc_cover.specs.LineSteps.{behind_front, ReadsLine, RefusesLine}
 
 pub front-none : (read : Given) → behind_front [] read ≡ read
-front-none (Ok sequences) = refl
-front-none (Err fault) = refl
+front-none read = search rules
 
 pub given-passed : (needed number count : ℕ) (line : List ℕ) (lines : List (List ℕ)) → is_tail line ≡ true → given_from needed number count (line ∷ lines) ≡ given_from needed (number + 1) count lines
 unfolding given_from
@@ -30,28 +29,20 @@ unfolding given_from
 given-refused needed number count line lines fault taken read = rw (taken, read) refl
 
 in_front : (front : List (List Placement)) (sequence : List Placement) (read : Given) → behind_front front (read >>= (λ sequences. Ok (sequence ∷ sequences))) ≡ behind_front (front ++ sequence ∷ []) read
-in_front front sequence (Ok sequences) = ap (λ (l : List (List Placement)). Ok l) (sym (append_assoc front (sequence ∷ []) sequences))
-in_front front sequence (Err fault) = refl
+in_front front sequence read = search (rules, append_assoc)
 
 pub line-passed : (needed number : ℕ) (line : List ℕ) (before : List (List Placement)) → is_tail line ≡ true → ReadsLine needed number line before before
 line-passed needed number line before tail = record { each = λ lines. ap (behind_front before) (given-passed needed number (length before) line lines tail) }
 
 pub line-taken : (needed number count : ℕ) (line : List ℕ) (before after : List (List Placement)) (sequence : List Placement) → is_tail line ≡ false → count ≡ length before
     → numbered_sequence needed number count line ≡ Ok sequence → after ≡ before ++ sequence ∷ [] → ReadsLine needed number line before after
-line-taken needed number count line before after sequence taken counted read is = record {
-  each = λ lines.
-      let long : length before + 1 ≡ length after = sym (ap length is ∙ length-append before (sequence ∷ [])) in
-      let here = subst (λ n. numbered_sequence needed number n line ≡ Ok sequence) counted read in
-      ap (behind_front before) (given-taken needed number (length before) line lines sequence taken here)
-      ∙ in_front before sequence (given_from needed (number + 1) (length before + 1) lines)
-      ∙ ap (λ l. behind_front l (given_from needed (number + 1) (length before + 1) lines)) (sym is)
-      ∙ ap (λ n. behind_front after (given_from needed (number + 1) n lines)) long;
-}
+unfolding given_from
+line-taken needed number count line before after sequence taken counted read is =
+    search (rules, length-append, given-taken, in_front)
 
 pub line-refused : (needed number count : ℕ) (line : List ℕ) (before : List (List Placement)) (fault : CoverFault) → is_tail line ≡ false → count ≡ length before
     → numbered_sequence needed number count line ≡ Err fault → RefusesLine needed number line before (refused.Fault fault)
-line-refused needed number count line before fault taken counted read = λ lines.
-    ap (behind_front before) (given-refused needed number (length before) line lines fault taken (subst (λ n. numbered_sequence needed number n line ≡ Err fault) counted read))
+line-refused needed number count line before fault taken counted read = search (rules, given-refused)
 
 -- the sequences so far, and the text that is left, make the whole
 pub record Reading (needed : ℕ) (text : List ℕ) (so_far : List (List Placement)) (number : ℕ) (rest : List ℕ) : Type 0 where
@@ -83,7 +74,4 @@ module _ (needed : ℕ) (text : List ℕ) (so_far : List (List Placement)) (numb
 
 pub reading-ends : (needed : ℕ) (text : List ℕ) (so_far : List (List Placement)) (number : ℕ) (rest : List ℕ) → Reading needed text so_far number rest → rest ≡ [] → given_in needed text ≡ Ok so_far
 unfolding given_from
-reading-ends needed text so_far number rest reading none =
-    sym reading.whole ∙ ap (λ t. behind_front so_far (given_from needed (number + 1) (length so_far) (lines_of t))) none
-    ∙ ap (λ l. behind_front so_far (given_from needed (number + 1) (length so_far) l)) none-left
-    ∙ ap (λ (l : List (List Placement)). Ok l) (append-nil so_far)
+reading-ends needed text so_far number rest reading none = search (rules, none-left, append-nil)

@@ -1,8 +1,6 @@
 -- Lines are read as what they spell, and the fault that is reported is that of the first line that spells nothing.
-use Rattle.std.proofs.Common.{◌≡◌, ◌↔◌, ℕ, zero, suc, ◌+◌, ◌<◌, ◌≤◌, true, false, nat_le, nat_lt, List, [], ◌∷◌, ◌++◌, length, take, drop, get_or, Result, Ok, Err, refl, sym, ap, subst, ◌∙◌, inl, inr, arith, lt-ltb, le-ltb, ltb-true, ltb-false}
-use Rattle.std.specs.Prelude.{codes}
+use Rattle.std.proofs.Common.{◌≡◌, ◌↔◌, ℕ, zero, suc, ◌+◌, ◌<◌, ◌≤◌, true, false, nat_le, nat_lt, List, [], ◌∷◌, ◌++◌, length, take, drop, get_or, Result, Ok, Err, refl, sym, ap, subst, ◌∙◌, inl, inr, arith, lt-ltb, le-ltb, ltb-true, ltb-false, rules}
 use Rattle.std.specs.List.{list_all}
-use Rattle.std.specs.Str.{bytes_eq}
 use Rattle.std.specs.Cmp.Lexicographic.{bytes_decides}
 use Rattle.std.proofs.lemmas.Bool.{cases_Bool, and_parts, and_from, both_ways, le-leb, leb-true, or_cases, or_left, or_right}
 use Rattle.std.proofs.lemmas.List.{take-append-drop}
@@ -14,7 +12,7 @@ use Rattle.sequence_text.specs.Reading.{sequence_in}
 use Rattle.sequence_text.proofs.CallerLemmas.{read_is_spelled, spelled_is_read}
 use Rattle.pc_faults.specs.declared.cover_fault.CoverFault.{CoverFault}
 use Rattle.pc_faults.specs.declared.cover_fault.CoverKind.{CoverKind}
-use Rattle.pc_faults.specs.declared.cover_fault.CoverKind.TheVariants.{BadSequence, TooManySequences}
+use Rattle.pc_faults.specs.declared.cover_fault.CoverKind.TheVariants.{BadSequence}
 use Rattle.pc_cover.specs.Given.{Given, fault_in_line, given_from, given_in, is_count, is_counted, is_digit, is_tail, read_in_line, numbered_sequence}
 use Rattle.pc_cover.specs.Spelling.{IsCount, IsFaultOfLine, IsGivenFault, IsName, IsTail, SpellsGiven, SpellsLines, none, passed, more}
 use Rattle.pc_cover.proofs.GivenLemmas.{given-passed, given-taken, given-refused}
@@ -42,15 +40,11 @@ digits-all (byte ∷ text) each =
 
 count-is : (text : List ℕ) → is_count text ≡ true → IsCount text
 unfolding is_count
-count-is text counts =
-    let parts = and_parts (nat_lt 0 (length text)) _ counts in
-    let rest = and_parts (nat_le (length text) 20) (list_all is_digit text) parts.1 in
-    record { some = ltb-true 0 (length text) parts.0; few = leb-true (length text) 20 rest.0; digits = each-digit text rest.1 }
+count-is text counts = search (rules, ltb-true, leb-true, each-digit)
 
 is-count : (text : List ℕ) → IsCount text → is_count text ≡ true
 unfolding is_count
-is-count text counts =
-    and_from _ _ (lt-ltb 0 (length text) counts.some) (and_from _ _ (le-leb (length text) 20 counts.few) (digits-all text counts.digits))
+is-count text counts = search (rules, and_from, lt-ltb, le-leb, digits-all)
 
 take-front : (xs ys : List ℕ) → take (length xs) (xs ++ ys) ≡ xs
 take-front [] ys = refl
@@ -62,45 +56,19 @@ drop-front (x ∷ xs) ys = drop-front xs ys
 
 counted-tail : (name line : List ℕ) → IsName name → is_counted name line ≡ true → IsTail line
 unfolding is_counted
-counted-tail name line named counted =
-    let parts = and_parts (bytes_eq (take (length name) line) name) _ counted in
-    let front : take (length name) line ≡ name = (bytes_decides (take (length name) line) name).0 parts.0 in
-    record {
-      name = name;
-      named = named;
-      count = drop (length name) line;
-      counts = count-is (drop (length name) line) parts.1;
-      joined = sym (take-append-drop (length name) line) ∙ ap (λ l. l ++ drop (length name) line) front;
-    }
+counted-tail name line named counted = search (rules, bytes_decides, count-is, take-append-drop)
 
 tail-counted : (line : List ℕ) → (tail : IsTail line) → is_counted tail.name line ≡ true
 unfolding is_counted
-tail-counted line tail =
-    let front = ap (take (length tail.name)) tail.joined ∙ take-front tail.name tail.count in
-    let back = ap (drop (length tail.name)) tail.joined ∙ drop-front tail.name tail.count in
-    and_from _ _ ((bytes_decides (take (length tail.name) line) tail.name).1 front) (ap is_count back ∙ is-count tail.count tail.counts)
+tail-counted line tail = search (rules, take-front, drop-front, and_from, bytes_decides, is-count)
 
 pub tail-is : (line : List ℕ) → is_tail line ≡ true → IsTail line
 unfolding is_tail
-tail-is line tail = elim (or_cases (is_counted (codes "end ") line) _ tail) [
-  | inl one ↦ counted-tail (codes "end ") line (inl refl) one
-  | inr others ↦ elim (or_cases (is_counted (codes "limit ") line) _ others) [
-    | inl one ↦ counted-tail (codes "limit ") line (inr (inl refl)) one
-    | inr one ↦ counted-tail (codes "floods ") line (inr (inr refl)) one
-  ]
-]
+tail-is line tail = search (rules, or_cases, counted-tail)
 
 pub is-tail : (line : List ℕ) → IsTail line → is_tail line ≡ true
 unfolding is_tail
-is-tail line tail =
-    let counted = tail-counted line tail in
-    elim tail.named [
-      | inl one ↦ or_left _ _ (ap (λ n. is_counted n line) (sym one) ∙ counted)
-      | inr others ↦ elim others [
-        | inl one ↦ or_right (is_counted (codes "end ") line) _ (or_left _ _ (ap (λ n. is_counted n line) (sym one) ∙ counted))
-        | inr one ↦ or_right (is_counted (codes "end ") line) _ (or_right (is_counted (codes "limit ") line) _ (ap (λ n. is_counted n line) (sym one) ∙ counted))
-      ]
-    ]
+is-tail line tail = search (rules, tail-counted, or_left, or_right)
 
 no-tail : (line : List ℕ) → (IsTail line → ⊥) → is_tail line ≡ false
 no-tail line never = elim (cases_Bool (is_tail line)) [ inl tail ↦ absurd (never (tail-is line tail)) | inr other ↦ other ]
@@ -110,15 +78,11 @@ not-tail line other tail = both_ways _ other (is-tail line tail)
 
 -- ---- one line
 
-same_sequence : (one other : List Placement) → ◌≡◌ {A = Result (List Placement) CoverFault} (Ok one) (Ok other) → one ≡ other
-same_sequence one other e = cc
-
 same_fault : (one other : CoverFault) → ◌≡◌ {A = Result (List Placement) CoverFault} (Err one) (Err other) → one ≡ other
 same_fault one other e = cc
 
 numbered-ok : (number : ℕ) (read : Result (List Placement) ℕ) (sequence : List Placement) → read_in_line number read ≡ Ok sequence → read ≡ Ok sequence
-numbered-ok number (Ok one) sequence is = ap Ok (same_sequence one sequence is)
-numbered-ok number (Err place) sequence is = cc
+numbered-ok number read sequence is = search rules
 
 sequence-is : (needed number count : ℕ) (line : List ℕ) (sequence : List Placement) → numbered_sequence needed number count line ≡ Ok sequence → (count < 100000) × Spells needed line sequence
 unfolding numbered_sequence
@@ -139,22 +103,11 @@ record IsFaultOf (needed number count : ℕ) (line : List ℕ) (fault : CoverFau
   kind : IsFaultOfLine needed count line fault.kind
 
 bad-is : (needed number count : ℕ) (line : List ℕ) (fault : CoverFault) (read : Result (List Placement) ℕ) → count < 100000 → sequence_in needed line ≡ read → read_in_line number read ≡ Err fault → IsFaultOf needed number count line fault
-bad-is needed number count line fault (Ok sequence) few read is = cc
-bad-is needed number count line fault (Err place) few read is =
-    subst (IsFaultOf needed number count line) (same_fault (fault_in_line number BadSequence) fault is)
-    (record { place = refl; kind = (few, λ sequence spelled. no_read (sym read ∙ spelled_is_read needed line sequence spelled)) })
-  where
-    no_read : {sequence : List Placement} → ◌≡◌ {A = Result (List Placement) ℕ} (Err place) (Ok sequence) → ⊥
-    no_read e = cc
+bad-is needed number count line fault read few h7 is = search (rules, same_fault, spelled_is_read)
 
 fault-is : (needed number count : ℕ) (line : List ℕ) (fault : CoverFault) → count ≤ 100000 → numbered_sequence needed number count line ≡ Err fault → IsFaultOf needed number count line fault
 unfolding numbered_sequence
-fault-is needed number count line fault most is = elim (cases_Bool (nat_lt count 100000)) [
-  | inl few ↦ bad-is needed number count line fault (sequence_in needed line) (ltb-true count 100000 few) refl (rw few at is)
-  | inr past ↦
-      subst (IsFaultOf needed number count line) (same_fault (fault_in_line number TooManySequences) fault (rw past at is))
-      (record { place = refl; kind = omega (arith, most, ltb-false count 100000 past) })
-]
+fault-is needed number count line fault most is = search (rules, cases_Bool, bad-is, ltb-true, same_fault, ltb-false)
 
 fault-of : (number : ℕ) (kind : CoverKind) (fault : CoverFault) → fault.line ≡ number → kind ≡ fault.kind → fault_in_line number kind ≡ fault
 fault-of number kind fault line is = ap (λ n. fault_in_line n kind) (sym line) ∙ ap (λ k. fault_in_line fault.line k) is
@@ -165,9 +118,7 @@ bad-read needed number count line (Err place) read never = refl
 
 is-fault : (needed number count line_number : ℕ) (line : List ℕ) (kind : CoverKind) → IsFaultOfLine needed count line kind → numbered_sequence needed number count line ≡ Err (fault_in_line number kind)
 unfolding numbered_sequence
-is-fault needed number count line_number line BadSequence behind =
-    rw (lt-ltb count 100000 behind.0) (bad-read needed number count line (sequence_in needed line) refl behind.1)
-is-fault needed number count line_number line TooManySequences behind = rw (le-ltb count 100000 (omega (arith, behind))) refl
+is-fault needed number count line_number line kind behind = search (rules, lt-ltb, bad-read, le-ltb)
 
 -- ---- many lines
 
@@ -181,8 +132,7 @@ record AreSpelled (needed count : ℕ) (lines : List (List ℕ)) (sequences : Li
 
 read-spelled : (needed : ℕ) (lines : List (List ℕ)) (number count : ℕ) (sequences : List (List Placement)) → count ≤ 100000 → given_from needed number count lines ≡ Ok sequences → AreSpelled needed count lines sequences
 unfolding given_from
-read-spelled needed [] number count sequences most is =
-    subst (AreSpelled needed count []) (same_given [] sequences is) (record { most = omega (arith, most); spelled = none })
+read-spelled needed [] number count sequences most is = search (rules, same_given, none)
 read-spelled needed (line ∷ lines) number count sequences most is = elim (cases_Bool (is_tail line)) [
   | inl tail ↦
       let rest = read-spelled needed lines (number + 1) count sequences most (sym (given-passed needed number count line lines tail) ∙ is) in
@@ -319,14 +269,10 @@ fault-read needed (first ∷ before) number count (sequence ∷ sequences) line 
 
 pub sequences-law : (needed : ℕ) (text : List ℕ) (sequences : List (List Placement)) → (given_in needed text ≡ Ok sequences) ↔ SpellsGiven needed text sequences
 unfolding given_in
-sequences-law needed text sequences = (
-  λ read. let all = read-spelled needed (lines_of text) 1 0 sequences (omega arith) read in record { most = omega (arith, all.most); spelled = all.spelled },
-  λ given. spelled-read needed (lines_of text) 1 0 sequences given.spelled (omega (arith, given.most)),
-)
+sequences-law needed text sequences = search (rules, read-spelled, spelled-read)
 
 behind-most : (needed count : ℕ) (line : List ℕ) (kind : CoverKind) → IsFaultOfLine needed count line kind → count ≤ 100000
-behind-most needed count line BadSequence behind = omega (arith, behind.0)
-behind-most needed count line TooManySequences behind = omega (arith, behind)
+behind-most needed count line kind behind = search rules
 
 pub fault-law : (needed : ℕ) (text : List ℕ) (fault : CoverFault) → (given_in needed text ≡ Err fault) ↔ IsGivenFault needed text fault
 unfolding given_in

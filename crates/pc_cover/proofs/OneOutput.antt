@@ -1,44 +1,26 @@
 -- What `cover` writes is determined by its request and the bytes of the source.
-use Rattle.std.proofs.Common.{true, ◌≡◌, ◌∙◌, ℕ, List, Result, Ok, slice_get, Some, sym, subst}
+use Rattle.std.proofs.Common.{true, ◌≡◌, ◌∙◌, ℕ, List, Result, Ok, sym, subst, rules}
 use Rattle.std.specs.Ordering.{nat_cmp}
 use Rattle.std.proofs.lemmas.Cmp.{nat_cmp_total}
 use Rattle.srs.proofs.CallerLemmas.{IsRisingListOf-unique}
 use Rattle.srs.specs.declared.placement.Placement.{Placement}
-use Rattle.srs.specs.Rules.{table_of}
 use Rattle.lane_board.specs.Field.{Field}
-use Rattle.well.specs.Well.{filled}
 use Rattle.queue_pattern.specs.Pattern.{elements_of}
 use Rattle.queue_pattern.specs.Queues.{queues}
-use Rattle.hold_queue.specs.Permits.{Permits}
 use Rattle.problem.specs.declared.problem.Problem.{Problem}
-use Rattle.problem.specs.Plays.{Plays}
-use Rattle.problem.specs.Solution.{pieces_of}
 use Rattle.cover.specs.Covered.{IsCovered, IsCoveredList}
 use Rattle.pc_settings.specs.Request.{FieldRequest}
 use Rattle.pc_source.specs.FieldTask.{its_rest}
 use Rattle.pc_source.proofs.FieldTasks.{one_of_field}
 use Rattle.pc_problem.specs.Problem.{IsProblemOf}
-use Rattle.pc_problem.proofs.CallerLemmas.{same_elements, same_table}
+use Rattle.pc_problem.proofs.CallerLemmas.{same_elements}
 use Rattle.pc_faults.specs.declared.cover_fault.CoverFault.{CoverFault}
 use Rattle.pc_cover.specs.Lines.{cover_form}
 use Rattle.pc_cover.specs.Output.{IsCoverFor, IsCoveringOf}
 use Rattle.pc_cover.specs.CoverTask.{covering_task, cover_task}
 
 covered_same : (request : FieldRequest) (F : Field) (one other : Problem) → IsProblemOf request F one → IsProblemOf request F other → (sequences : List (List Placement)) (number : ℕ) → IsCovered one sequences number → IsCovered other sequences number
-covered_same request F one other first second sequences number covered = record {
-  queue = covered.queue;
-  there = subst (λ e. slice_get (queues e) number ≡ Some covered.queue) (same_elements request F one other first second) covered.there;
-  sequence = covered.sequence;
-  given = covered.given;
-  plays =
-      subst (λ t. Plays t other.drop_mode (filled other.well) other.height covered.sequence) (same_table request F one other first second)
-      (subst (λ d. Plays (table_of one.rules) d (filled other.well) other.height covered.sequence) (first.drop ∙ sym second.drop)
-      (subst (λ G. Plays (table_of one.rules) one.drop_mode G other.height covered.sequence) (first.field ∙ sym second.field)
-      (subst (λ h. Plays (table_of one.rules) one.drop_mode (filled one.well) h covered.sequence) (first.height ∙ sym second.height) covered.plays)));
-  permitted =
-      subst (λ h. Permits h covered.queue other.held (pieces_of covered.sequence)) (first.hold ∙ sym second.hold)
-      (subst (λ p. Permits one.hold covered.queue p (pieces_of covered.sequence)) (first.held ∙ sym second.held) covered.permitted);
-}
+covered_same request F one other first second sequences number covered = search rules
 
 one_cover_for : (request : FieldRequest) (F : Field) (sequences : List (List Placement)) (a b : List ℕ) → IsCoverFor request F sequences a → IsCoverFor request F sequences b → a ≡ b
 one_cover_for request F sequences a b first second =

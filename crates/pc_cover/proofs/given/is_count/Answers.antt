@@ -1,19 +1,15 @@
 -- Too short, too long, or by its digits.
-use Rattle.std.proofs.Common.{◌≡◌, ◌<◌, ◌≤◌, ◌∙◌, ◌&&◌, Bool, true, false, nat_lt, nat_le, length, refl, sym, ap, arith, le-ltb, lt-ltb}
+use Rattle.std.proofs.Common.{◌≡◌, ◌<◌, ◌≤◌, ◌∙◌, ◌&&◌, Bool, true, false, nat_lt, nat_le, length, sym, ap, arith, le-ltb, lt-ltb, rules}
 use Rattle.std.specs.List.{list_all}
 use Rattle.std.proofs.lemmas.Bool.{le-leb, lt-leb}
 use Rattle.pc_cover.specs.Given.{is_count, is_digit}
 use Rattle.pc_cover.proofs.given.is_count.Goals as goal
 
 second_off : (a b c : Bool) → b ≡ false → false ≡ (a && (b && c))
-second_off true false c e = refl
-second_off true true c e = cc
-second_off false b c e = refl
+second_off a b c e = search rules
 
 both_on : (a b c : Bool) → a ≡ true → b ≡ true → c ≡ (a && (b && c))
-both_on true true c e f = refl
-both_on true false c e f = cc
-both_on false b c e f = cc
+both_on a b c e f = search rules
 
 pub returns-then-is_empty : goal.returns-then-is_empty
 unfolding is_count
