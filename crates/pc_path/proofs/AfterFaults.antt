@@ -1,5 +1,5 @@
 -- The fault of a given text is that of its reading.
-use Rattle.std.proofs.Common.{◌≡◌, ℕ, List, Some, None, Result, Ok, Err, refl, ap, ◌↔◌}
+use Rattle.std.proofs.Common.{◌≡◌, ℕ, List, Some, None, Result, Ok, Err, ap, ◌↔◌, rules}
 use Rattle.srs.specs.declared.placement.Placement.{Placement}
 use Rattle.sequence_text.specs.Form.{IsRefusedAt, Spells}
 use Rattle.sequence_text.specs.Reading.{sequence_in}
@@ -11,12 +11,10 @@ pub given_spelled : (needed : ℕ) (text : List ℕ) (sequence : List Placement)
 given_spelled = read_is_spelled
 
 no_fault : (answer : Result (List Placement) ℕ) → sequence_fault answer ≡ None → (sequence : List Placement) × (answer ≡ Ok sequence)
-no_fault (Ok sequence) is = (sequence, refl)
-no_fault (Err place) is = cc
+no_fault answer is = search rules
 
 refused_at : (answer : Result (List Placement) ℕ) (place : ℕ) → sequence_fault answer ≡ Some (BadAfter place) → answer ≡ Err place
-refused_at (Ok sequence) place is = cc
-refused_at (Err there) place is = cc
+refused_at answer place is = search rules
 
 pub no_fault_where_spelled : (needed : ℕ) (text : List ℕ) → (after_fault needed (Some text) ≡ None) ↔ ((sequence : List Placement) × Spells needed text sequence)
 no_fault_where_spelled needed text = (

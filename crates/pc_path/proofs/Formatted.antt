@@ -1,5 +1,5 @@
 -- What the last line of a report answers, and how the run ends by it.
-use Rattle.std.proofs.Common.{◌≡◌, ℕ, List, [], Bool, false, Option, None, Result, Ok, Err, refl, sym, ap, subst, inr, ◌∙◌, arith}
+use Rattle.std.proofs.Common.{◌≡◌, ℕ, List, [], Bool, false, Option, None, Result, Ok, Err, refl, sym, ap, subst, inr, rules}
 use Rattle.lane_board.specs.Field.{Field}
 use Rattle.pc_outside.specs.declared.answers.Failed.{Failed}
 use Rattle.pc_outside.specs.Counts.{HasCause}
@@ -23,12 +23,10 @@ use Rattle.pc_path.specs.Work.{IsListingWork}
 
 -- a failed write is a line that is not written
 pub line_writes : {T : Type 0} {old new : Option (List ℕ)} {bytes : List ℕ} (r : Result T Failed) (line : Result T WriteFault) → line ≡ as_line r → WritesAll old new r bytes → WritesAll old new line bytes
-line_writes {old = old} {new = new} {bytes = bytes} (Ok x) line same written = subst (λ l. WritesAll old new l bytes) (sym same) (record { done = written.done; failed = tt })
-line_writes {old = old} {new = new} {bytes = bytes} (Err e) line same written = subst (λ l. WritesAll old new l bytes) (sym same) (record { done = tt; failed = written.failed })
+line_writes r line same written = search rules
 
 pub line_cause : {T : Type 0} {alone : Bool} {before now : ℕ} (r : Result T Failed) (line : Result T WriteFault) → line ≡ as_line r → HasCause alone before now r → HasWriteCause alone before now line
-line_cause {alone = alone} {before = before} {now = now} (Ok x) line same cause = subst (HasWriteCause alone before now) (sym same) (record { later = cause.later; kept = λ is _. cause.kept is; failed = λ e. absurd cc })
-line_cause {alone = alone} {before = before} {now = now} (Err e) line same cause = subst (HasWriteCause alone before now) (sym same) (record { later = cause.later; kept = λ _ other. absurd (other refl); failed = λ _. cause.failed })
+line_cause r line same cause = search rules
 
 -- it wants no memory
 pub line_memory : {T : Type 0} {P : Type 0} (r : Result T Failed) (line : Result T WriteFault) → line ≡ as_line r → line ≡ Err fault.NoMemory → P
@@ -37,18 +35,11 @@ line_memory (Err e) line same none = absurd cc
 
 -- how the cause of a line goes on over lines before it
 pub cause_after : {T : Type 0} {alone : Bool} {before mid now : ℕ} {line : Result T WriteFault} → NoneFailed alone before mid → HasWriteCause alone mid now line → HasWriteCause alone before now line
-cause_after so_far cause = record {
-  later = let one = so_far.later in let other = cause.later in omega arith;
-  kept = λ is other. cause.kept is other ∙ so_far.kept is;
-  failed = λ is. let one = so_far.later in let rose = cause.failed is in omega arith;
-}
+cause_after so_far cause = search rules
 
 -- one more line was written
 pub none_more_lines : {T : Type 0} {alone : Bool} {before mid now : ℕ} {x : T} → NoneFailed alone before mid → HasWriteCause {T = T} alone mid now (Ok x) → NoneFailed alone before now
-none_more_lines so_far cause = record {
-  later = let one = so_far.later in let other = cause.later in omega arith;
-  kept = λ is. cause.kept is (λ e. cc) ∙ so_far.kept is;
-}
+none_more_lines so_far cause = search rules
 
 module _ (request : PathRequest) (F : Field) (sink : SinkChange) (floods : ℕ) (none : listing_fault request F ≡ None) where
   answered : {T : Type 0} (Kept : Type 0) (output : List ℕ) → IsReportOf request F floods output → (line : Result T WriteFault) → WritesAll sink.held sink.holds line output → HasWriteCause sink.alone sink.before sink.now line

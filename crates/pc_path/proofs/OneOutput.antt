@@ -1,5 +1,5 @@
 -- What `path` writes is determined by its request and the bytes of the source.
-use Rattle.std.proofs.Common.{◌≡◌, ℕ, ◌/◌, List, ◌++◌, true, false, refl, sym, ap, subst, ◌∙◌, Option, Some, None, IsTrue, Bool}
+use Rattle.std.proofs.Common.{◌≡◌, ℕ, ◌/◌, List, ◌++◌, true, refl, sym, subst, ◌∙◌, Option, None, IsTrue, Bool, rules}
 use Rattle.srs.specs.declared.placement.Placement.{Placement}
 use Rattle.srs.specs.Rising.{is_above, IsRisingListOf}
 use Rattle.srs.specs.Order.{sequence_cmp}
@@ -67,14 +67,10 @@ module _ (request : FieldRequest) (F : Field) (one other : Problem) (first : IsP
   same_needed = λ i. empties_below (same_field i) ((first.height ∙ sym second.height) i) / 4
 
 same_given : (needed : ℕ) (text : Option (List ℕ)) (one other : Option (List Placement)) → IsGiven needed text one → IsGiven needed text other → one ≡ other
-same_given needed None one other first second = first ∙ sym second
-same_given needed (Some text) None other first second = absurd first
-same_given needed (Some text) (Some one) None first second = absurd second
-same_given needed (Some text) (Some one) (Some other) first second = ap (λ s. Some s) (one_sequence needed text one other first second)
+same_given needed text one other first second = search (rules, one_sequence)
 
 same_stats : (stats : Bool) (floods others : ℕ) → (stats ≡ true → floods ≡ others) → stats_form stats floods ≡ stats_form stats others
-same_stats true floods others same = ap (stats_form true) (same refl)
-same_stats false floods others same = refl
+same_stats stats floods others same = search rules
 
 report_unique : (request : PathRequest) (F : Field) (floods others : ℕ) → (request.stats ≡ true → floods ≡ others) → (a b : List ℕ) → IsReportOf request F floods a → IsReportOf request F others b → a ≡ b
 report_unique request F floods others stats a b one other =

@@ -1,29 +1,20 @@
 -- No command finds a fault of the words, and bytes that are not read do not matter.
-use Rattle.std.proofs.Common.{◌≡◌, ℕ, List, [], false, Option, Some, None, Result, Ok, Err, refl}
+use Rattle.std.proofs.Common.{◌≡◌, ℕ, List, [], false, Option, rules}
 use Rattle.lane_board.specs.Field.{Field}
-use Rattle.srs.specs.declared.placement.Placement.{Placement}
-use Rattle.sequence_text.specs.Reading.{sequence_in}
 use Rattle.pc_faults.specs.Inner.{IsInner}
 use Rattle.pc_faults.proofs.CallerLemmas.{inner_first}
 use Rattle.pc_settings.specs.Request.{PathRequest}
 use Rattle.pc_source.specs.FieldText.{field_needs}
 use Rattle.pc_source.specs.Task.{is_source}
 use Rattle.pc_source.specs.FieldTask.{fault_by_field, its_field}
-use Rattle.pc_source.proofs.CallerLemmas.{cells_unread, fault_unread, field_unread}
 use Rattle.pc_source.proofs.FieldTasks.{inner_of_field}
 use Rattle.pc_problem.proofs.CallerLemmas.{inner_problem}
-use Rattle.pc_path.specs.Faults.{after_fault, listing_fault, path_fault, sequence_fault}
+use Rattle.pc_path.specs.Faults.{after_fault, listing_fault, path_fault}
 use Rattle.pc_path.specs.Formats.{takes_memory_first}
 use Rattle.pc_path.specs.PathTask.{listing_task, path_task}
 
--- no fault of the words, and none that the source is too long
-inner_sequence : (read : Result (List Placement) ℕ) → IsInner (sequence_fault read)
-inner_sequence (Ok sequence) = tt
-inner_sequence (Err place) = refl
-
 inner_after : (needed : ℕ) (text : Option (List ℕ)) → IsInner (after_fault needed text)
-inner_after needed None = tt
-inner_after needed (Some text) = inner_sequence (sequence_in needed text)
+inner_after needed text = search rules
 
 inner_listing : (request : PathRequest) (F : Field) → IsInner (listing_fault request F)
 unfolding listing_fault
@@ -35,10 +26,8 @@ inner_path request bytes =
 
 pub path_fault_unread : (request : PathRequest) (one other : List ℕ) → is_source (field_needs request.common.field) ≡ false → path_fault request one ≡ path_fault request other
 unfolding fault_by_field
-path_fault_unread request one other own =
-    rw (fault_unread request.common.page one other request.common.field own, cells_unread request.common.page one other request.common.field own) refl
+path_fault_unread request one other own = search rules
 
 pub path_output_unread : (request : PathRequest) (one other output : List ℕ) (floods : ℕ) → is_source (field_needs request.common.field) ≡ false → (path_task request).IsOutput one floods output
     → (path_task request).IsOutput other floods output
-path_output_unread request one other output floods own is =
-    record { field = is.field; asked = field_unread request.common.page one other request.common.field is.field own is.asked; holds = is.holds }
+path_output_unread request one other output floods own is = search rules

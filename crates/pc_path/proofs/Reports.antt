@@ -1,12 +1,10 @@
 -- A report, line by line.
-use Rattle.std.proofs.Common.{◌≡◌, ℕ, suc, ◌+◌, ◌-◌, ◌<◌, ◌≤◌, List, [], ◌∷◌, ◌++◌, length, take, min, nat_le, true, false, le-leb, if◌then◌else◌, refl, ap, ◌∙◌, arith, append_assoc, sym, subst, Option}
+use Rattle.std.proofs.Common.{◌≡◌, ℕ, suc, ◌+◌, ◌-◌, ◌<◌, ◌≤◌, List, [], ◌∷◌, ◌++◌, length, take, min, nat_le, true, false, le-leb, if◌then◌else◌, refl, ap, ◌∙◌, arith, append_assoc, subst, Option, rules}
 use Rattle.std.specs.List.{flat_map}
 use Rattle.std.proofs.Math.Dec.{leb-suc-suc, leb-suc-zero}
 use Rattle.pc_outside.specs.Writes.{GrowsUpTo}
 use Rattle.pc_outside.specs.WriteLaws.{begins}
-use Rattle.std.specs.Prelude.{Contains}
 use Rattle.srs.specs.Rules.{table_of}
-use Rattle.srs.proofs.CallerLemmas.{Contains-here}
 use Rattle.well.specs.Well.{filled}
 use Rattle.problem.specs.declared.problem.Problem.{Problem}
 use Rattle.problem.specs.Plays.{Plays}
@@ -85,6 +83,4 @@ left_as {old} {new} {whole} same grown = subst (λ rest. GrowsUpTo old new whole
 -- a solution plays in its problem
 pub next_plays : (problem : Problem) (view : View) (sequence : List Placement) (rest : List (List Placement)) (all : List (List Placement)) → view.problem ≡ problem → IsList view all → all ≡ sequence ∷ rest →
     Plays (table_of problem.rules) problem.drop_mode (filled problem.well) problem.height sequence
-next_plays problem view sequence rest all same list first =
-    let among : Contains all sequence = subst (λ xs. Contains xs sequence) (sym first) (Contains-here sequence rest) in
-    subst (λ (p : Problem). Plays (table_of p.rules) p.drop_mode (filled p.well) p.height sequence) same ((list.members sequence).0 among).solution.plays
+next_plays problem view sequence rest all same list first = search rules

@@ -1,5 +1,5 @@
 -- A search that goes on, and the lines that are written of what it gives.
-use Rattle.std.proofs.Common.{◌≡◌, ◌∙◌, ℕ, zero, suc, ◌+◌, ◌-◌, ◌≤◌, List, [], ◌∷◌, ◌++◌, length, take, drop, Option, None, Result, Ok, Err, OnOk, OnErr, IsOk, IsErr, refl, sym, ap, subst, arith, append-nil, append_assoc}
+use Rattle.std.proofs.Common.{◌≡◌, ◌∙◌, ℕ, zero, suc, ◌+◌, ◌-◌, ◌≤◌, List, [], ◌∷◌, ◌++◌, length, take, drop, Option, None, Result, OnOk, OnErr, IsOk, IsErr, refl, sym, ap, subst, arith, append-nil, append_assoc, rules}
 use Rattle.std.specs.List.{flat_map}
 use Rattle.std.proofs.lemmas.List.{drop-drop, length-drop}
 use Rattle.std.proofs.lemmas.List.Concat.{flat_map-append}
@@ -14,24 +14,19 @@ use Rattle.pc_path.specs.Work.{IsSearchOf, StoppedBefore}
 
 -- an answer that is known to be one or the other
 pub on_ok : {T E : Type 0} {P : Type 0} (result : Result T E) → P → OnOk result P
-on_ok (Ok x) p = p
-on_ok (Err e) p = tt
+on_ok result p = search rules
 
 pub on_err : {T E : Type 0} {P : Type 0} (result : Result T E) → P → OnErr result P
-on_err (Ok x) p = tt
-on_err (Err e) p = p
+on_err result p = search rules
 
 pub no_ok : {T E : Type 0} (P : Type 0) (result : Result T E) → IsErr result → OnOk result P
-no_ok P (Ok x) err = cc
-no_ok P (Err e) err = tt
+no_ok P result err = search rules
 
 pub never_ok : {T E : Type 0} (result : Result T E) → IsErr result → IsOk result → ⊥
-never_ok (Ok x) err ok = cc
-never_ok (Err e) err ok = cc
+never_ok result err ok = search rules
 
 pub more_on_err : {T E : Type 0} {P Q : Type 0} (result : Result T E) → (P → Q) → OnErr result P → OnErr result Q
-more_on_err (Ok x) more p = tt
-more_on_err (Err e) more p = more p
+more_on_err result more p = search rules
 
 -- the same search before its first flood
 pub not_begun : (problem : Problem) (after : Option (List Placement)) (search : Search) (start : ℕ) → IsSearchOf problem after search 0 → IsSearchOf problem after search (start - start)
@@ -41,16 +36,7 @@ not_begun problem after search start s = let none : 0 ≡ start - start = omega 
 pub goes_on : (problem : Problem) (after : Option (List Placement)) (old new : Search) (start before now : ℕ) → IsSearchOf problem after old (before - start) → start ≤ before
     → (view_of new).problem ≡ (view_of old).problem → (view_of new).queue ≡ (view_of old).queue → after_given new ≡ after_given old
     → work new + before ≡ work old + now → before ≤ now → work new ≤ pairs (view_of old).problem (view_of old).queue → IsSearchOf problem after new (now - start)
-goes_on problem after old new start before now s within same all given counted rose bound =
-    let old_made = s.made in
-    let made : work new ≡ now - start = omega (arith, counted, old_made, within, rose) in
-    record {
-      same = same ∙ s.same;
-      all = all ∙ s.all;
-      given = given ∙ s.given;
-      made = made;
-      bound = subst (λ n. n ≤ pairs problem None) made (subst (λ q. work new ≤ pairs problem q) s.all (subst (λ p. work new ≤ pairs p (view_of old).queue) s.same bound));
-    }
+goes_on problem after old new start before now s within same all given counted rose bound = search rules
 
 -- all pairs were flooded
 pub all_pairs : (problem : Problem) (after : Option (List Placement)) (old : Search) (floods made : ℕ) → IsSearchOf problem after old floods

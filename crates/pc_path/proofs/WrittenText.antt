@@ -1,5 +1,5 @@
 -- What a report writes for a solution spells it.
-use Rattle.std.proofs.Common.{◌≡◌, ℕ, zero, suc, ◌-◌, ◌≤◌, List, [], ◌∷◌, ◌++◌, length, map, Bool, None, All, refl, ap, subst, ◌∙◌, sym, arith}
+use Rattle.std.proofs.Common.{◌≡◌, ℕ, ◌-◌, ◌≤◌, List, [], ◌∷◌, ◌++◌, length, map, Bool, None, All, refl, ap, subst, ◌∙◌, sym, arith, rules}
 use Rattle.std.proofs.lemmas.List.{append_cancel_right, length-map}
 use Rattle.srs.specs.declared.placement.Placement.{Placement}
 use Rattle.srs.specs.Kick.{Table}
@@ -32,8 +32,7 @@ placements_of keys F [] = refl
 placements_of keys F (q ∷ s) = ap (λ l. q ∷ l) (placements_of keys (locked F q) s)
 
 more_inside : (item : Keyed) (rest : List Keyed) → InWell item → All InWell rest → All InWell (item ∷ rest)
-more_inside item rest here there zero d within = here
-more_inside item rest here there (suc i) d within = there i d (omega (arith, within))
+more_inside item rest here there h4 d within = search rules
 
 played_inside : (table : Table) (mode : DropMode) (keys : KeysOf) (s : List Placement) (F : Field) (rows : ℕ) → Plays table mode F rows s → All InWell (keyed keys F s)
 unfolding keyed

@@ -1,5 +1,5 @@
 -- The list is that of the search which was started.
-use Rattle.std.proofs.Common.{[], ◌≡◌, ◌-◌, ◌++◌, ◌∙◌, List, Option, None, Result, Ok, Err, OnOk, OnErr, IsOk, refl, ap, sym, subst, inl, arith}
+use Rattle.std.proofs.Common.{[], ◌≡◌, ◌-◌, ◌++◌, ◌∙◌, List, Option, None, Result, Ok, Err, OnOk, OnErr, IsOk, refl, ap, sym, subst, inl, arith, rules}
 use Rattle.lane_board.specs.Field.{Field}
 use Rattle.problem.specs.SolutionList.{View, IsList}
 use Rattle.enumerate.specs.ViewOf.{solutions, view_of}
@@ -45,8 +45,7 @@ failed_by : {T E P : Type 0} (result : Result T E) (failed : E) → result ≡ E
 failed_by {P = P} result failed is p = subst (λ r. OnErr r P) is p
 
 is_done : {T E : Type 0} (result : Result T E) (all : T) → result ≡ Ok all → IsOk result
-is_done (Ok x) all is = refl
-is_done (Err e) all is = cc
+is_done result all is = search rules
 
 pub write_listing-written-requires : goal.write_listing-written-requires
 write_listing-written-requires g c =
