@@ -1,7 +1,6 @@
 -- The field of a column that is drawn, and the pattern of its problem.
-use Rattle.std.proofs.Common.{◌≡◌, ◌∙◌, ℕ, ◌<◌, ◌==◌, true, false, List, [], ◌∷◌, Option, Some, None, Ok, Err, refl, sym}
-use Rattle.std.specs.Prelude.{codes, is_some}
-use Rattle.std.proofs.lemmas.Bool.{agree_below_at, eqb-true}
+use Rattle.std.proofs.Common.{◌≡◌, ◌∙◌, ℕ, ◌<◌, List, [], ◌∷◌, None, Ok, Err, refl, sym, rules}
+use Rattle.std.specs.Prelude.{codes}
 use Rattle.lane_board.specs.Field.{rows_below}
 use Rattle.lane_board.specs.CellCount.{cell_count, row_count}
 use Rattle.lane_board.specs.FullRows.{is_full}
@@ -12,24 +11,17 @@ use Rattle.queue_pattern.specs.Grammar.{choice, elements, elements_from, limited
 use Rattle.queue_pattern.specs.Queues.{falling_factor, pieces_in, queue_count}
 use Rattle.pc_selfrun.specs.Problem.{column_field, is_left_open}
 
-is_none : {X : Type 0} (found : Option X) → is_some found ≡ false → found ≡ None
-is_none None none = refl
-is_none (Some x) none = cc
-
 pub no_high_cell : (column : ℕ) → column < 7 → lowest_filled_from (column_field column) 4 ≡ None
 unfolding column_field is_left_open rows_below lowest_filled_from is_filled_row
-no_high_cell column within =
-    is_none (lowest_filled_from (column_field column) 4) (agree_below_at (λ column. is_some (lowest_filled_from (column_field column) 4)) (λ column. false) 7 column refl within)
+no_high_cell column within = search rules
 
 pub no_full_row : (column : ℕ) → column < 7 → lowest_full (column_field column) ≡ None
 unfolding column_field is_left_open rows_below lowest_full is_full
-no_full_row column within =
-    is_none (lowest_full (column_field column)) (agree_below_at (λ column. is_some (lowest_full (column_field column))) (λ column. false) 7 column refl within)
+no_full_row column within = search rules
 
 pub sixteen_empty : (column : ℕ) → column < 7 → empties_below (column_field column) 4 ≡ 16
 unfolding column_field is_left_open rows_below cell_count row_count
-sixteen_empty column within =
-    eqb-true (empties_below (column_field column) 4) 16 (agree_below_at (λ column. empties_below (column_field column) 4 == 16) (λ column. true) 7 column refl within)
+sixteen_empty column within = search rules
 
 abbrev pub five_of_all : List Element
 five_of_all = record { set = 127; chosen = 5 } ∷ []

@@ -1,9 +1,8 @@
 -- The field of a column, cell by cell from the lowest row up.
-use Rattle.std.proofs.Common.{◌≡◌, ℕ, ◌+◌, ◌*◌, ◌<◌, ◌/◌, ◌%◌, ◌==◌, ◌&&◌, ◌||◌, Bool, true, false, nat_lt, refl, sym, ◌∙◌, inl, inr, arith}
-use Rattle.std.specs.Prelude.{not}
+use Rattle.std.proofs.Common.{◌≡◌, ℕ, ◌+◌, ◌*◌, ◌<◌, ◌/◌, ◌%◌, ◌==◌, ◌&&◌, ◌||◌, Bool, true, false, nat_lt, refl, sym, ◌∙◌, inl, inr, arith, rules}
 use Rattle.std.proofs.Math.Path.{fun_ext}
 use Rattle.std.proofs.lemmas.Bool.{cases_lt, ltb-true, lt-ltb, le-ltb, eqb-true, eq-eqb, and_from, and_parts, and_right, or_right, false≢true}
-use Rattle.lane_board.proofs.CallerLemmas.{or_none, and_true}
+use Rattle.lane_board.proofs.CallerLemmas.{or_none}
 use Rattle.lane_board.specs.Field.{Field, empty_field, rows_below, with_cell}
 use Rattle.pc_selfrun.specs.Problem.{column_field, is_left_open}
 
@@ -94,15 +93,7 @@ none_before column = fun_ext (λ x. fun_ext (λ y. none_at column x y))
 
 all_at : (column x y : ℕ) → cells_before 40 column x y ≡ column_field column x y
 unfolding cells_before column_field rows_below
-all_at column x y = by (nat_lt x 10) (nat_lt y 4) refl refl where
-  by : (s t : Bool) → nat_lt x 10 ≡ s → nat_lt y 4 ≡ t
-      → (((nat_lt x 10 && nat_lt y 4) && not (is_left_open column x)) && nat_lt (y * 10 + x) 40) ≡ ((nat_lt x 10 && nat_lt y 4) && not (is_left_open column x))
-  by false t a b = rw (a) refl
-  by true false a b = rw (a, b) refl
-  by true true a b =
-      let p = ltb-true x 10 a in
-      let q = ltb-true y 4 b in
-      and_true ((nat_lt x 10 && nat_lt y 4) && not (is_left_open column x)) (nat_lt (y * 10 + x) 40) (lt-ltb (y * 10 + x) 40 (omega (arith, p, q)))
+all_at column x y = search rules
 
 -- the cells of rows 0 to 3 are the first 40
 pub all_before : (column : ℕ) → cells_before 40 column ≡ column_field column

@@ -1,5 +1,5 @@
 -- The five lines as one text.
-use Rattle.std.proofs.Common.{◌≡◌, ◌∙◌, ℕ, List, [], ◌∷◌, ◌++◌, sym, ap, append_assoc}
+use Rattle.std.proofs.Common.{◌≡◌, ◌∙◌, ℕ, List, [], ◌∷◌, ◌++◌, append_assoc, rules}
 use Rattle.std.specs.Prelude.{codes}
 use Rattle.pc_selfrun.specs.Lines.{named_line}
 
@@ -14,8 +14,4 @@ last_line name text = append_assoc name (32 ∷ text) (10 ∷ [])
 pub five_lines : (a b c d e : List ℕ)
     → codes "pages " ++ (a ++ 10 ∷ (codes "bytes " ++ (b ++ 10 ∷ (codes "same " ++ (c ++ 10 ∷ (codes "column " ++ (d ++ 10 ∷ (codes "solutions " ++ (e ++ 10 ∷ [])))))))))
     ≡ named_line (codes "pages") a ++ (named_line (codes "bytes") b ++ (named_line (codes "same") c ++ (named_line (codes "column") d ++ named_line (codes "solutions") e)))
-five_lines a b c d e = sym (
-    line_before (codes "pages") a _ ∙ ap (λ rest. codes "pages " ++ (a ++ 10 ∷ rest))
-    (line_before (codes "bytes") b _ ∙ ap (λ rest. codes "bytes " ++ (b ++ 10 ∷ rest))
-    (line_before (codes "same") c _ ∙ ap (λ rest. codes "same " ++ (c ++ 10 ∷ rest))
-    (line_before (codes "column") d _ ∙ ap (λ rest. codes "column " ++ (d ++ 10 ∷ rest)) (last_line (codes "solutions") e)))))
+five_lines a b c d e = search (rules, line_before, last_line)

@@ -1,12 +1,12 @@
 -- Pages that are made from a number have no fault, so that their text reads as them.
-use Rattle.std.proofs.Common.{◌≡◌, ◌∙◌, ℕ, zero, suc, ◌+◌, ◌*◌, ◌≤◌, ◌/◌, ◌%◌, ◌++◌, Bool, true, false, cond, not, leb, ltb, List, [], ◌∷◌, length, replicate, get_or, Option, Some, None, IsTrue, refl, sym, ap, subst, arith}
+use Rattle.std.proofs.Common.{◌≡◌, ◌∙◌, ℕ, zero, suc, ◌+◌, ◌*◌, ◌≤◌, Bool, true, false, cond, not, ltb, List, [], ◌∷◌, length, replicate, Option, Some, None, IsTrue, refl, ap, arith, rules}
 use Rattle.std.specs.Option.{ForSome, option_map_or, option_or}
-use Rattle.std.specs.List.{AllByRecursion, flat_map}
+use Rattle.std.specs.List.{AllByRecursion}
 use Rattle.std.proofs.lemmas.Bool.{le-leb, le-ltb}
 use Rattle.std.proofs.lemmas.List.{length-append}
 use Rattle.std.proofs.lemmas.List.Sums.{list_all-from_AllPass}
 use Rattle.fumen_digits.specs.declared.dialect.Dialect.TheVariants.{V115}
-use Rattle.fumen_comment.specs.Escape.{escaped, escaped_unit, hex_byte, stays}
+use Rattle.fumen_comment.specs.Escape.{escaped, escaped_unit}
 use Rattle.fumen_pages.specs.declared.page.Page.{Page}
 use Rattle.srs.specs.declared.placement.Placement.{Placement}
 use Rattle.fumen_pages.specs.Action.{is_inside_in}
@@ -23,30 +23,18 @@ use Rattle.sample_pages.proofs.CallerLemmas.{IsShortComment, comment_drawn-short
 
 -- three units are escaped by few characters
 length-escaped_unit : (unit : ℕ) → length (escaped_unit unit) ≤ 6
-length-escaped_unit unit =
-    elim (ltb unit 256) as (λ b. length (cond b (cond (stays unit) (unit ∷ []) (37 ∷ hex_byte unit)) (37 ∷ 117 ∷ hex_byte (unit / 256) ++ hex_byte (unit % 256))) ≤ 6) [
-      | true ↦ elim (stays unit) as (λ b. length (cond b (unit ∷ []) (37 ∷ hex_byte unit)) ≤ 6) [ true ↦ omega arith | false ↦ omega arith ]
-      | false ↦ omega arith
-    ]
+length-escaped_unit unit = search rules
 
 length-escaped : (units : List ℕ) → length (escaped units) ≤ 6 * length units
 unfolding escaped
 length-escaped [] = omega arith
-length-escaped (unit ∷ units) =
-    let one = length-escaped_unit unit in
-    let others = length-escaped units in
-    omega (arith, one, others, length-append (escaped_unit unit) (flat_map escaped_unit units))
+length-escaped (unit ∷ units) = search (rules, length-escaped_unit, length-append, length-escaped units)
 
 comment_short : (comment : Option (List ℕ)) → ForSome comment IsShortComment → is_short comment ≡ true
-comment_short None short = refl
-comment_short (Some units) short =
-    let three = (short units refl).three in
-    let most = length-escaped units in
-    le-leb (length (escaped units)) 4095 (omega (arith, three, most))
+comment_short comment short = search (rules, length-escaped, le-leb)
 
 operation_inside : (operation : Option Placement) → ForSome operation (λ placement. IsTrue (is_inside_in V115 placement)) → option_map_or (is_inside_in V115) operation true ≡ true
-operation_inside None inside = refl
-operation_inside (Some placement) inside = inside placement refl
+operation_inside operation inside = search rules
 
 four_pass : (a b c d : Bool) (f g h k : EncodeFault) → a ≡ true → b ≡ true → c ≡ true → d ≡ true
     → cond (not a) (Some f) (cond (not b) (Some g) (cond (not c) (Some h) (cond (not d) (Some k) None))) ≡ None
@@ -55,9 +43,7 @@ four_pass a b c d f g h k one two three four = rw (one, two, three, four) refl
 no_fault : (number : ℕ) (page : Page) → IsSound V115 page → ForSome page.comment IsShortComment → page_encode_fault V115 number page ≡ None
 unfolding page_encode_fault
 no_fault number page sound short =
-    four_pass _ _ _ _ (fault.BadCell number) (fault.RowTooHigh number) (fault.PieceOutside number) (fault.CommentTooLong number)
-    (list_all-from_AllPass (λ cell. leb cell 8) page.cells (λ i d below. le-leb (get_or page.cells i d) 8 (sound.cells.colours i d below))) refl
-    (operation_inside page.operation sound.inside) (comment_short page.comment short)
+    search (rules, four_pass, list_all-from_AllPass, le-leb, operation_inside, comment_short)
 
 comment_of_drawn : (state : ℕ) (colour : Bool) (cells : List ℕ) → ForSome (page_drawn state colour cells).comment IsShortComment
 unfolding page_drawn
@@ -91,5 +77,4 @@ pub made_types : (number pages : ℕ) → AllByRecursion HasTypes (sample_pages 
 made_types number pages = (drawn_fit pages 1 number true (replicate 240 0) empty_sound).types
 
 pub made_none : (number pages : ℕ) → pages ≤ 10000 → list_encode_fault V115 (sample_pages number pages) ≡ None
-made_none number pages few =
-    few_pages (length (sample_pages number pages)) _ (subst (λ n. n ≤ 10000) (sym (made_count number pages)) few) (drawn_fit pages 1 number true (replicate 240 0) empty_sound).none
+made_none number pages few = search (rules, few_pages, made_count, drawn_fit, empty_sound)

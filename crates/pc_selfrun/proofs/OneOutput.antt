@@ -1,44 +1,23 @@
 -- What `selfrun` writes is determined by its number and the number of pages.
-use Rattle.std.proofs.Common.{◌≡◌, ◌∙◌, ℕ, List, true, length, None, sym, ap, subst}
+use Rattle.std.proofs.Common.{◌≡◌, ◌∙◌, ℕ, List, true, length, None, sym, ap, rules}
 use Rattle.srs.proofs.CallerLemmas.{IsRisingListOf-unique, sequence_cmp-total}
 use Rattle.srs.specs.declared.placement.Placement.{Placement}
 use Rattle.srs.specs.Order.{sequence_cmp}
-use Rattle.srs.specs.Rules.{table_of}
 use Rattle.fumen_digits.specs.declared.dialect.Dialect.TheVariants.{V115}
 use Rattle.fumen_text.specs.Written.{written}
-use Rattle.well.specs.Well.{filled}
-use Rattle.queue_pattern.specs.Pattern.{elements_of}
-use Rattle.queue_pattern.specs.Queues.{queues}
-use Rattle.hold_queue.specs.Permits.{SomePermits}
 use Rattle.sample_pages.specs.Pages.{column_drawn, sample_pages}
 use Rattle.problem.specs.declared.problem.Problem.{Problem}
-use Rattle.problem.specs.Plays.{Plays}
 use Rattle.problem.specs.SolutionList.{IsList, IsSolutionAbove, View}
-use Rattle.problem.specs.Solution.{pieces_of}
 use Rattle.pc_selfrun.specs.Lines.{selfrun_form}
 use Rattle.pc_selfrun.specs.Output.{IsSelfrunOutput}
 use Rattle.pc_selfrun.specs.Problem.{IsColumnProblem}
-use Rattle.pc_selfrun.proofs.ColumnProblem.{elements_are}
 
 abbrev all_of : Problem → View
 all_of problem = record { problem = problem; queue = None; bound = None }
 
 -- two problems of one column have the same solutions
 solution_of_same : (column : ℕ) (one other : Problem) → IsColumnProblem column one → IsColumnProblem column other → (s : List Placement) → IsSolutionAbove (all_of one) s → IsSolutionAbove (all_of other) s
-solution_of_same column one other first second s m = record {
-  solution = record {
-    plays =
-        subst (λ t. Plays t other.drop_mode (filled other.well) other.height s) (first.rules ∙ sym second.rules)
-        (subst (λ d. Plays (table_of one.rules) d (filled other.well) other.height s) (first.drop ∙ sym second.drop)
-        (subst (λ F. Plays (table_of one.rules) one.drop_mode F other.height s) (first.field ∙ sym second.field)
-        (subst (λ h. Plays (table_of one.rules) one.drop_mode (filled one.well) h s) (first.height ∙ sym second.height) m.solution.plays)));
-    permitted =
-        subst (λ h. SomePermits h (queues (elements_of other.pattern)) other.held (pieces_of s)) (first.hold ∙ sym second.hold)
-        (subst (λ e. SomePermits one.hold (queues e) other.held (pieces_of s)) (elements_are column one first ∙ sym (elements_are column other second))
-        (subst (λ p. SomePermits one.hold (queues (elements_of one.pattern)) p (pieces_of s)) (first.held ∙ sym second.held) m.solution.permitted));
-  };
-  above = m.above;
-}
+solution_of_same column one other first second s m = search rules
 
 list_of_same : (column : ℕ) (one other : Problem) → IsColumnProblem column one → IsColumnProblem column other → (xs : List (List Placement)) → IsList (all_of one) xs → IsList (all_of other) xs
 list_of_same column one other first second xs list = record {

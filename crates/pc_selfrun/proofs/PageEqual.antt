@@ -1,44 +1,25 @@
 -- Equal pages are the same.
-use Rattle.std.proofs.Common.{◌≡◌, ℕ, Bool, true, ap, ◌&&◌, ◌==◌, List, [], ◌∷◌, Option, Some, None, refl, eqb-true, rules}
+use Rattle.std.proofs.Common.{◌≡◌, ℕ, Bool, true, List, [], ◌∷◌, Option, refl, rules}
 use Rattle.std.specs.Cmp.Lexicographic.{pointwise}
 use Rattle.std.specs.Option.{option_eq}
 use Rattle.std.specs.Str.{bytes_eq}
 use Rattle.std.specs.Cmp.{booleans_Decides}
 use Rattle.std.proofs.lemmas.Bool.{and_parts}
 use Rattle.std.proofs.lemmas.Slice.Eq.{bytes_eq-Decides}
-use denote.Enum.Bare.{same_true}
 use Rattle.fumen_pages.specs.declared.page.Page.{Page}
 use Rattle.fumen_pages.specs.contracts.page.PagePartialEq.TheImpl.{eq-value}
-use Rattle.srs.specs.declared.piece.Piece.{Piece}
 use Rattle.srs.specs.contracts.piece.Piece as piece_type
 use Rattle.srs.specs.contracts.piece.PiecePartialEq.TheImpl as piece
-use Rattle.srs.specs.declared.rotation.Rotation.{Rotation}
 use Rattle.srs.specs.contracts.rotation.Rotation as rotation_type
 use Rattle.srs.specs.contracts.rotation.RotationPartialEq.TheImpl as rotation
 use Rattle.srs.specs.declared.placement.Placement.{Placement}
 use Rattle.srs.specs.contracts.placement.PlacementPartialEq.TheImpl as placement
 
-piece-same : (x y : Piece) → piece.eq-value.it x y ≡ true → x ≡ y
-piece-same x y equal = same_true piece_type.the_type (search rules) x y equal
-
-rotation-same : (x y : Rotation) → rotation.eq-value.it x y ≡ true → x ≡ y
-rotation-same x y equal = same_true rotation_type.the_type (search rules) x y equal
-
 placement-same : (x y : Placement) → placement.eq-value.it x y ≡ true → x ≡ y
-placement-same x y equal =
-    let one = and_parts (piece.eq-value.it x.piece y.piece) (rotation.eq-value.it x.rotation y.rotation && ((x.x == y.x) && (x.y == y.y))) equal in
-    let two = and_parts (rotation.eq-value.it x.rotation y.rotation) ((x.x == y.x) && (x.y == y.y)) one.1 in
-    let three = and_parts (x.x == y.x) (x.y == y.y) two.1 in
-    made (piece-same x.piece y.piece one.0) (rotation-same x.rotation y.rotation two.0) (eqb-true x.x y.x three.0) (eqb-true x.y y.y three.1)
-  where
-    made : x.piece ≡ y.piece → x.rotation ≡ y.rotation → x.x ≡ y.x → x.y ≡ y.y → x ≡ y
-    made p r c d = λ i. record { piece = p i; rotation = r i; x = c i; y = d i }
+placement-same x y equal = search rules
 
 option-same : {A : Type 0} (E : A → A → Bool) → ((x y : A) → E x y ≡ true → x ≡ y) → (x y : Option A) → option_eq E x y ≡ true → x ≡ y
-option-same E same None None equal = refl
-option-same E same None (Some y) equal = cc
-option-same E same (Some x) None equal = cc
-option-same E same (Some x) (Some y) equal = ap Some (same x y equal)
+option-same E same x y equal = search rules
 
 -- the parts of a page that are compared, in this order
 pub page-same : (x y : Page) → eq-value.it x y ≡ true → x ≡ y

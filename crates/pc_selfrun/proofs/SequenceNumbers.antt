@@ -1,6 +1,6 @@
 -- A rising list of sequences of four placements in the well has at most 2 ^ 63 members: each sequence has a number of its
 -- own below 6440 ^ 4.
-use Rattle.std.proofs.Common.{◌≡◌, ◌≢◌, ◌∙◌, ℕ, ◌+◌, ◌-◌, ◌*◌, ◌^◌, ◌<◌, ◌≤◌, true, false, eqb, eqb-true, List, [], ◌∷◌, length, map, refl, sym, subst, arith, inl, inr}
+use Rattle.std.proofs.Common.{◌≡◌, ◌≢◌, ◌∙◌, ℕ, ◌+◌, ◌-◌, ◌*◌, ◌^◌, ◌<◌, ◌≤◌, true, false, eqb, eqb-true, List, [], ◌∷◌, length, map, refl, sym, subst, arith, inl, inr, rules}
 use Rattle.std.specs.Prelude.{Contains}
 use Rattle.std.specs.List.{list_any, IsDistinct, AllByRecursion}
 use Rattle.std.specs.List.Sorted.{IsStrictlySortedBy}
@@ -9,7 +9,7 @@ use Rattle.std.specs.declared.cmp.Ordering.TheVariants.{Less, Equal}
 use Rattle.std.proofs.lemmas.Bool.{ne_eqb, or_cases}
 use Rattle.std.proofs.lemmas.List.{length-map}
 use Rattle.std.proofs.lemmas.Map.Steps.{length-le_from_distinct_below}
-use Rattle.srs.proofs.CallerLemmas.{Contains-here, Contains-there, rising-first, rising-rest, PivotInside, piece_code-injective, rotation_place-injective, sequence_cmp-total, piece_code-some, piece_code-small, rotation_place-small, same_placement}
+use Rattle.srs.proofs.CallerLemmas.{Contains-here, Contains-there, rising-first, rising-rest, PivotInside, piece_code-injective, rotation_place-injective, sequence_cmp-total, piece_code-some, rotation_place-small, same_placement}
 use Rattle.srs.specs.declared.placement.Placement.{Placement}
 use Rattle.srs.specs.Piece.{piece_code}
 use Rattle.srs.specs.Rotation.{rotation_place}
@@ -28,14 +28,9 @@ sequence_number : List Placement → ℕ
 sequence_number [] = 0
 sequence_number (q ∷ rest) = placement_number q + 6440 * sequence_number rest
 
-with_below : (code rotation x y : ℕ) → 1 ≤ code → code ≤ 7 → rotation < 4 → x ≤ 9 → y ≤ 22 → number_with code rotation x y < 6440
-unfolding number_with
-with_below code rotation x y some most few column row = omega arith
-
 number_below : (q : Placement) → PivotInside q → placement_number q < 6440
-unfolding placement_number
-number_below q inside =
-    with_below (piece_code q.piece) (rotation_place q.rotation) q.x q.y (piece_code-some q.piece) (piece_code-small q.piece) (rotation_place-small q.rotation) inside.in_columns inside.in_rows
+unfolding placement_number number_with
+number_below q inside = search rules
 
 record IsSameWith (a b r s x u y v : ℕ) : Type 0 where
   code : a ≡ b
@@ -45,11 +40,7 @@ record IsSameWith (a b r s x u y v : ℕ) : Type 0 where
 
 with_same : (a b r s x u y v : ℕ) → 1 ≤ a → 1 ≤ b → r < 4 → s < 4 → x ≤ 9 → u ≤ 9 → y ≤ 22 → v ≤ 22 → number_with a r x y ≡ number_with b s u v → IsSameWith a b r s x u y v
 unfolding number_with
-with_same a b r s x u y v a-some b-some r-few s-few x-few u-few y-few v-few same =
-    let column : x ≡ u = omega arith in
-    let row : y ≡ v = omega arith in
-    let rotation : r ≡ s = omega arith in
-    record { code = omega arith; rotation = rotation; column = column; row = row }
+with_same a b r s x u y v a-some b-some r-few s-few x-few u-few y-few v-few same = search rules
 
 same_number : (q r : Placement) → PivotInside q → PivotInside r → placement_number q ≡ placement_number r → q ≡ r
 unfolding placement_number
@@ -80,13 +71,7 @@ four_below [] are = let four = are.four in absurd (omega (arith, four))
 four_below (a ∷ []) are = let four = are.four in absurd (omega (arith, four))
 four_below (a ∷ b ∷ []) are = let four = are.four in absurd (omega (arith, four))
 four_below (a ∷ b ∷ c ∷ []) are = let four = are.four in absurd (omega (arith, four))
-four_below (a ∷ b ∷ c ∷ d ∷ []) are =
-    let inside = are.inside in
-    let first = number_below a inside.0 in
-    let second = number_below b inside.1.0 in
-    let third = number_below c inside.1.1.0 in
-    let fourth = number_below d inside.1.1.1.0 in
-    omega (arith, first, second, third, fourth)
+four_below (a ∷ b ∷ c ∷ d ∷ []) are = search (rules, number_below)
 four_below (a ∷ b ∷ c ∷ d ∷ e ∷ s) are = let four = are.four in absurd (omega (arith, four))
 
 -- ---- a list of different sequences
