@@ -1,7 +1,6 @@
 -- The field that is asked about: there is one, and its faults are those of its text.
-use Rattle.std.proofs.Common.{◌≡◌, ◌≢◌, Bool, true, false, ℕ, ◌-◌, ◌≤◌, inl, inr, length, arith, List, Option, Some, None, Result, Ok, Err, refl, ap, sym, subst, ◌∙◌}
+use Rattle.std.proofs.Common.{◌≡◌, ◌≢◌, false, ℕ, ◌-◌, ◌≤◌, List, Some, None, Result, Ok, Err, ap, sym, subst, ◌∙◌, rules}
 use Rattle.std.specs.Prelude.{slice_get}
-use Rattle.std.specs.Option.{option_map_or}
 use Rattle.std.proofs.lemmas.Bool.{lt-ltb}
 use Rattle.std.proofs.lemmas.Option.{same_Some, slice_get_cases}
 use Rattle.lane_board.specs.Field.{Field}
@@ -11,12 +10,11 @@ use Rattle.fumen_digits.specs.declared.fault.FumenFault.{FumenFault}
 use Rattle.fumen_pages.specs.declared.page.Page.{Page}
 use Rattle.fumen_text.specs.Reading.{text_pages}
 use Rattle.fumen_text.proofs.CallerLemmas.{read_from_text, text_from_read, one_list}
-use Rattle.pc_faults.specs.declared.fault.Fault.TheVariants.{NoPage}
 use Rattle.pc_faults.proofs.CallerLemmas.{none_first, none_last}
 use Rattle.pc_settings.specs.Request.{FieldText, rows_text, fumen_text}
 use Rattle.pc_source.specs.Faults.{asked_fault, cells_asked, cells_read, cells_shown, field_fault, page_fault, pages_fault, text_fault}
-use Rattle.pc_source.specs.FieldText.{field_needs, is_of_source, page_cells, text_given, text_needs, IsPageField, IsFumenField, IsFieldOf}
-use Rattle.pc_source.specs.Task.{is_source, memory, nothing, source_bytes}
+use Rattle.pc_source.specs.FieldText.{field_needs, page_cells, text_given, text_needs, IsPageField, IsFumenField, IsFieldOf}
+use Rattle.pc_source.specs.Task.{is_source, nothing}
 
 one_page_field : (pages : List Page) (number : ℕ) (F G : Field) → IsPageField pages number F → IsPageField pages number G → F ≡ G
 one_page_field pages number F G one other = one.cells ∙ ap page_cells (same_Some one.page other.page (sym one.there ∙ other.there)) ∙ sym other.cells
@@ -28,8 +26,7 @@ one_fumen_field text number F G one other =
 
 -- the words and the source's bytes determine the field
 pub one_field : (field : FieldText) (number : ℕ) (bytes : List ℕ) (F G : Field) → IsFieldOf field number bytes F → IsFieldOf field number bytes G → F ≡ G
-one_field (rows_text text) number bytes F G one other = one ∙ sym other
-one_field (fumen_text word) number bytes F G one other = one_fumen_field (text_given word bytes) number F G one other
+one_field field number bytes F G one other = search (rules, rows_text, fumen_text, one_fumen_field)
 
 -- the cells of the field are those that faults speak of
 pub field_cells : (field : FieldText) (number : ℕ) (bytes : List ℕ) (F : Field) → IsFieldOf field number bytes F → cells_asked field number bytes ≡ F
@@ -38,49 +35,25 @@ field_cells (fumen_text word) number bytes F is = rw (read_from_text (text_given
 
 -- a page that is there is a field
 page_there : (pages : List Page) (number : ℕ) → 1 ≤ number → page_fault (Some number) pages ≡ None → IsPageField pages number (cells_shown (slice_get pages (number - 1)))
-page_there pages number first none = elim (slice_get_cases pages (number - 1)).1 [
-  | inl there ↦ record { page = there.0; there = there.2; cells = ap cells_shown there.2 }
-  | inr past ↦
-      let few = past.0 in
-      let fault : page_fault (Some number) pages ≡ Some (NoPage number (length pages)) = rw (lt-ltb (length pages) number (omega (arith, few, first))) refl in
-      cc
-]
+page_there pages number first none = search (rules, slice_get_cases, lt-ltb)
 
 text_there : (text : List ℕ) (number : ℕ) (read : Result (Dialect × List Page) FumenFault) → 1 ≤ number → text_pages text ≡ read → pages_fault read ≡ None → asked_fault (Some number) read ≡ None
     → IsFumenField text number (cells_read number read)
-text_there text number (Ok (dialect, pages)) first is reads none =
-    record { dialect = dialect; pages = pages; reads = text_from_read text (dialect, pages) is; field = page_there pages number first none }
+text_there text number (Ok (dialect, pages)) first is reads none = search (rules, text_from_read, page_there)
 text_there text number (Err fault) first is reads none = cc
 
 asked_there : (number : ℕ) (text : List ℕ) → 1 ≤ number → text_fault (Some number) text ≡ None → IsFumenField text number (cells_read number (text_pages text))
 unfolding text_fault
-asked_there number text first none =
-    text_there text number (text_pages text) first refl (none_first (pages_fault (text_pages text)) _ none).0 (none_last (pages_fault (text_pages text)) (asked_fault (Some number) (text_pages text)) none)
+asked_there number text first none = search (rules, text_there, none_first, none_last)
 
 -- a text with no fault gives a field
 pub field_there : (field : FieldText) (number : ℕ) (bytes : List ℕ) → 1 ≤ number → field_fault field number bytes ≡ None → IsFieldOf field number bytes (cells_asked field number bytes)
-field_there (rows_text text) number bytes first none = refl
-field_there (fumen_text word) number bytes first none = asked_there number (text_given word bytes) first none
+field_there field number bytes first none = search (rules, rows_text, fumen_text, asked_there)
 
 -- a fumen text that stands among the words needs no source
 pub text_not_source : (text : List ℕ) → is_source (text_needs text) ≡ false
-text_not_source text = by (digits_in text)
-  where
-    by : (found : Option (Dialect × List ℕ)) → is_source (option_map_or (λ _. memory) found nothing) ≡ false
-    by None = refl
-    by (Some x) = refl
+text_not_source text = search rules
 
 -- a fumen text with a prefix needs memory
 pub prefix_needs : (word bytes : List ℕ) → digits_in (text_given word bytes) ≢ None → field_needs (fumen_text word) ≢ nothing
-prefix_needs word bytes has = by (is_of_source word) refl
-  where
-    some : (found : Option (Dialect × List ℕ)) → found ≢ None → option_map_or (λ _. memory) found nothing ≡ nothing → ⊥
-    some None has needs = has refl
-    some (Some x) has needs = cc
-
-    by : (b : Bool) → is_of_source word ≡ b → field_needs (fumen_text word) ≡ nothing → ⊥
-    by true is needs = let h : field_needs (fumen_text word) ≡ source_bytes = rw (is) refl in cc
-    by false is needs =
-        let own : text_given word bytes ≡ word = rw (is) refl in
-        let h : field_needs (fumen_text word) ≡ text_needs word = rw (is) refl in
-        some (digits_in word) (λ none. has (ap digits_in own ∙ none)) (sym h ∙ needs)
+prefix_needs word bytes has = search rules

@@ -1,9 +1,9 @@
 -- The field of a page, cell by cell in the order of the page's cells.
-use Rattle.std.proofs.Common.{◌≡◌, ℕ, ◌+◌, ◌-◌, ◌*◌, ◌<◌, ◌/◌, ◌%◌, ◌==◌, ◌&&◌, ◌||◌, Bool, true, false, nat_lt, refl, sym, ◌∙◌, inl, inr, arith}
-use Rattle.std.specs.Prelude.{not, slice_index}
+use Rattle.std.proofs.Common.{◌≡◌, ℕ, ◌+◌, ◌-◌, ◌*◌, ◌<◌, ◌/◌, ◌%◌, ◌==◌, ◌&&◌, ◌||◌, Bool, true, false, nat_lt, refl, sym, ◌∙◌, inl, inr, arith, rules}
+use Rattle.std.specs.Prelude.{slice_index}
 use Rattle.std.proofs.Math.Path.{fun_ext}
 use Rattle.std.proofs.lemmas.Bool.{cases_lt, ltb-true, lt-ltb, le-ltb, eqb-true, eq-eqb, and_from, and_parts, and_right, or_right, false≢true}
-use Rattle.lane_board.proofs.CallerLemmas.{or_none, and_true}
+use Rattle.lane_board.proofs.CallerLemmas.{or_none}
 use Rattle.lane_board.specs.Field.{Field, empty_field, rows_below, with_cell}
 use Rattle.fumen_pages.specs.declared.page.Page.{Page}
 use Rattle.pc_source.specs.FieldText.{page_cells}
@@ -93,13 +93,7 @@ none_before page = fun_ext (λ x. fun_ext (λ y. none_at page x y))
 
 all_at : (page : Page) (x y : ℕ) → cells_before 230 page x y ≡ page_cells page x y
 unfolding cells_before page_cells rows_below
-all_at page x y = by (nat_lt x 10) refl where
-  by : (t : Bool) → nat_lt x 10 ≡ t → (((nat_lt x 10 && nat_lt y 23) && not (slice_index page.cells ((22 - y) * 10 + x) == 0)) && nat_lt ((22 - y) * 10 + x) 230)
-      ≡ ((nat_lt x 10 && nat_lt y 23) && not (slice_index page.cells ((22 - y) * 10 + x) == 0))
-  by false t = rw (t) refl
-  by true t =
-      let column = ltb-true x 10 t in
-      and_true ((nat_lt x 10 && nat_lt y 23) && not (slice_index page.cells ((22 - y) * 10 + x) == 0)) (nat_lt ((22 - y) * 10 + x) 230) (lt-ltb ((22 - y) * 10 + x) 230 (omega (arith, column)))
+all_at page x y = search rules
 
 -- the cells of rows 0 to 22 are the first 230
 pub all_before : (page : Page) → cells_before 230 page ≡ page_cells page

@@ -1,5 +1,5 @@
 -- The faults of a fumen text with a page that is asked for, by what the text reads as.
-use Rattle.std.proofs.Common.{◌≡◌, ◌∙◌, ℕ, List, Option, Some, Err, ap}
+use Rattle.std.proofs.Common.{◌≡◌, ◌∙◌, ℕ, List, Option, Some, Err, ap, rules}
 use Rattle.pc_outside.specs.declared.answers.Refused.{Refused}
 use Rattle.pc_outside.specs.declared.answers.Refused.TheVariants as refused
 use Rattle.fumen_digits.specs.declared.dialect.Dialect.{Dialect}
@@ -39,5 +39,4 @@ text_page asked text dialect pages reads = text_reads asked text pages (record {
 
 -- what refuses the text refuses it with the page too
 pub text_refused : (asked : Option ℕ) (text : List ℕ) (r : Refused Fault) → IsRefusedInput (pages_fault (text_pages text)) r → IsRefusedInput (text_fault asked text) r
-text_refused asked text (refused.Fault f) is = text_stops asked text f is
-text_refused asked text refused.NoMemory is = tt
+text_refused asked text r is = search (rules, text_stops)
