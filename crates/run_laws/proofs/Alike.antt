@@ -1,5 +1,5 @@
 -- Two runs of a task that see the same bytes end alike.
-use Rattle.std.proofs.Common.{◌≡◌, ◌∙◌, ℕ, Bool, false, List, [], ◌++◌, Option, Some, None, refl, ap, sym, subst, append-nil}
+use Rattle.std.proofs.Common.{◌≡◌, ◌∙◌, ℕ, Bool, false, List, [], ◌++◌, Option, Some, None, refl, sym, subst, append-nil, rules}
 use Rattle.std.proofs.lemmas.Option.{same_Some}
 use Rattle.pc_outside.specs.Writes.{Grows}
 use Rattle.pc_outside.specs.WriteLaws.{grows_nothing}
@@ -44,12 +44,8 @@ both_end_alike task bytes tells floods others shared sink sinks Done SourceFault
 both_end_alike task bytes tells floods others shared sink sinks Done SinkFault a b = absurd b
 both_end_alike task bytes tells floods others shared sink sinks Done NoMemory a b = absurd b
 both_end_alike task bytes tells floods others shared sink sinks (Input fault) Done a b = absurd (no_fault_and_one (first_fault task bytes) fault b.0 a.0)
-both_end_alike task bytes tells floods others shared sink sinks (Input fault) (Input found) a b = record {
-  status = ap (λ it. Input it) (same_Some fault found (sym a.0 ∙ b.0));
-  output = [];
-  written = nothing_written sink a.1;
-  also = nothing_written sinks b.1;
-}
+both_end_alike task bytes tells floods others shared sink sinks (Input fault) (Input found) a b =
+    search (rules, same_Some, nothing_written)
 both_end_alike task bytes tells floods others shared sink sinks (Input fault) SourceFault a b = absurd b
 both_end_alike task bytes tells floods others shared sink sinks (Input fault) SinkFault a b = absurd b
 both_end_alike task bytes tells floods others shared sink sinks (Input fault) NoMemory a b = absurd b

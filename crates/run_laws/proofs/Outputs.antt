@@ -1,5 +1,5 @@
 -- Where no fault stands, there is an output.
-use Rattle.std.proofs.Common.{◌≡◌, ◌∙◌, ◌↔◌, ℕ, zero, suc, ◌-◌, ◌/◌, ◌<◌, ◌≤◌, Bool, true, false, not, ◌&&◌, ◌==◌, if◌then◌else◌, IsTrue, nat_lt, length, List, [], ◌∷◌, ◌++◌, Option, Some, None, Result, Ok, Err, refl, ap, sym, subst, arith, inl, inr}
+use Rattle.std.proofs.Common.{◌≡◌, ◌∙◌, ◌↔◌, ℕ, zero, suc, ◌-◌, ◌/◌, ◌<◌, ◌≤◌, Bool, true, false, not, ◌&&◌, ◌==◌, if◌then◌else◌, IsTrue, nat_lt, length, List, [], ◌∷◌, ◌++◌, Option, Some, None, Result, Ok, Err, refl, ap, sym, subst, arith, inl, inr, rules}
 use Rattle.std.specs.Prelude.{codes, slice_get}
 use Rattle.std.specs.List.{flat_map}
 use Rattle.std.proofs.lemmas.Bool.{and_parts, cases_Bool, ltb-true, ne_eqb}
@@ -13,7 +13,6 @@ use Rattle.well.specs.Rows.{IsRowsText, rows_fault}
 use Rattle.well.specs.Well.{filled}
 use Rattle.fumen_digits.specs.declared.dialect.Dialect.{Dialect}
 use Rattle.fumen_digits.specs.declared.dialect.Dialect.TheVariants.{V115}
-use Rattle.fumen_digits.specs.declared.fault.FumenFault.{FumenFault as TextFault}
 use Rattle.fumen_pages.specs.declared.page.Page.{Page}
 use Rattle.fumen_pages.specs.declared.list_fault.ListFault.{ListFault}
 use Rattle.fumen_text.specs.Reading.{text_pages}
@@ -48,7 +47,7 @@ use Rattle.report.specs.Forms.{key_part, report_form}
 use Rattle.sequence_text.specs.Form.{Spells}
 use Rattle.pc_faults.specs.declared.fault.Fault.TheVariants as faults
 use Rattle.pc_settings.specs.Request.{ComboRequest, FieldRequest, FieldText, IsInRange, PathRequest, PercentRequest}
-use Rattle.pc_source.specs.Faults.{asked_fault, cells_asked, field_fault, page_fault, pages_fault, text_fault}
+use Rattle.pc_source.specs.Faults.{cells_asked, field_fault, page_fault, text_fault}
 use Rattle.pc_source.specs.FieldText.{IsFieldOf}
 use Rattle.pc_problem.specs.Faults.{full_row_fault, pattern_fault, problem_fault}
 use Rattle.pc_path.specs.Faults.{after_fault, listing_fault, path_fault}
@@ -245,9 +244,6 @@ module _ (known : Known) where
 
 -- ---- pages
 
-no_text : (f : TextFault) → pages_fault (Err f) ≡ None → ⊥
-no_text f none = let bad : Some _ ≡ None = none in cc
-
 record HasPages (asked : Option ℕ) (text : List ℕ) : Type 0 where
   dialect : Dialect
   pages : List Page
@@ -256,13 +252,7 @@ record HasPages (asked : Option ℕ) (text : List ℕ) : Type 0 where
 
 has_pages : (asked : Option ℕ) (text : List ℕ) → text_fault asked text ≡ None → HasPages asked text
 unfolding text_fault
-has_pages asked text none =
-    let parts = both_none (pages_fault (text_pages text)) (asked_fault asked (text_pages text)) none in
-    by (text_pages text) refl parts.0 parts.1
-  where
-    by : (read : Result (Dialect × List Page) TextFault) → text_pages text ≡ read → pages_fault read ≡ None → asked_fault asked read ≡ None → HasPages asked text
-    by (Ok (dialect, pages)) is pages_none shown = record { dialect = dialect; pages = pages; read = is; shown = shown }
-    by (Err f) is pages_none shown = absurd (no_text f pages_none)
+has_pages asked text none = search rules
 
 pub decode_has : (bytes : List ℕ) → text_fault None bytes ≡ None → Has (IsDecodeOutput bytes)
 decode_has bytes none =

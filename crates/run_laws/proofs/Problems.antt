@@ -1,9 +1,8 @@
 -- A problem for what is asked about a field, where nothing is wrong with it.
-use Rattle.std.proofs.Common.{◌≡◌, ◌∙◌, ◌↔◌, ℕ, zero, suc, ◌+◌, ◌-◌, ◌/◌, ◌%◌, ◌<◌, ◌≤◌, true, ◌&&◌, nat_lt, length, get_or, List, [], ◌∷◌, All, Option, Some, None, Result, Ok, Err, refl, ap, sym, subst, arith, inl, inr}
+use Rattle.std.proofs.Common.{◌≡◌, ◌∙◌, ◌↔◌, ℕ, zero, suc, ◌+◌, ◌-◌, ◌/◌, ◌%◌, ◌<◌, ◌≤◌, true, length, get_or, List, [], ◌∷◌, All, Option, None, Ok, refl, ap, sym, subst, arith, inl, inr, rules}
 use Rattle.std.specs.Prelude.{option_map, reverse, slice_index, slice_index_or}
 use Rattle.std.specs.List.{slice_split}
-use Rattle.std.proofs.lemmas.Bool.{and_parts, cases_Bool, cases_lt, ltb-true}
-use Rattle.std.proofs.lemmas.Bool.Decides.{nat_tests}
+use Rattle.std.proofs.lemmas.Bool.{cases_lt}
 use Rattle.std.proofs.lemmas.List.{get_or-reverse, length-reverse}
 use Rattle.lane_board.specs.Field.{Field, rows_below}
 use Rattle.srs.specs.Kick.{IsSmallTable, Table}
@@ -12,7 +11,6 @@ use Rattle.well.specs.Rows.{IsRowsText, is_filled_char, is_slash, rows_fault, wr
 use Rattle.well.specs.Well.{filled}
 use Rattle.fumen_pages.specs.declared.page.Page.{Page}
 use Rattle.queue_pattern.specs.declared.element.Element.{Element}
-use Rattle.queue_pattern.specs.declared.fault.PatternFault.{PatternFault}
 use Rattle.queue_pattern.specs.declared.pattern.Pattern.{Pattern}
 use Rattle.queue_pattern.specs.Grammar.{elements, limited}
 use Rattle.queue_pattern.specs.Pattern.{elements_of}
@@ -31,18 +29,14 @@ use Rattle.run_laws.proofs.Tables.{rules-made}
 use Rattle.run_laws.proofs.Wells.{LiesInWell, well-made}
 
 no_some : {A B : Type 0} (f : A → B) (o : Option A) → option_map f o ≡ None → o ≡ None
-no_some f None none = refl
-no_some f (Some x) none = let bad : Some (f x) ≡ None = none in cc
+no_some f o none = search rules
 
 -- of faults none of which stands
 pub both_none : (one two : Option Fault) → first_of_these (one ∷ two ∷ []) ≡ None → (one ≡ None) × (two ≡ None)
-both_none None None none = (refl, refl)
-both_none None (Some f) none = let bad : Some f ≡ None = none in cc
-both_none (Some f) two none = let bad : Some f ≡ None = none in cc
+both_none one two none = search rules
 
 pub three_none : (one two three : Option Fault) → first_of_these (one ∷ two ∷ three ∷ []) ≡ None → (one ≡ None) × (two ≡ None) × (three ≡ None)
-three_none None two three none = let rest = both_none two three none in (refl, rest.0, rest.1)
-three_none (Some f) two three none = let bad : Some f ≡ None = none in cc
+three_none one two three none = search rules
 
 -- ---- the cells of a field that is asked about lie in the well
 
@@ -99,16 +93,11 @@ text_lies (byte ∷ bytes) is = rows_lie (byte ∷ bytes) is.0 (λ k d below. le
 
 page_lies : (page : Page) → LiesInWell (page_cells page)
 unfolding page_cells rows_below
-page_lies page = record {
-  column = λ x y is. ltb-true x 10 (and_parts (nat_lt x 10) (nat_lt y 23) (and_parts (nat_lt x 10 && nat_lt y 23) _ is).0).0;
-  row = λ x y is. ltb-true y 23 (and_parts (nat_lt x 10) (nat_lt y 23) (and_parts (nat_lt x 10 && nat_lt y 23) _ is).0).1;
-}
+page_lies page = search rules
 
 pub field_lies : ((text : List ℕ) → (rows_fault text ≡ None) ↔ IsRowsText text) → (field : FieldText) (number : ℕ) (bytes : List ℕ) (F : Field)
     → field_fault field number bytes ≡ None → IsFieldOf field number bytes F → LiesInWell F
-field_lies known (rows_text text) number bytes F none is =
-    subst LiesInWell (sym is) (text_lies text ((known text).0 (no_some (λ fault. faults.Rows fault) (rows_fault text) none)))
-field_lies known (fumen_text word) number bytes F none is = subst LiesInWell (sym is.field.cells) (page_lies is.field.page)
+field_lies known field number bytes F none is = search (rules, rows_text, text_lies, no_some, fumen_text, page_lies)
 
 -- ---- a problem
 
@@ -118,32 +107,9 @@ record IsRight (request : FieldRequest) (F : Field) (es : List Element) : Type 0
   open_rows : lowest_full F ≡ None
   enough : empties_below F request.height % 4 ≡ 0 → empties_below F request.height / 4 ≤ queue_len es + held_count request.hold request.held
 
-enough_of : (empties have : ℕ) → asked.too_few empties have ≡ None → empties % 4 ≡ 0 → empties / 4 ≤ have
-enough_of empties have none four = elim (cases_Bool (nat_lt have (empties / 4))) [
-  | inl few ↦
-      let made : asked.too_few empties have ≡ Some (faults.TooFewPieces have (empties / 4)) = rw (four, few) refl in
-      let bad : Some (faults.TooFewPieces have (empties / 4)) ≡ None = sym made ∙ none in cc
-  | inr many ↦ grind (arith, nat_tests, many)
-]
-
-asked_by : (request : FieldRequest) (F : Field) (read : Result (List Element) PatternFault) → asked.elements_asked request ≡ read
-    → lowest_filled_from F request.height ≡ None → lowest_full F ≡ None → asked.pattern_fault read ≡ None
-    → asked.pieces_fault (empties_below F request.height) (held_count request.hold request.held) read ≡ None
-    → (es : List Element) × IsRight request F es
-asked_by request F (Err fault) is below open_rows pattern pieces = let bad : Some (faults.Pattern fault) ≡ None = pattern in cc
-asked_by request F (Ok es) is below open_rows pattern pieces =
-    (es, record { read = is; below = below; open_rows = open_rows; enough = enough_of (empties_below F request.height) (queue_len es + held_count request.hold request.held) pieces })
-
 asked_of : (request : FieldRequest) (F : Field) → asked.problem_fault request F ≡ None → (es : List Element) × IsRight request F es
 unfolding asked.problem_fault asked.filled_rows_fault
-asked_of request F none =
-    let parts = three_none (asked.filled_rows_fault F request.height) (asked.pattern_fault (asked.elements_asked request))
-    (asked.pieces_fault (empties_below F request.height) (held_count request.hold request.held) (asked.elements_asked request)) none in
-    let rows = both_none (option_map (λ row. faults.FieldTooHigh row) (lowest_filled_from F request.height)) (asked.full_row_fault F) parts.0 in
-    asked_by request F (asked.elements_asked request) refl
-    (no_some (λ row. faults.FieldTooHigh row) (lowest_filled_from F request.height) rows.0)
-    (no_some (λ row. faults.FullRow row) (lowest_full F) rows.1)
-    parts.1 parts.2
+asked_of request F none = search rules
 
 pub record Made (request : FieldRequest) (F : Field) : Type 0 where
   pub problem : Problem

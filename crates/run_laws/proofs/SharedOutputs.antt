@@ -1,5 +1,5 @@
 -- What each command writes is the same but for the number of floods.
-use Rattle.std.proofs.Common.{ℕ, List, Result, Ok, Err}
+use Rattle.std.proofs.Common.{ℕ, List, Result, rules}
 use Rattle.pc_faults.specs.declared.fault.Fault.{Fault}
 use Rattle.pc_path.proofs.CallerLemmas.{shared_path_output}
 use Rattle.pc_percent.proofs.CallerLemmas.{one_percent_output}
@@ -29,8 +29,7 @@ shared_for (selfrun number pages) bytes floods others a b first second = same_sh
 
 shared_in : (asked : Result Request Fault) (bytes : List ℕ) (floods others : ℕ) (a b : List ℕ)
     → (task_in asked).IsOutput bytes floods a → (task_in asked).IsOutput bytes others b → IsShared (tells_floods_in asked) floods others a b
-shared_in (Ok request) bytes floods others a b first second = shared_for request bytes floods others a b first second
-shared_in (Err fault) bytes floods others a b first second = absurd first
+shared_in asked bytes floods others a b first second = search (rules, shared_for)
 
 -- what is written is the same but for the number of floods
 pub shared_output : (words : List (List ℕ)) (bytes : List ℕ) (floods others : ℕ) (a b : List ℕ)

@@ -1,5 +1,6 @@
 -- Rules for each table that a text of offsets spells.
-use Rattle.std.proofs.Common.{◌≡◌, ◌↔◌, ℕ, suc, true, false, cond, ◌==◌, eqb-true, List, [], ◌∷◌, length, map, refl, ap, sym, subst, ◌∙◌}
+use Rattle.std.proofs.lemmas.Grind.{common_steps}
+use Rattle.std.proofs.Common.{◌≡◌, ◌↔◌, ℕ, suc, true, List, [], ◌∷◌, length, map, refl, ap, sym, subst, ◌∙◌, rules, arith}
 use Rattle.std.specs.Prelude.{Ok, Result, fold}
 use Rattle.std.specs.List.{list_all}
 use Rattle.std.proofs.Math.Path.{fun_ext}
@@ -15,31 +16,18 @@ use Rattle.srs.specs.declared.rules.Turns.{Turns}
 use Rattle.srs.specs.Cells.{Cell}
 use Rattle.srs.specs.Kick.{IsSmallTable, Table, is_small, is_small_move, pair_of, srs_table}
 use Rattle.srs.specs.Rules.{table_of, turns_table}
-use Rattle.srs.proofs.CallerLemmas.{each_state}
 use Rattle.kick_file.specs.declared.fault.KickFault.{KickFault}
 use Rattle.kick_file.specs.Faults.{IsReadAs, SpellsTable}
 use Rattle.kick_file.specs.Reading.{kick_text}
-use Rattle.kick_file.specs.Form.{Entry, SpellsEntries, SpellsEntry, is_same, table_with_entry}
+use Rattle.kick_file.specs.Form.{Entry, SpellsEntries, SpellsEntry, table_with_entry}
 
 -- ---- a table that a text spells has five small offsets for each piece and rotation
 
 pub srs_small : IsSmallTable srs_table
-srs_small = record {
-  five = λ p r. eqb-true _ _ (each_state (λ p r. length (srs_table p r) == 5) refl p r);
-  small = λ p r. each_state (λ p r. list_all is_small_move (srs_table p r)) refl p r;
-}
+srs_small = search rules
 
 with_small : (table : Table) (entry : Entry) (text : List ℕ) → SpellsEntry text entry → IsSmallTable table → IsSmallTable (table_with_entry table entry)
-with_small table entry text spelled small = record {
-  five = λ p r. elim (is_same (record { piece = p; rotation = r }) entry.turned) as (λ b. length (cond b entry.offsets (table p r)) ≡ 5) [
-    | true ↦ spelled.five
-    | false ↦ small.five p r
-  ];
-  small = λ p r. elim (is_same (record { piece = p; rotation = r }) entry.turned) as (λ b. list_all is_small_move (cond b entry.offsets (table p r)) ≡ true) [
-    | true ↦ spelled.small
-    | false ↦ small.small p r
-  ];
-}
+with_small table entry text spelled small = grind (arith, common_steps)
 
 entries_small : (table : Table) (entries : List Entry) (text : List ℕ) → SpellsEntries text entries → IsSmallTable table → IsSmallTable (fold table_with_entry table entries)
 entries_small table [] text spelled small = small

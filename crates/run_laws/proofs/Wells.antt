@@ -1,8 +1,8 @@
 -- A well for each field that lies in columns 0 to 9 and rows 0 to 22.
-use Rattle.std.proofs.Common.{◌≡◌, ℕ, zero, suc, ◌+◌, ◌^◌, ◌<◌, ◌≤◌, ◌≢◌, Bool, true, false, cond, ◌||◌, ◌==◌, List, [], ◌∷◌, length, bit_or, refl, ap, sym, subst, ◌∙◌, arith, inl, inr}
+use Rattle.std.proofs.Common.{◌≡◌, ℕ, zero, suc, ◌+◌, ◌^◌, ◌<◌, ◌≤◌, ◌≢◌, Bool, true, false, cond, ◌||◌, ◌==◌, List, [], ◌∷◌, length, bit_or, refl, ap, sym, subst, ◌∙◌, arith, inl, inr, rules}
 use Rattle.std.specs.Prelude.{slice_index}
 use Rattle.std.proofs.Math.Path.{fun_ext}
-use Rattle.std.proofs.lemmas.Bool.{cases_Bool, cases_lt}
+use Rattle.std.proofs.lemmas.Bool.{cases_Bool, cases_lt, false_from_ne_true}
 use Rattle.std.proofs.lemmas.Nat.{or_lt, pow_below}
 use Rattle.std.proofs.lemmas.Nat.Bits.{bit_at-pow_other, bit_at-pow_same}
 use Rattle.lane_board.specs.declared.board.LaneBoard.{LaneBoard}
@@ -87,8 +87,7 @@ row_at : (F : Field) (y count k : ℕ) → k < count → slice_index (rows_from 
 unfolding rows_from
 row_at F y zero k below = absurd (omega (arith, below))
 row_at F y (suc count) zero below = ap (λ n. row_below (λ x. F x n) 10) (omega arith)
-row_at F y (suc count) (suc k) below =
-    row_at F (y + 1) count k (omega (arith, below)) ∙ ap (λ n. row_below (λ x. F x n) 10) (omega arith)
+row_at F y (suc count) (suc k) below = search (rules, row_below, row_at F (y + 1) count k (omega (arith, below)))
 
 no_row : (F : Field) (y count k : ℕ) → count ≤ k → slice_index (rows_from F y count) k ≡ 0
 unfolding rows_from
@@ -101,10 +100,6 @@ pub record LiesInWell (F : Field) : Type 0 where
   pub column : (x y : ℕ) → F x y ≡ true → x < 10
   pub row : (x y : ℕ) → F x y ≡ true → y < 23
 
-not_true : (b : Bool) → (b ≡ true → ⊥) → b ≡ false
-not_true true bad = absurd (bad refl)
-not_true false bad = refl
-
 module _ (F : Field) (lies : LiesInWell F) where
   rows : List ℕ
   rows = rows_from F 0 24
@@ -114,7 +109,7 @@ module _ (F : Field) (lies : LiesInWell F) where
     | inl before ↦ in_row (λ x. F x y) 10 x before
     | inr past ↦
         has_bit-past (row_below (λ x. F x y) 10) 10 x (row_small (λ x. F x y) 10 10 (omega arith)) (omega (arith, past))
-        ∙ sym (not_true (F x y) (λ is. let inside = lies.column x y is in omega (arith, inside, past)))
+        ∙ sym (false_from_ne_true (F x y) (λ is. let inside = lies.column x y is in omega (arith, inside, past)))
   ]
 
   same_cells : (x y : ℕ) → cells_of_bits rows x y ≡ F x y
@@ -123,7 +118,7 @@ module _ (F : Field) (lies : LiesInWell F) where
     | inl before ↦ ap (λ n. has_bit n x) (row_at F 0 24 y before ∙ ap (λ n. row_below (λ x. F x n) 10) (omega arith)) ∙ within_row x y
     | inr past ↦
         ap (λ n. has_bit n x) (no_row F 0 24 y (omega (arith, past))) ∙ has_bit-zero x
-        ∙ sym (not_true (F x y) (λ is. let inside = lies.row x y is in omega (arith, inside, past)))
+        ∙ sym (false_from_ne_true (F x y) (λ is. let inside = lies.row x y is in omega (arith, inside, past)))
   ]
 
   same_field : cells_of_bits rows ≡ F
@@ -147,4 +142,4 @@ module _ (F : Field) (lies : LiesInWell F) where
   pub well-made : (well : Well) × (filled well ≡ F)
   unfolding filled
   well-made =
-      (record { board = board; top_is_empty = λ x. ap (λ G. G x 23) board_is ∙ not_true (F x 23) (λ is. let inside = lies.row x 23 is in omega (arith, inside)) }, board_is)
+      (record { board = board; top_is_empty = λ x. ap (λ G. G x 23) board_is ∙ false_from_ne_true (F x 23) (λ is. let inside = lies.row x 23 is in omega (arith, inside)) }, board_is)
