@@ -1,17 +1,16 @@
 -- A turn of a loop over options takes one, and a turn of a loop over pairs takes a name and its value.
-use Rattle.std.proofs.Common.{◌≡◌, ℕ, zero, suc, ◌+◌, ◌<◌, ◌≤◌, true, false, List, [], ◌∷◌, ◌++◌, length, map, drop, take, get_or, Option, Some, None, refl, sym, ap, ◌∙◌, arith}
+use Rattle.std.proofs.Common.{◌≡◌, ℕ, zero, suc, ◌+◌, ◌<◌, ◌≤◌, true, false, List, [], ◌∷◌, ◌++◌, length, map, drop, take, get_or, Option, Some, None, refl, sym, ap, ◌∙◌, arith, rules}
 use Rattle.std.specs.Prelude.{is_some}
 use Rattle.std.specs.List.{slice_get}
 use Rattle.std.specs.Option.{ForSome}
 use Rattle.std.specs.Str.{bytes_eq}
 use Rattle.std.proofs.lemmas.List.{get_or-map, drop_all, drop_more}
-use Rattle.std.proofs.lemmas.Option.{same_Some}
 use Rattle.pc_faults.specs.declared.words_fault.WordsFault.{WordsFault}
 use Rattle.pc_words.specs.declared.options.Command.{Command}
 use Rattle.pc_words.specs.declared.options.CommandOption.{CommandOption}
 use Rattle.pc_words.specs.Options.{named_in, option_name}
 use Rattle.pc_words.specs.declared.options.Values.{Values}
-use Rattle.pc_words.specs.Words.{or_fault, pair_fault, pairs_fault, value_of, values_in}
+use Rattle.pc_words.specs.Words.{pair_fault, pairs_fault, value_of, values_in}
 
 -- the options from one on
 pub named_first : (name : List ℕ) (options : List CommandOption) (i : ℕ) (option : CommandOption) → i < length options → bytes_eq (option_name (get_or options i option)) name ≡ true
@@ -36,26 +35,21 @@ record Cut (texts rest tail : List (List ℕ)) (i : ℕ) : Type 0 where
   taken : (value : List ℕ) → slice_get tail 0 ≡ Some value → take (suc (suc i)) texts ≡ take i texts ++ get_or texts i [] ∷ value ∷ []
 
 two : (x value : List ℕ) (xs : List (List ℕ)) → slice_get xs 0 ≡ Some value → take (suc (suc zero)) (x ∷ xs) ≡ x ∷ value ∷ []
-two x value [] is = cc
-two x value (y ∷ ys) is = ap (λ v. x ∷ v ∷ []) (same_Some y value is)
+two x value xs is = search rules
 
 cut : (texts : List (List ℕ)) (i : ℕ) → i < length texts → Cut texts (drop i texts) (drop (suc i) texts) i
 cut [] i within = absurd (omega arith)
 cut (x ∷ xs) zero within = record { here = refl; next = refl; later = refl; taken = λ value is. two x value xs is }
-cut (x ∷ xs) (suc i) within =
-    let h = cut xs i (omega arith) in
-    record { here = h.here; next = h.next; later = h.later; taken = λ value is. ap (λ l. x ∷ l) (h.taken value is) }
+cut (x ∷ xs) (suc i) within = search (rules, cut xs i (omega arith))
 
 -- the pairs from one on, of which the first has the name or not
 value_on : (option : CommandOption) (name : List ℕ) (tail : List (List ℕ)) → bytes_eq name (option_name option) ≡ true → value_of option (name ∷ tail) ≡ slice_get tail 0
 unfolding value_of
-value_on option name [] same = refl
-value_on option name (y ∷ ys) same = rw (same) refl
+value_on option name tail same = search rules
 
 value_off : (option : CommandOption) (name : List ℕ) (tail : List (List ℕ)) → bytes_eq name (option_name option) ≡ false → value_of option (name ∷ tail) ≡ value_of option (drop 1 tail)
 unfolding value_of
-value_off option name [] other = refl
-value_off option name (y ∷ ys) other = rw (other) refl
+value_off option name tail other = search rules
 
 pub value_first : (option : CommandOption) (texts : List (List ℕ)) (i : ℕ) (name : List ℕ) (value : Option (List ℕ)) → i < length texts → name ≡ get_or texts i [] → value ≡ slice_get texts (i + 1)
     → bytes_eq name (option_name option) ≡ true → value ≡ value_of option (drop i texts)
@@ -81,15 +75,13 @@ value_none option texts i past = ap (value_of option) (drop_all i texts past)
 fault_on : (command : Command) (before : List (List ℕ)) (name : List ℕ) (tail : List (List ℕ)) (f : WordsFault)
     → pair_fault command before name (slice_get tail 0) ≡ Some f → pairs_fault command before (name ∷ tail) ≡ Some f
 unfolding pairs_fault
-fault_on command before name [] f is = is
-fault_on command before name (y ∷ ys) f is = ap (λ first. or_fault first (pairs_fault command (before ++ name ∷ y ∷ []) ys)) is
+fault_on command before name tail f is = search rules
 
 fault_off : (command : Command) (before after : List (List ℕ)) (name : List ℕ) (tail : List (List ℕ)) → ((value : List ℕ) → slice_get tail 0 ≡ Some value → after ≡ before ++ name ∷ value ∷ [])
     → pair_fault command before name (slice_get tail 0) ≡ None → pairs_fault command after (drop 1 tail) ≡ pairs_fault command before (name ∷ tail)
 unfolding pairs_fault
 fault_off command before after name [] taken is = sym is
-fault_off command before after name (y ∷ ys) taken is =
-    ap (λ b. pairs_fault command b ys) (taken y refl) ∙ sym (ap (λ first. or_fault first (pairs_fault command (before ++ name ∷ y ∷ []) ys)) is)
+fault_off command before after name (y ∷ ys) taken is = search rules
 
 pub fault_first : (command : Command) (texts before : List (List ℕ)) (i : ℕ) (name : List ℕ) (value : Option (List ℕ)) (fault : Option WordsFault) → i < length texts → before ≡ take i texts
     → name ≡ get_or texts i [] → value ≡ slice_get texts (i + 1) → fault ≡ pair_fault command before name value → is_some fault ≡ true → fault ≡ pairs_fault command (take i texts) (drop i texts)
@@ -139,8 +131,7 @@ there_below (x ∷ xs) zero is = omega arith
 there_below (x ∷ xs) (suc i) is = let below = there_below xs i is in omega (arith, below)
 
 pub pair_within : (texts : List (List ℕ)) (i : ℕ) (value : Option (List ℕ)) → value ≡ slice_get texts (i + 1) → is_some value ≡ true → i + 2 ≤ length texts
-pair_within texts i value valued some =
-    let below = there_below texts (i + 1) (ap is_some (sym valued) ∙ some) in omega (arith, below)
+pair_within texts i value valued some = search (rules, there_below)
 
 pub values_next : (texts before : List (List ℕ)) (i : ℕ) (name : List ℕ) (value : Option (List ℕ)) (after : Values) → i < length texts → before ≡ take i texts → name ≡ get_or texts i [] → value ≡ slice_get texts (i + 1)
     → ForSome value (λ text. after ≡ values_in (before ++ name ∷ text ∷ [])) → is_some value ≡ true → after ≡ values_in (take (i + 2) texts)

@@ -1,8 +1,7 @@
 -- What the words ask for lies in its ranges, and its table of offsets is read of a text.
-use Rattle.std.proofs.Common.{◌≡◌, ◌∙◌, ℕ, ◌≤◌, ◌&&◌, nat_le, leb-true, List, [], ◌∷◌, Option, Some, None, Result, Ok, Err, refl, ap, sym, subst, arith, inl, inr}
+use Rattle.std.proofs.Common.{◌≡◌, ◌∙◌, ℕ, ◌≤◌, List, [], Option, Some, None, Result, Ok, Err, refl, ap, subst, rules}
 use Rattle.std.specs.Prelude.{IfOk, option_map, unwrap_or}
 use Rattle.std.specs.Option.{option_and_then}
-use Rattle.std.proofs.lemmas.Bool.{and_parts, cases_Bool}
 use Rattle.srs.specs.Kick.{Table, srs_table}
 use Rattle.kick_file.specs.declared.fault.KickFault.{KickFault}
 use Rattle.kick_file.specs.Reading.{kick_text, read_on}
@@ -11,47 +10,20 @@ use Rattle.pc_faults.specs.declared.words_fault.WordsFault.{WordsFault}
 use Rattle.pc_settings.specs.Request.{ComboRequest, FieldRequest, FieldText, IsInRange}
 use Rattle.pc_words.specs.declared.options.Command.{Command}
 use Rattle.pc_words.specs.declared.options.Command.TheVariants as commands
-use Rattle.pc_words.specs.declared.options.CommandOption.TheVariants.{ClearLine, Kicks, Number, Page, Pages, Patterns, Rows, Tetfu}
-use Rattle.pc_words.specs.Numbers.{digits_value, is_number, number_in}
-use Rattle.pc_words.specs.Options.{command_in}
+use Rattle.pc_words.specs.declared.options.CommandOption.TheVariants.{Kicks, Page, Patterns, Rows, Tetfu}
 use Rattle.pc_words.specs.Request.{Request, combo, cover, path, percent, selfrun, table_asked}
-use Rattle.pc_words.specs.Values.{page_count_in, page_in, seed_in}
+use Rattle.pc_words.specs.Values.{page_count_in, page_in}
 use Rattle.pc_words.specs.declared.options.Values.{Values}
 use Rattle.pc_words.specs.declared.settings.Settings.{Settings}
 use Rattle.pc_words.specs.Views.{AsksInRange, HasNumber, settings_reading, settings_view}
-use Rattle.pc_words.specs.Words.{combo_request, combo_request_with, command_read, field_given, field_request, or_missing, pairs_fault, path_request, percent_request, request_in, request_of, request_where, request_with, selfrun_with, table_given, value_of, values_in, with_table, asked_in}
+use Rattle.pc_words.specs.Words.{combo_request, combo_request_with, command_read, field_given, field_request, or_missing, request_in, request_of, request_where, request_with, selfrun_with, table_given, value_of, values_in, with_table, asked_in}
 
 abbrev IsBetween : ℕ → ℕ → ℕ → Type 0
 IsBetween least most n = (least ≤ n) × (n ≤ most)
 
-number_within : (least most : ℕ) (text : List ℕ) (n : ℕ) → number_in least most text ≡ Some n → IsBetween least most n
-number_within least most text n is = elim (cases_Bool (is_number text && (nat_le least (digits_value text) && nat_le (digits_value text) most))) [
-  | inl fits ↦
-      let parts = and_parts (is_number text) (nat_le least (digits_value text) && nat_le (digits_value text) most) fits in
-      let both = and_parts (nat_le least (digits_value text)) (nat_le (digits_value text) most) parts.1 in
-      let made : number_in least most text ≡ Some (digits_value text) = rw fits refl in
-      let found : Some (digits_value text) ≡ Some n = sym made ∙ is in
-      let same : digits_value text ≡ n = cc in
-      (subst (λ k. least ≤ k) same (leb-true least (digits_value text) both.0), subst (λ k. k ≤ most) same (leb-true (digits_value text) most both.1))
-  | inr other ↦
-      let made : number_in least most text ≡ None = rw other refl in
-      let bad : None ≡ Some n = sym made ∙ is in cc
-]
-
 -- the value of an option, or what stands for it where it is not given
 abbrev given_or : ℕ → (List ℕ → Option ℕ) → Option (List ℕ) → ℕ
 given_or default read value = unwrap_or (option_and_then read value) default
-
-read_within : (least most default : ℕ) → IsBetween least most default → (read : Option ℕ) → ((n : ℕ) → read ≡ Some n → IsBetween least most n) → IsBetween least most (given_or default (λ text. read) (Some []))
-read_within least most default within None each = within
-read_within least most default within (Some n) each = each n refl
-
-given_within : (least most default : ℕ) → IsBetween least most default → (value : Option (List ℕ)) → IsBetween least most (given_or default (number_in least most) value)
-given_within least most default within None = within
-given_within least most default within (Some text) = read_within least most default within (number_in least most text) (number_within least most text)
-
-same_some : {A : Type 0} (x y : A) → Some x ≡ Some y → x ≡ y
-same_some x y e = cc
 
 -- the text of the table of offsets
 abbrev text_given : List (List ℕ) → List ℕ
@@ -71,23 +43,14 @@ unfolding read_on
 no_table = refl
 
 field_within : (pairs : List (List ℕ)) (field : Option FieldText) (patterns : Option (List ℕ)) (request : FieldRequest) → request_with pairs (values_in pairs) field patterns ≡ Some request → FieldFits pairs request
-field_within pairs (Some field) (Some patterns) request is = subst (FieldFits pairs) (same_some _ request is) (
-    let height = given_within 1 8 4 (omega arith, omega arith) (value_of ClearLine pairs) in
-    (record { some = height.0; low = height.1; page = (given_within 1 10000 1 (omega arith, omega arith) (value_of Page pairs)).0 }, refl))
-field_within pairs None (Some patterns) request is = let bad : None ≡ Some request = is in cc
-field_within pairs (Some field) None request is = let bad : None ≡ Some request = is in cc
-field_within pairs None None request is = let bad : None ≡ Some request = is in cc
+field_within pairs field patterns request is = search rules
 
 field_asked : (pairs : List (List ℕ)) (request : FieldRequest) → field_request pairs (values_in pairs) ≡ Some request → FieldFits pairs request
 unfolding field_request
 field_asked pairs request is = field_within pairs (field_given (value_of Rows pairs) (value_of Tetfu pairs)) (value_of Patterns pairs) request is
 
 run_within : (pairs : List (List ℕ)) (field : Option FieldText) (patterns : Option (List ℕ)) (request : ComboRequest) → combo_request_with pairs (values_in pairs) field patterns ≡ Some request → RunFits pairs request
-run_within pairs (Some field) (Some patterns) request is =
-    subst (RunFits pairs) (same_some _ request is) ((given_within 1 10000 1 (omega arith, omega arith) (value_of Page pairs)).0, refl)
-run_within pairs None (Some patterns) request is = let bad : None ≡ Some request = is in cc
-run_within pairs (Some field) None request is = let bad : None ≡ Some request = is in cc
-run_within pairs None None request is = let bad : None ≡ Some request = is in cc
+run_within pairs field patterns request is = search rules
 
 run_asked : (pairs : List (List ℕ)) (request : ComboRequest) → combo_request pairs (values_in pairs) ≡ Some request → RunFits pairs request
 unfolding combo_request
@@ -102,41 +65,26 @@ no_err f y e = cc
 -- a request that is asked for by something that fits, fits
 asked_by : {A : Type 0} (pairs : List (List ℕ)) (make : A → Request) (found : Option A) → ((x : A) → found ≡ Some x → Fits (make x)) → (request : Request)
     → or_missing pairs (option_map make found) ≡ Ok request → Fits request
-asked_by pairs make None each request is = absurd (no_err _ request is)
-asked_by pairs make (Some x) each request is = subst Fits (same_ok (make x) request is) (each x refl)
+asked_by pairs make found each request is = search rules
 
 number_given : (value : Option (List ℕ)) → HasNumber (option_and_then page_in value)
-number_given None = tt
-number_given (Some text) = by (page_in text) (λ n is. (number_within 1 10000 text n is).0)
-  where
-    by : (found : Option ℕ) → ((n : ℕ) → found ≡ Some n → 1 ≤ n) → HasNumber found
-    by None each = tt
-    by (Some n) each = each n refl
+number_given value = search rules
 
 count_given : (value : Option (List ℕ)) (n : ℕ) → option_and_then page_count_in value ≡ Some n → IsBetween 1 10000 n
-count_given None n is = let bad : None ≡ Some n = is in cc
-count_given (Some text) n is = number_within 1 10000 text n is
+count_given value n is = search rules
 
 sample_within : (pairs : List (List ℕ)) (number count : Option ℕ) → ((n : ℕ) → count ≡ Some n → IsBetween 1 10000 n) → (request : Request)
     → or_missing pairs (selfrun_with number count) ≡ Ok request → Fits request
-sample_within pairs (Some number) (Some count) each request is = subst Fits (same_ok (selfrun number count) request is) (each count refl, [], no_table)
-sample_within pairs None (Some count) each request is = absurd (no_err _ request is)
-sample_within pairs (Some number) None each request is = absurd (no_err _ request is)
-sample_within pairs None None each request is = absurd (no_err _ request is)
+sample_within pairs number count each request is = search (rules, same_ok, selfrun, no_table, no_err)
 
 sample_asked : (pairs : List (List ℕ)) (request : Request) → or_missing pairs (selfrun_with (values_in pairs).number (values_in pairs).pages) ≡ Ok request → Fits request
-sample_asked pairs request is =
-    sample_within pairs (option_and_then seed_in (value_of Number pairs)) (option_and_then page_count_in (value_of Pages pairs)) (count_given (value_of Pages pairs)) request is
+sample_asked pairs request is = search (rules, sample_within, count_given)
 
 of_command : (command : Command) (pairs : List (List ℕ)) (request : Request) → request_of command pairs (values_in pairs) ≡ Ok request → Fits request
-of_command commands.Path pairs request is =
-    asked_by pairs (λ common. path (path_request pairs (values_in pairs) common)) (field_request pairs (values_in pairs)) (λ common found. let fits = field_asked pairs common found in (fits.0, text_given pairs, fits.1)) request is
-of_command commands.Percent pairs request is =
-    asked_by pairs (λ common. percent (percent_request (values_in pairs) common)) (field_request pairs (values_in pairs)) (λ common found. let fits = field_asked pairs common found in (fits.0, text_given pairs, fits.1)) request is
-of_command commands.Cover pairs request is =
-    asked_by pairs (λ common. cover common) (field_request pairs (values_in pairs)) (λ common found. let fits = field_asked pairs common found in (fits.0, text_given pairs, fits.1)) request is
-of_command commands.Combo pairs request is =
-    asked_by pairs (λ run. combo run) (combo_request pairs (values_in pairs)) (λ run found. let fits = run_asked pairs run found in (fits.0, text_given pairs, fits.1)) request is
+of_command commands.Path pairs request is = search (rules, asked_by, path, field_asked)
+of_command commands.Percent pairs request is = search (rules, asked_by, percent, field_asked)
+of_command commands.Cover pairs request is = search (rules, asked_by, cover, field_asked)
+of_command commands.Combo pairs request is = search (rules, asked_by, combo, run_asked)
 of_command commands.Decode pairs request is = subst Fits (same_ok _ request is) (tt, [], no_table)
 of_command commands.Encode pairs request is = subst Fits (same_ok _ request is) (tt, [], no_table)
 of_command commands.Show pairs request is = subst Fits (same_ok _ request is) (number_given (value_of Page pairs), [], no_table)
@@ -148,22 +96,18 @@ of_pairs None command pairs request is = of_command command pairs request is
 of_pairs (Some fault) command pairs request is = absurd (no_err fault request is)
 
 of_word : (command : Option Command) (pairs : List (List ℕ)) (request : Request) → command_read command pairs ≡ Ok request → Fits request
-of_word None pairs request is = absurd (no_err _ request is)
-of_word (Some command) pairs request is = of_pairs (pairs_fault command [] pairs) command pairs request is
+of_word command pairs request is = search (rules, no_err, of_pairs)
 
 pub asked_in_range : (words : List (List ℕ)) (request : Request) → request_in words ≡ Ok request → Fits request
 unfolding request_in
-asked_in_range [] request is = absurd (no_err _ request is)
-asked_in_range (word ∷ pairs) request is = of_word (command_in word) pairs request is
+asked_in_range words request is = search (rules, no_err, of_word)
 
 -- and the settings of a command show what the words ask for
 asked_of : (request settings : Request) (read : Result Table KickFault) → Ok settings ≡ with_table request read → request ≡ settings
-asked_of request settings (Ok table) is = cc
-asked_of request settings (Err fault) is = cc
+asked_of request settings read is = search rules
 
 request_read : (read : Result Request WordsFault) (settings : Request) → Ok settings ≡ asked_in read → read ≡ Ok settings
-request_read (Ok request) settings is = ap (λ (r : Request). Ok r) (asked_of request settings (table_asked request) is)
-request_read (Err fault) settings is = cc
+request_read read settings is = search rules
 
 pub ranged : (command : Command) (pairs : List (List ℕ)) (values : Values) (result : Result Settings Fault) → values ≡ values_in pairs
     → settings_reading result ≡ asked_in (request_of command pairs values) → IfOk result (λ settings. AsksInRange (settings_view settings))
