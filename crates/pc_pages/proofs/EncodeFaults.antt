@@ -1,5 +1,5 @@
 -- The faults of `encode`, by what its lines are read as, and by what they spell.
-use Rattle.std.proofs.Common.{◌≡◌, ◌∙◌, ℕ, List, Some, Ok, ap}
+use Rattle.std.proofs.Common.{◌≡◌, ℕ, List, Some, Ok, ap, rules}
 use Rattle.std.specs.Prelude.{option_map}
 use Rattle.fumen_digits.specs.declared.dialect.Dialect.{Dialect}
 use Rattle.fumen_pages.specs.declared.page.Page.{Page}
@@ -11,10 +11,10 @@ use Rattle.page_list.proofs.CallerLemmas.{spelled_pages_read, spelled_fault_read
 use Rattle.pc_outside.specs.declared.answers.Refused.{Refused}
 use Rattle.pc_faults.specs.declared.fault.Fault.{Fault}
 use Rattle.pc_faults.specs.declared.fault.Fault.TheVariants as faults
-use Rattle.pc_faults.proofs.CallerLemmas.{first_stops, second_left}
+use Rattle.pc_faults.proofs.CallerLemmas.{first_stops}
 use Rattle.pc_source.specs.Had.{IsRefusedInput}
 use Rattle.pc_source.proofs.CallerLemmas.{refusal_before}
-use Rattle.pc_pages.specs.Faults.{encode_fault, lines_fault, unwritten_fault}
+use Rattle.pc_pages.specs.Faults.{encode_fault, lines_fault}
 
 -- the lines have a fault
 first_lines : (dialect : Dialect) (bytes : List ℕ) (f : Fault) → lines_fault (pages_in bytes) ≡ Some f → encode_fault dialect bytes ≡ Some f
@@ -27,8 +27,7 @@ lines_refused dialect bytes r is = refusal_before (lines_fault (pages_in bytes))
 -- the lines are read as pages
 pub lines_read : (dialect : Dialect) (bytes : List ℕ) (pages : List Page) → pages_in bytes ≡ Ok pages → encode_fault dialect bytes ≡ option_map (λ f. faults.Encode f) (list_encode_fault dialect pages)
 unfolding encode_fault
-lines_read dialect bytes pages read =
-    second_left (lines_fault (pages_in bytes)) (unwritten_fault dialect (pages_in bytes)) (ap lines_fault read) ∙ ap (unwritten_fault dialect) read
+lines_read dialect bytes pages read = search rules
 
 pub lines_faulty : (dialect : Dialect) (bytes : List ℕ) (f : ListFault) → IsListFault bytes f → encode_fault dialect bytes ≡ Some (faults.List f)
 lines_faulty dialect bytes f is = first_lines dialect bytes (faults.List f) (ap lines_fault (spelled_fault_read bytes f is))

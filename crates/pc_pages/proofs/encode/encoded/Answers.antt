@@ -1,5 +1,5 @@
 -- The lines are read as pages, and these are written.
-use Rattle.std.proofs.Common.{◌≡◌, ◌∙◌, ℕ, List, Some, None, Option, Result, Ok, Err, Vec, Global, ap, sym, subst}
+use Rattle.std.proofs.Common.{◌≡◌, ℕ, List, Some, None, Option, Result, Ok, Err, Vec, Global, subst, rules}
 use Rattle.std.specs.Prelude.{option_map}
 use Rattle.pc_outside.specs.declared.answers.Refused.{Refused}
 use Rattle.pc_outside.specs.declared.answers.Refused.TheVariants as refused
@@ -18,8 +18,7 @@ use Rattle.pc_pages.proofs.encode.encoded.Goals as goal
 -- the fault of the bytes, by that of the pages
 fault_of : (dialect : Dialect) (bytes : List ℕ) (pages given : List Page) (found : Option EncodeFault) → SpellsPages bytes pages → given ≡ pages → list_encode_fault dialect given ≡ found
     → encode_fault dialect bytes ≡ option_map (λ fault. Encode fault) found
-fault_of dialect bytes pages given found spelled same is =
-    lines_spelled dialect bytes pages spelled ∙ ap (λ pages. option_map (λ fault. Encode fault) (list_encode_fault dialect pages)) (sym same) ∙ ap (option_map (λ fault. Encode fault)) is
+fault_of dialect bytes pages given found spelled same is = search (rules, lines_spelled)
 
 finds_fault : (X : Type 0) (refusal : Refused EncodeFault) (f : EncodeFault) (found : Option EncodeFault) → IsRefusedBy {X = X} (Err refusal) found → refusal ≡ refused.Fault f → found ≡ Some f
 finds_fault X refusal f found finds is = subst (λ r. IsRefusedBy {X = X} (Err r) found) is finds

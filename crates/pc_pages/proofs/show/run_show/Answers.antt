@@ -1,5 +1,5 @@
 -- The pages of the text are shown, or the one that is asked for.
-use Rattle.std.proofs.Common.{◌≡◌, ◌∙◌, ℕ, ◌-◌, List, All, Option, Some, None, Err, refl, ap, sym, subst}
+use Rattle.std.proofs.Common.{◌≡◌, ◌∙◌, ℕ, ◌-◌, List, All, Option, Some, None, Err, refl, ap, sym, subst, rules}
 use Rattle.std.specs.Prelude.{slice_get}
 use Rattle.fumen_pages.specs.declared.page.Page.{Page}
 use Rattle.page_show.specs.Page.{shown_page}
@@ -24,8 +24,7 @@ all_shown asked pages none = subst (λ a. (page_fault a pages ≡ None) × IsSho
 
 one_shown : (asked : Option ℕ) (number : ℕ) (pages : List Page) (page : Page) → asked ≡ Some number → slice_get pages (number - 1) ≡ Some page
     → page_fault (Some number) pages ≡ None → (page_fault asked pages ≡ None) × IsShown asked pages (shown_page number page)
-one_shown asked number pages page given there none =
-    subst (λ a. (page_fault a pages ≡ None) × IsShown a pages (shown_page number page)) (sym given) (none, (page, there, refl))
+one_shown asked number pages page given there none = search rules
 
 pub returns-in-Err-clause-answers : goal.returns-in-Err-clause-answers
 returns-in-Err-clause-answers g c =

@@ -1,5 +1,5 @@
 -- Each page is the first of those that are left.
-use Rattle.std.proofs.Common.{◌+◌, sym, subst, ◌∙◌}
+use Rattle.std.proofs.Common.{◌+◌, sym, subst}
 use Rattle.pc_outside.specs.CountLaws.{none_more}
 use Rattle.pc_outside.specs.Writes.{GrowsUpTo}
 use Rattle.pc_outside.specs.WriteLaws.{after_piece, failed_piece, ends, at_err}

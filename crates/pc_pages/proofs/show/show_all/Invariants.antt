@@ -1,5 +1,5 @@
 -- The pages so far are written, and no write failed.
-use Rattle.std.proofs.Common.{◌≡◌, ◌+◌, drop}
+use Rattle.std.proofs.Common.{◌+◌, drop}
 use Rattle.pc_outside.specs.CountLaws.{NoneFailed}
 use Rattle.pc_outside.specs.Writes.{GrowsUpTo}
 use Rattle.pc_pages.specs.Output.{shown_from}
