@@ -1,5 +1,5 @@
 -- What a run over slices leaves in them, by what its clauses say of its sinks.
-use Rattle.std.proofs.Common.{◌≡◌, ◌≢◌, ℕ, ◌+◌, ◌-◌, ◌^◌, ◌<◌, ◌≤◌, min, Bool, true, false, List, [], ◌∷◌, ◌++◌, length, length-append, length-take, length-drop, take, Some, None, nat_lt, if◌then◌else◌, ◌⊎◌, inl, inr, refl, sym, ap, subst, ◌∙◌, append_assoc, append-nil, lt-ltb, ltb-true, ltb-false, arith}
+use Rattle.std.proofs.Common.{◌≡◌, ◌≢◌, ℕ, ◌+◌, ◌-◌, ◌^◌, ◌<◌, ◌≤◌, min, true, List, [], ◌∷◌, ◌++◌, length, length-append, length-take, length-drop, take, Some, None, nat_lt, if◌then◌else◌, ◌⊎◌, inl, inr, refl, sym, ap, subst, ◌∙◌, append_assoc, lt-ltb, ltb-true, ltb-false, arith, rules}
 use Rattle.std.proofs.lemmas.Bool.{cases_Bool}
 use Rattle.std.proofs.lemmas.List.{take_all, take_at}
 use Rattle.std.proofs.lemmas.Option.{same_Some}
@@ -25,36 +25,22 @@ use Rattle.pc_c.specs.Ended.{EndedBy, LeavesErr, LeavesOut}
 
 -- nothing was missed
 unmissed : (s : SliceSink) → s.faults ≡ 0 → held_bytes (sink_view s) ≡ (sink_view s).bytes
-unmissed s none =
-    ap (λ n. (sink_view s).bytes ++ (if nat_lt 0 n then s.missed ∷ [] else [])) none ∙ append-nil (sink_view s).bytes
+unmissed s none = search rules
 
 -- a byte was missed, and the slice is full
 missed_one : (s : SliceSink) → 0 < s.faults → held_bytes (sink_view s) ≡ (sink_view s).bytes ++ s.missed ∷ []
 missed_one s some = ap (λ b. (sink_view s).bytes ++ (if b then s.missed ∷ [] else [])) (lt-ltb 0 s.faults some)
 
 full_slice : (s : SliceSink) → 0 < s.faults → length (sink_view s).bytes ≡ length s.buffer.now
-full_slice s some =
-    let full = s.full some in
-    let size = length-take s.count s.buffer.now in
-    omega (arith, full, size)
+full_slice s some = search rules
 
 within_slice : (s : SliceSink) → length (sink_view s).bytes ≤ length s.buffer.now
-within_slice s =
-    let within = s.within in
-    let size = length-take s.count s.buffer.now in
-    omega (arith, within, size)
+within_slice s = search rules
 
 -- a front of a text, one byte longer than the room
 cut_text : (bytes text rest : List ℕ) (byte room : ℕ) → text ≡ (bytes ++ byte ∷ []) ++ rest → length bytes ≡ room
     → (room < length text) × (bytes ≡ take room text) × (bytes ++ byte ∷ [] ≡ take (room + 1) text)
-cut_text bytes text rest byte room is size =
-    let whole = is ∙ append_assoc bytes (byte ∷ []) rest in
-    let long = ap length whole in
-    let more : length (bytes ++ byte ∷ []) ≡ room + 1 = omega (arith, length-append bytes (byte ∷ []), size) in (
-      omega (arith, long, length-append bytes (byte ∷ rest), size),
-      sym (ap (take room) whole ∙ take_at bytes (byte ∷ rest) room size),
-      sym (ap (take (room + 1)) is ∙ take_at (bytes ++ byte ∷ []) rest (room + 1) more),
-    )
+cut_text bytes text rest byte room is size = search (rules, append_assoc, length-append, take_at)
 
 -- a text that fits the room
 whole_text : (text : List ℕ) (room : ℕ) → length text ≤ room → text ≡ take room text
@@ -65,8 +51,7 @@ told_now : (holds text : List ℕ) → Grows (Some []) (Some holds) text → hol
 told_now holds text grown = same_Some holds text (grows_told (Some []) (Some holds) [] text grown refl)
 
 front_now : (holds text : List ℕ) → GrowsByFront (Some []) (Some holds) text → (rest : List ℕ) × (text ≡ holds ++ rest)
-front_now holds text part =
-    (part.rest, part.up_to.divided ∙ ap (λ (l : List ℕ). l ++ part.rest) (sym (told_now holds part.up_to.front part.up_to.grown)))
+front_now holds text part = search rules
 
 -- a text was written, or as much of it as there is room for
 pub cut_or_whole : (s : SliceSink) (text : List ℕ) → GrowsByFront (Some []) (Some (held_bytes (sink_view s))) text
@@ -91,16 +76,10 @@ cut_or_whole s text part whole = elim (cases_Bool (nat_lt 0 s.faults)) [
 -- ---- what the command saw
 
 sees : (task : Task) (input : List ℕ) → Sees (reads_source task) (Some input) (seen task input)
-sees task input = by (reads_source task) where
-  by : (reads : Bool) → Sees reads (Some input) (if reads then input else [])
-  by true = refl
-  by false = refl
+sees task input = search rules
 
 saw : (task : Task) (input bytes : List ℕ) → HasBytes (reads_source task) (Some input) bytes → bytes ≡ seen task input
-saw task input bytes has = by (reads_source task) has where
-  by : (reads : Bool) → HasBytes reads (Some input) bytes → bytes ≡ (if reads then input else [])
-  by true all = all input refl
-  by false none = none
+saw task input bytes has = search rules
 
 -- ---- how the run ended
 
@@ -126,10 +105,7 @@ change_of out = filled (held_bytes (sink_view out)) out.faults
 
 pub held_nothing : (old new : SliceSink) → (sink_view old).bytes ≡ [] → (sink_view old).missed ≡ [] → old.faults ≡ 0
     → sink_change true (Some (held_bytes (sink_view old))) (Some (held_bytes (sink_view new))) old.faults new.faults ≡ change_of new
-held_nothing old new empty unmissed faults =
-    let held : held_bytes (sink_view old) ≡ [] = ap (λ (l : List ℕ). l ++ (sink_view old).missed) empty ∙ unmissed in
-    ap (λ (l : List ℕ). sink_change true (Some l) (Some (held_bytes (sink_view new))) old.faults new.faults) held
-    ∙ ap (λ n. sink_change true (Some []) (Some (held_bytes (sink_view new))) n new.faults) faults
+held_nothing old new empty unmissed faults = search rules
 
 module _ (task : Task) (input : List ℕ) (out : SliceSink) (floods : ℕ) where
   works : (status : Status) (bytes : List ℕ) (failed : ℕ) → held_bytes (sink_view out) ≡ bytes → out.faults ≡ failed
@@ -210,26 +186,15 @@ pub leaves_err : (err : SliceSink) (status : Status)
     → ((fault : Fault) → status ≡ Input fault → GrowsByFront (Some []) (Some (held_bytes (sink_view err))) (fault_line fault))
     → ((fault : Fault) → status ≡ Input fault → (Rose 0 err.faults → ⊥) → Grows (Some []) (Some (held_bytes (sink_view err))) (fault_line fault))
     → (((fault : Fault) → status ≢ Input fault) → (sink_view err).bytes ≡ []) → LeavesErr (sink_view err).bytes (length err.buffer.now) status
-leaves_err err Done front whole none = none (λ fault e. cc)
-leaves_err err (Input fault) front whole none = cut_or_whole err (fault_line fault) (front fault refl) (whole fault refl)
-leaves_err err SourceFault front whole none = none (λ fault e. cc)
-leaves_err err SinkFault front whole none = none (λ fault e. cc)
-leaves_err err NoMemory front whole none = none (λ fault e. cc)
+leaves_err err status front whole none = search (rules, cut_or_whole)
 
 -- the bytes that were written and those behind them are the slice
 pub whole_slice : (s : SliceSink) → length (sink_view s).bytes + length (sink_view s).rest ≡ length s.buffer.now
-whole_slice s =
-    let within = s.within in
-    let front = length-take s.count s.buffer.now in
-    let back = length-drop s.count s.buffer.now in
-    omega (arith, within, front, back)
+whole_slice s = search (rules, length-take, length-drop)
 
 -- a front that is empty has no bytes
 pub none_told : (count : ℕ) (bytes : List ℕ) → count ≤ length bytes → take count bytes ≡ [] → count ≡ 0
-none_told count bytes within none =
-    let size = length-take count bytes in
-    let empty = ap length none in
-    omega (arith, within, size, empty)
+none_told count bytes within none = search rules
 
 -- what is equal has equal parts
 pub via : {A B : Type 0} {x y : A} → x ≡ y → (f : A → B) → f x ≡ f y
@@ -318,9 +283,7 @@ module _ (task : Task) (bytes written : List ℕ) (room count : ℕ) (told : Lis
 -- what holds of the floods since the counter was at 0, of which it tells so many
 pub from_zero : {Holds : ℕ → Type 0} (count before now : ℕ) → before ≡ 0 → count ≡ min now (2 ^ 64 - 1)
     → Holds (now - before) → ForFloods count Holds
-from_zero {Holds} count before now none told holds =
-    let all : now - before ≡ now = omega (arith, none) in
-    record { floods = now; counted = told; holds = subst Holds all holds }
+from_zero {Holds} count before now none told holds = search rules
 
 -- no flood was made
 pub none_made : {Holds : ℕ → Type 0} → Holds 0 → ForFloods 0 Holds
@@ -328,5 +291,4 @@ none_made holds = record { floods = 0; counted = refl; holds = holds }
 
 -- before the words are had, nothing is written, and no flood is made
 pub nothing_written : (task : Task) (bytes : List ℕ) → ForFloods 0 (WritesFront task bytes [])
-nothing_written task bytes =
-    none_made (record { front = λ output is. (output, refl); first = λ first. refl; faulty = λ fault is. refl; work = inl refl })
+nothing_written task bytes = search rules

@@ -1,21 +1,19 @@
 -- The bytes that a command sees of the input, the fault that it finds first, and what words ask of a command.
-use Rattle.std.proofs.Common.{◌≡◌, ◌∙◌, ℕ, ◌<◌, ◌≤◌, Bool, true, false, not, if◌then◌else◌, List, [], length, Some, None, Ok, Err, refl, sym, ap, subst, arith}
+use Rattle.std.proofs.Common.{◌≡◌, ◌∙◌, ℕ, ◌<◌, ◌≤◌, Bool, true, false, not, if◌then◌else◌, List, [], length, Some, None, Ok, Err, sym, ap, subst, rules}
 use Rattle.pc_faults.specs.declared.fault.Fault.{Fault}
 use Rattle.pc_faults.specs.declared.fault.Fault.TheVariants.{SourceTooLong}
-use Rattle.pc_source.specs.Task.{Needs, Task, first_fault, is_source, memory, most_bytes, nothing, reads_source, source_bytes}
+use Rattle.pc_source.specs.Task.{Needs, Task, first_fault, is_source, most_bytes, reads_source, source_bytes}
 use Rattle.pc_source.proofs.CallerLemmas.{not_too_long, too_long}
 use Rattle.pc_words.specs.Request.{Request}
 use Rattle.pc_words.specs.Words.{asked_in, request_in}
-use Rattle.pc_app.specs.Tasks.{refused_task, task_for, task_in}
+use Rattle.pc_app.specs.Tasks.{task_for, task_in}
 use Rattle.pc_c.specs.Answered.{HasAskedFault}
 use Rattle.pc_c.specs.Asked.{ForAsked}
 use Rattle.pc_c.specs.Call.{seen}
 use Rattle.pc_c.specs.OtherCommand.{is_other}
 
 needs_source : (needs : Needs) → is_source needs ≡ true → needs ≡ source_bytes
-needs_source nothing is = cc
-needs_source memory is = cc
-needs_source source_bytes is = refl
+needs_source needs is = search rules
 
 module _ (task : Task) (input : List ℕ) where
   -- the input is too long
@@ -37,11 +35,7 @@ module _ (task : Task) (input : List ℕ) where
 -- the words have a fault
 pub words_refused : (is_answered : Request → Bool) (words : List (List ℕ)) (input : List ℕ) (fault : Fault)
     → Err fault ≡ asked_in (request_in words) → HasAskedFault is_answered words input fault
-words_refused is_answered words input fault same = record {
-  no_other = subst (λ r. is_other is_answered r ≡ false) same refl;
-  first = subst (λ r. first_fault (task_in r) (seen (task_in r) input) ≡ Some fault) same
-      (not_too_long (refused_task fault) [] (omega arith));
-}
+words_refused is_answered words input fault same = search (rules, not_too_long)
 
 -- the words ask for the command that is answered
 module _ {Asked : Type 0} (command : Asked → Request) (is_answered : Request → Bool) (request : Asked)

@@ -1,20 +1,16 @@
 -- The line of a fault in a slice, after its write.
-use Rattle.std.proofs.Common.{◌≡◌, ℕ, List, [], length, take, Some, Result, Ok, Err, subst}
+use Rattle.std.proofs.Common.{◌≡◌, ℕ, List, [], length, take, Some, Result, rules}
 use Rattle.std.specs.Prelude.{OnErr}
 use Rattle.pc_outside.specs.declared.slice_sink.SliceSink.{SliceSink}
 use Rattle.pc_outside.specs.Counts.{Rose}
 use Rattle.pc_outside.specs.SliceSink.{held_bytes}
 use Rattle.pc_outside.specs.SliceSinkView.{sink_view}
 use Rattle.pc_outside.specs.WriteLaws.{writes_front}
-use Rattle.pc_outside.specs.Writes.{Grows, WritesAll}
+use Rattle.pc_outside.specs.Writes.{WritesAll}
 use Rattle.pc_c.proofs.CallLemmas.{cut_or_whole}
 
 -- a text was written to a sink that held nothing, as far as there is room
 pub cut_line : {T E : Type 0} (s : SliceSink) (text : List ℕ) (result : Result T E) (before : ℕ) → before ≡ 0
     → WritesAll (Some []) (Some (held_bytes (sink_view s))) result text → OnErr result (Rose before s.faults)
     → (sink_view s).bytes ≡ take (length s.buffer.now) text
-cut_line s text result before none written cause = cut_or_whole s text (writes_front written) (whole result written cause) where
-  whole : {T E : Type 0} (result : Result T E) → WritesAll (Some []) (Some (held_bytes (sink_view s))) result text
-      → OnErr result (Rose before s.faults) → (Rose 0 s.faults → ⊥) → Grows (Some []) (Some (held_bytes (sink_view s))) text
-  whole (Ok x) written cause kept = written.done
-  whole (Err e) written cause kept = absurd (kept (subst (λ n. Rose n s.faults) none cause))
+cut_line s text result before none written cause = search (rules, cut_or_whole, writes_front)

@@ -1,7 +1,6 @@
 -- Where a NUL byte stands in a text.
-use Rattle.std.proofs.Common.{◌≡◌, ℕ, suc, ◌+◌, ◌<◌, false, ◌==◌, List, ◌∷◌, ◌++◌, length, take, drop, get_or, position, nat_lt, take-append-drop, drop-cons, length-take, get_or-take, Some, None, inl, inr, sym, ap, subst, ◌∙◌, eqb-true, ltb-false, arith}
+use Rattle.std.proofs.Common.{◌≡◌, ℕ, suc, ◌+◌, ◌<◌, false, ◌==◌, List, ◌∷◌, ◌++◌, length, take, drop, get_or, position, take-append-drop, drop-cons, length-take, get_or-take, Some, None, sym, ap, subst, ◌∙◌, eqb-true, ltb-false, arith, rules}
 use Rattle.std.specs.Prelude.{All}
-use Rattle.std.specs.List.{position_or_len}
 use Rattle.std.proofs.lemmas.Bool.{cases_Bool}
 use Rattle.std.proofs.lemmas.List.Quantifiers.{position-Some}
 use Rattle.std.proofs.lemmas.List.Sums.{fails_before_first}
@@ -11,15 +10,7 @@ abbrev pub IsPlain : List ℕ → Type 0
 IsPlain text = All (λ byte. (byte == 0) ≡ false) text
 
 pub nul_nowhere : (text : List ℕ) → position (λ byte. byte == 0) text ≡ None → IsPlain text
-nul_nowhere text none =
-    let at = position_or_len (λ byte. byte == 0) text in
-    elim (cases_Bool (nat_lt at (length text))) [
-      | inl found ↦ let bad : Some at ≡ None = rw found at none in cc
-      | inr past ↦ λ k d within. fails_before_first (λ byte. byte == 0) text k d (before at past k within)
-    ]
-  where
-    before : (at : ℕ) → nat_lt at (length text) ≡ false → (k : ℕ) → k < length text → k < at
-    before at past k within = let bound = ltb-false at (length text) past in omega arith
+nul_nowhere text none = search (rules, cases_Bool, fails_before_first, ltb-false)
 
 pub nul_there : (text : List ℕ) (at : ℕ) → position (λ byte. byte == 0) text ≡ Some at
     → (text ≡ take at text ++ 0 ∷ drop (at + 1) text) × IsPlain (take at text)

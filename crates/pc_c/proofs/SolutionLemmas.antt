@@ -1,5 +1,5 @@
 -- What a call for solutions answers, by its words.
-use Rattle.std.proofs.Common.{◌≡◌, ◌∙◌, ℕ, ◌-◌, ◌^◌, ◌≤◌, ◌==◌, min, Bool, true, false, if◌then◌else◌, List, [], length, take, drop, Some, None, Result, Ok, Err, IfOk, refl, sym, ap, subst, true≢false}
+use Rattle.std.proofs.Common.{◌≡◌, ◌∙◌, ℕ, ◌-◌, ◌^◌, ◌≤◌, ◌==◌, min, Bool, true, false, if◌then◌else◌, List, [], length, take, drop, Some, None, Result, Ok, Err, IfOk, refl, sym, ap, subst, true≢false, rules}
 use Rattle.std.specs.Prelude.{OnErr}
 use Rattle.pc_faults.specs.declared.fault.Fault.{Fault}
 use Rattle.pc_settings.specs.Request.{PathRequest}
@@ -7,7 +7,6 @@ use Rattle.pc_source.specs.FieldText.{field_needs}
 use Rattle.pc_source.specs.Task.{is_source, most_bytes}
 use Rattle.pc_source.proofs.CallerLemmas.{none_added}
 use Rattle.pc_path.specs.Faults.{path_fault}
-use Rattle.pc_path.specs.PathTask.{path_task}
 use Rattle.pc_words.specs.Request.{path}
 use Rattle.pc_words.specs.Words.{asked_in, request_in}
 use Rattle.pc_solutions.specs.declared.list.Written.{Written}
@@ -17,7 +16,6 @@ use Rattle.pc_solutions.specs.Asked.{HasNoRoom, HasNoSequence}
 use Rattle.pc_solutions.specs.Written.{WritesSolutions}
 use Rattle.pc_c.specs.Answered.{HasAskedFault, answer_of}
 use Rattle.pc_c.specs.Asked.{ForAsked}
-use Rattle.pc_c.specs.Call.{seen}
 use Rattle.pc_c.specs.Solutions.{LacksRoom, LacksSequence, TellsSolutions}
 use Rattle.pc_c.specs.OtherCommand.{asks_other, is_other, is_path}
 use Rattle.pc_c.specs.SolutionsEnded.{IsPathAnswer}
@@ -95,13 +93,4 @@ module _ (all words : List (List ℕ)) (same : all ≡ words) (input numbers bef
 pub tells : (words : List (List ℕ)) (input numbers written : List ℕ) (room count ended floods made : ℕ) (all : Bool) → floods ≡ min made (2 ^ 64 - 1) → (ended == 1) ≡ all
     → ForAsked path words input (λ request bytes. WritesSolutions request bytes numbers room written count all made)
     → TellsSolutions words input numbers room written count ended floods
-tells words input numbers written room count ended floods made all counted flag has = record {
-  request = has.request;
-  asked = has.asked;
-  none = has.none;
-  holds = record {
-    floods = made;
-    counted = counted;
-    holds = subst (λ e. WritesSolutions has.request (seen (path_task has.request) input) numbers room written count e made) (sym flag) has.holds;
-  };
-}
+tells words input numbers written room count ended floods made all counted flag has = search rules

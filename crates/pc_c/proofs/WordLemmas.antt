@@ -1,5 +1,5 @@
 -- A text spells at most one list of words, and a part of it was read.
-use Rattle.std.proofs.Common.{◌≡◌, ℕ, ◌==◌, false, List, [], ◌∷◌, ◌++◌, refl, sym, ap, subst, ◌∙◌, append_assoc, append-nil, true≢false}
+use Rattle.std.proofs.Common.{◌≡◌, ℕ, ◌==◌, false, List, [], ◌∷◌, ◌++◌, refl, sym, ap, subst, ◌∙◌, append_assoc, append-nil, true≢false, rules}
 use Rattle.std.specs.Prelude.{IsUtf8}
 use Rattle.std.proofs.lemmas.List.Elements.{All-head, All-tail}
 use Rattle.pc_c.specs.Words.{SpellsWords, SpellsNoWords}
@@ -20,10 +20,8 @@ zero_plain byte is other = true≢false (sym (ap (λ b. b == 0) is) ∙ other)
 pub same_cut : (one other rest more : List ℕ) → IsPlain one → IsPlain other → one ++ 0 ∷ rest ≡ other ++ 0 ∷ more
     → (one ≡ other) × (rest ≡ more)
 same_cut [] [] rest more plain also same = (refl, ap tail_of same)
-same_cut [] (y ∷ other) rest more plain also same =
-    absurd (zero_plain y (sym (ap (head_of 0) same)) (All-head (λ byte. (byte == 0) ≡ false) y other also))
-same_cut (x ∷ one) [] rest more plain also same =
-    absurd (zero_plain x (ap (head_of 0) same) (All-head (λ byte. (byte == 0) ≡ false) x one plain))
+same_cut [] (y ∷ other) rest more plain also same = search (rules, zero_plain, All-head)
+same_cut (x ∷ one) [] rest more plain also same = search (rules, zero_plain, All-head)
 same_cut (x ∷ one) (y ∷ other) rest more plain also same =
     let behind = same_cut one other rest more (All-tail (λ byte. (byte == 0) ≡ false) x one plain)
     (All-tail (λ byte. (byte == 0) ≡ false) y other also) (ap tail_of same) in
@@ -47,9 +45,6 @@ one_spelling text (x ∷ one) (y ∷ other) is also =
 pub record HasRead (text : List ℕ) (words : List (List ℕ)) (rest : List ℕ) : Type 0 where
   pub ahead : (more : List (List ℕ)) → SpellsWords rest more → SpellsWords text (words ++ more)
   pub behind : (all : List (List ℕ)) → SpellsWords text all → (more : List (List ℕ)) × SpellsWords rest more
-
-pub read_none : (text : List ℕ) → HasRead text [] text
-read_none text = record { ahead = λ more is. is; behind = λ all is. (all, is) }
 
 pub read_all : (text : List ℕ) (words : List (List ℕ)) (rest : List ℕ) → HasRead text words rest → rest ≡ []
     → SpellsWords text words
