@@ -1,5 +1,5 @@
 -- What a run answers, by what its command answers for the bytes that were read.
-use Rattle.std.proofs.Common.{◌≡◌, ◌∙◌, ◌+◌, ◌-◌, ◌≤◌, ℕ, List, [], Bool, true, false, length, append-nil, Option, Some, None, Result, Ok, Err, refl, ap, sym, subst, inl, inr, arith}
+use Rattle.std.proofs.Common.{◌≡◌, ◌+◌, ◌-◌, ◌≤◌, ℕ, List, [], Bool, true, false, length, append-nil, Option, Some, None, Result, Ok, Err, refl, sym, subst, inl, inr, arith, rules}
 use Rattle.std.specs.Option.{ForSome}
 use Rattle.std.proofs.lemmas.Option.{same_Some}
 use Rattle.pc_outside.specs.Reads.{TakesAtMost, TakesFirst}
@@ -16,14 +16,12 @@ use Rattle.pc_source.specs.Ends.{CommandEnds}
 use Rattle.pc_source.specs.Had.{IsUnread}
 use Rattle.pc_source.specs.Sink.{SinkChange}
 use Rattle.pc_source.specs.Source.{LeavesSource}
-use Rattle.pc_source.specs.Task.{ForBytes, ForSomeBytes, HasBytes, Needs, Sees, Task, first_fault, is_source, memory, most_bytes, nothing, reads_source, source_bytes}
+use Rattle.pc_source.specs.Task.{ForBytes, ForSomeBytes, HasBytes, Needs, Sees, Task, first_fault, is_source, most_bytes, nothing, reads_source, source_bytes}
 use Rattle.pc_source.specs.Work.{Works}
 use Rattle.pc_source.proofs.CallerLemmas.{idle_works, none_added, not_too_long, stays, too_long}
-use Rattle.srs.specs.Kick.{Table}
-use Rattle.kick_file.specs.declared.fault.KickFault.{KickFault}
-use Rattle.pc_words.specs.Request.{Request, table_asked}
+use Rattle.pc_words.specs.Request.{Request}
 use Rattle.pc_app.specs.Ran.{LeavesSink, Ran}
-use Rattle.pc_words.specs.Words.{asked_in, with_table}
+use Rattle.pc_words.specs.Words.{asked_in}
 use Rattle.pc_app.specs.Tasks.{refused_task, task_for, task_in}
 use Rattle.pc_app.proofs.Commands.{inner_for}
 
@@ -42,33 +40,17 @@ module _ (one other : Request) (same : other ≡ one) (bytes : List ℕ) (sink :
 
 -- the bytes that were read are those that the task sees
 seen_is : (reads : Bool) (left : Option (List ℕ)) (seen bytes : List ℕ) → HasBytes reads left seen → Sees reads left bytes → seen ≡ bytes
-seen_is true left seen bytes has told = has bytes told
-seen_is false left seen bytes has told = has ∙ sym told
+seen_is reads left seen bytes has told = search rules
 
 ran_of : (task : Task) (bytes : List ℕ) (sink : SinkChange) (Kept : Type 0) (floods : ℕ) → first_fault task bytes ≡ task.fault bytes → (status : Status)
     → IsAnswered task bytes sink Kept floods status → Ran task bytes sink Kept floods status
-ran_of task bytes sink Kept floods same Done a = record { none = same ∙ a.none; wrote = a.wrote; kept = a.kept }
-ran_of task bytes sink Kept floods same (Input f) a = (same ∙ a.0, a.1)
-ran_of task bytes sink Kept floods same SourceFault a = absurd a
-ran_of task bytes sink Kept floods same SinkFault a = record { none = same ∙ a.none; front = a.front; rose = a.rose }
-ran_of task bytes sink Kept floods same NoMemory a = record {
-  known = λ needs. same ∙ a.known needs;
-  first = a.first;
-  ended = elim a.ended [
-    | inl kept ↦ inl kept
-    | inr ended ↦ inr (record { none = same ∙ ended.none; front = ended.front; kept = ended.kept })
-  ];
-}
+ran_of task bytes sink Kept floods same status a = search rules
 
 reading_needs : (needs : Needs) → is_source needs ≡ true → needs ≡ source_bytes
-reading_needs nothing reads = cc
-reading_needs memory reads = cc
-reading_needs source_bytes reads = refl
+reading_needs needs reads = search rules
 
 no_needs : (needs : Needs) → is_source needs ≡ true → needs ≡ nothing → ⊥
-no_needs nothing reads none = cc
-no_needs memory reads none = cc
-no_needs source_bytes reads none = cc
+no_needs needs reads none = search rules
 
 -- the words ask for this, and its bytes were read
 module _ (asked : Result Request Fault) (request : Request) (same : Ok request ≡ asked) (left : Option (List ℕ)) (sink : SinkChange) (floods : ℕ) (status : Status) (seen : List ℕ)
@@ -98,41 +80,22 @@ refused_words asked fault same bytes = subst (λ asked. first_fault (task_in ask
 
 pub refused_work : (asked : Result Request Fault) (fault : Fault) → Err fault ≡ asked → (left : Option (List ℕ)) (sink : SinkChange) (floods : ℕ) (found : Fault) → floods ≡ 0
     → ForSomeBytes (task_in asked) left (λ bytes. Works (task_in asked) (first_fault (task_in asked) bytes) bytes sink floods (Input found))
-refused_work asked fault same left sink floods found none =
-    subst (λ asked. ForSomeBytes (task_in asked) left (λ bytes. Works (task_in asked) (first_fault (task_in asked) bytes) bytes sink floods (Input found))) same
-    (record { bytes = []; seen = refl; holds = none })
-
--- a fault of the words is found by reading them
-table_words : (request : Request) (read : Result Table KickFault) (fault : WordsFault) → Err (Words fault) ≡ with_table request read → ⊥
-table_words request (Ok table) fault is = cc
-table_words request (Err kicks) fault is = cc
+refused_work asked fault same left sink floods found none = search rules
 
 pub words_found : (read : Result Request WordsFault) (found : Fault) (fault : WordsFault) → Err found ≡ asked_in read → found ≡ Words fault → read ≡ Err fault
-words_found (Ok request) found fault is same = absurd (table_words request (table_asked request) fault (ap (λ f. Err f) (sym same) ∙ is))
-words_found (Err other) found fault is same = cc
+words_found read found fault is same = search rules
 
 -- or they could not be read
 unread_ran : (task : Task) (bytes : List ℕ) (sink : SinkChange) (Kept : Type 0) (floods : ℕ) (status : Status) → Kept → reads_source task ≡ true → IsUnread status
     → (status ≡ Input SourceTooLong → most_bytes + 1 ≤ length bytes) → Ran task bytes sink Kept floods status
-unread_ran task bytes sink Kept floods Done kept reads unread long = absurd unread
-unread_ran task bytes sink Kept floods (Input f) kept reads unread long =
-    let more = long (ap (λ f. Input f) unread) in
-    (too_long task bytes (reading_needs task.needs reads) (omega (arith, more)) ∙ ap (λ f. Some f) (sym unread), kept)
-unread_ran task bytes sink Kept floods SourceFault kept reads unread long = (reads, kept)
-unread_ran task bytes sink Kept floods SinkFault kept reads unread long = absurd unread
-unread_ran task bytes sink Kept floods NoMemory kept reads unread long =
-    record { known = λ none. absurd (no_needs task.needs reads none); first = λ first. kept; ended = inl kept }
+unread_ran task bytes sink Kept floods status kept reads unread long = search (rules, too_long, reading_needs, no_needs)
 
 some_bytes : (left : Option (List ℕ)) → (bytes : List ℕ) × HasBytes true left bytes
 some_bytes (Some all) = (all, λ told is. same_Some all told is)
 some_bytes None = ([], λ all is. cc)
 
 unread_works : (task : Task) (fault : Option Fault) (bytes : List ℕ) (sink : SinkChange) (floods : ℕ) (status : Status) → IsUnread status → floods ≡ 0 → Works task fault bytes sink floods status
-unread_works task fault bytes sink floods Done unread none = absurd unread
-unread_works task fault bytes sink floods (Input f) unread none = none
-unread_works task fault bytes sink floods SourceFault unread none = none
-unread_works task fault bytes sink floods SinkFault unread none = absurd unread
-unread_works task fault bytes sink floods NoMemory unread none = inl none
+unread_works task fault bytes sink floods status unread none = search rules
 
 module _ (asked : Result Request Fault) (request : Request) (same : Ok request ≡ asked) (left : Option (List ℕ)) (sink : SinkChange) (floods : ℕ) (status : Status)
     (reads : reads_source (task_for request) ≡ true) (unread : IsUnread status) where
@@ -156,24 +119,11 @@ pub input_idle : (task : Task) (fault : Option Fault) (bytes : List ℕ) (sink :
     → Works task fault bytes sink (now - before) status → now ≡ before
 input_idle task fault bytes sink before now status f rose is w = stays before now rose (subst (Works task fault bytes sink (now - before)) is w)
 
-idle_by : (task : Task) (bytes : List ℕ) (sink : SinkChange) (Kept : Type 0) (floods : ℕ) (f : Fault) → first_fault task bytes ≡ Some f → (status : Status) → Ran task bytes sink Kept floods status
-    → Works task (first_fault task bytes) bytes sink floods status → floods ≡ 0
-idle_by task bytes sink Kept floods f is Done ran w = let none = ran.none in cc
-idle_by task bytes sink Kept floods f is (Input g) ran w = w
-idle_by task bytes sink Kept floods f is SourceFault ran w = w
-idle_by task bytes sink Kept floods f is SinkFault ran w = let none = ran.none in cc
-idle_by task bytes sink Kept floods f is NoMemory ran w = elim w [
-  | inl none ↦ none
-  | inr made ↦ let none = made.0 in cc
-]
-
 pub fault_idle : (task : Task) (left : Option (List ℕ)) (sink : SinkChange) (Kept : Type 0) (before now : ℕ) (status : Status) → before ≤ now
     → ForBytes task left (λ bytes. Ran task bytes sink Kept (now - before) status)
     → ForSomeBytes task left (λ bytes. Works task (first_fault task bytes) bytes sink (now - before) status)
     → ForBytes task left (λ bytes. (f : Fault) → first_fault task bytes ≡ Some f → now ≡ before)
-fault_idle task left sink Kept before now status rose ran some = λ bytes told f is.
-    stays before now rose (idle_by task bytes sink Kept (now - before) f is status (ran bytes told)
-    (subst (λ bytes. Works task (first_fault task bytes) bytes sink (now - before) status) (seen_is (reads_source task) left some.bytes bytes some.seen told) some.holds))
+fault_idle task left sink Kept before now status rose ran some = search rules
 
 -- no command ends by a fault of the words, or by the length of the source, or by a failed read
 inner_found : (found : Option Fault) (f : Fault) → IsInner found → found ≡ Some f → is_outer f ≡ false
@@ -181,8 +131,7 @@ inner_found found f inner is = subst IsInner is inner
 
 pub never_outer : (request : Request) (bytes : List ℕ) (sink : SinkChange) (Kept : Type 0) (floods : ℕ) (status : Status) (f : Fault) → is_outer f ≡ true
     → IsAnswered (task_for request) bytes sink Kept floods status → status ≡ Input f → ⊥
-never_outer request bytes sink Kept floods status f outer a is =
-    let inner = inner_found ((task_for request).fault bytes) f (inner_for request bytes) (subst (IsAnswered (task_for request) bytes sink Kept floods) is a).0 in cc
+never_outer request bytes sink Kept floods status f outer a is = search (rules, inner_found, inner_for)
 
 pub never_unread : (request : Request) (bytes : List ℕ) (sink : SinkChange) (Kept : Type 0) (floods : ℕ) (status : Status) → IsAnswered (task_for request) bytes sink Kept floods status → status ≡ SourceFault → ⊥
 never_unread request bytes sink Kept floods status a is = subst (IsAnswered (task_for request) bytes sink Kept floods) is a
@@ -190,47 +139,20 @@ never_unread request bytes sink Kept floods status a is = subst (IsAnswered (tas
 -- what is left of the source
 leaves : (reads : Bool) (old new : Option (List ℕ)) (Kept : Type 0) (status : Status) → (reads ≡ true → ForSome old (λ _. new ≡ Some [])) → (reads ≡ true → TakesAtMost old new (most_bytes + 1))
     → (reads ≡ false → Kept) → (status ≡ Input SourceTooLong → ⊥) → (status ≡ SourceFault → ⊥) → LeavesSource reads old new Kept status
-leaves true old new Kept status ended most kept short had = record { ended = λ _. ended refl; too_long = λ is. absurd (short is); most = most refl }
-leaves false old new Kept status ended most kept short had = (kept refl, had)
+leaves reads old new Kept status ended most kept short had = search rules
 
 pub leaves_read : (asked : Result Request Fault) (request : Request) → Ok request ≡ asked → (reads : Bool) → reads ≡ reads_source (task_for request) → (old new : Option (List ℕ)) (Kept : Type 0) (status : Status)
     → (reads ≡ true → ForSome old (λ _. new ≡ Some [])) → (reads ≡ true → TakesAtMost old new (most_bytes + 1)) → (reads ≡ false → Kept) → (status ≡ Input SourceTooLong → ⊥) → (status ≡ SourceFault → ⊥)
     → LeavesSource (reads_source (task_in asked)) old new Kept status
-leaves_read asked request same reads is old new Kept status ended most kept short had =
-    subst (λ asked. LeavesSource (reads_source (task_in asked)) old new Kept status) same (subst (λ reads. LeavesSource reads old new Kept status) is (leaves reads old new Kept status ended most kept short had))
-
-never_done : (status : Status) → IsUnread status → status ≡ Done → ⊥
-never_done Done unread is = unread
-never_done (Input f) unread is = cc
-never_done SourceFault unread is = cc
-never_done SinkFault unread is = unread
-never_done NoMemory unread is = cc
+leaves_read asked request same reads is old new Kept status ended most kept short had = search rules
 
 pub leaves_unread : (asked : Result Request Fault) (request : Request) → Ok request ≡ asked → reads_source (task_for request) ≡ true → (old new : Option (List ℕ)) (Kept : Type 0) (status : Status)
     → IsUnread status → (status ≡ Input SourceTooLong → TakesFirst old new (most_bytes + 1)) → TakesAtMost old new (most_bytes + 1) → LeavesSource (reads_source (task_in asked)) old new Kept status
-leaves_unread asked request same reads old new Kept status unread long most =
-    subst (λ asked. LeavesSource (reads_source (task_in asked)) old new Kept status) same
-    (subst (λ reads. LeavesSource reads old new Kept status) (sym reads) (record { ended = λ is. absurd (never_done status unread is); too_long = long; most = most }))
-
--- what holds of the sink whatever the source tells
-sink_left : (task : Task) (bytes : List ℕ) (sink : SinkChange) (Kept : Type 0) (floods : ℕ) → (Kept → sink.now ≡ sink.before) → (status : Status) → IsAnswered task bytes sink Kept floods status
-    → LeavesSink task sink Kept status
-sink_left task bytes sink Kept floods same Done a = a.kept
-sink_left task bytes sink Kept floods same (Input f) a = a.1
-sink_left task bytes sink Kept floods same SourceFault a = absurd a
-sink_left task bytes sink Kept floods same SinkFault a = a.rose
-sink_left task bytes sink Kept floods same NoMemory a = (
-  a.first,
-  elim a.ended [
-    | inl kept ↦ λ _. same kept
-    | inr ended ↦ ended.kept
-  ],
-)
+leaves_unread asked request same reads old new Kept status unread long most = search rules
 
 pub leaves_sink : (asked : Result Request Fault) (request : Request) → Ok request ≡ asked → (bytes : List ℕ) (sink : SinkChange) (Kept : Type 0) (floods : ℕ) (status : Status)
     → (Kept → sink.now ≡ sink.before) → IsAnswered (task_for request) bytes sink Kept floods status → LeavesSink (task_in asked) sink Kept status
-leaves_sink asked request same bytes sink Kept floods status kept a =
-    subst (λ asked. LeavesSink (task_in asked) sink Kept status) same (sink_left (task_for request) bytes sink Kept floods kept status a)
+leaves_sink asked request same bytes sink Kept floods status kept a = search rules
 
 -- the whole is a front of itself, and nothing is a front of anything
 whole_is_front : {old new : Option (List ℕ)} {bytes : List ℕ} → Grows old new bytes → GrowsByFront old new bytes

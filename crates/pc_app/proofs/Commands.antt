@@ -1,5 +1,5 @@
 -- What holds of each command: one output, and no fault of the words or that the source is too long.
-use Rattle.std.proofs.Common.{◌≡◌, ℕ, true, List, None, Result, Ok, Err}
+use Rattle.std.proofs.Common.{◌≡◌, ℕ, true, List, None, Result, rules}
 use Rattle.pc_faults.specs.declared.fault.Fault.{Fault}
 use Rattle.pc_faults.specs.Inner.{IsInner}
 use Rattle.pc_source.proofs.CallerLemmas.{inner_text}
@@ -28,8 +28,7 @@ one_for (selfrun number pages) bytes floods others same = one_selfrun_output num
 
 one_in : (asked : Result Request Fault) (bytes : List ℕ) (floods others : ℕ) → (tells_floods_in asked ≡ true → floods ≡ others) → (a b : List ℕ)
     → (task_in asked).IsOutput bytes floods a → (task_in asked).IsOutput bytes others b → a ≡ b
-one_in (Ok request) bytes floods others same a b first second = one_for request bytes floods others same a b first second
-one_in (Err fault) bytes floods others same a b first second = absurd first
+one_in asked bytes floods others same a b first second = search (rules, one_for)
 
 -- the words and the source's bytes determine what is written, and the number of floods where it is written
 pub one_output : (words : List (List ℕ)) (bytes : List ℕ) (floods others : ℕ) → (tells_floods_in (asked_in (request_in words)) ≡ true → floods ≡ others) → (a b : List ℕ)

@@ -1,5 +1,5 @@
 -- How a run ended, by what it answered before its fault was told.
-use Rattle.std.proofs.Common.{◌≡◌, ◌≢◌, ◌⊎◌, ℕ, ◌-◌, ◌≤◌, true, List, Option, Some, None, Err, refl, subst, inl, inr}
+use Rattle.std.proofs.Common.{◌≡◌, ◌≢◌, ◌⊎◌, ℕ, ◌-◌, ◌≤◌, true, List, Option, Some, None, Err, refl, subst, inl, inr, rules}
 use Rattle.kick_file.specs.declared.fault.KickFault.{KickFault}
 use Rattle.pc_outside.specs.Counts.{Rose}
 use Rattle.pc_outside.specs.Writes.{Grows, GrowsByFront}
@@ -12,7 +12,7 @@ use Rattle.pc_faults.specs.FaultLine as lines
 use Rattle.pc_source.specs.Answers.{EndsBy}
 use Rattle.pc_source.specs.Sink.{SinkChange}
 use Rattle.pc_source.specs.Source.{LeavesSource}
-use Rattle.pc_source.specs.Task.{ForBytes, ForSomeBytes, Needs, Task, first_fault, is_source, memory, nothing, reads_source, source_bytes}
+use Rattle.pc_source.specs.Task.{ForBytes, ForSomeBytes, Needs, Task, first_fault, is_source, nothing, reads_source}
 use Rattle.pc_source.specs.Work.{Works}
 use Rattle.pc_words.specs.Words.{asked_in, request_in}
 use Rattle.pc_app.specs.Ran.{LeavesSink, Ran}
@@ -23,19 +23,13 @@ use Rattle.pc_app.proofs.Commands.{one_output}
 
 -- where a fault stands, the run ends by it, or by what it needs to know it
 wanting : (needs : Needs) (fault : Fault) → (needs ≡ nothing → ⊥) → EndsBy needs fault NoMemory
-wanting nothing fault some = absurd (some refl)
-wanting memory fault some = inr refl
-wanting source_bytes fault some = inr (inr refl)
+wanting needs fault some = search rules
 
 unread : (needs : Needs) (fault : Fault) → is_source needs ≡ true → EndsBy needs fault SourceFault
-unread nothing fault reads = cc
-unread memory fault reads = cc
-unread source_bytes fault reads = inr (inl refl)
+unread needs fault reads = search rules
 
 told : (needs : Needs) (fault found : Fault) → found ≡ fault → EndsBy needs fault (Input found)
-told nothing fault found same = λ i. Input (same i)
-told memory fault found same = inl (λ i. Input (same i))
-told source_bytes fault found same = inl (λ i. Input (same i))
+told needs fault found same = search rules
 
 one_fault : (found : Option Fault) (fault other : Fault) → found ≡ Some fault → found ≡ Some other → other ≡ fault
 one_fault found fault other is also = cc
@@ -64,18 +58,10 @@ module _ (task : Task) (bytes : List ℕ) (out : SinkChange) (Kept : Type 0) (fl
 -- without a fault, and where no count rose
 completes : (task : Task) (bytes : List ℕ) (out : SinkChange) (Kept : Type 0) (floods : ℕ) (FailedRead : Type 0) → first_fault task bytes ≡ None → (status : Status) → Ran task bytes out Kept floods status
     → (status ≡ SourceFault → FailedRead) → (FailedRead → ⊥) → (Rose out.before out.now → ⊥) → (status ≡ Done) ⊎ (status ≡ NoMemory)
-completes task bytes out Kept floods FailedRead none Done ran failed read wrote = inl refl
-completes task bytes out Kept floods FailedRead none (Input found) ran failed read wrote = not_none (first_fault task bytes) found ran.0 none
-completes task bytes out Kept floods FailedRead none SourceFault ran failed read wrote = absurd (read (failed refl))
-completes task bytes out Kept floods FailedRead none SinkFault ran failed read wrote = absurd (wrote ran.rose)
-completes task bytes out Kept floods FailedRead none NoMemory ran failed read wrote = inr refl
+completes task bytes out Kept floods FailedRead none status ran failed read wrote = search rules
 
 count_kept : (task : Task) (out : SinkChange) (Kept : Type 0) → (Kept → out.now ≡ out.before) → (status : Status) → LeavesSink task out Kept status → out.alone ≡ true → status ≢ SinkFault → out.now ≡ out.before
-count_kept task out Kept same Done left alone other = left alone
-count_kept task out Kept same (Input found) left alone other = same left
-count_kept task out Kept same SourceFault left alone other = same left
-count_kept task out Kept same SinkFault left alone other = absurd (other refl)
-count_kept task out Kept same NoMemory left alone other = left.1 alone
+count_kept task out Kept same status left alone other = search rules
 
 module _ (words : List (List ℕ)) (origin : SourceChange) (SourceKept : Type 0) (out : SinkChange) (OutKept : Type 0) (err : SinkChange) (ErrKept : Type 0) (before now : ℕ) (status : Status) where
   pub run_ends : (OutKept → out.holds ≡ out.held) → (OutKept → out.now ≡ out.before)
