@@ -1,32 +1,22 @@
 -- Numbers are read as the sequence that they are of.
-use Rattle.std.proofs.Common.{◌≡◌, ℕ, ◌+◌, ◌-◌, ◌*◌, ◌<◌, ◌≤◌, ◌&&◌, ◌==◌, nat_le, leb-true, le-leb, eqb-true, if◌then◌else◌, List, [], ◌∷◌, ◌++◌, length, take, drop, get_or, append-nil, All, Option, Some, None, refl, ap, sym, subst, ◌∙◌, arith, append_assoc, length-append}
-use Rattle.std.specs.Prelude.{option_and_then}
-use Rattle.std.proofs.lemmas.Bool.{and_parts}
+use Rattle.std.proofs.Common.{◌≡◌, ℕ, ◌+◌, ◌-◌, ◌*◌, ◌<◌, ◌≤◌, ◌&&◌, nat_le, if◌then◌else◌, List, [], ◌∷◌, ◌++◌, length, take, drop, get_or, append-nil, All, Option, Some, None, refl, ap, sym, subst, ◌∙◌, arith, append_assoc, length-append, rules}
 use Rattle.std.proofs.lemmas.List.{nil_from_length, take_rest}
 use Rattle.std.proofs.lemmas.List.Concat.{flat_map-cons}
-use Rattle.std.proofs.lemmas.List.Elements.{All-cons, All-head, All-nil, All-tail}
-use Rattle.std.proofs.lemmas.Option.{cond_some, none-some, option_and_then_some, same_Some}
+use Rattle.std.proofs.lemmas.List.Elements.{All-head, All-nil, All-tail}
+use Rattle.std.proofs.lemmas.Option.{none-some, option_and_then_some, same_Some}
 use Rattle.srs.specs.declared.piece.Piece.{Piece}
 use Rattle.srs.specs.declared.rotation.Rotation.{Rotation}
 use Rattle.srs.specs.declared.placement.Placement.{Placement}
-use Rattle.srs.specs.Piece.{all_pieces, piece_code, piece_with_code}
-use Rattle.srs.specs.Rotation.{all_rotations, rotation_place}
-use Rattle.srs.proofs.CallerLemmas.{piece_with_code-code, find-Contains, rotation_at-place}
+use Rattle.srs.specs.Piece.{piece_code, piece_with_code}
+use Rattle.srs.specs.Rotation.{rotation_place}
 use Rattle.placement_numbers.specs.Numbers.{AreNumbersOf, HasPivotInWell, numbers_of, sequence_numbers}
 use Rattle.placement_numbers.specs.Reading.{placement_in, placements_in, rotation_at}
 
 -- ---- one placement
 
-piece_only : (code : ℕ) (piece : Piece) → piece_with_code code ≡ Some piece → piece_code piece ≡ code
-piece_only code piece read = eqb-true (piece_code piece) code (find-Contains (λ p. piece_code p == code) all_pieces piece read).1
-
-rotation_only : (place : ℕ) (rotation : Rotation) → rotation_at place ≡ Some rotation → rotation_place rotation ≡ place
-rotation_only place rotation read = eqb-true (rotation_place rotation) place (find-Contains (λ r. rotation_place r == place) all_rotations rotation read).1
-
 placement_read : (q : Placement) → HasPivotInWell q → placement_in (piece_code q.piece) (rotation_place q.rotation) q.x q.y ≡ Some q
 unfolding placement_in
-placement_read q within =
-    rw (piece_with_code-code q.piece, rotation_at-place q.rotation, le-leb q.x 9 within.column, le-leb q.y 22 within.row) refl
+placement_read q within = search rules
 
 -- the placement has these numbers
 record HasNumbers (code place column row : ℕ) (q : Placement) : Type 0 where
@@ -36,13 +26,7 @@ record HasNumbers (code place column row : ℕ) (q : Placement) : Type 0 where
 parts_only : (code place column row : ℕ) (piece : Piece) (rotation : Rotation) (q : Placement) → piece_with_code code ≡ Some piece → rotation_at place ≡ Some rotation
     → (if nat_le column 9 && nat_le row 22 then Some (record { piece = piece; rotation = rotation; x = column; y = row }) else None) ≡ Some q
     → HasNumbers code place column row q
-parts_only code place column row piece rotation q piece_is rotation_is read =
-    let found = cond_some (nat_le column 9 && nat_le row 22) (record { piece = piece; rotation = rotation; x = column; y = row }) q read in
-    let both = and_parts (nat_le column 9) (nat_le row 22) found.0 in
-    subst (HasNumbers code place column row) found.1 (record {
-      are = λ i. sym (piece_only code piece piece_is) i ∷ sym (rotation_only place rotation rotation_is) i ∷ column ∷ row ∷ [];
-      within = record { column = leb-true column 9 both.0; row = leb-true row 22 both.1 };
-    })
+parts_only code place column row piece rotation q piece_is rotation_is read = search rules
 
 placement_only : (code place column row : ℕ) (q : Placement) → placement_in code place column row ≡ Some q → HasNumbers code place column row q
 unfolding placement_in
@@ -55,10 +39,7 @@ placement_only code place column row q read =
 
 pub numbers_length : (sequence : List Placement) → length (sequence_numbers sequence) ≡ 4 * length sequence
 numbers_length [] = refl
-numbers_length (q ∷ sequence) =
-    let rest = numbers_length sequence in
-    let first = length-append (numbers_of q) (sequence_numbers sequence) in
-    ap length (flat_map-cons numbers_of q sequence) ∙ omega (arith, rest, first)
+numbers_length (q ∷ sequence) = search (rules, length-append, flat_map-cons, numbers_length sequence)
 
 placements_read : (sequence : List Placement) → All HasPivotInWell sequence → placements_in (sequence_numbers sequence) ≡ Some sequence
 unfolding placements_in
@@ -74,10 +55,7 @@ record AreThoseOf (numbers : List ℕ) (sequence : List Placement) : Type 0 wher
 
 more_only : (code place column row : ℕ) (rest : List ℕ) (q : Placement) (more : List Placement) → HasNumbers code place column row q → AreThoseOf rest more
     → AreThoseOf (code ∷ place ∷ column ∷ row ∷ rest) (q ∷ more)
-more_only code place column row rest q more here there = record {
-  are = ap (λ l. l ++ rest) here.are ∙ ap (λ l. numbers_of q ++ l) there.are ∙ sym (flat_map-cons numbers_of q more);
-  within = All-cons HasPivotInWell q more here.within there.within;
-}
+more_only code place column row rest q more here there = search rules
 
 placements_only : (numbers : List ℕ) (sequence : List Placement) → placements_in numbers ≡ Some sequence → AreThoseOf numbers sequence
 unfolding placements_in
@@ -117,12 +95,6 @@ with_front read (Some more) = Some (read ++ more)
 pub record HasRead (numbers : List ℕ) (read : List Placement) (rest : List ℕ) : Type 0 where
   pub is : placements_in numbers ≡ with_front read (placements_in rest)
 
-pub read_none : (numbers : List ℕ) → HasRead numbers [] numbers
-read_none numbers = record { is = same (placements_in numbers) } where
-  same : (more : Option (List Placement)) → more ≡ with_front [] more
-  same None = refl
-  same (Some more) = refl
-
 pub read_all : (numbers : List ℕ) (read : List Placement) → HasRead numbers read [] → placements_in numbers ≡ Some (read ++ [])
 unfolding placements_in
 read_all numbers read so_far = so_far.is
@@ -130,12 +102,7 @@ read_all numbers read so_far = so_far.is
 pub read_more : (numbers : List ℕ) (read : List Placement) (code place column row : ℕ) (rest : List ℕ) (q : Placement) → placement_in code place column row ≡ Some q
     → HasRead numbers read (code ∷ place ∷ column ∷ row ∷ rest) → HasRead numbers (read ++ q ∷ []) rest
 unfolding placements_in
-read_more numbers read code place column row rest q here so_far =
-    record { is = so_far.is ∙ rw (here) (same (placements_in rest)) }
-  where
-    same : (more : Option (List Placement)) → with_front read (option_and_then (λ more. Some (q ∷ more)) more) ≡ with_front (read ++ q ∷ []) more
-    same None = refl
-    same (Some more) = ap Some (sym (append_assoc read (q ∷ []) more))
+read_more numbers read code place column row rest q here so_far = search (rules, append_assoc)
 
 pub not_read : (numbers : List ℕ) (read : List Placement) (code place column row : ℕ) (rest : List ℕ) → placement_in code place column row ≡ None
     → HasRead numbers read (code ∷ place ∷ column ∷ row ∷ rest) → placements_in numbers ≡ None

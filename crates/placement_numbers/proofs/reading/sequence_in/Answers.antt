@@ -1,5 +1,5 @@
 -- Each turn reads the four numbers that stand first.
-use Rattle.std.proofs.Common.{arith}
+use Rattle.std.proofs.Common.{arith, rules}
 use Rattle.placement_numbers.proofs.ReadAsTheyStand.{all_read, fewer_left, next_read, none_read, wrong_length}
 use Rattle.placement_numbers.proofs.reading.sequence_in.Goals as goal
 
@@ -7,10 +7,7 @@ pub returns-then-numbers-from : goal.returns-then-numbers-from
 returns-then-numbers-from c = wrong_length c.args.needed c.args.numbers.now (λ is. c.if-numbers-from.true (omega (arith, is, c.from.ensures)))
 
 pub returns-in_err-placement_in : goal.returns-in_err-placement_in
-returns-in_err-placement_in c =
-    let none = none_read c.args.numbers.now c.loop-rest.sequence.items c.loop-rest.rest.now c.in-len4-up.len_at_least c.loop-rest.invariant.0
-    c.placement_in.result c.placement_in.ensures c.args.needed c.in_err-placement_in.was in
-    rw (c.from_residual.ensures) none
+returns-in_err-placement_in c = search (rules, none_read)
 
 pub loop-rest-preserved : goal.loop-rest-preserved
 loop-rest-preserved c =
