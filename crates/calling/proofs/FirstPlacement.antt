@@ -1,5 +1,6 @@
 -- A solution has a first placement, and this is a place in the field.
-use Rattle.std.proofs.Common.{◌≡◌, ◌<◌, List, [], ◌∷◌, length, get_or, arith, refl, sym, subst, ap, ◌∙◌, ℕ}
+use Rattle.std.proofs.lemmas.Grind.{common_steps}
+use Rattle.std.proofs.Common.{◌≡◌, ◌<◌, List, [], ◌∷◌, length, get_or, arith, sym, subst, ℕ, rules}
 use Rattle.std.specs.Prelude.{None, Some}
 use Rattle.srs.specs.declared.placement.Placement.{Placement}
 use Rattle.srs.specs.Order.{sequence_cmp}
@@ -19,7 +20,6 @@ use Rattle.well.specs.declared.well.Well.{Well}
 use Rattle.moves.specs.declared.key.DropMode.TheVariants.{Soft}
 use Rattle.queue_pattern.specs.declared.pattern.Pattern.{Pattern}
 use Rattle.queue_pattern.specs.Pattern.{elements_of}
-use Rattle.queue_pattern.specs.Queues.{queues}
 use Rattle.hold_queue.specs.declared.hold.Hold.TheVariants.{Allowed}
 use Rattle.hold_queue.specs.QueueSet.{singles}
 use Rattle.hold_queue.proofs.CallerLemmas.{queues-singles}
@@ -52,12 +52,4 @@ bot_problem well height pattern rules = record {
 }
 
 pub is_bot_problem : (well : Well) (height : ℕ) (queue : List Piece) (pattern : Pattern) (rules : Rules) → elements_of pattern ≡ singles queue → table_of rules ≡ srs_table → IsBotProblem well height queue (bot_problem well height pattern rules)
-is_bot_problem well height queue pattern rules one srs = record {
-  field = refl;
-  rows = refl;
-  one_queue = ap queues one ∙ queues-singles queue;
-  hold = refl;
-  none_held = refl;
-  soft = refl;
-  srs = srs;
-}
+is_bot_problem well height queue pattern rules one srs = grind (arith, common_steps, queues-singles)

@@ -1,15 +1,15 @@
 -- Pages that a text reads as have no fault in version 115 but that of a comment.
-use Rattle.std.proofs.Common.{◌≡◌, ℕ, ◌+◌, Bool, true, false, cond, not, leb, ltb, eqb, List, [], ◌∷◌, length, take, Option, Some, None, pos, negsuc, refl, subst, inl, inr, ◌⊎◌, arith}
+use Rattle.std.proofs.Common.{◌≡◌, ℕ, ◌+◌, Bool, true, false, cond, not, leb, ltb, eqb, List, [], ◌∷◌, length, take, Option, Some, None, refl, subst, inl, inr, ◌⊎◌, arith, rules}
 use Rattle.std.specs.Prelude.{All, IsTrue}
 use Rattle.std.specs.List.{list_all}
 use Rattle.std.specs.Option.{ForSome, option_map_or, option_or}
-use Rattle.std.proofs.lemmas.Bool.{and_from, and_parts, le-leb, le-ltb, lt-ltb, ltb-true}
+use Rattle.std.proofs.lemmas.Bool.{and_from, and_parts, le-leb, le-ltb}
 use Rattle.std.proofs.lemmas.List.Elements.{All-head, All-tail}
 use Rattle.std.proofs.lemmas.List.Sums.{list_all-from_AllPass}
-use Rattle.srs.specs.Cells.{Cell, cells_of}
+use Rattle.srs.specs.Cells.{Cell}
 use Rattle.srs.specs.declared.placement.Placement.{Placement}
 use Rattle.fumen_digits.specs.declared.dialect.Dialect.{Dialect}
-use Rattle.fumen_digits.specs.declared.dialect.Dialect.TheVariants.{V110, V115}
+use Rattle.fumen_digits.specs.declared.dialect.Dialect.TheVariants.{V115}
 use Rattle.fumen_pages.specs.declared.page.Page.{Page}
 use Rattle.fumen_pages.specs.Action.{in_rows, is_inside_in}
 use Rattle.fumen_pages.specs.Cells.{IsColour, missing_count}
@@ -22,14 +22,7 @@ use Rattle.fumen_text.proofs.CallerLemmas.{spelled_sound}
 
 -- version 115 has the rows of either version
 rows_more : (d : Dialect) (cell : Cell) → in_rows d cell ≡ true → in_rows V115 cell ≡ true
-rows_more V115 cell is = is
-rows_more V110 (pos x, pos y) is =
-    let parts = and_parts (leb x 9) (ltb y 21) is in
-    let row = ltb-true y 21 parts.1 in
-    and_from (leb x 9) (ltb y 23) parts.0 (lt-ltb y 23 (omega (arith, row)))
-rows_more V110 (pos x, negsuc y) is = absurd cc
-rows_more V110 (negsuc x, pos y) is = absurd cc
-rows_more V110 (negsuc x, negsuc y) is = absurd cc
+rows_more d cell is = search rules
 
 all_more : (d : Dialect) (cells : List Cell) → list_all (in_rows d) cells ≡ true → list_all (in_rows V115) cells ≡ true
 all_more d [] all = refl
@@ -38,8 +31,7 @@ all_more d (cell ∷ cells) all =
     and_from (in_rows V115 cell) (list_all (in_rows V115) cells) (rows_more d cell parts.0) (all_more d cells parts.1)
 
 placed : (d : Dialect) (operation : Option Placement) → ForSome operation (λ p. IsTrue (is_inside_in d p)) → option_map_or (is_inside_in V115) operation true ≡ true
-placed d None inside = refl
-placed d (Some p) inside = all_more d (cells_of p) (inside p refl)
+placed d operation inside = search (rules, all_more)
 
 coloured : (cells : List ℕ) → All IsColour cells → list_all (λ cell. leb cell 8) cells ≡ true
 coloured cells all = list_all-from_AllPass (λ cell. leb cell 8) cells (λ k d within. le-leb _ 8 (all k d within))
@@ -51,11 +43,7 @@ none_missing cells = refl
 chosen : (number : ℕ) (cells rows operation long : Bool) (f : EncodeFault) → cells ≡ true → rows ≡ true → operation ≡ true
     → cond (not cells) (Some (fault.BadCell number)) (cond (not rows) (Some (fault.RowTooHigh number)) (cond (not operation) (Some (fault.PieceOutside number)) (cond long (Some (fault.CommentTooLong number)) None))) ≡ Some f
     → f ≡ fault.CommentTooLong number
-chosen number true true true true f one two three e = cc
-chosen number true true true false f one two three e = absurd cc
-chosen number true true false long f one two three e = absurd cc
-chosen number true false operation long f one two three e = absurd cc
-chosen number false rows operation long f one two three e = absurd cc
+chosen number cells rows operation long f one two three e = search rules
 
 page_long : (d : Dialect) (number : ℕ) (page : Page) (f : EncodeFault) → IsSound d page → page_encode_fault V115 number page ≡ Some f → f ≡ fault.CommentTooLong number
 unfolding page_encode_fault
@@ -64,8 +52,7 @@ page_long d number page f sound e =
     (coloured page.cells sound.cells.colours) (none_missing page.cells) (placed d page.operation sound.inside) e
 
 either : (here rest : Option EncodeFault) (f : EncodeFault) → option_or here rest ≡ Some f → (here ≡ Some f) ⊎ (rest ≡ Some f)
-either None rest f e = inr e
-either (Some g) rest f e = inl e
+either here rest f e = search rules
 
 pages_long : (d : Dialect) (number : ℕ) (pages : List Page) (f : EncodeFault) → All (IsSound d) pages → pages_encode_fault V115 number pages ≡ Some f → (page : ℕ) × (f ≡ fault.CommentTooLong page)
 unfolding pages_encode_fault

@@ -1,5 +1,5 @@
 -- Of the places that are held one is taken out after the other, the first of their rising list each time.
-use Rattle.std.proofs.Common.{◌≡◌, ◌≢◌, ◌↔◌, ℕ, Bool, ◌+◌, ◌<◌, ◌≤◌, List, [], ◌∷◌, length, filter, refl, sym, ap, subst, ◌∙◌, inl, inr, arith}
+use Rattle.std.proofs.Common.{◌≡◌, ◌≢◌, ◌↔◌, ℕ, Bool, ◌+◌, ◌<◌, ◌≤◌, List, [], ◌∷◌, length, filter, refl, sym, ap, subst, ◌∙◌, inl, inr, arith, rules}
 use Rattle.std.specs.Prelude.{Contains, IsTrue, Option, Some, None}
 use Rattle.std.specs.Cmp.{IsTotalOrder, tied_itself}
 use Rattle.std.specs.FinMap.{IsAntisymmetric}
@@ -14,7 +14,7 @@ use Rattle.srs.specs.declared.piece.Piece.{Piece}
 use Rattle.srs.specs.declared.placement.Placement.{Placement}
 use Rattle.srs.specs.Kick.{Table}
 use Rattle.srs.specs.Order.{placement_cmp}
-use Rattle.srs.specs.Placements.{IsCanonicalInside, is_canonical_inside, placements_by_pivot, placements_of}
+use Rattle.srs.specs.Placements.{IsCanonicalInside, placements_by_pivot, placements_of}
 use Rattle.well.proofs.CallerLemmas.{free_inside}
 use Rattle.moves.specs.declared.key.DropMode.{DropMode}
 use Rattle.moves.specs.Place.{IsPlace}
@@ -73,12 +73,7 @@ held_list-is places inside =
 
 -- what is kept of a list, and again of that, is no more than the list
 kept_twice : {A : Type 0} (again test : A → Bool) (xs : List A) → length (filter again (filter test xs)) ≤ length xs
-kept_twice again test xs =
-    let one = length-filter again (filter test xs) in
-    let two = count_by-le-length again (filter test xs) in
-    let three = length-filter test xs in
-    let four = count_by-le-length test xs in
-    omega (arith, one, two, three, four)
+kept_twice again test xs = search (rules, length-filter, count_by-le-length)
 
 -- so a piece has no more placements than pivots
 pivots : (piece : Piece) → length (placements_by_pivot piece) ≡ 920
@@ -86,9 +81,7 @@ pivots piece = refl
 
 held_few : (places : Places) → length (held_list places) ≤ 920
 unfolding placements_of
-held_few places =
-    subst (λ n. length (filter (holds places) (filter is_canonical_inside (placements_by_pivot (piece_of places)))) ≤ n) (pivots (piece_of places))
-    (kept_twice (holds places) is_canonical_inside (placements_by_pivot (piece_of places)))
+held_few places = search (rules, pivots, kept_twice)
 
 -- so many of some places were taken out
 pub record IsCounted (start now : Places) (count : ℕ) : Type 0 where
