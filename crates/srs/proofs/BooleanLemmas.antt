@@ -1,24 +1,20 @@
 -- What two tests say of one of them; what `list_all` says of one element, and after a write.
-use Rattle.std.proofs.Common.{◌≡◌, ℕ, ◌<◌, Bool, true, false, not, ◌&&◌, ◌||◌, List, [], ◌∷◌, length, get_or, set, zero, suc, refl, arith}
+use Rattle.std.proofs.Common.{◌≡◌, ℕ, ◌<◌, Bool, true, false, not, ◌&&◌, ◌||◌, List, [], ◌∷◌, length, get_or, set, zero, suc, refl, arith, rules}
 use Rattle.std.specs.List.{list_all}
 use Rattle.std.proofs.lemmas.Bool.{and_from}
 
 pub and_first : (a b : Bool) → (a && b) ≡ true → a ≡ true
-and_first true b h = refl
-and_first false b h = h
+and_first a b h = search rules
 
 pub and_second : (a b : Bool) → (a && b) ≡ true → b ≡ true
-and_second true b h = h
-and_second false b h = cc
+and_second a b h = search rules
 
 -- one of two holds, and the first does not
 pub implied : (a b : Bool) → a ≡ true → (not a || b) ≡ true → b ≡ true
-implied true b holds h = h
-implied false b holds h = cc
+implied a b holds h = search rules
 
 pub or_second : (a b : Bool) → a ≡ false → (a || b) ≡ true → b ≡ true
-or_second true b fails h = cc
-or_second false b fails h = h
+or_second a b fails h = search rules
 
 -- what holds of all holds of each
 pub list_all_each : {X : Type 0} (test : X → Bool) (xs : List X) (i : ℕ) (d : X) → list_all test xs ≡ true → i < length xs → test (get_or xs i d) ≡ true

@@ -1,5 +1,5 @@
 -- Cells and sets of cells: tests that decide, and moves of whole sets.
-use Rattle.std.proofs.Common.{◌≡◌, Bool, true, false, not, ◌&&◌, ◌||◌, Decides, ℤ, pos, ◌+ℤ◌, ◌-ℤ◌, List, [], ◌∷◌, map, refl, sym, ap, subst, ◌∙◌, inl, inr, arith}
+use Rattle.std.proofs.Common.{◌≡◌, Bool, true, not, ◌&&◌, ◌||◌, Decides, ℤ, pos, ◌+ℤ◌, ◌-ℤ◌, List, [], ◌∷◌, map, refl, sym, ap, subst, ◌∙◌, arith, rules}
 use Rattle.std.specs.List.{list_all}
 use Rattle.std.specs.Ordering.{int_eq}
 use Rattle.std.specs.Bool.{one_answer}
@@ -13,13 +13,7 @@ use Rattle.srs.proofs.BooleanLemmas.{and_first, and_second}
 
 -- the test of cells decides whether they are equal
 pub cell_eq-decides : (c d : Cell) → Decides (cell_eq c d) (c ≡ d)
-cell_eq-decides c d =
-    let x = signed_Decides c.0 d.0 in
-    let y = signed_Decides c.1 d.1 in
-    (λ e. cells_same (x.0 (and_first _ _ e)) (y.0 (and_second _ _ e)), λ e. and_from _ _ (x.1 (ap (λ c. c.0) e)) (y.1 (ap (λ c. c.1) e)))
-  where
-    cells_same : c.0 ≡ d.0 → c.1 ≡ d.1 → c ≡ d
-    cells_same e f = λ i. (e i, f i)
+cell_eq-decides c d = search (rules, signed_Decides, and_first, and_second, and_from)
 
 pub cells_eq-decides : (xs ys : List Cell) → Decides (cells_eq xs ys) (xs ≡ ys)
 cells_eq-decides = pointwise_decides cell_eq-decides
@@ -48,11 +42,7 @@ map-moved-moved c d (x ∷ xs) = λ i. moved-moved c d x i ∷ map-moved-moved c
 
 -- a moved cell is d where the cell is as far from d
 int_eq-moved : (c x d : ℤ) → int_eq (c +ℤ x) d ≡ int_eq x (d -ℤ c)
-int_eq-moved c x d =
-    let there : Decides (int_eq x (d -ℤ c)) (x ≡ d -ℤ c) = signed_Decides x (d -ℤ c) in
-    let back : x ≡ d -ℤ c → c +ℤ x ≡ d = λ e. omega (arith, ints) in
-    let forth : c +ℤ x ≡ d → x ≡ d -ℤ c = λ e. omega (arith, ints) in
-    one_answer _ _ (signed_Decides (c +ℤ x) d) (λ e. back (there.0 e), λ e. there.1 (forth e))
+int_eq-moved c x d = search (rules, signed_Decides, one_answer)
 
 pub is_among-moved : (c : Cell) (cells : List Cell) (d : Cell) → is_among (map (moved c) cells) d ≡ is_among cells (less d c)
 unfolding is_among moved less
@@ -63,10 +53,8 @@ is_among-moved c (x ∷ xs) d = λ i. (int_eq-moved c.0 x.0 d.0 i && int_eq-move
 pub is_among-all : (test : Cell → Bool) (cells : List Cell) (cell : Cell) → list_all test cells ≡ true → is_among cells cell ≡ true → test cell ≡ true
 unfolding is_among
 is_among-all test [] cell all has = cc
-is_among-all test (x ∷ xs) cell all has = elim (cases_Bool (cell_eq x cell)) [
-  | inl same ↦ subst (λ c. test c ≡ true) ((cell_eq-decides x cell).0 same) (and_first (test x) (list_all test xs) all)
-  | inr other ↦ is_among-all test xs cell (and_second (test x) (list_all test xs) all) (subst (λ b. (b || is_among xs cell) ≡ true) other has)
-]
+is_among-all test (x ∷ xs) cell all has =
+    search (rules, cases_Bool, cell_eq-decides, and_first, and_second, (is_among-all test xs cell (and_second (test x) (list_all test xs) all)))
 
 -- a list has its own cells
 pub has_cell-head : (x : Cell) (xs : List Cell) → is_among (x ∷ xs) x ≡ true
@@ -85,20 +73,11 @@ list_all-from_is_among test (x ∷ xs) each =
 
 -- the cells of one list are cells of another, and the other way round
 pub same_cells-from : (xs ys : List Cell) → list_all (is_among ys) xs ≡ true → list_all (is_among xs) ys ≡ true → SameCells xs ys
-same_cells-from xs ys there back = record {
-  same = λ c. both_ways (is_among xs c) (is_among ys c) (is_among-all (is_among ys) xs c there) (is_among-all (is_among xs) ys c back);
-}
+same_cells-from xs ys there back = search (rules, both_ways, is_among-all)
 
 -- the test of sets decides whether they are the same
 pub is_same_cells-decides : (xs ys : List Cell) → Decides (is_same_cells xs ys) (SameCells xs ys)
-is_same_cells-decides xs ys =
-    let there = list_all (is_among ys) xs in
-    let back = list_all (is_among xs) ys in (
-      λ e. same_cells-from xs ys (and_first there back e) (and_second there back e),
-      λ h. and_from there back
-          (list_all-from_is_among (is_among ys) xs (λ c has. sym (h.same c) ∙ has))
-          (list_all-from_is_among (is_among xs) ys (λ c has. h.same c ∙ has)),
-    )
+is_same_cells-decides xs ys = search (rules, same_cells-from, and_first, and_second, and_from, list_all-from_is_among)
 
 pub same_cells-sym : {xs ys : List Cell} → SameCells xs ys → SameCells ys xs
 same_cells-sym h = record { same = λ c. sym (h.same c) }
@@ -147,8 +126,7 @@ unfoldable pub is_apart : List Cell → List Cell → Bool
 is_apart xs ys = list_all (λ move. not (fits xs ys move)) ys
 
 not_both : (b : Bool) → b ≡ true → not b ≡ true → ⊥
-not_both true e f = cc
-not_both false e f = cc
+not_both b e f = search rules
 
 -- where nothing moves
 unfoldable pub origin : Cell
@@ -156,10 +134,7 @@ origin = (pos 0, pos 0)
 
 pub moved-origin : (c : Cell) → moved c origin ≡ c
 unfolding moved origin
-moved-origin c =
-    let x : c.0 +ℤ pos 0 ≡ c.0 = omega (arith, ints) in
-    let y : c.1 +ℤ pos 0 ≡ c.1 = omega (arith, ints) in
-    λ i. (x i, y i)
+moved-origin c = search rules
 
 -- where two moved sets are the same and the first has the origin, what lies between the moves is a cell of the second
 pub between_in : (xs ys : List Cell) (c d : Cell) → is_among xs origin ≡ true → SameCells (map (moved c) xs) (map (moved d) ys) → is_among ys (less c d) ≡ true
@@ -170,9 +145,7 @@ between_in xs ys c d has same =
 
 pub apart_differ : (xs ys : List Cell) (c d : Cell) → is_among xs origin ≡ true → is_apart xs ys ≡ true → SameCells (map (moved c) xs) (map (moved d) ys) → ⊥
 unfolding is_apart
-apart_differ xs ys c d has apart same =
-    not_both (fits xs ys (less c d)) (fits-between xs ys c d same)
-    (is_among-all (λ move. not (fits xs ys move)) ys (less c d) apart (between_in xs ys c d has same))
+apart_differ xs ys c d has apart same = search (rules, not_both, fits-between, is_among-all, between_in)
 
 -- only the move that moves nothing takes the list into itself
 unfoldable pub is_still : List Cell → Bool

@@ -1,23 +1,17 @@
 -- Codes, places and letters tell pieces and rotations apart, and the parts of placements these.
-use Rattle.std.proofs.Common.{◌≡◌, ℕ, ◌==◌, refl, sym, ap, ◌∙◌}
+use Rattle.std.proofs.Common.{◌≡◌, ℕ, ◌==◌, sym, ap, ◌∙◌, rules}
 use Rattle.std.specs.Prelude.{Option, Some, unwrap_or, find}
 use Rattle.srs.specs.declared.piece.Piece.{Piece}
-use Rattle.srs.specs.declared.piece.Piece.TheVariants.{I, L, O, Z, T, J, S}
+use Rattle.srs.specs.declared.piece.Piece.TheVariants.{I}
 use Rattle.srs.specs.declared.rotation.Rotation.{Rotation}
-use Rattle.srs.specs.declared.rotation.Rotation.TheVariants.{Spawn, Right, Reverse, Left}
+use Rattle.srs.specs.declared.rotation.Rotation.TheVariants.{Spawn}
 use Rattle.srs.specs.Piece.{piece_code, piece_with_code}
 use Rattle.srs.specs.declared.placement.Placement.{Placement}
 use Rattle.srs.specs.Rotation.{all_rotations, rotation_letter, rotation_place, rotation_with_letter}
 
 -- the piece with a piece's code is that piece
 pub piece_with_code-code : (p : Piece) → piece_with_code (piece_code p) ≡ Some p
-piece_with_code-code I = refl
-piece_with_code-code L = refl
-piece_with_code-code O = refl
-piece_with_code-code Z = refl
-piece_with_code-code T = refl
-piece_with_code-code J = refl
-piece_with_code-code S = refl
+piece_with_code-code p = search rules
 
 pub piece_code-injective : (p q : Piece) → piece_code p ≡ piece_code q → p ≡ q
 piece_code-injective p q e = ap (λ o. unwrap_or o I) (sym (piece_with_code-code p) ∙ ap piece_with_code e ∙ piece_with_code-code q)
@@ -27,20 +21,14 @@ abbrev rotation_at : ℕ → Option Rotation
 rotation_at place = find (λ rotation. rotation_place rotation == place) all_rotations
 
 pub rotation_at-place : (r : Rotation) → rotation_at (rotation_place r) ≡ Some r
-rotation_at-place Spawn = refl
-rotation_at-place Right = refl
-rotation_at-place Reverse = refl
-rotation_at-place Left = refl
+rotation_at-place r = search rules
 
 pub rotation_place-injective : (r s : Rotation) → rotation_place r ≡ rotation_place s → r ≡ s
 rotation_place-injective r s e = ap (λ o. unwrap_or o Spawn) (sym (rotation_at-place r) ∙ ap rotation_at e ∙ rotation_at-place s)
 
 -- the rotation with a rotation's letter is that rotation
 pub rotation_with_letter-letter : (r : Rotation) → rotation_with_letter (rotation_letter r) ≡ Some r
-rotation_with_letter-letter Spawn = refl
-rotation_with_letter-letter Right = refl
-rotation_with_letter-letter Reverse = refl
-rotation_with_letter-letter Left = refl
+rotation_with_letter-letter r = search rules
 
 pub same_placement : (s t : Placement) → s.piece ≡ t.piece → s.rotation ≡ t.rotation → s.x ≡ t.x → s.y ≡ t.y → s ≡ t
 same_placement s t p r x y = λ i. record { piece = p i; rotation = r i; x = x i; y = y i }

@@ -1,5 +1,5 @@
 -- What a list contains, and what a filter and a search take from it.
-use Rattle.std.proofs.Common.{◌≡◌, ◌⊎◌, ℕ, zero, suc, ◌+◌, ◌<◌, ◌≤◌, Bool, true, false, cond, List, [], ◌∷◌, length, get_or, map, refl, sym, ap, subst, ◌∙◌, inl, inr, arith}
+use Rattle.std.proofs.Common.{◌≡◌, ◌⊎◌, ℕ, zero, suc, ◌+◌, ◌<◌, ◌≤◌, Bool, true, false, cond, List, [], ◌∷◌, map, refl, sym, ap, subst, ◌∙◌, inl, inr, arith, rules}
 use Rattle.std.specs.Prelude.{Some, filter, find, Contains}
 use Rattle.std.specs.List.{AllByRecursion, flat_map, range_with_len, list_any}
 use Rattle.std.proofs.lemmas.Bool.{cases_Bool, cases_lt}
@@ -32,11 +32,7 @@ module _ {A : Type 0} where
   Contains-there x xs y among = (suc among.0, omega (arith, among.1), among.2)
 
   pub Contains-cases : (x : A) (xs : List A) (y : A) → Contains (x ∷ xs) y → (x ≡ y) ⊎ Contains xs y
-  Contains-cases x xs y among = at_place among.0 among.1 among.2
-    where
-      at_place : (k : ℕ) → k < length (x ∷ xs) → get_or (x ∷ xs) k y ≡ y → (x ≡ y) ⊎ Contains xs y
-      at_place zero within is = inl is
-      at_place (suc k) within is = inr (k, omega arith, is)
+  Contains-cases x xs y among = search rules
 
   pub Contains-none : (y : A) → Contains [] y → ⊥
   Contains-none y among = omega (arith, among.1)
@@ -44,10 +40,7 @@ module _ {A : Type 0} where
   -- what holds of each, by recursion, holds of what the list contains
   pub each-contained : (P : A → Type 0) (xs : List A) (y : A) → AllByRecursion P xs → Contains xs y → P y
   each-contained P [] y all among = absurd (Contains-none y among)
-  each-contained P (x ∷ xs) y all among = elim (Contains-cases x xs y among) [
-    | inl here ↦ subst P here all.0
-    | inr there ↦ each-contained P xs y all.1 there
-  ]
+  each-contained P (x ∷ xs) y all among = search (rules, (each-contained P xs y all.1))
 
   pub each-from_contained : (P : A → Type 0) (xs : List A) → ((y : A) → Contains xs y → P y) → AllByRecursion P xs
   each-from_contained P [] each = tt
@@ -91,9 +84,7 @@ module _ {A : Type 0} where
   pub find-Contains : (test : A → Bool) (xs : List A) (y : A) → find test xs ≡ Some y → Contains xs y × (test y ≡ true)
   find-Contains test [] y e = cc
   find-Contains test (x ∷ xs) y e = elim (cases_Bool (test x)) [
-    | inl passes ↦
-        let here : x ≡ y = some_same (sym (find-true test x xs passes) ∙ e) in
-        (subst (λ z. Contains (x ∷ xs) z) here (Contains-here x xs), subst (λ z. test z ≡ true) here passes)
+    | inl passes ↦ search (rules, some_same)
     | inr fails ↦ let found = find-Contains test xs y (sym (find-false test x xs fails) ∙ e) in (Contains-there x xs y found.0, found.1)
   ]
 
@@ -101,10 +92,8 @@ module _ {A : Type 0} where
 module _ {K A : Type 0} (f : K → List A) where
   pub Contains-flat_map : (ks : List K) (k : K) (y : A) → Contains ks k → Contains (f k) y → Contains (flat_map f ks) y
   Contains-flat_map [] k y at_key among = absurd (Contains-none k at_key)
-  Contains-flat_map (j ∷ ks) k y at_key among = elim (Contains-cases j ks k at_key) [
-    | inl here ↦ Contains-append_left (f j) (flat_map f ks) y (subst (λ i. Contains (f i) y) (sym here) among)
-    | inr there ↦ Contains-append_right (f j) (flat_map f ks) y (Contains-flat_map ks k y there among)
-  ]
+  Contains-flat_map (j ∷ ks) k y at_key among =
+      search (rules, Contains-append_left, Contains-append_right, (Contains-flat_map ks k y))
 
   pub Contains-from_flat_map : (ks : List K) (y : A) → Contains (flat_map f ks) y → (k : K) × Contains ks k × Contains (f k) y
   Contains-from_flat_map [] y among = absurd (Contains-none y among)
@@ -137,7 +126,4 @@ Contains-range a (suc n) k low high = elim (cases_lt a k) [
 
 pub range-from : (a n k : ℕ) → Contains (range_with_len a n) k → (a ≤ k) × (k < a + n)
 range-from a zero k among = absurd (Contains-none k among)
-range-from a (suc n) k among = elim (Contains-cases a (range_with_len (a + 1) n) k among) [
-  | inl here ↦ (omega arith, omega arith)
-  | inr there ↦ let within = range-from (a + 1) n k there in (omega (arith, within.0), omega (arith, within.1))
-]
+range-from a (suc n) k among = search (rules, (range-from (a + 1) n k))

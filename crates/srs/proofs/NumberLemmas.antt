@@ -1,5 +1,5 @@
 -- Sums and differences of small signed numbers do not leave a byte.
-use Rattle.std.proofs.Common.{◌≡◌, ℤ, pos, ◌+ℤ◌, ◌-ℤ◌, ◌≤ℤ◌, true, ◌&&◌, T, to_z, of_z, w8, arith, subst, sym}
+use Rattle.std.proofs.Common.{◌≡◌, ℤ, pos, ◌+ℤ◌, ◌-ℤ◌, ◌≤ℤ◌, true, ◌&&◌, T, to_z, of_z, w8, arith, subst, sym, rules}
 use Rattle.std.specs.Prelude.{int_le}
 use Rattle.std.specs.Int.Signed.{le_z_yes}
 use Rattle.std.proofs.lemmas.Int.{ints}
@@ -19,18 +19,7 @@ pub int_le-true : (a b : ℤ) → int_le a b ≡ true → a ≤ℤ b
 int_le-true a b e = le_z_yes (subst T (sym e) tt)
 
 within : (low high a b : ℤ) → (int_le low a && int_le a high && int_le low b && int_le b high) ≡ true → IsWithin low high a b
-within low high a b h =
-    let p = int_le low a in
-    let q = int_le a high in
-    let r = int_le low b in
-    let s = int_le b high in
-    let front = and_first ((p && q) && r) s h in
-    record {
-      left = int_le-true low a (and_first p q (and_first (p && q) r front));
-      right = int_le-true a high (and_second p q (and_first (p && q) r front));
-      down = int_le-true low b (and_second (p && q) r front);
-      up = int_le-true b high (and_second ((p && q) && r) s h);
-    }
+within low high a b h = search (rules, and_first, int_le-true, and_second)
 
 pub near_within : (move : Cell) → is_near move ≡ true → IsWithin (minus 2) (pos 2) move.0 move.1
 near_within move = within (minus 2) (pos 2) move.0 move.1

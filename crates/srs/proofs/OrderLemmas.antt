@@ -1,11 +1,11 @@
 -- The orders of placements and of sequences: both are total, and equal only of equal things.
-use Rattle.std.proofs.Common.{◌≡◌, ◌↔◌, ◌<◌, List, [], ◌∷◌, ◌++◌, refl, sym, ap, ◌∙◌, ℕ, ◌⊎◌, inl, inr}
+use Rattle.std.proofs.Common.{◌≡◌, ◌↔◌, ◌<◌, List, [], ◌∷◌, ◌++◌, refl, sym, ap, ◌∙◌, ℕ, ◌⊎◌, rules}
 use Rattle.std.specs.Ordering.{ordering_then, nat_cmp}
 use Rattle.std.specs.Cmp.{IsTotalOrder, nat_cmp_total, on_total, then_total, tied_itself, nat_cmp_is}
 use Rattle.std.specs.Cmp.Lexicographic.{lists_total}
 use Rattle.std.specs.FinMap.{IsAntisymmetric, nat_cmp-IsAntisymmetric, slice_cmp-IsAntisymmetric}
 use Rattle.std.specs.declared.cmp.Ordering.{Ordering}
-use Rattle.std.specs.declared.cmp.Ordering.TheVariants.{Less, Equal, Greater}
+use Rattle.std.specs.declared.cmp.Ordering.TheVariants.{Less, Equal}
 use Rattle.srs.proofs.RisingLemmas.{below_is_less}
 use Rattle.srs.specs.declared.placement.Placement.{Placement}
 use Rattle.srs.specs.Piece.{piece_code}
@@ -15,38 +15,23 @@ use Rattle.srs.proofs.CodeLemmas.{piece_code-injective, rotation_place-injective
 use Rattle.std.proofs.lemmas.Bool.{cases_order}
 
 pub then_assoc : (a b c : Ordering) → ordering_then (ordering_then a b) c ≡ ordering_then a (ordering_then b c)
-then_assoc Less b c = refl
-then_assoc Equal b c = refl
-then_assoc Greater b c = refl
+then_assoc a b c = search rules
 
 then_first : (a b : Ordering) → ordering_then a b ≡ Equal → a ≡ Equal
-then_first Less b e = cc
-then_first Equal b e = refl
-then_first Greater b e = cc
+then_first a b e = search rules
 
 pub then_second : (a b : Ordering) → ordering_then a b ≡ Equal → b ≡ Equal
-then_second Less b e = cc
-then_second Equal b e = e
-then_second Greater b e = cc
+then_second a b e = search rules
 
 pub first_less : (a b : Ordering) → a ≡ Less → ordering_then a b ≡ Less
 first_less a b e = ap (λ r. ordering_then r b) e
 
 -- a comparison of numbers decides, or else the next
 pub then_less : (m n : ℕ) (rest : Ordering) → ordering_then (nat_cmp m n) rest ≡ Less → (m < n) ⊎ ((m ≡ n) × (rest ≡ Less))
-then_less m n rest less = elim (cases_order m n) [
-  | inl same ↦ inr (same, ap (λ o. ordering_then o rest) (nat_cmp_is m n Equal same) ∙ less)
-  | inr apart ↦ elim apart [
-    | inl below ↦ inl below
-    | inr above ↦ let both : Greater ≡ Less = ap (λ o. ordering_then o rest) (nat_cmp_is m n Greater above) ∙ less in cc
-  ]
-]
+then_less m n rest less = search (rules, cases_order, nat_cmp_is)
 
 pub less_is_below : (m n : ℕ) → nat_cmp m n ≡ Less → m < n
-less_is_below m n less = elim (then_less m n Equal (ap (λ o. ordering_then o Equal) less)) [
-  | inl below ↦ below
-  | inr same ↦ let both : Equal ≡ Less = same.1 in cc
-]
+less_is_below m n less = search (rules, then_less)
 
 pub placement_cmp-total : IsTotalOrder placement_cmp
 placement_cmp-total =
@@ -56,17 +41,7 @@ placement_cmp-total =
 
 pub placement_cmp-antisymmetric : IsAntisymmetric placement_cmp
 placement_cmp-antisymmetric s t e =
-    let piece = nat_cmp (piece_code s.piece) (piece_code t.piece) in
-    let rotation = nat_cmp (rotation_place s.rotation) (rotation_place t.rotation) in
-    let row = nat_cmp s.y t.y in
-    let column = nat_cmp s.x t.x in
-    let after_piece = then_second piece (ordering_then rotation (ordering_then row column)) e in
-    let after_rotation = then_second rotation (ordering_then row column) after_piece in
-    same_placement s t
-    (piece_code-injective s.piece t.piece (nat_cmp-IsAntisymmetric _ _ (then_first piece _ e)))
-    (rotation_place-injective s.rotation t.rotation (nat_cmp-IsAntisymmetric _ _ (then_first rotation _ after_piece)))
-    (nat_cmp-IsAntisymmetric s.x t.x (then_second row column after_rotation))
-    (nat_cmp-IsAntisymmetric s.y t.y (then_first row column after_rotation))
+    search (rules, then_second, same_placement, piece_code-injective, nat_cmp-IsAntisymmetric, then_first, rotation_place-injective)
 
 pub placement_cmp-equal : (s t : Placement) → (placement_cmp s t ≡ Equal) ↔ (s ≡ t)
 placement_cmp-equal s t = (placement_cmp-antisymmetric s t, λ e. ap (placement_cmp s) (sym e) ∙ tied_itself placement_cmp-total s)

@@ -1,5 +1,5 @@
 -- The list of the canonical placements of a piece inside the well: it rises, and has each of them.
-use Rattle.std.proofs.Common.{◌≡◌, ℕ, ◌≤◌, List, map, filter, refl, sym, ap, subst, arith}
+use Rattle.std.proofs.Common.{◌≡◌, ℕ, ◌≤◌, List, map, filter, refl, sym, ap, subst, arith, rules}
 use Rattle.std.specs.Prelude.{Contains}
 use Rattle.std.specs.List.{flat_map, range_with_len}
 use Rattle.std.specs.List.Sorted.{IsStrictlySortedBy}
@@ -98,10 +98,7 @@ placements_by_pivot-piece p s among =
 
 pub placements_of-list : (p : Piece) → IsRisingListOf placement_cmp (IsCanonicalInside p) (placements_of p)
 unfolding placements_of
-placements_of-list p = record {
-  rising = IsStrictlySortedBy-filter placement_cmp is_canonical_inside (placements_by_pivot p) (placements_by_pivot-rising p);
-  members = λ s. (is_one s, is_there s);
-}
+placements_of-list p = search (rules, IsStrictlySortedBy-filter, placements_by_pivot-rising, is_one, is_there)
   where
     is_one : (s : Placement) → Contains (filter is_canonical_inside (placements_by_pivot p)) s → IsCanonicalInside p s
     is_one s among =

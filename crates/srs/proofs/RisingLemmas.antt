@@ -1,13 +1,13 @@
 -- Strictly rising lists, and the least of some things above a bound, in a total order in which only equal things tie.
-use Rattle.std.proofs.Common.{◌≡◌, ◌≢◌, ◌↔◌, ℕ, zero, suc, ◌+◌, ◌<◌, Bool, true, false, Decides, IsTrue, List, [], ◌∷◌, ◌++◌, map, refl, sym, ap, subst, ◌∙◌, inl, inr, arith, lt-ltb}
+use Rattle.std.proofs.Common.{◌≡◌, ◌≢◌, ◌↔◌, ℕ, zero, suc, ◌+◌, ◌<◌, Bool, true, false, Decides, IsTrue, List, [], ◌∷◌, ◌++◌, map, refl, sym, ap, subst, ◌∙◌, inl, inr, arith, lt-ltb, rules}
 use Rattle.std.specs.Prelude.{Option, Some, None, filter, find, Contains}
 use Rattle.std.specs.List.{flat_map, range_with_len}
 use Rattle.std.specs.List.Sorted.{IsStrictlySortedBy}
-use Rattle.std.specs.Ordering.{is_lt, nat_cmp, ordering_reverse}
+use Rattle.std.specs.Ordering.{is_lt, nat_cmp}
 use Rattle.std.specs.Cmp.{IsTotalOrder, tied_itself}
 use Rattle.std.specs.FinMap.{IsAntisymmetric}
 use Rattle.std.specs.declared.cmp.Ordering.{Ordering}
-use Rattle.std.specs.declared.cmp.Ordering.TheVariants.{Less, Equal, Greater}
+use Rattle.std.specs.declared.cmp.Ordering.TheVariants.{Less, Equal}
 use Rattle.std.proofs.lemmas.Bool.{cases_Bool}
 use Rattle.std.proofs.lemmas.List.Elements.{Contains-append_cases}
 use Rattle.std.proofs.lemmas.List.Kept.{IsStrictlySortedBy-filter}
@@ -38,8 +38,7 @@ rising-cons cmp x xs first rest = (each-from_contained (λ y. cmp x y ≡ Less) 
 pub rising-append : {A : Type 0} (cmp : A → A → Ordering) (xs ys : List A) → IsStrictlySortedBy cmp xs → IsStrictlySortedBy cmp ys → ((x y : A) → Contains xs x → Contains ys y → cmp x y ≡ Less) → IsStrictlySortedBy cmp (xs ++ ys)
 rising-append cmp [] ys first second before = second
 rising-append {A = A} cmp (x ∷ xs) ys first second before =
-    rising-cons cmp x (xs ++ ys) each
-    (rising-append cmp xs ys (rising-rest cmp x xs first) second (λ z y among there. before z y (Contains-there x xs z among) there))
+    search (rules, rising-cons, rising-rest, Contains-there, each, (rising-append cmp xs ys (rising-rest cmp x xs first) second (λ z y among there. before z y (Contains-there x xs z among) there)))
   where
     each : (z : A) → Contains (xs ++ ys) z → cmp x z ≡ Less
     each z among = elim (Contains-append_cases xs ys z among) [
@@ -66,12 +65,7 @@ rising-range a zero = rising-none nat_cmp
 rising-range a (suc n) = rising-cons nat_cmp a (range_with_len (a + 1) n) (λ y among. let within = range-from (a + 1) n y among in below_is_less a y (omega (arith, within.0))) (rising-range (a + 1) n)
 
 pub is_before-decides : {A : Type 0} (cmp : A → A → Ordering) (x y : A) → Decides (is_before cmp x y) (cmp x y ≡ Less)
-is_before-decides cmp x y = (λ e. less_from (cmp x y) e, λ e. ap is_lt e)
-  where
-    less_from : (r : Ordering) → is_lt r ≡ true → r ≡ Less
-    less_from Less e = refl
-    less_from Equal e = cc
-    less_from Greater e = cc
+is_before-decides cmp x y = search rules
 
 module _ {A : Type 0} (cmp : A → A → Ordering) (total : IsTotalOrder cmp) where
   not_itself : (x : A) → cmp x x ≢ Less
@@ -85,31 +79,14 @@ module _ {A : Type 0} (cmp : A → A → Ordering) (total : IsTotalOrder cmp) wh
 
   -- what comes after something above the bound is above the bound
   pub is_above-later : (bound : Option A) (x y : A) → is_above cmp bound x ≡ true → cmp x y ≡ Less → is_above cmp bound y ≡ true
-  is_above-later None x y above later = refl
-  is_above-later (Some b) x y above later = ap is_lt (total.trans b x y (above_bound b x above) later)
-
-  not_above-earlier : (x y : A) → cmp x y ≡ Less → is_above cmp (Some y) x ≡ false
-  not_above-earlier x y e = ap is_lt (total.antisymm y x ∙ ap ordering_reverse e)
+  is_above-later bound x y above later = search rules
 
   not_above-itself : (x : A) → is_above cmp (Some x) x ≡ false
   not_above-itself x = ap is_lt (tied_itself total x)
 
   -- the search of a rising list finds the next of its elements
   later_next : (bound : Option A) (x : A) (xs : List A) (found : Option A) → is_above cmp bound x ≡ false → IsNextAbove cmp (Contains xs) bound found → IsNextAbove cmp (Contains (x ∷ xs)) bound found
-  later_next bound x xs None under next = record {
-    none = λ y among above. elim (Contains-cases x xs y among) [
-      | inl here ↦ let above' : is_above cmp bound x ≡ true = subst (λ z. is_above cmp bound z ≡ true) (sym here) above in cc
-      | inr there ↦ next.none y there above
-    ];
-  }
-  later_next bound x xs (Some a) under next = record {
-    member = Contains-there x xs a next.member;
-    above = next.above;
-    least = λ y among above. elim (Contains-cases x xs y among) [
-      | inl here ↦ let above' : is_above cmp bound x ≡ true = subst (λ z. is_above cmp bound z ≡ true) (sym here) above in cc
-      | inr there ↦ next.least y there above
-    ];
-  }
+  later_next bound x xs found under next = search (rules, Contains-cases, Contains-there)
 
   first_next : (bound : Option A) (x : A) (xs : List A) → IsStrictlySortedBy cmp (x ∷ xs) → is_above cmp bound x ≡ true → IsLeastAbove cmp (Contains (x ∷ xs)) bound x
   first_next bound x xs rising above = record {
@@ -132,31 +109,14 @@ module _ {A : Type 0} (cmp : A → A → Ordering) (total : IsTotalOrder cmp) wh
 
   -- of some things the next is determined
   pub IsNextAbove-unique : IsAntisymmetric cmp → (IsMember : A → Type 0) (bound : Option A) (a b : Option A) → IsNextAbove cmp IsMember bound a → IsNextAbove cmp IsMember bound b → a ≡ b
-  IsNextAbove-unique same M bound None None first second = refl
-  IsNextAbove-unique same M bound None (Some y) first second = absurd (first.none y second.member second.above)
-  IsNextAbove-unique same M bound (Some x) None first second = absurd (second.none x first.member first.above)
-  IsNextAbove-unique same M bound (Some x) (Some y) first second =
-      ap Some (same x y (neither (cmp x y) refl))
-    where
-      turned : cmp x y ≡ Greater → cmp y x ≡ Less
-      turned e = total.antisymm y x ∙ ap ordering_reverse e
-
-      neither : (r : Ordering) → cmp x y ≡ r → cmp x y ≡ Equal
-      neither Less e = absurd (second.least x first.member first.above e)
-      neither Equal e = e
-      neither Greater e = absurd (first.least y second.member second.above (turned e))
+  IsNextAbove-unique same bound h2 b h4 first second = search rules
 
   -- the rising list of some things, searched, gives the next of them
   pub find-next_of : (IsMember : A → Type 0) (bound : Option A) (xs : List A) → IsRisingListOf cmp IsMember xs → IsNextAbove cmp IsMember bound (find (is_above cmp bound) xs)
   find-next_of M bound xs list = over (find (is_above cmp bound) xs) (find-next bound xs list.rising)
     where
       over : (found : Option A) → IsNextAbove cmp (Contains xs) bound found → IsNextAbove cmp M bound found
-      over None next = record { none = λ y member above. next.none y ((list.members y).1 member) above }
-      over (Some x) next = record {
-        member = (list.members x).0 next.member;
-        above = next.above;
-        least = λ y member above. next.least y ((list.members y).1 member) above;
-      }
+      over found next = search rules
 
   -- what is above the bound is the next, and what is above the next
   pub filter_above-next : (bound : Option A) (xs : List A) (a : A) → IsStrictlySortedBy cmp xs → find (is_above cmp bound) xs ≡ Some a → filter (is_above cmp bound) xs ≡ a ∷ filter (is_above cmp (Some a)) xs
@@ -171,21 +131,13 @@ module _ {A : Type 0} (cmp : A → A → Ordering) (total : IsTotalOrder cmp) wh
         ∙ sym (filter-each (is_above cmp (Some x)) xs (λ y among. ap is_lt (rising-first cmp x xs rising y among)))
         ∙ sym (filter-false (is_above cmp (Some x)) x xs (not_above-itself x))))
     | inr under ↦
-        let later : find (is_above cmp bound) xs ≡ Some a = sym (find-false (is_above cmp bound) x xs under) ∙ e in
-        let found = find-Contains (is_above cmp bound) xs a later in
-        filter-false (is_above cmp bound) x xs under
-        ∙ filter_above-next bound xs a (rising-rest cmp x xs rising) later
-        ∙ ap (λ l. a ∷ l) (sym (filter-false (is_above cmp (Some a)) x xs (not_above-earlier x a (rising-first cmp x xs rising a found.0))))
+        search (rules, find-false, find-Contains, filter-false, rising-rest, rising-first, (filter_above-next bound xs a (rising-rest cmp x xs rising)))
   ]
 
   pub filter_above-none : (bound : Option A) (xs : List A) → find (is_above cmp bound) xs ≡ None → filter (is_above cmp bound) xs ≡ []
   filter_above-none bound [] e = refl
-  filter_above-none bound (x ∷ xs) e = elim (cases_Bool (is_above cmp bound x)) [
-    | inl above ↦ let found : Some x ≡ None = sym (find-true (is_above cmp bound) x xs above) ∙ e in cc
-    | inr under ↦
-        filter-false (is_above cmp bound) x xs under
-        ∙ filter_above-none bound xs (sym (find-false (is_above cmp bound) x xs under) ∙ e)
-  ]
+  filter_above-none bound (x ∷ xs) e =
+      search (rules, cases_Bool, find-true, filter-false, find-false, (filter_above-none bound xs))
 
   -- a rising list is determined by what it contains
   pub rising-same : (xs ys : List A) → IsStrictlySortedBy cmp xs → IsStrictlySortedBy cmp ys → ((z : A) → Contains xs z ↔ Contains ys z) → xs ≡ ys
@@ -193,8 +145,7 @@ module _ {A : Type 0} (cmp : A → A → Ordering) (total : IsTotalOrder cmp) wh
   rising-same [] (y ∷ ys) first second alike = absurd (Contains-none y ((alike y).1 (Contains-here y ys)))
   rising-same (x ∷ xs) [] first second alike = absurd (Contains-none x ((alike x).0 (Contains-here x xs)))
   rising-same (x ∷ xs) (y ∷ ys) first second alike =
-      let rest = rising-same xs ys (rising-rest cmp x xs first) (rising-rest cmp y ys second) (λ z. (forth z, back z)) in
-      λ i. heads i ∷ rest i
+      search (rules, rising-rest, heads, forth, back, (rising-same xs ys (rising-rest cmp x xs first) (rising-rest cmp y ys second)))
     where
       heads : x ≡ y
       heads = elim (Contains-cases y ys x ((alike x).0 (Contains-here x xs))) [

@@ -1,16 +1,14 @@
 -- Facts of the table of shapes, tried at each piece and rotation.
-use Rattle.std.proofs.Common.{◌≡◌, nat_lt, Bool, true, false, not, ◌&&◌, ◌||◌, ◌==◌, List, length, map, refl, subst, ◌∙◌, arith, ◌<◌, ◌≤◌, nat_le}
+use Rattle.std.proofs.Common.{◌≡◌, nat_lt, Bool, true, false, ◌||◌, ◌==◌, length, map, refl, ◌∙◌, ◌<◌, ◌≤◌, nat_le, rules}
 use Rattle.std.specs.List.{list_all}
 use Rattle.std.proofs.lemmas.Bool.{eqb-true, and_from, leb-true, ltb-true}
 use Rattle.std.proofs.lemmas.List.{length-map}
 use Rattle.srs.specs.declared.piece.Piece.{Piece}
-use Rattle.srs.specs.declared.piece.Piece.TheVariants.{I, L, O, Z, T, J, S}
 use Rattle.srs.specs.declared.rotation.Rotation.{Rotation}
-use Rattle.srs.specs.declared.rotation.Rotation.TheVariants.{Spawn, Right, Reverse, Left}
 use Rattle.srs.specs.declared.placement.Placement.{Placement}
 use Rattle.srs.specs.Piece.{all_pieces, piece_code}
 use Rattle.srs.specs.Rotation.{all_rotations, rotation_place}
-use Rattle.srs.specs.Cells.{Cell, moved, shape, cells_of, pivot_of, is_near}
+use Rattle.srs.specs.Cells.{moved, shape, cells_of, pivot_of, is_near}
 use Rattle.srs.specs.SameCells.{is_among, SameCells}
 use Rattle.srs.specs.Canonical.{canonical_rotation, canonical_move, rotation_count}
 use Rattle.srs.proofs.CellLemmas.{origin, fits, is_apart, is_still, same_cells-from}
@@ -18,20 +16,11 @@ use Rattle.srs.proofs.BooleanLemmas.{list_all_each, or_second}
 
 -- what is tried of all pieces holds of each
 pub each_piece : (test : Piece → Bool) → list_all test all_pieces ≡ true → (piece : Piece) → test piece ≡ true
-each_piece test all I = list_all_each test all_pieces 0 I all (omega arith)
-each_piece test all L = list_all_each test all_pieces 1 I all (omega arith)
-each_piece test all O = list_all_each test all_pieces 2 I all (omega arith)
-each_piece test all Z = list_all_each test all_pieces 3 I all (omega arith)
-each_piece test all T = list_all_each test all_pieces 4 I all (omega arith)
-each_piece test all J = list_all_each test all_pieces 5 I all (omega arith)
-each_piece test all S = list_all_each test all_pieces 6 I all (omega arith)
+each_piece test all h2 = search (rules, list_all_each)
 
 -- what is tried of all rotations holds of each
 pub each_rotation : (test : Rotation → Bool) → list_all test all_rotations ≡ true → (rotation : Rotation) → test rotation ≡ true
-each_rotation test all Spawn = list_all_each test all_rotations 0 Spawn all (omega arith)
-each_rotation test all Right = list_all_each test all_rotations 1 Spawn all (omega arith)
-each_rotation test all Reverse = list_all_each test all_rotations 2 Spawn all (omega arith)
-each_rotation test all Left = list_all_each test all_rotations 3 Spawn all (omega arith)
+each_rotation test all h2 = search (rules, list_all_each)
 
 -- what is tried of all pieces and rotations holds of each
 pub each_state : (test : Piece → Rotation → Bool) → list_all (λ piece. list_all (test piece) all_rotations) all_pieces ≡ true → (piece : Piece) (rotation : Rotation) → test piece rotation ≡ true
@@ -70,16 +59,7 @@ canonical_move_near = each_state (λ p r. is_near (canonical_move p r)) refl
 -- the shape of the canonical rotation, moved, has the same cells
 pub canonical_shape : (piece : Piece) (rotation : Rotation) → SameCells (map (moved (canonical_move piece rotation)) (shape piece (canonical_rotation piece rotation))) (shape piece rotation)
 unfolding is_among moved
-canonical_shape p r = same_cells-from _ _ (each_state there refl p r) (each_state back refl p r)
-  where
-    found : Piece → Rotation → List Cell
-    found p r = map (moved (canonical_move p r)) (shape p (canonical_rotation p r))
-
-    there : Piece → Rotation → Bool
-    there p r = list_all (is_among (shape p r)) (found p r)
-
-    back : Piece → Rotation → Bool
-    back p r = list_all (is_among (found p r)) (shape p r)
+canonical_shape p r = search (rules, same_cells-from, each_state)
 
 -- no two kinds of piece have a shape in common, wherever they are
 pub kinds_apart : (p : Piece) (r : Rotation) (q : Piece) (s : Rotation) → (piece_code p == piece_code q) ≡ false → is_apart (shape p r) (shape q s) ≡ true
@@ -89,13 +69,7 @@ kinds_apart p r q s other = or_second _ _ other (each_state (λ q s. piece_code 
 -- the rotations that a piece has cells of its own in are apart from each earlier one
 pub rotations_apart : (p : Piece) (r s : Rotation) → nat_lt (rotation_place s) (rotation_count p) ≡ true → nat_lt (rotation_place r) (rotation_place s) ≡ true → is_apart (shape p r) (shape p s) ≡ true
 unfolding is_among moved fits is_apart
-rotations_apart p r s own earlier = both_so _ _ _ own earlier (each_rotation (λ s. test p r s) (each_state (λ p r. list_all (test p r) all_rotations) refl p r) s)
-  where
-    test : Piece → Rotation → Rotation → Bool
-    test p r s = not (nat_lt (rotation_place s) (rotation_count p) && nat_lt (rotation_place r) (rotation_place s)) || is_apart (shape p r) (shape p s)
-
-    both_so : (a b c : Bool) → a ≡ true → b ≡ true → (not (a && b) || c) ≡ true → c ≡ true
-    both_so a b c e f h = subst (λ x. (not x || c) ≡ true) (and_from a b e f) h
+rotations_apart p r s own earlier = search (rules, each_rotation, each_state, and_from)
 
 pub shape_still : (p : Piece) (r : Rotation) → is_still (shape p r) ≡ true
 unfolding is_among moved fits is_still origin

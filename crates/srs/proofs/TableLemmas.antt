@@ -1,5 +1,5 @@
 -- Tables of offsets: when two are equal, and what a change of one offset leaves.
-use Rattle.std.proofs.Common.{◌≡◌, ℕ, ◌<◌, Bool, true, ◌&&◌, Decides, List, [], ◌∷◌, refl, sym, ap, subst, ◌∙◌, length, map, set, get_or, arith}
+use Rattle.std.proofs.Common.{◌≡◌, ℕ, Bool, true, Decides, List, [], ◌∷◌, refl, sym, ap, subst, ◌∙◌, length, map, set, rules}
 use Rattle.std.specs.Cmp.Lexicographic.{pointwise}
 use Rattle.std.proofs.Math.Bool.{Bool-set}
 use Rattle.std.proofs.Math.Nat.{ℕ_set}
@@ -16,8 +16,6 @@ use Rattle.srs.specs.declared.rules.Rules.{Rules}
 use Rattle.srs.specs.declared.rules.Turns.{Turns}
 use Rattle.srs.specs.declared.rules.Tests.{Tests}
 use Rattle.srs.specs.Cells.{Cell}
-use Rattle.srs.specs.Piece.{all_pieces}
-use Rattle.srs.specs.Rotation.{all_rotations}
 use Rattle.srs.specs.Kick.{Table, IsSmallTable, is_small, is_small_move, pair_of, turns_eq, table_eq}
 use Rattle.srs.specs.Rules.{table_of, turns_table}
 use Rattle.srs.specs.SameCells.{cell_eq, cells_eq}
@@ -26,26 +24,11 @@ use Rattle.srs.proofs.BooleanLemmas.{list_all_each, list_all-true}
 
 -- the offsets of a piece are equal where they are in each rotation
 pub same_turns : (t u : Rotation → List Cell) → t Spawn ≡ u Spawn → t Right ≡ u Right → t Reverse ≡ u Reverse → t Left ≡ u Left → t ≡ u
-same_turns t u spawn right reverse left = fun_ext each
-  where
-    each : (r : Rotation) → t r ≡ u r
-    each Spawn = spawn
-    each Right = right
-    each Reverse = reverse
-    each Left = left
+same_turns t u spawn right reverse left = search (rules, fun_ext)
 
 -- tables are equal where they are for each piece
 pub same_tables : (t u : Table) → t I ≡ u I → t L ≡ u L → t O ≡ u O → t Z ≡ u Z → t T ≡ u T → t J ≡ u J → t S ≡ u S → t ≡ u
-same_tables t u i l o z t-same j s = fun_ext each
-  where
-    each : (p : Piece) → t p ≡ u p
-    each I = i
-    each L = l
-    each O = o
-    each Z = z
-    each T = t-same
-    each J = j
-    each S = s
+same_tables t u i l o z t-same j s = search (rules, fun_ext)
 
 -- one offset of a list is changed, seen as pairs
 pub changed_pairs : (new old : List Offset) (i : ℕ) (offset : Offset) → new ≡ set old i offset → map pair_of new ≡ set (map pair_of old) i (pair_of offset)
@@ -56,49 +39,18 @@ pub pointwise-pairs : (E : Offset → Offset → Bool) → ((x y : Offset) → E
 pointwise-pairs E is [] [] = refl
 pointwise-pairs E is [] (y ∷ ys) = refl
 pointwise-pairs E is (x ∷ xs) [] = refl
-pointwise-pairs E is (x ∷ xs) (y ∷ ys) = ap2 (is x y) (pointwise-pairs E is xs ys)
-  where
-    ap2 : {a b c d : Bool} → a ≡ b → c ≡ d → (a && c) ≡ (b && d)
-    ap2 e f = cc
+pointwise-pairs E is (x ∷ xs) (y ∷ ys) = search (rules, (pointwise-pairs E is xs ys))
 
 cells_eq-itself : (xs : List Cell) → cells_eq xs xs ≡ true
 cells_eq-itself xs = (cells_eq-decides xs xs).1 refl
 
 -- so does the test of the offsets of a piece
 pub turns_eq-decides : (t u : Rotation → List Cell) → Decides (turns_eq t u) (t ≡ u)
-turns_eq-decides t u = (equal, λ e. subst (λ v. turns_eq t v ≡ true) e itself)
-  where
-    equal : turns_eq t u ≡ true → t ≡ u
-    equal e =
-        let each = list_all_each (λ r. cells_eq (t r) (u r)) all_rotations in
-        let one : (i : ℕ) → i < 4 → cells_eq (t (get_or all_rotations i Spawn)) (u (get_or all_rotations i Spawn)) ≡ true = λ i h. each i Spawn e h in
-        same_turns t u
-        ((cells_eq-decides _ _).0 (one 0 (omega arith)))
-        ((cells_eq-decides _ _).0 (one 1 (omega arith)))
-        ((cells_eq-decides _ _).0 (one 2 (omega arith)))
-        ((cells_eq-decides _ _).0 (one 3 (omega arith)))
-
-    itself : turns_eq t t ≡ true
-    itself = list_all-true (λ r. cells_eq (t r) (t r)) all_rotations (λ r. cells_eq-itself (t r))
+turns_eq-decides t u = search (rules, list_all_each, same_turns, cells_eq-decides, list_all-true, cells_eq-itself)
 
 -- so does the test of tables
 pub table_eq-decides : (t u : Table) → Decides (table_eq t u) (t ≡ u)
-table_eq-decides t u = (equal, λ e. subst (λ v. table_eq t v ≡ true) e itself)
-  where
-    equal : table_eq t u ≡ true → t ≡ u
-    equal e =
-        let one : (i : ℕ) → i < 7 → turns_eq (t (get_or all_pieces i I)) (u (get_or all_pieces i I)) ≡ true = λ i h. list_all_each (λ p. turns_eq (t p) (u p)) all_pieces i I e h in
-        same_tables t u
-        ((turns_eq-decides _ _).0 (one 0 (omega arith)))
-        ((turns_eq-decides _ _).0 (one 1 (omega arith)))
-        ((turns_eq-decides _ _).0 (one 2 (omega arith)))
-        ((turns_eq-decides _ _).0 (one 3 (omega arith)))
-        ((turns_eq-decides _ _).0 (one 4 (omega arith)))
-        ((turns_eq-decides _ _).0 (one 5 (omega arith)))
-        ((turns_eq-decides _ _).0 (one 6 (omega arith)))
-
-    itself : table_eq t t ≡ true
-    itself = list_all-true (λ p. turns_eq (t p) (t p)) all_pieces (λ p. (turns_eq-decides (t p) (t p)).1 refl)
+table_eq-decides t u = search (rules, list_all_each, same_tables, turns_eq-decides, list_all-true)
 
 -- what `Tests` keeps, seen as pairs
 small_pairs : (tests : Tests) → (length (map pair_of tests.offsets) ≡ 5) × (list_all is_small_move (map pair_of tests.offsets) ≡ true)

@@ -1,5 +1,5 @@
 -- The pivot lies in the well, and so does that of the canonical placement.
-use Rattle.std.proofs.Common.{◌≡◌, pos, arith, to_z, of_z, w8, ap, ◌∙◌}
+use Rattle.std.proofs.Common.{◌≡◌, pos, arith, to_z, of_z, w8, ap, ◌∙◌, rules}
 use Rattle.std.proofs.lemmas.Int.{ints}
 use Rattle.std.specs.Prelude.{nat_abs}
 use Rattle.srs.specs.Cells.{Cell, moved, pivot_of}
@@ -27,20 +27,10 @@ cell_at-x-requires-clause-high c = let p = pivot_inside c.args.placement.now c.r
 
 -- where the moved pivot is
 at_moved : (c : goal.After-result-1) → c.cell_at-x.result ≡ moved (pivot_of c.args.placement.now) (canonical_move c.args.placement.now.piece c.args.placement.now.rotation)
-at_moved c =
-    let p = pivot_inside c.args.placement.now c.requires in
-    let x : to_z w8 c.args.placement.now.x ≡ pos c.args.placement.now.x = omega (arith, ints) in
-    let y : to_z w8 c.args.placement.now.y ≡ pos c.args.placement.now.y = omega (arith, ints) in
-    c.cell_at-x.ensures ∙ (λ i. moved (x i, y i) (c.earliest-rotation.ensures.pivot i))
+at_moved c = search (rules, pivot_inside)
 
 lies : (c : goal.After-result-1) → LiesAt c.cell_at-x.result
-lies c = let there = canonical_pivot c.args.placement.now c.requires in record {
-  x = there.x;
-  y = there.y;
-  is = at_moved c ∙ there.is;
-  in_columns = there.in_columns;
-  in_rows = there.in_rows;
-}
+lies c = search (rules, canonical_pivot, at_moved)
 
 pub overflow_cast-result : goal.overflow_cast-result
 overflow_cast-result c = let there = lies c in let x : c.cell_at-x.result.0 ≡ pos there.x = ap (λ (c : Cell). c.0) there.is in omega (arith, ints)
