@@ -1,12 +1,10 @@
 -- The numbers of a solution may be given.
-use Rattle.std.proofs.Common.{ℕ, ◌-◌, List, [], ◌∷◌, All, None, refl}
+use Rattle.std.proofs.Common.{ℕ, ◌-◌, List, [], ◌∷◌, All, None, rules}
 use Rattle.std.proofs.lemmas.List.Elements.{All-cons, All-nil}
 use Rattle.lane_board.specs.Field.{Field}
 use Rattle.srs.specs.declared.placement.Placement.{Placement}
 use Rattle.srs.specs.Kick.{Table}
-use Rattle.srs.specs.Rules.{table_of}
 use Rattle.srs.proofs.CallerLemmas.{pivot_inside}
-use Rattle.well.specs.Well.{filled}
 use Rattle.well.specs.Lock.{locked, rows_removed}
 use Rattle.well.proofs.CallerLemmas.{free_inside}
 use Rattle.moves.specs.declared.key.DropMode.{DropMode}
@@ -26,8 +24,4 @@ played_within table mode F rows (q ∷ rest) plays =
     (played_within table mode (locked F q) (rows - rows_removed F q) rest plays.2)
 
 pub solution_numbers : (problem : Problem) (sequence : List Placement) → IsFit problem → IsSolution problem None sequence → AreNumbersOf (needed_of problem) (sequence_numbers sequence) sequence
-solution_numbers problem sequence fit solution = record {
-  are = refl;
-  count = long-needed problem fit sequence solution.plays;
-  within = played_within (table_of problem.rules) problem.drop_mode (filled problem.well) problem.height sequence solution.plays;
-}
+solution_numbers problem sequence fit solution = search (rules, long-needed, played_within)

@@ -1,7 +1,6 @@
 -- So many solutions are written, and the search lists those behind them.
-use Rattle.std.proofs.Common.{◌≡◌, ◌∙◌, ℕ, suc, ◌+◌, ◌-◌, ◌*◌, ◌<◌, ◌≤◌, min, true, nat_lt, lt-ltb, List, [], ◌∷◌, ◌++◌, length, length-drop, take, drop, sym, ap, append-nil, arith}
+use Rattle.std.proofs.Common.{◌≡◌, ◌∙◌, ℕ, ◌+◌, ◌-◌, ◌*◌, ◌<◌, ◌≤◌, min, true, nat_lt, lt-ltb, List, [], ◌∷◌, ◌++◌, length, length-drop, take, drop, sym, ap, append-nil, arith, rules}
 use Rattle.std.specs.List.{flat_map}
-use Rattle.std.proofs.Math.Nat.{mul-le-mul_right}
 use Rattle.std.proofs.lemmas.List.{drop-drop}
 use Rattle.std.proofs.lemmas.List.Concat.{flat_map-append}
 use Rattle.srs.specs.declared.placement.Placement.{Placement}
@@ -15,20 +14,15 @@ use Rattle.pc_path.proofs.CallerLemmas.{next_plays, take_next}
 -- a solution has as many placements as are needed
 pub next_needed : (problem : Problem) (needed : ℕ) (view : View) (sequence : List Placement) (rest all : List (List Placement)) → IsFit problem → needed ≡ needed_of problem
     → view.problem ≡ problem → IsList view all → all ≡ sequence ∷ rest → length sequence ≡ needed
-next_needed problem needed view sequence rest all fit is same list first =
-    long-needed problem fit sequence (next_plays problem view sequence rest all same list first) ∙ sym is
+next_needed problem needed view sequence rest all fit is same list first = search (rules, long-needed, next_plays)
 
 -- there is room for one more
 pub room_for_next : (count most width room : ℕ) → count < most → most * width ≤ room → count * width + width ≤ room
-room_for_next count most width room more enough =
-    let next = mul-le-mul_right {m = suc count} {n = most} width (omega (arith, more)) in
-    omega (arith, next, enough)
+room_for_next count most width room more enough = search rules
 
 -- one more takes as many bytes again
 pub size_next : (count width size next length : ℕ) → size ≡ count * width → next ≡ size + 4 * length → 4 * length ≡ width → next ≡ (count + 1) * width
-size_next count width size next length before is one =
-    let same : (count + 1) * width ≡ count * width + width = omega arith in
-    omega (arith, before, is, one, same)
+size_next count width size next length before is one = search rules
 
 module _ (all : List (List Placement)) (count : ℕ) where
   -- the numbers of one more

@@ -1,5 +1,5 @@
 -- All of a list that has ended was written.
-use Rattle.std.proofs.Common.{◌≡◌, ◌∙◌, ℕ, ◌<◌, min, true, ltb-true, List, length, take, sym, ap, arith}
+use Rattle.std.proofs.Common.{◌≡◌, ℕ, ◌<◌, min, true, ltb-true, List, length, take, arith, rules}
 use Rattle.std.specs.List.{flat_map}
 use Rattle.std.proofs.lemmas.List.{take_all}
 use Rattle.srs.specs.declared.placement.Placement.{Placement}
@@ -12,5 +12,4 @@ taken_whole sequences most count counted fewer = take_all count sequences (omega
 
 pub written_whole : (request : PathRequest) (bytes numbers : List ℕ) (room : ℕ) (written : List ℕ) (count floods : ℕ)
     → (writes : WritesSolutions request bytes numbers room written count true floods) → written ≡ flat_map sequence_numbers writes.sequences
-written_whole request bytes numbers room written count floods writes =
-    writes.are ∙ ap (flat_map sequence_numbers) (taken_whole writes.sequences _ count writes.counted (ltb-true (length writes.sequences) _ (sym writes.end)))
+written_whole request bytes numbers room written count floods writes = search (rules, taken_whole, ltb-true)
