@@ -1,10 +1,10 @@
 -- The bits of a byte, and of bytes that are set one after the other.
-use Rattle.std.proofs.Common.{◌≡◌, ◌≢◌, ℕ, ◌+◌, ◌*◌, ◌/◌, ◌%◌, ◌^◌, ◌<◌, ◌≤◌, Bool, true, false, ◌&&◌, ◌==◌, nat_lt, List, length, take, get_or, bit_or, w8, refl, sym, ap, subst, ◌∙◌, inl, inr, arith}
+use Rattle.std.proofs.Common.{◌≡◌, ◌≢◌, ℕ, ◌+◌, ◌*◌, ◌%◌, ◌^◌, ◌<◌, ◌≤◌, Bool, true, false, ◌&&◌, ◌==◌, nat_lt, List, length, take, get_or, bit_or, w8, refl, sym, ap, subst, ◌∙◌, inl, inr, arith, rules}
 use Rattle.std.specs.Int.{bit_at}
 use Rattle.std.specs.Prelude.{slice_set}
 use Rattle.std.proofs.lemmas.Bool.{cases_eq, cases_lt, lt-ltb}
 use Rattle.std.proofs.lemmas.Bool.Decides.{nat_tests}
-use Rattle.std.proofs.lemmas.List.{get_or_past, get_or-set_other, get_or-set_same, get_or-take, length-take}
+use Rattle.std.proofs.lemmas.List.{get_or_past, get_or-take, length-take}
 use Rattle.std.proofs.lemmas.Nat.Bits.{bit_at-zero, bit_at_set_other, bit_at_set_same}
 use Rattle.pc_good_queues.specs.Bits.{AreBitsOf, bytes_for, is_one}
 
@@ -48,38 +48,10 @@ pub more_bytes : (flags : List Bool) (count : ℕ) (bytes : List ℕ) (byte : �
     → count < length bytes → ((k : ℕ) → k < 8 → (bit_at byte k == 1) ≡ get_or flags (8 * count + k) false)
     → HasBytes flags (count + 1) (slice_set bytes count byte)
 unfolding is_one
-more_bytes flags count bytes byte so_far within here = record { each = each } where
-  each : (number : ℕ) → number < 8 * (count + 1)
-      → (bit_at (get_or (slice_set bytes count byte) (number / 8) 0) (number % 8) == 1) ≡ get_or flags number false
-  each number low = elim (cases_eq (number / 8) count) [
-    | inl same ↦
-        let byte_here : get_or (slice_set bytes count byte) (number / 8) 0 ≡ byte =
-        ap (λ n. get_or (slice_set bytes count byte) n 0) same ∙ get_or-set_same bytes count byte 0 within in
-        ap (λ n. bit_at n (number % 8) == 1) byte_here ∙ here (number % 8) (omega arith)
-        ∙ ap (λ n. get_or flags n false) (omega (arith, same))
-    | inr other ↦
-        ap (λ n. bit_at n (number % 8) == 1) (get_or-set_other bytes count (number / 8) byte 0 other)
-        ∙ so_far.each number (omega (arith, low, other))
-  ]
+more_bytes flags count bytes byte so_far within here = search rules
 
 -- all flags have their bits
 pub all_bytes : (flags : List Bool) (count : ℕ) (bytes : List ℕ) → length flags ≡ count → bytes_for count ≤ length bytes
     → HasBytes flags (bytes_for count) bytes → AreBitsOf flags (take (bytes_for count) bytes)
 unfolding is_one
-all_bytes flags count bytes all room has = record {
-  size = length-take (bytes_for count) bytes ∙ omega (arith, all, room);
-  each = each;
-} where
-  each : (number : ℕ) → (bit_at (get_or (take (bytes_for count) bytes) (number / 8) 0) (number % 8) == 1)
-      ≡ get_or flags number false
-  each number = elim (cases_lt number (8 * bytes_for count)) [
-    | inl low ↦
-        ap (λ n. bit_at n (number % 8) == 1) (get_or-take (bytes_for count) bytes (number / 8) 0 (omega (arith, low)))
-        ∙ has.each number low
-    | inr high ↦
-        let size = length-take (bytes_for count) bytes in
-        let none : get_or (take (bytes_for count) bytes) (number / 8) 0 ≡ 0 =
-        get_or_past (take (bytes_for count) bytes) (number / 8) 0 (omega (arith, size, high)) in
-        ap (λ n. bit_at n (number % 8) == 1) none ∙ ap (λ n. n == 1) (bit_at-zero (number % 8))
-        ∙ sym (get_or_past flags number false (omega (arith, all, high)))
-  ]
+all_bytes flags count bytes all room has = search (rules, length-take, cases_lt, get_or-take, get_or_past, bit_at-zero)
