@@ -188,7 +188,7 @@ some_takes supply E x y small first path found goes = by_pieces goes.more goes.i
           takes = record {
             has = one.some;
             stacks = record {
-              place = form_at one.part.piece st.rotation;
+              index = form_at one.part.piece st.rotation;
               stacks = record {
                 known = form_within one.part.piece st.rotation;
                 stacks = over_first E x y one.part.piece st.rotation st.x st.rows (GoesOnWith HasFirst (less_one supply one.part.piece) E one.part.piece path found) first st.rises st.within
@@ -223,27 +223,27 @@ some_takes supply E x y small first path found goes = by_pieces goes.more goes.i
             rest = subst (λ p. AreLaid HasFirst (less_one supply p) left more) kind (subst (λ (F : Field). AreLaid HasFirst (less_one supply laid.piece) F more) same_left later)
 
 -- a piece whose spans are stacked is laid first
-pub form_found : (supply : Supply) (E : Field) (x y : ℕ) (piece : Piece) (place : ℕ) (path found : List LaidPiece) → IsSmall 8 E → StacksForm IsAny supply E x y piece place path found → GoesOn IsAny (with_one supply piece) E path found
+pub form_found : (supply : Supply) (E : Field) (x y : ℕ) (piece : Piece) (index : ℕ) (path found : List LaidPiece) → IsSmall 8 E → StacksForm IsAny supply E x y piece index path found → GoesOn IsAny (with_one supply piece) E path found
 unfolding AreLaid difference without_stack
-form_found supply E x y piece place path found small s = by (chosen (is_allowed y) By E x 0 (form piece (rotation_at place)) (subst (λ spans. Stacks (is_allowed y) By E x 0 spans) (sym (form_of_place piece place s.known)) s.stacks))
+form_found supply E x y piece index path found small s = by (chosen (is_allowed y) By E x 0 (form piece (rotation_at index)) (subst (λ spans. Stacks (is_allowed y) By E x 0 spans) (sym (form_of_place piece index s.known)) s.stacks))
   where
     By : Field → Type 0
     By = GoesOnWith IsAny supply E piece path found
 
-    by : Chosen By E x 0 (form piece (rotation_at place)) → GoesOn IsAny (with_one supply piece) E path found
+    by : Chosen By E x 0 (form piece (rotation_at index)) → GoesOn IsAny (with_one supply piece) E path found
     by c = record {
       more = laid ∷ c.rest.more;
       is = c.rest.is ∙ append_assoc path (laid ∷ []) c.rest.more;
-      laid = (one (part_of piece (rotation_at place) x c.rows c.rises), later);
+      laid = (one (part_of piece (rotation_at index) x c.rows c.rises), later);
     }
       where
         left : Field
-        left = without_stack E x c.rows (form piece (rotation_at place))
+        left = without_stack E x c.rows (form piece (rotation_at index))
 
         laid : LaidPiece
         laid = record { piece = piece; cells = difference E left }
 
-        one : PartOf piece (rotation_at place) x c.rows → IsLaid IsAny (with_one supply piece) E laid
+        one : PartOf piece (rotation_at index) x c.rows → IsLaid IsAny (with_one supply piece) E laid
         one p = record {
           part = p.part;
           is = λ i. record { piece = sym p.kind i; cells = taken i };
@@ -254,10 +254,10 @@ form_found supply E x y piece place path found small s = by (chosen (is_allowed 
         }
           where
             taken : difference E left ≡ (laid_part p.part).cells
-            taken = fun_ext (λ a. fun_ext (λ b. taken_again (E a b) (in_stack x c.rows (form piece (rotation_at place)) a b) (c.within.inside a b) ∙ sym (p.same a b)))
+            taken = fun_ext (λ a. fun_ext (λ b. taken_again (E a b) (in_stack x c.rows (form piece (rotation_at index)) a b) (c.within.inside a b) ∙ sym (p.same a b)))
 
         same_left : left ≡ difference E laid.cells
-        same_left = fun_ext (λ a. fun_ext (λ b. sym (left_again (E a b) (in_stack x c.rows (form piece (rotation_at place)) a b))))
+        same_left = fun_ext (λ a. fun_ext (λ b. sym (left_again (E a b) (in_stack x c.rows (form piece (rotation_at index)) a b))))
 
         later : AreLaid IsAny (less_one (with_one supply piece) piece) (difference E laid.cells) c.rest.more
         later = subst (λ (s : Supply). AreLaid IsAny s (difference E laid.cells) c.rest.more) (sym (less_with supply piece)) (subst (λ (F : Field). AreLaid IsAny supply F c.rest.more) same_left c.rest.laid)

@@ -22,24 +22,24 @@ use Rattle.tiled_pieces.specs.Listings.{Adds, GoesOn, HasFirst, IsAny, Lies, Spe
 use Rattle.tiled_pieces.proofs.LaidLemmas.{TilingOf, in_order, tiling_of}
 use Rattle.tiled_pieces.proofs.StandsLemmas.{listed_stands}
 
--- no piece at any place
-pub nowhere : (none : Empties) → empty_cells none ≡ empty_field → (place : ℕ) → place < 8 →
-    laid_at (record { kinds = I ∷ I ∷ I ∷ I ∷ I ∷ I ∷ I ∷ I ∷ []; cells = none ∷ none ∷ none ∷ none ∷ none ∷ none ∷ none ∷ none ∷ [] }) place ≡ no_piece
+-- no piece at any index
+pub nowhere : (none : Empties) → empty_cells none ≡ empty_field → (index : ℕ) → index < 8 →
+    laid_at (record { kinds = I ∷ I ∷ I ∷ I ∷ I ∷ I ∷ I ∷ I ∷ []; cells = none ∷ none ∷ none ∷ none ∷ none ∷ none ∷ none ∷ none ∷ [] }) index ≡ no_piece
 unfolding laid_at
 nowhere none is h2 low = search rules
 
 -- a listed tiling has each piece that it spells
 pub has_spelled : (tiling : ListedTiling) (found : List LaidPiece) (laid : LaidPiece) → Spells tiling found → Contains found laid → HasPiece tiling laid
-has_spelled tiling found laid spells (place, below, is) = record {
-  place = place;
+has_spelled tiling found laid spells (index, below, is) = record {
+  index = index;
   known = omega (arith, below, spells.few);
-  there = spells.each place (omega (arith, below, spells.few)) ∙ get_or_default found place no_piece laid below ∙ is;
+  there = spells.each index (omega (arith, below, spells.few)) ∙ get_or_default found index no_piece laid below ∙ is;
 }
 
--- and at each place one of them, or nothing
-pub spelled_at : (tiling : ListedTiling) (found : List LaidPiece) → Spells tiling found → (place : ℕ) → place < 8 → HasNoCell (laid_at tiling place).cells ⊎ Contains found (laid_at tiling place)
+-- and at each index one of them, or nothing
+pub spelled_at : (tiling : ListedTiling) (found : List LaidPiece) → Spells tiling found → (index : ℕ) → index < 8 → HasNoCell (laid_at tiling index).cells ⊎ Contains found (laid_at tiling index)
 unfolding empty_field
-spelled_at tiling found spells place low = search (rules, cases_lt, Contains-get_or, get_or_past)
+spelled_at tiling found spells index low = search (rules, cases_lt, Contains-get_or, get_or_past)
 
 module _ (supply : Supply) (E : Field) (old new : Listing) (small : IsSmall 8 E) (path : path_of old.path ≡ []) (none : old.tilings.items ≡ []) (adds : Adds old new (GoesOn HasFirst supply E) (GoesOn IsAny supply E)) where
   longer : new.tilings.items ≡ adds.more
@@ -70,8 +70,8 @@ module _ (supply : Supply) (E : Field) (old new : Listing) (small : IsSmall 8 E)
           by : TilingOf supply E lies.most.more → IsListed E supply tiling
           by t = record {
             whole = t.tiling;
-            each = λ place low. subst (λ l. HasNoCell (laid_at tiling place).cells ⊎ Contains l (laid_at tiling place)) (sym t.are)
-                (spelled_at tiling lies.most.more (subst (Spells tiling) pieces lies.spells) place low);
+            each = λ index low. subst (λ l. HasNoCell (laid_at tiling index).cells ⊎ Contains l (laid_at tiling index)) (sym t.are)
+                (spelled_at tiling lies.most.more (subst (Spells tiling) pieces lies.spells) index low);
           }
 
 -- what the list says that the walk from no piece has made

@@ -14,33 +14,33 @@ use Rattle.empty_cells.specs.Empties.{empty_cells}
 use Rattle.tiled_pieces.specs.declared.listed.ListedTiling.{ListedTiling}
 use Rattle.tiled_pieces.specs.TilingLists.{HasPiece, LaidPiece, SomeHas, laid_at}
 
--- the piece at a place is this one exactly where the kind and the cells are these
-pub laid_is : (tiling : ListedTiling) (place : ℕ) (e : Empties) (piece kind : Piece) (cells : Field) (same equal : Bool) → place < length tiling.cells → kind ≡ get_or tiling.kinds place I →
-    ((equal ≡ true) ↔ (empty_cells (get_or tiling.cells place e) ≡ cells)) → same ≡ (equal && (piece_code kind == piece_code piece)) → (same ≡ true) ↔ (laid_at tiling place ≡ record { piece = piece; cells = cells })
+-- the piece at an index is this one exactly where the kind and the cells are these
+pub laid_is : (tiling : ListedTiling) (index : ℕ) (e : Empties) (piece kind : Piece) (cells : Field) (same equal : Bool) → index < length tiling.cells → kind ≡ get_or tiling.kinds index I →
+    ((equal ≡ true) ↔ (empty_cells (get_or tiling.cells index e) ≡ cells)) → same ≡ (equal && (piece_code kind == piece_code piece)) → (same ≡ true) ↔ (laid_at tiling index ≡ record { piece = piece; cells = cells })
 unfolding laid_at
-laid_is tiling place e piece kind cells same equal known kind_at both is =
+laid_is tiling index e piece kind cells same equal known kind_at both is =
     search (rules, and_parts, piece_code-injective, eqb-true, and_from, eq-eqb, get_or-map)
 
-pub laid_kind : (tiling : ListedTiling) (place : ℕ) → (laid_at tiling place).piece ≡ get_or tiling.kinds place I
+pub laid_kind : (tiling : ListedTiling) (index : ℕ) → (laid_at tiling index).piece ≡ get_or tiling.kinds index I
 unfolding laid_at
-laid_kind tiling place = refl
+laid_kind tiling index = refl
 
-pub laid_of : (tiling : ListedTiling) (place : ℕ) (e : Empties) (piece : Piece) → place < length tiling.cells → get_or tiling.kinds place I ≡ piece → laid_at tiling place ≡ record { piece = piece; cells = empty_cells (get_or tiling.cells place e) }
+pub laid_of : (tiling : ListedTiling) (index : ℕ) (e : Empties) (piece : Piece) → index < length tiling.cells → get_or tiling.kinds index I ≡ piece → laid_at tiling index ≡ record { piece = piece; cells = empty_cells (get_or tiling.cells index e) }
 unfolding laid_at
-laid_of tiling place e piece known kind = search (rules, get_or-map)
+laid_of tiling index e piece known kind = search (rules, get_or-map)
 
--- no place before this one has the piece
-pub record NoneBefore (tiling : ListedTiling) (laid : LaidPiece) (place : ℕ) : Type 0 where
-  pub none : (k : ℕ) → k < place → laid_at tiling k ≡ laid → ⊥
+-- no index before this one has the piece
+pub record NoneBefore (tiling : ListedTiling) (laid : LaidPiece) (index : ℕ) : Type 0 where
+  pub none : (k : ℕ) → k < index → laid_at tiling k ≡ laid → ⊥
 
 pub none_first : (tiling : ListedTiling) (laid : LaidPiece) → NoneBefore tiling laid 0
 none_first tiling laid = record { none = λ k below. absurd (omega arith) }
 
-pub none_next : (tiling : ListedTiling) (laid : LaidPiece) (place : ℕ) (answer : Bool) → NoneBefore tiling laid place → ((answer ≡ true) ↔ (laid_at tiling place ≡ laid)) → answer ≡ false → NoneBefore tiling laid (place + 1)
-none_next tiling laid place answer before both none_here = search (rules, cases_eq, false≢true)
+pub none_next : (tiling : ListedTiling) (laid : LaidPiece) (index : ℕ) (answer : Bool) → NoneBefore tiling laid index → ((answer ≡ true) ↔ (laid_at tiling index ≡ laid)) → answer ≡ false → NoneBefore tiling laid (index + 1)
+none_next tiling laid index answer before both none_here = search (rules, cases_eq, false≢true)
 
-pub none_at_all : (tiling : ListedTiling) (laid : LaidPiece) (place : ℕ) → NoneBefore tiling laid place → 8 ≤ place → HasPiece tiling laid → ⊥
-none_at_all tiling laid place before last has = before.none has.place (omega (arith, has.known, last)) has.there
+pub none_at_all : (tiling : ListedTiling) (laid : LaidPiece) (index : ℕ) → NoneBefore tiling laid index → 8 ≤ index → HasPiece tiling laid → ⊥
+none_at_all tiling laid index before last has = before.none has.index (omega (arith, has.known, last)) has.there
 
 -- none of the tilings before this one has the piece
 pub record NoneHave (list : List ListedTiling) (laid : LaidPiece) (index : ℕ) : Type 0 where

@@ -1,4 +1,4 @@
--- Pieces that are put at a place of a listed tiling, and the pieces of a path.
+-- Pieces that are put at an index of a listed tiling, and the pieces of a path.
 use Rattle.std.proofs.Common.{◌≡◌, ◌≢◌, ℕ, zero, suc, ◌+◌, ◌-◌, ◌<◌, List, [], ◌∷◌, ◌++◌, length, get_or, map, set, refl, sym, ap, ap₂, subst, ◌∙◌, arith, rules}
 use Rattle.std.specs.List.{Contains, range_with_len}
 use Rattle.std.proofs.lemmas.Bool.{cases_lt}
@@ -15,33 +15,33 @@ use Rattle.tiled_pieces.specs.declared.path.Path.{Path}
 use Rattle.tiled_pieces.specs.TilingLists.{LaidPiece, laid_at}
 use Rattle.tiled_pieces.specs.Listings.{Adds, Spells, no_piece, path_of}
 
-module _ (tiling : ListedTiling) (place : ℕ) (piece : Piece) (cells : Empties) (kinds_known : place < length tiling.kinds) (cells_known : place < length tiling.cells) where
+module _ (tiling : ListedTiling) (index : ℕ) (piece : Piece) (cells : Empties) (kinds_known : index < length tiling.kinds) (cells_known : index < length tiling.cells) where
   abbrev after : ListedTiling
-  after = record { kinds = set tiling.kinds place piece; cells = set tiling.cells place cells }
+  after = record { kinds = set tiling.kinds index piece; cells = set tiling.cells index cells }
 
-  pub put_there : laid_at after place ≡ record { piece = piece; cells = empty_cells cells }
+  pub put_there : laid_at after index ≡ record { piece = piece; cells = empty_cells cells }
   unfolding laid_at
   put_there =
-      let kind : get_or after.kinds place I ≡ piece = get_or-set_same tiling.kinds place piece I kinds_known in
-      let there : get_or (map empty_cells after.cells) place empty_field ≡ empty_cells cells =
-      get_or-map empty_cells after.cells place cells empty_field (omega (arith, cells_known, length-set tiling.cells place cells)) ∙ ap empty_cells (get_or-set_same tiling.cells place cells cells cells_known) in
+      let kind : get_or after.kinds index I ≡ piece = get_or-set_same tiling.kinds index piece I kinds_known in
+      let there : get_or (map empty_cells after.cells) index empty_field ≡ empty_cells cells =
+      get_or-map empty_cells after.cells index cells empty_field (omega (arith, cells_known, length-set tiling.cells index cells)) ∙ ap empty_cells (get_or-set_same tiling.cells index cells cells cells_known) in
       λ i. record { piece = kind i; cells = there i }
 
-  pub put_elsewhere : (other : ℕ) → other ≢ place → other < length tiling.cells → laid_at after other ≡ laid_at tiling other
+  pub put_elsewhere : (other : ℕ) → other ≢ index → other < length tiling.cells → laid_at after other ≡ laid_at tiling other
   unfolding laid_at
   put_elsewhere other apart known =
-      let kind : get_or after.kinds other I ≡ get_or tiling.kinds other I = get_or-set_other tiling.kinds place other piece I apart in
+      let kind : get_or after.kinds other I ≡ get_or tiling.kinds other I = get_or-set_other tiling.kinds index other piece I apart in
       let there : get_or (map empty_cells after.cells) other empty_field ≡ get_or (map empty_cells tiling.cells) other empty_field =
-      get_or-map empty_cells after.cells other cells empty_field (omega (arith, known, length-set tiling.cells place cells))
-      ∙ ap empty_cells (get_or-set_other tiling.cells place other cells cells apart)
+      get_or-map empty_cells after.cells other cells empty_field (omega (arith, known, length-set tiling.cells index cells))
+      ∙ ap empty_cells (get_or-set_other tiling.cells index other cells cells apart)
       ∙ sym (get_or-map empty_cells tiling.cells other cells empty_field known) in
       λ i. record { piece = kind i; cells = there i }
 
--- an empty set at a place is no piece
-pub nothing_there : (tiling : ListedTiling) (place other : ℕ) (none : Empties) → other ≡ place → empty_cells none ≡ empty_field → place < length tiling.kinds → place < length tiling.cells →
-    laid_at (record { kinds = set tiling.kinds place I; cells = set tiling.cells place none }) other ≡ no_piece
-nothing_there tiling place other none same is kinds_known cells_known =
-    ap (λ k. laid_at (record { kinds = set tiling.kinds place I; cells = set tiling.cells place none }) k) same ∙ put_there tiling place I none kinds_known cells_known
+-- an empty set at an index is no piece
+pub nothing_there : (tiling : ListedTiling) (index other : ℕ) (none : Empties) → other ≡ index → empty_cells none ≡ empty_field → index < length tiling.kinds → index < length tiling.cells →
+    laid_at (record { kinds = set tiling.kinds index I; cells = set tiling.cells index none }) other ≡ no_piece
+nothing_there tiling index other none same is kinds_known cells_known =
+    ap (λ k. laid_at (record { kinds = set tiling.kinds index I; cells = set tiling.cells index none }) k) same ∙ put_there tiling index I none kinds_known cells_known
     ∙ ap (λ (cells : Field). record { piece = I; cells = cells }) is
 
 -- two ways to make a list that agree

@@ -123,18 +123,18 @@ grows_on pieces more most number One Other Either first second split = search ru
 pub grows_same : (pieces more : List StandingPiece) (number : ℕ) (Such Same : Field → Type 0) → GrowsBy pieces more number Such → ((cells : Field) → Same cells ↔ Such cells) → GrowsBy pieces more number Same
 grows_same pieces more number Such Same grows both = search rules
 
--- ---- the places of a tiling, and the tilings of a list
+-- ---- the indexes of a tiling, and the tilings of a list
 
 -- one of the first places has the piece
-pub record HasBefore (tiling : ListedTiling) (laid : LaidPiece) (index : ℕ) : Type 0 where
-  pub place : ℕ
-  pub below : place < index
-  pub there : laid_at tiling place ≡ laid
+pub record HasBefore (tiling : ListedTiling) (laid : LaidPiece) (end : ℕ) : Type 0 where
+  pub index : ℕ
+  pub below : index < end
+  pub there : laid_at tiling index ≡ laid
 
 pub before_more : (tiling : ListedTiling) (laid : LaidPiece) (index : ℕ) → HasBefore tiling laid (index + 1) ↔ (HasBefore tiling laid index ⊎ (laid_at tiling index ≡ laid))
 before_more tiling laid index = search (rules, cases_eq)
 
--- the place has a piece of the kind
+-- the index has a piece of the kind
 pub before_here : (tiling : ListedTiling) (piece : Piece) (index : ℕ) (known : Field) → laid_at tiling index ≡ record { piece = piece; cells = known } → (cells : Field) →
     HasBefore tiling (record { piece = piece; cells = cells }) (index + 1) ↔ (HasBefore tiling (record { piece = piece; cells = cells }) index ⊎ (cells ≡ known))
 before_here tiling piece index known at cells = search (rules, before_more)

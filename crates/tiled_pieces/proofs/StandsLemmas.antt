@@ -103,10 +103,10 @@ listed_stands E supply list small all only m inside = (
 )
   where
     from : (tiling : ListedTiling) → HasPiece tiling (laid_placement m) → IsListed E supply tiling → StandsInTiling E supply m
-    from tiling has is = elim (is.each has.place has.known) [
+    from tiling has is = elim (is.each has.index has.known) [
       | inl none ↦ absurd (both_ways _ (none.none m.x m.y) (ap (λ (l : LaidPiece). l.cells m.x m.y) has.there ∙ pivot_in (laid_placement m).cells m (in_laid m inside (laid_placement m).cells (λ x y there. there))))
       | inr among ↦
           let order = in_order (total supply) supply E (omega arith) small is.whole in
           stands E supply m small inside (laid_before supply E order.laid (laid_placement m) (all_any HasFirst supply E order.laid order.are)
-          (subst (λ l. Contains order.laid l) has.there (All-contains (Contains order.laid) (map laid_part is.whole.parts) (laid_at tiling has.place) (All-map (Contains order.laid) laid_part is.whole.parts order.all) among)))
+          (subst (λ l. Contains order.laid l) has.there (All-contains (Contains order.laid) (map laid_part is.whole.parts) (laid_at tiling has.index) (All-map (Contains order.laid) laid_part is.whole.parts order.all) among)))
     ]

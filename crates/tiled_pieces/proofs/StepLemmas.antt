@@ -77,43 +77,43 @@ seven_add supply E x y small first l0 l1 l2 l3 l4 l5 l6 l7 i l o z t j s =
 
 -- the forms of a kind
 abbrev Spans : (Field → LaidPiece → Type 0) → Supply → Field → ℕ → ℕ → Piece → ℕ → Fact
-Spans Next supply E x y kind place path found = Stacks (is_allowed y) (GoesOnWith Next supply E kind path found) E x 0 (get_or (forms_of kind) place [])
+Spans Next supply E x y kind index path found = Stacks (is_allowed y) (GoesOnWith Next supply E kind path found) E x 0 (get_or (forms_of kind) index [])
 
 abbrev AnyForm : Supply → Field → ℕ → ℕ → Listing → Listing → Piece → Type 0
 AnyForm supply E x y a b piece = Adds a b (StacksSome HasFirst supply E x y piece) (GoesOn IsAny (with_one supply piece) E)
 
 module _ (supply : Supply) (E : Field) (x y : ℕ) (small : IsSmall 8 E) where
-  form_adds : (piece : Piece) (place : ℕ) (a b : Listing) → place < length (forms_of piece) → Adds a b (Spans HasFirst supply E x y piece place) (Spans IsAny supply E x y piece place) →
-      Adds a b (StacksForm HasFirst supply E x y piece place) (GoesOn IsAny (with_one supply piece) E)
-  form_adds piece place a b known adds = search (rules, adds_as, form_found)
+  form_adds : (piece : Piece) (index : ℕ) (a b : Listing) → index < length (forms_of piece) → Adds a b (Spans HasFirst supply E x y piece index) (Spans IsAny supply E x y piece index) →
+      Adds a b (StacksForm HasFirst supply E x y piece index) (GoesOn IsAny (with_one supply piece) E)
+  form_adds piece index a b known adds = search (rules, adds_as, form_found)
 
   pub one_of : (piece kind : Piece) → piece ≡ kind → length (forms_of kind) ≡ 1 → (a b : Listing) → Adds a b (Spans HasFirst supply E x y kind 0) (Spans IsAny supply E x y kind 0) → AnyForm supply E x y a b piece
   one_of piece kind is count a b first = subst (AnyForm supply E x y a b) (sym is)
-      (adds_as a b _ _ (StacksSome HasFirst supply E x y kind) _ (λ path found some. one path found some.place some.stacks) (λ path found goes. goes) (form_adds kind 0 a b (omega (arith, count)) first))
+      (adds_as a b _ _ (StacksSome HasFirst supply E x y kind) _ (λ path found some. one path found some.index some.stacks) (λ path found goes. goes) (form_adds kind 0 a b (omega (arith, count)) first))
     where
-      one : (path found : List LaidPiece) (place : ℕ) → StacksForm HasFirst supply E x y kind place path found → StacksForm HasFirst supply E x y kind 0 path found
-      one path found place form = search rules
+      one : (path found : List LaidPiece) (index : ℕ) → StacksForm HasFirst supply E x y kind index path found → StacksForm HasFirst supply E x y kind 0 path found
+      one path found index form = search rules
 
   pub two_of : (piece kind : Piece) → piece ≡ kind → length (forms_of kind) ≡ 2 → (a b c : Listing) → Adds a b (Spans HasFirst supply E x y kind 0) (Spans IsAny supply E x y kind 0) →
       Adds b c (Spans HasFirst supply E x y kind 1) (Spans IsAny supply E x y kind 1) → AnyForm supply E x y a c piece
   two_of piece kind is count a b c first second = subst (AnyForm supply E x y a c) (sym is)
-      (adds_as a c _ _ (StacksSome HasFirst supply E x y kind) _ (λ path found some. one path found some.place some.stacks) (λ path found goes. goes)
+      (adds_as a c _ _ (StacksSome HasFirst supply E x y kind) _ (λ path found some. one path found some.index some.stacks) (λ path found goes. goes)
       (adds_then a b c _ _ _ (form_adds kind 0 a b (omega (arith, count)) first) (form_adds kind 1 b c (omega (arith, count)) second)))
     where
-      one : (path found : List LaidPiece) (place : ℕ) → StacksForm HasFirst supply E x y kind place path found → StacksForm HasFirst supply E x y kind 0 path found ⊎ StacksForm HasFirst supply E x y kind 1 path found
-      one path found place form = search rules
+      one : (path found : List LaidPiece) (index : ℕ) → StacksForm HasFirst supply E x y kind index path found → StacksForm HasFirst supply E x y kind 0 path found ⊎ StacksForm HasFirst supply E x y kind 1 path found
+      one path found index form = search rules
 
   pub four_of : (piece kind : Piece) → piece ≡ kind → length (forms_of kind) ≡ 4 → (a b c d e : Listing) → Adds a b (Spans HasFirst supply E x y kind 0) (Spans IsAny supply E x y kind 0) →
       Adds b c (Spans HasFirst supply E x y kind 1) (Spans IsAny supply E x y kind 1) → Adds c d (Spans HasFirst supply E x y kind 2) (Spans IsAny supply E x y kind 2) →
       Adds d e (Spans HasFirst supply E x y kind 3) (Spans IsAny supply E x y kind 3) → AnyForm supply E x y a e piece
   four_of piece kind is count a b c d e first second third fourth = subst (AnyForm supply E x y a e) (sym is)
-      (adds_as a e _ _ (StacksSome HasFirst supply E x y kind) _ (λ path found some. one path found some.place some.stacks) (λ path found goes. goes)
+      (adds_as a e _ _ (StacksSome HasFirst supply E x y kind) _ (λ path found some. one path found some.index some.stacks) (λ path found goes. goes)
       (adds_then a d e _ _ _ (adds_then a c d _ _ _ (adds_then a b c _ _ _ (form_adds kind 0 a b (omega (arith, count)) first) (form_adds kind 1 b c (omega (arith, count)) second))
       (form_adds kind 2 c d (omega (arith, count)) third)) (form_adds kind 3 d e (omega (arith, count)) fourth)))
     where
-      one : (path found : List LaidPiece) (place : ℕ) → StacksForm HasFirst supply E x y kind place path found →
+      one : (path found : List LaidPiece) (index : ℕ) → StacksForm HasFirst supply E x y kind index path found →
           ((StacksForm HasFirst supply E x y kind 0 path found ⊎ StacksForm HasFirst supply E x y kind 1 path found) ⊎ StacksForm HasFirst supply E x y kind 2 path found) ⊎ StacksForm HasFirst supply E x y kind 3 path found
-      one path found place form = search rules
+      one path found index form = search rules
 
 -- where nothing was added and the list isn't full, there is no tiling
 pub none_added : (supply : Supply) (E : Field) (a b : Listing) → IsSmall 8 E → Adds a b (GoesOn HasFirst supply E) (GoesOn IsAny supply E) → length b.tilings.items ≡ length a.tilings.items → b.is_full ≡ false → CanFill 8 supply E → ⊥

@@ -19,7 +19,7 @@ use Rattle.tiled_pieces.specs.declared.listing.Listing.{Listing}
 use Rattle.tiled_pieces.specs.declared.path.Path.{Path}
 use Rattle.tiled_pieces.specs.TilingLists.{LaidPiece, laid_at, laid_part}
 
--- no piece, as at the places of a listed tiling past its last one
+-- no piece, as at the indexes of a listed tiling past its last one
 abbrev pub no_piece : LaidPiece
 no_piece = record { piece = I; cells = empty_field }
 
@@ -71,16 +71,16 @@ StacksUp Next cover piece cells floor spans path found =
 
 -- the spans of a form have the first cell, and others use up what they leave
 pub record StacksForm (Next : Field → LaidPiece → Type 0) (supply : Supply) (E : Field) (x y : ℕ) (piece : Piece)
-    (place : ℕ) (path found : List LaidPiece) : Type 0 where
-  pub known : place < length (forms_of piece)
+    (index : ℕ) (path found : List LaidPiece) : Type 0 where
+  pub known : index < length (forms_of piece)
   pub stacks : Stacks (is_allowed y) (GoesOnWith Next supply E piece path found) E x 0
-      (slice_index_or (forms_of piece) place [])
+      (slice_index_or (forms_of piece) index [])
 
 -- those of some form do
 pub record StacksSome (Next : Field → LaidPiece → Type 0) (supply : Supply) (E : Field) (x y : ℕ) (piece : Piece)
     (path found : List LaidPiece) : Type 0 where
-  pub place : ℕ
-  pub stacks : StacksForm Next supply E x y piece place path found
+  pub index : ℕ
+  pub stacks : StacksForm Next supply E x y piece index path found
 
 -- a piece of this kind of the supply does
 pub record TakesFirst (Next : Field → LaidPiece → Type 0) (supply : Supply) (E : Field) (x y : ℕ) (piece : Piece)
@@ -91,7 +91,7 @@ pub record TakesFirst (Next : Field → LaidPiece → Type 0) (supply : Supply) 
 -- the pieces of a listed tiling, at most eight
 pub record Spells (tiling : ListedTiling) (found : List LaidPiece) : Type 0 where
   pub few : length found ≤ 8
-  pub each : (place : ℕ) → place < 8 → laid_at tiling place ≡ slice_index_or found place no_piece
+  pub each : (index : ℕ) → index < 8 → laid_at tiling index ≡ slice_index_or found index no_piece
 
 -- these pieces are listed
 pub record Lists (list : List ListedTiling) (found : List LaidPiece) : Type 0 where

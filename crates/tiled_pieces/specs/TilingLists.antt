@@ -27,18 +27,18 @@ abbrev pub laid_placement : Placement → LaidPiece
 laid_placement placement =
     record { piece = placement.piece; cells = λ x y. is_among (cells_of placement) (pos x, pos y) }
 
--- the piece at a place of a listed tiling
+-- the piece at an index of a listed tiling
 unfoldable pub laid_at : ListedTiling → ℕ → LaidPiece
-laid_at tiling place = record {
-  piece = slice_index_or tiling.kinds place I;
-  cells = slice_index_or (map empty_cells tiling.cells) place empty_field;
+laid_at tiling index = record {
+  piece = slice_index_or tiling.kinds index I;
+  cells = slice_index_or (map empty_cells tiling.cells) index empty_field;
 }
 
 -- a listed tiling has a piece at one of its eight places
 pub record HasPiece (tiling : ListedTiling) (laid : LaidPiece) : Type 0 where
-  pub place : ℕ
-  pub known : place < 8
-  pub there : laid_at tiling place ≡ laid
+  pub index : ℕ
+  pub known : index < 8
+  pub there : laid_at tiling index ≡ laid
 
 -- some listed tiling has a piece
 pub record SomeHas (list : List ListedTiling) (laid : LaidPiece) : Type 0 where
@@ -59,8 +59,8 @@ pub record ListsAll (E : Field) (supply : Supply) (list : List ListedTiling) : T
 -- the pieces of a listed tiling are parts of a tiling of a set of cells; its further places have no cell
 pub record IsListed (E : Field) (supply : Supply) (tiling : ListedTiling) : Type 0 where
   pub whole : Tiling (all_but E) 8 supply
-  pub each : (place : ℕ) → place < 8 → HasNoCell (laid_at tiling place).cells
-      ⊎ Contains (map laid_part whole.parts) (laid_at tiling place)
+  pub each : (index : ℕ) → index < 8 → HasNoCell (laid_at tiling index).cells
+      ⊎ Contains (map laid_part whole.parts) (laid_at tiling index)
 
 -- nothing but tilings of a set of cells by a supply is listed
 pub record ListsOnly (E : Field) (supply : Supply) (list : List ListedTiling) : Type 0 where

@@ -21,34 +21,34 @@ impl ListedTiling {
     pub fn has(&self, piece: Piece, cells: &Empties) -> bool
         ensures { IsTrue result ↔ HasPiece self.now (record { piece = piece; cells = empty_cells cells.now }) }
     {
-        for place in 0..8 {
-            if self.has_at(place, piece, cells) {
+        for index in 0..8 {
+            if self.has_at(index, piece, cells) {
                 return true;
             }
         }
         false
     }
 
-    /// The cells of the piece at this place. `None` exactly if it is of another kind.
+    /// The cells of the piece at this index. `None` exactly if it is of another kind.
     #[inline(always)]
-    pub fn cells_at(&self, place: usize, piece: Piece) -> Option<Empties>
-        requires { place < 8 }
-        ensures { MatchOption result ((laid_at self.now place).piece ≡ piece → ⊥)
-            (λ cells. laid_at self.now place ≡ record { piece = piece; cells = empty_cells cells }) }
+    pub fn cells_at(&self, index: usize, piece: Piece) -> Option<Empties>
+        requires { index < 8 }
+        ensures { MatchOption result ((laid_at self.now index).piece ≡ piece → ⊥)
+            (λ cells. laid_at self.now index ≡ record { piece = piece; cells = empty_cells cells }) }
     {
-        if self.kinds[place].code() != piece.code() {
+        if self.kinds[index].code() != piece.code() {
             return None;
         }
-        Some(self.cells[place])
+        Some(self.cells[index])
     }
 
-    /// Whether the piece at this place is of this kind and has these cells.
+    /// Whether the piece at this index is of this kind and has these cells.
     #[inline(always)]
-    fn has_at(&self, place: usize, piece: Piece, cells: &Empties) -> bool
-        requires { place < 8 }
+    fn has_at(&self, index: usize, piece: Piece, cells: &Empties) -> bool
+        requires { index < 8 }
         ensures { IsTrue result
-            ↔ (laid_at self.now place ≡ record { piece = piece; cells = empty_cells cells.now }) }
+            ↔ (laid_at self.now index ≡ record { piece = piece; cells = empty_cells cells.now }) }
     {
-        self.cells[place].is_equal(cells) && self.kinds[place].code() == piece.code()
+        self.cells[index].is_equal(cells) && self.kinds[index].code() == piece.code()
     }
 }

@@ -16,8 +16,8 @@ pub(crate) struct Path {
     /// How many there are.
     pub(crate) count: usize,
     ghost few: { count ≤ 8 },
-    ghost none: { (place : ℕ) → count ≤ place → place < 8
-        → laid_at tiling place ≡ record { piece = I; cells = empty_field } },
+    ghost none: { (index : ℕ) → count ≤ index → index < 8
+        → laid_at tiling index ≡ record { piece = I; cells = empty_field } },
 }
 
 impl Path {

@@ -71,8 +71,8 @@ impl StandingPieces {
             (λ cells. HasPiece tiling.now (record { piece = self.old.piece; cells = cells }))) }
         ensures kind { self.new.piece ≡ self.old.piece }
     {
-        for place in 0..8 {
-            if let Some(cells) = tiling.cells_at(place, self.piece) {
+        for index in 0..8 {
+            if let Some(cells) = tiling.cells_at(index, self.piece) {
                 self.add_piece(start, cells, number)?;
             }
         }

@@ -1,4 +1,4 @@
--- The kind and the cells at the place.
+-- The kind and the cells at the index.
 use Rattle.std.proofs.Common.{rules}
 use Rattle.srs.proofs.CallerLemmas.{piece_code-injective}
 use Rattle.tiled_pieces.proofs.ListedLemmas.{laid_kind, laid_of}

@@ -1,4 +1,4 @@
--- The last piece's place is free again.
+-- The last piece's index is free again.
 use Rattle.std.proofs.Common.{rules}
 use Rattle.std.proofs.lemmas.Bool.{cases_eq}
 use Rattle.tiled_pieces.specs.Listings.{path_of}

@@ -1,4 +1,4 @@
--- The piece is put at the first free place.
+-- The piece is put at the first free index.
 use Rattle.std.proofs.Common.{rules}
 use Rattle.tiled_pieces.specs.Listings.{path_of}
 use Rattle.tiled_pieces.proofs.PathLemmas.{one_more, put_elsewhere, put_there}
