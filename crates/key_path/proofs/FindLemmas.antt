@@ -36,9 +36,7 @@ use Rattle.key_path.proofs.NewStates.{IsNew, new_is, none_new}
 
 -- a buffer with room for one more item keeps all
 pub pushed : {X : Type 0} (before after : Buffer X) (x : X) → after ≡ buffer (keep_last before.capacity (before.items ++ x ∷ [])) before.capacity → length (before.items ++ x ∷ []) ≤ before.capacity → after.items ≡ before.items ++ x ∷ []
-pushed {X} before after x is fits =
-    let none : length (before.items ++ x ∷ []) - before.capacity ≡ 0 = omega arith in
-    ap (λ (b : Buffer X). b.items) is ∙ ap (λ k. drop k (before.items ++ x ∷ [])) none
+pushed {X} before after x is fits = search rules
 
 -- placements with the same cells have the same key words
 led_to_other : (table : Table) (F : Field) (mode : DropMode) (p q : Placement) (word : List Key) → HasSameCells p q → LeadsToRest table F mode word p → LeadsToRest table F mode word q

@@ -1,5 +1,5 @@
 -- A free pivot that is tried first is taken.
-use Rattle.std.proofs.Common.{◌≡◌, ℕ, true, pos, Option, Some, None, List, [], ◌∷◌, map, sym, ap, ◌∙◌}
+use Rattle.std.proofs.Common.{◌≡◌, ℕ, true, pos, Option, Some, List, [], ◌∷◌, map, sym, ap, ◌∙◌, rules}
 use Rattle.std.specs.Prelude.{IfSome}
 use Rattle.std.proofs.lemmas.Bool.{cond-true}
 use Rattle.lane_board.specs.Field.{Field}
@@ -36,5 +36,4 @@ module _ (F : Field) where
   shifted_first table state key other move next is one leads = ap (step_of table F state) is ∙ one ∙ leads []
 
 pub if_some : {X : Type 0} (P Q : X → Type 0) (o : Option X) → ((x : X) → P x → Q x) → IfSome o P → IfSome o Q
-if_some P Q None each has = has
-if_some P Q (Some x) each has = each x has
+if_some P Q o each has = search rules

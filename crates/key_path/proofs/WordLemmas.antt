@@ -1,4 +1,5 @@
 -- The order of key words: it is total, and what one more key does in it.
+use Rattle.std.proofs.lemmas.Grind.{common_steps}
 use Rattle.std.proofs.Common.{◌≡◌, ◌⊎◌, ℕ, suc, ◌<◌, List, [], ◌∷◌, ◌++◌, length, refl, sym, ap, subst, ◌∙◌, inl, inr, arith, rules}
 use Rattle.std.specs.Prelude.{slice_index_or}
 use Rattle.std.specs.Ordering.{ordering_then, nat_cmp, is_gt}
@@ -94,8 +95,7 @@ pub before_longer : (v : List Key) (key : Key) (w : List Key) → key_word_cmp v
 before_longer v key w = shorter_before v (v ++ key ∷ w) (omega (arith, length-append v (key ∷ w)))
 
 pub not_after-front : (v w : List Key) → NotAfter v (v ++ w)
-not_after-front v [] = subst (NotAfter v) (sym (append-nil v)) (not_after-itself v)
-not_after-front v (key ∷ w) = not_after-before v (v ++ key ∷ w) (before_longer v key w)
+not_after-front v w = grind (arith, common_steps, append-nil, not_after-itself, not_after-before, before_longer)
 
 -- with one more key a lesser key word stays the lesser one, whatever the keys are
 pub more_before : (v w : List Key) (key other : Key) → key_word_cmp v w ≡ Less → key_word_cmp (v ++ key ∷ []) (w ++ other ∷ []) ≡ Less
@@ -107,10 +107,7 @@ key_before v key other less = search (rules, as_long, length-append, same_front,
 
 -- the same key makes of a key word that is not after another one no later one
 pub more_not_after : (v w : List Key) (key : Key) → NotAfter v w → NotAfter (v ++ key ∷ []) (w ++ key ∷ [])
-more_not_after v w key not = elim (not_after-cases v w not) [
-  | inl less ↦ not_after-before (v ++ key ∷ []) (w ++ key ∷ []) (more_before v w key key less)
-  | inr same ↦ subst (λ w. NotAfter (v ++ key ∷ []) (w ++ key ∷ [])) same (not_after-itself (v ++ key ∷ []))
-]
+more_not_after v w key not = search (rules, not_after-cases, not_after-before, more_before, not_after-itself)
 
 -- no key word is before another one and after it
 pub not_both : (v w : List Key) → key_word_cmp v w ≡ Less → key_word_cmp w v ≡ Less → ⊥
