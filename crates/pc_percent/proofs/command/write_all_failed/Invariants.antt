@@ -1,5 +1,5 @@
 -- The lines of the failed queues so far are written, and those of the queues that are left make the rest.
-use Rattle.std.proofs.Common.{◌≡◌, drop}
+use Rattle.std.proofs.Common.{drop}
 use Rattle.pc_outside.specs.CountLaws.{NoneFailed}
 use Rattle.pc_outside.specs.Writes.{GrowsUpTo}
 use Rattle.queue_pattern.specs.Pattern.{elements_of}
