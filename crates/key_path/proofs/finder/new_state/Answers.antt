@@ -1,5 +1,5 @@
 -- The key is not allowed, makes no move, or leads to a state whose mark decides.
-use Rattle.std.proofs.Common.{sym, ap, ◌∙◌}
+use Rattle.std.proofs.Common.{sym, ◌∙◌, rules}
 use Rattle.std.specs.Bool.{then_some}
 use Rattle.well.specs.Well.{filled}
 use Rattle.well.proofs.CallerLemmas.{free_pivot_inside}
@@ -12,9 +12,7 @@ pub returns-then-not-allows : goal.returns-then-not-allows
 returns-then-not-allows c = new_not_allowed (table_of c.args.rules.now) (filled c.args.states.now.well) c.args.drop_mode c.args.marks.now.marks c.args.state.now c.args.key (sym c.allows.ensures ∙ c.if-not-allows.true)
 
 pub returns-in_err-next : goal.returns-in_err-next
-returns-in_err-next c =
-    c.from_residual.ensures
-    ∙ new_no_move (table_of c.args.rules.now) (filled c.args.states.now.well) c.args.drop_mode c.args.marks.now.marks c.args.state.now c.args.key (sym c.allows.ensures ∙ c.if-not-allows.false) (sym c.step.ensures ∙ c.in_err-next.was)
+returns-in_err-next c = search (rules, new_no_move)
 
 pub is_unseen-requires : goal.is_unseen-requires
 is_unseen-requires c =
@@ -22,7 +20,4 @@ is_unseen-requires c =
     record { in_columns = inside.in_columns; in_rows = inside.in_rows }
 
 pub returns : goal.returns
-returns c =
-    c.then_some.ensures
-    ∙ ap (λ b. then_some b c.in_ok-next.next) c.is_unseen.ensures
-    ∙ new_move (table_of c.args.rules.now) (filled c.args.states.now.well) c.args.drop_mode c.args.marks.now.marks c.args.state.now c.args.key c.in_ok-next.next (sym c.allows.ensures ∙ c.if-not-allows.false) (sym c.step.ensures ∙ c.in_ok-next.was)
+returns c = search (rules, then_some, new_move)

@@ -1,8 +1,7 @@
 -- The pivot is moved by few columns and rows, so that no sum leaves a byte.
-use Rattle.std.proofs.Common.{◌≡◌, pos, ◌+ℤ◌, nat_abs, to_z, of_z, w8, arith}
+use Rattle.std.proofs.Common.{arith, rules}
 use Rattle.std.proofs.lemmas.Int.{ints}
 use Rattle.srs.specs.Cells.{moved}
-use Rattle.well.specs.Well.{filled}
 use Rattle.key_path.proofs.FreeLemmas.{first_is}
 use Rattle.key_path.proofs.free.FreeStates.moved.Goals as goal
 
@@ -20,7 +19,4 @@ overflow_add-y c = omega (arith, ints, c.requires.pivot.in_rows)
 
 pub returns-then-has : goal.returns-then-has
 unfolding moved
-returns-then-has c = λ pivots.
-    let x : pos c.args.state.now.x +ℤ c.args.change.dx ≡ pos (nat_abs (to_z w8 (of_z w8 (to_z w8 c.args.state.now.x +ℤ to_z w8 (of_z w8 c.args.change.dx))))) = omega (arith, ints, c.requires.pivot.in_columns) in
-    let y : pos c.args.state.now.y +ℤ c.args.change.dy ≡ pos (nat_abs (to_z w8 (of_z w8 (to_z w8 c.args.state.now.y +ℤ to_z w8 (of_z w8 c.args.change.dy))))) = omega (arith, ints, c.requires.pivot.in_rows) in
-    first_is (filled c.args.self.now.well) c.args.self.now.piece c.args.state.now.piece c.args.rotation _ _ _ pivots c.requires.kind (λ i. (x i, y i)) (c.has.ensures c.if-has.true)
+returns-then-has c = search (rules, first_is)
