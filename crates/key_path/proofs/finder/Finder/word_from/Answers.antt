@@ -1,18 +1,30 @@
 -- Each turn is a lemma of the search.
-use Rattle.std.proofs.Common.{Some, sym, subst, ◌∙◌, rules}
+use Rattle.std.proofs.Common.{◌≡◌, ◌++◌, [], ◌∷◌, Some, List, length, sym, ap, subst, ◌∙◌, arith}
 use Rattle.std.proofs.lemmas.List.{length-append}
+use Rattle.srs.specs.declared.placement.Placement.{Placement}
 use Rattle.srs.specs.Rules.{table_of}
 use Rattle.well.specs.Well.{filled}
+use Rattle.circular_buffer.specs.Buffer.{Buffer}
+use Rattle.key_path.specs.declared.marks.Mark.TheVariants.{Start}
 use Rattle.key_path.specs.LeastKeyWord.{IsLeastKeyWord}
+use Rattle.key_path.specs.Marks.{with_mark}
 use Rattle.key_path.specs.Search.{LeadsBack}
 use Rattle.key_path.proofs.FindLemmas.{pushed, finding_first, trying_first, none_found}
 use Rattle.key_path.proofs.finder.Finder.word_from.Goals as goal
 
 pub loop-state-init : goal.loop-state-init
-loop-state-init c = search (rules, finding_first, pushed, length-append)
+loop-state-init c =
+    let cleared : c.clear.new.self.items ≡ [] = ap (λ (b : Buffer Placement). b.items) c.clear.ensures in
+    let room : c.clear.new.self.capacity ≡ 920 = ap (λ (b : Buffer Placement). b.capacity) c.clear.ensures ∙ c.args.self.now.room in
+    finding_first (table_of c.args.rules.now) (filled c.args.states.now.well) c.args.drop_mode c.args.aim.now c.set.new.self.marks c.push_back.new.self.items c.requires.free c.requires.elsewhere
+    (c.set.ensures ∙ (λ i. with_mark (c.new-marks.ensures i) (c.spawn-start.ensures i) Start))
+    (pushed c.clear.new.self c.push_back.new.self c.spawn-start.result c.push_back.ensures.items (omega (arith, room, length-append c.clear.new.self.items (c.spawn-start.result ∷ []), ap (λ (xs : List Placement). length xs) cleared))
+    ∙ (λ i. cleared i ++ c.spawn-start.ensures i ∷ []))
 
 pub press_keys-reached-requires-clause-trying : goal.press_keys-reached-requires-clause-trying
-press_keys-reached-requires-clause-trying c = search (rules, trying_first)
+press_keys-reached-requires-clause-trying c =
+    trying_first (table_of c.args.rules.now) (filled c.args.states.now.well) c.args.drop_mode c.args.aim.now c.loop-state.marks.marks c.loop-state.self.waiting.items c.pop_front.new.self.items c.in-Some.state
+    (sym c.pop_front.ensures.value ∙ c.in-Some.is) (ap (λ (b : Buffer Placement). b.items) c.pop_front.ensures.items) c.loop-state.invariant
 
 pub returns-in-Some-reached : goal.returns-in-Some-reached
 returns-in-Some-reached c =

@@ -1,5 +1,5 @@
 -- One key back after another.
-use Rattle.std.proofs.Common.{◌++◌, length, reverse, sym, ap, ◌∙◌, rules}
+use Rattle.std.proofs.Common.{◌++◌, length, reverse, sym, ap, ◌∙◌, arith}
 use Rattle.key_path.proofs.MarkLemmas.{one_back, one_passed, passed_few, passed_all, refilled}
 use Rattle.key_path.proofs.marks.Marks.word_to.Goals as goal
 
@@ -7,10 +7,14 @@ pub loop-from-init : goal.loop-from-init
 loop-from-init c = (c.requires.pivot, λ traced. record { rest = traced.keys; traces = traced.traces; is = ap (λ w. w ++ traced.keys) (sym c.new-word.ensures) })
 
 pub push-requires : goal.push-requires
-push-requires c = search (rules, passed_few)
+push-requires c =
+    let few = passed_few c.args.self.now.marks c.loop-from.reached c.in-From.from c.in-From.key c.loop-from.word.items c.requires.traced.keys (sym c.at.ensures ∙ c.in-From.is) (c.loop-from.invariant.1 c.requires.traced) in
+    (omega arith, omega (arith, few, c.requires.traced.few))
 
 pub loop-from-smaller : goal.loop-from-smaller
-loop-from-smaller c = search (rules, passed_few)
+loop-from-smaller c =
+    let few = passed_few c.args.self.now.marks c.loop-from.reached c.in-From.from c.in-From.key c.loop-from.word.items c.requires.traced.keys (sym c.at.ensures ∙ c.in-From.is) (c.loop-from.invariant.1 c.requires.traced) in
+    omega (arith, few, c.requires.traced.few, c.push.ensures.len)
 
 pub loop-from-preserved : goal.loop-from-preserved
 loop-from-preserved c =
