@@ -15,6 +15,7 @@ use place_sets::Pivots;
 use srs::{Piece, Rotation};
 
 /// The canonical placements that have the cells of resting states under an open sky, with the pivot below row `M`.
+#[tactic(auto, using(crate::proofs::LanePlaceLemmas::each_cut), unfolding(place_sets::specs::States::states_of))]
 pub(crate) fn hard_places<const KIND: u8, const N: usize, const M: usize>(
     filled: &LaneBoard<N>,
     piece: Piece,

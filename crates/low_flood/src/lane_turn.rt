@@ -115,6 +115,7 @@ fn opening<const N: usize>(
 
 /// How many lanes stay on the board when places move by this many rows.
 #[inline(always)]
+#[tactic(auto, using(crate::proofs::LaneTests::staying_all, crate::proofs::LaneTests::staying_some))]
 fn lanes_staying<const N: usize>(rows: i8) -> u8
     requires lanes { IsTrue (is_lane_count N) }
     requires few { rows ≤ℤ pos 6 }

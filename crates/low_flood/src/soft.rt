@@ -90,6 +90,7 @@ fn skies<const KIND: u8, const N: usize>(piece: Piece, free: &Pivots<N>) -> Pivo
 }
 
 /// The places of each rotation, plus all that single moves lead to from them.
+#[tactic(auto, using(crate::proofs::SoftLemmas::spread_each), unfolding(place_sets::specs::States::states_of))]
 fn spread_all<const KIND: u8, const N: usize>(free: &Pivots<N>, places: &Pivots<N>) -> Pivots<N>
     ensures { AreSpread N (states_of free.now) (states_of places.now) (states_of result) }
 {
@@ -141,6 +142,7 @@ fn turned_into<const KIND: u8, const TO: u8, const N: usize>(
 }
 
 /// Whether the places include every resting state.
+#[tactic(auto, using(crate::proofs::SoftLemmas::all_rests_by))]
 fn has_all_rests<const KIND: u8, const N: usize>(
     piece: Piece,
     free: &Pivots<N>,
