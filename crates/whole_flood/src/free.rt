@@ -12,6 +12,7 @@ use place_sets::Pivots;
 use srs::{Piece, Placement, Rotation, cells};
 
 /// The states of a piece whose cells all lie in the well and are not filled.
+#[tactic(auto, using(crate::proofs::OpenedLemmas::free_map), unfolding(place_sets::specs::States::states_of))]
 pub(crate) fn free_states(filled: &LaneBoard<24>, piece: Piece) -> Pivots<24>
     ensures { IsFreeMap (field_of filled.now) piece (states_of result) }
 {
@@ -45,6 +46,7 @@ fn blank_pivots(blank: &LaneBoard<24>, piece: Piece, rotation: Rotation) -> Lane
 }
 
 /// The offsets of the four cells of a piece from its pivot, which are its cells if the pivot is in column 0 and row 0.
+#[tactic(auto, using(crate::proofs::OffsetLemmas::at_nothing, srs::proofs::CallerLemmas::shape_near))]
 fn offsets(piece: Piece, rotation: Rotation) -> [(i8, i8); 4]
     ensures shape { result ≡ shape piece rotation }
     ensures near { IsTrue (list_all is_near result) }

@@ -7,6 +7,7 @@ use lane_board::LaneBoard;
 use place_sets::{Pivots, Shifts, spread};
 
 /// The states in which the states of a set come to rest.
+#[tactic(auto, using(crate::proofs::RestLemmas::rested_each), unfolding(place_sets::specs::States::states_of))]
 pub(crate) fn resting<const N: usize>(free: &Pivots<N>, states: &Pivots<N>) -> Pivots<N>
     ensures { AreRested N (states_of free.now) (states_of states.now) (states_of result) }
 {

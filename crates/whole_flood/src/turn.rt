@@ -50,7 +50,7 @@ fn kicked_to<const N: usize>(
 }
 
 /// The pivots that the test takes nowhere, given those that it takes them to.
-#[tactic(auto, unfolding(crate::specs::Kicks::left_by))]
+#[tactic(auto, using(lane_board::proofs::CallerLemmas::few_rows), unfolding(crate::specs::Kicks::left_by))]
 #[inline(always)]
 fn left_by<const N: usize>(
     hits: &LaneBoard<N>,
