@@ -1,10 +1,10 @@
 -- What rising lists have, one number on.
-use Rattle.std.proofs.Common.{ℕ, ◌≡◌, ◌≢◌, ◌+◌, ◌<◌, ◌≤◌, true, false, ◌||◌, ◌==◌, List, [], ◌∷◌, ◌++◌, length, get_or, take, refl, ap, ◌∙◌, arith}
-use Rattle.std.proofs.lemmas.List.{take_all, get_or_default}
+use Rattle.std.proofs.Common.{ℕ, ◌≡◌, ◌≢◌, ◌+◌, ◌<◌, ◌≤◌, true, false, ◌||◌, ◌&&◌, not, ◌==◌, List, [], ◌∷◌, ◌++◌, length, get_or, take, refl, ap, sym, ◌∙◌, arith}
+use Rattle.std.proofs.lemmas.List.{take_all, get_or_default, nil_from_length}
 use Rattle.std.proofs.lemmas.List.Folds.{list_any-append, list_any_more, list_any_none, list_any_at}
 use Rattle.std.proofs.lemmas.Bool.Decides.{nat_tests}
 use Rattle.std.proofs.lemmas.Grind.{common_steps}
-use Rattle.std.proofs.Math.Bool.{or-false}
+use Rattle.std.proofs.Math.Bool.{or-false, and-true}
 use Rattle.number_sets.specs.Rising.{IsRising, AllBelow, has}
 
 pub has-append : (xs ys : List ℕ) (number : ℕ) → has (xs ++ ys) number ≡ (has xs number || has ys number)
@@ -48,3 +48,17 @@ rising-push xs y up all i j before within = grind (arith, common_steps, up i j b
 
 pub below-more : (xs : List ℕ) (low high : ℕ) → AllBelow xs low → low ≤ high → AllBelow xs high
 below-more xs low high all le k within = let at = all k within in omega arith
+
+-- ---- where one of two lists is empty
+
+has-empty : (xs : List ℕ) (number : ℕ) → (length xs == 0) ≡ true → has xs number ≡ false
+has-empty xs number none = let short : length xs ≡ 0 = grind (arith, nat_tests) in ap (λ l. has l number) (nil_from_length xs short) ∙ has-none number
+
+pub either-first : (v a b : List ℕ) (number : ℕ) → v ≡ a → (length b == 0) ≡ true → has v number ≡ (has a number || has b number)
+either-first v a b number same none = ap (λ l. has l number) same ∙ sym (ap (λ x. has a number || x) (has-empty b number none) ∙ or-false (has a number))
+
+pub either-second : (v a b : List ℕ) (number : ℕ) → v ≡ b → (length a == 0) ≡ true → has v number ≡ (has a number || has b number)
+either-second v a b number same none = ap (λ l. has l number) same ∙ sym (ap (λ x. x || has b number) (has-empty a number none))
+
+pub left-whole : (v a b : List ℕ) (number : ℕ) → v ≡ a → (length b == 0) ≡ true → has v number ≡ (has a number && not (has b number))
+left-whole v a b number same none = ap (λ l. has l number) same ∙ sym (ap (λ x. has a number && not x) (has-empty b number none) ∙ and-true (has a number))

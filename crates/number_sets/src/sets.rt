@@ -12,6 +12,12 @@ pub fn merged(alloc: Global, a: &[u64], b: &[u64]) -> Result<Vec<u64>, NoMemory>
     ensures rises { IfOk result (λ v. IsRising v.items) }
     ensures members { IfOk result (λ v. (number : ℕ) → has v.items number ≡ (has a.now number || has b.now number)) }
 {
+    if b.is_empty() {
+        return Ok(Vec::from_slice(alloc, a)?);
+    }
+    if a.is_empty() {
+        return Ok(Vec::from_slice(alloc, b)?);
+    }
     let mut v = Vec::with_capacity(alloc, a.len() + b.len())?;
     let mut next = 0;
     for x in a {
@@ -36,6 +42,9 @@ pub fn without(alloc: Global, a: &[u64], b: &[u64]) -> Result<Vec<u64>, NoMemory
     ensures members { IfOk result (λ v. (number : ℕ) →
         has v.items number ≡ (has a.now number && not (has b.now number))) }
 {
+    if b.is_empty() {
+        return Ok(Vec::from_slice(alloc, a)?);
+    }
     let mut v = Vec::with_capacity(alloc, a.len())?;
     let mut next = 0;
     for x in a {

@@ -5,8 +5,9 @@ ghost use Rattle.number_sets.specs.Rising.{IsRising, has};
 ghost use Rattle.percent.specs.Hands.{allows_hold, takes, with_first, with_second};
 ghost use Rattle.percent.specs.Hands;
 
+use crate::lookup::holds_at;
 use hold_queue::Hold;
-use number_sets::{holds, merged};
+use number_sets::merged;
 use pc_outside::NoMemory;
 use queue_pattern::Queue;
 use srs::Piece;
@@ -123,23 +124,43 @@ pub fn rests_of(
     merged(alloc, first.as_slice(), second.as_slice())
 }
 
-/// Whether a code is the one that is sought and the rest is one of these.
-fn is_one_of(rests: &[u64], sought: u64, code: u64, rest: u64) -> bool
+/// Whether a code is the one that is sought and the rest is one of these. The rest is looked for from an index on, which
+/// goes on to where it stands. Hands that rise ask for rests that rise, so all of them are found in one pass.
+fn is_one_of(rests: &[u64], next: &mut usize, sought: u64, code: u64, rest: u64) -> bool
     requires { IsRising rests.now }
     ensures { result ≡ (code == sought && has rests.now rest) }
 {
-    code == sought && holds(rests, rest)
+    if code != sought {
+        return false;
+    }
+    while *next < rests.len() && rests[*next] < rest {
+        *next += 1;
+    }
+    holds_at(rests, *next, rest)
 }
 
-/// Whether a piece can be taken from a hand so that one of these is left.
+/// Whether a piece can be taken from a hand so that one of these is left. Both rests are looked for from an index on.
 #[tactic(auto, unfolding(crate::specs::Hands::takes, crate::specs::Hands::without_first, crate::specs::Hands::without_second))]
-fn leaves_one_of(hold: Hold, piece: Piece, rests: &[u64], hand: u64) -> bool
+fn leaves_one_of(
+    hold: Hold,
+    piece: Piece,
+    rests: &[u64],
+    next_first: &mut usize,
+    next_second: &mut usize,
+    hand: u64,
+) -> bool
     requires { IsRising rests.now }
     ensures { result ≡ takes hold (piece_code piece) (has rests.now) hand }
 {
     let code = u64::from(piece.code());
-    let first = is_one_of(rests, code, hand % 8, hand / 8);
-    let second = is_one_of(rests, code, hand / 8 % 8, hand / 64 * 8 + hand % 8);
+    let first = is_one_of(rests, next_first, code, hand % 8, hand / 8);
+    let second = is_one_of(
+        rests,
+        next_second,
+        code,
+        hand / 8 % 8,
+        hand / 64 * 8 + hand % 8,
+    );
     match hold {
         Hold::Avoided => first,
         Hold::Allowed => first || second,
@@ -161,8 +182,9 @@ fn not_leading_to_some(
         ≡ (has hands.now hand && not (takes hold (piece_code piece) (has rests.now) hand))) }
 {
     let mut v = Vec::with_capacity(alloc, hands.len())?;
+    let (mut first, mut second) = (0, 0);
     for hand in hands {
-        if !leaves_one_of(hold, piece, rests, *hand) {
+        if !leaves_one_of(hold, piece, rests, &mut first, &mut second, *hand) {
             v.push(*hand)?;
         }
     }

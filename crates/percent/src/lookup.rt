@@ -43,7 +43,7 @@ fn are_above(numbers: &[u64], index: usize, number: u64) -> bool
 
 /// Whether a rising list has a number, given the index at which it stands if it does. If it is another, the whole list
 /// is searched.
-fn holds_at(numbers: &[u64], index: usize, number: u64) -> bool
+pub fn holds_at(numbers: &[u64], index: usize, number: u64) -> bool
     requires { IsRising numbers.now }
     ensures { result ≡ has numbers.now number }
 {

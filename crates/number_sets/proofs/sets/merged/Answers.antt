@@ -1,9 +1,18 @@
 -- Each push is a step of the merge, and what is left of the second list is its end.
-use Rattle.std.proofs.Common.{◌≢◌, ◌≤◌, ◌<◌, length, get_or, arith}
+use Rattle.std.proofs.Common.{◌≢◌, ◌≤◌, ◌<◌, length, get_or, sym, ◌∙◌, arith}
 use Rattle.std.proofs.lemmas.List.{take_rest}
+use Rattle.number_sets.proofs.HasLemmas.{either-first, either-second}
 use Rattle.number_sets.proofs.MergeSteps.{merge-second, merge-first, merge-both, merge-rises, merge-members}
 use Rattle.number_sets.proofs.sets.merged.Goals as goal
 use Rattle.number_sets.proofs.sets.merged.Goals.{then-loop-next-test+else-b-next, else-loop-next-test, then-next-b+then-b-next-2, else-next-b, else-next-b-via-then-next-b+else-b-next-2, else-next-b-via-else-next-b}
+
+pub returns-then-is_empty-clause-members : goal.returns-then-is_empty-clause-members
+returns-then-is_empty-clause-members c = λ number.
+    either-first c.in_ok-from_slice.field-0.items c.args.a.now c.args.b.now number c.in_ok-from_slice.ensures.items (sym c.is_empty.ensures ∙ c.if-is_empty.true)
+
+pub returns-then-is_empty-2-clause-members : goal.returns-then-is_empty-2-clause-members
+returns-then-is_empty-2-clause-members c = λ number.
+    either-second c.in_ok-from_slice-2.field-0.items c.args.a.now c.args.b.now number c.in_ok-from_slice-2.ensures.items (sym c.is_empty-2.ensures ∙ c.if-is_empty-2.true)
 
 pub loop-next-preserved : goal.loop-next-preserved
 loop-next-preserved c =

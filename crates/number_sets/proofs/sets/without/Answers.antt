@@ -1,8 +1,13 @@
 -- Each turn keeps a number, or leaves out one that the second list has.
-use Rattle.std.proofs.Common.{◌≢◌, ◌≤◌, ◌<◌, length, get_or, arith}
+use Rattle.std.proofs.Common.{◌≢◌, ◌≤◌, ◌<◌, length, get_or, sym, ◌∙◌, arith}
+use Rattle.number_sets.proofs.HasLemmas.{left-whole}
 use Rattle.number_sets.proofs.WithoutSteps.{leave-starts, leave-keep, leave-skip}
 use Rattle.number_sets.proofs.sets.without.Goals as goal
 use Rattle.number_sets.proofs.sets.without.Goals.{then-loop-next-test+else-b-next, else-loop-next-test, then-next-b+in_ok-push, then-next-b-via-then-next-b, then-next-b-via-else-next-b+then-b-next-2, else-next-b+else-b-next-2}
+
+pub returns-then-is_empty-clause-members : goal.returns-then-is_empty-clause-members
+returns-then-is_empty-clause-members c = λ number.
+    left-whole c.in_ok-from_slice.field-0.items c.args.a.now c.args.b.now number c.in_ok-from_slice.ensures.items (sym c.is_empty.ensures ∙ c.if-is_empty.true)
 
 pub loop-x-init : goal.loop-x-init
 loop-x-init c = rw c.in_ok-v.ensures.items (leave-starts c.args.a.now c.args.b.now)
