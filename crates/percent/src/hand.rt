@@ -124,8 +124,8 @@ pub fn rests_of(
     merged(alloc, first.as_slice(), second.as_slice())
 }
 
-/// Whether a code is the one that is sought and the rest is one of these. The rest is looked for from an index on, which
-/// goes on to where it stands. Hands that rise ask for rests that rise, so all of them are found in one pass.
+/// Whether a code is the one that is sought and the rest is one of these. The rest is looked for from an index on,
+/// which goes on to where it stands. Hands that rise ask for rests that rise, so all are found in one pass.
 fn is_one_of(rests: &[u64], next: &mut usize, sought: u64, code: u64, rest: u64) -> bool
     requires { IsRising rests.now }
     ensures { result ≡ (code == sought && has rests.now rest) }
