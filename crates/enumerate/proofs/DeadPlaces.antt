@@ -1,5 +1,5 @@
 -- Places that leave no tiling have nothing to do, so they may be left out.
-use Rattle.std.proofs.Common.{◌≡◌, ℕ, ◌-◌, ◌≤◌, Bool, true, false, not, ◌&&◌, List, [], ◌∷◌, ◌++◌, refl, sym, ap, subst, ◌∙◌, inl, inr, arith}
+use Rattle.std.proofs.Common.{◌≡◌, ℕ, ◌-◌, ◌≤◌, Bool, true, false, not, ◌&&◌, List, [], ◌∷◌, ◌++◌, refl, sym, ap, subst, ◌∙◌, arith, rules}
 use Rattle.std.specs.Prelude.{Some, filter, if◌then◌else◌, min}
 use Rattle.std.specs.List.{flat_map}
 use Rattle.std.proofs.lemmas.Bool.{cases_Bool, cond-true, cond-false}
@@ -37,20 +37,14 @@ use Rattle.enumerate.proofs.TurnLemmas.{enters-dead}
 
 module _ (f : Placement → List Event) (a b : Placement → Bool) (same : (q : Placement) → (if a q then f q else []) ≡ (if b q then f q else [])) where
   first : (c : Placement → Bool) (q : Placement) (qs : List Placement) → flat_map f (filter c (q ∷ qs)) ≡ (if c q then f q else []) ++ flat_map f (filter c qs)
-  first c q qs = elim (cases_Bool (c q)) [
-    | inl e ↦ ap (flat_map f) (filter-true c q qs e) ∙ ap (λ l. l ++ flat_map f (filter c qs)) (sym (cond-true (c q) (f q) [] e))
-    | inr e ↦ ap (flat_map f) (filter-false c q qs e) ∙ ap (λ l. l ++ flat_map f (filter c qs)) (sym (cond-false (c q) (f q) [] e))
-  ]
+  first c q qs = search (rules, cases_Bool, filter-true, cond-true, filter-false, cond-false)
 
   flat_map-filters : (qs : List Placement) → flat_map f (filter a qs) ≡ flat_map f (filter b qs)
   flat_map-filters [] = refl
   flat_map-filters (q ∷ qs) = first a q qs ∙ (λ i. same q i ++ flat_map-filters qs i) ∙ sym (first b q qs)
 
 without_dead : (held dead above : Bool) (events : List Event) → (held ≡ true → dead ≡ true → events ≡ []) → (if (held && not dead) && above then events else []) ≡ (if held && above then events else [])
-without_dead false dead above events none = refl
-without_dead true false above events none = refl
-without_dead true true true events none = sym (none refl refl)
-without_dead true true false events none = refl
+without_dead held dead above events none = search rules
 
 module _ (setup : Setup) (piece : Piece) (some : 1 ≤ setup.left) (supply : SupplyWord)
     (moves : (other : Piece) → supply_of supply other ≡ min setup.left (less_one (supply_of setup.supply) piece other)) where
@@ -82,9 +76,7 @@ module _ (frame : Frame) (places : LowPlaces) (is : frame.places ≡ Some places
   is_dead q = cells_of_words words (rotation_place q.rotation) q.x q.y
 
   nothing : (table : Table) (mode : DropMode) (prefix : List Placement) (q : Placement) → holds places q ≡ true → is_dead q ≡ true → entered (enter frame.setup.left) prefix (position_of table mode frame.setup) q ≡ []
-  nothing table mode prefix q held none =
-      let lockable = frame.lockable places is q held in
-      (are.dead q (lockable-piece (filled frame.setup.well) (piece_of places) q lockable) lockable (frame.held_below places is q held) none).same table mode prefix
+  nothing table mode prefix q held none = search (rules, lockable-piece)
 
   pub left-out : (kept : LowPlaces) → piece_of kept ≡ piece_of places → ((q : Placement) → holds kept q ≡ (holds places q && not (is_dead q))) → (table : Table) (mode : DropMode) (prefix : List Placement) →
       flat_map (entered (enter frame.setup.left) prefix (position_of table mode frame.setup)) (places_left (Some kept) frame.entered) ≡ flat_map (entered (enter frame.setup.left) prefix (position_of table mode frame.setup)) (places_left (Some places) frame.entered)

@@ -1,5 +1,5 @@
 -- How many floods the events of a walk hold.
-use Rattle.std.proofs.Common.{◌≡◌, ℕ, zero, suc, ◌+◌, ◌≤◌, Bool, true, false, ◌&&◌, List, [], ◌∷◌, ◌++◌, refl, sym, ap, subst, ◌∙◌, inl, inr, arith}
+use Rattle.std.proofs.Common.{◌≡◌, ℕ, zero, suc, ◌+◌, ◌≤◌, Bool, true, false, ◌&&◌, List, [], ◌∷◌, ◌++◌, refl, sym, ap, subst, ◌∙◌, inl, inr, arith, rules}
 use Rattle.std.specs.Prelude.{Contains, Some, filter, drop, take, ◌-◌, if◌then◌else◌, sum_by}
 use Rattle.std.specs.List.{flat_map}
 use Rattle.std.proofs.lemmas.Bool.{cases_Bool, cond-true}
@@ -26,19 +26,12 @@ floods-flat_map f (x ∷ xs) = floods-append (f x) (flat_map f xs) ∙ ap (λ k.
 
 pub floods-tried_in_turn : (walk : Walk) (prefix : List Placement) (n : Position) (pieces : List Piece) → floods (tried_in_turn walk prefix n pieces) ≡ sum_by (λ c. floods (tried walk prefix n c)) pieces
 unfolding tried_in_turn floods
-floods-tried_in_turn walk prefix n pieces =
-    let joined = floods-append (flat_map (tried walk prefix n) pieces) (Tick ∷ []) in
-    let each = floods-flat_map (tried walk prefix n) pieces in
-    omega (arith, joined, each)
+floods-tried_in_turn walk prefix n pieces = search (rules, floods-append, floods-flat_map)
 
 sum_by-filter_le : {A : Type 0} (f : A → ℕ) (test : A → Bool) (xs : List A) → sum_by f (filter test xs) ≤ sum_by f xs
 sum_by-filter_le f test [] = omega arith
 sum_by-filter_le f test (x ∷ xs) =
-    let rest = sum_by-filter_le f test xs in
-    elim (cases_Bool (test x)) [
-      | inl kept ↦ omega (arith, rest, ap (sum_by f) (filter-true test x xs kept), sum_by-cons f x (filter test xs), sum_by-cons f x xs)
-      | inr dropped ↦ omega (arith, rest, ap (sum_by f) (filter-false test x xs dropped), sum_by-cons f x xs)
-    ]
+    search (rules, cases_Bool, filter-true, sum_by-cons, filter-false, (sum_by-filter_le f test xs))
 
 -- one of them and those after it are no more than all of them
 sum_by-past : (f : Placement → ℕ) (p : Placement) (qs : List Placement) → Contains qs p → f p + sum_by f (filter (is_above placement_cmp (Some p)) qs) ≤ sum_by f qs
@@ -72,26 +65,8 @@ module _ (left : ℕ) (prefix : List Placement) (n : Position) (q : Placement) (
   floods-first : (b : Bool) → (b ≡ is_place n.table n.field n.mode q && is_below n.rows q) →
       floods (if b then sought left (prefix ++ q ∷ []) (after_of n q) given else []) + floods (flat_map (entered (enter left) prefix n) later) ≤ floods (flat_map (entered (enter left) prefix n) (places_at n q.piece))
   unfolding floods entered
-  floods-first true is =
-      let placed : is_place n.table n.field n.mode q ≡ true = and_first (is_place n.table n.field n.mode q) (is_below n.rows q) (sym is) in
-      let below : is_below n.rows q ≡ true = and_second (is_place n.table n.field n.mode q) (is_below n.rows q) (sym is) in
-      let this : entered (enter left) prefix n q ≡ enter left (prefix ++ q ∷ []) (after_of n q) = cond-true (is_below n.rows q) (enter left (prefix ++ q ∷ []) (after_of n q)) [] below in
-      let counted : floods (entered (enter left) prefix n q) ≡ floods (enter left (prefix ++ q ∷ []) (after_of n q)) = ap floods this in
-      omega (
-        arith,
-        fewer,
-        counted,
-        floods-flat_map (entered (enter left) prefix n) later,
-        floods-flat_map (entered (enter left) prefix n) (places_at n q.piece),
-        sum_by-past (λ x. floods (entered (enter left) prefix n x)) q (places_at n q.piece) (placed-there n q placed),
-      )
-  floods-first false is =
-      omega (
-        arith,
-        floods-flat_map (entered (enter left) prefix n) later,
-        floods-flat_map (entered (enter left) prefix n) (places_at n q.piece),
-        sum_by-filter_le (λ x. floods (entered (enter left) prefix n x)) (is_above placement_cmp (Some q)) (places_at n q.piece),
-      )
+  floods-first b is =
+      search (rules, and_first, and_second, cond-true, floods-flat_map, sum_by-past, placed-there, sum_by-filter_le)
 
   floods-kind : (b : Bool) → floods (if b then Flood ∷ ((if is_place n.table n.field n.mode q && is_below n.rows q then sought left (prefix ++ q ∷ []) (after_of n q) given else []) ++ flat_map (entered (enter left) prefix n) later) else [])
       ≤ floods (if b then Flood ∷ flat_map (entered (enter left) prefix n) (places_at n q.piece) else [])
@@ -102,8 +77,7 @@ module _ (left : ℕ) (prefix : List Placement) (n : Position) (q : Placement) (
   floods-kind false = omega arith
 
 floods-choice : (b : Bool) (xs ys : List Event) → floods xs ≤ floods ys → floods (if b then xs else []) ≤ floods (if b then ys else [])
-floods-choice true xs ys le = le
-floods-choice false xs ys le = omega arith
+floods-choice b xs ys le = search rules
 
 -- a search that begins after a sequence makes no more floods than one that begins at the start
 pub floods-sought : (left : ℕ) (prefix : List Placement) (n : Position) (given : List Placement) → floods (sought left prefix n given) ≤ floods (enter left prefix n)

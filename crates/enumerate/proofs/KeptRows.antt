@@ -1,5 +1,5 @@
 -- A placement that removes no row only takes its cells from the empty ones.
-use Rattle.std.proofs.Common.{◌≡◌, ℕ, zero, suc, ◌+◌, ◌-◌, ◌<◌, ◌≤◌, Bool, true, false, not, ◌&&◌, nat_lt, refl, sym, ap, subst, ◌∙◌, ◌⊎◌, inl, inr, arith}
+use Rattle.std.proofs.Common.{◌≡◌, ℕ, zero, suc, ◌+◌, ◌-◌, ◌<◌, ◌≤◌, Bool, true, false, not, ◌&&◌, nat_lt, sym, ap, subst, ◌∙◌, ◌⊎◌, inl, inr, arith, rules}
 use Rattle.std.proofs.lemmas.Bool.{cases_Bool, cases_lt, le-ltb}
 use Rattle.std.proofs.Math.Path.{fun_ext}
 use Rattle.lane_board.specs.Field.{Field, difference, rows_below}
@@ -10,10 +10,7 @@ use Rattle.well.specs.Lock.{locked, rows_removed, together}
 
 module _ (G : Field) (none : full_below G 23 ≡ 0) where
   rises : (n : ℕ) → full_below G n ≤ full_below G (suc n)
-  rises n = elim (cases_Bool (is_full G n)) [
-    | inl full ↦ omega (arith, full_below-full G n full)
-    | inr other ↦ omega (arith, full_below-other G n other)
-  ]
+  rises n = search (rules, cases_Bool, full_below-full, full_below-other)
 
   none-below : (k n : ℕ) → n + k ≡ 23 → full_below G n ≡ 0
   none-below zero n e =
@@ -44,9 +41,7 @@ module _ (G : Field) (none : full_below G 23 ≡ 0) where
       }))
 
 dropped : (a b p q : Bool) → b ≡ false → ((a && b) && p) ≡ ((a && b) && q)
-dropped true true p q e = cc
-dropped true false p q e = refl
-dropped false b p q e = refl
+dropped a b p q e = search rules
 
 -- the empty cells below a height, before full rows go and after, where none goes
 pub kept-empties : (F : Field) (q : Placement) (rows : ℕ) → rows ≤ 8 → rows_removed F q ≡ 0 →

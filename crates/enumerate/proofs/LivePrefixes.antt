@@ -1,6 +1,6 @@
 -- Every prefix of a solution can be played, and leaves a tiling, as each of its prefixes does.
-use Rattle.std.proofs.Common.{◌≡◌, ℕ, ◌+◌, ◌-◌, true, ◌&&◌, List, [], ◌∷◌, ◌++◌, length, refl, sym, subst, arith, append_assoc}
-use Rattle.std.specs.Prelude.{Option, Some, None}
+use Rattle.std.proofs.Common.{◌≡◌, ℕ, ◌+◌, ◌-◌, true, List, [], ◌∷◌, ◌++◌, length, refl, sym, subst, arith, append_assoc, rules}
+use Rattle.std.specs.Prelude.{Option}
 use Rattle.std.proofs.lemmas.List.{length-append, map-append}
 use Rattle.std.proofs.lemmas.Bool.{and_from}
 use Rattle.lane_board.specs.Field.{Field}
@@ -8,9 +8,7 @@ use Rattle.srs.specs.declared.piece.Piece.{Piece}
 use Rattle.srs.specs.declared.placement.Placement.{Placement}
 use Rattle.srs.specs.Kick.{Table}
 use Rattle.well.specs.Lock.{locked, rows_removed}
-use Rattle.well.specs.LockLaws.{is_below}
 use Rattle.moves.specs.declared.key.DropMode.{DropMode}
-use Rattle.moves.specs.PlaceTest.{is_place}
 use Rattle.moves.proofs.CallerLemmas.{is_place-decides}
 use Rattle.hold_queue.specs.QueueSet.{QueuesPermit}
 use Rattle.hold_queue.proofs.CallerLemmas.{queues_permit-decides}
@@ -31,9 +29,7 @@ stands-front : (table : Table) (mode : DropMode) (F : Field) (rows : ℕ) (front
 unfolding can_stand
 stands-front table mode F rows [] rest plays = refl
 stands-front table mode F rows (q ∷ front) rest plays =
-    and_from (is_place table F mode q && is_below rows q) (can_stand table mode (locked F q) (rows - rows_removed F q) front)
-    (and_from (is_place table F mode q) (is_below rows q) ((is_place-decides table F mode q).1 plays.0) plays.1)
-    (stands-front table mode (locked F q) (rows - rows_removed F q) front rest plays.2)
+    search (rules, and_from, is_place-decides, (stands-front table mode (locked F q) (rows - rows_removed F q) front rest plays.2))
 
 -- where front and rest play to the end and are permitted, each prefix of the front leaves a tiling
 tiled-front : (n : Position) (front rest : List Placement) → IsLow n.field n.rows → Plays n.table n.mode n.field n.rows (front ++ rest) → QueuesPermit n.line (n.line.played ++ pieces_of (front ++ rest)) → stays_tiled (length rest) n front ≡ true
@@ -50,8 +46,7 @@ tiled-front n (q ∷ front) rest low plays permitted =
 
 -- at the root nothing was played
 unplayed : (problem : Problem) (queue : Option (List Piece)) → (line_at problem queue).played ≡ []
-unplayed problem None = refl
-unplayed problem (Some one) = refl
+unplayed problem queue = search rules
 
 pub live-front : (problem : Problem) (queue : Option (List Piece)) (front rest : List Placement) → IsFit problem → IsSolution problem queue (front ++ rest) → is_live_prefix (length rest) (root_of problem queue) front ≡ true
 unfolding is_live_prefix can_be_played root_of

@@ -1,5 +1,5 @@
 -- The list from a position on has exactly the solutions from there.
-use Rattle.std.proofs.Common.{◌≡◌, ℕ, zero, suc, Bool, true, List, [], ◌∷◌, ◌++◌, length, refl, sym, subst, inl, inr, arith, append_assoc, eq-eqb}
+use Rattle.std.proofs.Common.{◌≡◌, ℕ, zero, suc, Bool, true, List, [], ◌∷◌, ◌++◌, length, refl, sym, subst, inl, inr, arith, append_assoc, eq-eqb, rules}
 use Rattle.std.specs.Prelude.{Contains, ◌==◌, if◌then◌else◌}
 use Rattle.std.specs.List.{flat_map}
 use Rattle.std.proofs.lemmas.Bool.{eqb-true, cond_both}
@@ -46,11 +46,7 @@ unfolding after_of
 low-after n q low below place = locked-low n.field n.rows q low below (place-free n.table n.field n.mode q place)
 
 solved-nil : (n : Position) → IsLow n.field n.rows → (n.rows ≡ 0 → QueuesPermit n.line n.line.played) → n.rows ≡ 0 → IsSolved 0 n []
-solved-nil n low permitted none = record {
-  long = refl;
-  plays = (none, λ x y. low.none x y (omega arith));
-  permitted = subst (QueuesPermit n.line) (sym (append-nil n.line.played)) (permitted none);
-}
+solved-nil n low permitted none = search (rules, append-nil)
 
 solved-cons : (left : ℕ) (n : Position) (q : Placement) (s : List Placement) → IsPlace n.table n.field n.mode q → is_below n.rows q ≡ true → IsSolved left (after_of n q) s → IsSolved (suc left) n (q ∷ s)
 unfolding after_of

@@ -1,5 +1,5 @@
 -- The floods of a whole walk are the pairs of a live prefix and a kind that may come next.
-use Rattle.std.proofs.Common.{◌≡◌, ℕ, zero, suc, ◌+◌, Bool, true, false, ◌&&◌, List, [], ◌∷◌, ◌++◌, length, refl, sym, ap, subst, ◌∙◌, inl, inr, arith, append_assoc}
+use Rattle.std.proofs.Common.{◌≡◌, ℕ, zero, suc, ◌+◌, Bool, true, false, ◌&&◌, List, [], ◌∷◌, ◌++◌, length, refl, sym, ap, subst, ◌∙◌, inl, inr, arith, append_assoc, rules}
 use Rattle.std.specs.Prelude.{Contains, filter, ◌==◌, if◌then◌else◌, sum_by}
 use Rattle.std.specs.List.{flat_map}
 use Rattle.std.specs.Bool.{one_answer}
@@ -13,7 +13,7 @@ use Rattle.srs.specs.Piece.{all_pieces}
 use Rattle.srs.specs.Placements.{placements_of}
 use Rattle.srs.proofs.CallerLemmas.{Contains-here, Contains-there, filter-false, filter-true, placements_of-list}
 use Rattle.moves.specs.PlaceTest.{is_place}
-use Rattle.hold_queue.specs.QueueSet.{QueuesInPlay, QueuesPermit, queues_permit}
+use Rattle.hold_queue.specs.QueueSet.{QueuesInPlay, queues_permit}
 use Rattle.well.specs.LockLaws.{is_below}
 use Rattle.problem.specs.Solution.{pieces_of}
 use Rattle.hold_queue.proofs.CallerLemmas.{queues_permit-decides}
@@ -26,8 +26,7 @@ use Rattle.enumerate.proofs.PermitLaws.{line_permits-front}
 
 -- the played pieces of a line have no part in what it permits
 line_permits-played : (line : QueuesInPlay) (played pieces : List Piece) → queues_permit (record line { played = played }) pieces ≡ queues_permit line pieces
-line_permits-played line played pieces =
-    one_answer (queues_permit (record line { played = played }) pieces) (queues_permit line pieces) (queues_permit-decides (record line { played = played }) pieces) (queues_permit-decides line pieces)
+line_permits-played line played pieces = search (rules, one_answer, queues_permit-decides)
 
 -- the position after a prefix, with so many placements to come and tilings before each placement of the prefix
 pub record IsAt (left : ℕ) (root : Position) (prefix : List Placement) (n : Position) : Type 0 where
@@ -59,39 +58,25 @@ module _ (left : ℕ) (root : Position) (prefix : List Placement) (n : Position)
   -- one more placement can be played where it may be played, is a place and lies below
   played-next : (q : Placement) → can_be_played root (prefix ++ q ∷ []) ≡ (may_play n.line q.piece && (is_place n.table n.field n.mode q && is_below n.rows q))
   unfolding can_be_played can_stand may_play
-  played-next q = (λ i. permitted i && stands i)
-    where
-      permitted : queues_permit root.line (pieces_of (prefix ++ q ∷ [])) ≡ queues_permit n.line (n.line.played ++ q.piece ∷ [])
-      permitted = ap (queues_permit root.line) (map-append (λ p. p.piece) prefix (q ∷ [])) ∙ at.permits (q.piece ∷ [])
-
-      stands : can_stand root.table root.mode root.field root.rows (prefix ++ q ∷ []) ≡ (is_place n.table n.field n.mode q && is_below n.rows q)
-      stands = at.stands (q ∷ []) ∙ and-true (is_place n.table n.field n.mode q && is_below n.rows q)
+  played-next q = search (rules, map-append, and-true)
 
 work-unplayed : (left : ℕ) (root : Position) (prefix : List Placement) → can_be_played root prefix ≡ false → work_from left root prefix ≡ 0
 unfolding work_from is_live_prefix
-work-unplayed zero root prefix unplayed = refl
-work-unplayed (suc left) root prefix unplayed = cond-false (is_live_prefix (suc left) root prefix) _ 0 (and_left (can_be_played root prefix) (stays_tiled (suc left) root prefix) unplayed)
+work-unplayed left root prefix unplayed = search (rules, cond-false, and_left)
 
 sum_by-same : {A : Type 0} (f g : A → ℕ) (xs : List A) → ((x : A) → Contains xs x → f x ≡ g x) → sum_by f xs ≡ sum_by g xs
 sum_by-same f g [] each = refl
 sum_by-same f g (x ∷ xs) each =
-    sum_by-cons f x xs
-    ∙ (λ i. each x (Contains-here x xs) i + sum_by-same f g xs (λ y among. each y (Contains-there x xs y among)) i)
-    ∙ sym (sum_by-cons g x xs)
+    search (rules, sum_by-cons, Contains-here, Contains-there, (sum_by-same f g xs (λ y among. each y (Contains-there x xs y among))))
 
 sum_by-filtered : {A : Type 0} (test : A → Bool) (f g : A → ℕ) (xs : List A) → ((x : A) → Contains xs x → test x ≡ true → f x ≡ g x) → ((x : A) → Contains xs x → test x ≡ false → g x ≡ 0) → sum_by f (filter test xs) ≡ sum_by g xs
 sum_by-filtered test f g [] kept dropped = refl
 sum_by-filtered test f g (x ∷ xs) kept dropped =
-    let rest = sum_by-filtered test f g xs (λ y among. kept y (Contains-there x xs y among)) (λ y among. dropped y (Contains-there x xs y among)) in
-    elim (cases_Bool (test x)) [
-      | inl e ↦ ap (sum_by f) (filter-true test x xs e) ∙ sum_by-cons f x (filter test xs) ∙ (λ i. kept x (Contains-here x xs) e i + rest i) ∙ sym (sum_by-cons g x xs)
-      | inr e ↦ let none = dropped x (Contains-here x xs) e in let cut = ap (sum_by f) (filter-false test x xs e) in omega (arith, none, cut, rest, sum_by-cons g x xs)
-    ]
+    search (rules, Contains-there, cases_Bool, filter-true, sum_by-cons, Contains-here, filter-false, (sum_by-filtered test f g xs (λ y among. kept y (Contains-there x xs y among)) (λ y among. dropped y (Contains-there x xs y among))))
 
 leaf-floods : (b : Bool) (prefix : List Placement) → floods ((if b then Found prefix else Tick) ∷ []) ≡ 0
 unfolding floods
-leaf-floods true prefix = refl
-leaf-floods false prefix = refl
+leaf-floods b prefix = search rules
 
 -- what a place adds, and what a kind adds
 place-floods : (left : ℕ) (root : Position) (prefix : List Placement) (n : Position) (at : IsAt (suc left) root prefix n) (alive : can_be_tiled (suc left) n ≡ true)
@@ -152,22 +137,11 @@ floods-enter (suc left) root prefix n at played = elim (cases_Bool (can_be_tiled
 
 -- at the start
 root-at : (left : ℕ) (root : Position) → root.line.played ≡ [] → IsAt left root [] root
-root-at left root none = record {
-  stands = λ s. refl;
-  permits = λ pieces. ap (λ l. queues_permit root.line (l ++ pieces)) (sym none);
-  tiled = λ k s all. refl;
-}
+root-at left root none = search rules
 
 root-dead : (root : Position) → root.line.played ≡ [] → can_be_played root [] ≡ false → (c : Piece) → may_play root.line c ≡ false
 unfolding can_be_played can_stand may_play
-root-dead root none dead c = elim (cases_Bool (queues_permit root.line (root.line.played ++ c ∷ []))) [
-  | inl e ↦
-      let permitted : QueuesPermit root.line ([] ++ c ∷ []) = subst (λ l. QueuesPermit root.line (l ++ c ∷ [])) none ((queues_permit-decides root.line (root.line.played ++ c ∷ [])).0 e) in
-      let start : queues_permit root.line [] ≡ true = (queues_permit-decides root.line []).1 (line_permits-front root.line [] (c ∷ []) permitted) in
-      let live : (queues_permit root.line [] && true) ≡ true = and_from (queues_permit root.line []) true start refl in
-      cc
-  | inr e ↦ e
-]
+root-dead root none dead c = search (rules, cases_Bool, queues_permit-decides, line_permits-front, and_from)
 
 none_tried : (left : ℕ) (root : Position) (c : Piece) → may_play root.line c ≡ false → floods (tried (enter left) [] root c) ≡ 0
 unfolding tried floods

@@ -1,8 +1,7 @@
 -- What is permitted begins with what is permitted, and a list with an entry for each piece.
-use Rattle.std.proofs.Common.{◌≡◌, ◌-◌, Bool, false, List, [], ◌∷◌, ◌++◌, map, ap, get_or}
+use Rattle.std.proofs.Common.{◌≡◌, ◌-◌, Bool, false, List, [], ◌∷◌, ◌++◌, map, get_or, rules}
 use Rattle.std.specs.Prelude.{Option}
 use Rattle.srs.specs.declared.piece.Piece.{Piece}
-use Rattle.srs.specs.declared.piece.Piece.TheVariants.{I, L, O, Z, T, J, S}
 use Rattle.srs.specs.Piece.{all_pieces, piece_code}
 use Rattle.hold_queue.specs.declared.hold.Hold.{Hold}
 use Rattle.hold_queue.specs.Permits.{Permits}
@@ -18,10 +17,4 @@ line_permits-front line front rest permitted = (permitted.0, permitted.1, permit
 
 -- the entry of a piece in a list with one for each
 pub entry-of : (f : Piece → Bool) (entries : List Bool) → entries ≡ map f all_pieces → (piece : Piece) → get_or entries (piece_code piece - 1) false ≡ f piece
-entry-of f entries is I = ap (λ l. get_or l 0 false) is
-entry-of f entries is L = ap (λ l. get_or l 1 false) is
-entry-of f entries is O = ap (λ l. get_or l 2 false) is
-entry-of f entries is Z = ap (λ l. get_or l 3 false) is
-entry-of f entries is T = ap (λ l. get_or l 4 false) is
-entry-of f entries is J = ap (λ l. get_or l 5 false) is
-entry-of f entries is S = ap (λ l. get_or l 6 false) is
+entry-of f entries is h3 = search rules

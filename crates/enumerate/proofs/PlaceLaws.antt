@@ -1,5 +1,5 @@
 -- A place may lock, and what may lock is canonical, lies inside the well and is free.
-use Rattle.std.proofs.Common.{◌≡◌, true, ◌&&◌, ap, eq-eqb}
+use Rattle.std.proofs.Common.{◌≡◌, true, ◌&&◌, ap, eq-eqb, rules}
 use Rattle.std.specs.Prelude.{◌==◌}
 use Rattle.lane_board.specs.Field.{Field}
 use Rattle.srs.specs.declared.piece.Piece.{Piece}
@@ -36,13 +36,6 @@ module _ (F : Field) (piece : Piece) (q : Placement) (lockable : may_lock F piec
   unfolding may_lock
   lockable-free = and_second (is_canonical_inside q) _ (and_second (piece_code q.piece == piece_code piece) _ lockable)
 
-  pub lockable-inside : is_inside_of q ≡ true
-  lockable-inside = free_inside F q lockable-free
-
   pub lockable-listed : IsCanonicalInside piece q
   unfolding may_lock
-  lockable-listed = record {
-    kind = lockable-piece;
-    canonical = IsCanonical-from_test q (and_first (is_canonical q) _ (and_first (is_canonical_inside q) _ (and_second (piece_code q.piece == piece_code piece) _ lockable)));
-    inside = lockable-inside;
-  }
+  lockable-listed = search (rules, IsCanonical-from_test, and_first, and_second)

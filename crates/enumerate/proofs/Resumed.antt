@@ -1,5 +1,5 @@
 -- What is found after a given sequence is what the whole list has above it.
-use Rattle.std.proofs.Common.{◌≡◌, ◌<◌, Bool, true, false, ◌&&◌, List, [], ◌∷◌, ◌++◌, map, refl, sym, ap, subst, ◌∙◌, inl, inr}
+use Rattle.std.proofs.Common.{◌≡◌, ◌<◌, Bool, true, false, ◌&&◌, List, [], ◌∷◌, ◌++◌, map, refl, sym, ap, subst, ◌∙◌, inl, inr, rules}
 use Rattle.std.specs.Prelude.{Contains, Some, filter, drop, take, nat_lt, ◌-◌, if◌then◌else◌}
 use Rattle.std.specs.List.{AllByRecursion, flat_map}
 use Rattle.std.specs.List.Sorted.{IsStrictlySortedBy}
@@ -77,11 +77,7 @@ module _ (more : Sequences) (n : Position) (p : Placement) (given : List Placeme
 
   of_place-past : filter (past (p ∷ given)) (of_place more n p) ≡ following true
   unfolding of_place following
-  of_place-past = at (is_below n.rows p)
-    where
-      at : (b : Bool) → filter (past (p ∷ given)) (if b then map (λ s. p ∷ s) (more (after_of n p)) else []) ≡ (if b then map (λ s. p ∷ s) (filter (past given) (more (after_of n p))) else [])
-      at true = filter-prefixed p given (more (after_of n p))
-      at false = refl
+  of_place-past = search (rules, filter-prefixed)
 
   abbrev later_than : Placement → Bool
   later_than = is_above placement_cmp (Some p)
@@ -146,26 +142,11 @@ module _ (more : Sequences) (n : Position) (p : Placement) (given : List Placeme
 
 -- the kinds before one, the kind itself, and those after it
 pub kinds-split : (piece : Piece) → all_pieces ≡ take (piece_code piece - 1) all_pieces ++ (piece ∷ drop (piece_code piece) all_pieces)
-kinds-split I = refl
-kinds-split L = refl
-kinds-split O = refl
-kinds-split Z = refl
-kinds-split T = refl
-kinds-split J = refl
-kinds-split S = refl
+kinds-split piece = search rules
 
 -- the kinds before have lesser codes, and those after greater ones
 earlier_code : (piece c : Piece) → Contains (take (piece_code piece - 1) all_pieces) c → piece_code c < piece_code piece
-earlier_code piece c among = ltb-true (piece_code c) (piece_code piece) (each-contained (λ c. nat_lt (piece_code c) (piece_code piece) ≡ true) (take (piece_code piece - 1) all_pieces) c (each piece) among)
-  where
-    each : (piece : Piece) → AllByRecursion (λ c. nat_lt (piece_code c) (piece_code piece) ≡ true) (take (piece_code piece - 1) all_pieces)
-    each I = tt
-    each L = (refl, tt)
-    each O = (refl, (refl, tt))
-    each Z = (refl, (refl, (refl, tt)))
-    each T = (refl, (refl, (refl, (refl, tt))))
-    each J = (refl, (refl, (refl, (refl, (refl, tt)))))
-    each S = (refl, (refl, (refl, (refl, (refl, (refl, tt))))))
+earlier_code piece c among = search (rules, ltb-true, each-contained)
 
 later_code : (piece c : Piece) → Contains (drop (piece_code piece) all_pieces) c → piece_code piece < piece_code c
 later_code piece c among = ltb-true (piece_code piece) (piece_code c) (each-contained (λ c. nat_lt (piece_code piece) (piece_code c) ≡ true) (drop (piece_code piece) all_pieces) c (each piece) among)

@@ -1,5 +1,5 @@
 -- What a search holds: its first frame, and the list of what is still to come.
-use Rattle.std.proofs.Common.{◌≡◌, ◌⊎◌, inl, inr, lt-ltb, ℕ, zero, suc, ◌+◌, ◌-◌, ◌<◌, ◌≤◌, Bool, true, false, ◌&&◌, List, [], ◌∷◌, length, get_or, set, take, refl, sym, ap, subst, ◌∙◌, arith}
+use Rattle.std.proofs.Common.{◌≡◌, ◌⊎◌, inl, inr, lt-ltb, ℕ, zero, suc, ◌+◌, ◌-◌, ◌<◌, ◌≤◌, Bool, true, false, ◌&&◌, List, [], ◌∷◌, length, get_or, set, take, refl, sym, ap, subst, ◌∙◌, arith, rules}
 use Rattle.std.specs.Prelude.{Option, Some, None, nat_le, nat_lt}
 use Rattle.std.proofs.lemmas.Bool.{le-leb, cond-false, and_from}
 use Rattle.std.proofs.lemmas.List.{get_or-set_same, take_more_set}
@@ -33,16 +33,10 @@ first-position problem queue queues e = λ i. record { table = table_of problem.
 -- ---- the whole search from its first frame
 
 live-part : (k : ℕ) (b : Bool) → (nat_lt 0 k && b) ≡ true → (k ≡ suc (k - 1)) × (b ≡ true)
-live-part zero b e = cc
-live-part (suc k) b e = (omega arith, and_second (nat_lt 0 (suc k)) b e)
+live-part k b e = search (rules, and_second)
 
 dead-part : (k : ℕ) (b : Bool) → (nat_lt 0 k && b) ≡ false → (k ≡ 0) ⊎ ((k ≡ suc (k - 1)) × (b ≡ false))
-dead-part zero b e = inl refl
-dead-part (suc k) b e = inr (omega arith, second (nat_lt 0 (suc k)) b (lt-ltb 0 (suc k) (omega arith)) e)
-  where
-    second : (a b : Bool) → a ≡ true → (a && b) ≡ false → b ≡ false
-    second true b t e = e
-    second false b t e = cc
+dead-part k b e = search (rules, lt-ltb)
 
 begun-zero : (n : Position) → begun zero n ≡ []
 unfolding begun
@@ -62,8 +56,7 @@ sought-zero n given = refl
 
 sought-dead : (left : ℕ) (n : Position) (given : List Placement) → is_live left n ≡ false → sought (suc left) [] n given ≡ []
 unfolding sought
-sought-dead left n [] dead = cond-false (is_live left n) _ [] dead
-sought-dead left n (q ∷ given) dead = cond-false (is_live left n) _ [] dead
+sought-dead left n given dead = search (rules, cond-false)
 
 module _ (problem : Problem) (queue : Option (List Piece)) (f : Frame) (position : position_of (table_of problem.rules) problem.drop_mode f.setup ≡ root_of problem queue) (left : f.setup.left ≡ needed_of problem - 1) where
   abbrev here : Position
@@ -136,33 +129,26 @@ sought-skips table mode frames f given given' whole rest before now some same e 
 pub skips-by : (mode : DropMode) (frames : List Frame) (given : List Placement) (depth : ℕ) (used : List Frame) (before now : ℕ) (table other : Table) → table ≡ other →
     ((d : Frame) → SkipsTo (sought (suc (get_or frames 0 d).setup.left) [] (position_of table mode (get_or frames 0 d).setup) given) (stacked table mode [] (take depth used)) before now) →
     (d : Frame) → SkipsTo (sought (suc (get_or frames 0 d).setup.left) [] (position_of other mode (get_or frames 0 d).setup) given) (stacked other mode [] (take depth used)) before now
-skips-by mode frames given depth used before now table other same skips d =
-    subst (λ (t : Table). SkipsTo (sought (suc (get_or frames 0 d).setup.left) [] (position_of t mode (get_or frames 0 d).setup) given) (stacked t mode [] (take depth used)) before now) same (skips d)
+skips-by mode frames given depth used before now table other same skips d = search rules
 
 -- ---- going on
 
 pub pending-skips : (problem : Problem) (queue : Option (List Piece)) (after : Option (List Placement)) (pending : Bool) (used : List Frame) (rest : List Event) (before now : ℕ) → pending ≡ true →
     SkipsTo (whole_from problem queue after) rest before now → SkipsTo (events_from problem queue after pending used) rest before now
 unfolding events_from
-pending-skips problem queue after true used rest before now e skips = skips
-pending-skips problem queue after false used rest before now e skips = cc
+pending-skips problem queue after pending used rest before now e skips = search rules
 
 pub standing-skips : (problem : Problem) (queue : Option (List Piece)) (after : Option (List Placement)) (pending : Bool) (used : List Frame) (before : ℕ) → pending ≡ false →
     SkipsTo (events_from problem queue after pending used) (stacked (table_of problem.rules) problem.drop_mode [] used) before before
 unfolding events_from
-standing-skips problem queue after true used before e = cc
-standing-skips problem queue after false used before e = skips-same _ _ before refl
+standing-skips problem queue after pending used before e = search (rules, skips-same)
 
 pub moved-skips : (table : Table) (mode : DropMode) (whole : List Event) (frames frames' : List Frame) (depth depth' before steps steps' : ℕ) → frames' ≡ frames → depth' ≡ depth → steps' ≡ steps →
     SkipsTo whole (stacked table mode [] (take depth frames)) before steps → SkipsTo whole (stacked table mode [] (take depth' frames')) before steps'
-moved-skips table mode whole frames frames' depth depth' before steps steps' f d s skips =
-    subst (λ f. SkipsTo whole (stacked table mode [] (take depth' f)) before steps') (sym f)
-    (subst (λ d. SkipsTo whole (stacked table mode [] (take d frames)) before steps') (sym d)
-    (subst (λ s. SkipsTo whole (stacked table mode [] (take depth frames)) before s) (sym s) skips))
+moved-skips table mode whole frames frames' depth depth' before steps steps' f d s skips = search rules
 
 pub finds-same : (first old new : List (List Placement)) (path : List Placement) (solved : Bool) → first ≡ old → Finds old new path solved → Finds first new path solved
-finds-same first old new path true same finds = same ∙ finds
-finds-same first old new path false same finds = same ∙ finds
+finds-same first old new path solved same finds = search rules
 
 pub none-found : (old new : List (List Placement)) (path : List Placement) (depth : ℕ) → depth ≡ 0 → Finds old new path (nat_lt 0 depth) → old ≡ new
 none-found old new path depth none finds = subst (λ d. Finds old new path (nat_lt 0 d)) none finds

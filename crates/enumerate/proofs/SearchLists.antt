@@ -1,5 +1,5 @@
 -- The list of what a search has still to give.
-use Rattle.std.proofs.Common.{◌≡◌, ℕ, zero, suc, ◌≤◌, Bool, List, [], ◌∷◌, ◌++◌, refl, sym, ap, subst, ◌∙◌, inl, inr, arith}
+use Rattle.std.proofs.Common.{◌≡◌, ℕ, zero, suc, ◌≤◌, Bool, List, [], ◌∷◌, refl, sym, ap, subst, ◌∙◌, inl, inr, arith, rules}
 use Rattle.std.specs.Prelude.{Option, Some, None, filter, find, ◌==◌}
 use Rattle.std.proofs.lemmas.Bool.{cases_Bool, cond-false}
 use Rattle.srs.specs.declared.piece.Piece.{Piece}
@@ -8,14 +8,12 @@ use Rattle.srs.specs.declared.placement.Placement.{Placement}
 use Rattle.srs.specs.Order.{sequence_cmp}
 use Rattle.srs.specs.Rising.{is_above, IsRisingListOf}
 use Rattle.srs.proofs.CallerLemmas.{filter-each, filter-false, filter-true, find-false, find-true, filter_above-next, IsRisingListOf-filter, sequence_cmp-total}
-use Rattle.hold_queue.specs.Permits.{SomePermits}
-use Rattle.hold_queue.specs.QueueSet.{QueuesPermit}
 use Rattle.hold_queue.proofs.CallerLemmas.{queues-singles}
 use Rattle.problem.specs.declared.problem.Problem.{Problem}
 use Rattle.problem.specs.Problem.{IsFit, needed_of}
-use Rattle.problem.specs.Solution.{IsSolution, pieces_of, queues_that_count}
+use Rattle.problem.specs.Solution.{IsSolution}
 use Rattle.problem.specs.SolutionList.{IsList}
-use Rattle.enumerate.specs.Position.{Position, is_live, line_at, root_of}
+use Rattle.enumerate.specs.Position.{Position, is_live, root_of}
 use Rattle.enumerate.specs.Events.{begun, enter, found, floods, sought, tried_in_turn}
 use Rattle.enumerate.specs.Rest.{whole_from}
 use Rattle.enumerate.specs.Work.{pairs}
@@ -44,16 +42,12 @@ sought-none n given = refl
 -- from after a sequence on
 after-sequence : (left : ℕ) (n : Position) (given : List Placement) → found (sought left [] n given) ≡ filter (is_above sequence_cmp (Some given)) (found (begun left n))
 after-sequence zero n given = sought-none n given ∙ sym (ap (filter (is_above sequence_cmp (Some given))) (begun-none n))
-after-sequence (suc left) n given =
-    found-sought (suc left) [] n given
-    ∙ prefixed-nil (filter (is_above sequence_cmp (Some given)) (sols (suc left) n))
-    ∙ ap (filter (is_above sequence_cmp (Some given))) (sym (found-begun left n))
+after-sequence (suc left) n given = search (rules, found-sought, prefixed-nil, found-begun)
 
 -- at its start a search has what the whole list has above the given sequence
 pub listed-start : (problem : Problem) (queue : Option (List Piece)) (after : Option (List Placement)) → found (whole_from problem queue after) ≡ filter (is_above sequence_cmp after) (found (whole_from problem queue None))
 unfolding whole_from
-listed-start problem queue None = sym (filter-each (is_above sequence_cmp None) (found (begun (needed_of problem) (root_of problem queue))) (λ s among. refl))
-listed-start problem queue (Some given) = after-sequence (needed_of problem) (root_of problem queue) given
+listed-start problem queue after = search (rules, filter-each, after-sequence)
 
 pub heads : {A : Type 0} {x y : A} {xs ys : List A} → x ∷ xs ≡ y ∷ ys → x ≡ y
 heads e = cc
@@ -82,26 +76,11 @@ module _ (problem : Problem) (fit : IsFit problem) (queue : Option (List Piece))
 
   to-solution : (s : List Placement) → IsSolved (needed_of problem) (root_of problem queue) s → IsSolution problem queue s
   unfolding root_of
-  to-solution s solved = record {
-    plays = solved.plays;
-    permitted = permitted queue solved.permitted;
-  }
-    where
-      permitted : (queue : Option (List Piece)) → QueuesPermit (line_at problem queue) ((line_at problem queue).played ++ pieces_of s) → SomePermits problem.hold (queues_that_count problem queue) problem.held (pieces_of s)
-      permitted None line = line
-      permitted (Some q) line = subst (λ l. SomePermits problem.hold l problem.held (pieces_of s)) (queues-singles q) line
+  to-solution s solved = search (rules, queues-singles)
 
   pub from-solution : (s : List Placement) → IsSolution problem queue s → IsSolved (needed_of problem) (root_of problem queue) s
   unfolding root_of
-  from-solution s solution = record {
-    long = long-needed problem fit s solution.plays;
-    plays = solution.plays;
-    permitted = permitted queue solution.permitted;
-  }
-    where
-      permitted : (queue : Option (List Piece)) → SomePermits problem.hold (queues_that_count problem queue) problem.held (pieces_of s) → QueuesPermit (line_at problem queue) ((line_at problem queue).played ++ pieces_of s)
-      permitted None line = line
-      permitted (Some q) line = subst (λ l. SomePermits problem.hold l problem.held (pieces_of s)) (sym (queues-singles q)) line
+  from-solution s solution = search (rules, long-needed, queues-singles)
 
   no-rows : (root_of problem queue).rows ≡ 0 → ⊥
   unfolding root_of
@@ -155,8 +134,7 @@ module _ (problem : Problem) (fit : IsFit problem) (queue : Option (List Piece))
 
 root-played : (problem : Problem) (queue : Option (List Piece)) → (root_of problem queue).line.played ≡ []
 unfolding root_of
-root-played problem None = refl
-root-played problem (Some queue) = refl
+root-played problem queue = search rules
 
 none-floods : (n : Position) (given : List Placement) → floods (sought zero [] n given) ≡ 0
 unfolding sought floods
@@ -176,7 +154,4 @@ whole-floods problem queue = floods-begun (needed_of problem) (root_of problem q
 
 pub floods-within : (problem : Problem) (queue : Option (List Piece)) (after : Option (List Placement)) → floods (whole_from problem queue after) ≤ pairs problem queue
 unfolding whole_from pairs
-floods-within problem queue None = let e = floods-begun (needed_of problem) (root_of problem queue) (root-played problem queue) in omega (arith, e)
-floods-within problem queue (Some given) =
-    let e = floods-begun (needed_of problem) (root_of problem queue) (root-played problem queue) in
-    omega (arith, e, begun-floods (needed_of problem) (root_of problem queue) given)
+floods-within problem queue after = search (rules, floods-begun, root-played, begun-floods)

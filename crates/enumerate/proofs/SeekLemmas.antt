@@ -1,16 +1,13 @@
 -- Frames in an array go to the place of a given sequence.
-use Rattle.std.proofs.Common.{◌≡◌, ℕ, zero, suc, ◌+◌, ◌<◌, ◌≤◌, Bool, true, false, List, [], ◌∷◌, ◌++◌, length, get_or, set, take, refl, sym, ap, subst, ◌∙◌, arith, length-take, length-append}
+use Rattle.std.proofs.Common.{◌≡◌, ℕ, zero, suc, ◌+◌, ◌<◌, ◌≤◌, Bool, true, false, List, [], ◌∷◌, ◌++◌, length, get_or, set, take, refl, sym, ap, subst, ◌∙◌, arith, length-take, length-append, rules}
 use Rattle.std.specs.Prelude.{drop}
-use Rattle.std.specs.List.{flat_map}
 use Rattle.std.proofs.Math.Seq.{take-suc}
 use Rattle.srs.specs.declared.placement.Placement.{Placement}
 use Rattle.srs.specs.Kick.{Table}
-use Rattle.srs.specs.Piece.{all_pieces}
 use Rattle.moves.specs.declared.key.DropMode.{DropMode}
 use Rattle.enumerate.specs.declared.frame.Frame.{Frame}
 use Rattle.enumerate.specs.declared.setup.Setup.{Setup}
-use Rattle.enumerate.specs.Position.{is_live}
-use Rattle.enumerate.specs.Events.{Event, entered, enter, tried_in_turn, sought}
+use Rattle.enumerate.specs.Events.{Event, sought}
 use Rattle.enumerate.specs.Frames.{events_of, has_room, path_of, places_left, stacked, entered_placement}
 use Rattle.enumerate.specs.Setups.{position_of}
 use Rattle.enumerate.specs.Seeks.{IsDeeper, IsFresh, IsSought, IsThere, Skips, SkipsTo, sought_at}
@@ -115,10 +112,7 @@ module _ (table : Table) (mode : DropMode) (frames walked : List Frame) (top : �
 -- a fresh frame, with nothing to be passed by
 pub fresh-events : (table : Table) (mode : DropMode) (prefix : List Placement) (frame : Frame) → IsFresh table mode frame → sought (suc frame.setup.left) prefix (position_of table mode frame.setup) [] ≡ events_of table mode prefix frame
 unfolding sought events_of places_left
-fresh-events table mode prefix frame fresh =
-    cond-true (is_live frame.setup.left (position_of table mode frame.setup)) _ [] fresh.live
-    ∙ ap (λ k. tried_in_turn (enter frame.setup.left) prefix (position_of table mode frame.setup) (drop k all_pieces)) (sym fresh.tried)
-    ∙ ap (λ p. flat_map (entered (enter frame.setup.left) prefix (position_of table mode frame.setup)) (places_left p frame.entered) ++ tried_in_turn (enter frame.setup.left) prefix (position_of table mode frame.setup) (drop frame.tried all_pieces)) (sym fresh.places)
+fresh-events table mode prefix frame fresh = search (rules, cond-true)
 
 pub at-end : (table : Table) (mode : DropMode) (frames : List Frame) (top : ℕ) (d : Frame) → top < length frames → IsFresh table mode (get_or frames top d) → sought_at table mode frames top [] d ≡ stacked table mode [] (take (top + 1) frames)
 at-end table mode frames top d within fresh =
@@ -144,5 +138,4 @@ drop-none (q ∷ given) (suc i) within = drop-none given i (omega arith)
 -- where nothing is left to be passed by
 pub skips-to : (table : Table) (mode : DropMode) (frames : List Frame) (top : ℕ) (left : List Placement) (d : Frame) (whole : List Event) (before now : ℕ) → left ≡ [] → top < length frames → IsFresh table mode (get_or frames top d) →
     SkipsTo whole (sought_at table mode frames top left d) before now → SkipsTo whole (stacked table mode [] (take (top + 1) frames)) before now
-skips-to table mode frames top left d whole before now none within fresh skips =
-    subst (λ l. SkipsTo whole l before now) (at-end table mode frames top d within fresh) (subst (λ l. SkipsTo whole (sought_at table mode frames top l d) before now) none skips)
+skips-to table mode frames top left d whole before now none within fresh skips = search (rules, at-end)

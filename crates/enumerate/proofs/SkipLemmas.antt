@@ -1,5 +1,5 @@
 -- What a frame is left with after it has passed all that comes before a placement.
-use Rattle.std.proofs.Common.{◌≡◌, ◌↔◌, ℕ, zero, suc, ◌+◌, Bool, true, false, ◌&&◌, List, [], ◌∷◌, ◌++◌, refl, sym, ap, subst, ◌∙◌, inl, inr, arith, append_assoc}
+use Rattle.std.proofs.Common.{◌≡◌, ◌↔◌, ℕ, suc, ◌+◌, Bool, true, false, ◌&&◌, List, [], ◌∷◌, ◌++◌, refl, sym, ap, subst, ◌∙◌, inl, inr, arith, append_assoc, rules}
 use Rattle.std.specs.Prelude.{Contains, Option, Some, None, filter, drop, if◌then◌else◌}
 use Rattle.std.specs.List.{flat_map}
 use Rattle.std.specs.Option.{option_to_list}
@@ -41,8 +41,7 @@ use Rattle.enumerate.proofs.Walks.{finds-enter, found-append, floods-append, pre
 
 pub places_left-rising : (places : Option LowPlaces) (last : Option Placement) → IsStrictlySortedBy placement_cmp (places_left places last)
 unfolding places_left
-places_left-rising None last = rising-none placement_cmp
-places_left-rising (Some places) last = IsStrictlySortedBy-filter placement_cmp (λ q. holds places q && is_above placement_cmp last q) (placements_of (piece_of places)) (placements_of-list (piece_of places)).rising
+places_left-rising places last = search (rules, rising-none, IsStrictlySortedBy-filter, placements_of-list)
 
 -- those above a placement
 pub places_left-above : (places : Option LowPlaces) (q : Placement) → places_left places (Some q) ≡ filter (is_above placement_cmp (Some q)) (places_left places None)
@@ -83,11 +82,7 @@ unfolding found floods
 skips-flood old new before now e steps = record { same = ap found e; counted = omega (arith, ap floods e, steps); fewer = omega (arith, ap floods e) }
 
 pub skips-before : (a b c : List Event) (k l : ℕ) → SkipsTo a b k l → SkipsTo (a ++ c) (b ++ c) k l
-skips-before a b c k l skips = record {
-  same = found-append a c ∙ ap (λ x. x ++ found c) skips.same ∙ sym (found-append b c);
-  counted = omega (arith, floods-append a c, floods-append b c, skips.counted);
-  fewer = omega (arith, floods-append a c, floods-append b c, skips.fewer);
-}
+skips-before a b c k l skips = search (rules, found-append, floods-append)
 
 module _ (table : Table) (mode : DropMode) (old new : Frame) (same : new.setup ≡ old.setup) (q : Placement)
     (live : is_live old.setup.left (position_of table mode old.setup) ≡ true) (tried : new.tried ≡ piece_code q.piece) where
@@ -104,11 +99,7 @@ module _ (table : Table) (mode : DropMode) (old new : Frame) (same : new.setup �
   pub passes-kind : may_play (queues_in_play old.setup.line.queues) q.piece ≡ false → places_left new.places new.entered ≡ [] → (prefix given : List Placement) →
       sought (suc old.setup.left) prefix here (q ∷ given) ≡ events_of table mode prefix new
   unfolding sought events_of position_of
-  passes-kind not_played none prefix given =
-      cond-true (is_live old.setup.left here) _ [] live
-      ∙ ap (λ l. l ++ rest prefix) (cond-false (may_play (queues_in_play old.setup.line.queues) q.piece) _ [] not_played)
-      ∙ sym (rest-same prefix)
-      ∙ ap (λ l. flat_map (entered (enter new.setup.left) prefix (position_of table mode new.setup)) l ++ tried_in_turn (enter new.setup.left) prefix (position_of table mode new.setup) (drop new.tried all_pieces)) (sym none)
+  passes-kind not_played none prefix given = search (rules, cond-true, cond-false)
 
   -- what comes first at the placement itself
   abbrev first : List Placement → List Placement → List Event
@@ -182,20 +173,11 @@ none-dead left prefix n given finds makes =
 
 full-dead : (left : ℕ) (prefix s : List Placement) (n : Position) (given : List Placement) → enter left prefix n ≡ Found s ∷ [] → (found (sought left prefix n given) ≡ []) × (floods (sought left prefix n given) ≡ 0)
 unfolding sought found floods enter
-full-dead zero prefix s n given e = (refl, refl)
-full-dead (suc left) prefix s n given e = none (is_live left n) e
-  where
-    none : {A : Type 0} (b : Bool) → (if b then Tick ∷ tried_in_turn (enter left) prefix n all_pieces else []) ≡ Found s ∷ [] → A
-    none true e = cc
-    none false e = cc
+full-dead left prefix s n given e = search rules
 
 module _ (table : Table) (mode : DropMode) (old new : Setup) (same : new ≡ old) (q : Placement) where
   abbrev there : Position
   there = position_of table mode old
-
-  -- what entering the placement comes to
-  at-old : (events : Table → DropMode → List Placement → List Event) → EntersAs new q events → (prefix : List Placement) → entered (enter old.left) prefix there q ≡ events table mode (prefix ++ q ∷ [])
-  at-old events enters prefix = sym (λ i. entered (enter (same i).left) prefix (position_of table mode (same i)) q) ∙ enters.same table mode prefix
 
   first-dead : (b : Bool) (events : Table → DropMode → List Placement → List Event) → EntersAs new q events →
       ((prefix given : List Placement) → enter old.left (prefix ++ q ∷ []) (after_of there q) ≡ events table mode (prefix ++ q ∷ []) →
@@ -203,16 +185,7 @@ module _ (table : Table) (mode : DropMode) (old new : Setup) (same : new ≡ old
       (prefix given : List Placement) →
       (found (if b && is_below old.rows q then sought old.left (prefix ++ q ∷ []) (after_of there q) given else []) ≡ []) × (floods (if b && is_below old.rows q then sought old.left (prefix ++ q ∷ []) (after_of there q) given else []) ≡ 0)
   unfolding found floods entered position_of
-  first-dead false events enters dead prefix given = (refl, refl)
-  first-dead true events enters dead prefix given = elim (cases_Bool (is_below old.rows q)) [
-    | inl below ↦
-        let e = dead prefix given (sym (cond-true (is_below old.rows q) (enter old.left (prefix ++ q ∷ []) (after_of there q)) [] below) ∙ at-old events enters prefix) in
-        let is = cond-true (is_below old.rows q) (sought old.left (prefix ++ q ∷ []) (after_of there q) given) [] below in
-        (ap found is ∙ e.0, ap floods is ∙ e.1)
-    | inr blocked ↦
-        let is = cond-false (is_below old.rows q) (sought old.left (prefix ++ q ∷ []) (after_of there q) given) [] blocked in
-        (ap found is, ap floods is)
-  ]
+  first-dead b events enters dead prefix given = search (rules, cases_Bool, cond-true, cond-false)
 
   pub dead-passed : (b : Bool) → EntersAs new q (λ table mode prefix. Tick ∷ []) → (prefix given : List Placement) →
       (found (if b && is_below old.rows q then sought old.left (prefix ++ q ∷ []) (after_of there q) given else []) ≡ []) × (floods (if b && is_below old.rows q then sought old.left (prefix ++ q ∷ []) (after_of there q) given else []) ≡ 0)
@@ -233,10 +206,7 @@ module _ (table : Table) (mode : DropMode) (old new : Setup) (same : new ≡ old
 
 pub left-above : (n : Position) (places : Option LowPlaces) (last : Option Placement) → last ≡ None → (q : Placement) → places_left places last ≡ filter (is_below n.rows) (places_at n q.piece) →
     places_left places (Some q) ≡ filter (is_above placement_cmp (Some q)) (filter (is_below n.rows) (places_at n q.piece))
-left-above n places last none q e =
-    places_left-above places q
-    ∙ ap (λ l. filter (is_above placement_cmp (Some q)) (places_left places l)) (sym none)
-    ∙ ap (filter (is_above placement_cmp (Some q))) e
+left-above n places last none q e = search (rules, places_left-above)
 
 module _ (n : Position) (q : Placement) (l : List Placement) (e : l ≡ filter (is_below n.rows) (places_at n q.piece)) (held : Bool) (answer : (held ≡ true) ↔ Contains l q) where
   kept : held ≡ true → Contains (places_at n q.piece) q × (is_below n.rows q ≡ true)

@@ -1,5 +1,5 @@
 -- The solutions from a position on: their list rises, and has each of them.
-use Rattle.std.proofs.Common.{◌≡◌, ℕ, zero, suc, ◌<◌, true, List, [], ◌∷◌, map, refl, sym, subst, ◌∙◌}
+use Rattle.std.proofs.Common.{◌≡◌, ℕ, zero, suc, ◌<◌, true, List, [], ◌∷◌, map, sym, subst, ◌∙◌, rules}
 use Rattle.std.specs.Prelude.{Contains, ◌==◌, if◌then◌else◌}
 use Rattle.std.specs.List.{flat_map}
 use Rattle.std.specs.List.Sorted.{IsStrictlySortedBy}
@@ -92,9 +92,7 @@ prefixed-rising q l rising = rising-map sequence_cmp sequence_cmp (λ s. q ∷ s
 module _ (S : Sequences) (rises : (n : Position) → Rises (S n)) (n : Position) where
   pub of_place-rising : (q : Placement) → Rises (of_place S n q)
   unfolding of_place
-  of_place-rising q =
-      cond_both (is_below n.rows q) (map (λ s. q ∷ s) (S (after_of n q))) [] Rises
-      (λ _. prefixed-rising q (S (after_of n q)) (rises (after_of n q))) (λ _. rising-none sequence_cmp)
+  of_place-rising q = search (rules, cond_both, prefixed-rising, rising-none)
 
   pub places-rising : (qs : List Placement) → IsStrictlySortedBy placement_cmp qs → Rises (flat_map (of_place S n) qs)
   places-rising qs rising =
@@ -120,25 +118,7 @@ earlier_kind S n p q e x y in_p in_q =
 
 pub pieces-rising : IsStrictlySortedBy piece_cmp all_pieces
 unfolding IsStrictlySortedBy
-pieces-rising = (
-  (refl, (refl, (refl, (refl, (refl, (refl, tt)))))),
-  (
-    (refl, (refl, (refl, (refl, (refl, tt))))),
-    (
-      (refl, (refl, (refl, (refl, tt)))),
-      (
-        (refl, (refl, (refl, tt))),
-        (
-          (refl, (refl, tt)),
-          (
-            (refl, tt),
-            (tt, tt),
-          ),
-        ),
-      ),
-    ),
-  ),
-)
+pieces-rising = search rules
 
 pub sols-rising : (left : ℕ) (n : Position) → Rises (sols left n)
 unfolding sols

@@ -1,5 +1,5 @@
 -- A search that begins after a given sequence finds what the whole list has above it, and makes no more floods.
-use Rattle.std.proofs.Common.{◌≡◌, ℕ, zero, suc, Bool, true, false, ◌&&◌, List, [], ◌∷◌, ◌++◌, map, refl, sym, ap, subst, ◌∙◌}
+use Rattle.std.proofs.Common.{◌≡◌, ℕ, zero, suc, Bool, true, false, ◌&&◌, List, [], ◌∷◌, ◌++◌, refl, sym, ap, subst, ◌∙◌, rules}
 use Rattle.std.specs.Prelude.{Some, filter, drop, ◌==◌, if◌then◌else◌}
 use Rattle.std.specs.List.{flat_map}
 use Rattle.srs.specs.declared.piece.Piece.{Piece}
@@ -18,8 +18,7 @@ use Rattle.enumerate.proofs.Resumed.{all-past, following, past}
 
 -- the filter goes into a choice
 filter-if : (b : Bool) (test : List Placement → Bool) (l : List (List Placement)) → filter test (if b then l else []) ≡ (if b then filter test l else [])
-filter-if true test l = refl
-filter-if false test l = refl
+filter-if b test l = search rules
 
 leaf-past : (b : Bool) (prefix given : List Placement) → [] ≡ prefixed prefix (filter (past given) (if b then [] ∷ [] else []))
 unfolding prefixed
@@ -37,11 +36,7 @@ module _ (left : ℕ) (prefix : List Placement) (n : Position) (q : Placement) (
     (deeper : found (sought left (prefix ++ q ∷ []) (after_of n q) given) ≡ prefixed (prefix ++ q ∷ []) (filter (past given) (sols left (after_of n q)))) where
   found-first : (b : Bool) → found (if b && is_below n.rows q then sought left (prefix ++ q ∷ []) (after_of n q) given else []) ≡ prefixed prefix (following (sols left) n q given b)
   unfolding following found prefixed
-  found-first b = at (b && is_below n.rows q)
-    where
-      at : (b : Bool) → found (if b then sought left (prefix ++ q ∷ []) (after_of n q) given else []) ≡ prefixed prefix (if b then map (λ s. q ∷ s) (filter (past given) (sols left (after_of n q))) else [])
-      at true = deeper ∙ prefixed-cons prefix q (filter (past given) (sols left (after_of n q)))
-      at false = refl
+  found-first b = search (rules, prefixed-cons)
 
   abbrev later_places : List Placement
   later_places = filter (is_above placement_cmp (Some q)) (places_at n q.piece)

@@ -1,5 +1,5 @@
 -- Turns of frames, from the first position to the deepest.
-use Rattle.std.proofs.Common.{◌≡◌, ℕ, suc, ◌+◌, ◌<◌, ◌≤◌, Bool, true, false, List, [], ◌∷◌, ◌++◌, length, refl, sym, ap, subst, ◌∙◌, arith, append_assoc, length-append, get_or, set, take, length-set}
+use Rattle.std.proofs.Common.{◌≡◌, ℕ, suc, ◌+◌, ◌<◌, ◌≤◌, Bool, true, false, List, [], ◌∷◌, ◌++◌, length, refl, sym, ap, subst, ◌∙◌, arith, append_assoc, length-append, get_or, set, take, length-set, rules}
 use Rattle.std.specs.Prelude.{nat_le, ◌-◌}
 use Rattle.std.proofs.Math.Seq.{take-append-add, take-suc}
 use Rattle.std.specs.List.{flat_map}
@@ -35,15 +35,13 @@ pub room-last : (depth : ℕ) (frames : List Frame) (frame : Frame) → has_room
 unfolding has_room
 room-last depth [] frame room = let fits = leb-true (frame.setup.left + depth) 19 (and_first (nat_le (frame.setup.left + depth) 19) true room) in (refl, omega (arith, fits))
 room-last depth (f ∷ frames) frame room =
-    let rest = room-last (suc depth) frames frame (and_second (nat_le (f.setup.left + depth) 19) _ room) in
-    (and_from (nat_le (f.setup.left + depth) 19) (has_room (suc depth) frames) (and_first (nat_le (f.setup.left + depth) 19) _ room) rest.0, omega (arith, rest.1))
+    search (rules, and_second, and_from, and_first, (room-last (suc depth) frames frame (and_second (nat_le (f.setup.left + depth) 19) _ room)))
 
 pub room-more : (depth : ℕ) (frames : List Frame) (frame : Frame) → has_room depth frames ≡ true → frame.setup.left + (depth + length frames) ≤ 19 → has_room depth (frames ++ frame ∷ []) ≡ true
 unfolding has_room
 room-more depth [] frame room fits = and_from (nat_le (frame.setup.left + depth) 19) true (le-leb (frame.setup.left + depth) 19 (omega (arith, fits))) refl
 room-more depth (f ∷ frames) frame room fits =
-    and_from (nat_le (f.setup.left + depth) 19) (has_room (suc depth) (frames ++ frame ∷ [])) (and_first (nat_le (f.setup.left + depth) 19) _ room)
-    (room-more (suc depth) frames frame (and_second (nat_le (f.setup.left + depth) 19) _ room) (omega (arith, fits)))
+    search (rules, and_from, and_first, and_second, (room-more (suc depth) frames frame (and_second (nat_le (f.setup.left + depth) 19) _ room)))
 
 module _ (table : Table) (mode : DropMode) (fs : List Frame) (old new : Frame) (room : has_room 0 (fs ++ old ∷ []) ≡ true) (left : new.setup.left ≡ old.setup.left) where
   abbrev below : List Event
@@ -112,9 +110,7 @@ module _ (table : Table) (mode : DropMode) (fs : List Frame) (old new : Frame) (
 
 module _ (walked : List Frame) (top depth : ℕ) (next : depth ≡ top + 1) (long : length walked ≡ depth) where
   pub walked-last : (d : Frame) → walked ≡ take top walked ++ get_or walked top d ∷ []
-  walked-last d =
-      sym (take_all (suc top) walked (omega (arith, long, next)))
-      ∙ take-suc walked top d (omega (arith, long, next))
+  walked-last d = search (rules, take_all, take-suc)
 
   module _ (new : Frame) (behind : List Frame) where
     abbrev written : List Frame
@@ -189,14 +185,11 @@ module _ (table : Table) (mode : DropMode) (frames walked : List Frame) (same : 
 
 -- what was found before stays found
 pub finds-more : (first old new : List (List Placement)) (path : List Placement) (solved some : Bool) → first ≡ old → Finds old new path solved → solved ≡ true → some ≡ true → Finds first new path some
-finds-more first old new path true true same finds e f = same ∙ finds
-finds-more first old new path true false same finds e f = cc
-finds-more first old new path false some same finds e f = cc
+finds-more first old new path solved some same finds e f = search rules
 
 -- where nothing is found what is to be found stays
 pub finds-none : (old new : List (List Placement)) (path : List Placement) (solved : Bool) → solved ≡ false → Finds old new path solved → old ≡ new
-finds-none old new path true e finds = cc
-finds-none old new path false e finds = finds
+finds-none old new path solved e finds = search rules
 
 -- one more frame on the path
 pub path-more : (frames : List Frame) (i : ℕ) (frame : Frame) → i < length frames → frame ≡ get_or frames i frame → path_of (take (i + 1) frames) ≡ path_of (take i frames) ++ entered_placement frame

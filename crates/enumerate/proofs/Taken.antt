@@ -1,5 +1,5 @@
 -- What is left of a flood's places once the least of them is taken out.
-use Rattle.std.proofs.Common.{◌≡◌, ◌↔◌, ◌≢◌, Bool, true, false, ◌&&◌, List, [], ◌∷◌, refl, sym, ap, subst, ◌∙◌}
+use Rattle.std.proofs.Common.{◌≡◌, ◌↔◌, ◌≢◌, Bool, true, false, ◌&&◌, List, [], ◌∷◌, refl, sym, ap, subst, ◌∙◌, rules}
 use Rattle.std.specs.Prelude.{Contains, Option, Some, None, IsTrue, MatchOption, filter, find}
 use Rattle.std.specs.Bool.{one_answer}
 use Rattle.std.specs.Option.{ForSome}
@@ -113,14 +113,4 @@ pub upcoming-taken : (frame : Frame) (places new : LowPlaces) → frame.places �
     (λ q. (places_left frame.places frame.entered ≡ q ∷ places_left (Some new) (Some q)) × ForSome (Some new) (λ p. q.piece ≡ piece_of p)
     × IsTrue (may_lock (filled frame.setup.well) q.piece q) × IsTrue (is_below frame.setup.rows q) × IsTrue (may_play (queues_in_play frame.setup.line.queues) q.piece)
     × (IsTrue frame.are_live → LeadsOn frame.setup q))
-upcoming-taken frame places new is kind None next = (ap (λ p. places_left p frame.entered) is ∙ next.0, next.1)
-upcoming-taken frame places new is kind (Some q) next =
-    let lock = frame.lockable places is q next.1 in
-    let same : q.piece ≡ piece_of places = lockable-piece (filled frame.setup.well) (piece_of places) q lock in (
-      ap (λ p. places_left p frame.entered) is ∙ next.0,
-      λ p e. same ∙ sym kind ∙ ap piece_of (some_same e),
-      subst (λ p. may_lock (filled frame.setup.well) p q ≡ true) (sym same) lock,
-      frame.held_below places is q next.1,
-      subst (λ p. may_play (queues_in_play frame.setup.line.queues) p ≡ true) (sym same) (frame.permitted places is),
-      λ are_live. frame.live are_live places is q next.1,
-    )
+upcoming-taken frame places new is kind h5 next = search (rules, lockable-piece, some_same)

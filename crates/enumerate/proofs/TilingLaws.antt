@@ -1,8 +1,7 @@
 -- What plays to the end leaves a tiling, and the supply of a queue set is that of its line.
-use Rattle.std.proofs.Common.{◌≡◌, ◌↔◌, ℕ, suc, ◌+◌, ◌-◌, ◌≤◌, Bool, true, cond, List, [], ◌∷◌, ◌++◌, length, refl, sym, ap, subst, ◌∙◌, inl, inr, arith}
+use Rattle.std.proofs.Common.{◌≡◌, ◌↔◌, ℕ, suc, ◌+◌, ◌-◌, ◌≤◌, Bool, true, cond, List, [], ◌∷◌, ◌++◌, length, refl, sym, ap, subst, ◌∙◌, arith}
 use Rattle.std.specs.Prelude.{count_by, min, ◌==◌}
 use Rattle.std.specs.Bool.{one_answer}
-use Rattle.std.specs.Int.{bit_at}
 use Rattle.std.proofs.lemmas.Bool.{cases_Bool, cond-false, cond-true}
 use Rattle.std.proofs.Math.Path.{fun_ext}
 use Rattle.std.proofs.lemmas.List.{length-map}
@@ -20,7 +19,7 @@ use Rattle.well.specs.Lock.{locked, rows_removed, together}
 use Rattle.well.specs.LockLaws.{LiesBelow, is_below}
 use Rattle.moves.specs.declared.key.DropMode.{DropMode}
 use Rattle.hold_queue.specs.QueueSet.{QueuesInPlay, QueuesPermit, queues_in_play}
-use Rattle.hold_queue.specs.Supply.{from_hold, supplies, supply_of}
+use Rattle.hold_queue.specs.Supply.{supplies, supply_of}
 use Rattle.hold_queue.proofs.CallerLemmas.{supply-enough}
 use Rattle.prune.specs.Tiling.{Supply, Tiling, supply_in}
 use Rattle.prune.specs.OnePart.{less_one}
@@ -94,27 +93,8 @@ as_many left a c = omega arith
 supply-next : (line : QueuesInPlay) (piece : Piece) (left : ℕ) (other : Piece) →
     min left (less_one (supply_of line (left + 1)) piece other) ≡ supply_of (record line { played = line.played ++ piece ∷ [] }) left other
 unfolding less_one
-supply-next line piece left other = elim (cases_Bool (piece_code piece == piece_code other)) [
-  | inl same ↦
-      ap (min left) (cond-true (piece_code piece == piece_code other) _ _ same) ∙ fewer left most count
-      ∙ ap (λ k. min left (most - k)) {x = count + 1} (omega (arith, counted, cond-true {A = ℕ} (piece_code piece == piece_code other) 1 0 same))
-  | inr differs ↦
-      ap (min left) (cond-false (piece_code piece == piece_code other) _ _ differs) ∙ as_many left most count
-      ∙ ap (λ k. min left (most - k)) {x = count} (omega (arith, counted, cond-false {A = ℕ} (piece_code piece == piece_code other) 1 0 differs))
-]
-  where
-    most : ℕ
-    most = count_by (λ element. bit_at element.set (piece_code other - 1) == 1) line.elements + from_hold line.hold line.held other
-
-    count : ℕ
-    count = count_by (λ played. piece_code played == piece_code other) line.played
-
-    counted : count_by (λ played. piece_code played == piece_code other) (line.played ++ piece ∷ []) ≡ count + cond (piece_code piece == piece_code other) 1 0
-    counted = omega (
-      arith,
-      sum_by-append (λ played. cond (piece_code played == piece_code other) 1 0) line.played (piece ∷ []),
-      sum_by-cons (λ played. cond (piece_code played == piece_code other) 1 0) piece [],
-    )
+supply-next line piece left other =
+    grind (arith, cases_Bool, cond-true, fewer, cond-false, as_many, sum_by-append, sum_by-cons)
 
 -- the supply of a setup, after one more piece
 pub supply-moves : (line : QueuesInPlay) (piece : Piece) (left : ℕ) (before after : Supply) → before ≡ supply_of line (left + 1) →

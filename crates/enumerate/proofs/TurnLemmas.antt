@@ -1,9 +1,8 @@
 -- What one turn does to the events that are still to come.
-use Rattle.std.proofs.Common.{◌≡◌, ◌↔◌, ℕ, suc, ◌+◌, ◌-◌, Bool, true, false, ◌&&◌, List, [], ◌∷◌, ◌++◌, refl, sym, ap, subst, ◌∙◌, inl, inr, arith, eq-eqb, append_assoc}
+use Rattle.std.proofs.Common.{◌≡◌, ◌↔◌, ℕ, ◌+◌, ◌-◌, Bool, true, false, ◌&&◌, List, [], ◌∷◌, ◌++◌, refl, sym, ap, ◌∙◌, eq-eqb, append_assoc, rules}
 use Rattle.std.specs.Prelude.{Contains, Some, None, filter, drop, ◌==◌}
 use Rattle.std.specs.List.{flat_map}
 use Rattle.std.specs.Bool.{one_answer}
-use Rattle.std.specs.Option.{option_to_list}
 use Rattle.std.proofs.lemmas.Bool.{and_from, and_parts, cases_Bool, eqb-true, cond-true, cond-false}
 use Rattle.std.proofs.Math.Bool.{and-true}
 use Rattle.lane_board.specs.Field.{Field}
@@ -29,37 +28,20 @@ use Rattle.well.specs.LockLaws.{is_below}
 use Rattle.enumerate.specs.Position.{Position, after_of, may_play, places_at, is_live}
 use Rattle.enumerate.specs.Standing.{may_lock}
 use Rattle.enumerate.specs.Events.{Event, Tick, Flood, Found, Walk, entered, tried, tried_in_turn, enter}
-use Rattle.enumerate.specs.Frames.{places_left, entered_placement, events_of}
+use Rattle.enumerate.specs.Frames.{places_left, events_of}
 use Rattle.enumerate.specs.Setups.{position_of}
 use Rattle.enumerate.specs.declared.turn.Turn.{Turn}
-use Rattle.enumerate.specs.declared.turn.Turn.TheVariants.{Passed, Flooded, Entered, Full, Over}
 use Rattle.enumerate.specs.Turns.{Enters, EntersAs, GoesAs, IsChild, Turns}
 use Rattle.enumerate.proofs.PlaceLaws.{place-lockable}
 
 pub filter-both : {A : Type 0} (a b : A → Bool) (xs : List A) → filter (λ x. a x && b x) xs ≡ filter b (filter a xs)
 filter-both a b [] = refl
-filter-both a b (x ∷ xs) = elim (cases_Bool (a x)) [
-  | inl e ↦ elim (cases_Bool (b x)) [
-    | inl f ↦
-        filter-true (λ x. a x && b x) x xs (ap (λ t. t && b x) e ∙ f) ∙ ap (λ l. x ∷ l) (filter-both a b xs)
-        ∙ sym (ap (filter b) (filter-true a x xs e) ∙ filter-true b x (filter a xs) f)
-    | inr f ↦
-        filter-false (λ x. a x && b x) x xs (ap (λ t. t && b x) e ∙ f) ∙ filter-both a b xs
-        ∙ sym (ap (filter b) (filter-true a x xs e) ∙ filter-false b x (filter a xs) f)
-  ]
-  | inr e ↦
-      filter-false (λ x. a x && b x) x xs (ap (λ t. t && b x) e) ∙ filter-both a b xs
-      ∙ sym (ap (filter b) (filter-false a x xs e))
-]
+filter-both a b (x ∷ xs) = search (rules, cases_Bool, filter-true, filter-false, (filter-both a b xs))
 
 pub filter-same : {A : Type 0} (a b : A → Bool) (xs : List A) → ((x : A) → Contains xs x → a x ≡ b x) → filter a xs ≡ filter b xs
 filter-same a b [] each = refl
 filter-same a b (x ∷ xs) each =
-    let rest = filter-same a b xs (λ y among. each y (Contains-there x xs y among)) in
-    elim (cases_Bool (b x)) [
-      | inl e ↦ filter-true a x xs (each x (Contains-here x xs) ∙ e) ∙ ap (λ l. x ∷ l) rest ∙ sym (filter-true b x xs e)
-      | inr e ↦ filter-false a x xs (each x (Contains-here x xs) ∙ e) ∙ rest ∙ sym (filter-false b x xs e)
-    ]
+    search (rules, Contains-there, cases_Bool, filter-true, Contains-here, filter-false, (filter-same a b xs (λ y among. each y (Contains-there x xs y among))))
 
 -- what a frame's places hold may lock
 abbrev pub Lockable : Field → LowPlaces → Type 0
@@ -91,9 +73,7 @@ module _ (table : Table) (F : Field) (mode : DropMode) (piece : Piece) (places :
           )
 
   pub flooded-lockable : Lockable F places
-  flooded-lockable q is_held =
-      let all = (held q).0 is_held in
-      place-lockable table F mode (piece_of places) q (all.0 ∙ sym kind) all.1
+  flooded-lockable q is_held = search (rules, place-lockable)
 
   pub flooded-below : HeldBelow rows places
   flooded-below q is_held = ((held q).0 is_held).2
@@ -110,63 +90,27 @@ module _ (setup child : Setup) (q : Placement) (field : filled child.well ≡ lo
 module _ (setup : Setup) (q : Placement) (below : is_below setup.rows q ≡ true) where
   pub enters-full : setup.left ≡ 0 → setup.rows - rows_removed (filled setup.well) q ≡ 0 → EntersAs setup q (λ table mode prefix. Found prefix ∷ [])
   unfolding entered position_of enter after_of
-  enters-full none done = record {
-    same = λ table mode prefix.
-        cond-true (is_below setup.rows q) (enter setup.left (prefix ++ q ∷ []) (after_of (position_of table mode setup) q)) [] below
-        ∙ ap (λ left. enter left (prefix ++ q ∷ []) (after_of (position_of table mode setup) q)) none
-        ∙ ap (λ e. e ∷ []) (cond-true (setup.rows - rows_removed (filled setup.well) q == 0) (Found (prefix ++ q ∷ [])) Tick (eq-eqb _ 0 done));
-  }
+  enters-full none done = search (rules, cond-true, eq-eqb)
 
   pub enters-rows_left : setup.left ≡ 0 → (setup.rows - rows_removed (filled setup.well) q == 0) ≡ false → EntersAs setup q (λ table mode prefix. Tick ∷ [])
   unfolding entered position_of enter after_of
-  enters-rows_left none more = record {
-    same = λ table mode prefix.
-        cond-true (is_below setup.rows q) (enter setup.left (prefix ++ q ∷ []) (after_of (position_of table mode setup) q)) [] below
-        ∙ ap (λ left. enter left (prefix ++ q ∷ []) (after_of (position_of table mode setup) q)) none
-        ∙ ap (λ e. e ∷ []) (cond-false (setup.rows - rows_removed (filled setup.well) q == 0) (Found (prefix ++ q ∷ [])) Tick more);
-  }
+  enters-rows_left none more = search (rules, cond-true, cond-false)
 
   -- the frame after a placement
   module _ (child : Frame) (position : (table : Table) (mode : DropMode) → position_of table mode child.setup ≡ after_of (position_of table mode setup) q) where
     pub is_child : child.setup.left + 1 ≡ setup.left → child.tried ≡ 0 → child.places ≡ None → ((table : Table) (mode : DropMode) → is_live child.setup.left (after_of (position_of table mode setup) q) ≡ true) → IsChild setup q child
-    is_child left tried places live = record {
-      left = left;
-      below = below;
-      position = position;
-      live = λ table mode. subst (λ n. is_live child.setup.left n ≡ true) (sym (position table mode)) (live table mode);
-      tried = tried;
-      places = places;
-    }
+    is_child left tried places live = search rules
 
     pub enters-child : child.setup.left + 1 ≡ setup.left → child.tried ≡ 0 → child.places ≡ None → ((table : Table) (mode : DropMode) → is_live child.setup.left (after_of (position_of table mode setup) q) ≡ true) →
         EntersAs setup q (λ table mode prefix. Tick ∷ events_of table mode prefix child)
     unfolding entered enter events_of places_left position_of
-    enters-child left tried places live = record {
-      same = λ table mode prefix.
-          let next : Position = after_of (position_of table mode setup) q in
-          let depth : setup.left ≡ suc child.setup.left = omega (arith, left) in
-          cond-true (is_below setup.rows q) (enter setup.left (prefix ++ q ∷ []) next) [] below
-          ∙ ap (λ left. enter left (prefix ++ q ∷ []) next) depth
-          ∙ cond-true (is_live child.setup.left next) (Tick ∷ tried_in_turn (enter child.setup.left) (prefix ++ q ∷ []) next all_pieces) [] (live table mode)
-          ∙ ap (λ l. Tick ∷ l)
-          (sym (λ i. tried_in_turn (enter child.setup.left) (prefix ++ q ∷ []) (position table mode i) all_pieces)
-          ∙ ap (λ k. tried_in_turn (enter child.setup.left) (prefix ++ q ∷ []) (position_of table mode child.setup) (drop k all_pieces)) (sym tried)
-          ∙ ap (λ p. flat_map (entered (enter child.setup.left) (prefix ++ q ∷ []) (position_of table mode child.setup)) (places_left p child.entered)
-          ++ tried_in_turn (enter child.setup.left) (prefix ++ q ∷ []) (position_of table mode child.setup) (drop child.tried all_pieces)) (sym places));
-    }
+    enters-child left tried places live = search (rules, cond-true)
 
   -- a position that has no tiling
   pub enters-dead : (left : ℕ) → left + 1 ≡ setup.left → ((table : Table) (mode : DropMode) → is_live left (after_of (position_of table mode setup) q) ≡ false) →
       EntersAs setup q (λ table mode prefix. [])
   unfolding entered enter position_of
-  enters-dead left less dead = record {
-    same = λ table mode prefix.
-        let next : Position = after_of (position_of table mode setup) q in
-        let depth : setup.left ≡ suc left = omega (arith, less) in
-        cond-true (is_below setup.rows q) (enter setup.left (prefix ++ q ∷ []) next) [] below
-        ∙ ap (λ left. enter left (prefix ++ q ∷ []) next) depth
-        ∙ cond-false (is_live left next) (Tick ∷ tried_in_turn (enter left) (prefix ++ q ∷ []) next all_pieces) [] (dead table mode);
-  }
+  enters-dead left less dead = search (rules, cond-true, cond-false)
 
 -- ---- trying kinds, and a whole turn
 
@@ -174,21 +118,13 @@ module _ (setup : Setup) (q : Placement) (below : is_below setup.rows q ≡ true
 pub entered-below : (walk : Walk) (prefix : List Placement) (n : Position) (qs : List Placement) → flat_map (entered walk prefix n) (filter (is_below n.rows) qs) ≡ flat_map (entered walk prefix n) qs
 unfolding entered
 entered-below walk prefix n [] = refl
-entered-below walk prefix n (q ∷ qs) = elim (cases_Bool (is_below n.rows q)) [
-  | inl e ↦ ap (flat_map (entered walk prefix n)) (filter-true (is_below n.rows) q qs e) ∙ ap (λ l. entered walk prefix n q ++ l) (entered-below walk prefix n qs)
-  | inr e ↦
-      ap (flat_map (entered walk prefix n)) (filter-false (is_below n.rows) q qs e) ∙ entered-below walk prefix n qs
-      ∙ ap (λ l. l ++ flat_map (entered walk prefix n) qs) (sym (nothing e))
-]
-  where
-    nothing : is_below n.rows q ≡ false → entered walk prefix n q ≡ []
-    nothing e = cond-false (is_below n.rows q) (walk (prefix ++ q ∷ []) (after_of n q)) [] e
+entered-below walk prefix n (q ∷ qs) =
+    search (rules, cases_Bool, filter-true, filter-false, cond-false, (entered-below walk prefix n qs))
 
 events-shape : (table : Table) (mode : DropMode) (frame : Frame) (prefix : List Placement) → places_left frame.places frame.entered ≡ [] →
     events_of table mode prefix frame ≡ tried_in_turn (enter frame.setup.left) prefix (position_of table mode frame.setup) (drop frame.tried all_pieces)
 unfolding events_of
-events-shape table mode frame prefix none =
-    ap (λ l. flat_map (entered (enter frame.setup.left) prefix (position_of table mode frame.setup)) l ++ tried_in_turn (enter frame.setup.left) prefix (position_of table mode frame.setup) (drop frame.tried all_pieces)) none
+events-shape table mode frame prefix none = search rules
 
 tried_in_turn-cons : (walk : Walk) (prefix : List Placement) (n : Position) (c : Piece) (cs : List Piece) → tried_in_turn walk prefix n (c ∷ cs) ≡ tried walk prefix n c ++ tried_in_turn walk prefix n cs
 unfolding tried_in_turn
@@ -204,21 +140,13 @@ unfolding may_play
 may_play-answer line c r answer = one_answer {P = QueuesPermit line (line.played ++ c ∷ [])} (queues_permit line (line.played ++ c ∷ [])) r (queues_permit-decides line (line.played ++ c ∷ [])) answer
 
 pub goes-over : (table : Table) (mode : DropMode) (frame : Frame) → places_left frame.places frame.entered ≡ [] → drop frame.tried all_pieces ≡ [] → GoesAs table mode frame (λ prefix. Tick ∷ [])
-goes-over table mode frame none last = record {
-  same = λ prefix.
-      events-shape table mode frame prefix none
-      ∙ ap (tried_in_turn (enter frame.setup.left) prefix (position_of table mode frame.setup)) last
-      ∙ tried_in_turn-nil (enter frame.setup.left) prefix (position_of table mode frame.setup);
-}
+goes-over table mode frame none last = search (rules, events-shape, tried_in_turn-nil)
 
 module _ (table : Table) (mode : DropMode) (old new : Frame) (same : new.setup ≡ old.setup) (c : Piece)
     (none : places_left old.places old.entered ≡ []) (next : drop old.tried all_pieces ≡ c ∷ drop new.tried all_pieces) where
   begins : (prefix : List Placement) → events_of table mode prefix old
       ≡ tried (enter old.setup.left) prefix (position_of table mode old.setup) c ++ tried_in_turn (enter old.setup.left) prefix (position_of table mode old.setup) (drop new.tried all_pieces)
-  begins prefix =
-      events-shape table mode old prefix none
-      ∙ ap (tried_in_turn (enter old.setup.left) prefix (position_of table mode old.setup)) next
-      ∙ tried_in_turn-cons (enter old.setup.left) prefix (position_of table mode old.setup) c (drop new.tried all_pieces)
+  begins prefix = search (rules, events-shape, tried_in_turn-cons)
 
   rest-same : (prefix : List Placement) → tried_in_turn (enter new.setup.left) prefix (position_of table mode new.setup) (drop new.tried all_pieces) ≡ tried_in_turn (enter old.setup.left) prefix (position_of table mode old.setup) (drop new.tried all_pieces)
   rest-same prefix = λ i. tried_in_turn (enter (same i).left) prefix (position_of table mode (same i)) (drop new.tried all_pieces)
@@ -269,22 +197,7 @@ module _ (table : Table) (mode : DropMode) (old new : Frame) (same : new.setup �
 module _ (table : Table) (mode : DropMode) (old mid : Frame) (same : mid.setup ≡ old.setup) (kinds : mid.tried ≡ old.tried)
     (none : places_left old.places old.entered ≡ []) (none_mid : places_left mid.places mid.entered ≡ []) where
   goes-from : (events : List Placement → List Event) → GoesAs table mode mid events → GoesAs table mode old events
-  goes-from events goes = record {
-    same = λ prefix.
-        events-shape table mode old prefix none
-        ∙ (λ i. tried_in_turn (enter (left i)) prefix (position i) (drop (kinds' i) all_pieces))
-        ∙ sym (events-shape table mode mid prefix none_mid)
-        ∙ goes.same prefix;
-  }
-    where
-      left : old.setup.left ≡ mid.setup.left
-      left = ap (λ (s : Setup). s.left) (sym same)
-
-      kinds' : old.tried ≡ mid.tried
-      kinds' = sym kinds
-
-      position : position_of table mode old.setup ≡ position_of table mode mid.setup
-      position = ap (position_of table mode) (sym same)
+  goes-from events goes = search (rules, events-shape)
 
   pub none-left : (prefix : List Placement) → events_of table mode prefix old ≡ events_of table mode prefix mid
   none-left prefix = (goes-from (λ prefix. events_of table mode prefix mid) record { same = λ prefix. refl }).same prefix
@@ -294,37 +207,15 @@ unfolding may_play
 line-permits line c played = (queues_permit-decides line (line.played ++ c ∷ [])).0 played
 
 pub not-zero : (k : ℕ) → (k ≡ 0 → ⊥) → (k == 0) ≡ false
-not-zero k differs = elim (cases_Bool (k == 0)) [
-  | inl same ↦ absurd (differs (eqb-true k 0 same))
-  | inr e ↦ e
-]
+not-zero k differs = search (rules, cases_Bool, eqb-true)
 
 -- a turn that enters a placement
 module _ (table : Table) (mode : DropMode) (old new : Frame) (left : new.setup.left ≡ old.setup.left) (q : Placement) (step : new.entered ≡ Some q)
     (goes : (prefix : List Placement) → events_of table mode prefix old ≡ entered (enter new.setup.left) prefix (position_of table mode new.setup) q ++ events_of table mode prefix new) where
-  goes-entered : (events : Table → DropMode → List Placement → List Event) → EntersAs new.setup q events →
-      GoesAs table mode old (λ prefix. events table mode (prefix ++ entered_placement new) ++ events_of table mode prefix new)
-  goes-entered events enters = record {
-    same = λ prefix.
-        goes prefix
-        ∙ ap (λ l. l ++ events_of table mode prefix new) (enters.same table mode prefix ∙ ap (λ s. events table mode (prefix ++ s)) (sym step-is));
-  }
-    where
-      step-is : entered_placement new ≡ q ∷ []
-      step-is = ap option_to_list step
-
   pub enters-turn : (child : Frame) (result : Turn) (steps : ℕ) → Enters new.setup q child result → Turns table mode old new child result steps steps
-  enters-turn child Passed steps enters = (goes-entered (λ table mode prefix. Tick ∷ []) enters, refl)
-  enters-turn child Flooded steps enters = absurd enters
-  enters-turn child Entered steps enters = (goes-entered (λ table mode prefix. Tick ∷ events_of table mode prefix child) enters.0, refl, enters.1.left ∙ left)
-  enters-turn child Full steps enters = (goes-entered (λ table mode prefix. Found prefix ∷ []) enters, refl)
-  enters-turn child Over steps enters = absurd enters
+  enters-turn child result steps enters = search rules
 
 -- what a turn comes to at a frame that does what another does
 pub turns-as : (table : Table) (mode : DropMode) (old mid new child : Frame) (result : Turn) (before now : ℕ) → mid.setup.left ≡ old.setup.left →
     ((prefix : List Placement) → events_of table mode prefix old ≡ events_of table mode prefix mid) → Turns table mode mid new child result before now → Turns table mode old new child result before now
-turns-as table mode old mid new child Passed before now left goes turns = (record { same = λ prefix. goes prefix ∙ turns.0.same prefix }, turns.1)
-turns-as table mode old mid new child Flooded before now left goes turns = (record { same = λ prefix. goes prefix ∙ turns.0.same prefix }, turns.1)
-turns-as table mode old mid new child Entered before now left goes turns = (record { same = λ prefix. goes prefix ∙ turns.0.same prefix }, turns.1, turns.2 ∙ left)
-turns-as table mode old mid new child Full before now left goes turns = (record { same = λ prefix. goes prefix ∙ turns.0.same prefix }, turns.1)
-turns-as table mode old mid new child Over before now left goes turns = (record { same = λ prefix. goes prefix ∙ turns.0.same prefix }, turns.1)
+turns-as table mode old mid new child result before now left goes turns = search rules

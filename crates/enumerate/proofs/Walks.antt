@@ -1,13 +1,12 @@
 -- What a walk finds is the list of solutions from its position on, each after the prefix.
-use Rattle.std.proofs.Common.{◌≡◌, ℕ, zero, suc, ◌+◌, Bool, true, false, List, [], ◌∷◌, ◌++◌, map, refl, sym, ap, ◌∙◌, arith, append_assoc}
+use Rattle.std.proofs.Common.{◌≡◌, ℕ, zero, suc, ◌+◌, Bool, true, false, List, [], ◌∷◌, ◌++◌, map, refl, sym, ap, ◌∙◌, arith, append_assoc, rules}
 use Rattle.std.specs.Prelude.{◌==◌, if◌then◌else◌}
 use Rattle.std.specs.List.{flat_map}
 use Rattle.std.proofs.lemmas.List.{append-nil, map-append}
 use Rattle.srs.specs.declared.piece.Piece.{Piece}
 use Rattle.srs.specs.declared.placement.Placement.{Placement}
 use Rattle.srs.specs.Piece.{all_pieces}
-use Rattle.well.specs.LockLaws.{is_below}
-use Rattle.enumerate.specs.Position.{Position, after_of, may_play, places_at, is_live}
+use Rattle.enumerate.specs.Position.{Position, may_play, places_at, is_live}
 use Rattle.enumerate.specs.Events.{Event, Tick, Flood, Found, found, floods, Walk, entered, tried, tried_in_turn, enter}
 use Rattle.enumerate.proofs.Solutions.{Sequences, of_place, of_kind, sols}
 
@@ -28,13 +27,11 @@ floods-append (Found s ∷ xs) ys = floods-append xs ys
 -- to pass by first finds nothing and makes no flood
 pub found-tick : (b : Bool) (events : List Event) → found (if b then Tick ∷ events else []) ≡ found (if b then events else [])
 unfolding found
-found-tick true events = refl
-found-tick false events = refl
+found-tick b events = search rules
 
 pub floods-tick : (b : Bool) (events : List Event) → floods (if b then Tick ∷ events else []) ≡ floods (if b then events else [])
 unfolding floods
-floods-tick true events = refl
-floods-tick false events = refl
+floods-tick b events = search rules
 
 -- each of these sequences after a prefix
 unfoldable pub prefixed : List Placement → List (List Placement) → List (List Placement)
@@ -61,11 +58,7 @@ pub record Finds (walk : Walk) (S : Sequences) : Type 0 where
 module _ (walk : Walk) (S : Sequences) (finds : Finds walk S) (prefix : List Placement) (n : Position) where
   found-entered : (q : Placement) → found (entered walk prefix n q) ≡ prefixed prefix (of_place S n q)
   unfolding entered of_place found prefixed
-  found-entered q = at (is_below n.rows q)
-    where
-      at : (b : Bool) → found (if b then walk (prefix ++ q ∷ []) (after_of n q) else []) ≡ prefixed prefix (if b then map (λ s. q ∷ s) (S (after_of n q)) else [])
-      at true = finds.same (prefix ++ q ∷ []) (after_of n q) ∙ prefixed-cons prefix q (S (after_of n q))
-      at false = refl
+  found-entered q = search (rules, prefixed-cons)
 
   pub found-places : (qs : List Placement) → found (flat_map (entered walk prefix n) qs) ≡ prefixed prefix (flat_map (of_place S n) qs)
   unfolding found prefixed
@@ -100,13 +93,11 @@ module _ (walk : Walk) (S : Sequences) (finds : Finds walk S) (prefix : List Pla
 
 found-leaf : (b : Bool) (prefix : List Placement) → found ((if b then Found prefix else Tick) ∷ []) ≡ prefixed prefix (if b then [] ∷ [] else [])
 unfolding found prefixed
-found-leaf true prefix = ap (λ s. s ∷ []) (sym (append-nil prefix))
-found-leaf false prefix = refl
+found-leaf b prefix = search (rules, append-nil)
 
 pub found-if_live : (b : Bool) (prefix : List Placement) (events : List Event) (l : List (List Placement)) → found events ≡ prefixed prefix l → found (if b then events else []) ≡ prefixed prefix (if b then l else [])
 unfolding found prefixed
-found-if_live true prefix events l e = e
-found-if_live false prefix events l e = refl
+found-if_live b prefix events l e = search rules
 
 pub finds-enter : (left : ℕ) → Finds (enter left) (sols left)
 unfolding enter sols found

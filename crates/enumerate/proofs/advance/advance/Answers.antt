@@ -1,22 +1,14 @@
 -- Where a turn completes a solution, some frame is in use.
-use Rattle.std.proofs.Common.{refl, ◌∙◌, arith, lt-ltb}
+use Rattle.std.proofs.Common.{◌∙◌, arith, lt-ltb, rules}
 use Rattle.enumerate.proofs.Stacks.{finds-more, finds-none}
 use Rattle.enumerate.proofs.Counting.{counts-none, counts-then}
 use Rattle.enumerate.proofs.advance.advance.Goals as goal
 
 pub returns-then-found-clause-found : goal.returns-then-found-clause-found
-returns-then-found-clause-found g c =
-    finds-more _ _ _ _ c.turn-next.result.1 _ c.loop-depth.invariant.same c.turn-next.ensures.turn.finds c.if-found.true (lt-ltb 0 c.turn-next.result.0 (c.turn-next.ensures.solved c.if-found.true))
+returns-then-found-clause-found g c = grind (arith, finds-more, lt-ltb)
 
 pub loop-depth-init : goal.loop-depth-init
-loop-depth-init g c = record {
-  within = c.requires.within;
-  room = c.requires.room;
-  same = refl;
-  counted = refl;
-  fewer = omega arith;
-  noted = counts-none c.args.notes.now.floods c.args.steps.now;
-}
+loop-depth-init g c = search (rules, counts-none)
 
 pub loop-depth-preserved : goal.loop-depth-preserved
 loop-depth-preserved g c = record {

@@ -1,13 +1,11 @@
 -- A turn at the deepest frame is a turn of all frames.
-use Rattle.std.proofs.Common.{◌-◌, get_or, take, arith}
+use Rattle.std.proofs.Common.{◌-◌, get_or, take, arith, rules}
 use Rattle.reach.specs.FloodRules.{flood_table}
 use Rattle.enumerate.proofs.Stacks.{array-deeper, array-entered, array-over, array-room, array-turn, turn-entered, turn-flooded, turn-full, turn-over, turn-passed}
 use Rattle.enumerate.proofs.advance.turn.Goals as goal
 
 pub turn-requires : goal.turn-requires
-turn-requires g c =
-    let deeper = array-deeper (flood_table c.args.rules.now) c.args.drop_mode (take c.args.depth c.args.frames.now) c.split_at_mut-walked.result.0.now c.split_at_mut-walked.ensures.front c.args.depth c.requires.some c.split_at_mut-walked.ensures.front_len c.index-walked-top.result c.requires.room in
-    omega (arith, deeper, c.split_at_mut-walked.ensures.back_len)
+turn-requires g c = search (rules, array-deeper)
 
 pub returns-in-Passed-clause-turn : goal.returns-in-Passed-clause-turn
 returns-in-Passed-clause-turn g c =
@@ -31,9 +29,7 @@ returns-in-Full-clause-turn g c =
     (λ i. (c.in-Full.ensures.same i).left) _ _ c.in-Full.ensures.turn.0 c.in-Full.ensures.turn.1)
 
 pub returns-in-Entered-clause-within : goal.returns-in-Entered-clause-within
-returns-in-Entered-clause-within g c =
-    let deeper = array-deeper (flood_table c.args.rules.now) c.args.drop_mode (take c.args.depth c.args.frames.now) c.split_at_mut-walked.result.0.now c.split_at_mut-walked.ensures.front c.args.depth c.requires.some c.split_at_mut-walked.ensures.front_len c.index-walked-top.result c.requires.room in
-    omega (arith, deeper, c.in-Entered.ensures.turn.2)
+returns-in-Entered-clause-within g c = grind (arith, array-deeper)
 
 pub returns-in-Entered-clause-turn : goal.returns-in-Entered-clause-turn
 returns-in-Entered-clause-turn g c =

@@ -1,20 +1,12 @@
 -- The given sequence is passed by from its first placement to its last.
-use Rattle.std.proofs.Common.{drop, refl, arith}
+use Rattle.std.proofs.Common.{drop, arith, rules}
 use Rattle.reach.specs.FloodRules.{flood_table}
 use Rattle.enumerate.proofs.SeekLemmas.{drop-none, skips-to, starts}
 use Rattle.enumerate.proofs.Counting.{counts-none, counts-then}
 use Rattle.enumerate.proofs.seek.seek.Goals as goal
 
 pub loop-target-init : goal.loop-target-init
-loop-target-init g c = record {
-  at = refl;
-  within = omega arith;
-  long = c.told-frames;
-  room = c.requires.room;
-  fresh = c.requires.fresh;
-  skips = λ d. starts (flood_table c.args.rules.now) c.args.drop_mode c.args.frames.now c.args.given.now d c.args.steps.now;
-  noted = counts-none c.args.notes.now.floods c.args.steps.now;
-}
+loop-target-init g c = search (rules, starts, counts-none)
 
 pub returns-clause-skips : goal.returns-clause-skips
 returns-clause-skips g c = λ d.

@@ -1,11 +1,9 @@
 -- The first frame stands for the whole search, and passes what comes before a given sequence.
-use Rattle.std.proofs.Common.{set, sym, ap, subst, ◌∙◌, arith}
-use Rattle.srs.specs.Kick.{Table}
+use Rattle.std.proofs.Common.{set, sym, ap, ◌∙◌, arith, rules}
 use Rattle.srs.specs.Rules.{table_of}
 use Rattle.reach.specs.FloodRules.{flood_table}
 use Rattle.enumerate.specs.Items.{items_of}
 use Rattle.enumerate.specs.Rest.{whole_from}
-use Rattle.enumerate.specs.Seeks.{IsFresh}
 use Rattle.problem.proofs.CallerLemmas.{needed-few}
 use Rattle.enumerate.proofs.SearchLemmas.{first-fresh, first-read, first-room, first-skips, nothing-room, nothing-skips, skips-by, sought-skips, whole-first, whole-nothing, whole-sought}
 use Rattle.enumerate.proofs.Counting.{counts-none}
@@ -19,17 +17,13 @@ returns-then-not-has_frame-clause-skips g c =
     nothing-skips (table_of c.args.problem.now.rules) c.args.problem.now.drop_mode _ c.args.steps.now (whole-nothing c.args.problem.now (items_of c.args.queue.now) c.first_frame-first.result c.first_frame-first.ensures.position c.first_frame-first.ensures.left (sym (c.has_frame.ensures (table_of c.args.problem.now.rules) c.args.problem.now.drop_mode) ∙ c.if-not-has_frame.true) (items_of c.args.after.now))
 
 pub seek-requires-clause-room : goal.seek-requires-clause-room
-seek-requires-clause-room g c =
-    first-room c.args.frames.now c.first_frame-first.result (omega (arith, c.told-frames)) (omega (arith, c.first_frame-first.ensures.left, needed-few c.args.problem.now c.requires.fit))
+seek-requires-clause-room g c = search (rules, first-room, needed-few)
 
 pub seek-requires-clause-fresh : goal.seek-requires-clause-fresh
-seek-requires-clause-fresh g c = λ d.
-    subst (IsFresh (flood_table c.args.rules.now) c.args.problem.now.drop_mode) (sym (first-read c.args.frames.now c.first_frame-first.result d (omega (arith, c.told-frames))))
-    (subst (λ (table : Table). IsFresh table c.args.problem.now.drop_mode c.first_frame-first.result) (sym c.requires.rules) (first-fresh c.args.problem.now (items_of c.args.queue.now) c.first_frame-first.result c.first_frame-first.ensures.position c.first_frame-first.ensures.left (sym (c.has_frame.ensures (table_of c.args.problem.now.rules) c.args.problem.now.drop_mode) ∙ c.if-not-has_frame.false) c.first_frame-first.ensures.tried c.first_frame-first.ensures.places))
+seek-requires-clause-fresh g c = search (rules, first-read, first-fresh)
 
 pub returns-in-None-clause-room : goal.returns-in-None-clause-room
-returns-in-None-clause-room g c =
-    first-room c.args.frames.now c.first_frame-first.result (omega (arith, c.told-frames)) (omega (arith, c.first_frame-first.ensures.left, needed-few c.args.problem.now c.requires.fit))
+returns-in-None-clause-room g c = search (rules, first-room, needed-few)
 
 pub returns-in-None-clause-skips : goal.returns-in-None-clause-skips
 returns-in-None-clause-skips g c =

@@ -1,11 +1,9 @@
 -- The first frame stands for the first position.
-use Rattle.std.proofs.Common.{sym, ap, ◌+◌, ◌∙◌, arith}
+use Rattle.std.proofs.Common.{sym, ap, ◌+◌, ◌∙◌, arith, rules}
 use Rattle.hold_queue.specs.QueueSet.{queues_in_play}
 use Rattle.hold_queue.specs.Supply.{supply_of}
 use Rattle.prune.specs.Tiling.{supply_in}
 use Rattle.enumerate.specs.Setups.{position_of}
-use Rattle.enumerate.specs.Items.{items_of}
-use Rattle.enumerate.specs.Position.{line_at}
 use Rattle.problem.proofs.CallerLemmas.{filled-low}
 use Rattle.enumerate.proofs.SearchLemmas.{first-position}
 use Rattle.enumerate.proofs.TilingLaws.{supplies-read}
@@ -21,9 +19,4 @@ invariant_of-setup-clause-supplied c = c.new-supply.ensures ∙ ap supply_in c.s
 
 pub returns-clause-position : goal.returns-clause-position
 unfolding position_of
-returns-clause-position c =
-    first-position c.args.problem.now (items_of c.args.queue.now) _
-    (ap queues_in_play c.of-line.ensures ∙ elim c.match-queue.branch [
-      | in-None w ↦ ap queues_in_play w.queues-is ∙ w.start-queues.ensures ∙ sym (ap (λ q. line_at c.args.problem.now (items_of q)) w.in-None.is)
-      | in-Some w ↦ ap queues_in_play w.queues-is ∙ w.start_one-queues.ensures ∙ sym (ap (λ q. line_at c.args.problem.now (items_of q)) w.in-Some.is)
-    ])
+returns-clause-position c = search (rules, first-position)

@@ -1,5 +1,5 @@
 -- What comes before the start is passed by where that is still to be done, and then the frames go on.
-use Rattle.std.proofs.Common.{◌≡◌, ◌+◌, ◌≤◌, List, [], subst, ◌∙◌, arith, take}
+use Rattle.std.proofs.Common.{◌≡◌, ◌+◌, ◌≤◌, List, [], subst, ◌∙◌, arith, take, rules}
 use Rattle.std.specs.Prelude.{nat_lt}
 use Rattle.srs.specs.Kick.{Table}
 use Rattle.srs.specs.Rules.{table_of}
@@ -19,12 +19,8 @@ passed : (g : Over) (c : After-advance g) → SkipsTo
     (events_from c.args.problem.now (items_of c.args.queue.now) (items_of c.args.after.now) c.args.pending (take c.args.depth c.args.frames.now))
     (stacked (table_of c.args.problem.now.rules) c.args.problem.now.drop_mode [] (take c.if-pending.depth c.if-pending.frames)) c.args.steps.now c.if-pending.steps
 passed g c = elim c.if-pending.branch [
-  | then-pending w ↦
-      moved-skips (table_of c.args.problem.now.rules) c.args.problem.now.drop_mode _ _ _ _ _ c.args.steps.now _ _ w.frames-is w.depth-is w.steps-is
-      (pending-skips c.args.problem.now (items_of c.args.queue.now) (items_of c.args.after.now) c.args.pending (take c.args.depth c.args.frames.now) _ c.args.steps.now _ w.if-pending.true w.begin-depth.ensures.skips)
-  | else-pending w ↦
-      moved-skips (table_of c.args.problem.now.rules) c.args.problem.now.drop_mode _ _ _ _ _ c.args.steps.now _ _ w.frames-is w.depth-is w.steps-is
-      (standing-skips c.args.problem.now (items_of c.args.queue.now) (items_of c.args.after.now) c.args.pending (take c.args.depth c.args.frames.now) c.args.steps.now w.if-pending.false)
+  | then-pending w ↦ search (rules, moved-skips, pending-skips)
+  | else-pending w ↦ search (rules, moved-skips, standing-skips)
 ]
 
 -- what stands before and after the frames go on, by a table

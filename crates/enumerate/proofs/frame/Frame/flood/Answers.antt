@@ -1,5 +1,5 @@
 -- What the flood holds is the places of the kind, in order.
-use Rattle.std.proofs.Common.{◌≡◌, refl, sym, subst}
+use Rattle.std.proofs.Common.{◌≡◌, sym, subst, rules}
 use Rattle.std.specs.Prelude.{true}
 use Rattle.reach.specs.FloodRules.{flood_table}
 use Rattle.srs.proofs.CallerLemmas.{some_same}
@@ -26,9 +26,7 @@ invariant_of-self g c = record {
 
 pub returns-clause-places : goal.returns-clause-places
 unfolding position_of
-returns-clause-places g c =
-    flooded-places (flood_table c.args.rules.now) (filled c.args.self.now.setup.well) c.args.drop_mode c.args.piece c.places_of.result c.places_of.ensures.piece c.args.self.now.setup.rows c.places_of.ensures.held
-    (position_of (flood_table c.args.rules.now) c.args.drop_mode c.args.self.now.setup) refl refl refl
+returns-clause-places g c = search (rules, flooded-places)
 
 pub returns-clause-piece : goal.returns-clause-piece
 returns-clause-piece g c = λ x is. subst (λ p. piece_of p ≡ c.args.piece) (some_same is) c.places_of.ensures.piece

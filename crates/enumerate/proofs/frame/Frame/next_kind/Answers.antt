@@ -1,5 +1,5 @@
 -- A kind that may not come is passed by.
-use Rattle.std.proofs.Common.{length, refl, sym, ap, ◌∙◌, arith}
+use Rattle.std.proofs.Common.{length, refl, sym, ap, ◌∙◌, arith, rules}
 use Rattle.enumerate.proofs.TurnLemmas.{goes-past_kind}
 use Rattle.enumerate.proofs.frame.Frame.next_kind.Goals as goal
 
@@ -10,16 +10,7 @@ pub loop-piece-smaller : goal.loop-piece-smaller
 loop-piece-smaller c = omega (arith, ap length c.in-Some.ensures)
 
 pub loop-piece-preserved : goal.loop-piece-preserved
-loop-piece-preserved c =
-    let before = c.loop-piece.invariant in
-    record {
-      same = before.same;
-      none = before.none;
-      goes = λ table mode prefix.
-          before.goes table mode prefix
-          ∙ goes-past_kind table mode c.loop-piece.self _ refl c.in-Some.piece before.none c.in-Some.ensures
-          (sym c.may_come.ensures ∙ c.if-may_come.false) before.none prefix;
-    }
+loop-piece-preserved c = search (rules, goes-past_kind)
 
 pub returns-then-may_come-clause-next : goal.returns-then-may_come-clause-next
 returns-then-may_come-clause-next c = (c.in-Some.ensures, sym c.may_come.ensures ∙ c.if-may_come.true)

@@ -1,5 +1,5 @@
 -- The placements that are left rise, so that the search for one ends at it or past it.
-use Rattle.std.proofs.Common.{◌≡◌, ◌∷◌, length, refl, sym, ap, subst, arith}
+use Rattle.std.proofs.Common.{◌≡◌, ◌∷◌, refl, sym, subst, rules}
 use Rattle.std.specs.Prelude.{Contains, Some}
 use Rattle.std.specs.List.Sorted.{IsStrictlySortedBy}
 use Rattle.srs.specs.Order.{placement_cmp}
@@ -15,10 +15,7 @@ pub with_entered-probe-requires : goal.with_entered-probe-requires
 with_entered-probe-requires c = c.in-Some.ensures.next.1
 
 pub loop-placement-smaller : goal.loop-placement-smaller
-loop-placement-smaller c =
-    let rest : places_left c.with_entered-probe.result.places c.with_entered-probe.result.entered ≡ places_left c.take_upcoming.new.self.places (Some c.in-Some.placement) =
-    λ i. places_left (c.with_entered-probe.ensures.places i) (c.with_entered-probe.ensures.entered i) in
-    omega (arith, ap length rest, ap length c.in-Some.ensures.next.0)
+loop-placement-smaller c = search rules
 
 pub loop-placement-preserved : goal.loop-placement-preserved
 loop-placement-preserved c =
@@ -49,5 +46,4 @@ returns-in-Greater c =
     )
 
 pub returns : goal.returns
-returns c =
-    (λ e. cc, λ among. absurd (Contains-none c.args.target.now (subst (λ l. Contains l c.args.target.now) c.in_default.ensures.next.0 (c.loop-placement.invariant.same.1 among))))
+returns c = search (rules, Contains-none)

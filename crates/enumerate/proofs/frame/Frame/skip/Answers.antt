@@ -1,12 +1,11 @@
 -- What comes before the placement is passed by, and what comes first at the placement itself is its frame or nothing.
-use Rattle.std.proofs.Common.{◌≡◌, refl, sym, subst, ◌∙◌, true}
+use Rattle.std.proofs.Common.{◌≡◌, refl, sym, subst, ◌∙◌, true, arith}
 use Rattle.reach.specs.FloodRules.{flood_table}
 use Rattle.srs.proofs.CallerLemmas.{some_same}
 use Rattle.well.specs.Well.{filled}
 use Rattle.well.specs.LockLaws.{is_below}
 use Rattle.moves.specs.PlaceTest.{is_place}
 use Rattle.hold_queue.specs.QueueSet.{queues_in_play}
-use Rattle.place_sets.specs.LowPlaces.{piece_of}
 use Rattle.moves.proofs.CallerLemmas.{is_place-decides}
 use Rattle.enumerate.specs.Frames.{places_left}
 use Rattle.enumerate.specs.Setups.{position_of}
@@ -29,13 +28,7 @@ pub flood-requires : goal.flood-requires
 flood-requires g c = may_play-answer (queues_in_play c.args.self.now.setup.line.queues) c.args.target.now.piece c.may_play.result c.may_play.ensures.permitted ∙ c.if-not-may_play.false
 
 pub invariant_of-self-2 : goal.invariant_of-self-2
-invariant_of-self-2 g c = record {
-  lockable = c.flood.new.self.lockable;
-  held_below = c.flood.new.self.held_below;
-  permitted = c.flood.new.self.permitted;
-  live = c.flood.new.self.live;
-  same_piece = λ places is q is_q. subst (λ q. q.piece ≡ piece_of places) (some_same is_q) (sym (c.flood.ensures.piece places is));
-}
+invariant_of-self-2 g c = grind (arith, some_same)
 
 pub returns-then-not-reached-clause-skips : goal.returns-then-not-reached-clause-skips
 unfolding position_of

@@ -1,9 +1,8 @@
 -- The next kind, if there is one, is passed or flooded.
-use Rattle.std.proofs.Common.{◌∷◌, refl, sym, ap, ◌∙◌}
+use Rattle.std.proofs.Common.{◌∷◌, refl, sym, ap, ◌∙◌, rules}
 use Rattle.std.specs.Prelude.{drop}
 use Rattle.srs.specs.Piece.{all_pieces}
 use Rattle.reach.specs.FloodRules.{flood_table}
-use Rattle.enumerate.specs.Events.{Flood}
 use Rattle.enumerate.specs.Setups.{position_of}
 use Rattle.enumerate.proofs.TurnLemmas.{goes-over, goes-flooded}
 use Rattle.enumerate.proofs.Counting.{counts-none}
@@ -29,8 +28,7 @@ returns-clause-turn g c = λ child.
     c.in-Some.ensures.next.1
     c.flood.ensures.places in (
       record {
-        same = λ prefix. c.in-Some.ensures.goes (flood_table c.args.rules.now) c.args.drop_mode prefix ∙ flooded.same prefix
-            ∙ ap (λ l. Flood ∷ l) (sym (c.leave_out_dead.ensures.goes (flood_table c.args.rules.now) c.args.drop_mode prefix));
+        same = search rules;
       },
       c.flood.ensures.counted,
     )

@@ -1,15 +1,12 @@
 -- The next placement with something to do is entered, or the next kind is tried.
-use Rattle.std.proofs.Common.{◌∙◌}
+use Rattle.std.proofs.Common.{◌∙◌, arith}
 use Rattle.reach.specs.FloodRules.{flood_table}
 use Rattle.enumerate.proofs.TurnLemmas.{enters-turn, turns-as}
 use Rattle.enumerate.proofs.Counting.{counts-none}
 use Rattle.enumerate.proofs.frame.Frame.turn.Goals as goal
 
 pub returns-in-Some-clause-turn : goal.returns-in-Some-clause-turn
-returns-in-Some-clause-turn g c =
-    enters-turn (flood_table c.args.rules.now) c.args.drop_mode c.args.self.now c.take_worth.new.self (λ i. (c.in-Some.ensures.same i).left) c.in-Some.placement
-    c.in-Some.ensures.next.0 (c.in-Some.ensures.goes (flood_table c.args.rules.now) c.args.drop_mode)
-    _ c.enter.result c.args.steps.now c.enter.ensures.enters
+returns-in-Some-clause-turn g c = grind (arith, enters-turn)
 
 pub returns-in-Some-clause-noted : goal.returns-in-Some-clause-noted
 returns-in-Some-clause-noted g c = counts-none c.args.notes.now.floods c.args.steps.now

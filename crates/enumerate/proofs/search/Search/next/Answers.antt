@@ -1,5 +1,5 @@
 -- What is still to come loses its first solution, which becomes the bound.
-use Rattle.std.proofs.Common.{◌≡◌, [], ◌∷◌, take, refl, sym, ap, subst, ◌∙◌, arith}
+use Rattle.std.proofs.Common.{◌≡◌, [], ◌∷◌, take, refl, sym, ap, subst, ◌∙◌, arith, rules}
 use Rattle.std.specs.Prelude.{None, Some, filter}
 use Rattle.srs.specs.Order.{sequence_cmp}
 use Rattle.srs.specs.Rising.{is_above}
@@ -19,24 +19,14 @@ use Rattle.enumerate.proofs.search.Search.next.Goals as goal
 
 pub invariant_of-self : goal.invariant_of-self
 unfolding events_from
-invariant_of-self g c = record {
-  fit = c.args.self.now.fit;
-  same_rules = c.args.self.now.same_rules;
-  within = c.go_on-self.ensures.within;
-  room = c.go_on-self.ensures.room;
-  listed = sym (none-found _ _ _ c.go_on-self.result c.if-self-eq0.true c.go_on-self.ensures.found) ∙ c.args.self.now.listed;
-  counted = omega (arith, c.go_on-self.ensures.fewer, c.args.self.now.counted);
-  noted = let n = c.go_on-self.ensures.noted.counts _ c.args.self.now.noted in omega (arith, n, c.go_on-self.ensures.noted.rose, c.go_on-self.ensures.counted, c.go_on-self.ensures.fewer, c.args.self.now.counted);
-}
+invariant_of-self g c = search (rules, none-found)
 
 pub returns-then-self-eq0-clause-list : goal.returns-then-self-eq0-clause-list
 returns-then-self-eq0-clause-list g c = search-list c.args.self.now
 
 pub returns-then-self-eq0-clause-found : goal.returns-then-self-eq0-clause-found
 unfolding solutions events_to_come events_from view_of found
-returns-then-self-eq0-clause-found g c =
-    let none = none-used (table_of c.args.self.now.problem.rules) c.args.self.now.problem.drop_mode c.go_on-self.new.frames c.go_on-self.result c.if-self-eq0.true in
-    (none-found _ _ _ c.go_on-self.result c.if-self-eq0.true c.go_on-self.ensures.found ∙ ap found none, ap found none, refl)
+returns-then-self-eq0-clause-found g c = grind (arith, none-used, none-found)
 
 pub returns-then-self-eq0-clause-after : goal.returns-then-self-eq0-clause-after
 unfolding after_given
@@ -48,15 +38,11 @@ returns-then-self-eq0-clause-counted g c = omega (arith, c.go_on-self.ensures.co
 
 pub returns-then-self-eq0-clause-bounded : goal.returns-then-self-eq0-clause-bounded
 unfolding work whole_of events_to_come events_from view_of
-returns-then-self-eq0-clause-bounded g c =
-    omega (arith, floods-within c.args.self.now.problem (items_of c.args.self.now.queue) (items_of c.args.self.now.after))
+returns-then-self-eq0-clause-bounded g c = search (rules, floods-within)
 
 pub returns-then-self-eq0-clause-whole : goal.returns-then-self-eq0-clause-whole
 unfolding work whole_of events_to_come events_from view_of after_given floods
-returns-then-self-eq0-clause-whole g c = λ started.
-    let none = ap floods (none-used (table_of c.args.self.now.problem.rules) c.args.self.now.problem.drop_mode c.go_on-self.new.frames c.go_on-self.result c.if-self-eq0.true) in
-    let whole = ap (λ a. floods (whole_from c.args.self.now.problem (items_of c.args.self.now.queue) a)) started ∙ whole-floods c.args.self.now.problem (items_of c.args.self.now.queue) in
-    omega (arith, none, whole)
+returns-then-self-eq0-clause-whole g c = grind (arith, none-used, whole-floods)
 
 -- what is found is the path, which is given and kept as the bound
 pub invariant_of-self-2 : goal.invariant_of-self-2
@@ -96,8 +82,7 @@ returns-clause-counted g c = omega (arith, c.go_on-self.ensures.counted, c.go_on
 
 pub returns-clause-bounded : goal.returns-clause-bounded
 unfolding work whole_of events_to_come events_from view_of
-returns-clause-bounded g c =
-    omega (arith, floods-within c.args.self.now.problem (items_of c.args.self.now.queue) (items_of c.args.self.now.after))
+returns-clause-bounded g c = search (rules, floods-within)
 
 pub returns-then-self-eq0-clause-next : goal.returns-then-self-eq0-clause-next
 unfolding view_of solutions events_to_come found

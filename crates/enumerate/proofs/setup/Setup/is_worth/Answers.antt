@@ -1,5 +1,5 @@
 -- What leaves no tiling leads to a position that is not live.
-use Rattle.std.proofs.Common.{◌≡◌, ◌+◌, ◌-◌, sym, ◌∙◌, arith}
+use Rattle.std.proofs.Common.{◌≡◌, ◌+◌, ◌-◌, sym, ◌∙◌, arith, rules}
 use Rattle.empty_cells.specs.SupplyWords.{supply_of}
 use Rattle.enumerate.proofs.TilingLaws.{live-after}
 use Rattle.enumerate.proofs.TurnLemmas.{enters-dead}
@@ -15,5 +15,4 @@ returns-clause-dead c = λ is.
     (λ table mode. live-after table mode c.args.self.now c.args.placement.now (supply_of c.supply_after-supply.result) c.supply_after-supply.ensures (c.args.self.now.left - 1) less ∙ sym c.leaves_tiling.ensures ∙ is)
 
 pub returns-clause-live : goal.returns-clause-live
-returns-clause-live c = λ is table mode left less.
-    live-after table mode c.args.self.now c.args.placement.now (supply_of c.supply_after-supply.result) c.supply_after-supply.ensures left less ∙ sym c.leaves_tiling.ensures ∙ is
+returns-clause-live c = search (rules, live-after)

@@ -1,5 +1,5 @@
 -- The setup after a placement has what the placement leaves.
-use Rattle.std.proofs.Common.{◌≡◌, ◌+◌, ◌-◌, sym, ap, ◌∙◌, arith}
+use Rattle.std.proofs.Common.{◌≡◌, ◌+◌, ◌-◌, sym, ◌∙◌, arith, rules}
 use Rattle.well.specs.Well.{filled}
 use Rattle.well.proofs.CallerLemmas.{locked-by, removed-by}
 use Rattle.hold_queue.specs.QueueSet.{queues_in_play}
@@ -20,10 +20,7 @@ pub empties_after-child-requires-clause-removed : goal.empties_after-child-requi
 empties_after-child-requires-clause-removed c = removed-by (filled c.args.self.now.well) _ c.args.placement.now c.fill.ensures _ c.remove_full_rows-removed.ensures.removed
 
 pub invariant_of-child-clause-bounded : goal.invariant_of-child-clause-bounded
-invariant_of-child-clause-bounded c =
-    locked-below c.args.self.now c.args.placement.now _ _ c.requires.below (lockable-free (filled c.args.self.now.well) c.args.placement.now.piece c.args.placement.now c.requires.lockable)
-    (locked-by (filled c.args.self.now.well) _ c.args.placement.now c.fill.ensures _ c.remove_full_rows-removed.ensures.field)
-    (c.saturating_sub-rows.ensures ∙ ap (λ k. c.args.self.now.rows - k) (removed-by (filled c.args.self.now.well) _ c.args.placement.now c.fill.ensures _ c.remove_full_rows-removed.ensures.removed))
+invariant_of-child-clause-bounded c = search (rules, locked-below, lockable-free, locked-by, removed-by)
 
 pub invariant_of-child-clause-supplied : goal.invariant_of-child-clause-supplied
 invariant_of-child-clause-supplied c =
@@ -33,7 +30,4 @@ invariant_of-child-clause-supplied c =
     ∙ (λ i. supply_of (sym c.follow.ensures i) (left i))
 
 pub returns-clause-position : goal.returns-clause-position
-returns-clause-position c =
-    let field = locked-by (filled c.args.self.now.well) _ c.args.placement.now c.fill.ensures _ c.remove_full_rows-removed.ensures.field in
-    let removed = removed-by (filled c.args.self.now.well) _ c.args.placement.now c.fill.ensures _ c.remove_full_rows-removed.ensures.removed in
-    child-position c.args.self.now _ c.args.placement.now field (c.saturating_sub-rows.ensures ∙ ap (λ k. c.args.self.now.rows - k) removed) c.follow.ensures
+returns-clause-position c = search (rules, locked-by, removed-by, child-position)

@@ -1,10 +1,8 @@
 -- The empty cells tell what the field after the placement does.
-use Rattle.std.proofs.Common.{ap, ◌-◌, ◌∙◌, arith}
+use Rattle.std.proofs.Common.{ap, rules}
 use Rattle.well.specs.Well.{filled}
-use Rattle.well.specs.Lock.{locked}
 use Rattle.well.proofs.CallerLemmas.{free_pivot_inside}
 use Rattle.empty_cells.specs.Empties.{empty_cells, without_placement}
-use Rattle.empty_cells.specs.HasTiling.{has_tiling}
 use Rattle.empty_cells.specs.SupplyWords.{supply_of}
 use Rattle.empty_cells.proofs.CallerLemmas.{right-from_answer}
 use Rattle.enumerate.proofs.PlaceLaws.{lockable-free}
@@ -12,14 +10,10 @@ use Rattle.enumerate.proofs.TilingLaws.{left-tiled}
 use Rattle.enumerate.proofs.setup.Setup.leaves_tiling.Goals as goal
 
 pub leaves_tiling-requires-clause-column : goal.leaves_tiling-requires-clause-column
-leaves_tiling-requires-clause-column c =
-    let inside = free_pivot_inside (filled c.args.self.now.well) c.args.placement.now (lockable-free (filled c.args.self.now.well) c.args.placement.now.piece c.args.placement.now c.requires.lockable) in
-    omega (arith, inside.in_columns)
+leaves_tiling-requires-clause-column c = search (rules, free_pivot_inside, lockable-free)
 
 pub leaves_tiling-requires-clause-row : goal.leaves_tiling-requires-clause-row
-leaves_tiling-requires-clause-row c =
-    let inside = free_pivot_inside (filled c.args.self.now.well) c.args.placement.now (lockable-free (filled c.args.self.now.well) c.args.placement.now.piece c.args.placement.now c.requires.lockable) in
-    omega (arith, inside.in_rows)
+leaves_tiling-requires-clause-row c = search (rules, free_pivot_inside, lockable-free)
 
 pub lock-removed-requires : goal.lock-removed-requires
 lock-removed-requires c = lockable-free (filled c.args.self.now.well) c.args.placement.now.piece c.args.placement.now c.requires.lockable
@@ -32,10 +26,4 @@ returns-then-self-lt-MANY c =
     (ap (λ E. without_placement E q) setup.emptied) (right-from_answer c.leaves_tiling.result _ 8 _ c.leaves_tiling.ensures)
 
 pub returns : goal.returns
-returns c =
-    let setup = c.args.self.now in
-    let q = c.args.placement.now in
-    c.has_tiling.ensures.answer
-    ∙ ap (has_tiling (filled c.lock-removed.result.0) c.saturating_sub.result) c.entries.ensures
-    ∙ ap (λ F. has_tiling F c.saturating_sub.result (supply_of c.args.supply)) c.lock-removed.ensures.field
-    ∙ ap (λ rows. has_tiling (locked (filled setup.well) q) rows (supply_of c.args.supply)) (c.saturating_sub.ensures ∙ ap (λ k. setup.rows - k) c.lock-removed.ensures.removed)
+returns c = search rules
