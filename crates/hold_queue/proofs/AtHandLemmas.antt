@@ -1,5 +1,5 @@
 -- What a queue permits is what is taken from the pieces at hand.
-use Rattle.std.proofs.Common.{◌≡◌, ◌⊎◌, ◌↔◌, ◌+◌, ◌≤◌, List, [], ◌∷◌, length, Option, Some, None, refl, sym, subst, inl, inr, arith}
+use Rattle.std.proofs.Common.{◌≡◌, ◌⊎◌, ◌↔◌, ◌+◌, ◌≤◌, List, [], ◌∷◌, length, Option, Some, None, refl, sym, subst, arith, rules}
 use Rattle.std.specs.Cmp.Derive.{one_truth}
 use Rattle.srs.specs.declared.piece.Piece.{Piece}
 use Rattle.hold_queue.specs.declared.hold.Hold.{Hold}
@@ -53,12 +53,7 @@ permits-is_takes hold queue held pieces = (takes-of_permits hold queue held piec
 
 -- a held piece is like a first piece of the queue
 pub permits-held : (piece : Piece) (queue pieces : List Piece) → permits Allowed (piece ∷ queue) None pieces ≡ permits Allowed queue (Some piece) pieces
-permits-held piece queue pieces =
-    let front = permits-decides Allowed (piece ∷ queue) None pieces in
-    let held = permits-decides Allowed queue (Some piece) pieces in
-    one_truth _ _
-    (λ h. held.1 (permits-of_takes Allowed queue (Some piece) pieces (takes-of_permits Allowed (piece ∷ queue) None pieces (front.0 h))))
-    (λ h. front.1 (permits-of_takes Allowed (piece ∷ queue) None pieces (takes-of_permits Allowed queue (Some piece) pieces (held.0 h))))
+permits-held piece queue pieces = search (rules, permits-decides, one_truth, permits-of_takes, takes-of_permits)
 
 -- ---- the first piece or the second
 
@@ -66,9 +61,7 @@ pub take-nothing : (hold : Hold) (piece : Piece) (rest : List Piece) → Take ho
 take-nothing hold piece rest taken = elim taken [ ]
 
 pub take-cases : (hold : Hold) (pieces : List Piece) (piece : Piece) (rest : List Piece) → Take hold pieces piece rest → TakesFirst pieces piece rest ⊎ ((hold ≡ Allowed) × TakesSecond pieces piece rest)
-take-cases hold [] piece rest taken = elim taken [ ]
-take-cases hold (first ∷ pieces) piece rest take_first = inl refl
-take-cases Allowed (first ∷ second ∷ later) piece rest take_second = inr (refl, (first, later, refl, refl))
+take-cases hold pieces piece rest taken = search rules
 
 pub take-of_first : (hold : Hold) (pieces : List Piece) (piece : Piece) (rest : List Piece) → TakesFirst pieces piece rest → Take hold pieces piece rest
 take-of_first hold pieces piece rest first = subst (λ l. Take hold l piece rest) (sym first) take_first

@@ -1,8 +1,7 @@
 -- The families after a draw, case by case.
-use Rattle.std.proofs.Common.{◌≡◌, ℕ, zero, suc, ◌-◌, ◌<◌, if◌then◌else◌, Bool, true, false, not, ◌&&◌, ◌||◌, ◌==◌, Option, Some, None, refl, ap, ◌∙◌, sym, subst, inl, inr, arith, ap₂}
+use Rattle.std.proofs.Common.{◌≡◌, ℕ, zero, suc, ◌-◌, ◌<◌, if◌then◌else◌, Bool, true, false, not, ◌&&◌, ◌||◌, ◌==◌, Option, Some, None, refl, ap, ◌∙◌, sym, subst, inl, inr, arith, ap₂, rules}
 use Rattle.std.proofs.lemmas.Bool.{cases_Bool, cases_lt, or_cases, or_left, or_right, and_right}
 use Rattle.srs.specs.declared.piece.Piece.{Piece}
-use Rattle.queue_pattern.specs.Grammar.{set_of}
 use Rattle.queue_pattern.specs.Queues.{is_in}
 use Rattle.hold_queue.specs.declared.family.Family.{Family}
 use Rattle.hold_queue.specs.declared.family.Draw.{Draw}
@@ -33,9 +32,7 @@ any_below-none test n none = elim (cases_Bool (any_below test n)) [
 ]
 
 fails : (inside last : Bool) (b c : Bool) → b ≡ false → c ≡ false → (if inside then (if last then b else c) else false) ≡ false
-fails true true b c e f = e
-fails true false b c e f = f
-fails false last b c e f = refl
+fails inside last b c e f = search rules
 
 abbrev empty : Family
 empty = record { low = 0; high = 0 }
@@ -47,15 +44,7 @@ drawn_from_none draw piece before is = record { each = λ set within. has_set-em
 -- nothing is drawn where no set is
 pub drawn_from_empty : (draw : Option Draw) (piece : Piece) (before : Family) → ((set : ℕ) → set < 128 → has_set before set ≡ false) → IsDrawn draw piece before empty
 unfolding after_draw with_piece
-drawn_from_empty draw piece before none = record { each = λ set within. has_set-empty set ∙ sym (at draw set within) }
-  where
-    moved : (set : ℕ) → set < 128 → with_piece piece (has_set before) set ≡ false
-    moved set within = and_right (is_in piece set) _ (none (set - set_of piece) (omega (arith, within)))
-
-    at : (draw : Option Draw) (set : ℕ) → set < 128 → after_draw draw piece (has_set before) set ≡ false
-    at None set within = refl
-    at (Some d) set within = fails (is_in piece d.element.set) d.is_last _ _
-        (and_right (set == 0) _ (any_below-none (with_piece piece (has_set before)) 128 moved)) (moved set within)
+drawn_from_empty draw piece before none = search (rules, has_set-empty, and_right, fails, any_below-none)
 
 pub drawn_outside : (draw : Option Draw) (d : Draw) (piece : Piece) (before : Family) → draw ≡ Some d → is_in piece d.element.set ≡ false → IsDrawn draw piece before empty
 unfolding after_draw
@@ -75,11 +64,7 @@ pub drawn_last : (draw : Option Draw) (d : Draw) (piece : Piece) (before moved a
     → ((set : ℕ) → set < 128 → has_set moved set ≡ with_piece piece (has_set before) set)
     → ((set : ℕ) → set < 128 → has_set after set ≡ (set == 0 && any_below (has_set moved) 128)) → IsDrawn draw piece before after
 unfolding after_draw
-drawn_last draw d piece before moved after is inside last each begins = record {
-  each = λ set within.
-      begins set within ∙ ap (λ b. set == 0 && b) (same_below (has_set moved) (with_piece piece (has_set before)) 128 each)
-      ∙ sym (ap (λ d. after_draw d piece (has_set before) set) is ∙ rw (inside, last) refl);
-}
+drawn_last draw d piece before moved after is inside last each begins = search (rules, same_below)
 
 -- at the end of an element no set is left where none was
 pub begins_none : (moved : Family) → ((set : ℕ) → set < 128 → has_set moved set ≡ false) → (set : ℕ) → set < 128
@@ -87,8 +72,7 @@ pub begins_none : (moved : Family) → ((set : ℕ) → set < 128 → has_set mo
 begins_none moved none set within = has_set-empty set ∙ sym (and_right (set == 0) _ (any_below-none (has_set moved) 128 none))
 
 and_true : (b c : Bool) → c ≡ true → b ≡ (b && c)
-and_true true c e = sym e
-and_true false c e = refl
+and_true b c e = search rules
 
 -- and else the empty set is
 pub begins_some : (moved : Family) → (((set : ℕ) → set < 128 → has_set moved set ≡ false) → ⊥) → (set : ℕ) → set < 128

@@ -1,11 +1,9 @@
 -- A draw takes the first piece from the queues that may follow.
-use Rattle.std.proofs.Common.{◌≡◌, ℕ, zero, suc, ◌+◌, ◌-◌, ◌*◌, ◌<◌, Bool, true, false, not, cond, ◌&&◌, ◌||◌, ◌==◌, nat_lt, Option, Some, None, List, [], ◌∷◌, length, map, Contains, get_or, refl, ap, ◌∙◌, sym, subst, inl, inr, ◌⊎◌, arith, ltb-true}
-use Rattle.std.specs.List.{list_all}
+use Rattle.std.proofs.Common.{◌≡◌, ℕ, zero, suc, ◌+◌, ◌-◌, ◌*◌, ◌<◌, Bool, true, false, not, cond, ◌&&◌, ◌==◌, nat_lt, Option, Some, None, List, [], ◌∷◌, length, map, Contains, get_or, refl, ap, ◌∙◌, sym, subst, inl, inr, ◌⊎◌, arith, ltb-true, rules}
 use Rattle.std.specs.Int.{bit_at}
 use Rattle.std.proofs.Math.Nat.{mul_assoc, mul-zero}
 use Rattle.std.proofs.lemmas.Bool.{agree_below_at, eqb-true, and_parts, and_from, not-true}
 use Rattle.srs.specs.declared.piece.Piece.{Piece}
-use Rattle.srs.specs.declared.piece.Piece.TheVariants.{I, L, O, Z, T, J, S}
 use Rattle.srs.specs.Piece.{all_pieces, piece_code}
 use Rattle.srs.proofs.CallerLemmas.{each_piece, Contains-cases, Contains-none, Contains-filter, Contains-from_filter, Contains-flat_map, Contains-from_flat_map, Contains-map, Contains-from_map, implied, or_second}
 use Rattle.queue_pattern.specs.declared.element.Element.{Element}
@@ -30,27 +28,12 @@ pub record Moves (draw : Option Draw) (piece : Piece) (before : Family) (set : �
   pub lacks : is_in piece drawn_set ≡ false
   pub next : set_after from drawn_set piece ≡ set
 
--- what a set with a piece is without it, and what a set that lacks it is with it, tried at each set
-abbrev taken_out : Piece → ℕ → Bool
-taken_out piece set = not (is_in piece set) || (not (is_in piece (set - set_of piece)) && ((set - set_of piece) + set_of piece == set))
-
-abbrev put_in : Piece → ℕ → Bool
-put_in piece set = is_in piece set || (is_in piece (set + set_of piece) && (nat_lt (set + set_of piece) 128 && ((set + set_of piece) - set_of piece == set)))
-
-abbrev each_taken : ℕ → Bool
-each_taken set = list_all (λ piece. taken_out piece set) all_pieces
-
-abbrev each_put : ℕ → Bool
-each_put set = list_all (λ piece. put_in piece set) all_pieces
-
 record Out (piece : Piece) (set : ℕ) : Type 0 where
   lacks : is_in piece (set - set_of piece) ≡ false
   whole : (set - set_of piece) + set_of piece ≡ set
 
 out : (piece : Piece) (set : ℕ) → set < 128 → is_in piece set ≡ true → Out piece set
-out piece set within has =
-    let parts = and_parts _ _ (implied (is_in piece set) _ has (each_piece (λ p. taken_out p set) (agree_below_at each_taken (λ _. true) 128 set refl within) piece)) in
-    record { lacks = not-true _ parts.0; whole = eqb-true _ _ parts.1 }
+out piece set within has = search (rules, and_parts, implied, each_piece, agree_below_at, not-true, eqb-true)
 
 record In (piece : Piece) (set : ℕ) : Type 0 where
   has : is_in piece (set + set_of piece) ≡ true
@@ -58,10 +41,7 @@ record In (piece : Piece) (set : ℕ) : Type 0 where
   back : (set + set_of piece) - set_of piece ≡ set
 
 put : (piece : Piece) (set : ℕ) → set < 128 → is_in piece set ≡ false → In piece set
-put piece set within lacks =
-    let parts = and_parts _ _ (or_second (is_in piece set) _ lacks (each_piece (λ p. put_in p set) (agree_below_at each_put (λ _. true) 128 set refl within) piece)) in
-    let more = and_parts _ _ parts.1 in
-    record { has = parts.0; within = ltb-true _ _ more.0; back = eqb-true _ _ more.1 }
+put piece set within lacks = search (rules, and_parts, or_second, each_piece, agree_below_at, ltb-true, eqb-true)
 
 -- the set of which a set is made by one more piece
 with_piece-from : (piece : Piece) (before : Family) (set : ℕ) → set < 128 → with_piece piece (has_set before) set ≡ true
@@ -72,9 +52,7 @@ with_piece-from piece before set within h = and_parts _ _ h
 with_piece-to : (piece : Piece) (before : Family) (set : ℕ) → set < 128 → is_in piece set ≡ false → has_set before set ≡ true
     → with_piece piece (has_set before) (set + set_of piece) ≡ true
 unfolding with_piece
-with_piece-to piece before set within lacks has =
-    let there = put piece set within lacks in
-    and_from _ _ there.has (ap (has_set before) there.back ∙ has)
+with_piece-to piece before set within lacks has = search (rules, put, and_from)
 
 -- each set after a draw comes from one before it
 pub moves-back : (draw : Option Draw) (piece : Piece) (before after : Family) → IsDrawn draw piece before after
@@ -140,13 +118,7 @@ code_within piece = ltb-true _ _ (each_piece (λ p. nat_lt (piece_code p - 1) 7)
 
 -- a piece stands in the list of all where its code says, whatever is given past the end
 pub piece_at : (other piece : Piece) → get_or all_pieces (piece_code piece - 1) other ≡ piece
-piece_at other I = refl
-piece_at other L = refl
-piece_at other O = refl
-piece_at other Z = refl
-piece_at other T = refl
-piece_at other J = refl
-piece_at other S = refl
+piece_at other piece = search rules
 
 pub Contains-piece : (piece : Piece) → Contains all_pieces piece
 Contains-piece piece = (piece_code piece - 1, code_within piece, piece_at piece piece)

@@ -1,5 +1,5 @@
 -- The bits of a family's two numbers.
-use Rattle.std.proofs.Common.{◌≡◌, ℕ, ◌+◌, ◌-◌, ◌*◌, ◌/◌, ◌%◌, ◌^◌, ◌<◌, ◌≤◌, lit<, min, max, Bool, true, false, ◌&&◌, ◌||◌, ◌==◌, eqb, eq-eqb, nat_eq, IsTrue, ◌↔◌, nat_lt, nat_le, bit_and, bit_or, refl, ap, ◌∙◌, sym, subst, inl, inr, arith, List, [], ◌∷◌, get_or, ap₂}
+use Rattle.std.proofs.Common.{◌≡◌, ℕ, ◌+◌, ◌-◌, ◌*◌, ◌/◌, ◌%◌, ◌^◌, ◌<◌, ◌≤◌, lit<, min, max, Bool, true, false, ◌&&◌, ◌||◌, ◌==◌, eqb, eq-eqb, nat_eq, IsTrue, ◌↔◌, nat_lt, nat_le, bit_and, bit_or, refl, ap, ◌∙◌, sym, inl, inr, arith, List, [], ◌∷◌, get_or, rules}
 use Rattle.std.specs.Int.{bit_at}
 use Rattle.std.proofs.lemmas.Bool.{agree_below_at, cases_Bool, cases_lt, eqb-true, lt-ltb, le-ltb}
 use Rattle.std.proofs.lemmas.Bool.Decides.{nat_tests}
@@ -33,21 +33,13 @@ unfolding has_set
 has_set-high family set above = rw (le-ltb set 64 above) refl
 
 pub has_set-or : (f g : Family) (set : ℕ) → has_set (made (bit_or f.low g.low) (bit_or f.high g.high)) set ≡ (has_set f set || has_set g set)
-has_set-or f g set = elim (cases_lt set 64) [
-  | inl below ↦ has_set-low (made (bit_or f.low g.low) (bit_or f.high g.high)) set below ∙ word_or f.low g.low set
-      ∙ ap₂ ◌||◌ (sym (has_set-low f set below)) (sym (has_set-low g set below))
-  | inr above ↦ has_set-high (made (bit_or f.low g.low) (bit_or f.high g.high)) set above ∙ word_or f.high g.high (set - 64)
-      ∙ ap₂ ◌||◌ (sym (has_set-high f set above)) (sym (has_set-high g set above))
-]
+has_set-or f g set = search (rules, cases_lt, has_set-low, word_or, has_set-high)
 
 no_bit : (k : ℕ) → (bit_at 0 k == 1) ≡ false
 no_bit k = ap (λ n. n == 1) (bit_at-zero k)
 
 pub has_set-empty : (set : ℕ) → has_set (made 0 0) set ≡ false
-has_set-empty set = elim (cases_lt set 64) [
-  | inl below ↦ has_set-low (made 0 0) set below ∙ no_bit set
-  | inr above ↦ has_set-high (made 0 0) set above ∙ no_bit (set - 64)
-]
+has_set-empty set = search (rules, cases_lt, has_set-low, no_bit, has_set-high)
 
 not_one : (n : ℕ) → n < 2 → (n == 1) ≡ false → n ≡ 0
 not_one n small other = grind (arith, nat_tests)
@@ -62,10 +54,7 @@ word_none word small = (λ none place within. ap (λ w. bit_at w place == 1) (eq
 -- a family without a set has numbers without a bit
 pub family_none : (family : Family) → ((place : ℕ) → place < 64 → (bit_at family.low place == 1) ≡ false) → ((place : ℕ) → place < 64 → (bit_at family.high place == 1) ≡ false)
     → (set : ℕ) → set < 128 → has_set family set ≡ false
-family_none family low high set within = elim (cases_lt set 64) [
-  | inl below ↦ has_set-low family set below ∙ low set below
-  | inr above ↦ has_set-high family set above ∙ high (set - 64) (omega arith)
-]
+family_none family low high set within = search (rules, cases_lt, has_set-low, has_set-high)
 
 pub low_none : (family : Family) → ((set : ℕ) → set < 128 → has_set family set ≡ false) → (place : ℕ) → place < 64 → (bit_at family.low place == 1) ≡ false
 low_none family none place within = sym (has_set-low family place within) ∙ none place (omega arith)
@@ -157,18 +146,7 @@ has_set-with family T place is other set within = rw is (moved_up family 2814706
 has_set-with family J place is other set within = rw is (moved_up family 4294967295 5 (omega arith) (λ s. agree_below_at (lines_up 4294967295 5) (λ _. true) 64 s refl) (λ s. agree_below_at (high_lines_up 5) (λ _. true) 128 s refl) set within)
 has_set-with family S place is other set within = absurd (other refl)
 
-abbrev has_s : ℕ → Bool
-has_s set = bit_at set 6 == 1
-
 -- the sets that lack S, with it
 pub has_set-with_s : (family : Family) (set : ℕ) → set < 128 → has_set (made 0 family.low) set ≡ with_piece S (has_set family) set
 unfolding with_piece
-has_set-with_s family set within = elim (cases_lt set 64) [
-  | inl below ↦ has_set-low (made 0 family.low) set below ∙ no_bit set
-      ∙ sym (ap (λ b. b && has_set family (set - 64)) (agree_below_at has_s (λ _. false) 64 set refl below))
-  | inr above ↦ has_set-high (made 0 family.low) set above ∙ sym (has_set-low family (set - 64) (omega arith))
-      ∙ sym (ap (λ b. b && has_set family (set - 64)) (upper set above (agree_below_at (λ s. nat_lt s 64 || has_s s) (λ _. true) 128 set refl within)))
-]
-  where
-    upper : (set : ℕ) → 64 ≤ set → (nat_lt set 64 || has_s set) ≡ true → has_s set ≡ true
-    upper set above either = subst (λ b. (b || has_s set) ≡ true) (le-ltb set 64 above) either
+has_set-with_s family set within = search (rules, cases_lt, has_set-low, no_bit, agree_below_at, has_set-high, le-ltb)

@@ -1,5 +1,5 @@
 -- Where a piece is left, the first piece may be held from the start on: the same is permitted.
-use Rattle.std.proofs.Common.{◌≡◌, ℕ, ◌+◌, ◌<◌, ◌≤◌, true, Option, Some, None, List, [], ◌∷◌, length, Contains, ap, ◌∙◌, sym, subst, refl, inl, inr, arith}
+use Rattle.std.proofs.Common.{◌≡◌, ℕ, ◌+◌, ◌<◌, ◌≤◌, true, Option, Some, None, List, [], ◌∷◌, length, Contains, ap, ◌∙◌, sym, subst, refl, inl, inr, rules}
 use Rattle.std.specs.Cmp.Derive.{one_truth}
 use Rattle.srs.specs.declared.piece.Piece.{Piece}
 use Rattle.queue_pattern.specs.declared.element.Element.{Element}
@@ -65,12 +65,10 @@ module _ (elements : List Element) (start : Option Piece) (states held_states : 
       (λ h. let is = states_permit-from elements Allowed start held_states played pieces h in back pieces is.held is.queue is.rest is.permitted)
 
   some_left : (held : Option Piece) (set : ℕ) → set < 128 → has_set (family_at held_states held) set ≡ true → 0 < length (rests elements (drawn_by start played held) set)
-  some_left None set within has = let lacks = none set within in cc
-  some_left (Some first) set within has = (at first).roomy.each set within has
+  some_left held set within has = search rules
 
   fits : (held : Option Piece) (set : ℕ) → set < 128 → has_set (family_at held_states held) set ≡ true → count_held start ≤ played + count_held held
-  fits None set within has = let lacks = none set within in cc
-  fits (Some first) set within has = omega (arith, count_held-small start)
+  fits held set within has = search (rules, count_held-small)
 
 -- the states where the first piece is held stand for the same played pieces
 pub follows-held : (elements : List Element) (start : Option Piece) (states held_states : List ℕ) (played : List Piece) (draw : Draw)

@@ -1,5 +1,5 @@
 -- The states stand for the played pieces: at the start, and after one more.
-use Rattle.std.proofs.Common.{◌≡◌, ℕ, ◌+◌, ◌*◌, ◌<◌, ◌≤◌, Bool, true, not, ◌&&◌, ◌||◌, ◌==◌, Option, Some, None, List, [], ◌∷◌, ◌++◌, length, length-append, append_assoc, Contains, set, refl, ap, ◌∙◌, sym, subst, inl, inr, arith}
+use Rattle.std.proofs.Common.{◌≡◌, ℕ, ◌+◌, ◌*◌, ◌<◌, ◌≤◌, Bool, true, not, ◌&&◌, ◌||◌, ◌==◌, Option, Some, None, List, [], ◌∷◌, ◌++◌, length, length-append, append_assoc, Contains, set, refl, ap, ◌∙◌, sym, subst, inl, inr, arith, rules}
 use Rattle.std.specs.Cmp.Derive.{one_truth}
 use Rattle.std.specs.List.{list_any, list_all}
 use Rattle.std.proofs.lemmas.Bool.{agree_below_at, and_parts, and_from, eqb-true, or_cases, or_left, or_right}
@@ -24,17 +24,10 @@ list_any-from test [] h = cc
 list_any-from test (x ∷ xs) h = elim (or_cases (test x) (list_any test xs) h) [ inl here ↦ (x, here) | inr later ↦ list_any-from test xs later ]
 
 any_held-from : (test : Option Piece → Bool) → any_held test ≡ true → (held : Option Piece) × (test held ≡ true)
-any_held-from test h = elim (or_cases (test None) (list_any (λ piece. test (Some piece)) all_pieces) h) [
-  | inl none ↦ (None, none)
-  | inr some ↦ let found = list_any-from (λ piece. test (Some piece)) all_pieces some in (Some found.0, found.1)
-]
+any_held-from test h = search (rules, or_cases, list_any-from)
 
 any_held-to : (test : Option Piece → Bool) (held : Option Piece) → test held ≡ true → any_held test ≡ true
-any_held-to test None passes = or_left (test None) (list_any (λ piece. test (Some piece)) all_pieces) passes
-any_held-to test (Some piece) passes =
-    let there = Contains-piece piece in
-    or_right (test None) (list_any (λ piece. test (Some piece)) all_pieces)
-    (list_any_at (λ piece. test (Some piece)) all_pieces there.0 piece there.1 (ap (λ p. test (Some p)) there.2 ∙ passes))
+any_held-to test held passes = search (rules, or_left, Contains-piece, or_right, list_any_at)
 
 -- some state leaves a queue that permits the pieces
 pub record StatePermits (elements : List Element) (hold : Hold) (start : Option Piece) (states : List ℕ) (played : ℕ) (pieces : List Piece) : Type 0 where
@@ -47,12 +40,7 @@ pub states_permit-from : (elements : List Element) (hold : Hold) (start : Option
     → states_permit elements hold start states played pieces ≡ true → StatePermits elements hold start states played pieces
 unfolding states_permit
 states_permit-from elements hold start states played pieces h =
-    let state : Option Piece → ℕ → Bool = λ held set. has_set (family_at states held) set && some_permits hold (rests elements (drawn_by start played held) set) held pieces in
-    let one = any_held-from (λ held. any_below (state held) 128) h in
-    let two = any_below-from (state one.0) 128 one.1 in
-    let parts = and_parts _ _ two.2 in
-    let some = (some_permits-decides hold (rests elements (drawn_by start played one.0) two.0) one.0 pieces).0 parts.1 in
-    record { held = one.0; queue = some.0; rest = record { drawn_set = two.0; within = two.1; has = parts.0; there = some.1 }; permitted = some.2 }
+    search (rules, any_held-from, any_below-from, and_parts, some_permits-decides)
 
 pub states_permit-to : (elements : List Element) (hold : Hold) (start : Option Piece) (states : List ℕ) (played : ℕ) (pieces : List Piece)
     → StatePermits elements hold start states played pieces → states_permit elements hold start states played pieces ≡ true
@@ -89,10 +77,7 @@ states_permit-next elements hold start states next played piece steps pieces =
 pub leads-next : (elements : List Element) (hold : Hold) (start : Option Piece) (states next : List ℕ) (played : ℕ) (piece : Piece)
     → ((held : Option Piece) → IsNextFamily elements hold start states played piece held (family_at next held))
     → LeadsTo elements hold start states played piece next
-leads-next elements hold start states next played piece steps = record {
-  permits_same = states_permit-next elements hold start states next played piece steps;
-  stands = record { roomy = λ held. (steps held).roomy; drawn_fits = λ held. (steps held).drawn_fits };
-}
+leads-next elements hold start states next played piece steps = search (rules, states_permit-next)
 
 pub follows-next : (elements : List Element) (hold : Hold) (start : Option Piece) (states next : List ℕ) (played : List Piece) (piece : Piece)
     → AreStatesAfter elements hold start states played → LeadsTo elements hold start states (length played) piece next
@@ -147,10 +132,7 @@ held_code-none : (piece : Piece) → 0 ≡ piece_code piece → ⊥
 held_code-none piece e = absurd (omega (arith, piece_code-some piece))
 
 held_code-injective : (start held : Option Piece) → held_code start ≡ held_code held → start ≡ held
-held_code-injective None None e = refl
-held_code-injective None (Some q) e = absurd (held_code-none q e)
-held_code-injective (Some p) None e = absurd (held_code-none p (sym e))
-held_code-injective (Some p) (Some q) e = ap Some (piece_code-injective p q e)
+held_code-injective start held e = search (rules, held_code-none, piece_code-injective)
 
 -- a state at the start
 record First (start held : Option Piece) (set : ℕ) : Type 0 where

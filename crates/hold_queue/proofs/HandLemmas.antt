@@ -1,5 +1,5 @@
 -- What is taken from a hand, also where the queue is another one that begins with the same pieces.
-use Rattle.std.proofs.Common.{◌≡◌, ◌⊎◌, ℕ, zero, suc, ◌+◌, ◌-◌, ◌<◌, ◌≤◌, List, [], ◌∷◌, ◌++◌, length, take, drop, Option, Some, None, slice_get, refl, sym, ap, subst, ◌∙◌, inl, inr, arith}
+use Rattle.std.proofs.Common.{◌≡◌, ◌⊎◌, ℕ, zero, suc, ◌+◌, ◌-◌, ◌<◌, ◌≤◌, List, [], ◌∷◌, ◌++◌, length, take, drop, Option, Some, None, slice_get, refl, sym, ap, ◌∙◌, inl, inr, arith, rules}
 use Rattle.std.specs.Option.{option_to_list}
 use Rattle.std.proofs.Math.ListN.{drop_of_length-le}
 use Rattle.std.proofs.lemmas.List.{length-drop}
@@ -55,8 +55,7 @@ start-avoided queue held = refl
 
 pub start-allowed : (queue : List Piece) (held : Option Piece) → pieces_at queue (record { held = held; drawn = 0 }) ≡ at_hand Allowed held queue
 unfolding pieces_at
-start-allowed queue None = refl
-start-allowed queue (Some piece) = refl
+start-allowed queue held = search rules
 
 pub count-none : (queue : List Piece) (hand : Hand) → hand.held ≡ None → length (pieces_at queue hand) ≡ length queue - hand.drawn
 unfolding pieces_at
@@ -71,24 +70,11 @@ left piece held drawn = record { piece = piece; rest = record { held = held; dra
 
 pub held-first : (queue : List Piece) (hand : Hand) (piece : Piece) → hand.held ≡ Some piece → IsTakenBy TakesFirst queue hand (left piece None hand.drawn)
 unfolding pieces_at
-held-first queue hand piece held = record {
-  later = omega arith;
-  within = λ within. within;
-  each = λ other front. ap (λ k. option_to_list k ++ drop hand.drawn other) held;
-}
+held-first queue hand piece held = search rules
 
 pub drawn-first : (queue : List Piece) (hand : Hand) (piece : Piece) → hand.held ≡ None → hand.drawn < length queue → slice_get queue hand.drawn ≡ Some piece → IsTakenBy TakesFirst queue hand (left piece None (hand.drawn + 1))
 unfolding pieces_at
-drawn-first queue hand piece none within there = record {
-  later = omega arith;
-  within = λ _. omega (arith, within);
-  each = λ other front.
-      let is : hand.drawn + 1 ≡ suc hand.drawn = omega arith in
-      let same : take (suc hand.drawn) other ≡ take (suc hand.drawn) queue = subst (λ n. take n other ≡ take n queue) is front.same in
-      ap (λ k. option_to_list k ++ drop hand.drawn other) none
-      ∙ next-piece hand.drawn queue other piece same there
-      ∙ ap (λ n. piece ∷ drop n other) (sym is);
-}
+drawn-first queue hand piece none within there = search (rules, next-piece)
 
 pub none-first : (queue : List Piece) (hand : Hand) → hand.held ≡ None → length queue ≤ hand.drawn → pieces_at queue hand ≡ []
 unfolding pieces_at
@@ -97,81 +83,34 @@ none-first queue hand none used_up = ap (λ k. option_to_list k ++ drop hand.dra
 pub then-second : (queue : List Piece) (hand : Hand) (first second : Taken) → IsTakenBy TakesFirst queue hand first → IsTakenBy TakesFirst queue first.rest second → second.rest.held ≡ None
     → IsTakenBy TakesSecond queue hand (left second.piece (Some first.piece) second.rest.drawn)
 unfolding pieces_at
-then-second queue hand first second one two none = record {
-  later = omega (arith, one.later, two.later);
-  within = λ within. two.within (one.within within);
-  each = λ other front. (
-    first.piece,
-    drop second.rest.drawn other,
-    one.each other (same-shorter first.rest.drawn second.rest.drawn queue other two.later front)
-        ∙ ap (λ l. first.piece ∷ l) (two.each other front ∙ ap (λ k. second.piece ∷ (option_to_list k ++ drop second.rest.drawn other)) none),
-    refl,
-  );
-}
+then-second queue hand first second one two none = search (rules, same-shorter)
 
 pub first-held : (queue : List Piece) (hand : Hand) (first : Taken) → IsTakenBy TakesFirst queue hand first → first.rest.held ≡ None
     → pieces_at queue (record { held = Some first.piece; drawn = first.rest.drawn }) ≡ pieces_at queue hand
 unfolding pieces_at
-first-held queue hand first is none =
-    sym (is.each queue (same-itself first.rest.drawn queue) ∙ ap (λ k. first.piece ∷ (option_to_list k ++ drop first.rest.drawn queue)) none)
+first-held queue hand first is none = search (rules, same-itself)
 
 -- ---- all ways to take a piece
 
 leaves-first : (queue pieces : List Piece) (taken : Taken) (piece : Piece) (rest : List Piece) → TakesFirst pieces taken.piece (pieces_at queue taken.rest) → TakesFirst pieces piece rest → Leaves queue (Some taken) piece rest
-leaves-first queue pieces taken piece rest is found =
-    let same : taken.piece ∷ pieces_at queue taken.rest ≡ piece ∷ rest = sym is ∙ found in
-    let kind : taken.piece ≡ piece = cc in
-    let others : pieces_at queue taken.rest ≡ rest = cc in
-    (kind, others)
+leaves-first queue pieces taken piece rest is found = search rules
 
 first-leaves : (hold : Hold) (queue pieces : List Piece) (taken : Taken) (piece : Piece) (rest : List Piece) → TakesFirst pieces taken.piece (pieces_at queue taken.rest) → Leaves queue (Some taken) piece rest
     → Take hold pieces piece rest
-first-leaves hold queue pieces taken piece rest is leaves =
-    take-of_first hold pieces piece rest (is ∙ ap (λ p. p ∷ pieces_at queue taken.rest) leaves.0 ∙ ap (λ l. piece ∷ l) leaves.1)
+first-leaves hold queue pieces taken piece rest is leaves = search (rules, take-of_first)
 
 leaves-second : (queue pieces : List Piece) (taken : Taken) (piece : Piece) (rest : List Piece) → TakesSecond pieces taken.piece (pieces_at queue taken.rest) → TakesSecond pieces piece rest → Leaves queue (Some taken) piece rest
-leaves-second queue pieces taken piece rest is found =
-    let same : is.0 ∷ taken.piece ∷ is.1 ≡ found.0 ∷ piece ∷ found.1 = sym is.2 ∙ found.2 in
-    let first : is.0 ≡ found.0 = cc in
-    let kind : taken.piece ≡ piece = cc in
-    let later : is.1 ≡ found.1 = cc in
-    (kind, is.3 ∙ ap (λ p. p ∷ is.1) first ∙ ap (λ l. found.0 ∷ l) later ∙ sym found.3)
+leaves-second queue pieces taken piece rest is found = search rules
 
 second-leaves : (hold : Hold) (queue pieces : List Piece) (taken : Taken) (piece : Piece) (rest : List Piece) → hold ≡ Allowed → TakesSecond pieces taken.piece (pieces_at queue taken.rest)
     → Leaves queue (Some taken) piece rest → Take hold pieces piece rest
-second-leaves hold queue pieces taken piece rest allowed is leaves =
-    subst (λ l. Take hold pieces piece l) leaves.1
-    (subst (λ p. Take hold pieces p (pieces_at queue taken.rest)) leaves.0 (take-of_second hold pieces taken.piece (pieces_at queue taken.rest) allowed is))
+second-leaves hold queue pieces taken piece rest allowed is leaves = search (rules, take-of_second)
 
 -- the first piece alone
 pub one-way : (hold : Hold) (queue : List Piece) (hand : Hand) (first : Option Taken) → IsFirstAtHand queue hand first → (hold ≡ Avoided) ⊎ (length (pieces_at queue hand) ≤ 1)
     → AreAllTakes hold queue hand first None
-one-way hold queue hand None none alone = record {
-  each = λ piece rest. (
-    λ leaves. absurd (elim leaves [ inl one ↦ one | inr other ↦ other ]),
-    λ taken. absurd (take-nothing hold piece rest (subst (λ l. Take hold l piece rest) none taken)),
-  );
-}
-one-way hold queue hand (Some first) is alone = record { each = λ piece rest. (to piece rest, from piece rest) }
-  where
-    here : TakesFirst (pieces_at queue hand) first.piece (pieces_at queue first.rest)
-    here = is.each queue (same-itself first.rest.drawn queue)
-
-    to : (piece : Piece) (rest : List Piece) → Leaves queue (Some first) piece rest ⊎ Leaves queue None piece rest → Take hold (pieces_at queue hand) piece rest
-    to piece rest (inl leaves) = first-leaves hold queue (pieces_at queue hand) first piece rest here leaves
-    to piece rest (inr leaves) = absurd leaves
-
-    none-second : (piece : Piece) (rest : List Piece) → hold ≡ Allowed → TakesSecond (pieces_at queue hand) piece rest → ⊥
-    none-second piece rest allowed second = elim alone [
-      | inl avoided ↦ let both : Avoided ≡ Allowed = sym avoided ∙ allowed in cc
-      | inr few ↦ omega (arith, few, ap length second.2)
-    ]
-
-    from : (piece : Piece) (rest : List Piece) → Take hold (pieces_at queue hand) piece rest → Leaves queue (Some first) piece rest ⊎ Leaves queue None piece rest
-    from piece rest taken = elim (take-cases hold (pieces_at queue hand) piece rest taken) [
-      | inl found ↦ inl (leaves-first queue (pieces_at queue hand) first piece rest here found)
-      | inr found ↦ absurd (none-second piece rest found.0 found.1)
-    ]
+one-way hold queue hand first none alone =
+    search (rules, take-nothing, same-itself, first-leaves, take-cases, leaves-first)
 
 -- the first and the second, where the hand that the first one leaves may be another with the same pieces
 module _ (hold : Hold) (queue : List Piece) (hand : Hand) (first second : Option Taken) (one other : Taken) (rest : Hand) (allowed : hold ≡ Allowed)
@@ -181,18 +120,13 @@ module _ (hold : Hold) (queue : List Piece) (hand : Hand) (first second : Option
   moved = record { piece = one.piece; rest = rest }
 
   here : TakesFirst (pieces_at queue hand) one.piece (pieces_at queue rest)
-  here =
-      let is : IsTakenBy TakesFirst queue hand one = subst (IsFirstAtHand queue hand) one_is is_first in
-      is.each queue (same-itself one.rest.drawn queue) ∙ ap (λ l. one.piece ∷ l) (sym same)
+  here = search (rules, same-itself)
 
   next : TakesSecond (pieces_at queue hand) other.piece (pieces_at queue other.rest)
-  next =
-      let is : IsTakenBy TakesSecond queue hand other = subst (IsSecondAtHand queue hand) other_is is_second in
-      is.each queue (same-itself other.rest.drawn queue)
+  next = search (rules, same-itself)
 
   either : (piece : Piece) (after : List Piece) → Leaves queue (Some moved) piece after ⊎ Leaves queue (Some other) piece after → Take hold (pieces_at queue hand) piece after
-  either piece after (inl leaves) = first-leaves hold queue (pieces_at queue hand) moved piece after here leaves
-  either piece after (inr leaves) = second-leaves hold queue (pieces_at queue hand) other piece after allowed next leaves
+  either piece after h2 = search (rules, first-leaves, second-leaves)
 
   by : (piece : Piece) (after : List Piece) → Take hold (pieces_at queue hand) piece after → Leaves queue (Some moved) piece after ⊎ Leaves queue (Some other) piece after
   by piece after taken = elim (take-cases hold (pieces_at queue hand) piece after taken) [

@@ -1,5 +1,5 @@
 -- Which piece may come next, without the states after it: a piece is held before the next one is drawn, or none is.
-use Rattle.std.proofs.Common.{◌≡◌, ℕ, ◌+◌, ◌<◌, true, false, Option, Some, None, List, [], ◌∷◌, length, Contains, refl, sym, subst, inl, inr, ◌⊎◌, arith}
+use Rattle.std.proofs.Common.{◌≡◌, ℕ, ◌+◌, ◌<◌, true, false, Option, Some, None, List, [], ◌∷◌, length, Contains, refl, sym, subst, inl, inr, ◌⊎◌, arith, rules}
 use Rattle.std.proofs.lemmas.Bool.{cases_Bool}
 use Rattle.srs.specs.declared.piece.Piece.{Piece}
 use Rattle.srs.specs.declared.piece.Piece.TheVariants.{I, L, O, Z, T, J, S}
@@ -11,7 +11,7 @@ use Rattle.hold_queue.specs.declared.hold.Hold.{Hold}
 use Rattle.hold_queue.specs.declared.hold.Hold.TheVariants.{Allowed, Avoided}
 use Rattle.hold_queue.specs.Family.{has_set, any_below, IsDrawn}
 use Rattle.hold_queue.specs.Permits.{Way, plain, exchange, first_hold, last}
-use Rattle.hold_queue.specs.States.{in_progress, rests, drawn_by, family_at, IsRemainder, IsRoomy, CameBy, FollowsHeld, IsHeldFamily, IsHolding, Stands, states_permit}
+use Rattle.hold_queue.specs.States.{in_progress, drawn_by, family_at, IsRemainder, IsRoomy, CameBy, FollowsHeld, IsHeldFamily, IsHolding, Stands, states_permit}
 use Rattle.hold_queue.proofs.DrawLemmas.{any_below-from, any_below-to}
 use Rattle.hold_queue.proofs.DrawnRests.{rest-on, rest-back, roomy-on, Contains-piece}
 use Rattle.hold_queue.proofs.FollowLemmas.{states_permit-from, states_permit-to}
@@ -34,23 +34,13 @@ some-queue (queue ∷ qs) some = (queue, (0, omega arith, refl))
 -- a queue that may follow from a set of a roomy family
 roomy-queue : (elements : List Element) (drawn : ℕ) (family : Family) → IsRoomy elements drawn family → (set : ℕ) → set < 128 → has_set family set ≡ true
     → (queue : List Piece) × IsRemainder elements drawn family queue
-roomy-queue elements drawn family roomy set within has =
-    let one = some-queue (rests elements drawn set) (roomy.each set within has) in
-    (one.0, record { drawn_set = set; within = within; has = has; there = one.1 })
+roomy-queue elements drawn family roomy set within has = search (rules, some-queue)
 
 module _ (elements : List Element) (start : Option Piece) (states : List ℕ) (played : ℕ) (so_far : Stands elements start states played) where
   -- ---- the family with which a piece is held
 
   pub held-avoided : (first : Piece) → IsHeldFamily elements Avoided start states played first (family_at states (Some first))
-  held-avoided first = record {
-    came = λ queue rest. inl rest;
-    goes = λ queue follows. only queue follows;
-    roomy = so_far.roomy (Some first);
-  }
-    where
-      only : (queue : List Piece) → FollowsHeld elements Avoided start states played first queue → IsRemainder elements (drawn_by start played (Some first)) (family_at states (Some first)) queue
-      only queue (inl rest) = rest
-      only queue (inr other) = let wrong = other.0 in cc
+  held-avoided first = search rules
 
   pub held-allowed : (first : Piece) (drawn both : Family) → IsDrawn (in_progress elements (drawn_by start played None)) first (family_at states None) drawn
       → IsUnion (family_at states (Some first)) drawn both → IsHeldFamily elements Allowed start states played first both
@@ -246,13 +236,7 @@ module _ (elements : List Element) (hold : Hold) (start : Option Piece) (states 
 -- a piece may be played exactly where it comes in some way
 module _ (elements : List Element) (hold : Hold) (start : Option Piece) (states : List ℕ) (played : ℕ) (piece : Piece) where
   pub permitted-comes : Comes elements hold start states played piece → states_permit elements hold start states played (piece ∷ []) ≡ true
-  permitted-comes comes =
-      states_permit-to elements hold start states played (piece ∷ []) (record {
-        held = comes.came.held_before;
-        queue = comes.came.queue_before;
-        rest = comes.came.rest;
-        permitted = (comes.queue, comes.held, comes.came.way, tt);
-      })
+  permitted-comes comes = search (rules, states_permit-to)
 
   pub refused-none : (Comes elements hold start states played piece → ⊥) → states_permit elements hold start states played (piece ∷ []) ≡ false
   refused-none none = elim (cases_Bool (states_permit elements hold start states played (piece ∷ []))) [

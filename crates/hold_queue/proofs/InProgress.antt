@@ -1,5 +1,5 @@
 -- What the next piece is drawn from, found along the elements.
-use Rattle.std.proofs.Common.{◌≡◌, ℕ, suc, ◌+◌, ◌-◌, ◌<◌, ◌≤◌, ◌==◌, Some, None, List, ◌∷◌, length, drop, slice_get, refl, ap, ◌∙◌, sym, arith, drop-cons}
+use Rattle.std.proofs.Common.{◌≡◌, ℕ, suc, ◌+◌, ◌-◌, ◌<◌, ◌≤◌, ◌==◌, Some, None, List, ◌∷◌, length, drop, slice_get, refl, ap, ◌∙◌, sym, arith, drop-cons, rules}
 use Rattle.std.proofs.lemmas.Bool.{lt-ltb, le-ltb}
 use Rattle.std.proofs.lemmas.List.{drop_all}
 use Rattle.std.proofs.lemmas.Option.{get_or_from_slice_get, slice_get_within}
@@ -18,8 +18,7 @@ pub in_progress-here : (elements : List Element) (index left drawn : ℕ) (eleme
     → in_progress (drop index elements) left ≡ in_progress elements drawn → left < element.chosen
     → Some (record { element = element; is_last = left + 1 == element.chosen }) ≡ in_progress elements drawn
 unfolding in_progress
-in_progress-here elements index left drawn element there so_far within =
-    sym (ap (λ es. in_progress es left) (drop-get elements index element there) ∙ rw (lt-ltb left element.chosen within) refl) ∙ so_far
+in_progress-here elements index left drawn element there so_far within = search (rules, drop-get, lt-ltb)
 
 pub in_progress-later : (elements : List Element) (index left drawn : ℕ) (element : Element) → slice_get elements index ≡ Some element
     → in_progress (drop index elements) left ≡ in_progress elements drawn → element.chosen ≤ left

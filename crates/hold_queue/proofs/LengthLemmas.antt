@@ -1,12 +1,11 @@
 -- How many pieces a queue permits: its own, and one that is held.
-use Rattle.std.proofs.Common.{◌≡◌, ℕ, zero, suc, ◌+◌, ◌≤◌, Option, Some, None, List, [], ◌∷◌, ◌++◌, length, length-append, map, Contains, ap, ◌∙◌, sym, arith, inl, inr}
+use Rattle.std.proofs.Common.{◌≡◌, ℕ, zero, suc, ◌+◌, ◌≤◌, Option, List, [], ◌∷◌, ◌++◌, length, length-append, map, Contains, ap, ◌∙◌, sym, arith, inl, inr, rules}
 use Rattle.std.proofs.lemmas.List.Sums.{sum_by-cons}
 use Rattle.srs.specs.declared.piece.Piece.{Piece}
 use Rattle.srs.proofs.CallerLemmas.{Contains-none, Contains-cases, Contains-from_flat_map, Contains-from_map}
 use Rattle.queue_pattern.specs.declared.element.Element.{Element}
 use Rattle.queue_pattern.specs.Queues.{pieces_in, others, choices, queues, queue_len}
 use Rattle.hold_queue.specs.declared.hold.Hold.{Hold}
-use Rattle.hold_queue.specs.declared.hold.Hold.TheVariants.{Allowed, Avoided}
 use Rattle.hold_queue.specs.AtHand.{at_hand}
 use Rattle.hold_queue.specs.Permits.{Permits}
 use Rattle.hold_queue.specs.QueueSet.{QueuesInPlay, QueuesPermit}
@@ -43,13 +42,10 @@ queue-length (e ∷ elements) queue among =
     )
 
 at_hand-length : (hold : Hold) (held : Option Piece) (queue : List Piece) → length (at_hand hold held queue) ≤ length queue + count_held held
-at_hand-length Avoided held queue = omega arith
-at_hand-length Allowed None queue = omega arith
-at_hand-length Allowed (Some piece) queue = omega arith
+at_hand-length hold held queue = search rules
 
 pub permits-length : (hold : Hold) (pieces queue : List Piece) (held : Option Piece) → Permits hold queue held pieces → length pieces ≤ length queue + count_held held
-permits-length hold pieces queue held permitted =
-    omega (arith, at_hand-length hold held queue, takes-length hold (at_hand hold held queue) pieces (takes-of_permits hold queue held pieces permitted))
+permits-length hold pieces queue held permitted = search (rules, at_hand-length, takes-length, takes-of_permits)
 
 pub line-length : (line : QueuesInPlay) (pieces : List Piece) → QueuesPermit line pieces → length pieces ≤ queue_len line.elements + count_held line.held
 line-length line pieces permitted = omega (arith, permits-length line.hold pieces permitted.0 line.held permitted.2, queue-length line.elements permitted.0 permitted.1)

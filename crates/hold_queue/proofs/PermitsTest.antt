@@ -1,5 +1,5 @@
 -- The tests decide what queues permit.
-use Rattle.std.proofs.Common.{◌≡◌, Bool, true, ◌&&◌, ◌||◌, ◌↔◌, inl, inr, List, [], ◌∷◌, Option, Some, None, refl, subst, arith}
+use Rattle.std.proofs.Common.{◌≡◌, Bool, true, ◌&&◌, ◌||◌, ◌↔◌, inl, inr, List, [], ◌∷◌, Option, Some, None, refl, subst, arith, rules}
 use Rattle.std.proofs.lemmas.Bool.{and_parts, and_from, or_cases, or_left, or_right}
 use Rattle.std.proofs.lemmas.List.Folds.{Any-from_list_any, list_any-from_Any}
 use Rattle.std.proofs.lemmas.Bool.Decides.{nat_tests}
@@ -22,11 +22,7 @@ SomeWay hold queue held piece goes_on = (rest : List Piece) × (after : Option P
 
 first_way : (hold : Hold) (queue : List Piece) (held : Option Piece) (piece : Piece) (goes_on : List Piece → Option Piece → Bool)
     → plays_first queue piece (λ rest. goes_on rest held) ≡ true → SomeWay hold queue held piece goes_on
-first_way hold [] held piece goes_on taken = cc
-first_way hold (first ∷ queue) held piece goes_on taken =
-    let parts = and_parts (same_piece first piece) (goes_on queue held) taken in
-    let way : Way hold (first ∷ queue) held piece queue held = subst (λ p. Way hold (first ∷ queue) held p queue held) (same_piece-is first piece parts.0) plain in
-    (queue, held, way, parts.1)
+first_way hold queue held piece goes_on taken = search (rules, and_parts, same_piece-is, plain)
 
 held_way : (hold : Hold) (queue : List Piece) (held : Option Piece) (piece : Piece) (goes_on : List Piece → Option Piece → Bool)
     → plays_held hold queue held piece goes_on ≡ true → SomeWay hold queue held piece goes_on

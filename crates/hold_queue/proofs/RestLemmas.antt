@@ -1,5 +1,5 @@
 -- What is left of the queues after one more piece is drawn.
-use Rattle.std.proofs.Common.{◌≡◌, ℕ, suc, ◌+◌, ◌-◌, ◌<◌, ◌≤◌, Bool, true, false, not, cond, ◌&&◌, ◌||◌, ◌==◌, Some, None, List, [], ◌∷◌, filter, refl, ap, ◌∙◌, sym, subst, inl, inr, arith}
+use Rattle.std.proofs.Common.{◌≡◌, ℕ, suc, ◌+◌, ◌-◌, ◌<◌, ◌≤◌, Bool, true, false, not, cond, ◌&&◌, ◌||◌, ◌==◌, Some, None, List, [], ◌∷◌, filter, refl, ap, ◌∙◌, sym, subst, inl, inr, arith, rules}
 use Rattle.std.specs.List.{list_all}
 use Rattle.std.proofs.lemmas.Bool.{agree_below_at, cases_lt, lt-ltb, le-ltb, eq-eqb, ne_eqb}
 use Rattle.std.proofs.lemmas.Nat.Bits.{bit_at-zero}
@@ -29,9 +29,7 @@ added set within piece other lacks =
 pub undrawn-with : (set drawn_set : ℕ) (piece : Piece) → drawn_set < 128 → is_in piece drawn_set ≡ false
     → undrawn set (drawn_set + set_of piece) ≡ others piece (undrawn set drawn_set)
 unfolding undrawn others
-undrawn-with set drawn_set piece within lacks =
-    filter_twice (λ p. not (is_in p drawn_set)) (λ p. not (piece_code p == piece_code piece)) (λ p. not (is_in p (drawn_set + set_of piece)))
-    (λ other. added drawn_set within piece other lacks) (pieces_in set)
+undrawn-with set drawn_set piece within lacks = search (rules, filter_twice, added)
 
 filter-all : {A : Type 0} (test : A → Bool) → ((x : A) → test x ≡ true) → (xs : List A) → filter test xs ≡ xs
 filter-all test all [] = refl
@@ -89,15 +87,7 @@ stands_here e elements drawn within = record {
 
 stands_later : (e : Element) (elements : List Element) (drawn : ℕ) (draw : Draw) → e.chosen ≤ drawn → Stands elements (drawn - e.chosen) draw → Stands (e ∷ elements) drawn draw
 unfolding rests
-stands_later e elements drawn draw past stands = record {
-  more = stands.more;
-  later = stands.later;
-  now = λ drawn_set. rw (le-ltb drawn e.chosen past) (stands.now drawn_set);
-  next = λ drawn_set piece small lacks.
-      let beyond : e.chosen ≤ drawn + 1 = omega arith in
-      rw (le-ltb (drawn + 1) e.chosen beyond)
-      (ap (λ n. rests elements n (set_after draw drawn_set piece)) (omega arith) ∙ stands.next drawn_set piece small lacks);
-}
+stands_later e elements drawn draw past stands = search (rules, stands, le-ltb)
 
 pub stands : (elements : List Element) (drawn : ℕ) (draw : Draw) → in_progress elements drawn ≡ Some draw → Stands elements drawn draw
 unfolding in_progress

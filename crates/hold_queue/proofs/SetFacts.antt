@@ -1,5 +1,5 @@
 -- What holds of each queue set.
-use Rattle.std.proofs.Common.{◌≡◌, ℕ, ◌<◌, ◌+◌, length, length-append, take, List, [], ◌∷◌, ◌++◌, subst, sym, ap, arith, ◌∙◌, Bool, map, Option, add-one, set as list_set}
+use Rattle.std.proofs.Common.{◌≡◌, ℕ, ◌<◌, ◌+◌, length, length-append, take, List, [], ◌∷◌, ◌++◌, subst, sym, ap, arith, ◌∙◌, Bool, map, Option, add-one, set as list_set, rules}
 use Rattle.std.proofs.Math.Path.{fun_ext}
 use Rattle.std.proofs.Math.Seq.{take-suc-set}
 use Rattle.std.proofs.lemmas.List.{length-take}
@@ -20,18 +20,13 @@ pub played-length : (set : QueueSet) → length (take set.number set.played) ≡
 played-length set = omega (arith, length-take set.number set.played, set.room, set.within)
 
 pub set-stands : (set : QueueSet) → Stands (elements_of set.pattern) set.held set.states.words set.number
-set-stands set = subst (λ n. Stands (elements_of set.pattern) set.held set.states.words n) (played-length set) (record {
-  roomy = λ held. record { each = set.follows.some held };
-  drawn_fits = set.follows.drawn_fits;
-})
+set-stands set = search (rules, played-length)
 
 -- the states say which piece may come next
 pub set-permits : (set : QueueSet) (piece : Piece)
     → queues_permit (queues_in_play set) ((queues_in_play set).played ++ piece ∷ []) ≡ states_permit (elements_of set.pattern) set.states.hold set.held set.states.words set.number (piece ∷ [])
 unfolding queues_in_play
-set-permits set piece =
-    set.follows.permits_same (piece ∷ [])
-    ∙ ap (λ n. states_permit (elements_of set.pattern) set.states.hold set.held set.states.words n (piece ∷ [])) (played-length set)
+set-permits set piece = search (rules, played-length)
 
 -- there is room for one more piece where it is permitted
 pub set-room : (set : QueueSet) (piece : Piece) → QueuesPermit (queues_in_play set) ((queues_in_play set).played ++ piece ∷ []) → set.number < 23
@@ -54,10 +49,7 @@ played-more set piece room = ap (λ n. take n (list_set set.played set.number pi
 pub set-follows : (set : QueueSet) (piece : Piece) (next : List ℕ) → set.number < 23
     → LeadsTo (elements_of set.pattern) set.states.hold set.held set.states.words set.number piece next
     → AreStatesAfter (elements_of set.pattern) set.states.hold set.held next (take (set.number + 1) (list_set set.played set.number piece))
-set-follows set piece next room leads =
-    subst (AreStatesAfter (elements_of set.pattern) set.states.hold set.held next) (sym (played-more set piece room))
-    (follows-next (elements_of set.pattern) set.states.hold set.held set.states.words next (take set.number set.played) piece set.follows
-    (subst (λ n. LeadsTo (elements_of set.pattern) set.states.hold set.held set.states.words n piece next) (sym (played-length set)) leads))
+set-follows set piece next room leads = search (rules, played-more, follows-next, played-length)
 
 pub step-leads : (set : QueueSet) (step : Following) → step.before ≡ set.states
     → LeadsTo (elements_of set.pattern) set.states.hold set.held set.states.words set.number step.piece step.after.words
@@ -79,7 +71,4 @@ set-permitted set may is = is ∙ ap (λ test. map test all_pieces) (fun_ext (λ
 
 pub set-coming : (set : QueueSet) (step : Following) → set.states ≡ step.after
     → step.may_come ≡ map (λ piece. queues_permit (queues_in_play set) ((queues_in_play set).played ++ piece ∷ [])) all_pieces
-set-coming set step same =
-    set-permitted set step.may_come
-    (set-each set (λ elements start played. step.may_come ≡ map (λ piece. states_permit elements set.states.hold start set.states.words played (piece ∷ [])) all_pieces)
-    (subst (λ states. WhereverTheyStand states (λ elements start played. step.may_come ≡ map (λ piece. states_permit elements states.hold start states.words played (piece ∷ [])) all_pieces)) (sym same) step.coming))
+set-coming set step same = search (rules, set-permitted, set-each)

@@ -1,21 +1,14 @@
 -- One queue alone is the queues of its pieces.
-use Rattle.std.proofs.Common.{◌≡◌, List, [], ◌∷◌, ◌++◌, map, refl, ap, ◌∙◌}
+use Rattle.std.proofs.Common.{◌≡◌, List, [], ◌∷◌, ◌++◌, map, refl, ap, ◌∙◌, rules}
 use Rattle.std.specs.List.{flat_map}
 use Rattle.srs.specs.declared.piece.Piece.{Piece}
-use Rattle.srs.specs.declared.piece.Piece.TheVariants.{I, L, O, Z, T, J, S}
 use Rattle.queue_pattern.specs.Grammar.{set_of}
 use Rattle.queue_pattern.specs.Queues.{pieces_in, choices, queues}
 use Rattle.hold_queue.specs.QueueSet.{singles}
 
 pieces_in-single : (piece : Piece) → pieces_in (set_of piece) ≡ piece ∷ []
 unfolding pieces_in
-pieces_in-single I = refl
-pieces_in-single L = refl
-pieces_in-single O = refl
-pieces_in-single Z = refl
-pieces_in-single T = refl
-pieces_in-single J = refl
-pieces_in-single S = refl
+pieces_in-single piece = search rules
 
 choices-single : (piece : Piece) → choices (piece ∷ []) 1 ≡ (piece ∷ []) ∷ []
 unfolding choices

@@ -1,5 +1,5 @@
 -- The families after one more piece is played, by the four ways to play it.
-use Rattle.std.proofs.Common.{◌≡◌, ℕ, ◌+◌, ◌<◌, ◌≤◌, true, ◌||◌, Option, Some, None, List, [], ◌∷◌, Contains, refl, ap, ◌∙◌, sym, subst, inl, inr, ◌⊎◌, arith}
+use Rattle.std.proofs.Common.{◌≡◌, ℕ, ◌+◌, ◌<◌, ◌≤◌, true, ◌||◌, Option, Some, None, List, [], ◌∷◌, Contains, refl, ap, ◌∙◌, sym, subst, inl, inr, ◌⊎◌, arith, rules}
 use Rattle.std.proofs.lemmas.Bool.{or_cases, or_left, or_right}
 use Rattle.srs.specs.declared.piece.Piece.{Piece}
 use Rattle.srs.specs.declared.piece.Piece.TheVariants.{I, L, O, Z, T, J, S}
@@ -22,10 +22,7 @@ pub record IsUnion (f g both : Family) : Type 0 where
 
 pub union-from : {elements : List Element} {drawn : ℕ} {queue : List Piece} (f g both : Family) → IsUnion f g both
     → IsRemainder elements drawn both queue → IsRemainder elements drawn f queue ⊎ IsRemainder elements drawn g queue
-union-from f g both union rest = elim (or_cases (has_set f rest.drawn_set) (has_set g rest.drawn_set) (sym (union.each rest.drawn_set rest.within) ∙ rest.has)) [
-  | inl one ↦ inl (record { drawn_set = rest.drawn_set; within = rest.within; has = one; there = rest.there })
-  | inr two ↦ inr (record { drawn_set = rest.drawn_set; within = rest.within; has = two; there = rest.there })
-]
+union-from f g both union rest = search (rules, or_cases)
 
 pub union-left : {elements : List Element} {drawn : ℕ} {queue : List Piece} (f g both : Family) → IsUnion f g both → IsRemainder elements drawn f queue → IsRemainder elements drawn both queue
 union-left f g both union rest = record { drawn_set = rest.drawn_set; within = rest.within; has = union.each rest.drawn_set rest.within ∙ or_left _ _ rest.has; there = rest.there }
@@ -37,17 +34,11 @@ union-cases : (f g both : Family) → IsUnion f g both → (set : ℕ) → set <
 union-cases f g both union set within has = or_cases (has_set f set) (has_set g set) (sym (union.each set within) ∙ has)
 
 pub union-roomy : (elements : List Element) (drawn : ℕ) (f g both : Family) → IsUnion f g both → IsRoomy elements drawn f → IsRoomy elements drawn g → IsRoomy elements drawn both
-union-roomy elements drawn f g both union one two = record {
-  each = λ set within has. elim (union-cases f g both union set within has) [
-    | inl left ↦ one.each set within left
-    | inr right ↦ two.each set within right
-  ];
-}
+union-roomy elements drawn f g both union one two = search (rules, union-cases)
 
 -- at most one piece is held
 pub count_held-small : (held : Option Piece) → count_held held ≤ 1
-count_held-small None = omega arith
-count_held-small (Some piece) = omega arith
+count_held-small held = search rules
 
 module _ (elements : List Element) (start : Option Piece) (states : List ℕ) (played : ℕ) (so_far : Stands elements start states played) where
   -- a family after one draw by which what is held changes from one to another, whose number is the same or one more
@@ -66,9 +57,7 @@ module _ (elements : List Element) (start : Option Piece) (states : List ℕ) (p
   -- what has a set after a draw had one before it
   fits_after : (held next : Option Piece) (draw : Option Draw) (piece : Piece) (after : Family) → IsDrawn draw piece (family_at states held) after
       → count_held held ≤ count_held next → (set : ℕ) → set < 128 → has_set after set ≡ true → count_held start ≤ played + 1 + count_held next
-  fits_after held next draw piece after drawn more set within has =
-      let m = moves-back draw piece (family_at states held) after drawn set within has in
-      omega (arith, so_far.drawn_fits held m.drawn_set m.within m.has)
+  fits_after held next draw piece after drawn more set within has = search (rules, moves-back)
 
   -- where hold is avoided
   pub next_avoided : (piece : Piece) (held : Option Piece) (after : Family) → IsDrawn (in_progress elements (drawn_by start played held)) piece (family_at states held) after
@@ -282,11 +271,4 @@ pub each_held : (P : Option Piece → Family → Type 0) (none i l o z t j s : F
     → P None none → P (Some I) i → P (Some L) l → P (Some O) o → P (Some Z) z → P (Some T) t → P (Some J) j → P (Some S) s → (held : Option Piece)
     → P held (family_at (none.low ∷ none.high ∷ i.low ∷ i.high ∷ l.low ∷ l.high ∷ o.low ∷ o.high ∷ z.low ∷ z.high ∷ t.low ∷ t.high ∷ j.low ∷ j.high ∷ s.low ∷ s.high ∷ []) held)
 unfolding family_at
-each_held P none i l o z t j s at_none at_i at_l at_o at_z at_t at_j at_s None = at_none
-each_held P none i l o z t j s at_none at_i at_l at_o at_z at_t at_j at_s (Some I) = at_i
-each_held P none i l o z t j s at_none at_i at_l at_o at_z at_t at_j at_s (Some L) = at_l
-each_held P none i l o z t j s at_none at_i at_l at_o at_z at_t at_j at_s (Some O) = at_o
-each_held P none i l o z t j s at_none at_i at_l at_o at_z at_t at_j at_s (Some Z) = at_z
-each_held P none i l o z t j s at_none at_i at_l at_o at_z at_t at_j at_s (Some T) = at_t
-each_held P none i l o z t j s at_none at_i at_l at_o at_z at_t at_j at_s (Some J) = at_j
-each_held P none i l o z t j s at_none at_i at_l at_o at_z at_t at_j at_s (Some S) = at_s
+each_held P none i l o z t j s at_none at_i at_l at_o at_z at_t at_j at_s h17 = search rules

@@ -1,5 +1,5 @@
 -- No permitted list has more of a kind than the elements with that kind and a piece that is held.
-use Rattle.std.proofs.Common.{◌≡◌, ℕ, zero, suc, ◌+◌, ◌-◌, ◌≤◌, Bool, true, false, not, cond, ◌==◌, Option, Some, List, [], ◌∷◌, ◌++◌, length, map, count_by, take, slice_get, Contains, refl, ap, ◌∙◌, sym, subst, arith, inl, inr, eqb-true, eq-eqb}
+use Rattle.std.proofs.Common.{◌≡◌, ℕ, zero, suc, ◌+◌, ◌-◌, ◌≤◌, Bool, false, not, cond, ◌==◌, Option, Some, List, [], ◌∷◌, ◌++◌, length, map, count_by, take, slice_get, Contains, refl, ap, ◌∙◌, sym, subst, arith, inl, inr, eqb-true, eq-eqb, rules}
 use Rattle.std.specs.Int.{bit_at}
 use Rattle.std.proofs.lemmas.Bool.{cases_Bool, both_ways, not-true}
 use Rattle.std.proofs.lemmas.List.{take_more}
@@ -25,8 +25,7 @@ count-cons : {X : Type 0} (test : X → Bool) (x : X) (xs : List X) → count_by
 count-cons test x xs = sum_by-cons (λ y. cond (test y) 1 0) x xs
 
 one_if-le : (b : Bool) → one_if b ≤ 1
-one_if-le true = omega arith
-one_if-le false = omega arith
+one_if-le b = search rules
 
 -- one more element is counted
 pub count-more : {X : Type 0} (test : X → Bool) (xs : List X) (i : ℕ) (x : X) (count : ℕ) → slice_get xs i ≡ Some x → count ≡ count_by test (take i xs)

@@ -1,5 +1,5 @@
 -- The goals of `elements_with` that need lemmas.
-use Rattle.std.proofs.Common.{◌≡◌, ◌∙◌, ◌+◌, ◌-◌, ◌==◌, Bool, true, false, refl, ap, cond}
+use Rattle.std.proofs.Common.{◌≡◌, ◌∙◌, ◌+◌, ◌-◌, ◌==◌, Bool, ap, cond, rules}
 use mir.Val.{bool_byte}
 use Rattle.std.specs.Int.{bit_at}
 use Rattle.srs.specs.Piece.{piece_code}
@@ -9,8 +9,7 @@ use Rattle.hold_queue.proofs.SupplyLemmas.{count-more}
 use Rattle.hold_queue.proofs.supply.elements_with.Goals as goal
 
 byte_is : (b : Bool) → bool_byte b ≡ cond b 1 0
-byte_is true = refl
-byte_is false = refl
+byte_is b = search rules
 
 pub loop-index-preserved : goal.loop-index-preserved
 loop-index-preserved c =

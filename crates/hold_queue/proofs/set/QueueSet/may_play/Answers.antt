@@ -1,16 +1,12 @@
 -- The goals of `QueueSet::may_play` that need lemmas.
-use Rattle.std.proofs.Common.{◌≡◌, ◌∙◌, sym, ◌++◌, ◌∷◌, []}
+use Rattle.std.proofs.Common.{◌∙◌, sym, ◌++◌, ◌∷◌, [], rules}
 use Rattle.hold_queue.specs.QueueSet.{queues_in_play}
-use Rattle.hold_queue.specs.States.{states_permit}
 use Rattle.hold_queue.proofs.PermitsTest.{queues_permit-decides}
 use Rattle.hold_queue.proofs.SetFacts.{set-each, set-permits}
 use Rattle.hold_queue.proofs.set.QueueSet.may_play.Goals as goal
 
 pub returns-clause-value : goal.returns-clause-value
-returns-clause-value c =
-    let set = c.args.self.now in
-    set-each set (λ elements start played. c.permits.result ≡ states_permit elements set.states.hold start set.states.words played (c.args.piece ∷ [])) c.permits.ensures
-    ∙ sym (set-permits set c.args.piece)
+returns-clause-value c = search (rules, set-each, set-permits)
 
 pub returns-clause-permitted : goal.returns-clause-permitted
 returns-clause-permitted c =

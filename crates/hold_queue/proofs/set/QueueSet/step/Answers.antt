@@ -1,5 +1,5 @@
 -- The goals of `QueueSet::step` that need lemmas.
-use Rattle.std.proofs.Common.{◌≡◌, ◌+◌, ◌∙◌, ap, length-set, arith, subst, sym, take, rules, set as list_set}
+use Rattle.std.proofs.Common.{◌+◌, ◌∙◌, ap, length-set, arith, subst, sym, take, rules, set as list_set}
 use Rattle.queue_pattern.specs.Pattern.{elements_of}
 use Rattle.hold_queue.specs.QueueSet.{queues_in_play}
 use Rattle.hold_queue.specs.States.{AreStatesAfter, in_progress}
@@ -29,12 +29,7 @@ invariant_of-self c =
 
 pub returns-clause-set : goal.returns-clause-set
 unfolding queues_in_play
-returns-clause-set c =
-    let set = c.args.before.now in
-    let step = c.args.step.now in
-    let same : step.after.hold ≡ set.states.hold = step.same_hold ∙ ap (λ states. states.hold) c.requires.before in
-    let more = played-more set step.piece (set-room set step.piece c.requires.permitted) in
-    cc
+returns-clause-set c = search (rules, played-more, set-room)
 
 pub returns-clause-coming : goal.returns-clause-coming
 returns-clause-coming c = search (rules, set-coming)

@@ -1,15 +1,11 @@
 -- The goals of `States::next_empty_handed` that need lemmas.
-use Rattle.std.proofs.Common.{◌∙◌, sym, subst, None}
+use Rattle.std.proofs.Common.{◌∙◌, sym, subst, None, rules}
 use Rattle.hold_queue.specs.States.{IsNextFamily}
 use Rattle.hold_queue.proofs.StepLemmas.{next_avoided, next_none_more, next_none_last, IsUnion, drawn_at}
 use Rattle.hold_queue.proofs.states.States.next_empty_handed.Goals as goal
 
 pub returns-in-Avoided : goal.returns-in-Avoided
-returns-in-Avoided c = λ elements start played stands due.
-    let set = c.args.self.now in
-    let drawn = drawn_at c.draw-plain.ensures due.empty_handed c.family_of.ensures in
-    subst (λ hold. IsNextFamily elements hold start set.words played c.args.piece None c.draw-plain.result) (sym c.in-Avoided.is)
-    (next_avoided elements start set.words played stands c.args.piece None c.draw-plain.result drawn)
+returns-in-Avoided c = search (rules, drawn_at, next_avoided)
 
 pub returns-in-Some : goal.returns-in-Some
 returns-in-Some c = λ elements start played stands due.

@@ -1,16 +1,12 @@
 -- The goals of `States::permits` that need lemmas.
-use Rattle.std.proofs.Common.{◌≡◌, Bool, true, false, not, ◌∷◌, [], refl, sym, ap, ◌∙◌}
+use Rattle.std.proofs.Common.{◌≡◌, Bool, true, false, not, ◌∷◌, [], refl, sym, ap, ◌∙◌, rules}
 use Rattle.hold_queue.specs.States.{WhereverTheyStand, states_permit}
 use Rattle.hold_queue.proofs.HoldingLemmas.{comes-plain, comes-second, comes-held, comes-none, permitted-comes, refused-none}
 use Rattle.hold_queue.proofs.StepLemmas.{drawn_at, drawn_by_draw}
 use Rattle.hold_queue.proofs.states.States.permits.Goals as goal
 
 pub returns-then-not-is_empty : goal.returns-then-not-is_empty
-returns-then-not-is_empty c = λ elements start played stands due.
-    let set = c.args.self.now in
-    sym (permitted-comes elements set.hold start set.words played c.args.piece
-    (comes-plain elements set.hold start set.words played stands c.args.piece c.draw-plain.result
-    (drawn_at c.draw-plain.ensures due.empty_handed c.family_of.ensures) (λ none. let wrong = c.is_empty.ensures.1 none in cc)))
+returns-then-not-is_empty c = search (rules, permitted-comes, comes-plain, drawn_at)
 
 pub returns-then-may_exchange : goal.returns-then-may_exchange
 returns-then-may_exchange c = λ elements start played stands due.

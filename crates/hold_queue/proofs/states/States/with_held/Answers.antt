@@ -1,17 +1,12 @@
 -- The goals of `States::with_held` that need lemmas.
-use Rattle.std.proofs.Common.{sym, subst}
-use Rattle.hold_queue.specs.declared.hold.Hold.TheVariants.{Avoided}
+use Rattle.std.proofs.Common.{sym, subst, rules}
 use Rattle.hold_queue.specs.States.{IsHeldFamily}
 use Rattle.hold_queue.proofs.HoldingLemmas.{held-avoided, held-allowed}
 use Rattle.hold_queue.proofs.StepLemmas.{IsUnion, drawn_at}
 use Rattle.hold_queue.proofs.states.States.with_held.Goals as goal
 
 pub returns-in-Avoided : goal.returns-in-Avoided
-returns-in-Avoided c = λ elements start played stands due.
-    let set = c.args.self.now in
-    subst (λ hold. IsHeldFamily elements hold start set.words played c.args.first c.family_of-held.result) (sym c.in-Avoided.is)
-    (subst (λ f. IsHeldFamily elements Avoided start set.words played c.args.first f) (sym c.family_of-held.ensures)
-    (held-avoided elements start set.words played stands c.args.first))
+returns-in-Avoided c = search (rules, held-avoided)
 
 pub returns : goal.returns
 returns c = λ elements start played stands due.
