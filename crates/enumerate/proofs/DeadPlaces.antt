@@ -31,7 +31,7 @@ use Rattle.enumerate.specs.Setups.{LeadsOn, position_of}
 use Rattle.enumerate.specs.Standing.{may_lock}
 use Rattle.enumerate.specs.Position.{after_of, is_live}
 use Rattle.enumerate.specs.Turns.{AreDead}
-use Rattle.enumerate.proofs.PlaceLaws.{lockable-free, lockable-piece}
+use Rattle.enumerate.proofs.PlaceLaws.{lockable_free, lockable-piece}
 use Rattle.enumerate.proofs.TilingLaws.{left-tiled, live-after}
 use Rattle.enumerate.proofs.TurnLemmas.{enters-dead}
 
@@ -54,7 +54,7 @@ module _ (setup : Setup) (piece : Piece) (some : 1 ≤ setup.left) (supply : Sup
   after-tiled q of_kind lockable below table mode =
       let E = without_placement (empty_cells setup.empties) q in
       live-after table mode setup q (supply_of supply) (λ other. moves other ∙ ap (λ (p : Piece). min setup.left (less_one (supply_of setup.supply) p other)) (sym of_kind)) (setup.left - 1) (omega (arith, some))
-      ∙ sym (left-tiled (filled setup.well) E setup.rows q (supply_of supply) (has_tiling (all_but E) 8 (supply_of supply)) setup.low setup.bounded (lockable-free (filled setup.well) piece q lockable) below
+      ∙ sym (left-tiled (filled setup.well) E setup.rows q (supply_of supply) (has_tiling (all_but E) 8 (supply_of supply)) setup.low setup.bounded (lockable_free (filled setup.well) piece q lockable) below
       (ap (λ E. without_placement E q) setup.emptied) (tiling_decided (all_but E) 8 (supply_of supply)))
 
   -- what leaves no tiling has nothing to do

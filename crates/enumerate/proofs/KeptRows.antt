@@ -44,10 +44,10 @@ dropped : (a b p q : Bool) → b ≡ false → ((a && b) && p) ≡ ((a && b) && 
 dropped a b p q e = search rules
 
 -- the empty cells below a height, before full rows go and after, where none goes
-pub kept-empties : (F : Field) (q : Placement) (rows : ℕ) → rows ≤ 8 → rows_removed F q ≡ 0 →
+pub kept_empties : (F : Field) (q : Placement) (rows : ℕ) → rows ≤ 8 → rows_removed F q ≡ 0 →
     difference (rows_below rows) (together F q) ≡ difference (rows_below rows) (locked F q)
 unfolding difference rows_below locked rows_removed
-kept-empties F q rows low none = fun_ext (λ x. fun_ext (λ y. at x y (cases_lt y rows)))
+kept_empties F q rows low none = fun_ext (λ x. fun_ext (λ y. at x y (cases_lt y rows)))
   where
     at : (x y : ℕ) → (y < rows) ⊎ (rows ≤ y)
         → ((nat_lt x 10 && nat_lt y rows) && not (together F q x y)) ≡ ((nat_lt x 10 && nat_lt y rows) && not (without_full_rows (together F q) 23 x y))

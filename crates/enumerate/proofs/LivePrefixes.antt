@@ -29,7 +29,7 @@ stands-front : (table : Table) (mode : DropMode) (F : Field) (rows : ℕ) (front
 unfolding can_stand
 stands-front table mode F rows [] rest plays = refl
 stands-front table mode F rows (q ∷ front) rest plays =
-    search (rules, and_from, is_place-decides, (stands-front table mode (locked F q) (rows - rows_removed F q) front rest plays.2))
+    search (rules, and_from, is_place-decides, (stands-front table mode (locked F q) (rows - rows_removed F q) front rest))
 
 -- where front and rest play to the end and are permitted, each prefix of the front leaves a tiling
 tiled-front : (n : Position) (front rest : List Placement) → IsLow n.field n.rows → Plays n.table n.mode n.field n.rows (front ++ rest) → QueuesPermit n.line (n.line.played ++ pieces_of (front ++ rest)) → stays_tiled (length rest) n front ≡ true

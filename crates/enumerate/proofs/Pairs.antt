@@ -67,12 +67,16 @@ work-unplayed left root prefix unplayed = search (rules, cond-false, and_left)
 sum_by-same : {A : Type 0} (f g : A → ℕ) (xs : List A) → ((x : A) → Contains xs x → f x ≡ g x) → sum_by f xs ≡ sum_by g xs
 sum_by-same f g [] each = refl
 sum_by-same f g (x ∷ xs) each =
-    search (rules, sum_by-cons, Contains-here, Contains-there, (sum_by-same f g xs (λ y among. each y (Contains-there x xs y among))))
+    let rest = sum_by-same f g xs (λ y among. each y (Contains-there x xs y among)) in
+    search (rules, sum_by-cons, Contains-here, Contains-there, rest)
 
 sum_by-filtered : {A : Type 0} (test : A → Bool) (f g : A → ℕ) (xs : List A) → ((x : A) → Contains xs x → test x ≡ true → f x ≡ g x) → ((x : A) → Contains xs x → test x ≡ false → g x ≡ 0) → sum_by f (filter test xs) ≡ sum_by g xs
 sum_by-filtered test f g [] kept dropped = refl
 sum_by-filtered test f g (x ∷ xs) kept dropped =
-    search (rules, Contains-there, cases_Bool, filter-true, sum_by-cons, Contains-here, filter-false, (sum_by-filtered test f g xs (λ y among. kept y (Contains-there x xs y among)) (λ y among. dropped y (Contains-there x xs y among))))
+    let rest =
+    sum_by-filtered test f g xs (λ y among. kept y (Contains-there x xs y among))
+    (λ y among. dropped y (Contains-there x xs y among)) in
+    search (rules, Contains-there, cases_Bool, filter-true, sum_by-cons, Contains-here, filter-false, rest)
 
 leaf-floods : (b : Bool) (prefix : List Placement) → floods ((if b then Found prefix else Tick) ∷ []) ≡ 0
 unfolding floods

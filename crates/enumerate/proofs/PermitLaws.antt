@@ -16,5 +16,5 @@ pub line_permits-front : (line : QueuesInPlay) (front rest : List Piece) → Que
 line_permits-front line front rest permitted = (permitted.0, permitted.1, permits-front line.hold permitted.0 line.held front rest permitted.2)
 
 -- the entry of a piece in a list with one for each
-pub entry-of : (f : Piece → Bool) (entries : List Bool) → entries ≡ map f all_pieces → (piece : Piece) → get_or entries (piece_code piece - 1) false ≡ f piece
-entry-of f entries is h3 = search rules
+pub entry_of : (f : Piece → Bool) (entries : List Bool) → entries ≡ map f all_pieces → (piece : Piece) → get_or entries (piece_code piece - 1) false ≡ f piece
+entry_of f entries is h3 = search rules

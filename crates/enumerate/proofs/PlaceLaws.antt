@@ -32,9 +32,9 @@ module _ (F : Field) (piece : Piece) (q : Placement) (lockable : may_lock F piec
   unfolding may_lock
   lockable-piece = piece_code-injective q.piece piece (eqb-true (piece_code q.piece) (piece_code piece) (and_first (piece_code q.piece == piece_code piece) _ lockable))
 
-  pub lockable-free : is_free F q ≡ true
+  pub lockable_free : is_free F q ≡ true
   unfolding may_lock
-  lockable-free = and_second (is_canonical_inside q) _ (and_second (piece_code q.piece == piece_code piece) _ lockable)
+  lockable_free = and_second (is_canonical_inside q) _ (and_second (piece_code q.piece == piece_code piece) _ lockable)
 
   pub lockable-listed : IsCanonicalInside piece q
   unfolding may_lock

@@ -35,13 +35,13 @@ pub room-last : (depth : ℕ) (frames : List Frame) (frame : Frame) → has_room
 unfolding has_room
 room-last depth [] frame room = let fits = leb-true (frame.setup.left + depth) 19 (and_first (nat_le (frame.setup.left + depth) 19) true room) in (refl, omega (arith, fits))
 room-last depth (f ∷ frames) frame room =
-    search (rules, and_second, and_from, and_first, (room-last (suc depth) frames frame (and_second (nat_le (f.setup.left + depth) 19) _ room)))
+    search (rules, and_second, and_from, and_first, (room-last (suc depth) frames frame))
 
 pub room-more : (depth : ℕ) (frames : List Frame) (frame : Frame) → has_room depth frames ≡ true → frame.setup.left + (depth + length frames) ≤ 19 → has_room depth (frames ++ frame ∷ []) ≡ true
 unfolding has_room
 room-more depth [] frame room fits = and_from (nat_le (frame.setup.left + depth) 19) true (le-leb (frame.setup.left + depth) 19 (omega (arith, fits))) refl
 room-more depth (f ∷ frames) frame room fits =
-    search (rules, and_from, and_first, and_second, (room-more (suc depth) frames frame (and_second (nat_le (f.setup.left + depth) 19) _ room)))
+    search (rules, and_from, and_first, and_second, (room-more (suc depth) frames frame))
 
 module _ (table : Table) (mode : DropMode) (fs : List Frame) (old new : Frame) (room : has_room 0 (fs ++ old ∷ []) ≡ true) (left : new.setup.left ≡ old.setup.left) where
   abbrev below : List Event

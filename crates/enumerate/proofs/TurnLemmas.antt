@@ -41,7 +41,8 @@ filter-both a b (x ∷ xs) = search (rules, cases_Bool, filter-true, filter-fals
 pub filter-same : {A : Type 0} (a b : A → Bool) (xs : List A) → ((x : A) → Contains xs x → a x ≡ b x) → filter a xs ≡ filter b xs
 filter-same a b [] each = refl
 filter-same a b (x ∷ xs) each =
-    search (rules, Contains-there, cases_Bool, filter-true, Contains-here, filter-false, (filter-same a b xs (λ y among. each y (Contains-there x xs y among))))
+    let rest = filter-same a b xs (λ y among. each y (Contains-there x xs y among)) in
+    search (rules, Contains-there, cases_Bool, filter-true, Contains-here, filter-false, rest)
 
 -- what a frame's places hold may lock
 abbrev pub Lockable : Field → LowPlaces → Type 0
@@ -101,10 +102,10 @@ module _ (setup : Setup) (q : Placement) (below : is_below setup.rows q ≡ true
     pub is_child : child.setup.left + 1 ≡ setup.left → child.tried ≡ 0 → child.places ≡ None → ((table : Table) (mode : DropMode) → is_live child.setup.left (after_of (position_of table mode setup) q) ≡ true) → IsChild setup q child
     is_child left tried places live = search rules
 
-    pub enters-child : child.setup.left + 1 ≡ setup.left → child.tried ≡ 0 → child.places ≡ None → ((table : Table) (mode : DropMode) → is_live child.setup.left (after_of (position_of table mode setup) q) ≡ true) →
+    pub enters_child : child.setup.left + 1 ≡ setup.left → child.tried ≡ 0 → child.places ≡ None → ((table : Table) (mode : DropMode) → is_live child.setup.left (after_of (position_of table mode setup) q) ≡ true) →
         EntersAs setup q (λ table mode prefix. Tick ∷ events_of table mode prefix child)
     unfolding entered enter events_of places_left position_of
-    enters-child left tried places live = search (rules, cond-true)
+    enters_child left tried places live = search (rules, cond-true)
 
   -- a position that has no tiling
   pub enters-dead : (left : ℕ) → left + 1 ≡ setup.left → ((table : Table) (mode : DropMode) → is_live left (after_of (position_of table mode setup) q) ≡ false) →

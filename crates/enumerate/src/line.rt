@@ -18,6 +18,7 @@ pub struct Line {
 
 impl Line {
     /// The line of these queues.
+    #[tactic(auto, unfolding(crate::specs::Position::may_play))]
     pub fn of(queues: QueueSet) -> Line
         ensures { result.queues ≡ queues }
     {
@@ -28,6 +29,7 @@ impl Line {
     }
 
     /// Whether a kind may come next.
+    #[tactic(auto, using(crate::proofs::PermitLaws::entry_of))]
     pub fn may_come(&self, piece: Piece) -> bool
         ensures { result ≡ may_play (queues_in_play self.now.queues) piece }
     {

@@ -253,6 +253,7 @@ impl Search {
     }
 
     /// How many boards without a tiling this search keeps.
+    #[tactic(auto, unfolding(crate::specs::ViewOf::dead_questions))]
     pub fn dead_boards(&self) -> usize
         ensures { result ≡ length (dead_questions self.now) }
     {

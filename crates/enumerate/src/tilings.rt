@@ -210,6 +210,7 @@ impl Tilings {
     /// for each rotation, four rows in each word, and sixteen bits for each row. Among them is each of the places that
     /// leaves none.
     #[inline(always)]
+    #[tactic(auto, using(srs::proofs::CallerLemmas::and_first))]
     pub fn dead_pivots(
         &mut self,
         cells: &Empties,

@@ -93,6 +93,7 @@ impl Frame {
     }
 
     /// Makes `child` the frame after a placement that leaves a tiling.
+    #[tactic(auto, using(crate::proofs::TurnLemmas::enters_child, crate::proofs::TurnLemmas::is_child))]
     fn lead_to(&self, placement: &Placement, memory: &mut QueueMemory, child: &mut Frame)
         requires lockable { IsTrue (may_lock (filled self.now.setup.well) placement.now.piece placement.now) }
         requires below { IsTrue (is_below self.now.setup.rows placement.now) }

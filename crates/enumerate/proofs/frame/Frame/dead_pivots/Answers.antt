@@ -7,7 +7,7 @@ use Rattle.well.specs.Well.{filled}
 use Rattle.well.proofs.CallerLemmas.{free_pivot_inside}
 use Rattle.place_sets.specs.LowPlaces.{holds, piece_of}
 use Rattle.enumerate.proofs.DeadPlaces.{dead_found, live_found}
-use Rattle.enumerate.proofs.PlaceLaws.{lockable-free, lockable-listed, lockable-piece}
+use Rattle.enumerate.proofs.PlaceLaws.{lockable_free, lockable-listed, lockable-piece}
 use Rattle.enumerate.proofs.frame.Frame.dead_pivots.Goals as goal
 
 pub dead_pivots-requires-clause-listed : goal.dead_pivots-requires-clause-listed
@@ -17,7 +17,7 @@ dead_pivots-requires-clause-listed c = λ q is.
 pub dead_pivots-requires-clause-inside : goal.dead_pivots-requires-clause-inside
 unfolding holds cells_of_words
 dead_pivots-requires-clause-inside c =
-    search (rules, free_pivot_inside, lockable-free, and_parts, lockable-piece, ltb-true)
+    search (rules, free_pivot_inside, lockable_free, and_parts, lockable-piece, ltb-true)
 
 pub returns-in-Some-clause-dead : goal.returns-in-Some-clause-dead
 returns-in-Some-clause-dead c =

@@ -5,13 +5,13 @@ use Rattle.well.proofs.CallerLemmas.{locked-by, removed-by}
 use Rattle.hold_queue.specs.QueueSet.{queues_in_play}
 use Rattle.hold_queue.specs.Supply.{supply_of}
 use Rattle.empty_cells.specs.SupplyWords
-use Rattle.enumerate.proofs.PlaceLaws.{lockable-free}
+use Rattle.enumerate.proofs.PlaceLaws.{lockable_free}
 use Rattle.enumerate.proofs.TilingLaws.{locked-below, supply-moves}
 use Rattle.enumerate.proofs.TurnLemmas.{child-position}
 use Rattle.enumerate.proofs.setup.Setup.lead_to.Goals as goal
 
 pub fill-requires : goal.fill-requires
-fill-requires c = lockable-free (filled c.args.self.now.well) c.args.placement.now.piece c.args.placement.now c.requires.lockable
+fill-requires c = lockable_free (filled c.args.self.now.well) c.args.placement.now.piece c.args.placement.now c.requires.lockable
 
 pub empties_after-child-requires-clause-field : goal.empties_after-child-requires-clause-field
 empties_after-child-requires-clause-field c = locked-by (filled c.args.self.now.well) _ c.args.placement.now c.fill.ensures _ c.remove_full_rows-removed.ensures.field
@@ -20,7 +20,7 @@ pub empties_after-child-requires-clause-removed : goal.empties_after-child-requi
 empties_after-child-requires-clause-removed c = removed-by (filled c.args.self.now.well) _ c.args.placement.now c.fill.ensures _ c.remove_full_rows-removed.ensures.removed
 
 pub invariant_of-child-clause-bounded : goal.invariant_of-child-clause-bounded
-invariant_of-child-clause-bounded c = search (rules, locked-below, lockable-free, locked-by, removed-by)
+invariant_of-child-clause-bounded c = search (rules, locked-below, lockable_free, locked-by, removed-by)
 
 pub invariant_of-child-clause-supplied : goal.invariant_of-child-clause-supplied
 invariant_of-child-clause-supplied c =
