@@ -20,7 +20,7 @@ use Rattle.place_sets.specs.declared.low_held.LowPlaces.{LowPlaces}
 use Rattle.place_sets.specs.LowPlaces.{holds, piece_of}
 use Rattle.hold_queue.specs.QueueSet.{queues_in_play}
 use Rattle.enumerate.specs.Frames.{places_left}
-use Rattle.enumerate.specs.Setups.{LeadsOn}
+use Rattle.enumerate.specs.Setups.{IsSupplyAfter, LeadsOn}
 use Rattle.enumerate.specs.declared.frame.Frame.{Frame}
 use Rattle.enumerate.specs.Position.{may_play}
 use Rattle.enumerate.specs.Standing.{may_lock}
@@ -112,5 +112,5 @@ pub upcoming-taken : (frame : Frame) (places new : LowPlaces) → frame.places �
     → MatchOption r ((places_left frame.places frame.entered ≡ []) × (places_left (Some new) frame.entered ≡ []))
     (λ q. (places_left frame.places frame.entered ≡ q ∷ places_left (Some new) (Some q)) × ForSome (Some new) (λ p. q.piece ≡ piece_of p)
     × IsTrue (may_lock (filled frame.setup.well) q.piece q) × IsTrue (is_below frame.setup.rows q) × IsTrue (may_play (queues_in_play frame.setup.line.queues) q.piece)
-    × (IsTrue frame.are_live → LeadsOn frame.setup q))
+    × IsSupplyAfter frame.setup q.piece frame.next_supply × (IsTrue frame.are_live → LeadsOn frame.setup q))
 upcoming-taken frame places new is kind h5 next = search (rules, lockable-piece, some_same)

@@ -1,7 +1,6 @@
 // What placements leave at a position, and the position after one.
-ghost use Rattle.std.specs.Prelude.{◌≡◌, ◌↔◌, ◌+◌, ◌-◌, ◌<◌, ◌≤◌, IsTrue, true, false, [], min};
+ghost use Rattle.std.specs.Prelude.{◌≡◌, ◌↔◌, ◌+◌, ◌-◌, ◌<◌, ◌≤◌, IsTrue, true, false, []};
 ghost use Rattle.lane_board.specs.Field.{difference, rows_below};
-ghost use Rattle.srs.specs.declared.piece.Piece.{Piece};
 ghost use Rattle.srs.specs.declared.placement.Placement.{Placement};
 ghost use Rattle.srs.specs.Kick.{Table};
 ghost use Rattle.well.specs.Well.{filled};
@@ -12,17 +11,16 @@ ghost use Rattle.moves.specs.Place.{IsPlace};
 ghost use Rattle.place_sets.specs.LowPlaces.{holds, piece_of};
 ghost use Rattle.reach.specs.FloodRules.{flood_table};
 ghost use Rattle.hold_queue.specs.QueueSet.{queues_in_play};
-ghost use Rattle.prune.specs.OnePart.{less_one};
 ghost use Rattle.empty_cells.specs.Empties.{empty_cells};
 ghost use Rattle.empty_cells.specs.HasTiling.{has_tiling};
 ghost use Rattle.empty_cells.specs.SupplyWords.{supply_of};
 ghost use Rattle.enumerate.specs.Position.{after_of, is_live, may_play};
-ghost use Rattle.enumerate.specs.Setups.{LeadsOn, position_of};
+ghost use Rattle.enumerate.specs.Setups.{IsSupplyAfter, LeadsOn, position_of};
 ghost use Rattle.enumerate.specs.Standing.{may_lock};
 ghost use Rattle.enumerate.specs.Turns.{Enters, EntersAs};
 ghost use Rattle.enumerate.specs.declared.frame.Frame.{Frame};
 
-use crate::setup::Setup;
+use crate::setup::{NextSupply, Setup};
 use crate::tilings::{Found, Tilings};
 use crate::turn::Turn;
 use empty_cells::{Empties, SupplyWord};
@@ -45,17 +43,20 @@ impl Setup {
         tilings.has_tiling(&self.well, self.rows, &self.supply.entries())
     }
 
-    /// How many pieces of each kind may still be played after a piece of this kind: one fewer of it, and of each kind at
-    /// most as many as placements come then.
+    /// What may still be played after a piece of this kind.
     #[inline(always)]
-    pub fn supply_after(&self, piece: Piece) -> SupplyWord
-        ensures { (other : Piece)
-            → supply_of result other ≡ min self.now.left (less_one (supply_of self.now.supply) piece other) }
+    pub fn supply_after(&self, piece: Piece) -> NextSupply
+        ensures { IsSupplyAfter self.now piece result }
     {
-        if self.left < self.supply.count_of(piece) {
-            return self.limited;
+        let supply = if self.left < self.supply.count_of(piece) {
+            self.limited
+        } else {
+            self.limited.without_one(piece)
+        };
+        NextSupply {
+            supply,
+            limited: supply.at_most(self.left.saturating_sub(1)),
         }
-        self.limited.without_one(piece)
     }
 
     /// The places of a kind whose cells all lie below the rows that are left. Counts one flood.
@@ -86,11 +87,11 @@ impl Setup {
 
     /// Looks for answers about what the placements of a piece leave, where all its places are asked about at once.
     #[inline(always)]
-    pub fn find(&self, piece: Piece, tilings: &Tilings) -> Found {
+    pub fn find(&self, piece: Piece, next_supply: &NextSupply, tilings: &Tilings) -> Found {
         if !self.asks_at_once() {
             return Found::nothing();
         }
-        tilings.find(&self.empties, self.supply_after(piece), piece)
+        tilings.find(&self.empties, next_supply.supply, piece)
     }
 
     /// Whether what a placement leaves has a tiling by this many pieces of each kind.
@@ -142,23 +143,35 @@ impl Setup {
 
     /// Whether there is something to do at a placement: none is to come after it, or what it leaves has a tiling by the
     /// pieces that may still be played.
-    pub fn is_worth(&self, placement: &Placement, tilings: &mut Tilings) -> bool
+    pub fn is_worth(
+        &self,
+        placement: &Placement,
+        next_supply: &NextSupply,
+        tilings: &mut Tilings,
+    ) -> bool
         requires lockable { IsTrue (may_lock (filled self.now.well) placement.now.piece placement.now) }
         requires below { IsTrue (is_below self.now.rows placement.now) }
+        requires supplied { IsSupplyAfter self.now placement.now.piece next_supply.now }
         ensures dead { result ≡ false → EntersAs self.now placement.now (λ table mode prefix. []) }
         ensures live { result ≡ true → LeadsOn self.now placement.now }
     {
         if self.left == 0 {
             return true;
         }
-        let supply = self.supply_after(placement.piece);
-        self.leaves_tiling(placement, supply, tilings)
+        self.leaves_tiling(placement, next_supply.supply, tilings)
     }
 
     /// Makes `child` the position after a placement.
-    pub fn lead_to(&self, placement: &Placement, memory: &mut QueueMemory, child: &mut Setup)
+    pub fn lead_to(
+        &self,
+        placement: &Placement,
+        next_supply: &NextSupply,
+        memory: &mut QueueMemory,
+        child: &mut Setup,
+    )
         requires lockable { IsTrue (may_lock (filled self.now.well) placement.now.piece placement.now) }
         requires below { IsTrue (is_below self.now.rows placement.now) }
+        requires supplied { IsSupplyAfter self.now placement.now.piece next_supply.now }
         requires permitted { IsTrue (may_play (queues_in_play self.now.line.queues) placement.now.piece) }
         requires some { 1 ≤ self.now.left }
         ensures left { child.new.left + 1 ≡ self.now.left }
@@ -171,11 +184,10 @@ impl Setup {
         // (reading eight rows at once waits for single rows that were just written, so other work comes in between)
         let removed = child.well.remove_full_rows();
         let rows = self.rows.saturating_sub(removed);
-        let supply = self.supply_after(placement.piece);
         child.rows = rows;
         child.empties = self.empties_after(placement, &child.well, rows, removed);
-        child.supply = supply;
-        child.limited = supply.at_most(self.left - 1);
+        child.supply = next_supply.supply;
+        child.limited = next_supply.limited;
         child.left = self.left - 1;
     }
 }

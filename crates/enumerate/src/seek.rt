@@ -71,13 +71,24 @@ impl Frame {
         if !self.setup.line.queues.may_play(target.piece) {
             return false;
         }
-        self.flood(target.piece, rules, drop_mode, &mut notes.floods, steps);
+        let next_supply = self.setup.supply_after(target.piece);
+        self.flood(
+            target.piece,
+            next_supply,
+            rules,
+            drop_mode,
+            &mut notes.floods,
+            steps,
+        );
         let reached = self.reaches(target);
         self.entered = Some(*target);
         if !reached {
             return false;
         }
-        if !self.setup.is_worth(target, &mut notes.tilings) {
+        if !self
+            .setup
+            .is_worth(target, &next_supply, &mut notes.tilings)
+        {
             return false;
         }
         match self.enter(target, &mut notes.queues, behind) {

@@ -1,4 +1,4 @@
-// A position of the search, with what is known of it.
+// A position of the search, with what is known of it, and what may still be played after a piece.
 ghost use Rattle.std.specs.Prelude.{◌≡◌, ◌+◌, ◌≤◌, min};
 ghost use Rattle.lane_board.specs.Field.{difference, rows_below};
 ghost use Rattle.srs.specs.declared.piece.Piece.{Piece};
@@ -12,6 +12,14 @@ ghost use Rattle.empty_cells.specs.SupplyWords;
 use crate::line::Line;
 use empty_cells::{Empties, SupplyWord};
 use well::Well;
+
+/// How many pieces of each kind may still be played after a piece of some kind.
+#[derive(Clone, Copy)]
+pub struct NextSupply {
+    pub supply: SupplyWord,
+    /// The supply with at most as many pieces of each kind as placements come after the next one.
+    pub limited: SupplyWord,
+}
 
 /// A position: the well with the rows that are left, and what may still be played there.
 #[derive(Clone, Copy)]

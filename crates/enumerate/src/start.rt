@@ -32,7 +32,7 @@ use crate::line::Line;
 use crate::notes::Notes;
 use crate::search::Search;
 use crate::seek::seek;
-use crate::setup::Setup;
+use crate::setup::{NextSupply, Setup};
 use crate::tilings::Tilings;
 use empty_cells::{Empties, SupplyWord};
 use hold_queue::QueueSet;
@@ -79,6 +79,7 @@ fn first_frame(problem: &Problem, queue: &Option<Queue>) -> Frame
     let left = needed(problem).saturating_sub(1);
     let line = Line::of(queues);
     let supply = SupplyWord::new(&queues.supply(left + 1));
+    let limited = supply.at_most(left);
     let setup = Setup {
         well: problem.well,
         rows: problem.height,
@@ -86,12 +87,13 @@ fn first_frame(problem: &Problem, queue: &Option<Queue>) -> Frame
         line,
         supply,
         left,
-        limited: supply.at_most(left),
+        limited,
     };
     Frame {
         setup,
         tried: 0,
         places: None,
+        next_supply: NextSupply { supply, limited },
         are_live: false,
         entered: None,
     }

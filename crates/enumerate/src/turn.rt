@@ -15,13 +15,14 @@ ghost use Rattle.enumerate.specs.Position.{may_play, places_at};
 ghost use Rattle.enumerate.specs.Standing.{may_lock};
 ghost use Rattle.enumerate.specs.Counted.{CountsUp};
 ghost use Rattle.enumerate.specs.Frames.{events_of, places_left};
-ghost use Rattle.enumerate.specs.Setups.{LeadsOn, position_of};
+ghost use Rattle.enumerate.specs.Setups.{IsSupplyAfter, LeadsOn, position_of};
 ghost use Rattle.enumerate.specs.Turns.{AreDead, AreLiveBut, Enters, EntersAs, GoesOn, Turns};
 ghost use Rattle.enumerate.specs.declared.frame.Frame.{Frame};
 
 use crate::frame::Frame;
 use crate::left::take_above;
 use crate::notes::Notes;
+use crate::setup::NextSupply;
 use crate::tilings::{Found, Tilings};
 use hold_queue::QueueMemory;
 use moves::DropMode;
@@ -67,6 +68,7 @@ impl Frame {
             × IsTrue (may_lock (filled self.old.setup.well) q.piece q)
             × IsTrue (is_below self.old.setup.rows q)
             × IsTrue (may_play (queues_in_play self.old.setup.line.queues) q.piece)
+            × IsSupplyAfter self.old.setup q.piece self.new.next_supply
             × (IsTrue self.old.are_live → LeadsOn self.old.setup q)) }
         ensures same { self.new.setup ≡ self.old.setup }
         ensures tried { self.new.tried ≡ self.old.tried }
@@ -85,11 +87,12 @@ impl Frame {
     fn leads_on(&self, placement: &Placement, tilings: &mut Tilings) -> bool
         requires lockable { IsTrue (may_lock (filled self.now.setup.well) placement.now.piece placement.now) }
         requires below { IsTrue (is_below self.now.setup.rows placement.now) }
+        requires supplied { IsSupplyAfter self.now.setup placement.now.piece self.now.next_supply }
         requires known { IsTrue self.now.are_live → LeadsOn self.now.setup placement.now }
         ensures dead { result ≡ false → EntersAs self.now.setup placement.now (λ table mode prefix. []) }
         ensures live { result ≡ true → LeadsOn self.now.setup placement.now }
     {
-        self.are_live || self.setup.is_worth(placement, tilings)
+        self.are_live || self.setup.is_worth(placement, &self.next_supply, tilings)
     }
 
     /// Makes `child` the frame after a placement that leaves a tiling.
@@ -98,11 +101,13 @@ impl Frame {
         requires lockable { IsTrue (may_lock (filled self.now.setup.well) placement.now.piece placement.now) }
         requires below { IsTrue (is_below self.now.setup.rows placement.now) }
         requires permitted { IsTrue (may_play (queues_in_play self.now.setup.line.queues) placement.now.piece) }
+        requires supplied { IsSupplyAfter self.now.setup placement.now.piece self.now.next_supply }
         requires some { 1 ≤ self.now.setup.left }
         requires live { LeadsOn self.now.setup placement.now }
         ensures { Enters self.now.setup placement.now child.new Turn.Entered }
     {
-        self.setup.lead_to(placement, memory, &mut child.setup);
+        self.setup
+            .lead_to(placement, &self.next_supply, memory, &mut child.setup);
         child.tried = 0;
         child.places = None;
         child.are_live = false;
@@ -119,6 +124,7 @@ impl Frame {
         requires lockable { IsTrue (may_lock (filled self.now.setup.well) placement.now.piece placement.now) }
         requires below { IsTrue (is_below self.now.setup.rows placement.now) }
         requires permitted { IsTrue (may_play (queues_in_play self.now.setup.line.queues) placement.now.piece) }
+        requires supplied { IsSupplyAfter self.now.setup placement.now.piece self.now.next_supply }
         requires live { LeadsOn self.now.setup placement.now }
         requires room { self.now.setup.left ≤ length behind.old }
         ensures enters { Enters self.now.setup placement.now (slice_index_or behind.new 0 self.now) result }
@@ -138,6 +144,7 @@ impl Frame {
             × IsTrue (may_lock (filled self.new.setup.well) q.piece q)
             × IsTrue (is_below self.new.setup.rows q)
             × IsTrue (may_play (queues_in_play self.new.setup.line.queues) q.piece)
+            × IsSupplyAfter self.new.setup q.piece self.new.next_supply
             × LeadsOn self.new.setup q) }
         ensures goes { GoesOn self.old self.new result }
         ensures same { self.new.setup ≡ self.old.setup }
@@ -157,24 +164,28 @@ impl Frame {
     pub fn flood<L: Ledger>(
         &mut self,
         piece: Piece,
+        next_supply: NextSupply,
         rules: &FloodRules,
         drop_mode: DropMode,
         floods: &mut u64,
         steps: &mut Steps<L>,
     )
-        requires { IsTrue (may_play (queues_in_play self.old.setup.line.queues) piece) }
+        requires permitted { IsTrue (may_play (queues_in_play self.old.setup.line.queues) piece) }
+        requires supplied { IsSupplyAfter self.old.setup piece next_supply }
         ensures places { places_left self.new.places self.new.entered ≡ filter (is_below self.old.setup.rows)
             (places_at (position_of (flood_table rules.now) drop_mode self.old.setup) piece) }
         ensures piece { ForSome self.new.places (λ p. piece_of p ≡ piece) }
         ensures same { self.new.setup ≡ self.old.setup }
         ensures tried { self.new.tried ≡ self.old.tried }
         ensures entered { self.new.entered ≡ None }
+        ensures supply { self.new.next_supply ≡ next_supply }
         ensures counted { steps.new ≡ steps.old + 1 }
         ensures noted { CountsUp floods.old floods.new steps.old steps.new }
     {
         *floods = floods.saturating_add(1);
         self.entered = None;
         self.are_live = false;
+        self.next_supply = next_supply;
         self.places = Some(self.setup.places_of(piece, rules, drop_mode, steps));
     }
 
@@ -190,12 +201,11 @@ impl Frame {
         if !self.setup.asks_at_once() {
             return None;
         }
-        let supply = self.setup.supply_after(piece);
         match &self.places {
             None => None,
             Some(places) => Some(tilings.dead_pivots(
                 &self.setup.empties,
-                supply,
+                self.next_supply.supply,
                 piece,
                 found,
                 places,
@@ -272,8 +282,16 @@ impl Frame {
             Some(piece) => piece,
         };
         self.tried += 1;
-        let found = self.setup.find(piece, &notes.tilings);
-        self.flood(piece, rules, drop_mode, &mut notes.floods, steps);
+        let next_supply = self.setup.supply_after(piece);
+        let found = self.setup.find(piece, &next_supply, &notes.tilings);
+        self.flood(
+            piece,
+            next_supply,
+            rules,
+            drop_mode,
+            &mut notes.floods,
+            steps,
+        );
         self.leave_out_dead(piece, &found, &mut notes.tilings);
         Turn::Flooded
     }

@@ -1,11 +1,12 @@
 -- What leaves no tiling has nothing to do, and what leaves one leads on.
-use Rattle.std.proofs.Common.{arith, rules}
+use Rattle.std.proofs.Common.{subst, arith, rules}
 use Rattle.std.proofs.lemmas.Bool.{and_parts, ltb-true}
 use Rattle.srs.proofs.CallerLemmas.{some_same, placements_of-list}
 use Rattle.lane_board.specs.Words.{cells_of_words}
 use Rattle.well.specs.Well.{filled}
 use Rattle.well.proofs.CallerLemmas.{free_pivot_inside}
 use Rattle.place_sets.specs.LowPlaces.{holds, piece_of}
+use Rattle.enumerate.specs.Setups.{IsSupplyAfter}
 use Rattle.enumerate.proofs.DeadPlaces.{dead_found, live_found}
 use Rattle.enumerate.proofs.PlaceLaws.{lockable_free, lockable-listed, lockable-piece}
 use Rattle.enumerate.proofs.frame.Frame.dead_pivots.Goals as goal
@@ -21,7 +22,7 @@ dead_pivots-requires-clause-inside c =
 
 pub returns-in-Some-clause-dead : goal.returns-in-Some-clause-dead
 returns-in-Some-clause-dead c =
-    dead_found c.args.self.now.setup c.args.piece (omega arith) c.supply_after-supply.result c.supply_after-supply.ensures c.dead_pivots.result c.dead_pivots.ensures.dead
+    dead_found c.args.self.now.setup c.args.piece (omega arith) c.args.self.now.next_supply.supply (subst (λ piece. IsSupplyAfter c.args.self.now.setup piece c.args.self.now.next_supply) (c.requires c.in-Some.places c.in-Some.is) (c.args.self.now.supplied c.in-Some.places c.in-Some.is)).supplied c.dead_pivots.result c.dead_pivots.ensures.dead
 
 pub returns-in-Some-clause-live : goal.returns-in-Some-clause-live
 returns-in-Some-clause-live c = search (rules, some_same, live_found, lockable-piece)

@@ -25,6 +25,7 @@ invariant_of-self c =
       lockable = search (rules, some_same);
       held_below = λ x is. subst (λ p. HeldBelow frame.setup.rows p) (some_same is) (λ q held. frame.held_below places c.in-Some.is q (was q held));
       permitted = search (rules, some_same);
+      supplied = search (rules, some_same);
       live = search (rules, some_same, not-true);
       same_piece = λ x is q is_q. frame.same_piece places c.in-Some.is q is_q ∙ sym c.leave_out.ensures.piece ∙ ap piece_of (some_same is);
     }

@@ -24,8 +24,8 @@ returns-then-not-may_play-clause-skips g c = λ prefix given.
     (passes-kind (flood_table c.args.rules.now) c.args.drop_mode c.args.self.now _ refl c.args.target.now c.requires.fresh.live c.code-self.ensures
     (may_play-answer (queues_in_play c.args.self.now.setup.line.queues) c.args.target.now.piece c.may_play.result c.may_play.ensures.permitted ∙ c.if-not-may_play.true) refl prefix given)
 
-pub flood-requires : goal.flood-requires
-flood-requires g c = may_play-answer (queues_in_play c.args.self.now.setup.line.queues) c.args.target.now.piece c.may_play.result c.may_play.ensures.permitted ∙ c.if-not-may_play.false
+pub flood-requires-clause-permitted : goal.flood-requires-clause-permitted
+flood-requires-clause-permitted g c = may_play-answer (queues_in_play c.args.self.now.setup.line.queues) c.args.target.now.piece c.may_play.result c.may_play.ensures.permitted ∙ c.if-not-may_play.false
 
 pub invariant_of-self-2 : goal.invariant_of-self-2
 invariant_of-self-2 g c = grind (arith, some_same)

@@ -13,8 +13,8 @@ returns-in-None-clause-turn g c = λ child.
     let over = goes-over (flood_table c.args.rules.now) c.args.drop_mode c.next_kind.new.self c.in-None.ensures.none c.in-None.ensures.next in
     (record { same = λ prefix. c.in-None.ensures.goes (flood_table c.args.rules.now) c.args.drop_mode prefix ∙ over.same prefix }, refl)
 
-pub flood-requires : goal.flood-requires
-flood-requires g c = c.in-Some.ensures.next.1
+pub flood-requires-clause-permitted : goal.flood-requires-clause-permitted
+flood-requires-clause-permitted g c = c.in-Some.ensures.next.1
 
 pub leave_out_dead-requires : goal.leave_out_dead-requires
 leave_out_dead-requires g c = c.flood.ensures.piece

@@ -12,7 +12,7 @@ pub returns-clause-dead : goal.returns-clause-dead
 returns-clause-dead c = λ is.
     let less : c.args.self.now.left - 1 + 1 ≡ c.args.self.now.left = omega arith in
     enters-dead c.args.self.now c.args.placement.now c.requires.below (c.args.self.now.left - 1) less
-    (λ table mode. live-after table mode c.args.self.now c.args.placement.now (supply_of c.supply_after-supply.result) c.supply_after-supply.ensures (c.args.self.now.left - 1) less ∙ sym c.leaves_tiling.ensures ∙ is)
+    (λ table mode. live-after table mode c.args.self.now c.args.placement.now (supply_of c.args.next_supply.now.supply) c.requires.supplied.supplied (c.args.self.now.left - 1) less ∙ sym c.leaves_tiling.ensures ∙ is)
 
 pub returns-clause-live : goal.returns-clause-live
 returns-clause-live c = search (rules, live-after)

@@ -26,7 +26,7 @@ pub invariant_of-child-clause-supplied : goal.invariant_of-child-clause-supplied
 invariant_of-child-clause-supplied c =
     let setup = c.args.self.now in
     let left : setup.left ≡ setup.left - 1 + 1 = omega (arith, c.requires.some) in
-    supply-moves (queues_in_play setup.line.queues) c.args.placement.now.piece setup.left (SupplyWords.supply_of setup.supply) (SupplyWords.supply_of c.supply_after-supply.result) setup.supplied c.supply_after-supply.ensures
+    supply-moves (queues_in_play setup.line.queues) c.args.placement.now.piece setup.left (SupplyWords.supply_of setup.supply) (SupplyWords.supply_of c.args.next_supply.now.supply) setup.supplied c.requires.supplied.supplied
     ∙ (λ i. supply_of (sym c.follow.ensures i) (left i))
 
 pub returns-clause-position : goal.returns-clause-position
