@@ -1,6 +1,7 @@
 // What placements leave at a position, and the position after one.
-ghost use Rattle.std.specs.Prelude.{◌≡◌, ◌↔◌, ◌+◌, ◌-◌, ◌<◌, ◌≤◌, IsTrue, true, false, []};
+ghost use Rattle.std.specs.Prelude.{◌≡◌, ◌↔◌, ◌+◌, ◌-◌, ◌<◌, ◌≤◌, IsTrue, true, false, [], min};
 ghost use Rattle.lane_board.specs.Field.{difference, rows_below};
+ghost use Rattle.srs.specs.declared.piece.Piece.{Piece};
 ghost use Rattle.srs.specs.declared.placement.Placement.{Placement};
 ghost use Rattle.srs.specs.Kick.{Table};
 ghost use Rattle.well.specs.Well.{filled};
@@ -11,6 +12,7 @@ ghost use Rattle.moves.specs.Place.{IsPlace};
 ghost use Rattle.place_sets.specs.LowPlaces.{holds, piece_of};
 ghost use Rattle.reach.specs.FloodRules.{flood_table};
 ghost use Rattle.hold_queue.specs.QueueSet.{queues_in_play};
+ghost use Rattle.prune.specs.OnePart.{less_one};
 ghost use Rattle.empty_cells.specs.Empties.{empty_cells};
 ghost use Rattle.empty_cells.specs.HasTiling.{has_tiling};
 ghost use Rattle.empty_cells.specs.SupplyWords.{supply_of};
@@ -43,16 +45,30 @@ impl Setup {
         tilings.has_tiling(&self.well, self.rows, &self.supply.entries())
     }
 
+    /// The supply without a piece of this kind, with at most as many pieces of each kind as placements come then.
+    #[inline(always)]
+    fn without_one(&self, piece: Piece) -> SupplyWord
+        ensures { (other : Piece)
+            → supply_of result other ≡ min self.now.left (less_one (supply_of self.now.supply) piece other) }
+    {
+        if self.left < self.supply.count_of(piece) {
+            return self.limited;
+        }
+        self.limited.without_one(piece)
+    }
+
     /// What may still be played after a piece of this kind.
     #[inline(always)]
     pub fn supply_after(&self, piece: Piece) -> NextSupply
         ensures { IsSupplyAfter self.now piece result }
     {
-        let supply = if self.left < self.supply.count_of(piece) {
-            self.limited
-        } else {
-            self.limited.without_one(piece)
-        };
+        let supply = self.without_one(piece);
+        if self.most < self.left {
+            return NextSupply {
+                supply,
+                limited: supply,
+            };
+        }
         NextSupply {
             supply,
             limited: supply.at_most(self.left.saturating_sub(1)),
@@ -188,6 +204,7 @@ impl Setup {
         child.empties = self.empties_after(placement, &child.well, rows, removed);
         child.supply = next_supply.supply;
         child.limited = next_supply.limited;
+        child.most = self.most;
         child.left = self.left - 1;
     }
 }

@@ -36,6 +36,8 @@ pub struct Setup {
     pub left: u8,
     /// The supply with at most `left` pieces of each kind.
     pub limited: SupplyWord,
+    /// At least as many as the supply has of any kind.
+    pub most: u8,
     ghost low: { rows ≤ 8 },
     ghost few: { left ≤ 19 },
     ghost bounded: { LiesBelow (filled well) rows },
@@ -43,4 +45,5 @@ pub struct Setup {
     ghost supplied: { SupplyWords.supply_of supply ≡ supply_of (queues_in_play line.queues) (left + 1) },
     ghost limits: { (piece : Piece) → SupplyWords.supply_of limited piece
         ≡ min left (SupplyWords.supply_of supply piece) },
+    ghost few_of_each: { (piece : Piece) → SupplyWords.supply_of supply piece ≤ most },
 }

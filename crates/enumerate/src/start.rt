@@ -1,12 +1,14 @@
 // Starting a search, and going from solution to solution.
 ghost use Rattle.std.specs.Prelude.{◌≡◌, ◌+◌, ◌-◌, ◌≤◌, ◌&&◌, nat_lt, length, IfOk, IsTrue, All, MatchOption, Some, None, [], ◌∷◌, Contains, take, ⊤};
 ghost use Rattle.std.specs.Option.{ForSome};
+ghost use Rattle.srs.specs.declared.piece.Piece.{Piece};
 ghost use Rattle.srs.specs.Rules.{table_of};
 ghost use Rattle.srs.specs.Order.{sequence_cmp};
 ghost use Rattle.srs.specs.Rising.{IsNextAbove};
 ghost use Rattle.problem.specs.Solution.{IsSolution};
 ghost use Rattle.srs.specs.Kick.{Table};
 ghost use Rattle.moves.specs.declared.key.DropMode.{DropMode};
+ghost use Rattle.empty_cells.specs.SupplyWords.{supply_of};
 ghost use Rattle.queue_pattern.specs.Queues.{queues};
 ghost use Rattle.queue_pattern.specs.Pattern.{elements_of};
 ghost use Rattle.reach.specs.FloodRules.{flood_table};
@@ -63,6 +65,14 @@ fn copied_if_any(sequence: &Option<Sequence>) -> Option<Sequence>
     }
 }
 
+/// The most pieces that a supply has of one kind.
+fn most_of(supply: SupplyWord) -> u8
+    ensures { (piece : Piece) → supply_of supply piece ≤ result }
+{
+    let [i, l, o, z, t, j, s] = supply.entries();
+    i.max(l).max(o).max(z).max(t).max(j).max(s)
+}
+
 /// The frame of the position at which a search begins.
 fn first_frame(problem: &Problem, queue: &Option<Queue>) -> Frame
     requires { IsFit problem.now }
@@ -88,6 +98,7 @@ fn first_frame(problem: &Problem, queue: &Option<Queue>) -> Frame
         supply,
         left,
         limited,
+        most: most_of(supply),
     };
     Frame {
         setup,
