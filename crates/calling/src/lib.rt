@@ -7,8 +7,6 @@ mod fumen;
 mod reached;
 mod second;
 mod solutions;
-#[cfg(test)]
-mod tests;
 
 pub use bot::{KeyedPlacement, first_move, first_move_of};
 pub use failed::first_failed;

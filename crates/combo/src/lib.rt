@@ -8,8 +8,7 @@ mod run;
 mod search;
 mod searched;
 mod store;
-#[cfg(test)]
-mod tests;
 
+pub use room::most_between_walls;
 pub use run::Run;
 pub use search::longest;

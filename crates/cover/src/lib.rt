@@ -8,8 +8,6 @@ mod look;
 mod node;
 mod play;
 mod set;
-#[cfg(test)]
-mod tests;
 mod tree;
 
 pub use play::plays;

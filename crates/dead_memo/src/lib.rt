@@ -3,7 +3,5 @@
 
 mod key;
 mod memo;
-#[cfg(test)]
-mod tests;
 
 pub use memo::DeadMemo;

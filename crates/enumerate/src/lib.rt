@@ -12,8 +12,6 @@ mod search;
 mod seek;
 mod setup;
 mod start;
-#[cfg(test)]
-mod tests;
 mod tilings;
 mod turn;
 

@@ -11,6 +11,3 @@ pub use comment::Comment;
 pub use escaping::escape;
 pub use part::{CommentFault, read_comment, write_comment};
 pub use unescaping::unescape;
-
-#[cfg(test)]
-mod tests;

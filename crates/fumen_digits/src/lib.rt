@@ -13,6 +13,3 @@ pub use digit::{digit_of, digit_value};
 pub use fault::FumenFault;
 pub use framing::{break_lines, digits_of};
 pub use number::{DigitFault, number_at, push_number, read_number};
-
-#[cfg(test)]
-mod tests;

@@ -22,6 +22,3 @@ pub use next::{mark, next_cells};
 pub use page::Page;
 pub use record::{CellsFault, CellsRead, read_cells, write_cells};
 pub use tail::read_page;
-
-#[cfg(test)]
-mod tests;

@@ -13,6 +13,3 @@ pub use fumen_digits::FumenFault;
 pub use fumen_pages::EncodeFault;
 pub use text::decode;
 pub use written::encode;
-
-#[cfg(test)]
-mod tests;

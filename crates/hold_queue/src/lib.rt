@@ -9,8 +9,6 @@ mod memory;
 mod set;
 mod states;
 mod supply;
-#[cfg(test)]
-mod tests;
 
 pub use hand::{Hand, Taken};
 pub use hold::Hold;

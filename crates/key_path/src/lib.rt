@@ -9,6 +9,3 @@ pub mod laws;
 mod marks;
 
 pub use finder::{Finder, KeyWord};
-
-#[cfg(test)]
-mod tests;

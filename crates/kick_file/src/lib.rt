@@ -6,8 +6,6 @@ pub mod laws;
 mod parser_state;
 mod printing;
 mod reading;
-#[cfg(test)]
-mod tests;
 mod turned;
 
 pub use fault::KickFault;

@@ -6,6 +6,3 @@ mod eights;
 pub mod laws;
 
 pub use board::LaneBoard;
-
-#[cfg(test)]
-mod tests;

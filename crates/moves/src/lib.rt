@@ -10,6 +10,3 @@ mod turn;
 pub use key::{DropMode, Key};
 pub use rest::fall;
 pub use turn::{spawn, step};
-
-#[cfg(test)]
-mod tests;

@@ -2,7 +2,5 @@
 #![tactic(auto)]
 
 mod sets;
-#[cfg(test)]
-mod tests;
 
 pub use sets::{as_set, holds, merged, without};

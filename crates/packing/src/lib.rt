@@ -14,6 +14,3 @@ pub use memory::{PlaceAnswers, PlaceMemory, place_hash};
 pub use search::has_tiling;
 pub use store::TilingStore;
 pub use wells::tiles;
-
-#[cfg(test)]
-mod tests;

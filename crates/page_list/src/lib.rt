@@ -11,6 +11,3 @@ mod reading;
 pub use fumen_pages::{ListFault, ListKind, first_shown, letters_of, row};
 pub use line::print_page;
 pub use list::{first_line, parse};
-
-#[cfg(test)]
-mod tests;

@@ -4,8 +4,6 @@
 mod answer;
 mod bits;
 mod call;
-#[cfg(test)]
-mod tests;
 
 pub use answer::{NoBits, QueueCounts};
 pub use bits::bytes_for;

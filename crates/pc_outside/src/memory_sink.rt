@@ -135,22 +135,3 @@ impl Sink for MemorySink {
         Ok(())
     }
 }
-
-#[cfg(test)]
-mod tests {
-    use super::*;
-    use std::test::Fail;
-
-    #[test]
-    fn a_failed_write_leaves_a_front(rt: HostRuntime) -> Result<(), Fail> {
-        let failing = [2].to_vec(rt.alloc())?;
-        let made = MemorySink::new(rt.alloc(), 4, failing);
-        let mut sink = made.ok().ok_or("no memory")?;
-        assert_eq!(rt; sink.write(b"ab"), Ok(()));
-        assert_eq!(rt; sink.write(b""), Ok(()));
-        assert_eq!(rt; sink.write(b"cde"), Err(Failed));
-        assert_eq!(rt; sink.write(b"fg"), Err(Failed));
-        assert_eq!(rt; sink.bytes(), b"abcf".as_slice());
-        Ok(())
-    }
-}

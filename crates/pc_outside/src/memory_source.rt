@@ -119,26 +119,3 @@ impl Source for MemorySource {
         Ok(n)
     }
 }
-
-#[cfg(test)]
-mod tests {
-    use super::*;
-    use std::test::Fail;
-
-    #[test]
-    fn listed_reads_fail_and_the_others_move_a_piece(rt: HostRuntime) -> Result<(), Fail> {
-        let bytes = b"abcde".to_vec(rt.alloc())?;
-        let failing = [2].to_vec(rt.alloc())?;
-        let mut source = MemorySource::new(bytes, failing).with_piece(2);
-        let mut buf = [b'.'; 4];
-        assert_eq!(rt; source.read(&mut buf), Ok(2));
-        assert_eq!(rt; source.read(&mut []), Ok(0));
-        assert_eq!(rt; source.read(&mut buf), Err(Failed));
-        assert_eq!(rt; buf.as_slice(), b"ab..".as_slice());
-        for moved in [2, 1, 0] {
-            assert_eq!(rt; source.read(&mut buf), Ok(moved));
-        }
-        assert_eq!(rt; buf.as_slice(), b"ed..".as_slice());
-        Ok(())
-    }
-}

@@ -16,19 +16,3 @@ pub fn write_pieces<O: Sink>(out: &mut O, pieces: &[&[u8]]) -> Result<(), Failed
     }
     Ok(())
 }
-
-#[cfg(test)]
-mod tests {
-    use super::*;
-    use crate::MemorySink;
-    use std::test::Fail;
-
-    #[test]
-    fn pieces_follow_each_other(rt: HostRuntime) -> Result<(), Fail> {
-        let made = MemorySink::new(rt.alloc(), 3, Vec::new(rt.alloc()));
-        let mut sink = made.ok().ok_or("no memory")?;
-        assert_eq!(rt; write_pieces(&mut sink, &[b"ab", b"", b"c"]), Ok(()));
-        assert_eq!(rt; sink.bytes(), b"abc".as_slice());
-        Ok(())
-    }
-}

@@ -66,19 +66,3 @@ pub fn read_all<S: Source>(
     }
     Err(ReadError::TooLong)
 }
-
-#[cfg(test)]
-mod tests {
-    use super::*;
-    use crate::MemorySource;
-    use std::test::Fail;
-
-    #[test]
-    fn as_many_bytes_as_the_limit(rt: HostRuntime) -> Result<(), Fail> {
-        let bytes = b"abcde".to_vec(rt.alloc())?;
-        let mut source = MemorySource::new(bytes, Vec::new(rt.alloc())).with_piece(2);
-        let read = read_all(rt.alloc(), &mut source, 5).ok().ok_or("not read")?;
-        assert_eq!(rt; read.as_slice(), b"abcde".as_slice());
-        Ok(())
-    }
-}

@@ -92,20 +92,3 @@ impl Sink for SliceSink<'_> {
         Ok(())
     }
 }
-
-#[cfg(test)]
-mod tests {
-    use super::*;
-
-    #[test]
-    fn a_write_that_does_not_fit_fills_the_slice(rt: HostRuntime) {
-        let mut slice = [b'.'; 5];
-        let mut sink = SliceSink::new(&mut slice);
-        assert_eq!(rt; sink.write(b"ab"), Ok(()));
-        assert_eq!(rt; sink.count(), 2);
-        assert_eq!(rt; sink.write(b"cd"), Ok(()));
-        assert_eq!(rt; sink.write(b"efg"), Err(Failed));
-        assert_eq!(rt; sink.count(), 5);
-        assert_eq!(rt; slice.as_slice(), b"abcde".as_slice());
-    }
-}

@@ -54,19 +54,3 @@ impl Source for SliceSource<'_> {
         Ok(n)
     }
 }
-
-#[cfg(test)]
-mod tests {
-    use super::*;
-
-    #[test]
-    fn reads_move_what_fits(rt: HostRuntime) {
-        let mut source = SliceSource::new(b"abcde");
-        let mut buf = [b'.'; 3];
-        assert_eq!(rt; source.read(&mut []), Ok(0));
-        for moved in [3, 2, 0] {
-            assert_eq!(rt; source.read(&mut buf), Ok(moved));
-        }
-        assert_eq!(rt; buf.as_slice(), b"dec".as_slice());
-    }
-}

@@ -16,8 +16,6 @@ mod order;
 mod position;
 mod spread;
 mod start;
-#[cfg(test)]
-mod tests;
 
 pub use answers::Answers;
 pub use queue_lines::rate;

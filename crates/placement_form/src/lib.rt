@@ -3,8 +3,6 @@
 
 pub mod laws;
 mod reading;
-#[cfg(test)]
-mod tests;
 mod writing;
 
 pub use reading::{capital_piece, digit_in, read_placement, two_digit_row};

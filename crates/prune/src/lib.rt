@@ -4,8 +4,6 @@
 
 mod cheap;
 pub mod laws;
-#[cfg(test)]
-mod tests;
 mod walls;
 
 pub use cheap::cheap_no;

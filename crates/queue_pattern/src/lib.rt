@@ -7,8 +7,6 @@ mod fault;
 pub mod laws;
 mod pattern;
 mod sets;
-#[cfg(test)]
-mod tests;
 mod text;
 
 pub use element::Element;

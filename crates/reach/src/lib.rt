@@ -10,6 +10,3 @@ pub use find::{is_low, places, window_places};
 pub use flood_rules::FloodRules;
 pub use place_sets::{LowPlaces, Places};
 pub use steps::Steps;
-
-#[cfg(test)]
-mod tests;

@@ -3,7 +3,5 @@
 
 mod draws;
 mod pages;
-#[cfg(test)]
-mod tests;
 
 pub use pages::{Sample, sample_of, sample_pages};

@@ -23,6 +23,3 @@ pub use rotation::Rotation;
 pub use rules::Rules;
 pub use shapes::{cells, is_inside};
 pub use symmetry::canonical;
-
-#[cfg(test)]
-mod tests;

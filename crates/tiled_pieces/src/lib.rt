@@ -14,6 +14,3 @@ pub use list::TilingList;
 pub use listed::ListedTiling;
 pub use lister::Lister;
 pub use standing::{StandingPiece, StandingPieces};
-
-#[cfg(test)]
-mod tests;

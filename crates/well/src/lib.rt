@@ -10,6 +10,3 @@ mod well;
 pub use bits::cells_below;
 pub use rows::RowsFault;
 pub use well::Well;
-
-#[cfg(test)]
-mod tests;

@@ -19,3 +19,5 @@ mod pages;
 mod pieces_of_reads;
 #[cfg(test)]
 mod selfruns;
+#[cfg(test)]
+mod sources_and_sinks;

@@ -1,5 +1,0 @@
--- There is one piece fewer to come.
-use Rattle.packing.proofs.tests.+can_fill.Given as goal
-
-abbrev pub decreases-can_fill : goal.decreases-can_fill
-decreases-can_fill l = l.pieces

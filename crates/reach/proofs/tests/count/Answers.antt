@@ -1,6 +1,0 @@
--- What is held is of the piece.
-use Rattle.place_sets.proofs.CallerLemmas.{holds-piece}
-use Rattle.reach.proofs.tests.count.Goals as goal
-
-pub loop-number-preserved : goal.loop-number-preserved
-loop-number-preserved c = holds-piece c.args.held.now c.in-Some.next c.in-Some.ensures.member

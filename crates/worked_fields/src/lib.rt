@@ -1,0 +1,47 @@
+// Worked cases of the libraries of the field, of queues and of the search.
+#![tactic(auto)]
+
+#[cfg(test)]
+mod boards;
+#[cfg(test)]
+mod calls;
+#[cfg(test)]
+mod counts;
+#[cfg(test)]
+mod cover_sets;
+#[cfg(test)]
+mod dead_questions;
+#[cfg(test)]
+mod good_queues;
+#[cfg(test)]
+mod good_queues_as_bits;
+#[cfg(test)]
+mod key_words;
+#[cfg(test)]
+mod listed_tilings;
+#[cfg(test)]
+mod longest_runs;
+#[cfg(test)]
+mod moves_and_keys;
+#[cfg(test)]
+mod numbers;
+#[cfg(test)]
+mod numbers_of_placements;
+#[cfg(test)]
+mod patterns;
+#[cfg(test)]
+mod pieces;
+#[cfg(test)]
+mod places;
+#[cfg(test)]
+mod queues;
+#[cfg(test)]
+mod searches;
+#[cfg(test)]
+mod tables;
+#[cfg(test)]
+mod texts_of_placements;
+#[cfg(test)]
+mod tilings;
+#[cfg(test)]
+mod wells;
