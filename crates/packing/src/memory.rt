@@ -110,8 +110,8 @@ impl PlaceMemory {
         Ok(PlaceMemory { sets })
     }
 
-    /// What is remembered about these cells, this supply and this piece, if anything is. With another hash than theirs
-    /// it isn't found.
+    /// The answers in the slot of a hash, if they are about these cells, this supply and this piece. A caller keeps
+    /// answers under the hash of their question (`place_hash`), and looks for them under it.
     #[inline(always)]
     pub fn known(
         &self,
@@ -131,7 +131,7 @@ impl PlaceMemory {
         None
     }
 
-    /// Remembers answers, in the place of those before. The hash is that of their question.
+    /// Keeps answers in the slot of a hash, in the place of those before.
     #[inline(always)]
     pub fn keep(&mut self, hash: u64, answers: &PlaceAnswers) {
         self.sets.put(hash, *answers);
