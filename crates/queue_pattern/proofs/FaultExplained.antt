@@ -29,8 +29,7 @@ gap_more whole byte es (element {front = front} {rest = rest} {elements = later}
 pub letters_more : (letters : List ℕ) (so_far listed byte : ℕ) (piece : Piece) → SpellsLetters so_far letters listed → piece_with_letter byte ≡ Some piece → is_in piece listed ≡ false
     → SpellsLetters so_far (letters ++ byte ∷ []) (bit_or listed (set_of piece))
 letters_more [] so_far listed byte piece spelled is new = search (rules, bit_or)
-letters_more (first ∷ letters) so_far listed byte piece spelled is new =
-    (spelled.0, spelled.1, spelled.2, letters_more letters (bit_or so_far (set_of spelled.0)) listed byte piece spelled.3 is new)
+letters_more (first ∷ letters) so_far listed byte piece spelled is new = search (rules, (letters_more letters))
 
 -- ---- what stands before a position
 

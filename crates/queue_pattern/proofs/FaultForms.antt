@@ -1,10 +1,9 @@
 -- What is spelled is of the form, and a byte that leaves the form leads on nowhere.
-use Rattle.std.proofs.Common.{◌≡◌, ℕ, true, List, [], ◌∷◌, ◌++◌, length, append_assoc, ap, sym, subst, ◌∙◌, Option, Some, None, is_some, rules}
+use Rattle.std.proofs.Common.{◌≡◌, ℕ, true, List, [], ◌∷◌, ◌++◌, append_assoc, ap, sym, subst, Option, Some, None, is_some, rules}
 use Rattle.std.proofs.lemmas.List.Elements.{All-nil, All-cons}
 use Rattle.srs.specs.declared.piece.Piece.{Piece}
 use Rattle.srs.specs.Piece.{piece_with_letter}
 use Rattle.queue_pattern.specs.declared.element.Element.{Element}
-use Rattle.queue_pattern.specs.Queues.{pieces_in}
 use Rattle.queue_pattern.specs.Spelling.{SpellsLetters, SpellsSet, SpellsChosen, SpellsElement, SpellsElements}
 use Rattle.queue_pattern.specs.Spelling as spelling
 use Rattle.srs.specs.Forms.{IsStopped}
@@ -19,9 +18,7 @@ letters_form (byte ∷ letters) so_far total spelled =
     All-cons (λ byte. is_letter byte ≡ true) byte letters (letter_of byte spelled.0 spelled.1) (letters_form letters _ total spelled.3)
 
 pub set_form : (text : List ℕ) (set : ℕ) → SpellsSet text set → HasSetForm text
-set_form text set spelling.all = all
-set_form text set (spelling.these {letters = letters} some spelled) = these some (letters_form letters 0 set spelled)
-set_form text set (spelling.others {letters = letters} total some spelled) = others some (letters_form letters 0 total spelled)
+set_form text set h2 = search (rules, all, these, letters_form, others)
 
 chosen_form : (size n : ℕ) (text : List ℕ) → SpellsChosen size text n → HasChosenForm text
 chosen_form size n text spelling.one = one
@@ -29,9 +26,7 @@ chosen_form size n text (spelling.digit mark low high) = digit mark low high
 chosen_form size n text spelling.every = every
 
 element_form : (text : List ℕ) (e : Element) → SpellsElement text e → HasElementForm text
-element_form text e (spelling.letter {byte = byte} {piece = piece} is) = letter (letter_of byte piece is)
-element_form text e (spelling.chosen {front = front} {back = back} {set = set} {n = n} set_is says some enough) =
-    chosen (set_form front set set_is) (chosen_form (length (pieces_in set)) n back says)
+element_form text e h2 = search (rules, letter, letter_of, chosen, set_form, chosen_form)
 
 pub elements_form : (text : List ℕ) (es : List Element) → SpellsElements text es → HasForm text
 elements_form text es spelling.none = none
@@ -50,8 +45,7 @@ pub no_byte : (whole begun more : List ℕ) (byte : ℕ) → HasForm whole → I
 no_byte whole begun more byte form stops rest goes =
     stops (record {
       rest = rest;
-      form = subst HasForm (sym (append_assoc (whole ++ begun) (byte ∷ []) rest ∙ append_assoc whole begun (byte ∷ rest)))
-          (forms_join whole (begun ++ byte ∷ rest) form goes);
+      form = search (rules, append_assoc, forms_join);
     })
 
 pub no_end : (whole begun : List ℕ) → HasForm whole → IsStopped HasForm (whole ++ begun) [] → HasForm begun → ⊥

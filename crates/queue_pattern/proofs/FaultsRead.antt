@@ -55,8 +55,7 @@ record Opens (begun : List ℕ) (listed : ℕ) : Type 0 where
   is : begun ≡ opening except ++ letters
 
 opens : (begun : List ℕ) (listed : ℕ) → BeginsSet begun listed → Opens begun listed
-opens begun listed (these {letters = letters} spelled) = record { except = false; letters = letters; spelled = spelled; is = refl }
-opens begun listed (others {letters = letters} spelled) = record { except = true; letters = letters; spelled = spelled; is = refl }
+opens begun listed h2 = search rules
 
 -- ---- whole elements stand before
 
@@ -109,8 +108,7 @@ listed_form false letters some are = subst HasForm (append-nil (91 ∷ letters +
 listed_form true letters some are = subst HasForm (append-nil (91 ∷ 94 ∷ letters ++ 93 ∷ [])) (form.element (subst form.HasElementForm (append-nil (91 ∷ 94 ∷ letters ++ 93 ∷ [])) (form.chosen (form.others some are) form.one)) form.none)
 
 letters_more : (except : Bool) (letters more : List ℕ) (byte : ℕ) → (opening except ++ letters) ++ byte ∷ more ≡ (opening except ++ (letters ++ byte ∷ [])) ++ more
-letters_more true letters more byte = ap (λ t. 91 ∷ 94 ∷ t) (sym (append_assoc letters (byte ∷ []) more))
-letters_more false letters more byte = ap (λ t. 91 ∷ t) (sym (append_assoc letters (byte ∷ []) more))
+letters_more except letters more byte = search (rules, append_assoc)
 
 has_some : (letters : List ℕ) (byte : ℕ) → letters ++ byte ∷ [] ≢ []
 has_some [] byte e = cc
@@ -133,8 +131,7 @@ listing_stops whole except letters (byte ∷ rest) listed start place of_form sp
     rw (no_close, no_letter) refl
   where
     some_by : (letters : List ℕ) (listed : ℕ) → SpellsLetters 0 letters listed → not (listed == 0) ≡ true → letters ≢ []
-    some_by [] listed spelled some e = let none : (listed == 0) ≡ true = ap (λ n. n == 0) (sym spelled) in cc
-    some_by (byte ∷ letters) listed spelled some e = cc
+    some_by letters listed spelled some e = search rules
 
 choosing_stops : (whole front rest : List ℕ) (set mark start place : ℕ) → HasForm whole → SpellsSet front set → (mark ≡ 112) ⊎ (mark ≡ 80)
     → IsStopped HasForm (whole ++ (front ++ mark ∷ [])) rest → elements_from (choosing start set) place rest ≡ Err (Unexpected place)
@@ -152,8 +149,7 @@ choosing_stops whole front (byte ∷ rest) set mark start place of_form is marks
 
 -- a bracket is no mark
 opening_free : (except : Bool) (more : List ℕ) → NoMark (opening except ++ more)
-opening_free true more = (refl, refl, refl)
-opening_free false more = (refl, refl, refl)
+opening_free except more = search rules
 
 pub set_free : (front more : List ℕ) (set : ℕ) → SpellsSet front set → NoMark (front ++ more)
 set_free front more set is = search (rules, set_form)
@@ -185,8 +181,7 @@ marked_read front rest set mark place is marks =
     ∙ ap (λ p. elements_from (choosing place set) p rest) (omega (arith, length-append front (mark ∷ [])))
   where
     marks_read : (mark ≡ 112) ⊎ (mark ≡ 80) → elements_from (closed place set) (place + length front) (mark ∷ rest) ≡ elements_from (choosing place set) (place + length front + 1) rest
-    marks_read (inl small) = rw small refl
-    marks_read (inr large) = rw large refl
+    marks_read h0 = search rules
 
 unexpected_in : (whole begun rest : List ℕ) (es : List Element) → SpellsElements whole es → BeginsElement begun → IsStopped HasForm (whole ++ begun) rest
     → elements ((whole ++ begun) ++ rest) ≡ Err (Unexpected (length (whole ++ begun)))

@@ -1,10 +1,10 @@
 -- A byte of a text of the form leads on, to what may follow.
-use Rattle.std.proofs.Common.{◌≡◌, ℕ, ◌+◌, true, false, ◌&&◌, ◌||◌, ◌==◌, nat_le, Option, Some, is_some, List, [], ◌∷◌, ◌++◌, refl, sym, ap, subst, ◌∙◌, arith, ◌⊎◌, inl, inr, rules}
+use Rattle.std.proofs.Common.{◌≡◌, ℕ, true, false, ◌==◌, nat_le, Option, Some, is_some, List, [], ◌∷◌, ◌++◌, refl, sym, subst, ◌∙◌, inl, inr, rules}
 use Rattle.std.proofs.lemmas.Bool.{ne_eqb, eq-eqb, and_from, or_from, le-leb}
 use Rattle.std.proofs.lemmas.List.Elements.{All-head, All-tail}
 use Rattle.srs.specs.declared.piece.Piece.{Piece}
 use Rattle.srs.specs.Piece.{piece_with_letter}
-use Rattle.queue_pattern.specs.Form.{is_letter, AreLetters, HasSetForm, all, these, others, HasChosenForm, one, digit, every, HasElementForm, letter, chosen, HasForm, none, gap, element}
+use Rattle.queue_pattern.specs.Form.{is_letter, AreLetters, HasSetForm, all, these, others, HasChosenForm, one, digit, every, HasElementForm, letter, chosen, HasForm}
 use Rattle.queue_pattern.proofs.Phases.{Phase, between, begun, unlisted, listed, shut, marked, letter_next, between_next, next, is_end}
 use Rattle.queue_pattern.proofs.FormPhases.{AfterSet, AfterMark, AfterLetter, AfterExcept, Follows, brackets}
 
@@ -56,9 +56,7 @@ element_ahead front more (letter {byte = byte} is) form = record { after = betwe
 element_ahead front more (chosen {front = set} {back = back} has says) form = set_ahead set back more has says form
 
 ahead : (text : List ℕ) → HasForm text → IsAhead text
-ahead text none = tt
-ahead text (gap {byte = byte} is form) = record { after = between; leads = rw is refl; follows = form }
-ahead text (element {front = front} {rest = rest} has form) = element_ahead front rest has form
+ahead text h1 = search (rules, between, element_ahead)
 
 -- of two texts that are equal, the first bytes and the rests are
 first_is : (byte first : ℕ) (rest more : List ℕ) → byte ∷ rest ≡ first ∷ more → byte ≡ first
@@ -71,9 +69,7 @@ on_letter : (byte : ℕ) (rest : List ℕ) → AfterExcept (byte ∷ rest) → (
 on_letter byte rest after = search (rules, first_is, rest_is)
 
 unlisted_ahead : (byte : ℕ) (rest : List ℕ) → AfterExcept (byte ∷ rest) → LeadsOn unlisted byte rest
-unlisted_ahead byte rest after =
-    let on = on_letter byte rest after in
-    record { after = listed; leads = some_piece (piece_with_letter byte) listed on.0; follows = on.1 }
+unlisted_ahead byte rest after = search (rules, on_letter, listed, some_piece)
 
 begun_ahead : (byte : ℕ) (rest : List ℕ) → Follows begun (byte ∷ rest) → LeadsOn begun byte rest
 begun_ahead byte rest (inl after) = search (rules, on_letter, begun, listed, other_byte, some_piece)
@@ -105,42 +101,11 @@ shut_ahead : (byte : ℕ) (rest back more : List ℕ) → byte ∷ rest ≡ back
     → LeadsOn shut byte rest
 shut_ahead byte rest back more divided one form = past_shut byte rest (ahead (byte ∷ rest) (subst HasForm (sym divided) form))
 shut_ahead byte rest back more divided (digit {mark = mark} {n = n} either least most) form =
-    let same : byte ≡ mark = first_is byte mark rest ((48 + n) ∷ more) divided in
-    let is : (byte == 112 || byte == 80) ≡ true = marked_so (subst (λ b. (b ≡ 112) ⊎ (b ≡ 80)) (sym same) either) in
-    record {
-      after = marked;
-      leads = rw is refl;
-      follows = record {
-        n = n;
-        more = more;
-        divided = rest_is byte mark rest ((48 + n) ∷ more) divided;
-        least = least;
-        most = most;
-        form = form;
-      };
-    }
-  where
-    marked_so : (byte ≡ 112) ⊎ (byte ≡ 80) → (byte == 112 || byte == 80) ≡ true
-    marked_so (inl small) = ap (λ b. b == 112 || b == 80) small
-    marked_so (inr large) = ap (λ b. b == 112 || b == 80) large
-shut_ahead byte rest back more divided every form =
-    let same : byte ≡ 33 = first_is byte 33 rest more divided in
-    record {
-      after = between;
-      leads = ap (next shut) same;
-      follows = subst HasForm (sym (rest_is byte 33 rest more divided)) form;
-    }
+    search (rules, first_is, marked, rest_is)
+shut_ahead byte rest back more divided every form = search (rules, first_is, between, shut, rest_is)
 
 marked_ahead : (byte : ℕ) (rest : List ℕ) → AfterMark (byte ∷ rest) → LeadsOn marked byte rest
-marked_ahead byte rest mark =
-    let same : byte ≡ 48 + mark.n = first_is byte (48 + mark.n) rest mark.more mark.divided in
-    let is : (nat_le 49 byte && nat_le byte 57) ≡ true = and_from (nat_le 49 byte) (nat_le byte 57)
-    (le-leb 49 byte (omega (arith, same, mark.least))) (le-leb byte 57 (omega (arith, same, mark.most))) in
-    record {
-      after = between;
-      leads = rw is refl;
-      follows = subst HasForm (sym (rest_is byte (48 + mark.n) rest mark.more mark.divided)) mark.form;
-    }
+marked_ahead byte rest mark = search (rules, first_is, nat_le, and_from, le-leb, between, rest_is)
 
 pub leads_on : (phase : Phase) (byte : ℕ) (rest : List ℕ) → Follows phase (byte ∷ rest) → LeadsOn phase byte rest
 leads_on between byte rest follows = ahead (byte ∷ rest) follows
@@ -156,10 +121,4 @@ ends_there text [] more divided = cc
 ends_there text (first ∷ letters) more divided = cc
 
 pub ends : (phase : Phase) → Follows phase [] → is_end phase ≡ true
-ends between follows = refl
-ends begun (inl after) = let bad : [] ≡ after.first ∷ after.more = after.divided in cc
-ends begun (inr bracket) = let bad : [] ≡ 94 ∷ bracket.more = bracket.divided in cc
-ends unlisted follows = let bad : [] ≡ follows.first ∷ follows.more = follows.divided in cc
-ends listed follows = absurd (ends_there [] follows.letters follows.more follows.divided)
-ends shut follows = refl
-ends marked follows = let bad : [] ≡ (48 + follows.n) ∷ follows.more = follows.divided in cc
+ends phase follows = search (rules, ends_there)

@@ -89,5 +89,4 @@ pub left-from_unexpected : (text : List ℕ) (place : ℕ) → elements text ≡
 left-from_unexpected text place read =
     let agreed : Agrees (Err (Unexpected place)) 0 (stop between text) =
     subst (λ found. Agrees found 0 (stop between text)) read (agrees text outside 0 tt) in
-    let is : stop between text ≡ Some place = agreed.1 ∙ ap Some (omega (arith, agreed.2)) in
-    leaves_form text place (subst (IsEnding between text) is (is_ending text between))
+    search (rules, between, leaves_form, is_ending)

@@ -1,5 +1,5 @@
 -- What may follow in each phase of the form of a pattern text.
-use Rattle.std.proofs.Common.{◌≡◌, ◌≢◌, ℕ, ◌+◌, ◌-◌, ◌≤◌, true, false, ◌&&◌, ◌||◌, ◌==◌, nat_le, Option, Some, None, is_some, List, [], ◌∷◌, ◌++◌, append_assoc, refl, sym, ap, subst, ◌∙◌, arith, ◌⊎◌, inl, inr, rules}
+use Rattle.std.proofs.Common.{◌≡◌, ◌≢◌, ℕ, ◌+◌, ◌-◌, ◌≤◌, true, false, ◌&&◌, ◌||◌, ◌==◌, nat_le, Option, Some, is_some, List, [], ◌∷◌, ◌++◌, append_assoc, refl, sym, ap, subst, ◌∙◌, arith, ◌⊎◌, inl, inr, rules}
 use Rattle.std.proofs.lemmas.Bool.{cases_Bool, eqb-true, and_parts, leb-true}
 use Rattle.std.proofs.lemmas.List.Elements.{All-nil, All-cons}
 use Rattle.srs.specs.declared.piece.Piece.{Piece}
@@ -69,10 +69,7 @@ bracketed_form rest after =
     let some : letters ≢ [] = λ bad. cc in
     let set = after.later.set in
     let whole : HasForm (91 ∷ ((letters ++ 93 ∷ []) ++ set.back) ++ set.more) = element (chosen (these some are) set.says) set.form in
-    let same : 91 ∷ ((letters ++ 93 ∷ []) ++ set.back) ++ set.more ≡ 91 ∷ rest =
-    ap (λ text. 91 ∷ text) (brackets letters set.back set.more
-    ∙ sym (after.divided ∙ ap (λ text. after.first ∷ text) (after.later.divided ∙ ap (λ text. after.later.letters ++ 93 ∷ text) set.divided))) in
-    subst HasForm same whole
+    search (rules, brackets)
 
 excepted_form : (rest : List ℕ) → AfterBracket rest → HasForm (91 ∷ rest)
 excepted_form rest bracket =
@@ -82,11 +79,7 @@ excepted_form rest bracket =
     let some : letters ≢ [] = λ bad. cc in
     let set = after.later.set in
     let whole : HasForm (91 ∷ 94 ∷ ((letters ++ 93 ∷ []) ++ set.back) ++ set.more) = element (chosen (others some are) set.says) set.form in
-    let same : 91 ∷ 94 ∷ ((letters ++ 93 ∷ []) ++ set.back) ++ set.more ≡ 91 ∷ rest =
-    ap (λ text. 91 ∷ text) (ap (λ text. 94 ∷ text) (brackets letters set.back set.more
-    ∙ sym (after.divided ∙ ap (λ text. after.first ∷ text) (after.later.divided ∙ ap (λ text. after.later.letters ++ 93 ∷ text) set.divided)))
-    ∙ sym bracket.divided) in
-    subst HasForm same whole
+    search (rules, brackets)
 
 starred_form : (rest : List ℕ) → AfterSet rest → HasForm (42 ∷ rest)
 starred_form rest set =
@@ -104,15 +97,8 @@ between_before after byte rest leads follows = elim (cases_Bool (is_gap byte)) [
   where
     at_star : is_gap byte ≡ false → ((byte == 42) ≡ true) ⊎ ((byte == 42) ≡ false) → ((byte == 91) ≡ true) ⊎ ((byte == 91) ≡ false)
         → HasForm (byte ∷ rest)
-    at_star no_gap (inl is) bracket =
-        let to : between_next byte ≡ Some shut = rw (no_gap, is) refl in
-        byte_form byte 42 rest is (starred_form rest (phase_is shut after rest (sym to ∙ leads) follows))
-    at_star no_gap (inr no_star) (inl is) =
-        let to : between_next byte ≡ Some begun = rw (no_gap, no_star, is) refl in
-        byte_form byte 91 rest is (elim (phase_is begun after rest (sym to ∙ leads) follows) [
-          | inl these_ones ↦ bracketed_form rest these_ones
-          | inr other_ones ↦ excepted_form rest other_ones
-        ])
+    at_star no_gap (inl is) bracket = search (rules, shut, byte_form, starred_form, phase_is)
+    at_star no_gap (inr no_star) (inl is) = search (rules, begun, byte_form, phase_is, bracketed_form, excepted_form)
     at_star no_gap (inr no_star) (inr no_bracket) =
         let to : between_next byte ≡ letter_next (piece_with_letter byte) between = rw (no_gap, no_star, no_bracket) refl in
         let found = letter_is (piece_with_letter byte) between after (sym to ∙ leads) in
@@ -155,32 +141,8 @@ choosing_before byte rest is mark = record {
 
 shut_before : (after : Phase) (byte : ℕ) (rest : List ℕ) → next shut byte ≡ Some after → Follows after rest
     → AfterSet (byte ∷ rest)
-shut_before after byte rest leads follows = elim (cases_Bool (byte == 112 || byte == 80)) [
-  | inl is ↦
-      let to : next shut byte ≡ Some marked = rw is refl in
-      choosing_before byte rest is (phase_is marked after rest (sym to ∙ leads) follows)
-  | inr no_mark ↦ at_all no_mark (cases_Bool (byte == 33))
-]
-  where
-    at_all : (byte == 112 || byte == 80) ≡ false → ((byte == 33) ≡ true) ⊎ ((byte == 33) ≡ false) → AfterSet (byte ∷ rest)
-    at_all no_mark (inl is) =
-        let to : next shut byte ≡ Some between = rw (no_mark, is) refl in
-        record {
-          back = 33 ∷ [];
-          more = rest;
-          divided = ap (λ b. b ∷ rest) (eqb-true byte 33 is);
-          says = every;
-          form = phase_is between after rest (sym to ∙ leads) follows;
-        }
-    at_all no_mark (inr other) =
-        let to : next shut byte ≡ between_next byte = rw (no_mark, other) refl in
-        record {
-          back = [];
-          more = byte ∷ rest;
-          divided = refl;
-          says = one;
-          form = between_before after byte rest (sym to ∙ leads) follows;
-        }
+shut_before after byte rest leads follows =
+    search (rules, cases_Bool, shut, marked, choosing_before, phase_is, between, eqb-true, every, one, between_before)
 
 marked_before : (after : Phase) (byte : ℕ) (rest : List ℕ) → next marked byte ≡ Some after → Follows after rest
     → AfterMark (byte ∷ rest)
@@ -198,18 +160,13 @@ marked_before after byte rest leads follows = elim (cases_Bool (nat_le 49 byte &
         form = phase_is between after rest (sym to ∙ leads) follows;
       }
   | inr other ↦
-      let to : next marked byte ≡ None = rw other refl in
-      let bad : None ≡ Some after = sym to ∙ leads in cc
+      search (rules, marked)
 ]
 
 pub follows_before : (phase after : Phase) (byte : ℕ) (rest : List ℕ) → next phase byte ≡ Some after → Follows after rest
     → Follows phase (byte ∷ rest)
-follows_before between after byte rest leads follows = between_before after byte rest leads follows
-follows_before begun after byte rest leads follows = begun_before after byte rest leads follows
-follows_before unlisted after byte rest leads follows = unlisted_before after byte rest leads follows
-follows_before listed after byte rest leads follows = listed_more after byte rest leads follows
-follows_before shut after byte rest leads follows = shut_before after byte rest leads follows
-follows_before marked after byte rest leads follows = marked_before after byte rest leads follows
+follows_before phase after byte rest leads follows =
+    search (rules, between_before, begun_before, unlisted_before, listed_more, shut_before, marked_before)
 
 -- what is enough to end with
 nothing_chosen : AfterSet []
@@ -228,17 +185,7 @@ ending marked = 49 ∷ []
 
 pub ending_follows : (phase : Phase) → Follows phase (ending phase)
 unfolding ending
-ending_follows between = none
-ending_follows begun = inl (listed_before 73 (93 ∷ []) refl closed_by)
-ending_follows unlisted = listed_before 73 (93 ∷ []) refl closed_by
-ending_follows listed = closed_by
-ending_follows shut = nothing_chosen
-ending_follows marked = record { n = 1; more = []; divided = refl; least = omega arith; most = omega arith; form = none }
+ending_follows phase = search (rules, none, listed_before, closed_by, nothing_chosen)
 
 pub end_follows : (phase : Phase) → is_end phase ≡ true → Follows phase []
-end_follows between is = none
-end_follows shut is = nothing_chosen
-end_follows begun is = cc
-end_follows unlisted is = cc
-end_follows listed is = cc
-end_follows marked is = cc
+end_follows phase is = search (rules, none, nothing_chosen)

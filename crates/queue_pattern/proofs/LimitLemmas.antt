@@ -1,5 +1,5 @@
 -- The elements of a builder that is within the limits.
-use Rattle.std.proofs.Common.{◌≡◌, ◌<◌, ◌≤◌, true, List, [], ◌∷◌, length, take, arith, Ok}
+use Rattle.std.proofs.Common.{◌≡◌, ◌<◌, ◌≤◌, true, List, [], ◌∷◌, length, take, arith, Ok, rules}
 use Rattle.std.specs.List.{list_all}
 use Rattle.std.proofs.Math.Nat.{mul-le-mul}
 use Rattle.std.proofs.lemmas.Bool.{and_parts}
@@ -30,8 +30,7 @@ pub queue_count-some : (elements : List Element) → list_all is_sound elements 
 unfolding queue_count
 queue_count-some [] sound = omega arith
 queue_count-some (e ∷ elements) sound =
-    let parts = and_parts (is_sound e) (list_all is_sound elements) sound in
-    mul-le-mul (falling_factor-some e.chosen _ (sound-within e parts.0)) (queue_count-some elements parts.1)
+    search (rules, and_parts, mul-le-mul, falling_factor-some, sound-within, (queue_count-some elements))
 
 -- all elements are kept, and the numbers are theirs
 pub record IsWithin (builder : Builder) (elements : List Element) : Type 0 where

@@ -18,6 +18,3 @@ reads_more text front place next element so_far is = search (rules, append_assoc
 
 pub none_before : (read : Elements) → read ≡ after_front [] read
 none_before read = search rules
-
-pub reads_none : (text : List ℕ) → ReadsOn text [] 0
-reads_none text = record { reads = none_before (elements text) }

@@ -1,5 +1,5 @@
 -- A text that is read within the limits has a pattern.
-use Rattle.std.proofs.Common.{◌≡◌, ℕ, ◌-◌, ◌<◌, ◌≤◌, true, nat_lt, nat_le, List, [], ◌∷◌, ◌++◌, length, length-append, take, replicate, bit_or, refl, ap, sym, ◌∙◌, arith, Ok, Err, rules}
+use Rattle.std.proofs.Common.{◌≡◌, ℕ, ◌-◌, ◌<◌, ◌≤◌, true, nat_lt, nat_le, List, [], ◌∷◌, ◌++◌, length, length-append, take, replicate, bit_or, refl, ◌∙◌, arith, Ok, Err, rules}
 use Rattle.std.specs.List.{list_all}
 use Rattle.std.proofs.lemmas.Bool.{and_from, lt-ltb, le-leb}
 use Rattle.std.proofs.lemmas.Bool.Decides.{nat_tests}
@@ -14,7 +14,7 @@ use Rattle.queue_pattern.specs.Grammar.{Elements, elements, limited, set_of}
 use Rattle.queue_pattern.specs.Pattern.{elements_of}
 use Rattle.queue_pattern.specs.Queues.{pieces_in, queue_count, queue_len}
 use Rattle.queue_pattern.specs.Sound.{is_sound}
-use Rattle.queue_pattern.specs.Spelling.{SpellsLetters, SpellsChosen, one, digit, every, SpellsElement, chosen, SpellsElements, none, gap, element}
+use Rattle.queue_pattern.specs.Spelling.{SpellsLetters, SpellsChosen, SpellsElement, SpellsElements, none, gap, element}
 use Rattle.queue_pattern.proofs.FaultLaws.{at_most}
 use Rattle.queue_pattern.proofs.LimitLemmas.{length-le-queue_len, queue_count-some}
 use Rattle.queue_pattern.proofs.ReadIsSpelled.{on_if, spelled-from_read}
@@ -31,9 +31,7 @@ letters_small (byte ∷ letters) so_far total small spelled =
     letters_small letters (bit_or so_far (set_of spelled.0)) total (or_lt 7 so_far (set_of spelled.0) small (set_small spelled.0)) spelled.3
 
 some_chosen : (size n : ℕ) (text : List ℕ) → SpellsChosen size text n → 0 < size → 0 < n
-some_chosen size n text one some = omega arith
-some_chosen size n text (digit mark low high) some = omega (arith, low)
-some_chosen size n text every some = some
+some_chosen size n text h3 some = search rules
 
 sound_of : (set n : ℕ) → set < 128 → 0 < n → n ≤ length (pieces_in set) → is_sound (record { set = set; chosen = n }) ≡ true
 unfolding is_sound
@@ -81,18 +79,5 @@ pattern-made text es read =
     let sound = elements_sound text es (spelled-from_read text es within.0) in
     let few : length es ≤ 22 = omega (arith, within.1.short, length-le-queue_len es sound) in
     let front = kept-front es in
-    let pattern : Pattern = record {
-      elements = kept es;
-      number = length es;
-      pieces = queue_len es;
-      count = queue_count es;
-      room = kept-length es few;
-      within = few;
-      sound = ap (list_all is_sound) front ∙ sound;
-      len = sym (ap queue_len front);
-      short = within.1.short;
-      counted = sym (ap queue_count front);
-      some = queue_count-some es sound;
-      few = within.1.few;
-    } in
+    let pattern : Pattern = search (rules, kept-length, queue_count-some) in
     (pattern, front)

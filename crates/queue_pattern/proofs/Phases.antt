@@ -1,12 +1,12 @@
 -- Where a reader of a pattern's form stands, and how far a text goes on.
-use Rattle.std.proofs.Common.{◌≡◌, ℕ, ◌+◌, ◌-◌, ◌<◌, Bool, true, false, ◌&&◌, ◌||◌, ◌==◌, nat_lt, nat_le, bit_or, if◌then◌else◌, Option, Some, None, List, [], ◌∷◌, refl, sym, ap, subst, ◌∙◌, arith, Ok, Err, rules}
+use Rattle.std.proofs.Common.{◌≡◌, ℕ, ◌+◌, ◌<◌, Bool, true, false, ◌&&◌, ◌||◌, ◌==◌, nat_lt, nat_le, bit_or, if◌then◌else◌, Option, Some, None, List, [], ◌∷◌, refl, sym, ap, subst, ◌∙◌, arith, Ok, Err, rules}
 use Rattle.std.specs.Option.{option_map}
 use Rattle.std.proofs.lemmas.Bool.{cases_Bool, cond_both, ne_eqb, and_right, and_parts, and_cases}
 use Rattle.std.proofs.lemmas.Nat.{pow_pos, le_or_r}
 use Rattle.srs.specs.declared.piece.Piece.{Piece}
 use Rattle.srs.specs.Piece.{piece_with_letter}
 use Rattle.queue_pattern.specs.declared.element.Element.{Element}
-use Rattle.queue_pattern.specs.declared.fault.PatternFault.TheVariants.{Unexpected, RepeatedPiece, TooManyChosen, PatternTooLong, TooManyQueues}
+use Rattle.queue_pattern.specs.declared.fault.PatternFault.TheVariants.{Unexpected, RepeatedPiece, TooManyChosen}
 use Rattle.queue_pattern.specs.Queues.{is_in}
 use Rattle.queue_pattern.specs.Grammar.{TextPosition, outside, opened, listing, closed, choosing, Elements, set_of, choice, before, is_gap, outside_step, listed_step, listing_step, opened_step, closed_step, choosing_step, end, elements_from}
 
@@ -82,17 +82,11 @@ less-on found place left before_it k is = search rules
 
 agrees-on : (read : Elements) (place : ℕ) (left : Option ℕ) → Agrees read (place + 1) left
     → Agrees read place (option_map (λ n. n + 1) left)
-agrees-on (Ok elements) place left agrees = ap (option_map (λ n. n + 1)) agrees
-agrees-on (Err (Unexpected found)) place left (k, is, at) = (k + 1, ap (option_map (λ n. n + 1)) is, omega (arith, at))
-agrees-on (Err (RepeatedPiece found)) place left agrees = less-on found place left agrees
-agrees-on (Err (TooManyChosen found)) place left agrees = less-on found place left agrees
-agrees-on (Err PatternTooLong) place left agrees = absurd agrees
-agrees-on (Err TooManyQueues) place left agrees = absurd agrees
+agrees-on read place left agrees = search (rules, agrees, less-on)
 
 agrees-element : (element : Element) (read : Elements) (place : ℕ) (left : Option ℕ) → Agrees read place left
     → Agrees (before (Ok element) read) place left
-agrees-element element (Ok elements) place left agrees = agrees
-agrees-element element (Err fault) place left agrees = agrees
+agrees-element element read place left agrees = search (rules, agrees)
 
 agrees-choice : (start set n : ℕ) (read : Elements) (place : ℕ) (left : Option ℕ) → start < place → Agrees read place left
     → Agrees (before (choice start set n) read) place left
@@ -168,18 +162,13 @@ at_choosing start set byte place bytes later early = search (rules, cond_both, n
 at_end : (position : TextPosition) (place : ℕ) → IsBegun position place
     → Agrees (end position place) place (stop (phase_of position) [])
 unfolding stop
-at_end outside place early = refl
-at_end (opened start) place early = (0, refl, omega arith)
-at_end (listing start except pieces) place early = search (rules, cases_Bool)
-at_end (closed start set) place early = agrees-choice start set 1 (Ok []) place None early refl
-at_end (choosing start set) place early = (0, refl, omega arith)
+at_end position place early = search (rules, cases_Bool, agrees-choice)
 
 pub agrees : (bytes : List ℕ) → AreRead bytes
 unfolding elements_from
 agrees [] position place early = at_end position place early
 agrees (byte ∷ bytes) outside place early = at_outside between byte place bytes (agrees bytes) refl
 agrees (byte ∷ bytes) (opened start) place early = at_opened start byte place bytes (agrees bytes) early
-agrees (byte ∷ bytes) (listing start except pieces) place early =
-    at_listing start except pieces byte place bytes (pieces == 0) refl (agrees bytes) early
+agrees (byte ∷ bytes) (listing start except pieces) place early = search (rules, at_listing, (agrees bytes))
 agrees (byte ∷ bytes) (closed start set) place early = at_closed start set byte place bytes (agrees bytes) early
 agrees (byte ∷ bytes) (choosing start set) place early = at_choosing start set byte place bytes (agrees bytes) early

@@ -1,5 +1,5 @@
 -- The list of queues: how long it is, and how a queue is found piece by piece.
-use Rattle.std.proofs.Common.{◌≡◌, ℕ, suc, ◌+◌, ◌-◌, ◌*◌, ◌<◌, List, [], ◌∷◌, ◌++◌, length, refl, ap, sym, ◌∙◌, map, Some, append-nil, rules}
+use Rattle.std.proofs.Common.{◌≡◌, ℕ, suc, ◌+◌, ◌-◌, ◌*◌, ◌<◌, List, [], ◌∷◌, ◌++◌, length, refl, ap, ◌∙◌, map, Some, append-nil, rules}
 use Rattle.std.specs.List.{flat_map, slice_get}
 use Rattle.std.specs.Option.{option_map}
 use Rattle.std.proofs.Math.Path.{fun_ext}
@@ -38,12 +38,7 @@ flat-cons : (piece : Piece) (qs cs : List (List Piece)) →
     flat_map (λ choice. map (λ rest. choice ++ rest) qs) (map (λ rest. piece ∷ rest) cs)
     ≡ map (λ rest. piece ∷ rest) (flat_map (λ choice. map (λ rest. choice ++ rest) qs) cs)
 flat-cons piece qs [] = refl
-flat-cons piece qs (c ∷ cs) =
-    joined (map-map (λ rest. piece ∷ rest) (λ rest. c ++ rest) qs) (flat-cons piece qs cs)
-    ∙ sym (map-append (λ rest. piece ∷ rest) (map (λ rest. c ++ rest) qs) (flat_map (λ choice. map (λ rest. choice ++ rest) qs) cs))
-  where
-    joined : {a b c d : List (List Piece)} → b ≡ a → c ≡ d → a ++ c ≡ b ++ d
-    joined e f = cc
+flat-cons piece qs (c ∷ cs) = search (rules, map-map, map-append, (flat-cons piece qs cs))
 
 pub tails-more : (pieces : List Piece) (n : ℕ) (elements : List Element) →
     tails pieces (suc n) elements ≡ flat_map (λ piece. map (λ rest. piece ∷ rest) (tails (others piece pieces) n elements)) pieces

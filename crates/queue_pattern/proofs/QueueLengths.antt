@@ -11,8 +11,7 @@ use Rattle.queue_pattern.specs.Queues.{pieces_in, others, choices, queues, queue
 all-flat : {X A : Type 0} (P : A → Type 0) (Q : X → Type 0) (f : X → List A) (xs : List X) → ((x : X) → Q x → All P (f x))
     → All Q xs → All P (flat_map f xs)
 all-flat P Q f [] part all = All-nil P
-all-flat P Q f (x ∷ xs) part all =
-    All-append P (f x) (flat_map f xs) (part x (All-head Q x xs all)) (all-flat P Q f xs part (All-tail Q x xs all))
+all-flat P Q f (x ∷ xs) part all = search (rules, All-append, All-head, All-tail, (all-flat P Q f xs part))
 
 -- nothing is said of a piece
 abbrev Whichever : Piece → Type 0

@@ -1,5 +1,5 @@
 -- One byte within brackets at a time.
-use Rattle.std.proofs.Common.{◌≡◌, ◌≢◌, ◌<◌, ◌≤◌, ◌+◌, ◌^◌, lit<, ◌⊎◌, inl, inr, ℕ, List, length, get_or, refl, ap, sym, ◌∙◌, arith, Result, Err, Bool, true, false, subst, Option, Some, bit_or, rules}
+use Rattle.std.proofs.Common.{◌≡◌, ◌≢◌, ◌<◌, ◌≤◌, ◌+◌, ◌^◌, lit<, ◌⊎◌, inl, inr, ℕ, List, length, get_or, refl, ap, sym, ◌∙◌, arith, Result, Err, Bool, true, false, Option, Some, bit_or, rules}
 use Rattle.queue_pattern.specs.Queues.{is_in}
 use Rattle.std.proofs.lemmas.Bool.Decides.{nat_tests}
 use Rattle.std.proofs.lemmas.Bool.{cases_lt}
@@ -58,10 +58,7 @@ pub open_listing : (text : List ℕ) (start : ℕ) → start < length text → g
     → read_at text (opened start) (start + 1) ≡ read_at text (listing start false 0) (start + 1)
 open_listing text start within other = elim (cases_lt (start + 1) (length text)) [
   | inl inside ↦
-      let rest : TextPosition → Elements = λ next. read_at text next (start + 1 + 1) in
-      read_step text (opened start) (start + 1) inside ∙ opens start (start + 1) (get_or text (start + 1) 0) other rest
-      ∙ sym (read_step text (listing start false 0) (start + 1) inside)
+      search (rules, read_step, opened, opens, listing)
   | inr past ↦ let at_end : length text ≡ start + 1 = omega arith in
-      subst (λ k. read_at text (opened start) k ≡ read_at text (listing start false 0) k) at_end
-      (read_end text (opened start) ∙ sym (read_end text (listing start false 0)))
+      search (rules, opened, listing, read_end)
 ]

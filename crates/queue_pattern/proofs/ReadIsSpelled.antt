@@ -81,9 +81,7 @@ same_text {elements = elements} e h = subst (λ text. SpellsElements text elemen
 
 -- a set and what follows it make an element
 with_set : (front text : List ℕ) (set : ℕ) (elements : List Element) → SpellsSet front set → Ends set text elements → SpellsElements (front ++ text) elements
-with_set front text set elements spelled ends =
-    same_elements (sym ends.are) (same_text (append_assoc front ends.back ends.rest ∙ ap (λ t. front ++ t) (sym ends.whole))
-    (element (chosen spelled ends.says ends.some ends.enough) ends.follows))
+with_set front text set elements spelled ends = search (rules, same_elements, same_text, append_assoc, element, chosen)
 
 -- letters that make a set that is not empty are some
 some_letters : (letters : List ℕ) (total : ℕ) → SpellsLetters 0 letters total → total ≢ 0 → letters ≢ []
@@ -118,8 +116,7 @@ outside-goes place byte bytes rest elements ih h = elim (on_if (is_gap byte) _ _
 ]
   where
     open_goes : (bytes : List ℕ) (elements : List Element) → Goes (opened place) bytes elements → SpellsElements (91 ∷ bytes) elements
-    open_goes bytes elements (inl except) = same_text (ap (λ t. 91 ∷ t) (sym except.1)) (with_others except.0 elements except.2)
-    open_goes bytes elements (inr lists) = with_lists bytes elements lists
+    open_goes bytes elements h2 = search (rules, same_text, with_others, with_lists)
 
     letters : (o : Option Piece) → piece_with_letter byte ≡ o → letter_step place o rest ≡ Ok elements → SpellsElements (byte ∷ bytes) elements
     letters None is h = cc
@@ -237,11 +234,8 @@ choosing-goes start set place byte bytes rest elements ih h = elim (on_if (nat_l
 step-goes : (position : TextPosition) (place byte : ℕ) (bytes : List ℕ) (rest : TextPosition → Elements) (elements : List Element)
     → ((position : TextPosition) (es : List Element) → rest position ≡ Ok es → Goes position bytes es)
     → position_step position place byte rest ≡ Ok elements → Goes position (byte ∷ bytes) elements
-step-goes outside place byte bytes rest elements ih h = outside-goes place byte bytes rest elements ih h
-step-goes (opened start) place byte bytes rest elements ih h = opened-goes start place byte bytes rest elements ih h
-step-goes (listing start except so_far) place byte bytes rest elements ih h = listing-goes start except so_far place byte bytes rest elements ih h
-step-goes (closed start set) place byte bytes rest elements ih h = closed-goes start set place byte bytes rest elements ih h
-step-goes (choosing start set) place byte bytes rest elements ih h = choosing-goes start set place byte bytes rest elements ih h
+step-goes position place byte bytes rest elements ih h =
+    search (rules, outside-goes, opened-goes, listing-goes, closed-goes, choosing-goes)
 
 abbrev the_elements : Elements → Elements
 the_elements read = read
@@ -272,8 +266,7 @@ end-goes (choosing start set) place elements h = cc
 goes : (text : List ℕ) (position : TextPosition) (place : ℕ) (elements : List Element) → elements_from position place text ≡ Ok elements → Goes position text elements
 unfolding elements_from
 goes [] position place elements h = end-goes position place elements h
-goes (byte ∷ bytes) position place elements h =
-    step-goes position place byte bytes (λ next. elements_from next (place + 1) bytes) elements (λ next es is. goes bytes next (place + 1) es is) h
+goes (byte ∷ bytes) position place elements h = search (rules, step-goes, (goes bytes))
 
 -- what a text is read as, it spells
 pub spelled-from_read : (text : List ℕ) (elements : List Element) → elements_from outside 0 text ≡ Ok elements → SpellsElements text elements

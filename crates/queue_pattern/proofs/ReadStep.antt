@@ -1,5 +1,5 @@
 -- One byte of a pattern text at a time.
-use Rattle.std.proofs.Common.{◌≡◌, ◌≢◌, ◌<◌, ◌≤◌, ◌+◌, ◌-◌, ◌⊎◌, inl, inr, ℕ, List, length, get_or, refl, ap, sym, ◌∙◌, add-one, drop-cons, arith, Err, subst, rules}
+use Rattle.std.proofs.Common.{◌≡◌, ◌≢◌, ◌<◌, ◌≤◌, ◌+◌, ◌-◌, ◌⊎◌, inl, inr, ℕ, List, length, get_or, refl, ◌∙◌, add-one, drop-cons, arith, Err, subst, rules}
 use Rattle.std.proofs.Math.Seq.{drop-length}
 use Rattle.std.proofs.lemmas.Bool.Decides.{nat_tests}
 use Rattle.std.proofs.lemmas.Bool.{cases_lt}
@@ -57,11 +57,7 @@ pub closed_other : (text : List ℕ) (start set place mark : ℕ) → place ≤ 
     → read_at text (closed start set) place ≡ before (choice start set 1) (read_at text outside place)
 closed_other text start set place mark within byte bang small capital = elim (cases_lt place (length text)) [
   | inl inside ↦
-      let rest : TextPosition → Elements = λ next. read_at text next (place + 1) in
-      let here : read_at text outside place ≡ outside_step place mark rest = rw byte at (read_step text outside place inside) in
-      read_step text (closed start set) place inside ∙ rw byte (no_mark start set place mark bang small capital rest)
-      ∙ ap (before (choice start set 1)) (sym here)
+      search (rules, outside, read_step, closed, no_mark)
   | inr past ↦ let at_end : length text ≡ place = omega arith in
-      subst (λ k. read_at text (closed start set) k ≡ before (choice start set 1) (read_at text outside k)) at_end
-      (read_end text (closed start set) ∙ ap (before (choice start set 1)) (sym (read_end text outside)))
+      search (rules, closed, outside, read_end)
 ]

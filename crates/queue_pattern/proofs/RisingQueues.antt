@@ -1,9 +1,9 @@
 -- The list of queues rises, so no two of them are equal.
-use Rattle.std.proofs.Common.{◌≡◌, ◌≢◌, ℕ, zero, suc, ◌<◌, not, ◌==◌, List, [], ◌∷◌, ◌++◌, length, map, slice_get, Some, refl, ap, sym, subst, ◌∙◌, arith, rules}
+use Rattle.std.proofs.Common.{◌≡◌, ◌≢◌, ℕ, zero, suc, ◌<◌, not, ◌==◌, List, [], ◌∷◌, ◌++◌, length, map, slice_get, Some, sym, subst, ◌∙◌, arith, rules}
 use Rattle.std.specs.List.Sorted.{IsStrictlySortedBy}
 use Rattle.std.specs.Ordering.{ordering_then}
 use Rattle.std.specs.declared.cmp.Ordering.{Ordering}
-use Rattle.std.specs.declared.cmp.Ordering.TheVariants.{Less, Equal, Greater}
+use Rattle.std.specs.declared.cmp.Ordering.TheVariants.{Less, Equal}
 use Rattle.std.proofs.lemmas.List.Kept.{IsStrictlySortedBy-filter}
 use Rattle.std.proofs.lemmas.Option.{get_or_from_slice_get, slice_get_within}
 use Rattle.srs.specs.declared.piece.Piece.{Piece}
@@ -35,12 +35,7 @@ differ-queues : (xs ys rest rest' : List Piece) → differ_cmp xs ys ≡ Less �
 unfolding differ_cmp
 differ-queues [] ys rest rest' less = cc
 differ-queues (x ∷ xs) [] rest rest' less = cc
-differ-queues (x ∷ xs) (y ∷ ys) rest rest' less = decided (differ-queues xs ys rest rest') (piece_cmp x y) refl less
-  where
-    decided : (differ_cmp xs ys ≡ Less → queue_cmp (xs ++ rest) (ys ++ rest') ≡ Less) → (o : Ordering) → piece_cmp x y ≡ o → ordering_then o (differ_cmp xs ys) ≡ Less → ordering_then (piece_cmp x y) (queue_cmp (xs ++ rest) (ys ++ rest')) ≡ Less
-    decided later Less is h = ap (λ a. ordering_then a (queue_cmp (xs ++ rest) (ys ++ rest'))) is
-    decided later Equal is h = ap (λ a. ordering_then a (queue_cmp (xs ++ rest) (ys ++ rest'))) is ∙ later h
-    decided later Greater is h = cc
+differ-queues (x ∷ xs) (y ∷ ys) rest rest' less = search (rules, (differ-queues xs ys rest rest'))
 
 -- a list that begins alike
 alike-queues : (front xs ys : List Piece) → queue_cmp xs ys ≡ Less → queue_cmp (front ++ xs) (front ++ ys) ≡ Less
@@ -76,10 +71,7 @@ queues-rise (e ∷ elements) =
     subst (λ b. queue_cmp x b ≡ Less) two.2 (subst (λ a. queue_cmp a (d ++ two.0) ≡ Less) one.2 (differ-queues c d one.0 two.0 less)))
 
 itself : (queue : List Piece) → queue_cmp queue queue ≡ Less → ⊥
-itself [] less = no less
-  where
-    no : Equal ≡ Less → ⊥
-    no e = cc
+itself [] less = search rules
 itself (p ∷ queue) less = itself queue (sym (same_first p (queue_cmp queue queue)) ∙ less)
 
 distinct : (qs : List (List Piece)) → IsStrictlySortedBy queue_cmp qs → (i j : ℕ) → i < j → j < length qs → slice_get qs i ≢ slice_get qs j

@@ -1,5 +1,5 @@
 -- The grammar as a relation and the function that reads a text agree: what is spelled is read.
-use Rattle.std.proofs.Common.{◌≡◌, ◌≢◌, ℕ, ◌+◌, ◌-◌, ◌<◌, ◌≤◌, Bool, true, false, ◌&&◌, ◌==◌, nat_lt, nat_le, lt-ltb, le-leb, eqb-true, ne_eqb, List, [], ◌∷◌, ◌++◌, length, append_assoc, append-nil, length-append, bit_or, refl, ap, sym, subst, ◌∙◌, arith, Some, None, Ok, inl, inr, ◌⊎◌, rules}
+use Rattle.std.proofs.Common.{◌≡◌, ◌≢◌, ℕ, ◌+◌, ◌-◌, ◌<◌, ◌≤◌, Bool, true, false, ◌&&◌, ◌==◌, nat_lt, nat_le, lt-ltb, le-leb, eqb-true, ne_eqb, List, [], ◌∷◌, ◌++◌, length, append_assoc, append-nil, length-append, bit_or, refl, ap, sym, subst, ◌∙◌, arith, Some, None, Ok, ◌⊎◌, rules}
 use Rattle.std.proofs.lemmas.Bool.{cases_Bool, and_from}
 use Rattle.std.proofs.lemmas.Bool.Decides.{nat_tests}
 use Rattle.std.proofs.lemmas.Nat.{pow_pos, le_or_r}
@@ -34,8 +34,7 @@ no_mark text elements (element {front = front} {rest = rest} {first = first} spe
 -- so the set is one of which one piece is chosen
 ends_there : (text : List ℕ) (start set place : ℕ) → NoMark text → elements_from (closed start set) place text ≡ before (choice start set 1) (elements_from outside place text)
 unfolding elements_from
-ends_there [] start set place free = refl
-ends_there (byte ∷ bytes) start set place free = rw (free.0, free.1, free.2) refl
+ends_there text start set place free = search rules
 
 or_some : (a b : ℕ) → b ≢ 0 → bit_or a b ≢ 0
 or_some a b some e = some (omega (arith, e, le_or_r a b))
@@ -106,8 +105,7 @@ read_chosen back rest start set n place says free = go back n (length (pieces_in
 
     marked : (mark n : ℕ) → (mark ≡ 112) ⊎ (mark ≡ 80) → 1 ≤ n → n ≤ 9
         → elements_from (closed start set) place (mark ∷ (48 + n) ∷ rest) ≡ before (choice start set n) (elements_from outside (place + 1 + 1) rest)
-    marked mark n (inl small) low high = rw small (digit_read n low high)
-    marked mark n (inr capital) low high = rw capital (digit_read n low high)
+    marked mark n h2 low high = search (rules, digit_read)
 
     go : (back : List ℕ) (n size : ℕ) → size ≡ length (pieces_in set) → SpellsChosen size back n → (back ≡ [] → NoMark rest)
         → elements_from (closed start set) place (back ++ rest) ≡ before (choice start set n) (elements_from outside (place + length back) rest)
@@ -146,10 +144,7 @@ clear_gap : (byte : ℕ) (more rest : List ℕ) → is_gap byte ≡ true → Cle
 clear_gap byte more rest is clear = record { free = λ done front es set joined spelled. clear.free (byte ∷ done) front es set (ap (λ t. byte ∷ t) joined) (gap is spelled) }
 
 clear_element : (front more rest : List ℕ) (e : Element) → SpellsElement front e → Clear (front ++ more) rest → Clear more rest
-clear_element front more rest e first clear = record {
-  free = λ done set_text es set joined spelled. clear.free (front ++ done) set_text (e ∷ es) set
-      (ap (λ t. front ++ t) joined ∙ sym (append_assoc front done set_text)) (element first spelled);
-}
+clear_element front more rest e first clear = search (rules, append_assoc, element, first)
 
 one_before : (e : Element) (es : List Element) (read : Elements) → before (Ok e) (after_front es read) ≡ after_front (e ∷ es) read
 one_before e es read = search rules

@@ -118,12 +118,7 @@ next_piece whole index room front left block set n rest_block next_set rest piec
 -- no element is left: the queue is found
 pub found : (whole : List Element) (index room : ℕ) (front : List Piece) (left block : ℕ) → Between whole index room front left block [] → slice_get (queues whole) index ≡ Some front
 unfolding queue_count
-found whole index room front left block so_far =
-    let first : left ≡ 0 = omega (arith, so_far.stands.within, so_far.blocks) in
-    so_far.stands.here
-    ∙ ap (λ k. option_map (λ tail. front ++ tail) (slice_get (queues []) k)) first
-    ∙ ap (λ qs. option_map (λ tail. front ++ tail) (slice_get qs 0)) queues-none
-    ∙ ap Some (append-nil front)
+found whole index room front left block so_far = search (rules, queues-none, append-nil)
 
 -- the block of the next piece, as it is computed
 pub record IsNextBlock (left block size set n : ℕ) (rest : List Element) : Type 0 where
@@ -136,14 +131,7 @@ pub next_block : (whole : List Element) (index room : ℕ) (front : List Piece) 
 next_block whole index room front left block set m n size rest so_far one_more number =
     let now = subst (λ k. Within whole index room front left block set k rest) one_more so_far in
     let parts = block_of whole index room front left block set n rest now in
-    let rest_block : ℕ = falling_factor (length (pieces_in set) - 1) n * queue_count rest in
-    let whole_block : block ≡ size * rest_block = parts.0 ∙ ap (λ k. k * rest_block) (sym number) in
-    let is : block / size ≡ rest_block = ap (λ k. k / size) whole_block ∙ mul-div_cancel_left rest_block (omega (arith, parts.2, number)) in
-    record {
-      is = is;
-      some = omega (arith, is, parts.1);
-      within = subst (λ k. left / k < length (pieces_in set)) (sym is) (div_below left rest_block (length (pieces_in set)) parts.1 (omega (arith, parts.0, now.stands.within)));
-    }
+    search (rules, mul-div_cancel_left, div_below)
 
 pub piece_taken : (whole : List Element) (index room : ℕ) (front : List Piece) (left block set m n size next_set : ℕ) (rest : List Element) (piece : Piece)
     → Within whole index room front left block set m rest → m ≡ suc n → size ≡ length (pieces_in set)
@@ -153,5 +141,4 @@ pub piece_taken : (whole : List Element) (index room : ℕ) (front : List Piece)
 piece_taken whole index room front left block set m n size next_set rest piece so_far one_more number there next few =
     let now = subst (λ k. Within whole index room front left block set k rest) one_more so_far in
     let q = next_block whole index room front left block set m n size rest so_far one_more number in
-    next_piece whole index room front left block set n (block / size) next_set rest piece now q.is there
-    (left / (block / size), q.within, get_or_from_slice_get (pieces_in set) (left / (block / size)) piece piece there) next few
+    search (rules, next_piece, get_or_from_slice_get)

@@ -1,5 +1,5 @@
 -- The goals of `without` that need lemmas.
-use Rattle.std.proofs.Common.{◌-◌, bit_and, rules}
+use Rattle.std.proofs.Common.{bit_and, rules}
 use Rattle.queue_pattern.proofs.SetLemmas.{pieces_in-without}
 use Rattle.queue_pattern.proofs.sets.without.Goals as goal
 

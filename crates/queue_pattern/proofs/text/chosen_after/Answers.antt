@@ -1,5 +1,5 @@
 -- The goals of `chosen_after` that need lemmas.
-use Rattle.std.proofs.Common.{◌≡◌, ◌+◌, ◌-◌, ◌<◌, ◌∙◌, ◌⊎◌, sym, ap, inl, inr, arith, rules}
+use Rattle.std.proofs.Common.{◌≡◌, ◌+◌, ◌-◌, ◌∙◌, ◌⊎◌, sym, ap, inl, inr, arith, rules}
 use Rattle.queue_pattern.specs.Grammar.{read_at, outside, before, choice}
 use Rattle.queue_pattern.proofs.ReadStep.{closed_bang, closed_choosing, choosing_digit, choosing_other, closed_other, within_text}
 use Rattle.queue_pattern.proofs.text.chosen_after.Goals as goal
@@ -18,11 +18,8 @@ returns-then-mark-ne80-clause-chosen c = search (rules, closed_other)
 
 pub returns-then-digit-lt49-clause-chosen : goal.returns-then-digit-lt49-clause-chosen
 returns-then-digit-lt49-clause-chosen c = λ start.
-    let mark : (c.byte_at-mark.result ≡ 112) ⊎ (c.byte_at-mark.result ≡ 80) = elim c.else-mark-ne112.either [ inl capital ↦ inr capital.1 | inr small ↦ inl small ] in
-    let digit : (c.byte_at-digit.result < 49) ⊎ (57 < c.byte_at-digit.result) = elim c.then-digit-lt49.either [ inl below ↦ inl below | inr above ↦ inr above.1 ] in
     let place_in = within_text c.args.text.now c.args.place c.byte_at-mark.result (sym c.byte_at-mark.ensures) (omega arith) in
-    closed_choosing c.args.text.now start c.args.set c.args.place c.byte_at-mark.result (sym c.byte_at-mark.ensures) mark
-    ∙ choosing_other c.args.text.now start c.args.set (c.args.place + 1) c.byte_at-digit.result (omega arith) (sym c.byte_at-digit.ensures) digit
+    search (rules, closed_choosing, choosing_other)
 
 pub returns-clause-chosen : goal.returns-clause-chosen
 returns-clause-chosen c =

@@ -35,5 +35,4 @@ loop-place-preserved c =
 pub returns : goal.returns
 returns c =
     let at_end : c.loop-place.place ≡ length c.args.text.now = omega arith in
-    c.loop-place.invariant.1 ∙ ap (read_at c.args.text.now (listing c.args.start c.args.except c.loop-place.listed)) at_end
-    ∙ read_end c.args.text.now (listing c.args.start c.args.except c.loop-place.listed)
+    search (rules, listing, read_end)
