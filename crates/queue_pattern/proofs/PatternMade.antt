@@ -1,5 +1,5 @@
 -- A text that is read within the limits has a pattern.
-use Rattle.std.proofs.Common.{◌≡◌, ℕ, ◌-◌, ◌<◌, ◌≤◌, true, nat_lt, nat_le, List, [], ◌∷◌, ◌++◌, length, length-append, take, replicate, bit_or, refl, ◌∙◌, arith, Ok, Err, rules}
+use Rattle.std.proofs.Common.{◌≡◌, ℕ, ◌-◌, ◌<◌, ◌≤◌, true, nat_lt, nat_le, List, [], ◌∷◌, ◌++◌, length, length-append, take, replicate, bit_or, refl, ap, sym, ◌∙◌, arith, Ok, Err, rules}
 use Rattle.std.specs.List.{list_all}
 use Rattle.std.proofs.lemmas.Bool.{and_from, lt-ltb, le-leb}
 use Rattle.std.proofs.lemmas.Bool.Decides.{nat_tests}
@@ -79,5 +79,18 @@ pattern-made text es read =
     let sound = elements_sound text es (spelled-from_read text es within.0) in
     let few : length es ≤ 22 = omega (arith, within.1.short, length-le-queue_len es sound) in
     let front = kept-front es in
-    let pattern : Pattern = search (rules, kept-length, queue_count-some) in
+    let pattern : Pattern = record {
+      elements = kept es;
+      number = length es;
+      pieces = queue_len es;
+      count = queue_count es;
+      room = kept-length es few;
+      within = few;
+      sound = ap (list_all is_sound) front ∙ sound;
+      len = sym (ap queue_len front);
+      short = within.1.short;
+      counted = sym (ap queue_count front);
+      some = queue_count-some es sound;
+      few = within.1.few;
+    } in
     (pattern, front)
