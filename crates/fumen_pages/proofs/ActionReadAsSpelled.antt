@@ -191,18 +191,7 @@ says_from_operation dialect number operation e = go (piece_with_code (number % 8
     place = number / 32 % page_cell_count dialect
 
     go : (o : Option Piece) → piece_with_code (number % 8) ≡ o → SaysOperation dialect number operation (flags_in dialect number)
-    go None named =
-        let none : ◌≡◌ {A = Result (Option Placement) ActionFault} (Ok None) (Ok operation) = ap (λ (o : Option Piece). operation_of dialect o rotation place) (sym named) ∙ e in
-        let is : None ≡ operation = cc in
-        let zero_code : number % 8 ≡ 0 = eqb-true (number % 8) 0 (ap (λ (o : Option Piece). has_code o (number % 8)) (sym named) ∙ named_code (number % 8) (omega arith)) in
-        subst (λ (o : Option Placement). SaysOperation dialect number o (flags_in dialect number)) is
-        (record {
-          rotation = number / 8 % 4;
-          place = place;
-          turned = omega arith;
-          within = place_below dialect number;
-          number_is = number_of_its_parts dialect number ∙ ap (λ (k : ℕ). number_of_parts dialect k (number / 8 % 4) place (flags_in dialect number)) zero_code;
-        })
+    go None named = search (rules, rotation, eqb-true, named_code, place_below, number_of_its_parts)
     go (Some piece) named =
         let pivot = moved_back (numbered_cell dialect place) (written_by piece rotation) in
         let p = placed_ok dialect piece rotation pivot operation (ap (λ (o : Option Piece). operation_of dialect o rotation place) (sym named) ∙ e) in

@@ -53,9 +53,7 @@ in_rows-in_well dialect cell h = search (rules, in_rows-place, page_row_count-mo
 
 all_in_well : (dialect : Dialect) (cells : List Cell) → list_all (in_rows dialect) cells ≡ true → list_all in_well cells ≡ true
 all_in_well dialect [] all = refl
-all_in_well dialect (c ∷ cells) all =
-    let parts = and_parts (in_rows dialect c) (list_all (in_rows dialect) cells) all in
-    and_from (in_well c) (list_all in_well cells) (in_rows-in_well dialect c parts.0) (all_in_well dialect cells parts.1)
+all_in_well dialect (c ∷ cells) all = search (rules, and_parts, and_from, in_rows-in_well, (all_in_well dialect cells))
 
 pub inside_well : (dialect : Dialect) (p : Placement) → is_inside_in dialect p ≡ true → is_inside_of p ≡ true
 inside_well dialect p = all_in_well dialect (cells_of p)

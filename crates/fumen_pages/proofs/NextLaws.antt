@@ -19,9 +19,6 @@ use Rattle.fumen_pages.proofs.RowLaws.{flat, IsRow, length-flat, length-rows_in,
 
 -- ---- the cells of the operation
 
-abbrev written_at : ℕ → List ℕ → Cell → List ℕ
-written_at value before cell = set before (place_of V115 cell) value
-
 fold_four : (f : List ℕ → Cell → List ℕ) (a : List ℕ) (cells : List Cell) (d : Cell) → length cells ≡ 4 → f (f (f (f a (get_or cells 0 d)) (get_or cells 1 d)) (get_or cells 2 d)) (get_or cells 3 d) ≡ fold f a cells
 fold_four f a cells d four = search (rules, common_steps)
 
@@ -149,8 +146,7 @@ pub kept_least : (rows : List (List ℕ)) → length (filter (λ r. not (is_full
 kept_least rows = let both = length-filter_both (λ r. not (is_full_page_row r)) is_full_page_row (λ r. sym (not_not (is_full_page_row r))) rows in omega arith
   where
     not_not : (b : Bool) → not (not b) ≡ b
-    not_not true = refl
-    not_not false = refl
+    not_not b = search rules
 
 pub without_full_kept : (row : List ℕ) (rows : List (List ℕ)) → is_full_page_row row ≡ false → without_full (rows ++ row ∷ []) ≡ without_full rows ++ row ∷ []
 unfolding without_full

@@ -1,5 +1,5 @@
 -- A record that is read stands there, and what stands there is read; a fault is the first one there.
-use Rattle.std.proofs.Common.{◌≡◌, ℕ, ◌+◌, ◌-◌, ◌*◌, ◌≤◌, Bool, true, false, leb, List, [], ◌∷◌, ◌++◌, length, take, drop, All, Result, Ok, Err, refl, sym, ap, subst, ◌∙◌, inl, inr, arith, rules}
+use Rattle.std.proofs.Common.{◌≡◌, ℕ, ◌+◌, ◌-◌, ◌*◌, ◌≤◌, Bool, true, false, List, [], ◌∷◌, ◌++◌, length, take, drop, All, Result, Ok, Err, refl, sym, ap, subst, ◌∙◌, inl, inr, arith, rules}
 use Rattle.std.specs.Prelude.{replicate, nat_eq}
 use Rattle.std.specs.List.{list_all, flat_map, starts_with, AllByRecursion}
 use Rattle.std.specs.Cmp.Lexicographic.{pointwise_decides}
@@ -14,7 +14,7 @@ use Rattle.fumen_digits.specs.declared.fault.FumenFault.{FumenFault}
 use Rattle.fumen_digits.proofs.CallerLemmas.{bind_ok, bind_err, ok_bind, err_bind, length-digits, Stands-is, Stands-same}
 use Rattle.fumen_pages.specs.declared.record.CellsRead.{CellsRead}
 use Rattle.fumen_pages.specs.Cells.{IsColour, missing_count, shown, AreCells}
-use Rattle.fumen_pages.specs.Record.{Run, IsCellRun, moved_by, stays_colour, run_digits, CutsInto, unchanged, IsRecord}
+use Rattle.fumen_pages.specs.Record.{Run, IsCellRun, moved_by, stays_colour, run_digits, unchanged, IsRecord}
 use Rattle.fumen_pages.specs.Reading.{runs_at, record_at}
 use Rattle.fumen_pages.specs.Faults.{RecordStands, IsRecordFault}
 use Rattle.fumen_pages.proofs.RunsReadAsSpelled.{RunsStand, old_cells, new_cells, runs_from_read, read_from_runs, runs_fault_from_read, read_from_runs_fault}
@@ -35,10 +35,7 @@ whole_cells dialect cells sound = search (rules, take-append-drop)
 
 moved-colours : (shift : ℕ) (cells : List ℕ) → list_all (stays_colour shift) cells ≡ true → All IsColour (moved_by shift cells)
 moved-colours shift [] good = All-nil IsColour
-moved-colours shift (cell ∷ cells) good =
-    let parts = and_parts (stays_colour shift cell) (list_all (stays_colour shift) cells) good in
-    let high = leb-true (cell + shift) 16 (and_parts (leb 8 (cell + shift)) (leb (cell + shift) 16) parts.0).1 in
-    All-cons IsColour (cell + shift - 8) (moved_by shift cells) (omega arith) (moved-colours shift cells parts.1)
+moved-colours shift (cell ∷ cells) good = search (rules, and_parts, leb-true, All-cons, (moved-colours shift cells))
 
 -- what runs make are as many cells, and colours
 record AreMade (old new : List ℕ) : Type 0 where
@@ -178,17 +175,7 @@ read_of_runs dialect ds place old new le sound e = go (is_unchanged dialect ds p
         let end : place + 2 ≡ new.1 = sym (ap (λ (x : List ℕ × ℕ). x.1) pair) in
         let kept : cells ≡ old = ap (λ (x : List ℕ × ℕ). replicate (missing_count dialect) 0 ++ x.0) pair ∙ whole_cells dialect old sound in
         whole true is (unchanged dialect) (subst (λ (k : ℕ). Stands ds place (unchanged dialect) k) end there) (kept, refl)
-    go false is =
-        whole false is runs.text runs.stands
-        (record {
-          cuts = record {
-            old_cells = sound;
-            new_cells = new_sound;
-            runs = runs.runs;
-            cut = subst (λ (xs : List ℕ). CutsInto n runs.runs (shown dialect old) xs runs.text) (sym (shown-made dialect new.0)) runs.cut;
-          };
-          other = λ (text : runs.text ≡ unchanged dialect). both_ways (is_unchanged dialect ds place) is (front_from_stands dialect ds place new.1 (subst (λ (xs : List ℕ). Stands ds place xs new.1) text runs.stands));
-        })
+    go false is = search (rules, whole, runs, new_sound, shown-made, both_ways, front_from_stands)
 
 pub read_from_ok : (dialect : Dialect) (ds : List ℕ) (place : ℕ) (old : List ℕ) (read : CellsRead) → place ≤ length ds → AreCells dialect old → record_at dialect ds place old ≡ Ok read → RecordRead dialect ds place old read
 unfolding record_at made

@@ -32,10 +32,7 @@ pub AreRows-rows_in : (count : ℕ) (cells : List ℕ) → 10 * count ≤ length
 unfolding rows_in
 AreRows-rows_in zero cells room = tt
 AreRows-rows_in (suc count) cells room =
-    let ten : 10 ≤ length cells = omega arith in
-    let len = length-drop 10 cells in
-    let rest : 10 * count ≤ length (drop 10 cells) = omega arith in
-    (length-take-le 10 cells ten, AreRows-rows_in count (drop 10 cells) rest)
+    search (rules, length-drop, length-take-le, (AreRows-rows_in count (drop 10 cells)))
 
 -- one more row
 pub rows_in_more : (count : ℕ) (cells : List ℕ) → rows_in (suc count) cells ≡ rows_in count cells ++ take 10 (drop (10 * count) cells) ∷ []

@@ -68,13 +68,11 @@ is_longer : (n cell shift : ℕ) (run : Run) (runs : List Run) → stays_colour 
 is_longer n cell shift run runs good same = search (rules, longer_run, runs_longer, apart_longer)
 
 is_extended : (n cell shift : ℕ) (runs : List Run) → stays_colour shift cell ≡ true → IsExtended n cell shift runs (extended cell shift runs)
-is_extended n cell shift [] good =
-    subst (λ (made : List Run). IsExtended n cell shift [] made) (sym (extended_none cell shift)) (is_single n cell shift [] good (λ apart. tt))
+is_extended n cell shift [] good = search (rules, extended_none, is_single)
 is_extended n cell shift (run ∷ runs) good = go (eqb run.shift shift) refl
   where
     go : (b : Bool) → eqb run.shift shift ≡ b → IsExtended n cell shift (run ∷ runs) (extended cell shift (run ∷ runs))
-    go true e =
-        subst (λ (made : List Run). IsExtended n cell shift (run ∷ runs) made) (sym (extended_same cell shift run runs e)) (is_longer n cell shift run runs good (eqb-true run.shift shift e))
+    go true e = search (rules, extended_same, is_longer, eqb-true)
     go false e =
         subst (λ (made : List Run). IsExtended n cell shift (run ∷ runs) made) (sym (extended_other cell shift run runs e)) (is_single n cell shift (run ∷ runs) good (λ apart. (λ same. eqb-false run.shift shift e (sym same), apart)))
 
@@ -146,35 +144,7 @@ longest_first cell value [] [] same =
     let one : same_count shift (cell ∷ []) (value ∷ []) ≡ 1 = same_count_cons shift cell value [] [] true (eq-eqb shift shift refl) ∙ ap suc (same_count_none shift []) in
     longest_cons cell value [] [] ∙ (alone cell value shift ∙ ap (λ (k : ℕ). from_first k shift (cell ∷ []) (value ∷ [])) (sym one))
 longest_first cell value (next ∷ old) (new_next ∷ new) same =
-    let shift = colour_difference cell value in
-    let other = colour_difference next new_next in
-    let count = same_count other (next ∷ old) (new_next ∷ new) in
-    let rest = longest_first next new_next old new (omega arith) in
-    let one = same_count_cons shift cell value (next ∷ old) (new_next ∷ new) true (eq-eqb shift shift refl) in
-    longest_cons cell value (next ∷ old) (new_next ∷ new) ∙ (ap (λ (runs : List Run). extended cell shift runs) rest ∙ go (eqb other shift) refl one (sym rest))
-  where
-    shift : ℕ
-    shift = colour_difference cell value
-
-    other : ℕ
-    other = colour_difference next new_next
-
-    count : ℕ
-    count = same_count other (next ∷ old) (new_next ∷ new)
-
-    go : (b : Bool) → eqb other shift ≡ b → same_count shift (cell ∷ next ∷ old) (value ∷ new_next ∷ new) ≡ suc (same_count shift (next ∷ old) (new_next ∷ new))
-        → from_first count other (next ∷ old) (new_next ∷ new) ≡ longest (next ∷ old) (new_next ∷ new) → extended cell shift (from_first count other (next ∷ old) (new_next ∷ new)) ≡ from_first (same_count shift (cell ∷ next ∷ old) (value ∷ new_next ∷ new)) shift (cell ∷ next ∷ old) (value ∷ new_next ∷ new)
-    go true e one rest =
-        let is : other ≡ shift = eqb-true other shift e in
-        let whole : same_count shift (cell ∷ next ∷ old) (value ∷ new_next ∷ new) ≡ suc count = one ∙ ap (λ (k : ℕ). suc (same_count k (next ∷ old) (new_next ∷ new))) (sym is) in
-        extended_same cell shift (record { old = take count (next ∷ old); shift = other }) (longest (drop count (next ∷ old)) (drop count (new_next ∷ new))) e
-        ∙ ap (λ (k : ℕ). from_first k shift (cell ∷ next ∷ old) (value ∷ new_next ∷ new)) (sym whole)
-    go false e one rest =
-        let none : same_count shift (next ∷ old) (new_next ∷ new) ≡ 0 = same_count_cons shift next new_next old new false e in
-        let whole : same_count shift (cell ∷ next ∷ old) (value ∷ new_next ∷ new) ≡ 1 = one ∙ ap suc none in
-        extended_other cell shift (record { old = take count (next ∷ old); shift = other }) (longest (drop count (next ∷ old)) (drop count (new_next ∷ new))) e
-        ∙ (ap (λ (runs : List Run). single cell shift ∷ runs) rest
-        ∙ ap (λ (k : ℕ). from_first k shift (cell ∷ next ∷ old) (value ∷ new_next ∷ new)) (sym whole))
+    search (rules, same_count_cons, eq-eqb, longest_cons, eqb-true, extended_same, extended_other, single, (longest_first next new_next old new))
 
 -- ---- the record that is written
 

@@ -1,5 +1,5 @@
 -- The pivot lies in the well, and so does the cell where it is written.
-use Rattle.std.proofs.Common.{◌≡◌, true, sym, ap, subst, ◌∙◌, arith}
+use Rattle.std.proofs.Common.{◌≡◌, true, sym, ap, subst, ◌∙◌, arith, rules}
 use Rattle.std.proofs.lemmas.Int.{ints}
 use Rattle.srs.specs.Cells.{Cell}
 use Rattle.srs.proofs.CallerLemmas.{pivot_inside}
@@ -19,15 +19,13 @@ pub moved-written-requires-clause-right : goal.moved-written-requires-clause-rig
 moved-written-requires-clause-right c = grind (arith, ints, pivot_inside, inside_well)
 
 pub moved-written-requires-clause-left : goal.moved-written-requires-clause-left
-moved-written-requires-clause-left c =
-    let p = pivot_inside c.args.placement.now (inside_well c.args.dialect c.args.placement.now c.requires) in omega (arith, ints)
+moved-written-requires-clause-left c = search (rules, pivot_inside, inside_well)
 
 pub moved-written-requires-clause-high : goal.moved-written-requires-clause-high
 moved-written-requires-clause-high c = grind (arith, ints, pivot_inside, inside_well)
 
 pub moved-written-requires-clause-low : goal.moved-written-requires-clause-low
-moved-written-requires-clause-low c =
-    let p = pivot_inside c.args.placement.now (inside_well c.args.dialect c.args.placement.now c.requires) in omega (arith, ints)
+moved-written-requires-clause-low c = search (rules, pivot_inside, inside_well)
 
 pub place_of-requires : goal.place_of-requires
 place_of-requires c =

@@ -1,12 +1,10 @@
 -- The record that stands there and the first fault there, from what reading gives.
-use Rattle.std.proofs.Common.{◌≡◌, ℕ, ◌≤◌, length, Result, Ok, Err, ap, ◌∙◌}
+use Rattle.std.proofs.Common.{◌≡◌, ◌≤◌, length, Ok, Err, ap, ◌∙◌, rules}
 use Rattle.std.specs.Prelude.{IfOk}
 use Rattle.std.proofs.lemmas.Result.{IfOk-weaker}
-use Rattle.fumen_digits.specs.Answers.{Reads}
 use Rattle.fumen_digits.proofs.CallerLemmas.{reads_ok, reads_err, ok_from_read, err_from_read}
 use Rattle.fumen_pages.specs.declared.record.CellsRead.{CellsRead}
 use Rattle.fumen_pages.specs.declared.record.CellsFault.{CellsFault}
-use Rattle.fumen_pages.specs.declared.record.CellsFault.TheVariants as bad
 use Rattle.fumen_pages.specs.Cells.{AreCells}
 use Rattle.fumen_pages.specs.Reading.{record_at}
 use Rattle.fumen_pages.specs.Faults.{cells_fault}
@@ -17,11 +15,7 @@ abbrev view : CellsRead → CellsRead
 view read = read
 
 stands : (c : goal.After-read_record) → IfOk c.read_record.result (λ read. RecordRead c.args.dialect c.args.digits.now c.args.place c.args.old.now read)
-stands c = go c.read_record.result c.read_record.ensures
-  where
-    go : (r : Result CellsRead CellsFault) → Reads view cells_fault r (record_at c.args.dialect c.args.digits.now c.args.place c.args.old.now) → IfOk r (λ read. RecordRead c.args.dialect c.args.digits.now c.args.place c.args.old.now read)
-    go (Ok read) reads = read_from_ok c.args.dialect c.args.digits.now c.args.place c.args.old.now read c.requires.place c.requires.old reads
-    go (Err f) reads = tt
+stands c = search (rules, view, read_from_ok)
 
 pub returns-clause-within : goal.returns-clause-within
 returns-clause-within c =
@@ -44,22 +38,7 @@ returns-clause-found c = λ read.
     )
 
 same_fault : (a b : CellsFault) → cells_fault a ≡ cells_fault b → a ≡ b
-same_fault (bad.BadDigit j) (bad.BadDigit k) e = let same : j ≡ k = cc in ap (λ (n : ℕ). bad.BadDigit n) same
-same_fault (bad.Truncated j) (bad.Truncated k) e = let same : j ≡ k = cc in ap (λ (n : ℕ). bad.Truncated n) same
-same_fault (bad.RunPastEnd j) (bad.RunPastEnd k) e = let same : j ≡ k = cc in ap (λ (n : ℕ). bad.RunPastEnd n) same
-same_fault (bad.BadCell j) (bad.BadCell k) e = let same : j ≡ k = cc in ap (λ (n : ℕ). bad.BadCell n) same
-same_fault (bad.BadDigit j) (bad.Truncated k) e = absurd cc
-same_fault (bad.BadDigit j) (bad.RunPastEnd k) e = absurd cc
-same_fault (bad.BadDigit j) (bad.BadCell k) e = absurd cc
-same_fault (bad.Truncated j) (bad.BadDigit k) e = absurd cc
-same_fault (bad.Truncated j) (bad.RunPastEnd k) e = absurd cc
-same_fault (bad.Truncated j) (bad.BadCell k) e = absurd cc
-same_fault (bad.RunPastEnd j) (bad.BadDigit k) e = absurd cc
-same_fault (bad.RunPastEnd j) (bad.Truncated k) e = absurd cc
-same_fault (bad.RunPastEnd j) (bad.BadCell k) e = absurd cc
-same_fault (bad.BadCell j) (bad.BadDigit k) e = absurd cc
-same_fault (bad.BadCell j) (bad.Truncated k) e = absurd cc
-same_fault (bad.BadCell j) (bad.RunPastEnd k) e = absurd cc
+same_fault a b e = search rules
 
 pub returns-clause-fault : goal.returns-clause-fault
 returns-clause-fault c = λ f.
