@@ -143,12 +143,5 @@ reads_entry given table front entry five spelled fresh =
           let passes = offsets_pass (given ++ turned ∷ []) table turned place cells.a cells.b cells.c cells.d cells.e cells.a-small cells.b-small cells.c-small cells.d-small cells.e-small in
           let same : put_from table turned 1 (cells.a ∷ cells.b ∷ cells.c ∷ cells.d ∷ cells.e ∷ []) ≡ table_with_entry table entry =
           put_five table turned cells.a cells.b cells.c cells.d cells.e five ∙ ap (λ offsets. table_with_entry table (record { turned = turned; offsets = offsets })) (sym cells.are) in
-          let far : (place + 1 + 1) + length (58 ∷ offsets_form (cells.a ∷ cells.b ∷ cells.c ∷ cells.d ∷ cells.e ∷ [])) ≡ place + length front =
-          omega (arith, ap length spelled.whole, ap (λ cs. length (offsets_form cs)) cells.are) in
-          ap (λ t. read_on (at given table Division) place (t ++ rest)) spelled.whole
-          ∙ begun given table place spelled.letter turned (58 ∷ text ++ rest) spelled.named fresh
-          ∙ ap (λ cs. read_on (at (given ++ turned ∷ []) table (Letters turned place)) (place + 1 + 1) ((58 ∷ offsets_form cs) ++ rest)) cells.are
-          ∙ passes.on (place + 1 + 1) rest
-          ∙ ap (λ t. read_on (at (given ++ turned ∷ []) t (whole turned 5 cells.e)) ((place + 1 + 1) + length (58 ∷ offsets_form (cells.a ∷ cells.b ∷ cells.c ∷ cells.d ∷ cells.e ∷ []))) rest) same
-          ∙ ap (λ n. read_on (at (given ++ turned ∷ []) (table_with_entry table entry) (whole turned 5 cells.e)) n rest) far;
+          search (rules, begun);
     }

@@ -1,5 +1,5 @@
 -- The pieces and rotations that have an entry.
-use Rattle.std.proofs.Common.{◌≡◌, ℕ, ◌+◌, ◌-◌, ◌*◌, ◌<◌, true, false, not, eqb, eqb-true, List, [], ◌∷◌, ◌++◌, length, map, refl, sym, ◌∙◌, arith, inl, inr, rules}
+use Rattle.std.proofs.Common.{◌≡◌, ℕ, ◌+◌, ◌-◌, ◌*◌, ◌<◌, true, false, eqb, eqb-true, List, [], ◌∷◌, ◌++◌, length, map, refl, arith, rules}
 use Rattle.std.specs.List.{list_any, IsDistinct, AllByRecursion}
 use Rattle.std.proofs.lemmas.Bool.{and_parts, or_cases, or_parts, not-true}
 use Rattle.std.proofs.lemmas.Bool.Decides.{nat_tests}
@@ -30,23 +30,16 @@ is_same-symmetric one other = search (rules, is_same-number, number_of, nat_test
 apart : (turned : TurnedPiece) (given : List TurnedPiece) → is_repeated given turned ≡ false
     → AllByRecursion (λ n. eqb (number_of turned) n ≡ false) (map number_of given)
 apart turned [] none = tt
-apart turned (other ∷ given) none =
-    let parts = or_parts (is_same turned other) (is_repeated given turned) none in
-    (sym (is_same-number turned other) ∙ parts.0, apart turned given parts.1)
+apart turned (other ∷ given) none = search (rules, or_parts, is_same-number, (apart turned given))
 
 numbers_distinct : (given : List TurnedPiece) → are_distinct given ≡ true → IsDistinct eqb (map number_of given)
 unfolding IsDistinct
 numbers_distinct [] distinct = tt
-numbers_distinct (turned ∷ given) distinct =
-    let parts = and_parts (not (is_repeated given turned)) (are_distinct given) distinct in
-    (apart turned given (not-true (is_repeated given turned) parts.0), numbers_distinct given parts.1)
+numbers_distinct (turned ∷ given) distinct = search (rules, and_parts, apart, not-true, (numbers_distinct given))
 
 below : (given : List TurnedPiece) (n : ℕ) → list_any (eqb n) (map number_of given) ≡ true → n < 28
 below [] n has = cc
-below (turned ∷ given) n has = elim (or_cases (eqb n (number_of turned)) (list_any (eqb n) (map number_of given)) has) [
-  | inl first ↦ let is = eqb-true n (number_of turned) first in let within = number_of-within turned in omega (arith, is, within)
-  | inr later ↦ below given n later
-]
+below (turned ∷ given) n has = search (rules, or_cases, eqb-true, number_of-within, (below given n))
 
 -- there are 28 at most
 pub room : (given : List TurnedPiece) (turned : TurnedPiece) → are_distinct given ≡ true → is_repeated given turned ≡ false → length given < 28
@@ -61,11 +54,4 @@ pub distinct_more : (given : List TurnedPiece) (turned : TurnedPiece) → are_di
     → are_distinct (given ++ turned ∷ []) ≡ true
 distinct_more [] turned distinct none = refl
 distinct_more (other ∷ given) turned distinct none =
-    let parts = and_parts (not (is_repeated given other)) (are_distinct given) distinct in
-    let apart_from = or_parts (is_same turned other) (is_repeated given turned) none in
-    rw (
-      list_any-append (is_same other) given (turned ∷ []),
-      not-true (is_repeated given other) parts.0,
-      is_same-symmetric other turned ∙ apart_from.0,
-      distinct_more given turned parts.1 apart_from.1,
-    ) refl
+    search (rules, and_parts, or_parts, list_any-append, not-true, is_same-symmetric, (distinct_more given turned))

@@ -9,14 +9,13 @@ use Rattle.srs.specs.declared.offset.Offset.{Offset}
 use Rattle.srs.specs.Cells.{Cell}
 use Rattle.srs.specs.Kick.{Table, table_with, pair_of}
 use Rattle.srs.specs.Piece.{piece_with_letter}
-use Rattle.srs.specs.Rotation.{rotation_letter, rotation_with_letter}
+use Rattle.srs.specs.Rotation.{rotation_with_letter}
 use Rattle.kick_file.specs.declared.turned.TurnedPiece.{TurnedPiece}
 use Rattle.kick_file.specs.declared.parser_state.ParserState.{ParserState}
 use Rattle.kick_file.specs.declared.parser_state.ParserState.TheVariants.{Beginning, Division, Letter, Letters, Columns, Comma, Rows, Whole}
 use Rattle.kick_file.specs.Form.{Entry, signed_digit, offset_form, turned_of, table_of_entries}
 use Rattle.kick_file.specs.Faults.{SpellsBefore}
 use Rattle.kick_file.specs.Reading.{is_small_number, number_with_digit, next_state}
-use Rattle.kick_file.proofs.Entries.{put_from}
 use Rattle.kick_file.proofs.ReadIsSpelled.{one_more_before, ended_offsets, all_small}
 use Rattle.kick_file.proofs.Standing.{Here, Kept, AfterLetter, AfterLetters, Part, WholePart, finished, sign, number_found, rotation_found, small_offset, part_longer, put_more}
 
@@ -60,19 +59,7 @@ letters_moved text byte place start piece entries given table to after kept is =
     let turned : TurnedPiece = record { piece = piece; rotation = found.a } in
     subst (Moved (text ++ byte ∷ []) given table) found.to (record {
       entries = entries;
-      here = (
-        record {
-          before = after.before;
-          letter = after.letter;
-          spelled = after.spelled;
-          named = after.named;
-          whole = ap (λ t. t ++ byte ∷ []) after.whole ∙ append_assoc after.before (after.letter ∷ []) (byte ∷ [])
-              ∙ ap (λ b. after.before ++ after.letter ∷ b ∷ []) (rotation_found byte found.a found.is);
-          starts = after.starts;
-        },
-        ap (λ names. names ++ turned ∷ []) kept.names,
-        kept.is,
-      );
+      here = search (rules, append_assoc, rotation_found);
     })
 
 colon_moved : (text : List ℕ) (byte place start : ℕ) (turned : TurnedPiece) (entries : List Entry) (given : List TurnedPiece) (table : Table) (to : ParserState) → AfterLetters text entries turned start
@@ -85,15 +72,7 @@ colon_moved text byte place start turned entries given table to after names is n
       entries = entries;
       here = record {
         cells = [];
-        stands = record {
-          before = after.before;
-          letter = after.letter;
-          spelled = after.spelled;
-          named = after.named;
-          small = refl;
-          whole = ap (λ t. t ++ byte ∷ []) after.whole ∙ append_assoc after.before (after.letter ∷ rotation_letter turned.rotation ∷ []) (byte ∷ [])
-              ∙ ap (λ b. after.before ++ after.letter ∷ rotation_letter turned.rotation ∷ b ∷ []) (eqb-true byte 58 found.0);
-        };
+        stands = search (rules, append_assoc, eqb-true);
         number = refl;
         most = omega arith;
         names = names;
@@ -141,11 +120,7 @@ comma_moved text byte place turned test dx entries given table to here small nex
     let found = cond_some (byte == 44) (Rows turned test dx false) to next_is in
     subst (Moved (text ++ byte ∷ []) given table) found.1 (record {
       entries = entries;
-      here = (
-        part_longer text entries given table turned test (signed_digit dx) (signed_digit dx ++ 44 ∷ []) byte here
-            (ap (λ b. signed_digit dx ++ b ∷ []) (eqb-true byte 44 found.0)),
-        small,
-      );
+      here = search (rules, part_longer, eqb-true);
     })
 
 rows_moved : (text : List ℕ) (byte place : ℕ) (turned : TurnedPiece) (test : ℕ) (dx : ℤ) (is_negative : Bool) (entries : List Entry) (given : List TurnedPiece) (table : Table) (to : ParserState)
@@ -160,12 +135,7 @@ rows_moved text byte place turned test dx is_negative entries given table to her
       (sym (ap (λ b. cond b (Some (Rows turned test dx true)) (option_map (λ dy. Whole turned test (record { dx = dx; dy = dy })) (number_with_digit is_negative byte))) negative_next) ∙ next_is) in
       subst (Moved (text ++ byte ∷ []) given table) to_is (record {
         entries = entries;
-        here = (
-          part_longer text entries given table turned test (signed_digit dx ++ 44 ∷ sign is_negative) (signed_digit dx ++ 44 ∷ 45 ∷ []) byte here
-              (append_assoc (signed_digit dx) (44 ∷ sign is_negative) (byte ∷ [])
-              ∙ ap (λ n. signed_digit dx ++ 44 ∷ (sign n ++ byte ∷ [])) s.none ∙ ap (λ b. signed_digit dx ++ 44 ∷ b ∷ []) s.minus_sign),
-          small,
-        );
+        here = search (rules, part_longer, append_assoc);
       })
   | inr digit ↦
       let found = mapped (λ dy. Whole turned test (record { dx = dx; dy = dy })) (number_with_digit is_negative byte) to
@@ -173,13 +143,7 @@ rows_moved text byte place turned test dx is_negative entries given table to her
       let number = number_found is_negative byte found.a found.is in
       subst (Moved (text ++ byte ∷ []) given table) found.to (record {
         entries = entries;
-        here = record {
-          old = table;
-          part = part_longer text entries given table turned test (signed_digit dx ++ 44 ∷ sign is_negative) (offset_form (dx, found.a)) byte here
-              (append_assoc (signed_digit dx) (44 ∷ sign is_negative) (byte ∷ []) ∙ ap (λ t. signed_digit dx ++ 44 ∷ t) number.form);
-          small = small_offset dx found.a small number.small;
-          is = refl;
-        };
+        here = search (rules, part_longer, append_assoc, small_offset);
       })
 ]
 
@@ -193,26 +157,7 @@ slash_part text turned test cell entries given table here more =
     let form : (ended_offsets part.cells ++ offset_form cell) ++ 47 ∷ [] ≡ ended_offsets (part.cells ++ cell ∷ []) ++ [] =
     append_assoc (ended_offsets part.cells) (offset_form cell) (47 ∷ []) ∙ flat_map_more (λ c. offset_form c ++ 47 ∷ []) [] part.cells cell
     ∙ sym (append-nil (ended_offsets (part.cells ++ cell ∷ []))) in
-    let fifth : 1 + length part.cells ≡ test = omega (arith, part.number) in
-    record {
-      cells = part.cells ++ cell ∷ [];
-      stands = record {
-        before = stands.before;
-        letter = stands.letter;
-        spelled = stands.spelled;
-        named = stands.named;
-        small = all_small part.cells cell [] stands.small here.small refl;
-        whole = ap (λ t. t ++ 47 ∷ []) stands.whole
-            ∙ append_assoc stands.before (stands.letter ∷ rotation_letter turned.rotation ∷ 58 ∷ (ended_offsets part.cells ++ offset_form cell)) (47 ∷ [])
-            ∙ ap (λ t. stands.before ++ stands.letter ∷ rotation_letter turned.rotation ∷ 58 ∷ t) form;
-      };
-      number = omega (arith, part.number, length_push part.cells cell);
-      most = omega (arith, below);
-      names = part.names;
-      put = here.is ∙ ap (λ t. table_with t turned.piece turned.rotation test cell) part.put
-          ∙ ap (λ n. table_with (put_from (table_of_entries entries) turned 1 part.cells) turned.piece turned.rotation n cell) (sym fifth)
-          ∙ sym (put_more (table_of_entries entries) turned 1 part.cells cell);
-    }
+    search (rules, all_small, append_assoc, length_push, put_more)
 
 whole_moved : (text : List ℕ) (byte place : ℕ) (turned : TurnedPiece) (test : ℕ) (offset : Offset) (entries : List Entry) (given : List TurnedPiece) (table : Table) (to : ParserState)
     → WholePart text entries given table turned test (pair_of offset)
@@ -233,10 +178,7 @@ whole_moved text byte place turned test offset entries given table to here next_
       subst (λ b. Moved (text ++ b ∷ []) given table to) (sym (eqb-true byte 59 found.0))
       (subst (Moved (text ++ 59 ∷ []) given table) found.1 (record {
         entries = entries ++ end.entry ∷ [];
-        here = (
-          subst (λ t. SpellsBefore t (entries ++ end.entry ∷ [])) (sym form) (one_more_before end.before end.last entries end.entry end.spelled end.entry_spelled),
-          record { names = end.names; is = end.is },
-        );
+        here = search (rules, one_more_before);
       }))
 ]
 

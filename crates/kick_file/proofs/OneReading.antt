@@ -58,14 +58,7 @@ not_fine place read is fine = subst IsFine is fine
 unexpected : (text rest : List ℕ) (reading : Reading) → At text reading → kick_text (text ++ rest) ≡ Err (Unexpected (length text)) → IsStopped SpellsSome text rest
     → IsUnexpected (text ++ rest) (length text)
 unexpected text rest reading stands is stops = record {
-  leaves = record {
-    front = text;
-    rest = rest;
-    whole = refl;
-    stands = refl;
-    begins = front_here text stands.entries reading.given reading.table reading.state stands.here;
-    stops = stops;
-  };
+  leaves = search (rules, front_here);
   first = λ other repeats. let no : Err (Unexpected (length text)) ≡ Err (RepeatedEntry other) = sym is ∙ repeat_read (text ++ rest) other repeats in cc;
 }
 
@@ -74,9 +67,7 @@ end_unexpected : (text : List ℕ) (reading : Reading) → At text reading → e
     → IsReadAs (text ++ []) (Err (Unexpected (length text)))
 unfolding read_on
 end_unexpected text reading stands is =
-    let read : kick_text (text ++ []) ≡ Err (Unexpected (length text)) = stands.passes [] ∙ is in
-    unexpected text [] reading stands read
-    (λ some. not_fine (length text) (kick_text text) (ap kick_text (sym (append-nil text)) ∙ read) (spelled_fine text some.0 some.1))
+    search (rules, (unexpected text [] reading stands), (not_fine (length text) (kick_text text)), (append-nil text), (spelled_fine text))
 
 whole_end : (text : List ℕ) (given : List TurnedPiece) (table : Table) (turned : TurnedPiece) (test : ℕ) (offset : Offset) → At text (at given table (Whole turned test offset))
     → IsReadAs (text ++ []) (ended table (length text) (Whole turned test offset))
@@ -87,12 +78,7 @@ whole_end text given table turned test offset stands = elim (cases_Bool (nat_lt 
   | inr done ↦
       let is : ended table (length text) (Whole turned test offset) ≡ Ok table = ap (λ b. cond b (Err (Unexpected (length text))) (Ok table)) done in
       let end = finished text stands.entries given table turned test (pair_of offset) stands.here done in
-      subst (IsReadAs (text ++ [])) (sym is) (record {
-        entries = stands.entries ++ end.entry ∷ [];
-        spelled = subst (λ t. SpellsEntries t (stands.entries ++ end.entry ∷ [])) (sym end.whole ∙ sym (append-nil text)) (one_more end.before end.last stands.entries end.entry end.spelled end.entry_spelled);
-        distinct = subst (λ g. are_distinct g ≡ true) end.names stands.distinct;
-        is = end.is;
-      })
+      search (rules, append-nil, one_more)
 ]
 
 at_the_end : (text : List ℕ) (given : List TurnedPiece) (table : Table) (state : ParserState) → At text (at given table state)
@@ -110,21 +96,12 @@ at_the_end text given table (Whole turned test offset) stands = whole_end text g
 repeats : (text rest : List ℕ) (byte start : ℕ) (turned : TurnedPiece) (given : List TurnedPiece) (table : Table) (state : ParserState) (entries fresh : List Entry) → are_distinct given ≡ true
     → Here text entries given table state → Here (text ++ byte ∷ []) fresh (given ++ turned ∷ []) table (Letters turned start) → is_repeated given turned ≡ true
     → Repeats (text ++ byte ∷ rest) start
-repeats text rest byte start turned given table state entries fresh distinct here now among =
-    let same = same_from_push given (turned_of fresh) turned turned now.1 in
-    record {
-      front = now.0.before;
-      rest = rest;
-      entries = fresh;
-      turned = turned;
-      letter = now.0.letter;
-      before = now.0.spelled;
-      distinct = subst (λ g. are_distinct g ≡ true) same.0 distinct;
-      named = now.0.named;
-      whole = sym (append_assoc text (byte ∷ []) rest) ∙ ap (λ t. t ++ rest) now.0.whole ∙ append_assoc now.0.before (now.0.letter ∷ rotation_letter turned.rotation ∷ []) rest;
-      repeated = subst (λ g. is_repeated g turned ≡ true) same.0 among;
-      starts = now.0.starts;
-    }
+repeats text rest byte start turned given table state entries fresh distinct here now among = search (
+  rules,
+  (same_from_push given (turned_of fresh) turned turned now.1),
+  (append_assoc text (byte ∷ []) rest),
+  (append_assoc now.0.before (now.0.letter ∷ rotation_letter turned.rotation ∷ []) rest),
+)
 
 -- reading on with these bytes, from wherever a text stands
 abbrev ReadsOn : List ℕ → Type 0
@@ -135,18 +112,13 @@ by_result : (bytes text : List ℕ) (byte : ℕ) (given : List TurnedPiece) (tab
     → next_state state (length text) byte ≡ Some to → (r : Result Reading KickFault) → Enters given table state to r → after_byte (at given table state) (length text) byte ≡ r
     → IsReadAs (text ++ byte ∷ bytes) (read_after r (λ now. read_on now (length text + 1) bytes))
 unfolding read_on given_then table_then
-by_result bytes text byte given table state to stands later is (Ok now) (on distinct) step_to =
-    let there = moved text byte (length text) stands.entries given table state to stands.here refl is in
-    let longer : length (text ++ byte ∷ []) ≡ length text + 1 = length_push text byte in
-    subst (λ t. IsReadAs t (read_on now (length text + 1) bytes)) (append_assoc text (byte ∷ []) bytes)
-    (subst (λ n. IsReadAs ((text ++ byte ∷ []) ++ bytes) (read_on now n bytes)) longer
-    (later (text ++ byte ∷ []) (given_then given to) (table_then table to) to (record {
-      entries = there.entries;
-      distinct = distinct;
-      here = there.here;
-      passes = λ rest. ap kick_text (append_assoc text (byte ∷ []) rest) ∙ stands.passes (byte ∷ rest)
-          ∙ ap (λ r. read_after r (λ next. read_on next (length text + 1) rest)) step_to ∙ ap (λ n. read_on now n rest) (sym longer);
-    })))
+by_result bytes text byte given table state to stands later is (Ok now) (on distinct) step_to = search (
+  rules,
+  (moved text byte (length text) stands.entries given table state to stands.here refl is),
+  (length_push text byte),
+  (append_assoc text (byte ∷ []) bytes),
+  (append_assoc text (byte ∷ [])),
+)
 by_result bytes text byte given table state to stands later is (Err fault) (stood turned start same among) step_to =
     let there = moved text byte (length text) stands.entries given table state (Letters turned start) stands.here refl (is ∙ ap Some same) in
     repeats text bytes byte start turned given table state stands.entries there.entries stands.distinct stands.here there.here among
@@ -156,13 +128,7 @@ by_next : (bytes text : List ℕ) (byte : ℕ) (given : List TurnedPiece) (table
     → IsReadAs (text ++ byte ∷ bytes) (read_after (after_byte (at given table state) (length text) byte) (λ now. read_on now (length text + 1) bytes))
 unfolding read_on after_byte
 by_next bytes text byte given table state stands later None is =
-    let stops : after_byte (at given table state) (length text) byte ≡ Err (Unexpected (length text)) = ap (reading_at (at given table state) (length text)) is in
-    let read : (rest : List ℕ) → kick_text (text ++ byte ∷ rest) ≡ Err (Unexpected (length text)) =
-    λ rest. stands.passes (byte ∷ rest) ∙ ap (λ r. read_after r (λ now. read_on now (length text + 1) rest)) stops in
-    subst (IsReadAs (text ++ byte ∷ bytes)) (sym (ap (λ r. read_after r (λ now. read_on now (length text + 1) bytes)) stops))
-    (unexpected text (byte ∷ bytes) (at given table state) stands (read bytes)
-    (λ front. not_fine (length text) (kick_text ((text ++ byte ∷ []) ++ front.rest)) (ap kick_text (append_assoc text (byte ∷ []) front.rest) ∙ read front.rest)
-    (spelled_fine ((text ++ byte ∷ []) ++ front.rest) front.form.0 front.form.1)))
+    search (rules, (unexpected text (byte ∷ bytes) (at given table state) stands), (not_fine (length text)), (append_assoc text (byte ∷ [])), spelled_fine)
 by_next bytes text byte given table state stands later (Some to) is =
     let step_to : after_byte (at given table state) (length text) byte ≡ reading_at (at given table state) (length text) (Some to) = ap (reading_at (at given table state) (length text)) is in
     subst (λ r. IsReadAs (text ++ byte ∷ bytes) (read_after r (λ now. read_on now (length text + 1) bytes))) (sym step_to)
@@ -175,12 +141,7 @@ reads_on (byte ∷ bytes) text given table state stands = by_next bytes text byt
 
 -- what is read of a text is what it spells, or its fault
 pub read_as : (text : List ℕ) → IsReadAs text (kick_text text)
-read_as text = reads_on text [] [] srs_table Beginning (record {
-  entries = [];
-  distinct = refl;
-  here = (refl, refl, record { names = refl; is = refl });
-  passes = λ rest. refl;
-})
+read_as text = search (rules, (reads_on text [] [] srs_table Beginning))
 
 -- of two fronts of a text the longer one goes on from the shorter one
 record GoesFurther (front rest longer : List ℕ) : Type 0 where
@@ -200,12 +161,7 @@ goes_on_from (first ∷ front) rest (byte ∷ longer) later same short =
 -- a text that can go on beyond a front isn't stopped there
 beyond : (front rest longer later : List ℕ) → front ++ rest ≡ longer ++ later → length front < length longer → IsFront SpellsSome longer → IsStopped SpellsSome front rest → ⊥
 beyond front rest longer later same short begins stops =
-    let on = goes_on_from front rest longer later same short in
-    let stops_here = subst (IsStopped SpellsSome front) on.rest_is stops in
-    stops_here (record {
-      rest = on.more ++ begins.rest;
-      form = subst SpellsSome (ap (λ t. t ++ begins.rest) on.longer_is ∙ append_assoc (front ++ on.byte ∷ []) on.more begins.rest) begins.form;
-    })
+    search (rules, (goes_on_from front rest longer later same short), append_assoc)
 
 -- a text with an unexpected byte spells no entries
 unexpected_unspelled : (text : List ℕ) (place : ℕ) (entries : List Entry) → IsUnexpected text place → SpellsEntries text entries → ⊥

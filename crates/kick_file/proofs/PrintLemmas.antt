@@ -1,5 +1,5 @@
 -- What is printed of a table spells it.
-use Rattle.std.proofs.Common.{◌≡◌, ℕ, ℤ, pos, ◌<◌, ◌-◌, ◌≤◌, true, List, [], ◌∷◌, ◌++◌, length, map, take, drop, get_or, refl, ap, sym, ◌∙◌, arith, Option, Some, Ok, append_assoc, rules}
+use Rattle.std.proofs.Common.{◌≡◌, ℕ, ℤ, ◌<◌, ◌-◌, ◌≤◌, true, List, [], ◌∷◌, ◌++◌, length, map, take, drop, get_or, refl, ap, sym, ◌∙◌, arith, Option, Some, Ok, append_assoc, rules}
 use Rattle.std.specs.List.{list_all, flat_map, AllByRecursion, join_with_byte}
 use Rattle.std.specs.Prelude.{option_to_list, IsSome}
 use Rattle.std.proofs.Math.Path.{fun_ext}
@@ -10,7 +10,6 @@ use Rattle.std.proofs.lemmas.Grind.{flat_map-append, common_steps}
 use Rattle.std.proofs.lemmas.Bool.{and_from}
 use Rattle.srs.specs.declared.piece.Piece.{Piece}
 use Rattle.srs.specs.declared.rotation.Rotation.{Rotation}
-use Rattle.srs.specs.declared.rotation.Rotation.TheVariants.{Spawn, Right, Reverse, Left}
 use Rattle.srs.specs.Cells.{Cell}
 use Rattle.srs.specs.declared.offset.Offset.{Offset}
 use Rattle.srs.specs.Kick.{Table, IsSmallTable, is_small_move, kick_in, offset_in, pair_of}
@@ -24,9 +23,6 @@ use Rattle.kick_file.specs.Printing.{ended_entry, is_one_digit, is_short_move, p
 use Rattle.kick_file.specs.Reading.{is_small_number, kick_text}
 use Rattle.kick_file.proofs.Numbers.{each_small}
 use Rattle.kick_file.proofs.SpelledIsRead.{table_read}
-
-abbrev nothing : Cell
-nothing = (pos 0, pos 0)
 
 -- the offsets after the first
 pub offsets_join : (first : Cell) (rest : List Cell) → offset_form first ++ flat_map (λ offset. 47 ∷ offset_form offset) rest ≡ offsets_form (first ∷ rest)
@@ -93,19 +89,12 @@ table_is table = search (rules, fun_ext)
 each_whole : (table : Table) → IsSmallTable table → (pieces : List Piece) → AllByRecursion IsWhole (flat_map (entries_at table) pieces)
 unfolding entries_at
 each_whole table small [] = tt
-each_whole table small (piece ∷ pieces) = (one Spawn, (one Right, (one Reverse, (one Left, each_whole table small pieces))))
-  where
-    one : (rotation : Rotation) → (length (table piece rotation) ≡ 5) × (list_all is_small_move (table piece rotation) ≡ true)
-    one rotation = (small.five piece rotation, small.small piece rotation)
+each_whole table small (piece ∷ pieces) = search (rules, (each_whole table small pieces))
 
 pub printed_spells : (table : Table) → IsSmallTable table → SpellsTable (table_form table) table
 unfolding table_form entries_at
-printed_spells table small = record {
-  entries = entries_of table;
-  spelled = all_spell (entries_of table) (each_whole table small all_pieces);
-  distinct = refl;
-  is = table_is table;
-}
+printed_spells table small =
+    search (rules, (all_spell (entries_of table) (each_whole table small all_pieces)), (each_whole table small all_pieces), (table_is table))
 
 pub printed_read : (table : Table) (text : List ℕ) → IsSmallTable table → text ≡ table_form table → kick_text text ≡ Ok table
 printed_read table text small is = ap kick_text is ∙ table_read (table_form table) table (printed_spells table small)
@@ -163,13 +152,8 @@ small_pair cell small = search (rules, and_first, and_from, and_second)
 
 pub short_moves : (cells : List Cell) → list_all is_small_move cells ≡ true → list_all is_short_move cells ≡ true
 short_moves [] small = refl
-short_moves (cell ∷ cells) small = and_from (is_short_move cell) (list_all is_short_move cells) (short cell (and_first (is_small_move cell) (list_all is_small_move cells) small))
-    (short_moves cells (and_second (is_small_move cell) (list_all is_small_move cells) small))
-  where
-    short : (cell : Cell) → is_small_move cell ≡ true → is_short_move cell ≡ true
-    short cell small =
-        let both = small_pair cell small in
-        and_from (is_one_digit cell.0) (is_one_digit cell.1) (short_number cell.0 both.columns) (short_number cell.1 both.rows)
+short_moves (cell ∷ cells) small =
+    search (rules, and_from, and_first, and_second, small_pair, short_number, (short_moves cells))
 
 -- kicks are short
 pub kick_short : (table : Table) (piece : Piece) (from to : Rotation) (test : ℕ) → IsSmallTable table → 1 ≤ test → test ≤ 5

@@ -67,16 +67,7 @@ pub record InEntry (text : List ℕ) (entries : List Entry) (turned : TurnedPiec
 -- one more byte of a part
 pub longer : (text : List ℕ) (entries : List Entry) (turned : TurnedPiece) (cells : List Cell) (part : List ℕ) (byte : ℕ) → InEntry text entries turned cells part
     → InEntry (text ++ byte ∷ []) entries turned cells (part ++ byte ∷ [])
-longer text entries turned cells part byte stands = record {
-  before = stands.before;
-  letter = stands.letter;
-  spelled = stands.spelled;
-  named = stands.named;
-  small = stands.small;
-  whole =
-      ap (λ t. t ++ byte ∷ []) stands.whole ∙ append_assoc stands.before (stands.letter ∷ rotation_letter turned.rotation ∷ 58 ∷ (ended_offsets cells ++ part)) (byte ∷ [])
-      ∙ ap (λ t. stands.before ++ stands.letter ∷ rotation_letter turned.rotation ∷ 58 ∷ t) (append_assoc (ended_offsets cells) part (byte ∷ []));
-}
+longer text entries turned cells part byte stands = search (rules, append_assoc)
 
 -- an entry whose offsets are whole
 pub entry_whole : (turned : TurnedPiece) (letter : ℕ) (cells : List Cell) → piece_with_letter letter ≡ Some turned.piece → length cells ≡ 5 → list_all is_small_move cells ≡ true
@@ -99,12 +90,7 @@ part_front text entries turned cells part more cell stands room made small =
     let head = stands.letter ∷ rotation_letter turned.rotation ∷ 58 ∷ [] in
     let count : length all ≡ 5 = omega (arith, room, length-append cells (cell ∷ zeros), length-replicate (4 - length cells) origin) in
     let form : text ++ (more ++ started_offsets zeros) ≡ stands.before ++ stands.letter ∷ rotation_letter turned.rotation ∷ 58 ∷ offsets_form all =
-    ap (λ t. t ++ (more ++ started_offsets zeros)) stands.whole
-    ∙ append_assoc stands.before (stands.letter ∷ rotation_letter turned.rotation ∷ 58 ∷ (ended_offsets cells ++ part)) (more ++ started_offsets zeros)
-    ∙ ap (λ t. stands.before ++ stands.letter ∷ rotation_letter turned.rotation ∷ 58 ∷ t)
-    (append_assoc (ended_offsets cells) part (more ++ started_offsets zeros)
-    ∙ ap (λ t. ended_offsets cells ++ t) (sym (append_assoc part more (started_offsets zeros)) ∙ ap (λ t. t ++ started_offsets zeros) made)
-    ∙ sym (offsets_split cells cell zeros)) in
+    search (rules, append_assoc, offsets_split) in
     record {
       rest = more ++ started_offsets zeros;
       form = subst SpellsSome (sym form) (

@@ -1,5 +1,5 @@
 -- What a text spells is what is read of it.
-use Rattle.std.proofs.Common.{◌≡◌, ℕ, ◌+◌, ℤ, true, false, not, ◌||◌, ◌==◌, eqb-true, List, [], ◌∷◌, ◌++◌, length, refl, ap, sym, subst, ◌∙◌, arith, Result, Ok, Err, append_assoc, inl, inr, rules}
+use Rattle.std.proofs.Common.{◌≡◌, ℕ, ◌+◌, ℤ, true, false, ◌==◌, eqb-true, List, [], ◌∷◌, ◌++◌, length, refl, ap, sym, subst, ◌∙◌, arith, Result, Ok, Err, append_assoc, inl, inr, rules}
 use Rattle.std.specs.List.{fold}
 use Rattle.std.proofs.lemmas.Bool.{and_parts, cases_Bool, or_parts, not-true}
 use Rattle.std.proofs.lemmas.List.{length-append, append-nil}
@@ -11,7 +11,7 @@ use Rattle.kick_file.specs.declared.fault.KickFault.{KickFault}
 use Rattle.kick_file.specs.declared.fault.KickFault.TheVariants.{Unexpected, RepeatedEntry}
 use Rattle.kick_file.specs.declared.turned.TurnedPiece.{TurnedPiece}
 use Rattle.kick_file.specs.declared.parser_state.ParserState.TheVariants.{Division}
-use Rattle.kick_file.specs.Form.{Entry, SpellsEntry, SpellsEntries, is_same, is_repeated, are_distinct, turned_of, table_with_entry, table_of_entries}
+use Rattle.kick_file.specs.Form.{Entry, SpellsEntry, SpellsEntries, is_repeated, are_distinct, turned_of, table_with_entry, table_of_entries}
 use Rattle.kick_file.specs.Faults.{SpellsBefore, SpellsTable, Repeats}
 use Rattle.kick_file.specs.Reading.{beginning, kick_text, read_on, after_byte}
 use Rattle.kick_file.proofs.Steps.{at}
@@ -27,11 +27,7 @@ srs_five piece rotation = eqb-true _ 5 (each_state (λ p r. length (srs_table p 
 distinct_middle : (given : List TurnedPiece) (turned : TurnedPiece) (later : List TurnedPiece) → are_distinct (given ++ turned ∷ later) ≡ true → is_repeated given turned ≡ false
 distinct_middle [] turned later distinct = refl
 distinct_middle (other ∷ given) turned later distinct =
-    let parts = and_parts (not (is_repeated (given ++ turned ∷ later) other)) (are_distinct (given ++ turned ∷ later)) distinct in
-    let apart = or_parts (is_repeated given other) (is_same other turned || is_repeated later other)
-    (sym (list_any-append (is_same other) given (turned ∷ later)) ∙ not-true (is_repeated (given ++ turned ∷ later) other) parts.0) in
-    let first = or_parts (is_same other turned) (is_repeated later other) apart.1 in
-    rw (is_same-symmetric turned other ∙ first.0) (distinct_middle given turned later parts.1)
+    search (rules, and_parts, or_parts, list_any-append, not-true, is_same-symmetric, (distinct_middle given turned later))
 
 joined : (given : List TurnedPiece) (turned : TurnedPiece) (later : List TurnedPiece) → are_distinct (given ++ turned ∷ later) ≡ true
     → are_distinct ((given ++ turned ∷ []) ++ later) ≡ true
@@ -59,10 +55,7 @@ entries_read given table place text entry (next ∷ entries) five distinct spell
     let front = spelled.0 in
     let rest = spelled.1 in
     let reads = reads_entry given table front entry five spelled.3 (distinct_middle given entry.turned (turned_of (next ∷ entries)) distinct) in
-    ap (read_on (at given table Division) place) spelled.2 ∙ reads.on place (59 ∷ rest)
-    ∙ semicolon (given ++ entry.turned ∷ []) (table_with_entry table entry) entry.turned reads.last (place + length front) rest
-    ∙ entries_read (given ++ entry.turned ∷ []) (table_with_entry table entry) ((place + length front) + 1) rest next entries
-    (with_entry-five table entry spelled.3.five five) (joined given entry.turned (turned_of (next ∷ entries)) distinct) spelled.4
+    search (rules, semicolon, with_entry-five, joined, (entries_read (given ++ entry.turned ∷ []) (table_with_entry table entry) ((place + length front) + 1) rest next entries))
 
 -- the same of entries with a `;` after each, before other text
 pub before_read : (given : List TurnedPiece) (table : Table) (place : ℕ) (front rest : List ℕ) (entries : List Entry) → HasFive table
@@ -74,15 +67,7 @@ before_read given table place front rest (entry ∷ entries) five distinct spell
     let first = spelled.0 in
     let later = spelled.1 in
     let reads = reads_entry given table first entry five spelled.3 (distinct_middle given entry.turned (turned_of entries) distinct) in
-    let divided : front ++ rest ≡ first ++ 59 ∷ (later ++ rest) = ap (λ t. t ++ rest) spelled.2 ∙ append_assoc first (59 ∷ later) rest in
-    let count = length-append first (59 ∷ later) in
-    let far : ((place + length first) + 1) + length later ≡ place + length front = omega (arith, ap length spelled.2, count) in
-    ap (read_on (at given table Division) place) divided ∙ reads.on place (59 ∷ (later ++ rest))
-    ∙ semicolon (given ++ entry.turned ∷ []) (table_with_entry table entry) entry.turned reads.last (place + length first) (later ++ rest)
-    ∙ before_read (given ++ entry.turned ∷ []) (table_with_entry table entry) ((place + length first) + 1) later rest entries
-    (with_entry-five table entry spelled.3.five five) (joined given entry.turned (turned_of entries) distinct) spelled.4
-    ∙ ap (λ g. read_on (at g (fold table_with_entry table (entry ∷ entries)) Division) (((place + length first) + 1) + length later) rest) (append_assoc given (entry.turned ∷ []) (turned_of entries))
-    ∙ ap (λ n. read_on (at (given ++ turned_of (entry ∷ entries)) (fold table_with_entry table (entry ∷ entries)) Division) n rest) far
+    search (rules, append_assoc, length-append, semicolon, with_entry-five, joined, (before_read (given ++ entry.turned ∷ []) (table_with_entry table entry) ((place + length first) + 1) later rest entries))
 
 -- any other fault than an unexpected byte
 unfoldable pub IsFine : Result Table KickFault → Type 0
@@ -110,10 +95,7 @@ entries_fine given table place text entry (next ∷ entries) five spelled = elim
   | inl stood ↦ subst (λ t. IsFine (read_on (at given table Division) place t)) (sym spelled.2) (stood_fine given table place spelled.0 (59 ∷ spelled.1) entry spelled.3 stood)
   | inr fresh ↦
       let reads = reads_entry given table spelled.0 entry five spelled.3 fresh in
-      subst IsFine (sym (ap (read_on (at given table Division) place) spelled.2 ∙ reads.on place (59 ∷ spelled.1)
-      ∙ semicolon (given ++ entry.turned ∷ []) (table_with_entry table entry) entry.turned reads.last (place + length spelled.0) spelled.1))
-      (entries_fine (given ++ entry.turned ∷ []) (table_with_entry table entry) ((place + length spelled.0) + 1) spelled.1 next entries
-      (with_entry-five table entry spelled.3.five five) spelled.4)
+      search (rules, semicolon, with_entry-five, (entries_fine (given ++ entry.turned ∷ []) (table_with_entry table entry) ((place + length spelled.0) + 1) spelled.1 next entries (with_entry-five table entry spelled.3.five five) spelled.4))
 ]
 
 -- a text of entries has a first byte

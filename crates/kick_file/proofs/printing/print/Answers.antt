@@ -1,6 +1,5 @@
 -- The last `;` goes.
 use Rattle.std.proofs.Common.{rules}
-use Rattle.srs.specs.Rules.{table_of}
 use Rattle.srs.proofs.CallerLemmas.{table_of-small}
 use Rattle.kick_file.proofs.PrintLemmas.{table_ends, printed_read}
 use Rattle.kick_file.proofs.printing.print.Goals as goal
@@ -9,5 +8,4 @@ pub returns-clause-form : goal.returns-clause-form
 returns-clause-form c = search (rules, table_ends)
 
 pub returns-clause-read : goal.returns-clause-read
-returns-clause-read c =
-    printed_read (table_of c.args.rules.now) c.pop.new.self.items (table_of-small c.args.rules.now) (returns-clause-form c)
+returns-clause-read c = search (rules, printed_read, table_of-small, returns-clause-form)
